@@ -1,1 +1,3 @@
+pub mod ChangesLemmas
 pub mod ResolvingLaws
+pub mod RunLemmas

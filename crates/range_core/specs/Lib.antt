@@ -1,3 +1,3 @@
-pub mod Facts
+pub mod Changes
 pub mod Ranges
 pub mod Resolving

@@ -53,3 +53,7 @@ pub record AreRuns (modes : Modes) (runs : List (Mode × Span)) : Type 0 where
   pub rising : AllPairs (λ r s. r.1.last < s.1.first) runs
   pub each : All (λ r. IsRun modes r.1.first r.0 r.1) runs
   pub every : (byte : ℕ) (mode : Mode) → modes byte ≡ Some mode → Any (λ r. (r.0 ≡ mode) × Covers r.1 byte) runs
+
+-- each byte of the range has the mode of this byte (this project's choice)
+abbrev pub IsStretch : Modes → ℕ → Span → Type 0
+IsStretch modes byte span = (other : ℕ) → Covers span other → modes other ≡ modes byte

@@ -2,8 +2,11 @@
 #![tactic(auto)]
 
 mod conflicts;
+mod list;
 mod resolving;
+mod sides;
 
+pub use list::RangeList;
 pub use resolving::resolve;
 
 /// The largest offset of a file, in bytes: the largest value of a 64-bit `off_t` (this project's choice).

@@ -1,0 +1,38 @@
+-- The modes that a list of changes leaves: a set replaces the mode on each byte of its range.
+use Rattle.std.specs.Prelude.{◌≡◌, ℕ, ◌-◌, nat_le, Bool, ◌&&◌, if◌then◌else◌, Option, None, List, [], ◌∷◌, vec_len, vec_capacity}
+use Rattle.range_core.specs.declared.Mode.{Mode}
+use Rattle.range_core.specs.declared.Span.{Span}
+use Rattle.range_core.specs.declared.list.RangeList.{RangeList}
+use Rattle.range_core.specs.Ranges.{Modes}
+
+-- whether the byte lies in the range (POSIX.1-2017 fcntl, DESCRIPTION, struct flock)
+abbrev pub is_covered : Span → ℕ → Bool
+is_covered span byte = nat_le span.first byte && nat_le byte span.last
+
+-- the modes after a set of one range, where no mode means an unlock
+-- (POSIX.1-2017 fcntl, DESCRIPTION, F_SETLK, "the previous lock type ... shall be replaced by the new lock type")
+abbrev pub modes_with : Modes → Span → Option Mode → Modes
+modes_with modes span mode byte = if is_covered span byte then mode else modes byte
+
+-- new has this mode on just the range, and old's elsewhere (POSIX.1-2017 fcntl, DESCRIPTION, F_SETLK)
+abbrev pub SetsMode : Modes → Modes → Span → Option Mode → Type 0
+SetsMode old new span mode = (byte : ℕ) → new byte ≡ modes_with old span mode byte
+
+-- the mode of a byte after these changes, where it was this one before them: that of the last change that covers it
+-- (POSIX.1-2017 fcntl, DESCRIPTION, F_SETLK)
+abbrev pub mode_after : Option Mode → List (Span × Option Mode) → ℕ → Option Mode
+mode_after before [] byte = before
+mode_after before (change ∷ changes) byte = mode_after (if is_covered change.0 byte then change.1 else before) changes byte
+
+-- the modes that a `RangeList` stands for (this project's choice)
+unfoldable pub modes_of : RangeList → Modes
+modes_of list byte = mode_after None list.changes.items byte
+
+-- for how many further sets a `RangeList` holds room (this project's choice)
+unfoldable pub room_of : RangeList → ℕ
+room_of list = vec_capacity list.changes - vec_len list.changes
+
+-- the two have the same mode on each byte, and the same room (this project's choice)
+pub record SameList (old new : RangeList) : Type 0 where
+  pub modes : (byte : ℕ) → modes_of new byte ≡ modes_of old byte
+  pub room : room_of new ≡ room_of old
