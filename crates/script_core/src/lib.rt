@@ -1,0 +1,18 @@
+//! The script language of the lock manager: reading a script, and the text of a run.
+#![tactic(auto)]
+
+mod arguments;
+mod line;
+mod script;
+mod text;
+mod words;
+mod write;
+
+pub use script::{Cause, Script, ScriptFault, parse};
+pub use write::{write_entry, write_report};
+
+/// The most bytes that a line may have, without its line feed (this project's choice).
+pub const LINE_MAX: usize = 120;
+
+/// The most bytes that a script may have (this project's choice).
+pub const SCRIPT_MAX: usize = 1048576;

@@ -1,0 +1,36 @@
+use crate::text::{ProcessLine, push_entry, push_held, push_process};
+use lock_manager::ProcState;
+use range_core::Memory;
+use session_core::{Entry, Session};
+
+/// Appends the line of an entry. After `Memory` the vector has its old bytes and a front of the text.
+pub fn write_entry(entry: &Entry, out: &mut Vec<u8>) -> Result<(), Memory> {
+    let mut text = String::new(*out.allocator());
+    push_entry(&mut text, entry).map_err(|_| Memory)?;
+    out.extend_from_slice(text.as_bytes()).map_err(|_| Memory)
+}
+
+/// Appends the report of a session: the locks that are held, and then each process that was ever alive or has sent
+/// something, with the count in `sent` of what it sent. After `Memory` the vector has its old bytes and a front of the
+/// text.
+pub fn write_report(session: &Session, sent: &[u64], out: &mut Vec<u8>) -> Result<(), Memory> {
+    let mut text = String::new(*out.allocator());
+    for held in &session.manager().held()? {
+        push_held(&mut text, held).map_err(|_| Memory)?;
+    }
+    for (p, sent) in (1..=session.manager().processes()).zip(sent) {
+        let state = session.manager().state_of(p);
+        if state == ProcState::Unborn && *sent == 0 {
+            continue;
+        }
+        let line = ProcessLine {
+            p,
+            sent: *sent,
+            taken: session.taken(p),
+            answered: session.answered(p),
+            state,
+        };
+        push_process(&mut text, &line).map_err(|_| Memory)?;
+    }
+    out.extend_from_slice(text.as_bytes()).map_err(|_| Memory)
+}

@@ -1,0 +1,13 @@
+//! A lock manager with the mail of its processes and the journal of what was taken.
+#![tactic(auto)]
+
+mod entry;
+mod run;
+mod session;
+
+pub use entry::Entry;
+pub use run::{RunAllFault, run_all};
+pub use session::{ArriveFault, Session};
+
+/// How many requests one process may send (this project's choice).
+pub const N_MAX: u64 = 1099511627776;
