@@ -55,6 +55,11 @@ impl<W: Write> ToWriter<W> {
     pub fn new(writer: W) -> ToWriter<W> {
         ToWriter { writer }
     }
+
+    /// The writer, with what was written to it.
+    pub fn into_inner(self) -> W {
+        self.writer
+    }
 }
 
 impl<W: Write> Sink for ToWriter<W> {

@@ -3,6 +3,8 @@
 
 mod devices;
 mod replay;
+#[cfg(test)]
+mod tests;
 
 use devices::{FromReader, ToWriter};
 use replay::{RunFault, replay};
@@ -10,15 +12,14 @@ use std::io;
 use std::io::BufReader;
 use std::process::ExitCode;
 
-/// The statuses of the program: 0 where the output was written, 2 where the script isn't one, and else 1.
+/// A fault is told in one line on standard error, and its status is the program's.
 fn main(rt: HostRuntime) -> ExitCode {
-    let Err(fault) = run(&rt) else {
-        return ExitCode::SUCCESS;
-    };
-    let _ = eprintln!(rt; "lockreplay: {fault}");
-    match fault {
-        RunFault::Script(_) => ExitCode::from(2),
-        RunFault::Read | RunFault::Write | RunFault::Memory => ExitCode::FAILURE,
+    match run(&rt) {
+        Ok(()) => ExitCode::SUCCESS,
+        Err(fault) => {
+            let _ = eprintln!(rt; "lockreplay: {fault}");
+            ExitCode::from(fault.status())
+        }
     }
 }
 

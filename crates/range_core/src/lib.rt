@@ -5,6 +5,8 @@ mod conflicts;
 mod list;
 mod resolving;
 mod sides;
+#[cfg(test)]
+mod tests;
 
 pub use list::RangeList;
 pub use resolving::resolve;

@@ -1,4 +1,3 @@
-use Rattle.std.proofs.Common.{arith, None}
 use Rattle.range_core.proofs.ChangesLemmas.{IsStretch-take_more}
 use Rattle.range_core.proofs.list.RangeList.stretch.Goals as goal
 

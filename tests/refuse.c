@@ -1,0 +1,42 @@
+/* Refuses one growth of a program, the one number REFUSE of its calls of malloc and realloc, and writes the number of these
+ * calls to the file COUNT. */
+#define _GNU_SOURCE
+#include <dlfcn.h>
+#include <stddef.h>
+#include <stdio.h>
+#include <stdlib.h>
+
+static long growths;
+
+static int is_refused(void)
+{
+    const char *number = getenv("REFUSE");
+    return ++growths == (number ? atol(number) : 0);
+}
+
+void *malloc(size_t size)
+{
+    static void *(*next)(size_t);
+    if (!next)
+        next = (void *(*)(size_t))dlsym(RTLD_NEXT, "malloc");
+    return is_refused() ? NULL : next(size);
+}
+
+void *realloc(void *old, size_t size)
+{
+    static void *(*next)(void *, size_t);
+    if (!next)
+        next = (void *(*)(void *, size_t))dlsym(RTLD_NEXT, "realloc");
+    return is_refused() ? NULL : next(old, size);
+}
+
+__attribute__((destructor)) static void tell_count(void)
+{
+    const char *name = getenv("COUNT");
+    long count = growths;
+    FILE *file = name ? fopen(name, "w") : NULL;
+    if (file) {
+        fprintf(file, "%ld\n", count);
+        fclose(file);
+    }
+}
