@@ -1,0 +1,192 @@
+ghost use Rattle.std.specs.Prelude.{◌≡◌, ◌≤◌, replicate, IfSome, IfNone, ◌<ℤ◌, pos};
+ghost use Rattle.fd_table.specs.declared.TheConstants.{DESCRIPTIONS};
+ghost use Rattle.fd_table.specs.Descriptors.{descriptor_limit};
+ghost use Rattle.fd_table.specs.Soundness.{AreRows, AreEntries, AreSizes, IsBytes};
+
+use crate::rows::{Row, opening_rows};
+use crate::{Access, DESCRIPTIONS, FILES, FdFault, Limits};
+use range_core::Memory;
+use slab::Slab;
+use std::alloc::Global;
+
+/// What a descriptor refers to.
+#[derive(Clone, Copy, Debug, PartialEq, Eq)]
+pub struct Look {
+    /// The number of the file.
+    pub file: u8,
+    /// The number of the open file description.
+    pub desc: u64,
+    /// What it was opened for.
+    pub access: Access,
+    /// The file offset, in bytes.
+    pub offset: u64,
+    /// The size of the file, in bytes.
+    pub size: u64,
+}
+
+/// An open file description that some descriptor refers to (POSIX.1-2017 Base Definitions, "Open File Description").
+#[derive(Clone, Copy)]
+struct Opened {
+    number: u64,
+    file: u8,
+    access: Access,
+    offset: u64,
+    // How many descriptors of all processes refer to it.
+    users: u64,
+}
+
+/// A descriptor that was closed: its file, and the number of its description if no other descriptor refers to it.
+#[derive(Clone, Copy)]
+pub(crate) struct Closed {
+    pub(crate) file: u8,
+    pub(crate) last: Option<u64>,
+}
+
+/// The descriptors of all processes.
+#[derive(Drop)]
+pub struct Tables {
+    // One for each process, by its number: process numbers begin at 1, so the first is never used.
+    rows: Vec<Row>,
+    opened: Slab<Opened>,
+    sizes: [u64; 64],
+    // How many descriptions were ever made.
+    made: u64,
+    processes: u8,
+    limits: Limits,
+    ghost rowed: { AreRows processes limits rows.items },
+    ghost entered: { AreEntries rows.items opened made },
+    ghost sized: { AreSizes sizes },
+    ghost bounded: { made ≤ DESCRIPTIONS },
+}
+
+#[tactic(auto, unfolding(crate::specs::TablesView::view_of, crate::specs::TablesView::processes_of, crate::specs::TablesView::limits_of))]
+impl Tables {
+    ghost use Rattle.std.specs.Prelude.{ℕ, ◌≢◌, ◌<◌, IsTrue, IfOk, OnErr, Ok, Err, Some, None};
+    ghost use Rattle.fd_table.specs.Descriptors.{Descriptors, AreOpening, opening_descriptors, process_limit, look_at};
+    ghost use Rattle.fd_table.specs.Calls.{SeekGives, ResizeGives};
+    ghost use Rattle.fd_table.specs.Rows.{key_at};
+    ghost use Rattle.fd_table.specs.TablesView.{StandFor, processes_of, limits_of, ever_alive, SameTables, IsInRange, opened_in};
+
+    /// Process 1 alone lives, no descriptor is open and each file is empty. The room for the descriptors of process 1 is
+    /// made here (this project's choice).
+    pub fn new(alloc: Global, processes: u8, limits: Limits) -> Result<Tables, Memory>
+        requires { (1 ≤ processes) × (processes ≤ process_limit limits) }
+        ensures opening { IfOk result (λ tables. StandFor tables opening_descriptors) }
+        ensures processes { IfOk result (λ tables. processes_of tables ≡ processes) }
+        ensures limits { IfOk result (λ tables. limits_of tables ≡ limits) }
+    {
+        let Ok(rows) = opening_rows(alloc, processes, row_len(limits)) else {
+            return Err(Memory);
+        };
+        Ok(Tables {
+            rows,
+            opened: Slab::new(alloc),
+            sizes: empty_files(),
+            made: 0,
+            processes,
+            limits,
+        })
+    }
+
+    /// Whether the process was ever alive.
+    pub fn born(&self, p: u8) -> bool
+        ensures { result ≡ ever_alive self.now p }
+    {
+        match self.rows.get(usize::from(p)) {
+            Some(row) => !row.is_empty(),
+            None => false,
+        }
+    }
+
+    /// What the descriptor refers to, if it is open.
+    pub fn look(&self, p: u8, fd: u32) -> Option<Look>
+        ensures look { (D : Descriptors) → StandFor self.now D → result ≡ look_at D p fd }
+        ensures in_range { IfSome result IsInRange }
+    {
+        let opened = self.opened_at(p, fd)?;
+        Some(Look {
+            file: opened.file,
+            desc: opened.number,
+            access: opened.access,
+            offset: opened.offset,
+            size: self.sizes[usize::from(opened.file)],
+        })
+    }
+
+    /// `lseek`: sets the offset of the description that the descriptor refers to, for all who share it. The access mode
+    /// doesn't matter (POSIX.1-2017 lseek).
+    ///
+    /// `BadFd` where the descriptor isn't open, then `Invalid` where the offset is below 0.
+    pub fn seek(&mut self, p: u8, fd: u32, offset: i64) -> Result<(), FdFault>
+        ensures step { (D : Descriptors) → StandFor self.old D →
+            (E : Descriptors) × SeekGives D p fd offset result E × StandFor self.new E }
+        ensures kept { SameTables self.old self.new }
+    {
+        let Some(key) = self.key_at(p, fd) else {
+            return Err(FdFault::BadFd);
+        };
+        let Some(offset) = bytes(offset) else {
+            return Err(FdFault::Invalid);
+        };
+        self.opened[key].offset = offset;
+        Ok(())
+    }
+
+    /// `ftruncate`: sets the size of the file that the descriptor refers to. The access mode doesn't matter (this
+    /// project's choice).
+    ///
+    /// `BadFd` where the descriptor isn't open, then `Invalid` where the size is below 0.
+    pub fn resize(&mut self, p: u8, fd: u32, size: i64) -> Result<(), FdFault>
+        ensures step { (D : Descriptors) → StandFor self.old D →
+            (E : Descriptors) × ResizeGives D p fd size result E × StandFor self.new E }
+        ensures kept { SameTables self.old self.new }
+    {
+        let Some(opened) = self.opened_at(p, fd) else {
+            return Err(FdFault::BadFd);
+        };
+        let Some(size) = bytes(size) else {
+            return Err(FdFault::Invalid);
+        };
+        self.sizes[usize::from(opened.file)] = size;
+        Ok(())
+    }
+
+    // The key of the description that the descriptor refers to, if it is open.
+    fn key_at(&self, p: u8, fd: u32) -> Option<usize>
+        ensures { result ≡ key_at self.now.rows.items p fd }
+    {
+        self.rows.get(usize::from(p))?.get(fd as usize)
+    }
+
+    // The description that the descriptor refers to, if it is open.
+    fn opened_at(&self, p: u8, fd: u32) -> Option<Opened>
+        ensures { result ≡ opened_in self.now.rows.items self.now.opened p fd }
+    {
+        self.opened.get(self.key_at(p, fd)?).copied()
+    }
+}
+
+/// How many descriptors a process has.
+fn row_len(limits: Limits) -> usize
+    ensures { result ≡ descriptor_limit limits }
+{
+    match limits {
+        Limits::Small => 32,
+        Limits::Wide => 256,
+    }
+}
+
+/// The sizes of empty files.
+fn empty_files() -> [u64; 64]
+    ensures { result ≡ replicate 64 0 }
+{
+    [0; 64]
+}
+
+/// An offset or a size, if it isn't below 0.
+fn bytes(count: i64) -> Option<u64>
+    ensures some { IfSome result (IsBytes count) }
+    ensures none { IfNone result (count <ℤ pos 0) }
+{
+    u64::try_from(count).ok()
+}
