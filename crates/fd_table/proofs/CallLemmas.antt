@@ -1,16 +1,17 @@
 -- From what a call leaves to what the definition says of it.
-use Rattle.std.proofs.Common.{◌≡◌, ◌≢◌, ◌⊎◌, ℕ, ℤ, pos, ◌+◌, ◌<◌, ◌≤◌, Bool, cond, eqb, List, length, get_or, set, Option, Some, None, Ok, Err, IsSome, refl, sym, ap, subst, ◌∙◌, inl, inr, arith}
+use Rattle.std.proofs.Common.{◌≡◌, ℕ, ℤ, pos, ◌<◌, true, cond, eqb, List, length, get_or, set, Some, None, Ok, IsSome, refl, sym, ap, ◌∙◌, inl, inr, arith}
 use Rattle.std.specs.Option.{option_map}
-use Rattle.std.proofs.lemmas.Bool.{cases_eq, eq-eqb, ne_eqb}
+use Rattle.std.proofs.lemmas.Bool.{cases_eq, eq-eqb, ne_eqb, lt-ltb}
 use Rattle.std.proofs.lemmas.List.{get_or-set_same, get_or-set_other}
 use Rattle.slab.specs.Slab.{Slab, get}
 use Rattle.fd_table.specs.declared.tables.Opened.{Opened}
-use Rattle.fd_table.specs.Rows.{Keys, key_at}
-use Rattle.fd_table.specs.Soundness.{AreEntries}
-use Rattle.fd_table.specs.Descriptors.{Descriptors, SameDescriptors, with_offset, with_size}
+use Rattle.fd_table.specs.declared.Limits.{Limits}
+use Rattle.fd_table.specs.Rows.{Keys, row_at, has_row, key_at, IsLowestClosed, AreAllOpen}
+use Rattle.fd_table.specs.Soundness.{AreRows, AreEntries}
+use Rattle.fd_table.specs.Descriptors.{Descriptors, SameDescriptors, IsFull, IsLowestFree, with_offset, with_size}
 use Rattle.fd_table.specs.Calls.{Refers, SeekGives, ResizeGives}
 use Rattle.fd_table.specs.TablesView.{View, Numbered, numbered, ViewStandsFor, seen_in}
-use Rattle.fd_table.proofs.ViewLemmas.{SameRest, seen_some, moved, moved_offset, resized}
+use Rattle.fd_table.proofs.ViewLemmas.{SameRest, seen_some, seen_none, moved, moved_offset, resized}
 use Rattle.fd_table.proofs.EntryLemmas.{some_is, value_of_some, seen_by}
 
 -- descriptors agree with themselves
@@ -66,3 +67,31 @@ size-set sizes file place n is within x =
           get_or-set_other sizes place x n 0 (λ at. there (at ∙ is))
           ∙ sym (ap (λ b. cond b n (get_or sizes x 0)) (ne_eqb x file there))
     ]
+
+-- a descriptor with a key is open
+pub open_at_key : (rows : List Keys) (opened : Slab Opened) (made p fd : ℕ) (v : View) (D : Descriptors) → AreEntries rows opened made → ((q k : ℕ) → v.seen q k ≡ seen_in rows opened q k)
+    → ViewStandsFor v D → IsSome (key_at rows p fd) → IsSome (D.description_of p fd)
+open_at_key rows opened made p fd v D entered shown h there =
+    let key = value_of_some (key_at rows p fd) there in
+    let seen = key_seen rows opened made p fd key.0 entered key.1 in
+    is_open v D p fd (numbered seen.0) h (shown p fd ∙ seen.2)
+
+-- a descriptor that is open has a key
+pub key_of_open : (rows : List Keys) (opened : Slab Opened) (p fd : ℕ) (v : View) (D : Descriptors) → ((q k : ℕ) → v.seen q k ≡ seen_in rows opened q k) → ViewStandsFor v D → key_at rows p fd ≡ None → D.description_of p fd ≡ None
+key_of_open rows opened p fd v D shown h closed = seen_none v D p fd h (shown p fd ∙ ap (seen_by opened) closed)
+
+-- a lowest closed descriptor is the lowest free one
+pub lowest_free : (processes : ℕ) (limits : Limits) (rows : List Keys) (opened : Slab Opened) (made p fd : ℕ) (v : View) (D : Descriptors) → AreRows processes limits rows → AreEntries rows opened made → ((q k : ℕ) → v.seen q k ≡ seen_in rows opened q k)
+    → ViewStandsFor v D → IsLowestClosed (row_at rows p) fd → IsLowestFree limits D p fd
+lowest_free processes limits rows opened made p fd v D rowed entered shown h least =
+    record {
+      within = omega (arith, least.within, rowed.each p (lt-ltb 0 (length (row_at rows p)) (omega (arith, least.within))));
+      free = seen_none v D p fd h (shown p fd ∙ ap (seen_by opened) least.closed);
+      lowest = λ below under. open_at_key rows opened made p below v D entered shown h (least.lowest below under);
+    }
+
+-- a row in which each descriptor is open is full
+pub row_full : (processes : ℕ) (limits : Limits) (rows : List Keys) (opened : Slab Opened) (made p : ℕ) (v : View) (D : Descriptors) → AreRows processes limits rows → AreEntries rows opened made → ((q k : ℕ) → v.seen q k ≡ seen_in rows opened q k)
+    → ViewStandsFor v D → has_row rows p ≡ true → AreAllOpen (row_at rows p) → IsFull limits D p
+row_full processes limits rows opened made p v D rowed entered shown h alive full fd within =
+    open_at_key rows opened made p fd v D entered shown h (full fd (omega (arith, within, rowed.each p alive)))

@@ -1,18 +1,15 @@
 -- The entries of the slab, and what is seen of them, after each change.
-use Rattle.std.proofs.Common.{◌≡◌, ◌≢◌, ◌⊎◌, ℕ, zero, suc, ◌+◌, ◌-◌, ◌<◌, ◌≤◌, Bool, true, false, cond, eqb, List, [], length, get_or, set, Option, Some, None, IsSome, is_some, refl, sym, ap, subst, ◌∙◌, inl, inr, arith, add-zero}
+use Rattle.std.proofs.Common.{◌≡◌, ◌≢◌, ◌⊎◌, ℕ, ◌+◌, ◌<◌, ◌≤◌, Bool, true, false, cond, List, length, Option, Some, None, IsSome, is_some, refl, sym, ap, subst, ◌∙◌, inl, inr, arith}
 use Rattle.std.specs.Option.{option_map, option_and_then}
-use Rattle.std.specs.List.{count_by}
-use Rattle.std.proofs.lemmas.Bool.{cases_eq, cases_lt, eq-eqb, ne_eqb}
+use Rattle.std.proofs.lemmas.Bool.{cases_eq, eq-eqb, ne_eqb}
 use Rattle.std.proofs.lemmas.Option.{same_Some, none-some}
 use Rattle.range_core.specs.declared.TheConstants.{OFFMAX}
-use Rattle.slab.specs.Slab.{Slab, get, Updates, with_value, ContainsKey}
-use Rattle.fd_table.specs.declared.TheConstants.{FILES}
-use Rattle.fd_table.specs.declared.Access.{Access}
+use Rattle.slab.specs.Slab.{Slab, get, Updates}
 use Rattle.fd_table.specs.declared.tables.Opened.{Opened}
-use Rattle.fd_table.specs.Rows.{Keys, row_at, has_row, key_at, with_key, is_key, users_in, users_of}
+use Rattle.fd_table.specs.Rows.{Keys, row_at, key_at, with_key, is_place, users_of}
 use Rattle.fd_table.specs.Soundness.{IsEntry, AreEntries}
-use Rattle.fd_table.specs.TablesView.{Numbered, numbered, opened_in, seen_in}
-use Rattle.fd_table.proofs.RowsLemmas.{is_place, place_cases, key_at-with_key, key_at-with_key_same, key_at-with_key_other, users_of-with_key, one_for, key_is_used, used_by}
+use Rattle.fd_table.specs.TablesView.{Numbered, numbered, seen_in}
+use Rattle.fd_table.proofs.RowsLemmas.{place_cases, key_at-with_key, key_at-with_key_same, key_at-with_key_other}
 use Rattle.fd_table.proofs.ViewLemmas.{moved}
 
 -- a value that is there is some value

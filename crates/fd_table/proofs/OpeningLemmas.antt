@@ -1,40 +1,17 @@
 -- The fields of new tables, and the descriptors that they stand for.
-use Rattle.std.proofs.Common.{◌≡◌, ℕ, ◌+◌, ◌<◌, ◌≤◌, Bool, true, false, cond, eqb, ltb, List, [], length, get_or, replicate, Option, Some, None, refl, sym, ap, subst, ◌∙◌, inl, inr, arith}
+use Rattle.std.proofs.Common.{◌≡◌, ℕ, ◌+◌, ◌<◌, ◌≤◌, cond, eqb, ltb, List, [], length, get_or, replicate, Option, None, refl, sym, ap, subst, ◌∙◌, inl, inr, arith}
 use Rattle.std.proofs.lemmas.Bool.{cases_eq, cases_lt, eq-eqb, ne_eqb, lt-ltb}
 use Rattle.std.proofs.lemmas.List.{get_or_past, get_or-replicate, length-replicate}
 use Rattle.std.proofs.lemmas.Option.{none-some}
-use Rattle.range_core.specs.declared.TheConstants.{OFFMAX}
 use Rattle.slab.specs.Slab.{Slab, get}
 use Rattle.fd_table.specs.declared.Limits.{Limits}
-use Rattle.fd_table.specs.declared.Limits.TheVariants.{Small, Wide}
+use Rattle.fd_table.proofs.LimitsLemmas.{descriptor_limit-positive}
 use Rattle.fd_table.specs.declared.tables.Opened.{Opened}
 use Rattle.fd_table.specs.Descriptors.{descriptor_limit, opening_descriptors}
 use Rattle.fd_table.specs.Rows.{Keys, row_at, has_row, key_at, opening_row}
-use Rattle.fd_table.specs.Soundness.{AreRows, AreEntries, AreSizes}
+use Rattle.fd_table.specs.Soundness.{AreRows, AreEntries}
 use Rattle.std.specs.Option.{option_map, option_and_then}
 use Rattle.fd_table.specs.TablesView.{View, Numbered, numbered, ViewStandsFor, IsSeen, seen_in}
-
--- a process may have a descriptor
-pub descriptor_limit-positive : (limits : Limits) → 0 < descriptor_limit limits
-descriptor_limit-positive Small = lit
-  where
-    lit : 0 < 32
-    lit = omega arith
-descriptor_limit-positive Wide = lit
-  where
-    lit : 0 < 256
-    lit = omega arith
-
--- a process has 256 descriptors at most
-pub descriptor_limit-le : (limits : Limits) → descriptor_limit limits ≤ 256
-descriptor_limit-le Small = lit
-  where
-    lit : 32 ≤ 256
-    lit = omega arith
-descriptor_limit-le Wide = lit
-  where
-    lit : 256 ≤ 256
-    lit = omega arith
 
 -- the rows are those of the opening
 pub record AreOpeningRows (rows : List Keys) (processes len : ℕ) : Type 0 where
@@ -93,9 +70,10 @@ opening_born rows processes limits some h p =
     ]
 
 -- the rows of the opening are rows
-pub opening_are_rows : (rows : List Keys) (processes : ℕ) (limits : Limits) → 1 ≤ processes → AreOpeningRows rows processes (descriptor_limit limits) → AreRows processes limits rows
-opening_are_rows rows processes limits some h =
+pub opening_are_rows : (rows : List Keys) (processes : ℕ) (limits : Limits) → processes < 256 → 1 ≤ processes → AreOpeningRows rows processes (descriptor_limit limits) → AreRows processes limits rows
+opening_are_rows rows processes limits few some h =
     record {
+      few = few;
       count = h.count;
       unused = h.each 0 (omega arith);
       each = λ p alive.

@@ -1,14 +1,13 @@
 -- Rows of keys: what a change leaves at each place, and how it changes the counts of users.
-use Rattle.std.proofs.Common.{◌≡◌, ◌≢◌, ◌⊎◌, ℕ, zero, suc, ◌+◌, ◌*◌, ◌<◌, ◌≤◌, Bool, true, false, ◌&&◌, cond, eqb, List, [], ◌∷◌, length, get_or, set, Option, Some, None, refl, sym, ap, subst, ◌∙◌, inl, inr, arith}
-use Rattle.std.specs.List.{sum_by, count_by, All}
-use Rattle.std.proofs.lemmas.Bool.{cases_eq, cases_lt, eq-eqb, ne_eqb, and_left, and_right, and_from, eqb-true}
-use Rattle.std.proofs.lemmas.List.{get_or-set_same, get_or-set_other, get_or_past, get_or_default, length-set}
+use Rattle.std.proofs.Common.{◌≡◌, ◌⊎◌, ℕ, zero, suc, ◌+◌, ◌*◌, ◌<◌, ◌≤◌, true, false, cond, eqb, ltb, List, [], ◌∷◌, length, get_or, set, Option, Some, None, refl, sym, ap, subst, ◌∙◌, inl, inr, arith}
+use Rattle.std.specs.List.{sum_by}
+use Rattle.std.proofs.lemmas.Bool.{cases_eq, cases_lt, eq-eqb, ne_eqb, lt-ltb, and_left, and_right, and_from}
+use Rattle.std.proofs.lemmas.List.{get_or-set_same, get_or-set_other, get_or_past, get_or_default, length-set, set_past, nil_from_length}
 use Rattle.std.proofs.lemmas.List.Sums.{sum_by-set, sum_by-cons, get_or-le-sum_by, sum_by-le, count_by-le-length}
-use Rattle.fd_table.specs.Rows.{Keys, row_at, has_row, key_at, with_key, is_key, users_in, users_of}
-
--- the place is that of this descriptor
-abbrev pub is_place : ℕ → ℕ → ℕ → ℕ → Bool
-is_place p fd q k = eqb q p && eqb k fd
+use Rattle.fd_table.specs.declared.Limits.{Limits}
+use Rattle.fd_table.specs.Soundness.{AreRows}
+use Rattle.fd_table.proofs.LimitsLemmas.{descriptor_limit-le}
+use Rattle.fd_table.specs.Rows.{Keys, row_at, has_row, key_at, with_key, is_key, is_place, users_in, users_of, WithKey}
 
 -- a place is that of the descriptor or another
 pub place_cases : (p fd q k : ℕ) → ((q ≡ p) × (k ≡ fd) × (is_place p fd q k ≡ true)) ⊎ (((q ≡ p) → (k ≡ fd) → ⊥) × (is_place p fd q k ≡ false))
@@ -131,3 +130,63 @@ users_of-le rows key most short =
     let short_row = short k inside in
     let same = ap length (get_or_default rows k d [] inside) in
     omega (arith, counted, short_row, same))
+
+-- a process with descriptors has a row
+pub row_from_key : (rows : List Keys) (p fd key : ℕ) → key_at rows p fd ≡ Some key → has_row rows p ≡ true
+row_from_key rows p fd key is = lt-ltb 0 (length (row_at rows p)) (omega (arith, (key_within rows p fd key is).1))
+
+-- a write of one key keeps the length of each row
+pub length-with_key : (rows : List Keys) (p fd : ℕ) (key : Option ℕ) (q : ℕ) → length (row_at (with_key rows p fd key) q) ≡ length (row_at rows q)
+length-with_key rows p fd key q =
+    elim (cases_eq q p) [
+      | inl same ↦
+          elim (cases_lt p (length rows)) [
+            | inl inside ↦
+                ap (λ place. length (row_at (with_key rows p fd key) place)) same
+                ∙ ap length (get_or-set_same rows p (set (row_at rows p) fd key) [] inside)
+                ∙ length-set (row_at rows p) fd key
+                ∙ ap (λ place. length (row_at rows place)) (sym same)
+            | inr past ↦ ap (λ keys. length (row_at keys q)) (set_past rows p (set (row_at rows p) fd key) past)
+          ]
+      | inr other ↦ ap length (get_or-set_other rows p q (set (row_at rows p) fd key) [] other)
+    ]
+
+-- a write of one key, as a whole
+pub WithKey-with_key : (rows : List Keys) (p fd : ℕ) (key : Option ℕ) → fd < length (row_at rows p) → WithKey rows (with_key rows p fd key) p fd key
+WithKey-with_key rows p fd key within =
+    record { keys = key_at-with_key rows p fd key within; lengths = length-with_key rows p fd key }
+
+-- rows stay rows where their lengths stay
+pub AreRows-kept : (processes : ℕ) (limits : Limits) (old new : List Keys) → length new ≡ length old → ((q : ℕ) → length (row_at new q) ≡ length (row_at old q)) → AreRows processes limits old → AreRows processes limits new
+AreRows-kept processes limits old new count lengths h =
+    record {
+      few = h.few;
+      count = count ∙ h.count;
+      unused = nil_from_length (row_at new 0) (lengths 0 ∙ ap length h.unused);
+      each = λ p alive. lengths p ∙ h.each p (ap (λ n. ltb 0 n) (sym (lengths p)) ∙ alive);
+    }
+
+-- rows stay rows where a key is written
+pub AreRows-with_key : (processes : ℕ) (limits : Limits) (rows : List Keys) (p fd : ℕ) (key : Option ℕ) → AreRows processes limits rows → AreRows processes limits (with_key rows p fd key)
+AreRows-with_key processes limits rows p fd key h =
+    AreRows-kept processes limits rows (with_key rows p fd key) (length-set rows p (set (row_at rows p) fd key)) (length-with_key rows p fd key) h
+
+-- no row is longer than 256
+pub row-short : (processes : ℕ) (limits : Limits) (rows : List Keys) → AreRows processes limits rows → (p : ℕ) → length (row_at rows p) ≤ 256
+row-short processes limits rows h p =
+    elim (cases_lt 0 (length (row_at rows p))) [
+      | inl some ↦ omega (arith, h.each p (lt-ltb 0 (length (row_at rows p)) some), descriptor_limit-le limits)
+      | inr none ↦ omega arith
+    ]
+
+-- a write of one key gives no process a row
+pub has_row-with_key : (rows : List Keys) (p fd : ℕ) (key : Option ℕ) (q : ℕ) → has_row (with_key rows p fd key) q ≡ has_row rows q
+has_row-with_key rows p fd key q = ap (λ n. ltb 0 n) (length-with_key rows p fd key q)
+
+-- a row with a place for a descriptor is among the rows
+pub row_inside : (rows : List Keys) (p fd : ℕ) → fd < length (row_at rows p) → p < length rows
+row_inside rows p fd within =
+    elim (cases_lt p (length rows)) [
+      | inl in_rows ↦ in_rows
+      | inr past ↦ absurd (omega (arith, subst (λ row. fd < length row) (get_or_past rows p [] past) within))
+    ]

@@ -1,15 +1,16 @@
 -- What is shown after each change stands for the descriptors after the same change.
-use Rattle.std.proofs.Common.{◌≡◌, ◌≢◌, ◌⊎◌, ℕ, zero, suc, pred, ◌+◌, ◌<◌, ◌≤◌, Bool, true, false, ◌||◌, cond, eqb, List, [], ◌∷◌, ◌++◌, length, set, Option, Some, None, IsSome, refl, sym, ap, subst, ◌∙◌, inl, inr, arith, add-one}
+use Rattle.std.proofs.Common.{◌≡◌, ◌≢◌, ℕ, zero, suc, pred, ◌+◌, ◌||◌, cond, eqb, List, [], ◌∷◌, ◌++◌, length, set, Option, Some, None, refl, sym, ap, subst, ◌∙◌, inl, inr, add-one}
 use Rattle.std.specs.List.{slice_get}
 use Rattle.std.specs.Option.{option_map}
 use Rattle.std.proofs.lemmas.Bool.{cases_eq, eq-eqb, ne_eqb}
 use Rattle.std.proofs.lemmas.List.{length-append, length-set}
 use Rattle.std.proofs.lemmas.Option.{same_Some, none-some}
 use Rattle.fd_table.specs.declared.Access.{Access}
-use Rattle.fd_table.specs.Descriptors.{Descriptors, OpenFileDescription, SameDescriptors, description_numbered, with_description, with_descriptor, without_descriptors, with_child, with_offset, with_size}
+use Rattle.fd_table.specs.Descriptors.{Descriptors, OpenFileDescription, SameDescriptors, description_numbered, with_description, with_descriptor, with_child, with_offset, with_size}
+use Rattle.fd_table.specs.Rows.{is_place}
 use Rattle.fd_table.specs.Closing.{without_one}
 use Rattle.fd_table.specs.TablesView.{View, Numbered, IsSeen, ViewStandsFor}
-use Rattle.fd_table.proofs.RowsLemmas.{is_place, place_cases}
+use Rattle.fd_table.proofs.RowsLemmas.{place_cases}
 
 -- an open descriptor refers to the description that is shown
 pub seen_some : (v : View) (D : Descriptors) (p fd : ℕ) (s : Numbered) → ViewStandsFor v D → v.seen p fd ≡ Some s → (D.description_of p fd ≡ Some s.number) × (description_numbered D.descriptions s.number ≡ Some s.description)

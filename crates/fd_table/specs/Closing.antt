@@ -1,6 +1,8 @@
 -- What the closing of one descriptor finds.
-use Rattle.std.specs.Prelude.{◌≡◌, ℕ, ◌==◌, Option, Some, None, option_map}
-use Rattle.fd_table.specs.declared.tables.Closed.{Closed}
+use Rattle.std.specs.Prelude.{◌≡◌, ℕ, ◌==◌, Option, Some, None, option_map, option_to_list, [], ◌∷◌}
+use Rattle.fd_table.specs.declared.releases.Closed.{Closed}
+use Rattle.fd_table.specs.Released.{Released}
+use Rattle.fd_table.specs.Calls.{nothing}
 use Rattle.fd_table.specs.Descriptors.{Descriptors, IsOpen, description_numbered, without_descriptors}
 
 -- this descriptor alone is closed
@@ -23,3 +25,8 @@ pub record ClosesOne (before : Descriptors) (p fd : ℕ) (closed : Closed) : Typ
 abbrev pub IsClosing : Descriptors → ℕ → ℕ → Option Closed → Type 0
 IsClosing before p fd None = before.description_of p fd ≡ None
 IsClosing before p fd (Some closed) = ClosesOne before p fd closed
+
+-- what the closing of one descriptor released
+abbrev pub released_by : Option Closed → Released
+released_by None = nothing
+released_by (Some closed) = record { files = closed.file ∷ []; descriptions = option_to_list closed.last }

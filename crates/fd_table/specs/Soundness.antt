@@ -1,8 +1,8 @@
 -- What holds of the fields of `Tables` at all times (this project's choice).
-use Rattle.std.specs.Prelude.{◌≡◌, ℕ, ◌+◌, ◌<◌, ◌≤◌, Option, Some, None, IsSome, IsTrue, ℤ, pos, List, [], length, slice_index}
+use Rattle.std.specs.Prelude.{◌≡◌, ℕ, ◌+◌, ◌<◌, ◌≤◌, Some, IsSome, IsTrue, ℤ, pos, List, [], length, slice_index}
 use Rattle.range_core.specs.declared.TheConstants.{OFFMAX}
 use Rattle.slab.specs.Slab.{Slab, get}
-use Rattle.fd_table.specs.declared.TheConstants.{FILES, DESCRIPTIONS}
+use Rattle.fd_table.specs.declared.TheConstants.{FILES}
 use Rattle.fd_table.specs.declared.Limits.{Limits}
 use Rattle.fd_table.specs.declared.tables.Opened.{Opened}
 use Rattle.fd_table.specs.Descriptors.{descriptor_limit}
@@ -18,6 +18,7 @@ pub record IsEntry (made : ℕ) (opened : Opened) : Type 0 where
 
 -- each process that was ever alive has a row with a place for each of its descriptors
 pub record AreRows (processes : ℕ) (limits : Limits) (rows : List Keys) : Type 0 where
+  pub few : processes < 256
   pub count : length rows ≡ processes + 1
   pub unused : row_at rows 0 ≡ []
   pub each : (p : ℕ) → IsTrue (has_row rows p) → length (row_at rows p) ≡ descriptor_limit limits

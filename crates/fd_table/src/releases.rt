@@ -1,5 +1,12 @@
 use std::marker::Model;
 
+/// A descriptor that was closed: its file, and the number of its description if no other descriptor refers to it.
+#[derive(Clone, Copy)]
+pub(crate) struct Closed {
+    pub(crate) file: u8,
+    pub(crate) last: Option<u64>,
+}
+
 /// The files of the descriptors that a call closed, and the descriptions that it closed for good.
 #[derive(Drop)]
 pub struct Releases {
@@ -21,7 +28,53 @@ impl Model for Releases {
 }
 
 impl Releases {
-    ghost use Rattle.std.specs.Prelude.{◌≡◌};
+    ghost use Rattle.std.specs.Prelude.{◌≡◌, ◌<◌, length, ◌++◌, ◌∷◌, []};
+    ghost use Rattle.fd_table.specs.Closing.{released_by};
+    ghost use Rattle.fd_table.specs.Calls.{nothing};
+
+    /// Nothing is released.
+    pub(crate) fn none() -> Releases
+        ensures { result ≡ nothing }
+    {
+        Releases {
+            files: [0; 64],
+            file_count: 0,
+            descriptions: [0; 256],
+            description_count: 0,
+        }
+    }
+
+    /// What the closing of one descriptor released, if it was open.
+    pub(crate) fn of(closed: Option<Closed>) -> Releases
+        ensures { result ≡ released_by closed }
+    {
+        let mut released = Releases::none();
+        if let Some(closed) = closed {
+            released.push_file(closed.file);
+            if let Some(number) = closed.last {
+                released.push_description(number);
+            }
+        }
+        released
+    }
+
+    /// Adds a file past the last.
+    fn push_file(&mut self, file: u8)
+        requires { length self.old.files < 64 }
+        ensures { self.new ≡ record self.old { files = self.old.files ++ file ∷ [] } }
+    {
+        self.files[self.file_count] = file;
+        self.file_count += 1;
+    }
+
+    /// Adds a description past the last.
+    fn push_description(&mut self, number: u64)
+        requires { length self.old.descriptions < 256 }
+        ensures { self.new ≡ record self.old { descriptions = self.old.descriptions ++ number ∷ [] } }
+    {
+        self.descriptions[self.description_count] = number;
+        self.description_count += 1;
+    }
 
     /// The files, by rising number and each once.
     pub fn files(&self) -> &[u8]

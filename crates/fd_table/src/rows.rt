@@ -1,5 +1,5 @@
-ghost use Rattle.std.specs.Prelude.{ℕ, ◌≡◌, ◌<◌, ◌≤◌, ◌+◌, ◌==◌, ◌↔◌, IfOk, IfSome, IfNone, IsSome, IsTrue, Some, None, Option, if◌then◌else◌, List, [], length, slice_index_or, slice_set, replicate};
-ghost use Rattle.fd_table.specs.Rows.{row_at, opening_row};
+ghost use Rattle.std.specs.Prelude.{ℕ, ◌≡◌, ◌<◌, ◌+◌, ◌==◌, IfOk, IfSome, IfNone, Some, None, [], length, slice_index_or, slice_set, replicate};
+ghost use Rattle.fd_table.specs.Rows.{row_at, with_key, opening_row, IsLowestClosed, AreAllOpen};
 
 use std::alloc::{AllocError, Global};
 use std::marker::Model;
@@ -38,10 +38,10 @@ impl Row {
     }
 
     /// An equal row.
-    pub(crate) fn copied(&self, alloc: Global) -> Result<Row, AllocError>
+    pub(crate) fn copied(&self) -> Result<Row, AllocError>
         ensures { IfOk result (λ row. row ≡ self.now) }
     {
-        let keys = Vec::from_slice(alloc, &self.keys)?;
+        let keys = Vec::from_slice(*self.keys.allocator(), &self.keys)?;
         Ok(Row { keys })
     }
 
@@ -74,13 +74,19 @@ impl Row {
 
     /// The lowest closed descriptor, if there is one.
     pub(crate) fn lowest_closed(&self) -> Option<usize>
-        ensures within { IfSome result (λ fd. fd < length self.now) }
-        ensures closed { IfSome result (λ fd. slice_index_or self.now fd None ≡ None) }
-        ensures lowest { IfSome result (λ fd. (below : ℕ) → below < fd → IsSome (slice_index_or self.now below None)) }
-        ensures full { IfNone result ((fd : ℕ) → fd < length self.now → IsSome (slice_index_or self.now fd None)) }
+        ensures some { IfSome result (IsLowestClosed self.now) }
+        ensures none { IfNone result (AreAllOpen self.now) }
     {
         self.keys.iter().position(|key| key.is_none())
     }
+}
+
+/// Makes the descriptor of the process refer to this key, or closes it.
+pub(crate) fn set_key(rows: &mut Vec<Row>, p: u8, fd: u32, key: Option<usize>)
+    requires { fd < length (row_at rows.old.items p) }
+    ensures { rows.new.items ≡ with_key rows.old.items p fd key }
+{
+    rows[usize::from(p)].set(fd as usize, key);
 }
 
 /// The rows at the opening: process 1 alone has one, of this many closed descriptors.

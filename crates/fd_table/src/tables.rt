@@ -3,7 +3,8 @@ ghost use Rattle.fd_table.specs.declared.TheConstants.{DESCRIPTIONS};
 ghost use Rattle.fd_table.specs.Descriptors.{descriptor_limit};
 ghost use Rattle.fd_table.specs.Soundness.{AreRows, AreEntries, AreSizes, IsBytes};
 
-use crate::rows::{Row, opening_rows};
+use crate::releases::{Closed, Releases};
+use crate::rows::{Row, opening_rows, set_key};
 use crate::{Access, DESCRIPTIONS, FILES, FdFault, Limits};
 use range_core::Memory;
 use slab::Slab;
@@ -35,13 +36,6 @@ struct Opened {
     users: u64,
 }
 
-/// A descriptor that was closed: its file, and the number of its description if no other descriptor refers to it.
-#[derive(Clone, Copy)]
-pub(crate) struct Closed {
-    pub(crate) file: u8,
-    pub(crate) last: Option<u64>,
-}
-
 /// The descriptors of all processes.
 #[derive(Drop)]
 pub struct Tables {
@@ -61,10 +55,11 @@ pub struct Tables {
 
 #[tactic(auto, unfolding(crate::specs::TablesView::view_of, crate::specs::TablesView::processes_of, crate::specs::TablesView::limits_of))]
 impl Tables {
-    ghost use Rattle.std.specs.Prelude.{ℕ, ◌≢◌, ◌<◌, IsTrue, IfOk, OnErr, Ok, Err, Some, None};
-    ghost use Rattle.fd_table.specs.Descriptors.{Descriptors, AreOpening, opening_descriptors, process_limit, look_at};
-    ghost use Rattle.fd_table.specs.Calls.{SeekGives, ResizeGives};
-    ghost use Rattle.fd_table.specs.Rows.{key_at};
+    ghost use Rattle.std.specs.Prelude.{ℕ, ◌≢◌, ◌<◌, length, IsSome, IsTrue, IfOk, OnErr, Ok, Err, Some, None};
+    ghost use Rattle.fd_table.specs.Descriptors.{Descriptors, AreOpening, opening_descriptors, process_limit, look_at, with_descriptor};
+    ghost use Rattle.fd_table.specs.Calls.{OpenGives, DupGives, DupToGives, CloseGives, SeekGives, ResizeGives};
+    ghost use Rattle.fd_table.specs.Closing.{IsClosing, without_one};
+    ghost use Rattle.fd_table.specs.Rows.{row_at, key_at, IsLowestClosed, AreAllOpen, WithKey};
     ghost use Rattle.fd_table.specs.TablesView.{StandFor, processes_of, limits_of, ever_alive, SameTables, IsInRange, opened_in};
 
     /// Process 1 alone lives, no descriptor is open and each file is empty. The room for the descriptors of process 1 is
@@ -95,6 +90,95 @@ impl Tables {
         match self.rows.get(usize::from(p)) {
             Some(row) => !row.is_empty(),
             None => false,
+        }
+    }
+
+    /// `open` of a file that is there: a new description with offset 0, under the lowest free descriptor (POSIX.1-2017
+    /// open). The process must have been alive.
+    ///
+    /// `Invalid` where the file is 64 or more, then `TooMany` where no descriptor is free or [`DESCRIPTIONS`] descriptions
+    /// were ever made, then `Memory`.
+    pub fn open_file(&mut self, p: u8, file: u8, access: Access) -> Result<u32, FdFault>
+        requires { IsTrue (ever_alive self.old p) }
+        ensures step { result ≢ Err FdFault.Memory → (D : Descriptors) → StandFor self.old D →
+            (E : Descriptors) × OpenGives (limits_of self.old) D p file access result E × StandFor self.new E }
+        ensures memory { result ≡ Err FdFault.Memory → (D : Descriptors) → StandFor self.old D → StandFor self.new D }
+        ensures kept { SameTables self.old self.new }
+    {
+        if file >= FILES {
+            return Err(FdFault::Invalid);
+        }
+        let Some(fd) = self.lowest_free(p) else {
+            return Err(FdFault::TooMany);
+        };
+        if self.made >= DESCRIPTIONS {
+            return Err(FdFault::TooMany);
+        }
+        let number = self.made + 1;
+        let opened = Opened {
+            number,
+            file,
+            access,
+            offset: 0,
+            users: 1,
+        };
+        let Ok(key) = self.opened.insert(opened) else {
+            return Err(FdFault::Memory);
+        };
+        self.made = number;
+        set_key(&mut self.rows, p, fd, Some(key));
+        Ok(fd)
+    }
+
+    /// `dup`: the lowest free descriptor refers to the same description (POSIX.1-2017 dup).
+    ///
+    /// `BadFd` where the descriptor isn't open, then `TooMany` where none is free.
+    pub fn dup(&mut self, p: u8, fd: u32) -> Result<u32, FdFault>
+        ensures step { (D : Descriptors) → StandFor self.old D →
+            (E : Descriptors) × DupGives (limits_of self.old) D p fd result E × StandFor self.new E }
+        ensures kept { SameTables self.old self.new }
+    {
+        if self.key_at(p, fd).is_none() {
+            return Err(FdFault::BadFd);
+        }
+        let Some(free) = self.lowest_free(p) else {
+            return Err(FdFault::TooMany);
+        };
+        self.share(p, fd, free);
+        Ok(free)
+    }
+
+    /// `dup2`: the descriptor `to`, closed first where it is open, refers to the same description. Onto itself it changes
+    /// nothing (POSIX.1-2017 dup2).
+    ///
+    /// `BadFd` where the descriptor isn't open, or `to` is past the last that the process may have.
+    pub fn dup2(&mut self, p: u8, fd: u32, to: u32) -> Result<(u32, Releases), FdFault>
+        ensures step { (D : Descriptors) → StandFor self.old D →
+            (E : Descriptors) × DupToGives (limits_of self.old) D p fd to result E × StandFor self.new E }
+        ensures kept { SameTables self.old self.new }
+    {
+        if self.key_at(p, fd).is_none() || to as usize >= row_len(self.limits) {
+            return Err(FdFault::BadFd);
+        }
+        if to == fd {
+            return Ok((to, Releases::none()));
+        }
+        let released = Releases::of(self.unlink(p, to));
+        self.share(p, fd, to);
+        Ok((to, released))
+    }
+
+    /// `close`: closes the descriptor, and tells what that releases (POSIX.1-2017 close).
+    ///
+    /// `BadFd` where the descriptor isn't open.
+    pub fn close_fd(&mut self, p: u8, fd: u32) -> Result<Releases, FdFault>
+        ensures step { (D : Descriptors) → StandFor self.old D →
+            (E : Descriptors) × CloseGives D p fd result E × StandFor self.new E }
+        ensures kept { SameTables self.old self.new }
+    {
+        match self.unlink(p, fd) {
+            Some(closed) => Ok(Releases::of(Some(closed))),
+            None => Err(FdFault::BadFd),
         }
     }
 
@@ -163,6 +247,55 @@ impl Tables {
         ensures { result ≡ opened_in self.now.rows.items self.now.opened p fd }
     {
         self.opened.get(self.key_at(p, fd)?).copied()
+    }
+
+    // The lowest closed descriptor of the process, if there is one.
+    fn lowest_free(&self, p: u8) -> Option<u32>
+        ensures some { IfSome result (IsLowestClosed (row_at self.now.rows.items p)) }
+        ensures none { IfNone result (AreAllOpen (row_at self.now.rows.items p)) }
+    {
+        let fd = self.rows.get(usize::from(p))?.lowest_closed()?;
+        Some(fd as u32)
+    }
+
+    // Makes a closed descriptor refer to what an open one refers to.
+    fn share(&mut self, p: u8, from: u32, to: u32)
+        requires open { IsSome (key_at self.old.rows.items p from) }
+        requires closed { key_at self.old.rows.items p to ≡ None }
+        requires within { to < length (row_at self.old.rows.items p) }
+        ensures step { (D : Descriptors) (description : ℕ) → StandFor self.old D → D.description_of p from ≡ Some description →
+            StandFor self.new (with_descriptor D p to description) }
+        ensures kept { SameTables self.old self.new }
+    {
+        if let Some(key) = self.key_at(p, from) {
+            self.opened[key].users += 1;
+            set_key(&mut self.rows, p, to, Some(key));
+        }
+    }
+
+    // Closes the descriptor, if it is open.
+    fn unlink(&mut self, p: u8, fd: u32) -> Option<Closed>
+        ensures step { (D : Descriptors) → StandFor self.old D → IsClosing D p fd result × StandFor self.new (without_one D p fd) }
+        ensures rows { WithKey self.old.rows.items self.new.rows.items p fd None }
+        ensures kept { SameTables self.old self.new }
+    {
+        let key = self.key_at(p, fd)?;
+        let Opened {
+            number,
+            file,
+            users,
+            ..
+        } = self.opened[key];
+        set_key(&mut self.rows, p, fd, None);
+        if users == 1 {
+            self.opened.remove(key);
+            return Some(Closed {
+                file,
+                last: Some(number),
+            });
+        }
+        self.opened[key].users -= 1;
+        Some(Closed { file, last: None })
     }
 }
 

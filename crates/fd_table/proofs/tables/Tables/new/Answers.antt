@@ -9,7 +9,7 @@ invariant_of-result c =
     let made : AreOpeningRows c.in-Ok.rows.items c.args.processes c.row_len.result = record { count = c.in-Ok.ensures.count; each = c.in-Ok.ensures.rows } in
     let rows : AreOpeningRows c.in-Ok.rows.items c.args.processes (descriptor_limit c.args.limits) = rw c.row_len.ensures at made in
     record {
-      rowed = opening_are_rows _ _ _ c.requires.0 rows;
+      rowed = opening_are_rows _ _ _ (omega arith) c.requires.0 rows;
       entered = opening_are_entries _ _ (opening_keys _ _ _ c.requires.0 rows) c.new.ensures.empty;
       sized = λ file. omega (arith, opening_size _ file c.empty_files.ensures);
       bounded = omega arith;

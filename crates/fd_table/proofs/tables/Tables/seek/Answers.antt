@@ -1,4 +1,4 @@
-use Rattle.std.proofs.Common.{◌≡◌, refl, sym, ◌∙◌, Some, rules, pos, w64}
+use Rattle.std.proofs.Common.{◌≡◌, refl, sym, ◌∙◌, pos, w64}
 use Rattle.std.proofs.lemmas.Int.{to_z-of_z}
 use Rattle.slab.proofs.SlabLemmas.{Updates-with_value}
 use Rattle.fd_table.specs.Rows.{key_at}
