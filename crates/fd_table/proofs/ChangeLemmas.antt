@@ -19,10 +19,10 @@ use Rattle.fd_table.proofs.EntryLemmas.{some_is, value_of_some, entries_rewritte
 use Rattle.fd_table.proofs.CallLemmas.{seen_at_key}
 
 -- a key counts for itself, and for no other
-one_for-same : (key : ℕ) → one_for key (Some key) ≡ 1
+pub one_for-same : (key : ℕ) → one_for key (Some key) ≡ 1
 one_for-same key = ap {B = ℕ} (λ b. cond b 1 0) (eq-eqb key key refl)
 
-one_for-other : (x key : ℕ) → x ≢ key → one_for x (Some key) ≡ 0
+pub one_for-other : (x key : ℕ) → x ≢ key → one_for x (Some key) ≡ 0
 one_for-other x key differs = ap {B = ℕ} (λ b. cond b 1 0) (ne_eqb key x (λ same. differs (sym same)))
 
 -- a closed descriptor that gets a key is one user more of this key alone

@@ -1,4 +1,5 @@
 pub mod LimitsLemmas
+pub mod ListLemmas
 pub mod RowsLemmas
 pub mod ViewLemmas
 pub mod OpeningLemmas
@@ -6,3 +7,5 @@ pub mod EntryLemmas
 pub mod CallLemmas
 pub mod ChangeLemmas
 pub mod ReleasedLemmas
+pub mod ForkLemmas
+pub mod GatherLemmas

@@ -5,6 +5,7 @@ use Rattle.std.proofs.lemmas.Bool.{cases_eq, cases_lt, eq-eqb, ne_eqb, lt-ltb, a
 use Rattle.std.proofs.lemmas.List.{get_or-set_same, get_or-set_other, get_or_past, get_or_default, length-set, set_past, nil_from_length}
 use Rattle.std.proofs.lemmas.List.Sums.{sum_by-set, sum_by-cons, get_or-le-sum_by, sum_by-le, count_by-le-length}
 use Rattle.fd_table.specs.declared.Limits.{Limits}
+use Rattle.fd_table.specs.Descriptors.{descriptor_limit}
 use Rattle.fd_table.specs.Soundness.{AreRows}
 use Rattle.fd_table.proofs.LimitsLemmas.{descriptor_limit-le}
 use Rattle.fd_table.specs.Rows.{Keys, row_at, has_row, key_at, with_key, is_key, is_place, users_in, users_of, WithKey}
@@ -190,3 +191,12 @@ row_inside rows p fd within =
       | inl in_rows ↦ in_rows
       | inr past ↦ absurd (omega (arith, subst (λ row. fd < length row) (get_or_past rows p [] past) within))
     ]
+
+-- no descriptor past the limit has a key
+pub key_past : (processes : ℕ) (limits : Limits) (rows : List Keys) → AreRows processes limits rows → (p k : ℕ) → descriptor_limit limits ≤ k → key_at rows p k ≡ None
+key_past processes limits rows h p k past =
+    get_or_past (row_at rows p) k None
+    (elim (cases_lt 0 (length (row_at rows p))) [
+      | inl some ↦ omega (arith, h.each p (lt-ltb 0 (length (row_at rows p)) some))
+      | inr none ↦ omega arith
+    ])

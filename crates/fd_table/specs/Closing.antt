@@ -1,5 +1,5 @@
 -- What the closing of one descriptor finds.
-use Rattle.std.specs.Prelude.{◌≡◌, ℕ, ◌==◌, Option, Some, None, option_map, option_to_list, [], ◌∷◌}
+use Rattle.std.specs.Prelude.{◌≡◌, ℕ, ◌==◌, Option, Some, None, option_map, option_to_list, Bool, false, IsTrue, List, [], ◌∷◌, slice_index_or}
 use Rattle.fd_table.specs.declared.releases.Closed.{Closed}
 use Rattle.fd_table.specs.Released.{Released}
 use Rattle.fd_table.specs.Calls.{nothing}
@@ -30,3 +30,7 @@ IsClosing before p fd (Some closed) = ClosesOne before p fd closed
 abbrev pub released_by : Option Closed → Released
 released_by None = nothing
 released_by (Some closed) = record { files = closed.file ∷ []; descriptions = option_to_list closed.last }
+
+-- the number is marked
+abbrev pub IsMarked : List Bool → ℕ → Type 0
+IsMarked marks x = IsTrue (slice_index_or marks x false)

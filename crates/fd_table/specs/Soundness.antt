@@ -38,3 +38,7 @@ AreSizes sizes = (file : ℕ) → slice_index sizes file ≤ OFFMAX
 -- the signed number is this one, which is an offset in range
 abbrev pub IsBytes : ℤ → ℕ → Type 0
 IsBytes count n = (count ≡ pos n) × (n ≤ OFFMAX)
+
+-- the entry with so many users more
+abbrev pub with_users : ℕ → Opened → Opened
+with_users more entry = record entry { users = entry.users + more }

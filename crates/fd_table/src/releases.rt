@@ -1,3 +1,4 @@
+use crate::FILES;
 use std::marker::Model;
 
 /// A descriptor that was closed: its file, and the number of its description if no other descriptor refers to it.
@@ -28,8 +29,11 @@ impl Model for Releases {
 }
 
 impl Releases {
-    ghost use Rattle.std.specs.Prelude.{◌≡◌, ◌<◌, length, ◌++◌, ◌∷◌, []};
-    ghost use Rattle.fd_table.specs.Closing.{released_by};
+    ghost use Rattle.std.specs.Prelude.{◌≡◌, ◌<◌, ◌↔◌, ℕ, length, ◌++◌, ◌∷◌, [], Contains, nat_eq};
+    ghost use Rattle.std.specs.List.{IsDistinct};
+    ghost use Rattle.std.specs.List.Sorted.{IsStrictlyIncreasing};
+    ghost use Rattle.fd_table.specs.Releasing.{AreExactly};
+    ghost use Rattle.fd_table.specs.Closing.{released_by, IsMarked};
     ghost use Rattle.fd_table.specs.Calls.{nothing};
 
     /// Nothing is released.
@@ -68,12 +72,34 @@ impl Releases {
     }
 
     /// Adds a description past the last.
-    fn push_description(&mut self, number: u64)
+    pub(crate) fn push_description(&mut self, number: u64)
         requires { length self.old.descriptions < 256 }
         ensures { self.new ≡ record self.old { descriptions = self.old.descriptions ++ number ∷ [] } }
     {
         self.descriptions[self.description_count] = number;
         self.description_count += 1;
+    }
+
+    /// Adds the files that are marked, by rising number.
+    pub(crate) fn list_files(&mut self, marks: &[bool; 64])
+        requires { self.old.files ≡ [] }
+        ensures files { AreExactly self.new.files (IsMarked marks.now) }
+        ensures descriptions { self.new.descriptions ≡ self.old.descriptions }
+    {
+        for file in 0..FILES {
+            if marks[usize::from(file)] {
+                self.push_file(file);
+            }
+        }
+    }
+
+    /// Puts the numbers of the descriptions in order.
+    pub(crate) fn sort_descriptions(&mut self)
+        ensures rising { IsDistinct nat_eq self.old.descriptions → IsStrictlyIncreasing self.new.descriptions }
+        ensures same { (x : ℕ) → Contains self.new.descriptions x ↔ Contains self.old.descriptions x }
+        ensures files { self.new.files ≡ self.old.files }
+    {
+        self.descriptions[..self.description_count].sort_unstable();
     }
 
     /// The files, by rising number and each once.

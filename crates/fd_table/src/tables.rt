@@ -1,7 +1,10 @@
-ghost use Rattle.std.specs.Prelude.{◌≡◌, ◌≤◌, replicate, IfSome, IfNone, ◌<ℤ◌, pos};
+ghost use Rattle.std.specs.Prelude.{ℕ, ◌≡◌, ◌≤◌, ◌<◌, ◌+◌, ◌^◌, Some, length, option_map, replicate, false, IfSome, IfNone, ◌<ℤ◌, pos};
 ghost use Rattle.fd_table.specs.declared.TheConstants.{DESCRIPTIONS};
+ghost use Rattle.fd_table.specs.declared.tables.Opened.{Opened};
+ghost use Rattle.slab.specs.Slab.{get};
+ghost use Rattle.fd_table.specs.Rows.{users_in};
 ghost use Rattle.fd_table.specs.Descriptors.{descriptor_limit};
-ghost use Rattle.fd_table.specs.Soundness.{AreRows, AreEntries, AreSizes, IsBytes};
+ghost use Rattle.fd_table.specs.Soundness.{AreRows, AreEntries, AreSizes, IsBytes, with_users};
 
 use crate::releases::{Closed, Releases};
 use crate::rows::{Row, opening_rows, set_key};
@@ -55,9 +58,9 @@ pub struct Tables {
 
 #[tactic(auto, unfolding(crate::specs::TablesView::view_of, crate::specs::TablesView::processes_of, crate::specs::TablesView::limits_of))]
 impl Tables {
-    ghost use Rattle.std.specs.Prelude.{ℕ, ◌≢◌, ◌<◌, length, IsSome, IsTrue, IfOk, OnErr, Ok, Err, Some, None};
+    ghost use Rattle.std.specs.Prelude.{◌≢◌, IsSome, IsTrue, IfOk, OnErr, Ok, Err, None};
     ghost use Rattle.fd_table.specs.Descriptors.{Descriptors, AreOpening, opening_descriptors, process_limit, look_at, with_descriptor};
-    ghost use Rattle.fd_table.specs.Calls.{OpenGives, DupGives, DupToGives, CloseGives, SeekGives, ResizeGives};
+    ghost use Rattle.fd_table.specs.Calls.{OpenGives, DupGives, DupToGives, CloseGives, EndGives, ForkGives, SeekGives, ResizeGives};
     ghost use Rattle.fd_table.specs.Closing.{IsClosing, without_one};
     ghost use Rattle.fd_table.specs.Rows.{row_at, key_at, IsLowestClosed, AreAllOpen, WithKey};
     ghost use Rattle.fd_table.specs.TablesView.{StandFor, processes_of, limits_of, ever_alive, SameTables, IsInRange, opened_in};
@@ -182,6 +185,50 @@ impl Tables {
         }
     }
 
+    /// `fork`: the child lives, with a copy of each descriptor of its parent, so they share descriptions and offsets
+    /// (POSIX.1-2017 fork; that the caller names the child is this project's choice). The process must have been alive. The
+    /// room for the child's descriptors is made here.
+    ///
+    /// `Taken` where the child isn't 1 to the number of processes or was ever alive, then `Memory`.
+    pub fn fork(&mut self, p: u8, child: u8) -> Result<(), FdFault>
+        requires { IsTrue (ever_alive self.old p) }
+        ensures step { result ≢ Err FdFault.Memory → (D : Descriptors) → StandFor self.old D →
+            (E : Descriptors) × ForkGives (processes_of self.old) D p child result E × StandFor self.new E }
+        ensures memory { result ≡ Err FdFault.Memory → (D : Descriptors) → StandFor self.old D → StandFor self.new D }
+        ensures kept { SameTables self.old self.new }
+    {
+        if child == 0 || child > self.processes || self.born(child) {
+            return Err(FdFault::Taken);
+        }
+        let Ok(row) = self.rows[usize::from(p)].copied() else {
+            return Err(FdFault::Memory);
+        };
+        add_users(&mut self.opened, &row);
+        self.rows[usize::from(child)] = row;
+        Ok(())
+    }
+
+    /// The end of a process: closes all its descriptors, and tells what that releases (POSIX.1-2017 _Exit).
+    pub fn end_process(&mut self, p: u8) -> Releases
+        ensures step { (D : Descriptors) → StandFor self.old D →
+            (E : Descriptors) × EndGives D p result E × StandFor self.new E }
+        ensures kept { SameTables self.old self.new }
+    {
+        let mut released = Releases::none();
+        let mut files = no_marks();
+        for fd in 0..row_len(self.limits) as u32 {
+            if let Some(closed) = self.unlink(p, fd) {
+                files[usize::from(closed.file)] = true;
+                if let Some(number) = closed.last {
+                    released.push_description(number);
+                }
+            }
+        }
+        released.list_files(&files);
+        released.sort_descriptions();
+        released
+    }
+
     /// What the descriptor refers to, if it is open.
     pub fn look(&self, p: u8, fd: u32) -> Option<Look>
         ensures look { (D : Descriptors) → StandFor self.now D → result ≡ look_at D p fd }
@@ -277,6 +324,7 @@ impl Tables {
     fn unlink(&mut self, p: u8, fd: u32) -> Option<Closed>
         ensures step { (D : Descriptors) → StandFor self.old D → IsClosing D p fd result × StandFor self.new (without_one D p fd) }
         ensures rows { WithKey self.old.rows.items self.new.rows.items p fd None }
+        ensures file { IfSome result (λ closed. closed.file < FILES) }
         ensures kept { SameTables self.old self.new }
     {
         let key = self.key_at(p, fd)?;
@@ -307,6 +355,27 @@ fn row_len(limits: Limits) -> usize
         Limits::Small => 32,
         Limits::Wide => 256,
     }
+}
+
+/// Counts one user more of a description for each place of the row that refers to it.
+fn add_users(opened: &mut Slab<Opened>, row: &Row)
+    requires { (key : ℕ) (entry : Opened) → get opened.old key ≡ Some entry → entry.users + length row.now < 2 ^ 64 }
+    ensures { (key : ℕ) → get opened.new key ≡ option_map (with_users (users_in row.now key)) (get opened.old key) }
+{
+    for fd in 0..row.len() {
+        if let Some(key) = row.get(fd) {
+            if let Some(entry) = opened.get_mut(key) {
+                entry.users += 1;
+            }
+        }
+    }
+}
+
+/// No file is marked.
+fn no_marks() -> [bool; 64]
+    ensures { result ≡ replicate 64 false }
+{
+    [false; 64]
 }
 
 /// The sizes of empty files.
