@@ -4,6 +4,8 @@
 mod releases;
 mod rows;
 mod tables;
+#[cfg(test)]
+mod tests;
 
 pub use releases::Releases;
 pub use tables::{Look, Tables};

@@ -18,18 +18,19 @@ pub struct Releases {
 }
 
 impl Model for Releases {
-    ghost use Rattle.std.specs.Prelude.{◌≤◌, take};
+    ghost use Rattle.std.specs.Prelude.{◌<◌, ◌≤◌, take, All};
+    ghost use Rattle.fd_table.specs.declared.TheConstants.{FILES};
     ghost use Rattle.fd_table.specs.Released.{Released};
 
     ghost Value = { Released };
 
     ghost view = { λ r. record { files = take r.file_count r.files; descriptions = take r.description_count r.descriptions } };
 
-    ghost invariant = { λ r. (r.file_count ≤ 64) × (r.description_count ≤ 256) };
+    ghost invariant = { λ r. (r.file_count ≤ 64) × (r.description_count ≤ 256) × All (λ file. file < FILES) (take r.file_count r.files) };
 }
 
 impl Releases {
-    ghost use Rattle.std.specs.Prelude.{◌≡◌, ◌<◌, ◌↔◌, ℕ, length, ◌++◌, ◌∷◌, [], Contains, nat_eq};
+    ghost use Rattle.std.specs.Prelude.{◌≡◌, ◌<◌, ◌↔◌, ℕ, length, ◌++◌, ◌∷◌, [], All, Contains, IfSome, nat_eq};
     ghost use Rattle.std.specs.List.{IsDistinct};
     ghost use Rattle.std.specs.List.Sorted.{IsStrictlyIncreasing};
     ghost use Rattle.fd_table.specs.Releasing.{AreExactly};
@@ -50,6 +51,7 @@ impl Releases {
 
     /// What the closing of one descriptor released, if it was open.
     pub(crate) fn of(closed: Option<Closed>) -> Releases
+        requires { IfSome closed (λ one. one.file < FILES) }
         ensures { result ≡ released_by closed }
     {
         let mut released = Releases::none();
@@ -64,7 +66,8 @@ impl Releases {
 
     /// Adds a file past the last.
     fn push_file(&mut self, file: u8)
-        requires { length self.old.files < 64 }
+        requires room { length self.old.files < 64 }
+        requires file { file < FILES }
         ensures { self.new ≡ record self.old { files = self.old.files ++ file ∷ [] } }
     {
         self.files[self.file_count] = file;
@@ -104,7 +107,8 @@ impl Releases {
 
     /// The files, by rising number and each once.
     pub fn files(&self) -> &[u8]
-        ensures { result.now ≡ self.now.files }
+        ensures value { result.now ≡ self.now.files }
+        ensures in_range { All (λ file. file < FILES) result.now }
     {
         &self.files[..self.file_count]
     }

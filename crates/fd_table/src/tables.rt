@@ -60,7 +60,7 @@ pub struct Tables {
 impl Tables {
     ghost use Rattle.std.specs.Prelude.{◌≢◌, IsSome, IsTrue, IfOk, OnErr, Ok, Err, None};
     ghost use Rattle.fd_table.specs.Descriptors.{Descriptors, AreOpening, opening_descriptors, process_limit, look_at, with_descriptor};
-    ghost use Rattle.fd_table.specs.Calls.{OpenGives, DupGives, DupToGives, CloseGives, EndGives, ForkGives, SeekGives, ResizeGives};
+    ghost use Rattle.fd_table.specs.Calls.{OpenGives, OnlyLacksMemory, IsFreeProcess, DupGives, DupToGives, CloseGives, EndGives, ForkGives, SeekGives, ResizeGives};
     ghost use Rattle.fd_table.specs.Closing.{IsClosing, without_one};
     ghost use Rattle.fd_table.specs.Rows.{row_at, key_at, IsLowestClosed, AreAllOpen, WithKey};
     ghost use Rattle.fd_table.specs.TablesView.{StandFor, processes_of, limits_of, ever_alive, SameTables, IsInRange, opened_in};
@@ -105,7 +105,8 @@ impl Tables {
         requires { IsTrue (ever_alive self.old p) }
         ensures step { result ≢ Err FdFault.Memory → (D : Descriptors) → StandFor self.old D →
             (E : Descriptors) × OpenGives (limits_of self.old) D p file access result E × StandFor self.new E }
-        ensures memory { result ≡ Err FdFault.Memory → (D : Descriptors) → StandFor self.old D → StandFor self.new D }
+        ensures memory { result ≡ Err FdFault.Memory → (D : Descriptors) → StandFor self.old D →
+            OnlyLacksMemory (limits_of self.old) D p file × StandFor self.new D }
         ensures kept { SameTables self.old self.new }
     {
         if file >= FILES {
@@ -194,7 +195,8 @@ impl Tables {
         requires { IsTrue (ever_alive self.old p) }
         ensures step { result ≢ Err FdFault.Memory → (D : Descriptors) → StandFor self.old D →
             (E : Descriptors) × ForkGives (processes_of self.old) D p child result E × StandFor self.new E }
-        ensures memory { result ≡ Err FdFault.Memory → (D : Descriptors) → StandFor self.old D → StandFor self.new D }
+        ensures memory { result ≡ Err FdFault.Memory → (D : Descriptors) → StandFor self.old D →
+            IsFreeProcess (processes_of self.old) D child × StandFor self.new D }
         ensures kept { SameTables self.old self.new }
     {
         if child == 0 || child > self.processes || self.born(child) {
