@@ -9,3 +9,4 @@ pub mod ChangeLemmas
 pub mod ReleasedLemmas
 pub mod ForkLemmas
 pub mod GatherLemmas
+pub mod TablesLaws

@@ -104,11 +104,11 @@ slice_get_push : (xs : List OpenFileDescription) (x : OpenFileDescription) → s
 slice_get_push [] x = refl
 slice_get_push (y ∷ xs) x = slice_get_push xs x
 
-numbered_kept : (xs ys : List OpenFileDescription) (n : ℕ) (x : OpenFileDescription) → description_numbered xs n ≡ Some x → description_numbered (xs ++ ys) n ≡ Some x
+pub numbered_kept : (xs ys : List OpenFileDescription) (n : ℕ) (x : OpenFileDescription) → description_numbered xs n ≡ Some x → description_numbered (xs ++ ys) n ≡ Some x
 numbered_kept xs ys zero x is = absurd (none-some x is)
 numbered_kept xs ys (suc i) x is = slice_get_kept xs ys i x is
 
-numbered_push : (xs : List OpenFileDescription) (x : OpenFileDescription) → description_numbered (xs ++ x ∷ []) (length xs + 1) ≡ Some x
+pub numbered_push : (xs : List OpenFileDescription) (x : OpenFileDescription) → description_numbered (xs ++ x ∷ []) (length xs + 1) ≡ Some x
 numbered_push xs x = ap (description_numbered (xs ++ x ∷ [])) (add-one (length xs)) ∙ slice_get_push xs x
 
 -- the descriptors after an open

@@ -9,7 +9,7 @@ pub(crate) struct Closed {
 }
 
 /// The files of the descriptors that a call closed, and the descriptions that it closed for good.
-#[derive(Drop)]
+#[derive(Debug, Drop)]
 pub struct Releases {
     files: [u8; 64],
     file_count: usize,

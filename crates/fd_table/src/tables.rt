@@ -167,7 +167,7 @@ impl Tables {
         if to == fd {
             return Ok((to, Releases::none()));
         }
-        let released = Releases::of(self.unlink(p, to));
+        let released = Releases::of(self.close_one(p, to));
         self.share(p, fd, to);
         Ok((to, released))
     }
@@ -180,7 +180,7 @@ impl Tables {
             (E : Descriptors) × CloseGives D p fd result E × StandFor self.new E }
         ensures kept { SameTables self.old self.new }
     {
-        match self.unlink(p, fd) {
+        match self.close_one(p, fd) {
             Some(closed) => Ok(Releases::of(Some(closed))),
             None => Err(FdFault::BadFd),
         }
@@ -219,7 +219,7 @@ impl Tables {
         let mut released = Releases::none();
         let mut files = no_marks();
         for fd in 0..row_len(self.limits) as u32 {
-            if let Some(closed) = self.unlink(p, fd) {
+            if let Some(closed) = self.close_one(p, fd) {
                 files[usize::from(closed.file)] = true;
                 if let Some(number) = closed.last {
                     released.push_description(number);
@@ -323,7 +323,7 @@ impl Tables {
     }
 
     // Closes the descriptor, if it is open.
-    fn unlink(&mut self, p: u8, fd: u32) -> Option<Closed>
+    fn close_one(&mut self, p: u8, fd: u32) -> Option<Closed>
         ensures step { (D : Descriptors) → StandFor self.old D → IsClosing D p fd result × StandFor self.new (without_one D p fd) }
         ensures rows { WithKey self.old.rows.items self.new.rows.items p fd None }
         ensures file { IfSome result (λ closed. closed.file < FILES) }

@@ -24,7 +24,7 @@ returns-clause-step c = λ D h.
     let there : IsSome (key_at t.rows.items c.args.p c.args.fd) = search rules in
     let refers = value_of_some (D.description_of c.args.p c.args.fd) (open_at_key t.rows.items t.opened t.made c.args.p c.args.fd (view_of t) D t.entered (λ q k. refl) h there) in
     let apart : c.args.fd ≢ c.args.to = λ same. c.if-to-fd.false (sym same) in
-    let step = c.unlink.ensures.step D h in
+    let step = c.close_one.ensures.step D h in
     let between : Descriptors = without_one D c.args.p c.args.to in
     let after : Descriptors = with_descriptor D c.args.p c.args.to refers.0 in
     let stands = c.share.ensures.step between refers.0 step.1 (without_one-other D c.args.p c.args.to c.args.fd apart ∙ refers.1) in (
@@ -34,7 +34,7 @@ returns-clause-step c = λ D h.
         refers.1,
         omega arith,
         refl,
-        moves_elsewhere D c.args.p c.args.fd c.args.to refers.0 c.unlink.result c.of-released.result refers.1 apart step.0 c.of-released.ensures,
+        moves_elsewhere D c.args.p c.args.fd c.args.to refers.0 c.close_one.result c.of-released.result refers.1 apart step.0 c.of-released.ensures,
       ),
       stands_for_same (view_of c.share.new.self) (with_descriptor between c.args.p c.args.to refers.0) after (moved_after_close D c.args.p c.args.to refers.0) stands,
     )

@@ -28,12 +28,12 @@ loop-fd-preserved c =
     let fd = c.loop-fd.fd in
     let p = c.args.p in
     let numbers = c.loop-fd.released.descriptions in
-    let kept : SameTables c.args.self.now c.unlink.new.self =
-    record { processes = c.unlink.ensures.kept.processes ∙ i.kept.processes; limits = c.unlink.ensures.kept.limits ∙ i.kept.limits } in
-    let stands : (D : Descriptors) → StandFor c.args.self.now D → StandFor c.unlink.new.self (closed_below D p (fd + 1)) = λ D h.
-    stands_for_same (view_of c.unlink.new.self) (without_one (closed_below D p fd) p fd) (closed_below D p (fd + 1)) (next_closed D p fd)
-    (c.unlink.ensures.step (closed_below D p fd) (i.stands D h)).1 in
-    elim c.match-unlink.branch [
+    let kept : SameTables c.args.self.now c.close_one.new.self =
+    record { processes = c.close_one.ensures.kept.processes ∙ i.kept.processes; limits = c.close_one.ensures.kept.limits ∙ i.kept.limits } in
+    let stands : (D : Descriptors) → StandFor c.args.self.now D → StandFor c.close_one.new.self (closed_below D p (fd + 1)) = λ D h.
+    stands_for_same (view_of c.close_one.new.self) (without_one (closed_below D p fd) p fd) (closed_below D p (fd + 1)) (next_closed D p fd)
+    (c.close_one.ensures.step (closed_below D p fd) (i.stands D h)).1 in
+    elim c.match-close_one.branch [
       | in-Some+in-Some-last w ↦
           let is = w.released-is ∙ w.push_description.ensures in
           let numbers_are = ap (λ (r : Released). r.descriptions) is in
@@ -41,7 +41,7 @@ loop-fd-preserved c =
           record {
             stands = stands;
             gathered = λ D h.
-                subst (λ (xs : List ℕ). IsGathered D p (fd + 1) c.match-unlink.files xs) (sym numbers_are)
+                subst (λ (xs : List ℕ). IsGathered D p (fd + 1) c.match-close_one.files xs) (sym numbers_are)
                 (subst (λ (marks : List Bool). IsGathered D p (fd + 1) marks (numbers ++ w.in-Some-last.number ∷ [])) (sym w.files-is)
                 (gathered_last D p fd c.loop-fd.files numbers w.from.result w.in-Some-last.number w.in-Some.closed w.from.ensures within
                 (w.in-Some.ensures.step (closed_below D p fd) (i.stands D h)).0 w.in-Some-last.is (i.gathered D h)));
@@ -55,7 +55,7 @@ loop-fd-preserved c =
           record {
             stands = stands;
             gathered = λ D h.
-                subst (λ (r : Released). IsGathered D p (fd + 1) c.match-unlink.files r.descriptions) (sym w.released-is)
+                subst (λ (r : Released). IsGathered D p (fd + 1) c.match-close_one.files r.descriptions) (sym w.released-is)
                 (subst (λ (marks : List Bool). IsGathered D p (fd + 1) marks numbers) (sym w.files-is)
                 (gathered_shared D p fd c.loop-fd.files numbers w.from.result w.in-Some.closed w.from.ensures within
                 (w.in-Some.ensures.step (closed_below D p fd) (i.stands D h)).0 w.in_default-last.is (i.gathered D h)));
@@ -68,7 +68,7 @@ loop-fd-preserved c =
           record {
             stands = stands;
             gathered = λ D h.
-                subst (λ (r : Released). IsGathered D p (fd + 1) c.match-unlink.files r.descriptions) (sym w.released-is)
+                subst (λ (r : Released). IsGathered D p (fd + 1) c.match-close_one.files r.descriptions) (sym w.released-is)
                 (subst (λ (marks : List Bool). IsGathered D p (fd + 1) marks numbers) (sym w.files-is)
                 (gathered_skip D p fd c.loop-fd.files numbers (w.in_default.ensures.step (closed_below D p fd) (i.stands D h)).0 (i.gathered D h)));
             few = subst (λ (r : Released). length r.descriptions ≤ fd + 1) (sym w.released-is) (omega (arith, i.few));

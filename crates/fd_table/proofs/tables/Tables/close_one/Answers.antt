@@ -8,7 +8,7 @@ use Rattle.fd_table.proofs.RowsLemmas.{AreRows-with_key, WithKey-with_key, key_w
 use Rattle.fd_table.proofs.ViewLemmas.{closed_one}
 use Rattle.fd_table.proofs.EntryLemmas.{some_is}
 use Rattle.fd_table.proofs.ChangeLemmas.{one_less, entries_dropped, seen_dropped, closes_last, entries_unshared, seen_unshared, closes_shared}
-use Rattle.fd_table.proofs.tables.Tables.unlink.Goals as goal
+use Rattle.fd_table.proofs.tables.Tables.close_one.Goals as goal
 
 pub invariant_of-self-clause-rowed : goal.invariant_of-self-clause-rowed
 invariant_of-self-clause-rowed c =
