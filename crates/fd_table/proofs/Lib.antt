@@ -1,0 +1,12 @@
+pub mod LimitsLemmas
+pub mod ListLemmas
+pub mod RowsLemmas
+pub mod ViewLemmas
+pub mod OpeningLemmas
+pub mod EntryLemmas
+pub mod CallLemmas
+pub mod ChangeLemmas
+pub mod ReleasedLemmas
+pub mod ForkLemmas
+pub mod GatherLemmas
+pub mod TablesLaws

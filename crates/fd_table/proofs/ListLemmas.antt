@@ -1,0 +1,95 @@
+-- Lists of numbers that rise.
+use Rattle.std.proofs.Common.{◌≡◌, ℕ, ◌+◌, ◌<◌, ◌≤◌, Bool, false, eqb, List, [], ◌∷◌, ◌++◌, length, get_or, sym, ap, subst, ◌∙◌, inl, inr, arith, Contains}
+use Rattle.std.specs.List.{IsDistinct}
+use Rattle.std.specs.List.Sorted.{IsStrictlyIncreasing}
+use Rattle.std.proofs.lemmas.Bool.{cases_eq, cases_lt, eq-eqb, ne_eqb, false≢true}
+use Rattle.std.proofs.lemmas.List.{get_or_append_left, get_or_push, length_push, get_or_default, get_or_past}
+use Rattle.std.proofs.lemmas.List.Elements.{Contains-get_or, Contains-append_left, Contains-push, Contains-push_cases}
+use Rattle.fd_table.specs.Closing.{IsMarked}
+use Rattle.fd_table.specs.Releasing.{AreExactly}
+use Rattle.std.proofs.lemmas.Map.Keys.{apart_from_distinct, IsDistinct-from_apart}
+
+-- equality of numbers is tested both ways
+pub eqb-flips : (x y : ℕ) → eqb x y ≡ eqb y x
+eqb-flips x y =
+    elim (cases_eq x y) [
+      | inl same ↦ eq-eqb x y same ∙ sym (eq-eqb y x (sym same))
+      | inr differs ↦ ne_eqb x y differs ∙ sym (ne_eqb y x (λ same. differs (sym same)))
+    ]
+
+-- a rising list and a number above all of it
+pub rising_push : (xs : List ℕ) (y : ℕ) → IsStrictlyIncreasing xs → ((x : ℕ) → Contains xs x → x < y) → IsStrictlyIncreasing (xs ++ y ∷ [])
+rising_push xs y rising below k within =
+    let len = length_push xs y in
+    elim (cases_lt (k + 1) (length xs)) [
+      | inl inside ↦
+          omega (arith, rising k inside, get_or_append_left xs (y ∷ []) 0 k (omega arith), get_or_append_left xs (y ∷ []) 0 (k + 1) inside)
+      | inr last ↦
+          omega (arith, below (get_or xs k 0) (Contains-get_or xs k 0 (omega (arith, len))), get_or_append_left xs (y ∷ []) 0 k (omega (arith, len)), get_or_push xs y 0 (k + 1) (omega (arith, len)))
+    ]
+
+-- different numbers and another one
+pub distinct_push : (xs : List ℕ) (y : ℕ) → IsDistinct eqb xs → (Contains xs y → ⊥) → IsDistinct eqb (xs ++ y ∷ [])
+distinct_push xs y distinct absent =
+    IsDistinct-from_apart eqb (xs ++ y ∷ [])
+    (λ i j d before within.
+    let len = length_push xs y in
+    elim (cases_lt j (length xs)) as (λ _. eqb (get_or (xs ++ y ∷ []) i d) (get_or (xs ++ y ∷ []) j d) ≡ false) [
+      | inl inside ↦
+          ap (λ x. eqb x (get_or (xs ++ y ∷ []) j d)) (get_or_append_left xs (y ∷ []) d i (omega arith))
+          ∙ ap (eqb (get_or xs i d)) (get_or_append_left xs (y ∷ []) d j inside)
+          ∙ apart_from_distinct eqb xs i j d distinct before inside
+      | inr last ↦
+          ap (λ x. eqb x (get_or (xs ++ y ∷ []) j d)) (get_or_append_left xs (y ∷ []) d i (omega (arith, len)))
+          ∙ ap (eqb (get_or xs i d)) (get_or_push xs y d j (omega (arith, len)))
+          ∙ ne_eqb (get_or xs i d) y (λ same. absent (i, omega (arith, len), get_or_default xs i y d (omega (arith, len)) ∙ same))
+    ])
+
+-- the numbers that are marked below the next one, which is marked
+pub marked_more : (files : List ℕ) (marks : List Bool) (file : ℕ) → AreExactly files (λ x. (x < file) × IsMarked marks x) → IsMarked marks file → AreExactly (files ++ file ∷ []) (λ x. (x < file + 1) × IsMarked marks x)
+marked_more files marks file h marked =
+    record {
+      rising = rising_push files file h.rising (λ x there. ((h.each x).0 there).0);
+      each = λ x. (
+        λ there.
+            elim (Contains-push_cases files file x there) [
+              | inl before ↦ let at = (h.each x).0 before in (omega (arith, at.0), at.1)
+              | inr same ↦ (omega (arith, same), subst (IsMarked marks) same marked)
+            ],
+        λ fact.
+            elim (cases_lt x file) [
+              | inl below ↦ Contains-append_left files (file ∷ []) x ((h.each x).1 (below, fact.1))
+              | inr last ↦ let same : file ≡ x = omega (arith, fact.0) in subst (Contains (files ++ file ∷ [])) same (Contains-push files file)
+            ],
+      );
+    }
+
+-- the numbers that are marked below the next one, which isn't marked
+pub marked_skip : (files : List ℕ) (marks : List Bool) (file : ℕ) → AreExactly files (λ x. (x < file) × IsMarked marks x) → get_or marks file false ≡ false → AreExactly files (λ x. (x < file + 1) × IsMarked marks x)
+marked_skip files marks file h unmarked =
+    record {
+      rising = h.rising;
+      each = λ x. (
+        λ there. let at = (h.each x).0 there in (omega (arith, at.0), at.1),
+        λ fact.
+            elim (cases_lt x file) [
+              | inl below ↦ (h.each x).1 (below, fact.1)
+              | inr last ↦ let same : x ≡ file = omega (arith, fact.0) in absurd (false≢true (sym unmarked ∙ ap (λ k. get_or marks k false) (sym same) ∙ fact.1))
+            ],
+      );
+    }
+
+-- no number is marked past the last
+pub marked_all : (files : List ℕ) (marks : List Bool) (count : ℕ) → AreExactly files (λ x. (x < count) × IsMarked marks x) → length marks ≤ count → AreExactly files (IsMarked marks)
+marked_all files marks count h short =
+    record {
+      rising = h.rising;
+      each = λ x. (
+        λ there. ((h.each x).0 there).1,
+        λ fact.
+            elim (cases_lt x count) [
+              | inl below ↦ (h.each x).1 (below, fact)
+              | inr past ↦ absurd (false≢true (sym (get_or_past marks x false (omega (arith, short, past))) ∙ fact))
+            ],
+      );
+    }

@@ -1,0 +1,104 @@
+-- Any tables stand for some descriptors, so no clause that speaks of those is empty.
+use Rattle.std.proofs.Common.{◌≡◌, ℕ, zero, suc, ◌+◌, ◌<◌, ◌≤◌, cond, eqb, List, [], ◌∷◌, ◌++◌, length, get_or, Option, Some, None, refl, sym, ap, subst, ◌∙◌, inl, inr, arith}
+use Rattle.std.specs.Option.{option_map}
+use Rattle.std.proofs.lemmas.Bool.{cases_eq, cases_lt, eq-eqb, ne_eqb}
+use Rattle.std.proofs.lemmas.List.{length-append}
+use Rattle.std.proofs.lemmas.Option.{same_Some, none-some}
+use Rattle.fd_table.specs.declared.Access.TheVariants.{R}
+use Rattle.fd_table.specs.declared.tables.Opened.{Opened}
+use Rattle.fd_table.specs.declared.tables.Tables.{Tables}
+use Rattle.fd_table.specs.Descriptors.{Descriptors, OpenFileDescription, description_numbered}
+use Rattle.fd_table.specs.Rows.{key_at}
+use Rattle.fd_table.specs.TablesView.{Numbered, numbered, IsSeen, StandFor, view_of, seen_in}
+use Rattle.fd_table.proofs.ViewLemmas.{numbered_kept, numbered_push}
+use Rattle.fd_table.proofs.ChangeLemmas.{entry_seen}
+
+-- the description of the first entry with the number, and where there is none one that nobody can see
+found : List (Option Opened) → ℕ → OpenFileDescription
+found [] number = record { file = 0; access = R; offset = 0 }
+found (None ∷ slots) number = found slots number
+found (Some entry ∷ slots) number = cond (eqb entry.number number) (numbered entry).description (found slots number)
+
+-- no two entries have one number
+abbrev AreApart : List (Option Opened) → Type 0
+AreApart slots = (key other : ℕ) (entry another : Opened) → get_or slots key None ≡ Some entry → get_or slots other None ≡ Some another
+    → entry.number ≡ another.number → key ≡ other
+
+later_apart : (slot : Option Opened) (slots : List (Option Opened)) → AreApart (slot ∷ slots) → AreApart slots
+later_apart slot slots apart key other entry another is at same =
+    omega (arith, apart (suc key) (suc other) entry another is at same)
+
+-- each entry is the one that is found by its number
+found_entry : (slots : List (Option Opened)) (key : ℕ) (entry : Opened) → AreApart slots → get_or slots key None ≡ Some entry → found slots entry.number ≡ (numbered entry).description
+unfolding found
+found_entry [] key entry apart is = absurd (none-some entry is)
+found_entry (None ∷ slots) zero entry apart is = absurd (none-some entry is)
+found_entry (None ∷ slots) (suc key) entry apart is = found_entry slots key entry (later_apart None slots apart) is
+found_entry (Some first ∷ slots) zero entry apart is =
+    let same = same_Some first entry is in
+    ap (λ b. cond b (numbered first).description (found slots entry.number)) (eq-eqb first.number entry.number (ap (λ (e : Opened). e.number) same))
+    ∙ ap (λ (e : Opened). (numbered e).description) same
+found_entry (Some first ∷ slots) (suc key) entry apart is =
+    elim (cases_eq first.number entry.number) [
+      | inl same ↦ absurd (omega (arith, apart zero (suc key) first entry refl is same))
+      | inr differs ↦
+          ap (λ b. cond b (numbered first).description (found slots entry.number)) (ne_eqb first.number entry.number differs)
+          ∙ found_entry slots key entry (later_apart (Some first) slots apart) is
+    ]
+
+-- a description for each number that was given out
+given_out : List (Option Opened) → ℕ → List OpenFileDescription
+given_out slots zero = []
+given_out slots (suc made) = given_out slots made ++ found slots (suc made) ∷ []
+
+length-given_out : (slots : List (Option Opened)) (made : ℕ) → length (given_out slots made) ≡ made
+unfolding given_out
+length-given_out slots zero = refl
+length-given_out slots (suc made) =
+    omega (arith, length-append (given_out slots made) (found slots (suc made) ∷ []), length-given_out slots made)
+
+numbered-given_out : (slots : List (Option Opened)) (made number : ℕ) → 0 < number → number ≤ made → description_numbered (given_out slots made) number ≡ Some (found slots number)
+unfolding given_out
+numbered-given_out slots zero number positive within = absurd (omega arith)
+numbered-given_out slots (suc made) number positive within =
+    elim (cases_lt made number) [
+      | inl last ↦
+          let is : length (given_out slots made) + 1 ≡ number = omega (arith, length-given_out slots made) in
+          let same : suc made ≡ number = omega arith in
+          subst (λ n. description_numbered (given_out slots (suc made)) n ≡ Some (found slots n)) same
+          (subst (λ n. description_numbered (given_out slots (suc made)) n ≡ Some (found slots (suc made))) (is ∙ sym same) (numbered_push (given_out slots made) (found slots (suc made))))
+      | inr before ↦ numbered_kept (given_out slots made) (found slots (suc made) ∷ []) number (found slots number) (numbered-given_out slots made number positive before)
+    ]
+
+-- descriptors that the tables stand for: the descriptions that nobody can see are of file 0
+pub stood_for : Tables → Descriptors
+stood_for tables =
+    record {
+      description_of = λ p fd. option_map (λ seen. seen.number) ((view_of tables).seen p fd);
+      descriptions = given_out tables.opened.slots tables.made;
+      sizes = (view_of tables).sizes;
+      ever_alive = (view_of tables).born;
+    }
+
+-- any tables stand for some descriptors
+pub stand_for_some : (tables : Tables) → StandFor tables (stood_for tables)
+unfolding stood_for view_of
+stand_for_some tables =
+    record {
+      seen = λ p fd. shown (seen_in tables.rows.items tables.opened p fd) p fd refl;
+      made = length-given_out tables.opened.slots tables.made;
+      sizes = λ file. refl;
+      ever_alive = λ p. refl;
+    }
+  where
+    shown : (o : Option Numbered) (p fd : ℕ) → seen_in tables.rows.items tables.opened p fd ≡ o → IsSeen o (stood_for tables) p fd
+    shown None p fd is = ap (option_map (λ seen. seen.number)) is
+    shown (Some seen) p fd is =
+        let there = entry_seen tables.opened (key_at tables.rows.items p fd) seen is in
+        let entry = there.1 in
+        let at = tables.entered.each there.0 entry there.3 in (
+          ap (option_map (λ seen. seen.number)) is,
+          subst (λ (s : Numbered). description_numbered (given_out tables.opened.slots tables.made) s.number ≡ Some s.description) there.4
+              (numbered-given_out tables.opened.slots tables.made entry.number at.positive at.given_out
+              ∙ ap Some (found_entry tables.opened.slots there.0 entry (λ key other e f. tables.entered.distinct key other e f) there.3)),
+        )

@@ -1,0 +1,58 @@
+use Rattle.std.proofs.Common.{◌≡◌, ◌<◌, List, false, length, set, refl, sym, ap, subst, ◌∙◌, arith}
+use Rattle.fd_table.specs.Rows.{Keys, row_at, has_row}
+use Rattle.fd_table.specs.Soundness.{AreRows, AreEntries}
+use Rattle.fd_table.specs.Descriptors.{with_child}
+use Rattle.fd_table.specs.TablesView.{view_of, processes_of, seen_in}
+use Rattle.fd_table.proofs.RowsLemmas.{row-short}
+use Rattle.fd_table.proofs.ViewLemmas.{forked}
+use Rattle.fd_table.proofs.CallLemmas.{same}
+use Rattle.fd_table.proofs.ChangeLemmas.{few_users}
+use Rattle.fd_table.proofs.ForkLemmas.{AreCounted, row_of_alive, row_of_unborn, row_read, AreRows-forked, entries_forked, seen_forked, has_row-forked}
+use Rattle.fd_table.proofs.tables.Tables.fork.Goals as goal
+
+pub add_users-requires : goal.add_users-requires
+unfolding view_of
+add_users-requires c = λ key entry is.
+    let t = c.args.self.now in
+    let row : c.in-Ok.row ≡ row_at t.rows.items c.args.p = row_read t.rows.items c.from.result c.args.p c.in-Ok.row c.index.result.now c.from.ensures (row_of_alive t.rows.items c.args.p c.requires) c.index.ensures c.in-Ok.ensures in
+    omega (arith, few_users t.processes t.limits t.rows.items t.opened t.made key entry t.rowed t.entered is, ap length row, row-short t.processes t.limits t.rows.items t.rowed c.args.p)
+
+pub invariant_of-self-clause-rowed : goal.invariant_of-self-clause-rowed
+unfolding view_of
+invariant_of-self-clause-rowed c =
+    let t = c.args.self.now in
+    let row : c.in-Ok.row ≡ row_at t.rows.items c.args.p = row_read t.rows.items c.from.result c.args.p c.in-Ok.row c.index.result.now c.from.ensures (row_of_alive t.rows.items c.args.p c.requires) c.index.ensures c.in-Ok.ensures in
+    let after : set t.rows.items c.from-2.result c.in-Ok.row ≡ set t.rows.items c.args.child (row_at t.rows.items c.args.p) =
+    ap (λ place. set t.rows.items place c.in-Ok.row) c.from-2.ensures ∙ ap (set t.rows.items c.args.child) row in
+    subst (λ (rows : List Keys). AreRows t.processes t.limits rows) (sym after)
+    (AreRows-forked t.processes t.limits t.rows.items c.args.p c.args.child (omega (arith, t.rowed.count)) (omega arith) c.requires t.rowed)
+
+pub invariant_of-self-clause-entered : goal.invariant_of-self-clause-entered
+unfolding view_of
+invariant_of-self-clause-entered c =
+    let t = c.args.self.now in
+    let unborn : has_row t.rows.items c.args.child ≡ false = sym c.born.ensures ∙ c.if-born.false in
+    let row : c.in-Ok.row ≡ row_at t.rows.items c.args.p = row_read t.rows.items c.from.result c.args.p c.in-Ok.row c.index.result.now c.from.ensures (row_of_alive t.rows.items c.args.p c.requires) c.index.ensures c.in-Ok.ensures in
+    let after : set t.rows.items c.from-2.result c.in-Ok.row ≡ set t.rows.items c.args.child (row_at t.rows.items c.args.p) =
+    ap (λ place. set t.rows.items place c.in-Ok.row) c.from-2.ensures ∙ ap (set t.rows.items c.args.child) row in
+    subst (λ (rows : List Keys). AreEntries rows c.add_users.new.opened t.made) (sym after)
+    (entries_forked t.rows.items t.opened c.add_users.new.opened t.made c.args.p c.args.child (omega (arith, t.rowed.count)) (row_of_unborn t.rows.items c.args.child unborn)
+    (subst (λ (keys : Keys). AreCounted t.opened c.add_users.new.opened keys) row c.add_users.ensures) t.entered)
+
+pub returns-clause-step : goal.returns-clause-step
+unfolding view_of processes_of
+returns-clause-step c = λ n D h.
+    let t = c.args.self.now in
+    let unborn : has_row t.rows.items c.args.child ≡ false = sym c.born.ensures ∙ c.if-born.false in
+    let row : c.in-Ok.row ≡ row_at t.rows.items c.args.p = row_read t.rows.items c.from.result c.args.p c.in-Ok.row c.index.result.now c.from.ensures (row_of_alive t.rows.items c.args.p c.requires) c.index.ensures c.in-Ok.ensures in
+    let after : set t.rows.items c.from-2.result c.in-Ok.row ≡ set t.rows.items c.args.child (row_at t.rows.items c.args.p) =
+    ap (λ place. set t.rows.items place c.in-Ok.row) c.from-2.ensures ∙ ap (set t.rows.items c.args.child) row in
+    let inside : c.args.child < length t.rows.items = omega (arith, t.rowed.count) in (
+      with_child D c.args.p c.args.child,
+      ((omega arith, omega arith, h.ever_alive c.args.child ∙ unborn), same (with_child D c.args.p c.args.child)),
+      forked (view_of t) _ D c.args.p c.args.child
+          (λ q k. ap (λ (rows : List Keys). seen_in rows c.add_users.new.opened q k) after
+          ∙ seen_forked t.rows.items t.opened c.add_users.new.opened c.args.p c.args.child inside (subst (λ (keys : Keys). AreCounted t.opened c.add_users.new.opened keys) row c.add_users.ensures) q k)
+          refl (λ x. refl)
+          (λ q. ap (λ (rows : List Keys). has_row rows q) after ∙ has_row-forked t.rows.items c.args.p c.args.child inside c.requires q) h,
+    )

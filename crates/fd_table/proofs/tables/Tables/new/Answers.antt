@@ -1,0 +1,24 @@
+use Rattle.std.proofs.Common.{refl, arith}
+use Rattle.fd_table.specs.Descriptors.{descriptor_limit}
+use Rattle.fd_table.specs.TablesView.{view_of}
+use Rattle.fd_table.proofs.OpeningLemmas.{AreOpeningRows, opening_keys, opening_born, opening_are_rows, opening_are_entries, opening_size, opening_stands}
+use Rattle.fd_table.proofs.tables.Tables.new.Goals as goal
+
+pub invariant_of-result : goal.invariant_of-result
+invariant_of-result c =
+    let made : AreOpeningRows c.in-Ok.rows.items c.args.processes c.row_len.result = record { count = c.in-Ok.ensures.count; each = c.in-Ok.ensures.rows } in
+    let rows : AreOpeningRows c.in-Ok.rows.items c.args.processes (descriptor_limit c.args.limits) = rw c.row_len.ensures at made in
+    record {
+      rowed = opening_are_rows _ _ _ (omega arith) c.requires.0 rows;
+      entered = opening_are_entries _ _ (opening_keys _ _ _ c.requires.0 rows) c.new.ensures.empty;
+      sized = λ file. omega (arith, opening_size _ file c.empty_files.ensures);
+      bounded = omega arith;
+    }
+
+pub returns-clause-opening : goal.returns-clause-opening
+unfolding view_of
+returns-clause-opening c =
+    let made : AreOpeningRows c.in-Ok.rows.items c.args.processes c.row_len.result = record { count = c.in-Ok.ensures.count; each = c.in-Ok.ensures.rows } in
+    let rows : AreOpeningRows c.in-Ok.rows.items c.args.processes (descriptor_limit c.args.limits) = rw c.row_len.ensures at made in
+    opening_stands _ c.new.result _ _ refl (opening_keys _ _ _ c.requires.0 rows) (opening_born _ _ c.args.limits c.requires.0 rows)
+    (λ file. opening_size _ file c.empty_files.ensures)

@@ -1,0 +1,59 @@
+//! The file descriptors of all processes, the open file descriptions that they refer to, and what a close releases.
+#![tactic(auto)]
+
+mod releases;
+mod rows;
+mod tables;
+#[cfg(test)]
+mod tests;
+
+pub use releases::Releases;
+pub use tables::{Look, Tables};
+use thiserror::Error;
+
+/// The number of files, which are numbered from 0 (this project's choice).
+pub const FILES: u8 = 64;
+
+/// The number of open file descriptions that may ever be made (this project's choice).
+pub const DESCRIPTIONS: u64 = 4611686018427387904;
+
+/// What a file descriptor was opened for: the access mode of its description (POSIX.1-2017 open).
+#[derive(Clone, Copy, Debug, PartialEq, Eq)]
+pub enum Access {
+    /// For reading only, `O_RDONLY`.
+    R,
+    /// For writing only, `O_WRONLY`.
+    W,
+    /// For both, `O_RDWR`.
+    Rw,
+}
+
+/// How many processes there may be, and how many descriptors each may have (this project's choice; POSIX.1-2017 has
+/// `OPEN_MAX` and `CHILD_MAX`).
+#[derive(Clone, Copy, Debug, PartialEq, Eq)]
+pub enum Limits {
+    /// 1 to 16 processes, each with descriptors 0 to 31.
+    Small,
+    /// 1 to 64 processes, each with descriptors 0 to 255.
+    Wide,
+}
+
+/// Why a call on descriptors is refused. A refused call changes nothing.
+#[derive(Clone, Copy, Debug, PartialEq, Eq, Error)]
+pub enum FdFault {
+    /// The descriptor isn't open, or is no number of a descriptor, `EBADF`.
+    #[error("the descriptor is not open")]
+    BadFd = 1,
+    /// Each number of a descriptor is taken, or too many descriptions were made, `EMFILE`.
+    #[error("no descriptor is free, or too many files were opened")]
+    TooMany = 2,
+    /// A file number, an offset or a size out of range, `EINVAL`.
+    #[error("the file, offset or size is out of range")]
+    Invalid = 3,
+    /// The number of the child is taken or out of range, `EAGAIN`.
+    #[error("the process number is taken or out of range")]
+    Taken = 4,
+    /// Want of memory.
+    #[error("no memory")]
+    Memory = 5,
+}

@@ -1,0 +1,122 @@
+use crate::FILES;
+use std::marker::Model;
+
+/// A descriptor that was closed: its file, and the number of its description if no other descriptor refers to it.
+#[derive(Clone, Copy)]
+pub(crate) struct Closed {
+    pub(crate) file: u8,
+    pub(crate) last: Option<u64>,
+}
+
+/// The files of the descriptors that a call closed, and the descriptions that it closed for good.
+#[derive(Debug, Drop)]
+pub struct Releases {
+    files: [u8; 64],
+    file_count: usize,
+    descriptions: [u64; 256],
+    description_count: usize,
+}
+
+impl Model for Releases {
+    ghost use Rattle.std.specs.Prelude.{◌<◌, ◌≤◌, take, All};
+    ghost use Rattle.fd_table.specs.declared.TheConstants.{FILES};
+    ghost use Rattle.fd_table.specs.Released.{Released};
+
+    ghost Value = { Released };
+
+    ghost view = { λ r. record { files = take r.file_count r.files; descriptions = take r.description_count r.descriptions } };
+
+    ghost invariant = { λ r. (r.file_count ≤ 64) × (r.description_count ≤ 256) × All (λ file. file < FILES) (take r.file_count r.files) };
+}
+
+impl Releases {
+    ghost use Rattle.std.specs.Prelude.{◌≡◌, ◌<◌, ◌↔◌, ℕ, length, ◌++◌, ◌∷◌, [], All, Contains, IfSome, nat_eq};
+    ghost use Rattle.std.specs.List.{IsDistinct};
+    ghost use Rattle.std.specs.List.Sorted.{IsStrictlyIncreasing};
+    ghost use Rattle.fd_table.specs.Releasing.{AreExactly};
+    ghost use Rattle.fd_table.specs.Closing.{released_by, IsMarked};
+    ghost use Rattle.fd_table.specs.Calls.{nothing};
+
+    /// Nothing is released.
+    pub(crate) fn none() -> Releases
+        ensures { result ≡ nothing }
+    {
+        Releases {
+            files: [0; 64],
+            file_count: 0,
+            descriptions: [0; 256],
+            description_count: 0,
+        }
+    }
+
+    /// What the closing of one descriptor released, if it was open.
+    pub(crate) fn of(closed: Option<Closed>) -> Releases
+        requires { IfSome closed (λ one. one.file < FILES) }
+        ensures { result ≡ released_by closed }
+    {
+        let mut released = Releases::none();
+        if let Some(closed) = closed {
+            released.push_file(closed.file);
+            if let Some(number) = closed.last {
+                released.push_description(number);
+            }
+        }
+        released
+    }
+
+    /// Adds a file past the last.
+    fn push_file(&mut self, file: u8)
+        requires room { length self.old.files < 64 }
+        requires file { file < FILES }
+        ensures { self.new ≡ record self.old { files = self.old.files ++ file ∷ [] } }
+    {
+        self.files[self.file_count] = file;
+        self.file_count += 1;
+    }
+
+    /// Adds a description past the last.
+    pub(crate) fn push_description(&mut self, number: u64)
+        requires { length self.old.descriptions < 256 }
+        ensures { self.new ≡ record self.old { descriptions = self.old.descriptions ++ number ∷ [] } }
+    {
+        self.descriptions[self.description_count] = number;
+        self.description_count += 1;
+    }
+
+    /// Adds the files that are marked, by rising number.
+    pub(crate) fn list_files(&mut self, marks: &[bool; 64])
+        requires { self.old.files ≡ [] }
+        ensures files { AreExactly self.new.files (IsMarked marks.now) }
+        ensures descriptions { self.new.descriptions ≡ self.old.descriptions }
+    {
+        for file in 0..FILES {
+            if marks[usize::from(file)] {
+                self.push_file(file);
+            }
+        }
+    }
+
+    /// Puts the numbers of the descriptions in order.
+    pub(crate) fn sort_descriptions(&mut self)
+        ensures rising { IsDistinct nat_eq self.old.descriptions → IsStrictlyIncreasing self.new.descriptions }
+        ensures same { (x : ℕ) → Contains self.new.descriptions x ↔ Contains self.old.descriptions x }
+        ensures files { self.new.files ≡ self.old.files }
+    {
+        self.descriptions[..self.description_count].sort_unstable();
+    }
+
+    /// The files, by rising number and each once.
+    pub fn files(&self) -> &[u8]
+        ensures value { result.now ≡ self.now.files }
+        ensures in_range { All (λ file. file < FILES) result.now }
+    {
+        &self.files[..self.file_count]
+    }
+
+    /// The numbers of the descriptions, rising and each once.
+    pub fn descriptions(&self) -> &[u64]
+        ensures { result.now ≡ self.now.descriptions }
+    {
+        &self.descriptions[..self.description_count]
+    }
+}
