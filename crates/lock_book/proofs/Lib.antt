@@ -1,0 +1,5 @@
+pub mod BlockLemmas
+pub mod BookLemmas
+pub mod FlockLemmas
+pub mod LoopLemmas
+pub mod OwnerLemmas
