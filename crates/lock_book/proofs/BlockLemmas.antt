@@ -1,14 +1,12 @@
-use Rattle.std.proofs.Common.{ℕ, ◌≡◌, ◌≢◌, ◌+◌, ◌<◌, ◌≤◌, ◌↔◌, ◌∙◌, sym, ap, refl, subst, arith, Bool, true, false, Option, Some, None, List, [], ◌∷◌, ◌++◌, All, Any, length, map, inl, inr}
+use Rattle.std.proofs.Common.{ℕ, ◌≡◌, ◌≢◌, ◌<◌, ◌≤◌, ◌↔◌, ◌∙◌, sym, ap, refl, subst, arith, true, false, Option, Some, None, List, [], ◌∷◌, ◌++◌, All, Any, map}
 use Rattle.std.specs.Prelude.{is_some, nat_lt, IsTrue, IfSome, IfNone, MatchOption}
 use Rattle.std.specs.Borrow.{Bor}
-use Rattle.std.specs.Map.{lookup}
 use Rattle.std.specs.Map.Iter.{TakesFirst, deref_pair}
 use Rattle.std.specs.Iterator.{Yields}
 use Rattle.std.specs.BTreeMap.{IsOrdered, get}
 use Rattle.std.specs.declared.cmp.Ordering.TheVariants.{Less}
 use Rattle.std.proofs.lemmas.Bool.{ltb-true, ltb-false}
-use Rattle.std.proofs.lemmas.List.{get_or_append_left, length-append}
-use Rattle.std.proofs.lemmas.List.Elements.{All-nil, All-push, All-weaker, All-map, All-get_or}
+use Rattle.std.proofs.lemmas.List.Elements.{All-push, All-weaker, All-get_or}
 use Rattle.std.proofs.lemmas.List.Quantifiers.{Any-push}
 use Rattle.range_core.specs.declared.Mode.{Mode}
 use Rattle.range_core.specs.declared.Span.{Span}
@@ -22,6 +20,7 @@ use Rattle.lock_book.specs.Conflicts.{ByteModes, Blocks, ByteConflict, ProcessBl
 use Rattle.lock_book.specs.Books.{list_of, byte_modes_of, modes_in_list}
 use Rattle.range_core.specs.Changes.{modes_of}
 use Rattle.lock_book.proofs.BookLemmas.{list_of-get, byte_modes_of-list}
+use Rattle.lock_book.proofs.ListLemmas.{Any-append_left}
 use Rattle.lock_book.proofs.LoopLemmas.{next_in_loop, earlier_in_loop, found_in_loop}
 use Rattle.lock_book.proofs.OwnerLemmas.{owner_cmp, same_owner, IsBefore-asymmetric, IsBefore-from_less}
 
@@ -32,14 +31,13 @@ ProcessBlocks-hit modes process owner span wanted None different some none =
 ProcessBlocks-hit modes process owner span wanted (Some byte) different some none =
     (λ h. record { byte = byte; covered = some.covered; blocks = record { another = different; conflicts = some.hit } }, λ b. refl)
 
+-- one without a mode on any byte doesn't
+pub ProcessBlocks-none : (modes : ByteModes) (process : ℕ) (owner : Owner) (span : Span) (wanted : Mode) → modes (Process process) ≡ (λ byte. None) → ¬ ProcessBlocks modes process owner span wanted
+ProcessBlocks-none modes process owner span wanted none conflict = rw none at conflict.blocks.conflicts
+
 -- an entry of a map of owners, as a loop over it gives it
 abbrev pub Item : Type 0
 Item = Bor Owner × Bor RangeList
-
--- what holds of an element holds of one with more behind it
-Any-append_left : {X : Type 0} (P : X → Type 0) (xs ys : List X) → Any P xs → Any P (xs ++ ys)
-Any-append_left P xs ys (k, x, within, is, holds) =
-    (k, x, (let more = length-append xs ys in omega arith), get_or_append_left xs ys x k within ∙ is, holds)
 
 module _ (modes : ByteModes) (owner : Owner) (span : Span) (wanted : Mode) where
   -- the other owner blocks no byte of the range
@@ -155,7 +153,7 @@ before_in_loop book items s t u r x start yields is step ordered =
     (earlier_in_loop owner_cmp book.owners.entries items s t u r x start yields is step ordered)
 
 -- what holds of each entry's owner holds of each owner with a list
-owner_in : (book : Book) (items : List Item) (P : Owner → Type 0) → map deref_pair items ≡ book.owners.entries → All (λ x. P x.0.now) items → (other : Owner) (list : RangeList) → list_of book other ≡ Some list → P other
+pub owner_in : (book : Book) (items : List Item) (P : Owner → Type 0) → map deref_pair items ≡ book.owners.entries → All (λ x. P x.0.now) items → (other : Owner) (list : RangeList) → list_of book other ≡ Some list → P other
 unfolding list_of
 owner_in book items P whole all other list found =
     let entry = found_in_loop (λ e. P e.0) book.owners.entries items whole all (is_same_owner other) list found in

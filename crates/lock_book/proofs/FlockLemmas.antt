@@ -1,8 +1,8 @@
-use Rattle.std.proofs.Common.{ℕ, ◌≡◌, ◌≢◌, ◌==◌, ◌∙◌, sym, ap, refl, subst, Bool, true, false, Option, Some, None, List, [], ◌∷◌, ◌++◌, All, map}
+use Rattle.std.proofs.Common.{ℕ, ◌≡◌, ◌≢◌, ◌<◌, ◌==◌, ◌∙◌, sym, ap, refl, subst, Option, Some, None, List, All, map}
 use Rattle.std.specs.Borrow.{Bor}
 use Rattle.std.specs.Iterator.{Yields}
 use Rattle.std.specs.Ordering.{nat_cmp}
-use Rattle.std.specs.BTreeMap.{get}
+use Rattle.std.specs.BTreeMap.{IsOrdered, get}
 use Rattle.std.specs.Map.Iter.{TakesFirst, deref_pair}
 use Rattle.std.proofs.lemmas.Bool.{eqb-true}
 use Rattle.range_core.specs.declared.Mode.{Mode}
@@ -12,7 +12,10 @@ use Rattle.lock_book.specs.declared.book.Book.{Book}
 use Rattle.lock_book.specs.Conflicts.{FlockConflict}
 use Rattle.lock_book.specs.Books.{place_of, flock_modes_of, mode_in_place}
 use Rattle.lock_book.proofs.BookLemmas.{place_of-get, flock_modes_of-place}
-use Rattle.lock_book.proofs.LoopLemmas.{next_in_loop, found_in_loop}
+use Rattle.lock_book.proofs.LoopLemmas.{next_in_loop, earlier_in_loop, found_in_loop}
+use Rattle.lock_book.proofs.OwnerLemmas.{less_from_nat}
+use Rattle.std.proofs.lemmas.List.Elements.{All-weaker}
+use Rattle.std.specs.declared.cmp.Ordering.TheVariants.{Less}
 
 -- a place of a map of flock locks, as a loop over it gives it
 abbrev pub Place : Type 0
@@ -23,6 +26,12 @@ pub flock_mode_in_loop : (book : Book) (items : List Place) (s t u : List (ℕ �
 flock_mode_in_loop book items s t u r x start yields is step all =
     flock_modes_of-place book x.0.now x.1.now
     (place_of-get book x.0.now ∙ next_in_loop (λ e. get nat_cmp book.flocks e.0 ≡ Some e.1) book.flocks.entries items s t u r x start yields is step all)
+
+-- and a greater number than the places so far
+pub earlier_flocks : (book : Book) (items : List Place) (s t u : List (ℕ × Option Mode)) (r : Option Place) (x : Place) → s ≡ book.flocks.entries → Yields (TakesFirst deref_pair) s items t → r ≡ Some x → TakesFirst deref_pair t r u → IsOrdered nat_cmp book.flocks → All (λ y. y.0.now < x.0.now) items
+earlier_flocks book items s t u r x start yields is step ordered =
+    All-weaker (λ y. nat_cmp y.0.now x.0.now ≡ Less) (λ y. y.0.now < x.0.now) (λ y less. less_from_nat y.0.now x.0.now less) items
+    (earlier_in_loop nat_cmp book.flocks.entries items s t u r x start yields is step ordered)
 
 -- a flock mode stands in a place
 place_in : (place : Option (Option Mode)) (mode : Mode) → mode_in_place place ≡ Some mode → place ≡ Some (Some mode)

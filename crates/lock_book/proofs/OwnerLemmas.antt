@@ -1,10 +1,9 @@
-use Rattle.std.proofs.Common.{ℕ, ◌≡◌, ◌≢◌, ◌<◌, ◌==◌, ◌∙◌, sym, ap, subst, refl, arith, Bool, true, false, cond, List, [], ◌∷◌, Option}
+use Rattle.std.proofs.Common.{ℕ, ◌≡◌, ◌≢◌, ◌<◌, ◌==◌, ◌∙◌, sym, ap, subst, refl, arith, Bool, true, false, List, [], ◌∷◌}
 use Rattle.std.specs.Ordering.{is_eq, nat_cmp}
 use Rattle.std.specs.BTreeMap.{is_at}
 use Rattle.std.specs.Map.{lookup}
-use Rattle.std.specs.Cmp.{IsTotalOrder}
 use Rattle.std.specs.declared.cmp.Ordering.{Ordering}
-use Rattle.std.specs.declared.cmp.Ordering.TheVariants.{Less, Equal, Greater}
+use Rattle.std.specs.declared.cmp.Ordering.TheVariants.{Less, Greater}
 use Rattle.std.proofs.lemmas.Grind.{common_steps}
 use Rattle.std.proofs.lemmas.Bool.Decides.{nat_tests}
 use Rattle.lock_book.specs.declared.Owner.{Owner}
@@ -71,7 +70,7 @@ different_from_eq one other different e =
     cc
 
 -- the derived order is the definition's
-less_from_nat : (a b : ℕ) → nat_cmp a b ≡ Less → a < b
+pub less_from_nat : (a b : ℕ) → nat_cmp a b ≡ Less → a < b
 less_from_nat a b less = grind (arith, common_steps)
 
 nat_less : (a b : ℕ) → a < b → nat_cmp a b ≡ Less
@@ -95,3 +94,8 @@ IsBefore-asymmetric (Process p) (Process q) one other = let a : p < q = one in l
 IsBefore-asymmetric (Process p) (Description e) one other = other
 IsBefore-asymmetric (Description d) (Process q) one other = one
 IsBefore-asymmetric (Description d) (Description e) one other = let a : d < e = one in let b : e < d = other in omega arith
+
+-- the order is of owners that are the same
+pub IsBefore-same : (a b c d : Owner) → a ≡ c → d ≡ b → IsBefore a b → IsBefore c d
+IsBefore-same a b c d first second before =
+    subst (λ (o : Owner). IsBefore o d) first (subst (λ (o : Owner). IsBefore a o) (sym second) before)

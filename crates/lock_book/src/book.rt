@@ -4,6 +4,7 @@ ghost use Rattle.lock_book.specs.Books.{byte_modes_of, room_in, flock_modes_of, 
 mod blocking;
 mod bytes;
 mod flocks;
+mod reports;
 
 use crate::Owner;
 use range_core::{Mode, RangeList};

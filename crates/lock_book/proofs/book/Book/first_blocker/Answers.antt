@@ -1,4 +1,4 @@
-use Rattle.std.proofs.Common.{◌≡◌, Some}
+use Rattle.std.proofs.Common.{◌≡◌}
 use Rattle.range_core.specs.Changes.{modes_of}
 use Rattle.lock_book.specs.Books.{byte_modes_of}
 use Rattle.lock_book.proofs.BookLemmas.{byte_modes_of-list, list_of-found}

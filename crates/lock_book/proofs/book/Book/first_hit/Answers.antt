@@ -1,13 +1,7 @@
-use Rattle.std.proofs.Common.{ℕ, ◌≡◌, ◌≢◌, ◌≤◌, ◌<◌, sym, true, false, Some, None, All}
-use Rattle.std.specs.Prelude.{nat_lt, MatchOption, IsTrue}
-use Rattle.std.specs.Map.Iter.{TakesFirst, deref_pair}
-use Rattle.std.proofs.lemmas.Map.Iter.{btree_map_turn, iter_end}
-use Rattle.range_core.specs.Changes.{modes_of}
-use Rattle.range_core.specs.Ranges.{Covers, HeldConflicts, IsFirstHit}
-use Rattle.lock_book.specs.Owners.{IsBefore}
-use Rattle.lock_book.specs.Books.{byte_modes_of}
-use Rattle.lock_book.proofs.OwnerLemmas.{owner_cmp, owner_eq, same_from_eq, different_from_eq}
-use Rattle.lock_book.proofs.LoopLemmas.{earlier_in_loop}
+use Rattle.std.proofs.Common.{◌≡◌, sym, true, false}
+use Rattle.std.specs.Map.Iter.{deref_pair}
+use Rattle.std.proofs.lemmas.Map.Iter.{iter_end}
+use Rattle.lock_book.proofs.OwnerLemmas.{owner_eq, same_from_eq, different_from_eq}
 use Rattle.lock_book.proofs.BlockLemmas.{least_skip, least_replaces, least_stays, none_from_least, first_from_least, modes_in_loop, before_in_loop, never_itself, never_from_none}
 use Rattle.lock_book.proofs.book.Book.first_hit.Goals as goal
 

@@ -1,4 +1,3 @@
-use Rattle.std.proofs.Common.{◌≡◌}
 use Rattle.lock_book.specs.Books.{byte_modes_of}
 use Rattle.lock_book.proofs.BlockLemmas.{IsLeastSoFar}
 use Rattle.lock_book.proofs.book.Book.first_hit.Given as goal

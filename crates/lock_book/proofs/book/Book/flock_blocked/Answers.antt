@@ -1,9 +1,8 @@
-use Rattle.std.proofs.Common.{◌≡◌, ◌≢◌, true, false, All, refl}
+use Rattle.std.proofs.Common.{◌≡◌, ◌≢◌, true, false, refl}
 use Rattle.std.specs.Map.Iter.{deref_pair}
 use Rattle.std.proofs.lemmas.List.Elements.{All-push}
 use Rattle.std.proofs.lemmas.Map.Iter.{iter_end}
 use Rattle.range_core.specs.Ranges.{HeldConflicts}
-use Rattle.lock_book.specs.Books.{flock_modes_of}
 use Rattle.lock_book.proofs.FlockLemmas.{no_flock_conflict, flock_mode_in_loop, other_flock}
 use Rattle.lock_book.proofs.book.Book.flock_blocked.Goals as goal
 use Rattle.lock_book.proofs.book.Book.flock_blocked.Goals.{else-other-description-via-then-other-description+else-held_conflicts, else-other-description-via-else-other-description}

@@ -1,4 +1,4 @@
-use Rattle.std.proofs.Common.{◌≡◌, ◌∙◌, sym, Some, None}
+use Rattle.std.proofs.Common.{◌∙◌, sym}
 use Rattle.lock_book.proofs.BookLemmas.{OnOk-at_ok, PutsPlace-updates, ReservesFlock-puts, place_of-none}
 use Rattle.lock_book.proofs.book.Book.flock_reserve.Goals as goal
 

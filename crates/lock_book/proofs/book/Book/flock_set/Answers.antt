@@ -1,4 +1,4 @@
-use Rattle.std.proofs.Common.{◌≡◌, ◌∙◌, sym, ap, false, true, Some, None, is_some}
+use Rattle.std.proofs.Common.{◌≡◌, ◌∙◌, sym, ap, false, true, is_some}
 use Rattle.lock_book.proofs.BookLemmas.{OnOk-at_ok, OnErr-at_err, no_place, PutsPlace-updates, SetsFlock-puts}
 use Rattle.lock_book.proofs.book.Book.flock_set.Goals as goal
 use Rattle.lock_book.proofs.book.Book.flock_set.Goals.{then-is_some-via-then-is_some, then-is_some-via-else-is_some+then-flock_room}

@@ -1,4 +1,4 @@
-use Rattle.std.proofs.Common.{◌≡◌, ◌∙◌, ap, sym, Some, None, Option, arith}
+use Rattle.std.proofs.Common.{◌≡◌, ◌∙◌, sym, Some, None, arith}
 use Rattle.std.proofs.lemmas.Result.{on_ok_weaker, on_err_weaker}
 use Rattle.lock_book.specs.Books.{list_of}
 use Rattle.lock_book.proofs.BookLemmas.{OnOk-at_ok, list_of-lent, list_of-not_lent, PutsList-writes, PutsList-adds, SameButRoom-puts, SameBook-puts, room_in-list}

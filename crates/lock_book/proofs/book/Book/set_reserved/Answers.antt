@@ -1,7 +1,6 @@
 use Rattle.std.proofs.Common.{◌≡◌, Some, arith}
-use Rattle.range_core.specs.Changes.{room_of}
 use Rattle.lock_book.specs.Books.{list_of}
-use Rattle.lock_book.proofs.BookLemmas.{PutsList, list_of-lent, PutsList-writes, SetsOwnerMode-puts, room_in-list, room_in-puts}
+use Rattle.lock_book.proofs.BookLemmas.{list_of-lent, PutsList-writes, SetsOwnerMode-puts, room_in-list, room_in-puts}
 use Rattle.lock_book.proofs.book.Book.set_reserved.Goals as goal
 
 pub set_reserved-requires-clause-room : goal.set_reserved-requires-clause-room
