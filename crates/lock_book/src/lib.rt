@@ -2,6 +2,8 @@
 #![tactic(auto)]
 
 mod book;
+#[cfg(test)]
+mod tests;
 
 pub use book::Book;
 use range_core::{Mode, Span};
