@@ -183,7 +183,7 @@ SameBook-puts old new owner before list puts was same_modes same_room =
     }
 
 -- without a list the owner has nothing
-pub ReleasesOwner-puts : (old new : Book) (owner : Owner) → PutsList old new owner None → ReleasesOwner old new owner
+ReleasesOwner-puts : (old new : Book) (owner : Owner) → PutsList old new owner None → ReleasesOwner old new owner
 unfolding byte_modes_of room_in flock_modes_of has_flock_place
 ReleasesOwner-puts old new owner puts = record {
   bytes = λ other byte. elim (cases_Bool (is_same_owner owner other)) [
@@ -233,7 +233,7 @@ ReservesFlock-puts old new description puts was = record {
 }
 
 -- without a place the description has nothing
-pub ReleasesFlock-puts : (old new : Book) (description : ℕ) → PutsPlace old new description None → ReleasesFlock old new description
+ReleasesFlock-puts : (old new : Book) (description : ℕ) → PutsPlace old new description None → ReleasesFlock old new description
 unfolding byte_modes_of room_in flock_modes_of has_flock_place
 ReleasesFlock-puts old new description puts = record {
   bytes = λ owner byte. ap (λ list. modes_in_list list byte) (puts.lists owner);
@@ -247,3 +247,10 @@ ReleasesFlock-puts old new description puts = record {
     | inr apart ↦ rw (puts.places other, apart) refl
   ];
 }
+
+-- what a map's removal leaves
+pub owner_released : (old : Book) (owners : BTreeMap Owner RangeList) (owner : Owner) → UpdatesBy owner_cmp (owner_cmp owner) old.owners owners None → ReleasesOwner old (record old { owners = owners }) owner
+owner_released old owners owner updates = ReleasesOwner-puts _ _ _ (PutsList-updates old owners owner None updates)
+
+pub flock_released : (old : Book) (flocks : BTreeMap ℕ (Option Mode)) (description : ℕ) → UpdatesBy nat_cmp (nat_cmp description) old.flocks flocks None → ReleasesFlock old (record old { flocks = flocks }) description
+flock_released old flocks description updates = ReleasesFlock-puts _ _ _ (PutsPlace-updates old flocks description None updates)

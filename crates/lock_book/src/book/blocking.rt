@@ -41,11 +41,11 @@ impl Book {
         ensures none { IfNone result (¬ ByteConflict (byte_modes_of self.now) owner span mode) }
     {
         let (byte, other) = self.first_hit(owner, span, mode)?;
-        let (mode, span) = self.owners.get(&other)?.run_at(byte)?;
+        let (held, run) = self.owners.get(&other)?.run_at(byte)?;
         Some(Blocker {
             owner: other,
-            mode,
-            span,
+            mode: held,
+            span: run,
         })
     }
 

@@ -72,14 +72,13 @@ impl Book {
         ensures sets { SetsOwnerMode self.old self.new owner span mode }
         ensures room { room_in self.old owner ≤ room_in self.new owner + 1 }
     {
-        self.owners
-            .get_mut(&owner)
-            .unwrap()
-            .set_reserved(span, mode);
+        let list = self.owners.get_mut(&owner).unwrap();
+        list.set_reserved(span, mode);
     }
 
     /// Removes all byte locks of the owner, and its room (POSIX.1-2017 close: the process' locks on the file go). It takes
     /// no memory.
+    #[tactic(auto, using(crate::proofs::BookLemmas::owner_released))]
     pub fn release_owner(&mut self, owner: Owner)
         ensures { ReleasesOwner self.old self.new owner }
     {

@@ -76,6 +76,7 @@ impl Book {
 
     /// Removes the flock lock of the description, and the place kept for it (flock(2): its last close). It takes no
     /// memory.
+    #[tactic(auto, using(crate::proofs::BookLemmas::flock_released))]
     pub fn release_flock(&mut self, description: u64)
         ensures { ReleasesFlock self.old self.new description }
     {

@@ -11,5 +11,5 @@ returns-clause-some c =
     record {
       byte = c.in_ok-byte.byte;
       first = c.in_ok-byte.ensures.hit;
-      run = rw modes c.in_ok-mode.ensures.run;
+      run = rw modes c.in_ok-held.ensures.run;
     }
