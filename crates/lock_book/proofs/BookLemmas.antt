@@ -8,7 +8,7 @@ use Rattle.std.proofs.lemmas.Bool.{cases_Bool, eqb-true, ne_eqb, eq-eqb}
 use Rattle.range_core.specs.declared.Mode.{Mode}
 use Rattle.range_core.specs.declared.Span.{Span}
 use Rattle.range_core.specs.declared.list.RangeList.{RangeList}
-use Rattle.range_core.specs.Changes.{modes_of, room_of, SetsMode}
+use Rattle.range_core.specs.Changes.{modes_of, room_of, is_covered, SetsMode}
 use Rattle.lock_book.specs.declared.Owner.{Owner}
 use Rattle.lock_book.specs.declared.book.Book.{Book}
 use Rattle.lock_book.specs.Owners.{is_same_owner}
@@ -45,7 +45,7 @@ no_place book description none there =
     let e : place_of book description ≡ None = place_of-get book description ∙ none in
     let h : false ≡ true = rw e at there in cc
 
-none_from_test : {A : Type 0} (o : Option A) → is_some o ≡ false → o ≡ None
+pub none_from_test : {A : Type 0} (o : Option A) → is_some o ≡ false → o ≡ None
 none_from_test None test = refl
 none_from_test (Some x) test = let h : true ≡ false = test in cc
 
@@ -150,6 +150,29 @@ SetsOwnerMode-puts old new owner before list span mode puts was sets = record {
   flocks = λ description. ap mode_in_place (puts.places description);
   places = λ description. ap is_some (puts.places description);
 }
+
+-- without a list there is nothing to unlock
+sets_nothing : (book : Book) (owner : Owner) (span : Span) (mode : Option Mode) → list_of book owner ≡ None → mode ≡ None → SetsOwnerMode book book owner span mode
+unfolding byte_modes_of
+sets_nothing book owner span mode none unlock = record {
+  bytes = λ other byte. elim (cases_Bool (is_same_owner owner other)) [
+    | inl same ↦
+        let there : list_of book other ≡ None = ap (list_of book) (sym (same_owner owner other same)) ∙ none in
+        elim (cases_Bool (is_covered span byte)) [
+          | inl covered ↦ rw (same, covered, there, unlock) refl
+          | inr apart ↦ rw (same, apart) refl
+        ]
+    | inr apart ↦ rw apart refl
+  ];
+  rooms = λ other different. refl;
+  flocks = λ description. refl;
+  places = λ description. refl;
+}
+
+pub SetsOwnerMode-nothing : (old : Book) (owners : BTreeMap Owner RangeList) (owner : Owner) (span : Span) (mode : Option Mode) → owners ≡ old.owners → list_of old owner ≡ None → mode ≡ None → SetsOwnerMode old (record old { owners = owners }) owner span mode
+SetsOwnerMode-nothing old owners owner span mode same none unlock =
+    subst (λ (m : BTreeMap Owner RangeList). SetsOwnerMode old (record old { owners = m }) owner span mode) (sym same)
+    (sets_nothing old owner span mode none unlock)
 
 -- one with the same modes changes the owner's room alone
 pub SameButRoom-puts : (old new : Book) (owner : Owner) (before : Option RangeList) (list : RangeList) → PutsList old new owner (Some list) → list_of old owner ≡ before → ((byte : ℕ) → modes_of list byte ≡ modes_in_list before byte) → SameButRoom old new owner

@@ -1,4 +1,5 @@
 pub mod BlockLemmas
+pub mod BookLaws
 pub mod BookLemmas
 pub mod FlockLemmas
 pub mod HeldLemmas

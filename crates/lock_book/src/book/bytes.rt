@@ -21,6 +21,10 @@ impl Book {
         match self.owners.get_mut(&owner) {
             Some(list) => list.set(span, mode),
             None => {
+                // Without a list there is nothing to unlock.
+                if mode.is_none() {
+                    return Ok(());
+                }
                 let mut list = RangeList::new(self.alloc);
                 list.set(span, mode)?;
                 self.owners.insert(owner, list).map_err(|_| Memory)?;

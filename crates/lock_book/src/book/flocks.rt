@@ -1,4 +1,4 @@
-ghost use Rattle.std.specs.Prelude.{◌≡◌, ◌↔◌, IsTrue, IsOk, OnOk, OnErr, None, Some};
+ghost use Rattle.std.specs.Prelude.{◌≡◌, ◌↔◌, IsTrue, IsSome, IsOk, OnOk, OnErr, None, Some};
 ghost use Rattle.range_core.specs.Ranges.{HeldConflicts};
 ghost use Rattle.lock_book.specs.Conflicts.{FlockConflict};
 ghost use Rattle.lock_book.specs.Books.{flock_modes_of, has_flock_place, ReleasesFlock, ReservesFlock, SameBook, SetsFlock};
@@ -9,10 +9,11 @@ use range_core::{Memory, Mode};
 
 #[tactic(auto, unfolding(crate::specs::Books::list_of, crate::specs::Books::place_of, crate::specs::Books::byte_modes_of, crate::specs::Books::room_in, crate::specs::Books::flock_modes_of, crate::specs::Books::has_flock_place))]
 impl Book {
-    /// The mode of the flock lock that the description holds: `LOCK_SH` is `Read` and `LOCK_EX` is `Write` (flock(2)). It
-    /// takes no memory.
+    /// The mode of the flock lock that the description holds: `LOCK_SH` is `Read` and `LOCK_EX` is `Write` (flock(2)). A
+    /// lock stands in a place that is kept for it. It takes no memory.
     pub fn flock_mode(&self, description: u64) -> Option<Mode>
-        ensures { result ≡ flock_modes_of self.now description }
+        ensures mode { result ≡ flock_modes_of self.now description }
+        ensures place { IsSome result → IsTrue (has_flock_place self.now description) }
     {
         *self.flocks.get(&description)?
     }

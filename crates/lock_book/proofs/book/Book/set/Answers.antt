@@ -4,7 +4,7 @@ use Rattle.std.proofs.lemmas.Result.{on_ok_weaker, on_err_weaker}
 use Rattle.range_core.specs.declared.Mode.{Mode}
 use Rattle.range_core.specs.Changes.{is_covered}
 use Rattle.lock_book.specs.Books.{list_of}
-use Rattle.lock_book.proofs.BookLemmas.{OnOk-at_ok, list_of-lent, list_of-not_lent, PutsList-writes, PutsList-adds, SetsOwnerMode-puts, SameBook-puts}
+use Rattle.lock_book.proofs.BookLemmas.{OnOk-at_ok, list_of-lent, list_of-not_lent, PutsList-writes, PutsList-adds, SetsOwnerMode-puts, SetsOwnerMode-nothing, SameBook-puts, none_from_test}
 use Rattle.lock_book.proofs.book.Book.set.Goals as goal
 
 pub returns-in-Some-clause-ok : goal.returns-in-Some-clause-ok
@@ -34,3 +34,8 @@ returns-in_ok-map_err-in-None-clause-ok c =
     (PutsList-adds c.args.self.now _ c.insert.new.self _ _ c.get_mut.follows.holds-at-none updates) was
     (λ byte. c.in_ok-set-in-None.ensures.ok byte
     ∙ ap (λ (other : Option Mode). if is_covered c.args.span byte then c.args.mode else other) (c.new-list.ensures byte))
+
+pub returns-then-is_none-clause-ok : goal.returns-then-is_none-clause-ok
+returns-then-is_none-clause-ok c =
+    SetsOwnerMode-nothing c.args.self.now _ c.args.owner _ _ c.get_mut.follows.holds-at-none
+    (list_of-not_lent _ _ _ c.get_mut.ensures.value c.in-None.is) (none_from_test c.args.mode c.if-is_none.ensures)
