@@ -22,7 +22,6 @@ pub struct Book {
     alloc: Global,
 }
 
-#[tactic(auto, unfolding(crate::specs::Books::list_of, crate::specs::Books::place_of, crate::specs::Books::byte_modes_of, crate::specs::Books::room_in, crate::specs::Books::flock_modes_of, crate::specs::Books::has_flock_place))]
 impl Book {
     /// No lock, no room and no place. It takes no memory.
     pub fn new(alloc: Global) -> Book

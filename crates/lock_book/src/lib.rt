@@ -1,6 +1,8 @@
 //! The locks on one file, by owner and by byte.
 #![tactic(auto)]
 
+// The proofs of this crate see through what a book stands for, which is opaque to the crates above.
+#[tactic(auto, unfolding(crate::specs::Books::list_of, crate::specs::Books::place_of, crate::specs::Books::byte_modes_of, crate::specs::Books::room_in, crate::specs::Books::flock_modes_of, crate::specs::Books::has_flock_place))]
 mod book;
 #[cfg(test)]
 mod tests;

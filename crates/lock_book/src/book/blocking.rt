@@ -7,7 +7,6 @@ use super::Book;
 use crate::{Blocker, Owner};
 use range_core::{Mode, Span};
 
-#[tactic(auto, unfolding(crate::specs::Books::list_of, crate::specs::Books::byte_modes_of))]
 impl Book {
     /// Whether some other owner has a lock on some byte of the span that conflicts with one of this mode (POSIX.1-2017
     /// fcntl, `F_SETLK`; fcntl_locking(2): traditional and OFD locks conflict with each other). It takes no memory.

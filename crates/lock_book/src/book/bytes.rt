@@ -6,7 +6,6 @@ use super::Book;
 use crate::Owner;
 use range_core::{Memory, Mode, RangeList, Span};
 
-#[tactic(auto, unfolding(crate::specs::Books::list_of, crate::specs::Books::place_of, crate::specs::Books::byte_modes_of, crate::specs::Books::room_in, crate::specs::Books::flock_modes_of, crate::specs::Books::has_flock_place))]
 impl Book {
     /// Sets the owner's mode on just the bytes of the span, or removes it where `mode` is `None`; the owner's room stays
     /// (POSIX.1-2017 fcntl, `F_SETLK`; fcntl_locking(2), `F_OFD_SETLK`). No conflict is looked for.

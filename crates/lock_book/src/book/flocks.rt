@@ -7,7 +7,6 @@ use super::Book;
 use crate::Owner;
 use range_core::{Memory, Mode};
 
-#[tactic(auto, unfolding(crate::specs::Books::list_of, crate::specs::Books::place_of, crate::specs::Books::byte_modes_of, crate::specs::Books::room_in, crate::specs::Books::flock_modes_of, crate::specs::Books::has_flock_place))]
 impl Book {
     /// The mode of the flock lock that the description holds: `LOCK_SH` is `Read` and `LOCK_EX` is `Write` (flock(2)). A
     /// lock stands in a place that is kept for it. It takes no memory.

@@ -9,7 +9,6 @@ use super::Book;
 use crate::{Held, Owner};
 use range_core::{Memory, Mode, OFFMAX, RangeList, Span};
 
-#[tactic(auto, unfolding(crate::specs::Books::list_of, crate::specs::Books::place_of, crate::specs::Books::byte_modes_of, crate::specs::Books::flock_modes_of))]
 impl Book {
     /// All locks on the file, whose number is only written down: owners rising, the runs of each rising, and then the
     /// flock locks by description (this project's choice).
