@@ -6,4 +6,5 @@ pub mod HeldLemmas
 pub mod ListLemmas
 pub mod LoopLemmas
 pub mod OwnerLemmas
+pub mod ReportLaws
 pub mod RunLemmas

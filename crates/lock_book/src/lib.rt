@@ -24,18 +24,25 @@ pub enum Owner {
 /// The lock that a get command reports (POSIX.1-2017 fcntl, `F_GETLK`).
 #[derive(Clone, Copy, Debug, PartialEq, Eq)]
 pub struct Blocker {
+    /// Whose lock it is.
     pub owner: Owner,
+    /// The one mode that the owner has on the whole span.
     pub mode: Mode,
+    /// The largest range of this mode round the byte that is blocked, also past the range that was asked for.
     pub span: Span,
 }
 
 /// One line of the report of held locks (this project's choice).
 #[derive(Clone, Copy, Debug, PartialEq, Eq)]
 pub struct Held {
+    /// The file's number, as the caller of [`Book::held`] gave it.
     pub file: u8,
     /// A flock lock, whose span is then the whole file.
     pub whole: bool,
+    /// Whose lock it is.
     pub owner: Owner,
+    /// The one mode that the owner has on the whole span.
     pub mode: Mode,
+    /// The largest range of this mode, or 0 to [`OFFMAX`](range_core::OFFMAX) for a flock lock.
     pub span: Span,
 }
