@@ -1,0 +1,279 @@
+use Rattle.std.proofs.Common.{ℕ, ◌≡◌, ◌≢◌, ◌==◌, ◌∙◌, sym, ap, refl, subst, true, false, cond, Option, Some, None, Result, Ok, Err, inl, inr}
+use Rattle.std.specs.Prelude.{if◌then◌else◌, is_some, is_ok, OnOk, OnErr, IsTrue}
+use Rattle.std.specs.Ordering.{nat_cmp}
+use Rattle.std.specs.Option.{option_copied, option_copied_mut, IsSome}
+use Rattle.std.specs.BTreeMap.{BTreeMap, UpdatesBy, WritesThrough, get}
+use Rattle.std.specs.Borrow.{Bor, MutBor}
+use Rattle.std.proofs.lemmas.Bool.{cases_Bool, eqb-true, ne_eqb, eq-eqb}
+use Rattle.range_core.specs.declared.Mode.{Mode}
+use Rattle.range_core.specs.declared.Span.{Span}
+use Rattle.range_core.specs.declared.list.RangeList.{RangeList}
+use Rattle.range_core.specs.Changes.{modes_of, room_of, is_covered, SetsMode}
+use Rattle.lock_book.specs.declared.Owner.{Owner}
+use Rattle.lock_book.specs.declared.book.Book.{Book}
+use Rattle.lock_book.specs.Owners.{is_same_owner}
+use Rattle.lock_book.specs.Books.{list_of, place_of, byte_modes_of, room_in, flock_modes_of, has_flock_place, modes_in_list, room_in_list, mode_in_place, SameBook, SameButRoom, SetsOwnerMode, ReleasesOwner, SetsFlock, ReservesFlock, ReleasesFlock}
+use Rattle.lock_book.proofs.OwnerLemmas.{owner_cmp, is_eq-owner_cmp, is_eq-nat_cmp, lookup-owner_cmp, lookup-nat_cmp, same_owner, is_same_owner-self}
+
+-- what holds on success holds where there was success
+pub OnOk-at_ok : {T E P : Type 0} (r : Result T E) → is_ok r ≡ true → OnOk r P → P
+OnOk-at_ok (Ok x) ok holds = holds
+OnOk-at_ok (Err e) ok holds = absurd (let h : false ≡ true = ok in cc)
+
+pub OnErr-at_err : {T E P : Type 0} (r : Result T E) → is_ok r ≡ false → OnErr r P → P
+OnErr-at_err (Ok x) err holds = absurd (let h : true ≡ false = err in cc)
+OnErr-at_err (Err e) err holds = holds
+
+-- what a book keeps is what its maps have
+pub list_of-get : (book : Book) (owner : Owner) → list_of book owner ≡ get owner_cmp book.owners owner
+unfolding list_of
+list_of-get book owner = sym (lookup-owner_cmp owner book.owners.entries)
+
+pub place_of-get : (book : Book) (description : ℕ) → place_of book description ≡ get nat_cmp book.flocks description
+unfolding place_of
+place_of-get book description = sym (lookup-nat_cmp description book.flocks.entries)
+
+-- the mode that stands in a description's place is its flock mode
+pub flock_modes_of-place : (book : Book) (description : ℕ) (mode : Option Mode) → place_of book description ≡ Some mode → flock_modes_of book description ≡ mode
+unfolding flock_modes_of
+flock_modes_of-place book description mode there = ap mode_in_place there
+
+-- a description that no map has has no place
+pub no_place : (book : Book) (description : ℕ) → get nat_cmp book.flocks description ≡ None → IsTrue (has_flock_place book description) → ⊥
+unfolding has_flock_place
+no_place book description none there =
+    let e : place_of book description ≡ None = place_of-get book description ∙ none in
+    let h : false ≡ true = rw e at there in cc
+
+pub none_from_test : {A : Type 0} (o : Option A) → is_some o ≡ false → o ≡ None
+none_from_test None test = refl
+none_from_test (Some x) test = let h : true ≡ false = test in cc
+
+-- nor has one whose test says so
+pub place_of-none : (book : Book) (description : ℕ) → has_flock_place book description ≡ false → place_of book description ≡ None
+unfolding has_flock_place
+place_of-none book description none = none_from_test (place_of book description) none
+
+-- a test that fails tells two owners apart
+pub different_owner : (owner other : Owner) → other ≢ owner → is_same_owner owner other ≡ false
+different_owner owner other different = elim (cases_Bool (is_same_owner owner other)) [
+  | inl same ↦ absurd (different (sym (same_owner owner other same)))
+  | inr apart ↦ apart
+]
+
+-- new keeps this list for the owner, and all else as old does
+pub record PutsList (old new : Book) (owner : Owner) (list : Option RangeList) : Type 0 where
+  pub lists : (other : Owner) → list_of new other ≡ (if is_same_owner owner other then list else list_of old other)
+  pub places : (description : ℕ) → place_of new description ≡ place_of old description
+
+-- new keeps this place for the description, and all else as old does
+pub record PutsPlace (old new : Book) (description : ℕ) (place : Option (Option Mode)) : Type 0 where
+  pub lists : (owner : Owner) → list_of new owner ≡ list_of old owner
+  pub places : (other : ℕ) → place_of new other ≡ (if description == other then place else place_of old other)
+
+-- an update of a map is one of the book
+pub PutsList-updates : (old : Book) (owners : BTreeMap Owner RangeList) (owner : Owner) (list : Option RangeList) → UpdatesBy owner_cmp (owner_cmp owner) old.owners owners list → PutsList old (record old { owners = owners }) owner list
+unfolding place_of
+PutsList-updates old owners owner list updates = record {
+  lists = λ other.
+      list_of-get (record old { owners = owners }) other ∙ updates.0 other
+      ∙ ap (λ b. cond b list (get owner_cmp old.owners other)) (is_eq-owner_cmp owner other)
+      ∙ ap (λ o. cond (is_same_owner owner other) list o) (sym (list_of-get old other));
+  places = λ description. refl;
+}
+
+-- also of the map that is left where it lent nothing
+pub PutsList-adds : (old : Book) (was owners : BTreeMap Owner RangeList) (owner : Owner) (list : Option RangeList) → was ≡ old.owners → UpdatesBy owner_cmp (owner_cmp owner) was owners list → PutsList old (record old { owners = owners }) owner list
+PutsList-adds old was owners owner list same updates =
+    PutsList-updates old owners owner list (subst (λ (m : BTreeMap Owner RangeList). UpdatesBy owner_cmp (owner_cmp owner) m owners list) same updates)
+
+-- the list that a map lends is the owner's
+pub list_of-lent : (book : Book) (owner : Owner) (lent : Option (MutBor RangeList)) (list : MutBor RangeList) → option_copied_mut lent ≡ get owner_cmp book.owners owner → lent ≡ Some list → list_of book owner ≡ Some list.now
+list_of-lent book owner lent list value is = list_of-get book owner ∙ sym value ∙ ap option_copied_mut is
+
+pub list_of-not_lent : (book : Book) (owner : Owner) (lent : Option (MutBor RangeList)) → option_copied_mut lent ≡ get owner_cmp book.owners owner → lent ≡ None → list_of book owner ≡ None
+list_of-not_lent book owner lent value is = list_of-get book owner ∙ sym value ∙ ap option_copied_mut is
+
+pub list_of-found : (book : Book) (owner : Owner) (found : Option (Bor RangeList)) (list : Bor RangeList) → option_copied found ≡ get owner_cmp book.owners owner → found ≡ Some list → list_of book owner ≡ Some list.now
+list_of-found book owner found list value is = list_of-get book owner ∙ sym value ∙ ap option_copied is
+
+pub list_of-not_found : (book : Book) (owner : Owner) (found : Option (Bor RangeList)) → option_copied found ≡ get owner_cmp book.owners owner → found ≡ None → list_of book owner ≡ None
+list_of-not_found book owner found value is = list_of-get book owner ∙ sym value ∙ ap option_copied is
+
+-- the owner's modes are those of its list
+pub byte_modes_of-list : (book : Book) (owner : Owner) (list : Option RangeList) → list_of book owner ≡ list → byte_modes_of book owner ≡ modes_in_list list
+unfolding byte_modes_of
+byte_modes_of-list book owner list is = ap modes_in_list is
+
+-- and a write through it puts a list in its place
+pub PutsList-writes : (old : Book) (owners : BTreeMap Owner RangeList) (owner : Owner) (before list : RangeList) → WritesThrough owner_cmp (owner_cmp owner) old.owners list owners → list_of old owner ≡ Some before → PutsList old (record old { owners = owners }) owner (Some list)
+PutsList-writes old owners owner before list writes was =
+    let there : IsSome (get owner_cmp old.owners owner) = rw (sym (list_of-get old owner) ∙ was) refl in
+    PutsList-updates old owners owner (Some list) (writes.3 there)
+
+pub PutsPlace-updates : (old : Book) (flocks : BTreeMap ℕ (Option Mode)) (description : ℕ) (place : Option (Option Mode)) → UpdatesBy nat_cmp (nat_cmp description) old.flocks flocks place → PutsPlace old (record old { flocks = flocks }) description place
+unfolding list_of
+PutsPlace-updates old flocks description place updates = record {
+  lists = λ owner. refl;
+  places = λ other.
+      place_of-get (record old { flocks = flocks }) other ∙ updates.0 other
+      ∙ ap (λ b. cond b place (get nat_cmp old.flocks other)) (is_eq-nat_cmp description other)
+      ∙ ap (λ o. cond (description == other) place o) (sym (place_of-get old other));
+}
+
+-- every other owner's list stays
+list_apart : (old new : Book) (owner other : Owner) (list : Option RangeList) → PutsList old new owner list → other ≢ owner → list_of new other ≡ list_of old other
+list_apart old new owner other list puts different =
+    puts.lists other ∙ ap (λ b. cond b list (list_of old other)) (different_owner owner other different)
+
+-- the room of the owner is that of the list put there
+pub room_in-puts : (old new : Book) (owner : Owner) (list : Option RangeList) → PutsList old new owner list → room_in new owner ≡ room_in_list list
+unfolding room_in
+room_in-puts old new owner list puts =
+    ap room_in_list (puts.lists owner ∙ ap (λ b. cond b list (list_of old owner)) (is_same_owner-self owner))
+
+pub room_in-list : (book : Book) (owner : Owner) (list : Option RangeList) → list_of book owner ≡ list → room_in book owner ≡ room_in_list list
+unfolding room_in
+room_in-list book owner list is = ap room_in_list is
+
+-- a list put for the owner that has the mode on just the range sets it in the book
+pub SetsOwnerMode-puts : (old new : Book) (owner : Owner) (before : Option RangeList) (list : RangeList) (span : Span) (mode : Option Mode) → PutsList old new owner (Some list) → list_of old owner ≡ before → SetsMode (modes_in_list before) (modes_of list) span mode → SetsOwnerMode old new owner span mode
+unfolding byte_modes_of room_in flock_modes_of has_flock_place
+SetsOwnerMode-puts old new owner before list span mode puts was sets = record {
+  bytes = λ other byte. elim (cases_Bool (is_same_owner owner other)) [
+    | inl same ↦
+        let there : list_of old other ≡ before = ap (list_of old) (sym (same_owner owner other same)) ∙ was in
+        rw (puts.lists other, same, there) (sets byte)
+    | inr apart ↦ rw (puts.lists other, apart) refl
+  ];
+  rooms = λ other different. ap room_in_list (list_apart old new owner other (Some list) puts different);
+  flocks = λ description. ap mode_in_place (puts.places description);
+  places = λ description. ap is_some (puts.places description);
+}
+
+-- without a list there is nothing to unlock
+sets_nothing : (book : Book) (owner : Owner) (span : Span) (mode : Option Mode) → list_of book owner ≡ None → mode ≡ None → SetsOwnerMode book book owner span mode
+unfolding byte_modes_of
+sets_nothing book owner span mode none unlock = record {
+  bytes = λ other byte. elim (cases_Bool (is_same_owner owner other)) [
+    | inl same ↦
+        let there : list_of book other ≡ None = ap (list_of book) (sym (same_owner owner other same)) ∙ none in
+        elim (cases_Bool (is_covered span byte)) [
+          | inl covered ↦ rw (same, covered, there, unlock) refl
+          | inr apart ↦ rw (same, apart) refl
+        ]
+    | inr apart ↦ rw apart refl
+  ];
+  rooms = λ other different. refl;
+  flocks = λ description. refl;
+  places = λ description. refl;
+}
+
+pub SetsOwnerMode-nothing : (old : Book) (owners : BTreeMap Owner RangeList) (owner : Owner) (span : Span) (mode : Option Mode) → owners ≡ old.owners → list_of old owner ≡ None → mode ≡ None → SetsOwnerMode old (record old { owners = owners }) owner span mode
+SetsOwnerMode-nothing old owners owner span mode same none unlock =
+    subst (λ (m : BTreeMap Owner RangeList). SetsOwnerMode old (record old { owners = m }) owner span mode) (sym same)
+    (sets_nothing old owner span mode none unlock)
+
+-- one with the same modes changes the owner's room alone
+pub SameButRoom-puts : (old new : Book) (owner : Owner) (before : Option RangeList) (list : RangeList) → PutsList old new owner (Some list) → list_of old owner ≡ before → ((byte : ℕ) → modes_of list byte ≡ modes_in_list before byte) → SameButRoom old new owner
+unfolding byte_modes_of room_in flock_modes_of has_flock_place
+SameButRoom-puts old new owner before list puts was same_modes = record {
+  bytes = λ other byte. elim (cases_Bool (is_same_owner owner other)) [
+    | inl same ↦
+        let there : list_of old other ≡ before = ap (list_of old) (sym (same_owner owner other same)) ∙ was in
+        rw (puts.lists other, same, there) (same_modes byte)
+    | inr apart ↦ rw (puts.lists other, apart) refl
+  ];
+  rooms = λ other different. ap room_in_list (list_apart old new owner other (Some list) puts different);
+  flocks = λ description. ap mode_in_place (puts.places description);
+  places = λ description. ap is_some (puts.places description);
+}
+
+-- and one with the same room too changes nothing
+pub SameBook-puts : (old new : Book) (owner : Owner) (before list : RangeList) → PutsList old new owner (Some list) → list_of old owner ≡ Some before → ((byte : ℕ) → modes_of list byte ≡ modes_of before byte) → room_of list ≡ room_of before → SameBook old new
+unfolding room_in
+SameBook-puts old new owner before list puts was same_modes same_room =
+    let same_but_room = SameButRoom-puts old new owner (Some before) list puts was same_modes in record {
+      bytes = same_but_room.bytes;
+      rooms = λ other. elim (cases_Bool (is_same_owner owner other)) [
+        | inl same ↦
+            let there : list_of old other ≡ Some before = ap (list_of old) (sym (same_owner owner other same)) ∙ was in
+            rw (puts.lists other, same, there) same_room
+        | inr apart ↦ rw (puts.lists other, apart) refl
+      ];
+      flocks = same_but_room.flocks;
+      places = same_but_room.places;
+    }
+
+-- without a list the owner has nothing
+ReleasesOwner-puts : (old new : Book) (owner : Owner) → PutsList old new owner None → ReleasesOwner old new owner
+unfolding byte_modes_of room_in flock_modes_of has_flock_place
+ReleasesOwner-puts old new owner puts = record {
+  bytes = λ other byte. elim (cases_Bool (is_same_owner owner other)) [
+    | inl same ↦ rw (puts.lists other, same) refl
+    | inr apart ↦ rw (puts.lists other, apart) refl
+  ];
+  rooms = λ other. elim (cases_Bool (is_same_owner owner other)) [
+    | inl same ↦ rw (puts.lists other, same) refl
+    | inr apart ↦ rw (puts.lists other, apart) refl
+  ];
+  flocks = λ description. ap mode_in_place (puts.places description);
+  places = λ description. ap is_some (puts.places description);
+}
+
+-- a place put for the description with a mode sets it in the book
+pub SetsFlock-puts : (old new : Book) (description : ℕ) (mode : Option Mode) → PutsPlace old new description (Some mode) → SetsFlock old new description mode
+unfolding byte_modes_of room_in flock_modes_of has_flock_place
+SetsFlock-puts old new description mode puts = record {
+  bytes = λ owner byte. ap (λ list. modes_in_list list byte) (puts.lists owner);
+  rooms = λ owner. ap room_in_list (puts.lists owner);
+  flocks = λ other. elim (cases_Bool (description == other)) [
+    | inl same ↦ rw (puts.places other, same) refl
+    | inr apart ↦ rw (puts.places other, apart) refl
+  ];
+  places = λ other different.
+      let apart : (description == other) ≡ false = ne_eqb description other (λ e. different (sym e)) in
+      rw (puts.places other, apart) refl;
+  kept = λ had. rw (puts.places description, eq-eqb description description refl) refl;
+}
+
+-- an empty place put for a description without one reserves it
+pub ReservesFlock-puts : (old new : Book) (description : ℕ) → PutsPlace old new description (Some None) → place_of old description ≡ None → ReservesFlock old new description
+unfolding byte_modes_of room_in flock_modes_of has_flock_place
+ReservesFlock-puts old new description puts was = record {
+  bytes = λ owner byte. ap (λ list. modes_in_list list byte) (puts.lists owner);
+  rooms = λ owner. ap room_in_list (puts.lists owner);
+  flocks = λ other. elim (cases_Bool (description == other)) [
+    | inl same ↦
+        let there : place_of old other ≡ None = ap (place_of old) (sym (eqb-true description other same)) ∙ was in
+        rw (puts.places other, same, there) refl
+    | inr apart ↦ rw (puts.places other, apart) refl
+  ];
+  places = λ other. elim (cases_Bool (description == other)) [
+    | inl same ↦ rw (puts.places other, same) refl
+    | inr apart ↦ rw (puts.places other, apart) refl
+  ];
+}
+
+-- without a place the description has nothing
+ReleasesFlock-puts : (old new : Book) (description : ℕ) → PutsPlace old new description None → ReleasesFlock old new description
+unfolding byte_modes_of room_in flock_modes_of has_flock_place
+ReleasesFlock-puts old new description puts = record {
+  bytes = λ owner byte. ap (λ list. modes_in_list list byte) (puts.lists owner);
+  rooms = λ owner. ap room_in_list (puts.lists owner);
+  flocks = λ other. elim (cases_Bool (description == other)) [
+    | inl same ↦ rw (puts.places other, same) refl
+    | inr apart ↦ rw (puts.places other, apart) refl
+  ];
+  places = λ other. elim (cases_Bool (description == other)) [
+    | inl same ↦ rw (puts.places other, same) refl
+    | inr apart ↦ rw (puts.places other, apart) refl
+  ];
+}
+
+-- what a map's removal leaves
+pub owner_released : (old : Book) (owners : BTreeMap Owner RangeList) (owner : Owner) → UpdatesBy owner_cmp (owner_cmp owner) old.owners owners None → ReleasesOwner old (record old { owners = owners }) owner
+owner_released old owners owner updates = ReleasesOwner-puts _ _ _ (PutsList-updates old owners owner None updates)
+
+pub flock_released : (old : Book) (flocks : BTreeMap ℕ (Option Mode)) (description : ℕ) → UpdatesBy nat_cmp (nat_cmp description) old.flocks flocks None → ReleasesFlock old (record old { flocks = flocks }) description
+flock_released old flocks description updates = ReleasesFlock-puts _ _ _ (PutsPlace-updates old flocks description None updates)

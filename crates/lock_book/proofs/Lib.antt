@@ -1,0 +1,10 @@
+pub mod BlockLemmas
+pub mod BookLaws
+pub mod BookLemmas
+pub mod FlockLemmas
+pub mod HeldLemmas
+pub mod ListLemmas
+pub mod LoopLemmas
+pub mod OwnerLemmas
+pub mod ReportLaws
+pub mod RunLemmas

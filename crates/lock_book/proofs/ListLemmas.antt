@@ -1,0 +1,47 @@
+use Rattle.std.proofs.Common.{◌≡◌, ◌+◌, ◌-◌, ◌∙◌, sym, ap, subst, arith, append_assoc, Bool, true, cond, List, [], ◌∷◌, ◌++◌, All, Any, length, inl, inr}
+use Rattle.std.specs.Prelude.{if◌then◌else◌}
+use Rattle.std.specs.List.{AllPairs}
+use Rattle.std.proofs.lemmas.Bool.{cases_lt}
+use Rattle.std.proofs.lemmas.List.{get_or_append_left, get_or-append-add, length-append}
+use Rattle.std.proofs.Math.Seq.{get_or-append_right}
+
+-- what holds of an element holds of one with more behind it
+pub Any-append_left : {X : Type 0} (P : X → Type 0) (xs ys : List X) → Any P xs → Any P (xs ++ ys)
+Any-append_left P xs ys (k, x, within, is, holds) =
+    (k, x, (let more = length-append xs ys in omega arith), get_or_append_left xs ys x k within ∙ is, holds)
+
+-- or before it
+pub Any-append_right : {X : Type 0} (P : X → Type 0) (xs ys : List X) → Any P ys → Any P (xs ++ ys)
+Any-append_right P xs ys (k, x, within, is, holds) =
+    (length xs + k, x, (let more = length-append xs ys in omega arith), get_or-append-add xs ys k x ∙ is, holds)
+
+pub Any-weaker : {X : Type 0} (P Q : X → Type 0) → ((x : X) → P x → Q x) → (xs : List X) → Any P xs → Any Q xs
+Any-weaker P Q weaker xs (k, x, within, is, holds) = (k, x, within, is, weaker x holds)
+
+-- what holds of each element holds of one that something else holds of
+pub All-at_Any : {X : Type 0} (P Q : X → Type 0) (xs : List X) → All P xs → Any Q xs → (x : X) × P x × Q x
+All-at_Any P Q xs all (k, x, within, is, holds) = (x, subst P is (all k x within), holds)
+
+-- two lists in order, each element of the one before each of the other
+pub AllPairs-append : {X : Type 0} (R : X → X → Type 0) (xs ys : List X) → AllPairs R xs → AllPairs R ys → All (λ x. All (λ y. R x y) ys) xs → AllPairs R (xs ++ ys)
+AllPairs-append R xs ys first second across i j d before within =
+    elim (cases_lt j (length xs)) [
+      | inl j_first ↦
+          rw (get_or_append_left xs ys d i (omega arith), get_or_append_left xs ys d j j_first) (first i j d before j_first)
+      | inr j_second ↦
+          let sum = length-append xs ys in
+          elim (cases_lt i (length xs)) [
+            | inl i_first ↦
+                rw (get_or_append_left xs ys d i i_first, get_or-append_right xs ys j d j_second)
+                (across i d i_first (j - length xs) d (omega arith))
+            | inr i_second ↦
+                rw (get_or-append_right xs ys i d i_second, get_or-append_right xs ys j d j_second)
+                (second (i - length xs) (j - length xs) d (omega arith) (omega arith))
+          ]
+    ]
+
+-- a push that succeeded, onto a list with some more behind the old one
+pub pushed : {X : Type 0} (old now new more : List X) (x : X) (ok : Bool) → new ≡ (if ok then now ++ x ∷ [] else now) → true ≡ ok → now ≡ old ++ more → new ≡ old ++ (more ++ x ∷ [])
+pushed {X} old now new more x ok items success added =
+    items ∙ ap (λ (b : Bool). cond b (now ++ x ∷ []) now) (sym success) ∙ ap (λ (l : List X). l ++ x ∷ []) added
+    ∙ append_assoc old more (x ∷ [])

@@ -1,0 +1,60 @@
+use Rattle.std.proofs.Common.{◌≡◌, ◌∙◌, sym, ap, subst, Bool, true, Option, Some, List, [], ◌∷◌, ◌++◌, All, length, map, ◌<◌, arith}
+use Rattle.std.specs.List.{AllByRecursion}
+use Rattle.std.specs.List.Sorted.{IsStrictlySortedBy}
+use Rattle.std.specs.Iterator.{Yields}
+use Rattle.std.specs.Borrow.{Bor}
+use Rattle.std.specs.Map.{keys_of, lookup}
+use Rattle.std.specs.Map.Iter.{TakesFirst, deref_pair}
+use Rattle.std.specs.declared.cmp.Ordering.{Ordering}
+use Rattle.std.specs.declared.cmp.Ordering.TheVariants.{Less}
+use Rattle.std.proofs.lemmas.List.Elements.{All-nil, All-cons, All-get_or, All-map}
+use Rattle.std.proofs.lemmas.Map.Entries.{place_from_lookup}
+use Rattle.std.proofs.lemmas.Option.{get_or_from_slice_get, slice_get_within}
+use Rattle.std.proofs.lemmas.List.{length-append}
+use Rattle.std.proofs.Math.Seq.{get_or-append_seam}
+use Rattle.std.proofs.lemmas.Map.Keys.{sorted_head, sorted_tail}
+use Rattle.std.proofs.lemmas.Map.Iter.{rest_so_far, rest_more}
+
+module _ {K X : Type 0} (R : K → K → Ordering) where
+  later_less : (k : K) (items : List (Bor K × Bor X)) (x : Bor K × Bor X) (rest : List (K × X)) → AllByRecursion (λ y. R k y ≡ Less) (keys_of (map deref_pair items ++ deref_pair x ∷ rest)) → R k x.0.now ≡ Less
+  later_less k [] x rest all = all.0
+  later_less k (y ∷ items) x rest all = later_less k items x rest all.1
+
+  -- in order, each entry so far comes before this one
+  sorted_less : (items : List (Bor K × Bor X)) (x : Bor K × Bor X) (rest : List (K × X)) → IsStrictlySortedBy R (keys_of (map deref_pair items ++ deref_pair x ∷ rest)) → All (λ y. R y.0.now x.0.now ≡ Less) items
+  sorted_less [] x rest sorted = All-nil (λ y. R y.0.now x.0.now ≡ Less)
+  sorted_less (y ∷ items) x rest sorted =
+      All-cons (λ z. R z.0.now x.0.now ≡ Less) y items
+      (later_less y.0.now items x rest (sorted_head R _ _ sorted)) (sorted_less items x rest (sorted_tail R _ _ sorted))
+
+-- the entries of a map are those that a loop gave, the one that it gives next, and the rest
+split_in_loop : {K X : Type 0} (entries : List (K × X)) (items : List (Bor K × Bor X)) (s t u : List (K × X)) (r : Option (Bor K × Bor X)) (x : Bor K × Bor X) → s ≡ entries → Yields (TakesFirst deref_pair) s items t → r ≡ Some x → TakesFirst deref_pair t r u → entries ≡ map deref_pair items ++ deref_pair x ∷ u
+split_in_loop {K} {X} entries items s t u r x start yields is step =
+    sym start ∙ rest_so_far deref_pair items s t yields ∙ ap (λ (l : List (K × X)). map deref_pair items ++ l) (rest_more deref_pair t u r x is step)
+
+-- what holds of each entry holds of the next one
+pub next_in_loop : {K X : Type 0} (P : K × X → Type 0) (entries : List (K × X)) (items : List (Bor K × Bor X)) (s t u : List (K × X)) (r : Option (Bor K × Bor X)) (x : Bor K × Bor X) → s ≡ entries → Yields (TakesFirst deref_pair) s items t → r ≡ Some x → TakesFirst deref_pair t r u → All P entries → P (x.0.now, x.1.now)
+next_in_loop {K} {X} P entries items s t u r x start yields is step all =
+    let split = split_in_loop entries items s t u r x start yields is step in
+    let each : All P (map deref_pair items ++ deref_pair x ∷ u) = subst (λ (l : List (K × X)). All P l) split all in
+    let within : length (map deref_pair items) < length (map deref_pair items ++ deref_pair x ∷ u) =
+    rw (length-append (map deref_pair items) (deref_pair x ∷ u)) (omega arith) in
+    subst P (get_or-append_seam (map deref_pair items) (deref_pair x) u (deref_pair x))
+    (All-get_or P (map deref_pair items ++ deref_pair x ∷ u) (length (map deref_pair items)) (deref_pair x) within each)
+
+-- in order, the entries that a loop gave come before the next one
+pub earlier_in_loop : {K X : Type 0} (R : K → K → Ordering) (entries : List (K × X)) (items : List (Bor K × Bor X)) (s t u : List (K × X)) (r : Option (Bor K × Bor X)) (x : Bor K × Bor X) → s ≡ entries → Yields (TakesFirst deref_pair) s items t → r ≡ Some x → TakesFirst deref_pair t r u → IsStrictlySortedBy R (keys_of entries) → All (λ y. R y.0.now x.0.now ≡ Less) items
+earlier_in_loop {K} {X} R entries items s t u r x start yields is step sorted =
+    sorted_less R items x u
+    (subst (λ (l : List (K × X)). IsStrictlySortedBy R (keys_of l)) (split_in_loop entries items s t u r x start yields is step) sorted)
+
+-- what holds of each entry holds of the one that a look-up finds
+pub found_in_loop : {K X : Type 0} (P : K × X → Type 0) (entries : List (K × X)) (items : List (Bor K × Bor X)) → map deref_pair items ≡ entries → All (λ y. P (y.0.now, y.1.now)) items → (test : K → Bool) (v : X) → lookup test entries ≡ Some v → (k : K) × (test k ≡ true) × P (k, v)
+found_in_loop {K} {X} P entries items whole all test v found =
+    let place = place_from_lookup test entries v found in
+    let each : All P entries = subst (λ (es : List (K × X)). All P es) whole (All-map P deref_pair items all) in (
+      place.1,
+      place.3,
+      subst P (get_or_from_slice_get entries place.0 (place.1, v) (place.1, v) place.2)
+          (All-get_or P entries place.0 (place.1, v) (slice_get_within entries place.0 (place.1, v) place.2) each),
+    )

@@ -1,0 +1,31 @@
+use Rattle.std.proofs.Common.{sym}
+use Rattle.std.specs.Map.Iter.{deref_pair}
+use Rattle.std.proofs.lemmas.Map.Iter.{iter_end}
+use Rattle.lock_book.proofs.FlockLemmas.{flock_mode_in_loop, earlier_flocks}
+use Rattle.lock_book.proofs.HeldLemmas.{flocks_of_more, flocks_of_empty, all_flock_locks}
+use Rattle.lock_book.proofs.book.Book.held_flocks.Goals as goal
+
+pub loop-description-preserved : goal.loop-description-preserved
+loop-description-preserved c =
+    let gives = c.into_iter-description-iterator.ensures.into_iter_gives in
+    let mode = flock_mode_in_loop c.args.self.now c.loop-description.yielded _ _ _ _ (c.in-Some.description, c.in-Some.place)
+    gives.0 c.loop-description.yielded_by c.in-Some.is c.next.ensures.steps gives.6 in
+    let earlier = earlier_flocks c.args.self.now c.loop-description.yielded _ _ _ _ (c.in-Some.description, c.in-Some.place)
+    gives.0 c.loop-description.yielded_by c.in-Some.is c.next.ensures.steps gives.5 in
+    let items = c.push.ensures.items in (
+      tt,
+      tt,
+      rw (items, sym c.in_ok-map_err.ensures.variant)
+          (flocks_of_more _ _ c.loop-description.yielded (c.in-Some.description, c.in-Some.place) c.in-Some-place.mode _ c.flock_line.result
+          c.loop-description.invariant.2 mode c.in-Some-place.is earlier c.flock_line.ensures),
+    )
+
+pub loop-description-preserved-in_default : goal.loop-description-preserved-in_default
+loop-description-preserved-in_default c =
+    (tt, tt, flocks_of_empty _ _ c.loop-description.yielded (c.in-Some.description, c.in-Some.place) _ c.loop-description.invariant.2 c.in_default.is)
+
+pub returns : goal.returns
+returns c =
+    let gives = c.into_iter-description-iterator.ensures.into_iter_gives in
+    let whole = (iter_end deref_pair c.args.self.now.flocks.entries c.loop-description.yielded _ _ _ _ gives.0 c.loop-description.yielded_by c.in-None.is c.next.ensures.steps).0 in
+    all_flock_locks c.args.self.now _ c.loop-description.yielded _ whole c.loop-description.invariant.2

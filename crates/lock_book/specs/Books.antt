@@ -1,0 +1,104 @@
+-- What a `Book` stands for, and what its calls change (the words are this project's choice).
+use Rattle.std.specs.Prelude.{◌≡◌, ◌≢◌, ℕ, ◌==◌, ◌&&◌, ◌||◌, if◌then◌else◌, Bool, false, Option, Some, None, is_some, IsTrue}
+use Rattle.std.specs.Map.{lookup}
+use Rattle.range_core.specs.declared.Mode.{Mode}
+use Rattle.range_core.specs.declared.Span.{Span}
+use Rattle.range_core.specs.declared.list.RangeList.{RangeList}
+use Rattle.range_core.specs.Ranges.{Modes}
+use Rattle.range_core.specs.Changes.{modes_of, room_of, is_covered}
+use Rattle.lock_book.specs.declared.Owner.{Owner}
+use Rattle.lock_book.specs.declared.book.Book.{Book}
+use Rattle.lock_book.specs.Owners.{is_same_owner}
+use Rattle.lock_book.specs.Conflicts.{ByteModes, FlockModes}
+
+-- the list of modes that a book keeps for the owner
+unfoldable pub list_of : Book → Owner → Option RangeList
+list_of book owner = lookup (is_same_owner owner) book.owners.entries
+
+-- the modes of an owner's list, and none on any byte without one
+abbrev pub modes_in_list : Option RangeList → Modes
+modes_in_list None = λ byte. None
+modes_in_list (Some list) = modes_of list
+
+-- the room of an owner's list, and none without one
+abbrev pub room_in_list : Option RangeList → ℕ
+room_in_list None = 0
+room_in_list (Some list) = room_of list
+
+-- the byte locks that a book stands for
+unfoldable pub byte_modes_of : Book → ByteModes
+byte_modes_of book owner = modes_in_list (list_of book owner)
+
+-- for how many further sets of the owner a book holds room
+unfoldable pub room_in : Book → Owner → ℕ
+room_in book owner = room_in_list (list_of book owner)
+
+-- the place that a book keeps for the flock lock of the description, with the mode that stands there
+unfoldable pub place_of : Book → ℕ → Option (Option Mode)
+place_of book description = lookup (λ other. description == other) book.flocks.entries
+
+-- the mode that stands in a place, and none without one
+abbrev pub mode_in_place : Option (Option Mode) → Option Mode
+mode_in_place None = None
+mode_in_place (Some mode) = mode
+
+-- the flock locks that a book stands for
+unfoldable pub flock_modes_of : Book → FlockModes
+flock_modes_of book description = mode_in_place (place_of book description)
+
+-- whether a book keeps a place for the flock lock of the description
+unfoldable pub has_flock_place : Book → ℕ → Bool
+has_flock_place book description = is_some (place_of book description)
+
+-- the two books stand for the same locks, with the same room for each owner and the same places
+pub record SameBook (old new : Book) : Type 0 where
+  pub bytes : (owner : Owner) (byte : ℕ) → byte_modes_of new owner byte ≡ byte_modes_of old owner byte
+  pub rooms : (owner : Owner) → room_in new owner ≡ room_in old owner
+  pub flocks : (description : ℕ) → flock_modes_of new description ≡ flock_modes_of old description
+  pub places : (description : ℕ) → has_flock_place new description ≡ has_flock_place old description
+
+-- all but the owner's room stays
+pub record SameButRoom (old new : Book) (owner : Owner) : Type 0 where
+  pub bytes : (other : Owner) (byte : ℕ) → byte_modes_of new other byte ≡ byte_modes_of old other byte
+  pub rooms : (other : Owner) → other ≢ owner → room_in new other ≡ room_in old other
+  pub flocks : (description : ℕ) → flock_modes_of new description ≡ flock_modes_of old description
+  pub places : (description : ℕ) → has_flock_place new description ≡ has_flock_place old description
+
+-- the owner has this mode on just the range, and all else but the owner's room stays
+-- (POSIX.1-2017 fcntl, DESCRIPTION, F_SETLK)
+pub record SetsOwnerMode (old new : Book) (owner : Owner) (span : Span) (mode : Option Mode) : Type 0 where
+  pub bytes : (other : Owner) (byte : ℕ) → byte_modes_of new other byte
+      ≡ (if is_same_owner owner other && is_covered span byte then mode else byte_modes_of old other byte)
+  pub rooms : (other : Owner) → other ≢ owner → room_in new other ≡ room_in old other
+  pub flocks : (description : ℕ) → flock_modes_of new description ≡ flock_modes_of old description
+  pub places : (description : ℕ) → has_flock_place new description ≡ has_flock_place old description
+
+-- the owner has no mode on any byte and no room, and all else stays (POSIX.1-2017 close; fcntl_locking(2))
+pub record ReleasesOwner (old new : Book) (owner : Owner) : Type 0 where
+  pub bytes : (other : Owner) (byte : ℕ) → byte_modes_of new other byte
+      ≡ (if is_same_owner owner other then None else byte_modes_of old other byte)
+  pub rooms : (other : Owner) → room_in new other ≡ (if is_same_owner owner other then 0 else room_in old other)
+  pub flocks : (description : ℕ) → flock_modes_of new description ≡ flock_modes_of old description
+  pub places : (description : ℕ) → has_flock_place new description ≡ has_flock_place old description
+
+-- the description has this flock mode and keeps its place, if it had one, and all else stays (flock(2))
+pub record SetsFlock (old new : Book) (description : ℕ) (mode : Option Mode) : Type 0 where
+  pub bytes : (owner : Owner) (byte : ℕ) → byte_modes_of new owner byte ≡ byte_modes_of old owner byte
+  pub rooms : (owner : Owner) → room_in new owner ≡ room_in old owner
+  pub flocks : (other : ℕ) → flock_modes_of new other ≡ (if description == other then mode else flock_modes_of old other)
+  pub places : (other : ℕ) → other ≢ description → has_flock_place new other ≡ has_flock_place old other
+  pub kept : IsTrue (has_flock_place old description) → IsTrue (has_flock_place new description)
+
+-- the description has a place, and all else stays
+pub record ReservesFlock (old new : Book) (description : ℕ) : Type 0 where
+  pub bytes : (owner : Owner) (byte : ℕ) → byte_modes_of new owner byte ≡ byte_modes_of old owner byte
+  pub rooms : (owner : Owner) → room_in new owner ≡ room_in old owner
+  pub flocks : (other : ℕ) → flock_modes_of new other ≡ flock_modes_of old other
+  pub places : (other : ℕ) → has_flock_place new other ≡ (description == other || has_flock_place old other)
+
+-- the description has no flock mode and no place, and all else stays (flock(2))
+pub record ReleasesFlock (old new : Book) (description : ℕ) : Type 0 where
+  pub bytes : (owner : Owner) (byte : ℕ) → byte_modes_of new owner byte ≡ byte_modes_of old owner byte
+  pub rooms : (owner : Owner) → room_in new owner ≡ room_in old owner
+  pub flocks : (other : ℕ) → flock_modes_of new other ≡ (if description == other then None else flock_modes_of old other)
+  pub places : (other : ℕ) → has_flock_place new other ≡ (if description == other then false else has_flock_place old other)

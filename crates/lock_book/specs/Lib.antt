@@ -1,0 +1,5 @@
+pub mod Books
+pub mod Changes
+pub mod Conflicts
+pub mod Owners
+pub mod Reports

@@ -1,0 +1,39 @@
+ghost use Rattle.std.specs.Prelude.{ℕ, ◌≡◌, None, false};
+ghost use Rattle.lock_book.specs.Books.{byte_modes_of, room_in, flock_modes_of, has_flock_place};
+
+mod blocking;
+mod bytes;
+mod flocks;
+mod reports;
+
+use crate::Owner;
+use range_core::{Mode, RangeList};
+use std::alloc::Global;
+use std::collections::BTreeMap;
+
+/// The locks on one file: the byte locks of each owner, traditional and OFD alike, and the flock locks of each
+/// description. The two families never meet (this project's choice, as on Linux: fcntl_locking(2), flock(2)).
+///
+/// It may hold room for further sets of an owner and a place for a description's flock lock, which then can't fail.
+#[derive(Drop)]
+pub struct Book {
+    owners: BTreeMap<Owner, RangeList>,
+    flocks: BTreeMap<u64, Option<Mode>>,
+    alloc: Global,
+}
+
+impl Book {
+    /// No lock, no room and no place. It takes no memory.
+    pub fn new(alloc: Global) -> Book
+        ensures bytes { (owner : Owner) (byte : ℕ) → byte_modes_of result owner byte ≡ None }
+        ensures rooms { (owner : Owner) → room_in result owner ≡ 0 }
+        ensures flocks { (description : ℕ) → flock_modes_of result description ≡ None }
+        ensures places { (description : ℕ) → has_flock_place result description ≡ false }
+    {
+        Book {
+            owners: BTreeMap::new(alloc),
+            flocks: BTreeMap::new(alloc),
+            alloc,
+        }
+    }
+}

@@ -1,0 +1,78 @@
+ghost use Rattle.std.specs.Prelude.{◌≡◌, ◌↔◌, nat_lt, IfSome, IfNone, IsTrue, MatchOption};
+ghost use Rattle.range_core.specs.Ranges.{IsByteRange};
+ghost use Rattle.lock_book.specs.Conflicts.{ByteConflict, IsFirstBlocked, IsFirstBlocker, ProcessBlocks};
+ghost use Rattle.lock_book.specs.Books.{byte_modes_of};
+
+use super::Book;
+use crate::{Blocker, Owner};
+use range_core::{Mode, Span};
+
+impl Book {
+    /// Whether some other owner has a lock on some byte of the span that conflicts with one of this mode (POSIX.1-2017
+    /// fcntl, `F_SETLK`; fcntl_locking(2): traditional and OFD locks conflict with each other). It takes no memory.
+    pub fn blocked(&self, owner: Owner, span: Span, mode: Mode) -> bool
+        requires { IsByteRange span }
+        ensures { IsTrue result ↔ ByteConflict (byte_modes_of self.now) owner span mode }
+    {
+        self.first_blocker(owner, span, mode).is_some()
+    }
+
+    /// Whether a traditional lock of the process, if that isn't the owner, conflicts on some byte of the span
+    /// (POSIX.1-2017 fcntl, `EDEADLK`). It takes no memory.
+    pub fn process_blocks(&self, process: u8, owner: Owner, span: Span, mode: Mode) -> bool
+        requires { IsByteRange span }
+        ensures { IsTrue result ↔ ProcessBlocks (byte_modes_of self.now) process owner span mode }
+    {
+        let other = Owner::Process(process);
+        match self.owners.get(&other) {
+            Some(list) => other != owner && list.first_hit(span, mode).is_some(),
+            None => false,
+        }
+    }
+
+    /// The lock that a get command reports (POSIX.1-2017 fcntl, `F_GETLK`): at the least byte of the span that is
+    /// blocked, of the least owner that blocks there, the largest range round that byte on which this owner has this one
+    /// mode (which one is reported is this project's choice). `None` where nothing blocks. It takes no memory.
+    pub fn first_blocker(&self, owner: Owner, span: Span, mode: Mode) -> Option<Blocker>
+        requires { IsByteRange span }
+        ensures some { IfSome result (IsFirstBlocker (byte_modes_of self.now) owner span mode) }
+        ensures range { IfSome result (λ blocker. IsByteRange blocker.span) }
+        ensures none { IfNone result (¬ ByteConflict (byte_modes_of self.now) owner span mode) }
+    {
+        let (byte, other) = self.first_hit(owner, span, mode)?;
+        let (held, run) = self.owners.get(&other)?.run_at(byte)?;
+        Some(Blocker {
+            owner: other,
+            mode: held,
+            span: run,
+        })
+    }
+
+    /// The least byte of the span that some other owner blocks, and the least owner that blocks there.
+    fn first_hit(&self, owner: Owner, span: Span, mode: Mode) -> Option<(u64, Owner)>
+        requires { IsByteRange span }
+        ensures hit { IfSome result (λ hit. IsFirstBlocked (byte_modes_of self.now) owner span mode hit.0 hit.1) }
+        ensures none { IfNone result (¬ ByteConflict (byte_modes_of self.now) owner span mode) }
+    {
+        let mut first: Option<(u64, Owner)> = None;
+        for (other, list) in &self.owners {
+            if *other == owner {
+                continue;
+            }
+            if let Some(byte) = list.first_hit(span, mode) {
+                // The owners come in order, so the first one at a byte is the least.
+                if is_lower(byte, first) {
+                    first = Some((byte, *other));
+                }
+            }
+        }
+        first
+    }
+}
+
+/// Whether the byte is lower than the one that was found, if one was.
+fn is_lower(byte: u64, found: Option<(u64, Owner)>) -> bool
+    ensures { MatchOption found (IsTrue result) (λ least. result ≡ nat_lt byte least.0) }
+{
+    found.is_none_or(|(least, _)| byte < least)
+}

@@ -1,0 +1,90 @@
+ghost use Rattle.std.specs.Prelude.{◌≡◌, ◌≤◌, ◌+◌, IsOk, OnOk, OnErr};
+ghost use Rattle.range_core.specs.Ranges.{IsByteRange};
+ghost use Rattle.lock_book.specs.Books.{room_in, ReleasesOwner, SameBook, SameButRoom, SetsOwnerMode};
+
+use super::Book;
+use crate::Owner;
+use range_core::{Memory, Mode, RangeList, Span};
+
+impl Book {
+    /// Sets the owner's mode on just the bytes of the span, or removes it where `mode` is `None`; the owner's room stays
+    /// (POSIX.1-2017 fcntl, `F_SETLK`; fcntl_locking(2), `F_OFD_SETLK`). No conflict is looked for.
+    ///
+    /// `Memory` leaves the book as it was.
+    pub fn set(&mut self, owner: Owner, span: Span, mode: Option<Mode>) -> Result<(), Memory>
+        requires { IsByteRange span }
+        ensures ok { OnOk result (SetsOwnerMode self.old self.new owner span mode) }
+        ensures room { OnOk result (room_in self.old owner ≤ room_in self.new owner) }
+        ensures err { OnErr result (SameBook self.old self.new) }
+    {
+        match self.owners.get_mut(&owner) {
+            Some(list) => list.set(span, mode),
+            None => {
+                // Without a list there is nothing to unlock.
+                if mode.is_none() {
+                    return Ok(());
+                }
+                let mut list = RangeList::new(self.alloc);
+                list.set(span, mode)?;
+                self.owners.insert(owner, list).map_err(|_| Memory)?;
+                Ok(())
+            }
+        }
+    }
+
+    /// Holds room for so many further sets of the owner in all, counting the room already there.
+    ///
+    /// `Memory`, which never comes where that room is there, leaves the book as it was.
+    pub fn reserve(&mut self, owner: Owner, sets: usize) -> Result<(), Memory>
+        ensures ok { OnOk result (SameButRoom self.old self.new owner) }
+        ensures kept { OnOk result (room_in self.old owner ≤ room_in self.new owner) }
+        ensures room { OnOk result (sets ≤ room_in self.new owner) }
+        ensures there { sets ≤ room_in self.old owner → IsOk result }
+        ensures err { OnErr result (SameBook self.old self.new) }
+    {
+        match self.owners.get_mut(&owner) {
+            Some(list) => list.reserve(sets),
+            None => {
+                // Room for no set is there without a list.
+                if sets == 0 {
+                    return Ok(());
+                }
+                let mut list = RangeList::new(self.alloc);
+                list.reserve(sets)?;
+                self.owners.insert(owner, list).map_err(|_| Memory)?;
+                Ok(())
+            }
+        }
+    }
+
+    /// For how many further sets of the owner there is room. It takes no memory.
+    pub fn room(&self, owner: Owner) -> usize
+        ensures { result ≡ room_in self.now owner }
+    {
+        match self.owners.get(&owner) {
+            Some(list) => list.room(),
+            None => 0,
+        }
+    }
+
+    /// Sets the mode as [`Book::set`] does, in room that was held: it takes no memory and uses at most one place of the
+    /// owner's room up.
+    pub fn set_reserved(&mut self, owner: Owner, span: Span, mode: Option<Mode>)
+        requires span { IsByteRange span }
+        requires room { 1 ≤ room_in self.old owner }
+        ensures sets { SetsOwnerMode self.old self.new owner span mode }
+        ensures room { room_in self.old owner ≤ room_in self.new owner + 1 }
+    {
+        let list = self.owners.get_mut(&owner).unwrap();
+        list.set_reserved(span, mode);
+    }
+
+    /// Removes all byte locks of the owner, and its room (POSIX.1-2017 close: the process' locks on the file go). It takes
+    /// no memory.
+    #[tactic(auto, using(crate::proofs::BookLemmas::owner_released))]
+    pub fn release_owner(&mut self, owner: Owner)
+        ensures { ReleasesOwner self.old self.new owner }
+    {
+        self.owners.remove(&owner);
+    }
+}

@@ -1,0 +1,95 @@
+ghost use Rattle.std.specs.Prelude.{◌≡◌, ◌↔◌, IsTrue, IsSome, IsOk, OnOk, OnErr, None, Some};
+ghost use Rattle.range_core.specs.Ranges.{HeldConflicts};
+ghost use Rattle.lock_book.specs.Conflicts.{FlockConflict};
+ghost use Rattle.lock_book.specs.Books.{flock_modes_of, has_flock_place, ReleasesFlock, ReservesFlock, SameBook, SetsFlock};
+
+use super::Book;
+use crate::Owner;
+use range_core::{Memory, Mode};
+
+impl Book {
+    /// The mode of the flock lock that the description holds: `LOCK_SH` is `Read` and `LOCK_EX` is `Write` (flock(2)). A
+    /// lock stands in a place that is kept for it. It takes no memory.
+    pub fn flock_mode(&self, description: u64) -> Option<Mode>
+        ensures mode { result ≡ flock_modes_of self.now description }
+        ensures place { IsSome result → IsTrue (has_flock_place self.now description) }
+    {
+        *self.flocks.get(&description)?
+    }
+
+    /// Whether another description's flock lock conflicts with one of this mode (flock(2)). It takes no memory.
+    pub fn flock_blocked(&self, description: u64, mode: Mode) -> bool
+        ensures { IsTrue result ↔ FlockConflict (flock_modes_of self.now) (Owner.Description description) mode }
+    {
+        for (other, held) in &self.flocks {
+            if *other != description && held_conflicts(*held, mode) {
+                return true;
+            }
+        }
+        false
+    }
+
+    /// Sets the flock mode of the description, or removes it where `mode` is `None`; a place that is kept for it stays
+    /// (flock(2)). No conflict is looked for.
+    ///
+    /// `Memory`, which comes neither where a place is kept nor for a removal, leaves the book as it was.
+    pub fn flock_set(&mut self, description: u64, mode: Option<Mode>) -> Result<(), Memory>
+        ensures ok { OnOk result (SetsFlock self.old self.new description mode) }
+        ensures there { IsTrue (has_flock_place self.old description) → IsOk result }
+        ensures removal { mode ≡ None → IsOk result }
+        ensures err { OnErr result (SameBook self.old self.new) }
+    {
+        if mode.is_some() || self.flock_room(description) {
+            self.flocks.insert(description, mode).map_err(|_| Memory)?;
+        }
+        Ok(())
+    }
+
+    /// Keeps a place for the flock lock of the description, until [`Book::release_flock`] of it.
+    ///
+    /// `Memory`, which never comes where that place is kept already, leaves the book as it was.
+    pub fn flock_reserve(&mut self, description: u64) -> Result<(), Memory>
+        ensures ok { OnOk result (ReservesFlock self.old self.new description) }
+        ensures there { IsTrue (has_flock_place self.old description) → IsOk result }
+        ensures err { OnErr result (SameBook self.old self.new) }
+    {
+        if !self.flock_room(description) {
+            self.flocks.insert(description, None).map_err(|_| Memory)?;
+        }
+        Ok(())
+    }
+
+    /// Whether a place is kept for the flock lock of the description. It takes no memory.
+    pub fn flock_room(&self, description: u64) -> bool
+        ensures { result ≡ has_flock_place self.now description }
+    {
+        self.flocks.contains_key(&description)
+    }
+
+    /// Sets the flock mode as [`Book::flock_set`] does, in the place that is kept: it takes no memory.
+    pub fn flock_set_reserved(&mut self, description: u64, mode: Option<Mode>)
+        requires { IsTrue (has_flock_place self.old description) }
+        ensures { SetsFlock self.old self.new description mode }
+    {
+        self.flock_set(description, mode).unwrap();
+    }
+
+    /// Removes the flock lock of the description, and the place kept for it (flock(2): its last close). It takes no
+    /// memory.
+    #[tactic(auto, using(crate::proofs::BookLemmas::flock_released))]
+    pub fn release_flock(&mut self, description: u64)
+        ensures { ReleasesFlock self.old self.new description }
+    {
+        self.flocks.remove(&description);
+    }
+}
+
+/// Whether what is held, if anything, conflicts with a lock of the wanted mode of another description.
+fn held_conflicts(held: Option<Mode>, wanted: Mode) -> bool
+    ensures { IsTrue result ↔ HeldConflicts held wanted }
+{
+    match held {
+        Some(held) => held.conflicts_with(wanted),
+        None => false,
+    }
+}
