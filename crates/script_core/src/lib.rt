@@ -3,6 +3,7 @@
 
 mod arguments;
 mod line;
+mod numbers;
 mod script;
 mod text;
 mod words;

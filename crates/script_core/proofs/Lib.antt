@@ -1,0 +1,4 @@
+pub mod NumberLemmas
+pub mod LineLemmas
+pub mod ScriptLemmas
+pub mod ArgumentLemmas
