@@ -1,4 +1,5 @@
 pub mod NumberLemmas
 pub mod LineLemmas
+pub mod TextLemmas
 pub mod ScriptLemmas
 pub mod ArgumentLemmas

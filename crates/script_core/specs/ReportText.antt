@@ -28,8 +28,11 @@ abbrev pub state_word : ProcState → List ℕ
 state_word Unborn = codes "unborn"
 state_word Live = codes "live"
 
--- a process, with how many requests it sent, how many were taken and how many answered
+-- how many requests a process sent, how many were taken and how many answered
+abbrev pub counts_text : ProcessLine → List ℕ
+counts_text line =
+    codes "sent " ++ decimal line.sent ++ codes " taken " ++ decimal line.taken ++ codes " answered " ++ decimal line.answered
+
+-- a process, with its counts
 abbrev pub process_line : ProcessLine → List ℕ
-process_line line =
-    codes "proc " ++ decimal line.p ++ codes " sent " ++ decimal line.sent ++ codes " taken " ++ decimal line.taken
-    ++ codes " answered " ++ decimal line.answered ++ codes " " ++ state_word line.state ++ 10 ∷ []
+process_line line = codes "proc " ++ decimal line.p ++ codes " " ++ counts_text line ++ codes " " ++ state_word line.state ++ 10 ∷ []

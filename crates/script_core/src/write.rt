@@ -1,10 +1,17 @@
+ghost use Rattle.std.specs.Prelude.{◌≡◌, ◌++◌, OnOk, OnErr};
+ghost use Rattle.script_core.specs.EntryText.{entry_line};
+ghost use Rattle.script_core.specs.Output.{AppendsPartOf};
+
 use crate::text::{ProcessLine, push_entry, push_held, push_process};
 use lock_manager::ProcState;
 use range_core::Memory;
 use session_core::{Entry, Session};
 
 /// Appends the line of an entry. After `Memory` the vector has its old bytes and a front of the text.
-pub fn write_entry(entry: &Entry, out: &mut Vec<u8>) -> Result<(), Memory> {
+pub fn write_entry(entry: &Entry, out: &mut Vec<u8>) -> Result<(), Memory>
+    ensures ok { OnOk result (out.new.items ≡ out.old.items ++ entry_line entry.now) }
+    ensures err { OnErr result (AppendsPartOf out.old.items out.new.items (entry_line entry.now)) }
+{
     let mut text = String::new(*out.allocator());
     push_entry(&mut text, entry).map_err(|_| Memory)?;
     out.extend_from_slice(text.as_bytes()).map_err(|_| Memory)
