@@ -1,5 +1,5 @@
 -- How a script is read: line by line, up to the first fault (this project's choice).
-use Rattle.std.specs.Prelude.{◌≡◌, ℕ, ◌+◌, ◌==◌, ◌⊎◌, Bool, false, nat_lt, MatchBool, MatchOption, MatchResult, Option, None, Some, Result, Ok, Err, List, [], ◌∷◌, ◌++◌, length, decimal}
+use Rattle.std.specs.Prelude.{◌≡◌, ℕ, ◌+◌, ◌==◌, ◌⊎◌, Bool, false, nat_lt, MatchBool, MatchOption, MatchResult, Option, None, Some, Result, Ok, Err, List, [], ◌∷◌, ◌++◌, length, codes, decimal}
 use Rattle.lock_manager.specs.declared.request.Limits.{Limits}
 use Rattle.lock_manager.specs.declared.request.Limits.TheVariants.{Small}
 use Rattle.lock_manager.specs.declared.request.Request.{Request}
@@ -7,6 +7,7 @@ use Rattle.script_core.specs.declared.TheConstants.{LINE_MAX, SCRIPT_MAX}
 use Rattle.script_core.specs.declared.script.Cause.{Cause}
 use Rattle.script_core.specs.declared.script.Cause.TheVariants.{Byte, Word, Count, Process, TooLong}
 use Rattle.script_core.specs.declared.script.ScriptFault.{ScriptFault}
+use Rattle.script_core.specs.RequestText.{request_text}
 use Rattle.script_core.specs.Words.{lines_of, words_of, is_printable}
 use Rattle.script_core.specs.Arguments.{ProcessNumber, Spells, IsFirstBad, Command, command_named, has_count}
 use Rattle.script_core.specs.ScriptText.{Meaning, IsProcess, IsRequest}
@@ -96,3 +97,12 @@ abbrev pub Reads : List ℕ → Result Meaning ScriptFault → Type 0
 Reads bytes result =
     MatchBool (nat_lt SCRIPT_MAX (length bytes)) (result ≡ Err (record { line = 0; cause = TooLong }))
     (LinesGive 1 start (lines_of bytes) result)
+
+-- the bytes have one reading at most
+abbrev pub HasOneReading : List ℕ → Type 0
+HasOneReading bytes = (a b : Result Meaning ScriptFault) → Reads bytes a → Reads bytes b → a ≡ b
+
+-- the text of the request, behind its process and a space, is a line that is read as this arrival
+abbrev pub IsReadBack : ℕ → Request → Type 0
+IsReadBack p request =
+    (reading : Reading) → LineGives reading (decimal p ++ codes " " ++ request_text request) (Ok (reading_after reading (Some (p, request))))

@@ -1,6 +1,6 @@
 ghost use Rattle.std.specs.Prelude.{◌≡◌, ◌≢◌, ◌⊎◌, ◌==◌, ℕ, List, [], ◌∷◌, ◌++◌, Ok, Err, IfOk, IfErr, OnOk};
 ghost use Rattle.std.specs.List.{slice_split};
-ghost use Rattle.script_core.specs.Reading.{Reads, LinesGive, LineGives, start, reading_of};
+ghost use Rattle.script_core.specs.Reading.{Reads, HasOneReading, LinesGive, LineGives, start, reading_of};
 
 use crate::SCRIPT_MAX;
 use crate::line::read_line;
@@ -65,9 +65,13 @@ impl Model for Script {
 /// Lines end with a line feed, and bytes after the last one are a line too. A script of more than [`SCRIPT_MAX`] bytes is
 /// too long as a whole, whatever its lines are; a line may have [`crate::LINE_MAX`] bytes. [`Cause::Memory`] may come in
 /// place of any other answer, and only where a growth was refused.
+#[tactic(auto, using(crate::proofs::ReadingLemmas::one_reading))]
 pub fn parse(alloc: Global, bytes: &[u8]) -> Result<Script, ScriptFault>
     ensures accepted { IfOk result (λ script. Reads bytes.now (Ok script)) }
     ensures refused { IfErr result (λ fault. fault.cause ≢ Cause.Memory → Reads bytes.now (Err fault)) }
+
+    // The bytes have no other reading.
+    ensures determined { HasOneReading bytes.now }
 {
     if bytes.len() > SCRIPT_MAX {
         return Err(ScriptFault {

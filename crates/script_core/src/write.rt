@@ -1,4 +1,7 @@
 ghost use Rattle.std.specs.Prelude.{◌≡◌, ◌++◌, OnOk, OnErr};
+ghost use Rattle.lock_manager.specs.declared.request.Limits.TheVariants.{Small};
+ghost use Rattle.script_core.specs.ScriptText.{IsProcess, IsWritable};
+ghost use Rattle.script_core.specs.Reading.{IsReadBack};
 ghost use Rattle.script_core.specs.EntryText.{entry_line};
 ghost use Rattle.script_core.specs.Output.{AppendsPartOf};
 
@@ -8,9 +11,13 @@ use range_core::Memory;
 use session_core::{Entry, Session};
 
 /// Appends the line of an entry. After `Memory` the vector has its old bytes and a front of the text.
+#[tactic(auto, using(crate::proofs::RoundTripLemmas::reads_back))]
 pub fn write_entry(entry: &Entry, out: &mut Vec<u8>) -> Result<(), Memory>
     ensures ok { OnOk result (out.new.items ≡ out.old.items ++ entry_line entry.now) }
     ensures err { OnErr result (AppendsPartOf out.old.items out.new.items (entry_line entry.now)) }
+
+    // What is written of a request is what a script writes: behind its process it is a line that is read as this arrival.
+    ensures read_back { IsProcess Small entry.now.p → IsWritable Small entry.now.request → IsReadBack entry.now.p entry.now.request }
 {
     let mut text = String::new(*out.allocator());
     push_entry(&mut text, entry).map_err(|_| Memory)?;
