@@ -5,6 +5,8 @@ mod arguments;
 mod line;
 mod numbers;
 mod script;
+#[cfg(test)]
+mod tests;
 mod text;
 mod words;
 mod write;

@@ -1,4 +1,4 @@
-ghost use Rattle.std.specs.Prelude.{◌≡◌, ◌++◌, OnOk, OnErr};
+ghost use Rattle.std.specs.Prelude.{◌≡◌, ℕ, List, ◌++◌, OnOk, OnErr};
 ghost use Rattle.lock_manager.specs.declared.request.Limits.TheVariants.{Small};
 ghost use Rattle.script_core.specs.ScriptText.{IsProcess, IsWritable};
 ghost use Rattle.script_core.specs.Reading.{IsReadBack};
@@ -27,7 +27,9 @@ pub fn write_entry(entry: &Entry, out: &mut Vec<u8>) -> Result<(), Memory>
 /// Appends the report of a session: the locks that are held, and then each process that was ever alive or has sent
 /// something, with the count in `sent` of what it sent. After `Memory` the vector has its old bytes and a front of the
 /// text.
-pub fn write_report(session: &Session, sent: &[u64], out: &mut Vec<u8>) -> Result<(), Memory> {
+pub fn write_report(session: &Session, sent: &[u64], out: &mut Vec<u8>) -> Result<(), Memory>
+    ensures { (text : List ℕ) × (out.new.items ≡ out.old.items ++ text) }
+{
     let mut text = String::new(*out.allocator());
     for held in &session.manager().held()? {
         push_held(&mut text, held).map_err(|_| Memory)?;
