@@ -1,59 +1,62 @@
+ghost use Rattle.std.specs.Prelude.{◌≡◌, ◌<◌, ◌^◌, MatchResult, decimal};
+ghost use Rattle.std.specs.Fmt.{signed_decimal};
+ghost use Rattle.lock_manager.specs.declared.request.Limits.TheVariants.{Small};
+ghost use Rattle.script_core.specs.Arguments.{FileNumber, DescriptorNumber, AnyNumber, ProcessNumber, AccessWord, KindWord, WhenceWord, IsBad};
+ghost use Rattle.script_core.specs.RequestText.{access_word, kind_word, whence_word};
+ghost use Rattle.script_core.specs.ScriptText.{IsDescriptor, IsProcess};
+
 use crate::Cause;
+use crate::numbers::{integer_of, natural_of};
 use lock_manager::{Access, FILES};
 use range_core::{Kind, Whence};
-use std::alloc::Global;
 
 /// The number of processes.
 const PROCESSES: u64 = 16;
 
 /// The number of a process.
-pub fn read_process(alloc: Global, word: &str) -> Result<u8, Cause> {
-    match read_natural(alloc, word)? {
+#[tactic(auto, using(crate::proofs::NumberLemmas::one_number))]
+pub fn read_process(word: &str) -> Result<u8, Cause>
+    ensures { MatchResult result (λ p. IsProcess Small p × (word.now ≡ decimal p)) (IsBad Small ProcessNumber word.now) }
+{
+    match natural_of(word) {
         Some(p) if 1 <= p && p <= PROCESSES => Ok(p as u8),
         _ => Err(Cause::Process),
     }
 }
 
 /// The number of a file.
-pub fn read_file(alloc: Global, word: &str) -> Result<u8, Cause> {
-    match read_natural(alloc, word)? {
+#[tactic(auto, using(crate::proofs::NumberLemmas::one_number))]
+pub fn read_file(word: &str) -> Result<u8, Cause>
+    ensures { MatchResult result (λ file. (file < FILES) × (word.now ≡ decimal file)) (IsBad Small FileNumber word.now) }
+{
+    match natural_of(word) {
         Some(file) if file < u64::from(FILES) => Ok(file as u8),
         _ => Err(Cause::Number),
     }
 }
 
 /// The number of a descriptor: any of 32 bits, since the manager is to judge it.
-pub fn read_descriptor(alloc: Global, word: &str) -> Result<u32, Cause> {
-    match read_natural(alloc, word)? {
+#[tactic(auto, using(crate::proofs::NumberLemmas::one_number))]
+pub fn read_descriptor(word: &str) -> Result<u32, Cause>
+    ensures { MatchResult result (λ fd. word.now ≡ decimal fd) (IsBad Small DescriptorNumber word.now) }
+{
+    match natural_of(word) {
         Some(fd) if fd <= u64::from(u32::MAX) => Ok(fd as u32),
         _ => Err(Cause::Number),
     }
 }
 
 /// A number of 64 bits, with a minus sign where it is negative.
-pub fn read_number(alloc: Global, word: &str) -> Result<i64, Cause> {
-    let Ok(number) = word.parse::<i64>() else {
-        return Err(Cause::Number);
-    };
-    let spelling = number.to_string(alloc).map_err(|_| Cause::Memory)?;
-    if spelling.as_str() == word {
-        Ok(number)
-    } else {
-        Err(Cause::Number)
-    }
-}
-
-/// The number that the word is the one spelling of: without a sign, and without leading zeros.
-fn read_natural(alloc: Global, word: &str) -> Result<Option<u64>, Cause> {
-    let Ok(number) = word.parse::<u64>() else {
-        return Ok(None);
-    };
-    let spelling = number.to_string(alloc).map_err(|_| Cause::Memory)?;
-    Ok(Some(number).filter(|_| spelling.as_str() == word))
+pub fn read_number(word: &str) -> Result<i64, Cause>
+    ensures { MatchResult result (λ z. word.now ≡ signed_decimal z) (IsBad Small AnyNumber word.now) }
+{
+    integer_of(word).ok_or(Cause::Number)
 }
 
 /// An access mode.
-pub fn read_access(word: &str) -> Result<Access, Cause> {
+pub fn read_access(word: &str) -> Result<Access, Cause>
+    ensures { MatchResult result (λ access. word.now ≡ access_word access) (IsBad Small AccessWord word.now) }
+{
     match word {
         "r" => Ok(Access::R),
         "w" => Ok(Access::W),
@@ -63,7 +66,9 @@ pub fn read_access(word: &str) -> Result<Access, Cause> {
 }
 
 /// What a lock description asks for.
-pub fn read_kind(word: &str) -> Result<Kind, Cause> {
+pub fn read_kind(word: &str) -> Result<Kind, Cause>
+    ensures { MatchResult result (λ kind. word.now ≡ kind_word kind) (IsBad Small KindWord word.now) }
+{
     match word {
         "r" => Ok(Kind::Read),
         "w" => Ok(Kind::Write),
@@ -73,7 +78,9 @@ pub fn read_kind(word: &str) -> Result<Kind, Cause> {
 }
 
 /// What the start of a range is counted from.
-pub fn read_whence(word: &str) -> Result<Whence, Cause> {
+pub fn read_whence(word: &str) -> Result<Whence, Cause>
+    ensures { MatchResult result (λ whence. word.now ≡ whence_word whence) (IsBad Small WhenceWord word.now) }
+{
     match word {
         "set" => Ok(Whence::Set),
         "cur" => Ok(Whence::Cur),

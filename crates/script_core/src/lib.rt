@@ -3,7 +3,10 @@
 
 mod arguments;
 mod line;
+mod numbers;
 mod script;
+#[cfg(test)]
+mod tests;
 mod text;
 mod words;
 mod write;

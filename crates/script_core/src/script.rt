@@ -1,7 +1,12 @@
+ghost use Rattle.std.specs.Prelude.{◌≡◌, ◌≢◌, ◌⊎◌, ◌==◌, ℕ, List, [], ◌∷◌, ◌++◌, Ok, Err, IfOk, IfErr, OnOk};
+ghost use Rattle.std.specs.List.{slice_split};
+ghost use Rattle.script_core.specs.Reading.{Reads, HasOneReading, LinesGive, LineGives, start, reading_of};
+
 use crate::SCRIPT_MAX;
 use crate::line::read_line;
 use lock_manager::Request;
 use std::alloc::Global;
+use std::marker::Model;
 use thiserror::Error;
 
 /// What is wrong with a line (this project's choice). The messages are the names of the faults.
@@ -47,31 +52,70 @@ pub struct Script {
     pub arrivals: Vec<(u8, Request)>,
 }
 
+impl Model for Script {
+    ghost use Rattle.script_core.specs.ScriptText.{Meaning};
+
+    ghost Value = { Meaning };
+
+    ghost view = { λ script. record { arrivals = script.arrivals.items } };
+}
+
 /// The meaning of a script of bytes, or its first faulty line and what is wrong with it.
 ///
 /// Lines end with a line feed, and bytes after the last one are a line too. A script of more than [`SCRIPT_MAX`] bytes is
-/// too long as a whole, whatever its lines are; a line may have [`crate::LINE_MAX`] bytes.
-pub fn parse(alloc: Global, bytes: &[u8]) -> Result<Script, ScriptFault> {
+/// too long as a whole, whatever its lines are; a line may have [`crate::LINE_MAX`] bytes. [`Cause::Memory`] may come in
+/// place of any other answer, and only where a growth was refused.
+#[tactic(auto, using(crate::proofs::ReadingLemmas::one_reading))]
+pub fn parse(alloc: Global, bytes: &[u8]) -> Result<Script, ScriptFault>
+    ensures accepted { IfOk result (λ script. Reads bytes.now (Ok script)) }
+    ensures refused { IfErr result (λ fault. fault.cause ≢ Cause.Memory → Reads bytes.now (Err fault)) }
+
+    // The bytes have no other reading.
+    ensures determined { HasOneReading bytes.now }
+{
     if bytes.len() > SCRIPT_MAX {
         return Err(ScriptFault {
             line: 0,
             cause: Cause::TooLong,
         });
     }
+    read_lines(alloc, without_last_feed(bytes))
+}
+
+/// Reads the lines that stand before, between and behind the line feeds.
+fn read_lines(alloc: Global, bytes: &[u8]) -> Result<Script, ScriptFault>
+    ensures accepted { IfOk result (λ script. LinesGive 1 start (slice_split (λ byte. byte == 10) bytes.now) (Ok script)) }
+    ensures refused { IfErr result (λ fault. fault.cause ≢ Cause.Memory → LinesGive 1 start (slice_split (λ byte. byte == 10) bytes.now) (Err fault)) }
+{
     let mut arrivals = Vec::new(alloc);
-    let body = match bytes {
-        [] => return Ok(Script { arrivals }),
-        [body @ .., b'\n'] => body,
-        body => body,
-    };
-    for (index, line) in body.split(|byte| *byte == b'\n').enumerate() {
-        let fault = |cause| ScriptFault {
-            line: index as u64 + 1,
-            cause,
-        };
-        if let Some(arrival) = read_line(alloc, line).map_err(fault)? {
-            arrivals.push(arrival).map_err(|_| fault(Cause::Memory))?;
+    for (index, line) in bytes.split(|byte| *byte == b'\n').enumerate() {
+        if let Err(cause) = append_line(&mut arrivals, line) {
+            let line = index as u64 + 1;
+            return Err(ScriptFault { line, cause });
         }
     }
     Ok(Script { arrivals })
+}
+
+/// Appends the arrival of a line, where the line is one.
+fn append_line(arrivals: &mut Vec<(u8, Request)>, line: &[u8]) -> Result<(), Cause>
+    ensures read { OnOk result (LineGives (reading_of arrivals.old.items) line.now (Ok (reading_of arrivals.new.items))) }
+    ensures refused { IfErr result (λ cause. cause ≢ Cause.Memory → LineGives (reading_of arrivals.old.items) line.now (Err cause)) }
+{
+    let found = read_line(*arrivals.allocator(), line)?;
+    match found {
+        Some(arrival) => arrivals.push(arrival).map_err(|_| Cause::Memory),
+        None => Ok(()),
+    }
+}
+
+/// The bytes without the line feed that ends them, where one does.
+fn without_last_feed(bytes: &[u8]) -> &[u8]
+    ensures { (bytes.now ≡ result.now ++ 10 ∷ [])
+        ⊎ ((result.now ≡ bytes.now) × ((front : List ℕ) → bytes.now ≢ front ++ 10 ∷ [])) }
+{
+    match bytes {
+        [body @ .., b'\n'] => body,
+        body => body,
+    }
 }

@@ -1,3 +1,12 @@
+ghost use Rattle.std.specs.Prelude.{◌≡◌, ◌∷◌, ◌++◌, OnOk, string_bytes, flat_map};
+ghost use Rattle.std.specs.List.{join_with_byte};
+ghost use Rattle.script_core.specs.RequestText.{request_text, lock_words, pid_words};
+ghost use Rattle.script_core.specs.RequestText as spec;
+ghost use Rattle.script_core.specs.EntryText.{entry_line, note_text, reply_text};
+ghost use Rattle.script_core.specs.EntryText as entry_spec;
+ghost use Rattle.script_core.specs.ReportText.{held_line, owner_text, counts_text, process_line};
+ghost use Rattle.script_core.specs.ReportText as report_spec;
+
 use lock_manager::{Access, Errno, Held, LkCmd, Lock, Note, Owner, ProcState, Reply, Request};
 use range_core::{Kind, Mode, Whence};
 use session_core::Entry;
@@ -5,7 +14,9 @@ use std::alloc::AllocError;
 use std::fmt::Write;
 
 /// Appends the line of an entry: the request with its process and number, and then each note.
-pub fn push_entry(text: &mut String, entry: &Entry) -> Result<(), AllocError> {
+pub fn push_entry(text: &mut String, entry: &Entry) -> Result<(), AllocError>
+    ensures { OnOk result (string_bytes text.new ≡ string_bytes text.old ++ entry_line entry.now) }
+{
     let (p, n) = (entry.p, entry.n);
     write!(text, "{p}#{n} ")?;
     push_request(text, &entry.request)?;
@@ -16,7 +27,9 @@ pub fn push_entry(text: &mut String, entry: &Entry) -> Result<(), AllocError> {
 }
 
 /// Appends the line of a lock that is held: file, owner, mode, first and last byte.
-pub fn push_held(text: &mut String, held: &Held) -> Result<(), AllocError> {
+pub fn push_held(text: &mut String, held: &Held) -> Result<(), AllocError>
+    ensures { OnOk result (string_bytes text.new ≡ string_bytes text.old ++ held_line held.now) }
+{
     let file = held.file;
     write!(text, "lock {file} ")?;
     push_owner(text, held.owner)?;
@@ -40,16 +53,26 @@ pub struct ProcessLine {
 }
 
 /// Appends the line of a process.
-pub fn push_process(text: &mut String, line: &ProcessLine) -> Result<(), AllocError> {
-    let (p, sent, taken, answered) = (line.p, line.sent, line.taken, line.answered);
+pub fn push_process(text: &mut String, line: &ProcessLine) -> Result<(), AllocError>
+    ensures { OnOk result (string_bytes text.new ≡ string_bytes text.old ++ process_line line.now) }
+{
+    let p = line.p;
+    write!(text, "proc {p} ")?;
+    push_counts(text, line)?;
     let state = state_word(line.state);
-    writeln!(
-        text,
-        "proc {p} sent {sent} taken {taken} answered {answered} {state}"
-    )
+    writeln!(text, " {state}")
 }
 
-fn push_request(text: &mut String, request: &Request) -> Result<(), AllocError> {
+fn push_counts(text: &mut String, line: &ProcessLine) -> Result<(), AllocError>
+    ensures { OnOk result (string_bytes text.new ≡ string_bytes text.old ++ counts_text line.now) }
+{
+    let (sent, taken, answered) = (line.sent, line.taken, line.answered);
+    write!(text, "sent {sent} taken {taken} answered {answered}")
+}
+
+fn push_request(text: &mut String, request: &Request) -> Result<(), AllocError>
+    ensures { OnOk result (string_bytes text.new ≡ string_bytes text.old ++ request_text request.now) }
+{
     match request {
         Request::OpenFile { file, access } => {
             let access = access_word(*access);
@@ -57,24 +80,35 @@ fn push_request(text: &mut String, request: &Request) -> Result<(), AllocError> 
         }
         Request::Lk { fd, cmd, lock } => {
             let name = command_word(*cmd);
-            write!(text, "{name} {fd} ")?;
-            push_lock(text, lock)
+            write!(text, "{name} ")?;
+            push_lock(text, *fd, lock)
         }
     }
 }
 
-/// The pid is written only where it isn't 0.
-fn push_lock(text: &mut String, lock: &Lock) -> Result<(), AllocError> {
+/// The words of a lock command behind its name.
+fn push_lock(text: &mut String, fd: u32, lock: &Lock) -> Result<(), AllocError>
+    ensures { OnOk result (string_bytes text.new ≡ string_bytes text.old ++ join_with_byte 32 (lock_words fd lock.now ++ pid_words lock.now.pid)) }
+{
     let (kind, whence) = (kind_word(lock.kind), whence_word(lock.whence));
-    let (start, len, pid) = (lock.start, lock.len, lock.pid);
-    write!(text, "{kind} {whence} {start} {len}")?;
-    if pid != 0 {
-        write!(text, " {pid}")?;
-    }
-    Ok(())
+    let (start, len) = (lock.start, lock.len);
+    write!(text, "{fd} {kind} {whence} {start} {len}")?;
+    push_pid(text, lock.pid)
 }
 
-fn push_note(text: &mut String, note: &Note) -> Result<(), AllocError> {
+/// The pid is written only where it isn't 0.
+fn push_pid(text: &mut String, pid: i64) -> Result<(), AllocError>
+    ensures { OnOk result (string_bytes text.new ≡ string_bytes text.old ++ flat_map (λ word. 32 ∷ word) (pid_words pid)) }
+{
+    if pid == 0 {
+        return Ok(());
+    }
+    write!(text, " {pid}")
+}
+
+fn push_note(text: &mut String, note: &Note) -> Result<(), AllocError>
+    ensures { OnOk result (string_bytes text.new ≡ string_bytes text.old ++ note_text note.now) }
+{
     match note {
         Note::Answer { p, n, reply } => {
             write!(text, " | {p}#{n} ")?;
@@ -83,7 +117,9 @@ fn push_note(text: &mut String, note: &Note) -> Result<(), AllocError> {
     }
 }
 
-fn push_reply(text: &mut String, reply: Reply) -> Result<(), AllocError> {
+fn push_reply(text: &mut String, reply: Reply) -> Result<(), AllocError>
+    ensures { OnOk result (string_bytes text.new ≡ string_bytes text.old ++ reply_text reply) }
+{
     match reply {
         Reply::Ok => text.push_str("ok"),
         Reply::Fd(fd) => write!(text, "fd {fd}"),
@@ -91,19 +127,25 @@ fn push_reply(text: &mut String, reply: Reply) -> Result<(), AllocError> {
     }
 }
 
-fn push_owner(text: &mut String, owner: Owner) -> Result<(), AllocError> {
+fn push_owner(text: &mut String, owner: Owner) -> Result<(), AllocError>
+    ensures { OnOk result (string_bytes text.new ≡ string_bytes text.old ++ owner_text owner) }
+{
     match owner {
         Owner::Process(p) => write!(text, "process {p}"),
     }
 }
 
-fn command_word(cmd: LkCmd) -> &'static str {
+fn command_word(cmd: LkCmd) -> &'static str
+    ensures { result.now ≡ spec.lock_command_word cmd }
+{
     match cmd {
         LkCmd::SetLk => "setlk",
     }
 }
 
-fn access_word(access: Access) -> &'static str {
+fn access_word(access: Access) -> &'static str
+    ensures { result.now ≡ spec.access_word access }
+{
     match access {
         Access::R => "r",
         Access::W => "w",
@@ -111,7 +153,9 @@ fn access_word(access: Access) -> &'static str {
     }
 }
 
-fn kind_word(kind: Kind) -> &'static str {
+fn kind_word(kind: Kind) -> &'static str
+    ensures { result.now ≡ spec.kind_word kind }
+{
     match kind {
         Kind::Read => "r",
         Kind::Write => "w",
@@ -119,7 +163,9 @@ fn kind_word(kind: Kind) -> &'static str {
     }
 }
 
-fn whence_word(whence: Whence) -> &'static str {
+fn whence_word(whence: Whence) -> &'static str
+    ensures { result.now ≡ spec.whence_word whence }
+{
     match whence {
         Whence::Set => "set",
         Whence::Cur => "cur",
@@ -127,14 +173,18 @@ fn whence_word(whence: Whence) -> &'static str {
     }
 }
 
-fn mode_word(mode: Mode) -> &'static str {
+fn mode_word(mode: Mode) -> &'static str
+    ensures { result.now ≡ spec.mode_word mode }
+{
     match mode {
         Mode::Read => "r",
         Mode::Write => "w",
     }
 }
 
-fn error_name(error: Errno) -> &'static str {
+fn error_name(error: Errno) -> &'static str
+    ensures { result.now ≡ entry_spec.error_name error }
+{
     match error {
         Errno::EBADF => "EBADF",
         Errno::EINVAL => "EINVAL",
@@ -143,7 +193,9 @@ fn error_name(error: Errno) -> &'static str {
     }
 }
 
-fn state_word(state: ProcState) -> &'static str {
+fn state_word(state: ProcState) -> &'static str
+    ensures { result.now ≡ report_spec.state_word state }
+{
     match state {
         ProcState::Unborn => "unborn",
         ProcState::Live => "live",

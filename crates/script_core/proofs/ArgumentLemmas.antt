@@ -1,0 +1,84 @@
+-- Commands and their arguments.
+use Rattle.std.proofs.Common.{◌≡◌, ℕ, zero, suc, ◌<◌, ◌≤◌, ◌^◌, List, [], ◌∷◌, ◌++◌, length, get_or, codes, decimal, ◌⊎◌, ℤ, pos, negsuc, FitsSigned, w64, Ok, Err, Bor, refl, sym, ap, subst, inl, inr, arith}
+use Rattle.std.specs.Fmt.{digits, signed_decimal}
+use Rattle.lock_manager.specs.declared.request.Limits.TheVariants.{Small}
+use Rattle.lock_manager.specs.declared.request.Lock.{Lock}
+use Rattle.lock_manager.specs.declared.request.LkCmd.{LkCmd}
+use Rattle.lock_manager.specs.declared.request.Request.TheVariants.{Lk}
+use Rattle.lock_manager.specs.declared.request.Limits.{Limits}
+use Rattle.script_core.specs.declared.script.Cause.{Cause}
+use Rattle.script_core.specs.Words.{texts}
+use Rattle.script_core.specs.RequestText.{lock_command_word, lock_words, pid_words}
+use Rattle.script_core.specs.Arguments.{Argument, AnyNumber, IsBad, IsFirstBad, lock_arguments, lock_command}
+use Rattle.script_core.specs.ScriptText.{Says}
+use Rattle.script_core.specs.Reading.{CommandGives}
+
+-- the texts of a list of this length, one by one
+pub five_texts : (xs : List (Bor (List ℕ))) (d : Bor (List ℕ)) → 5 ≤ length xs → length xs < 6
+    → texts xs ≡ (get_or xs 0 d).now ∷ (get_or xs 1 d).now ∷ (get_or xs 2 d).now ∷ (get_or xs 3 d).now ∷ (get_or xs 4 d).now ∷ []
+five_texts [] d at_least below = absurd (omega (arith, at_least))
+five_texts (a ∷ []) d at_least below = absurd (omega (arith, at_least))
+five_texts (a ∷ b ∷ []) d at_least below = absurd (omega (arith, at_least))
+five_texts (a ∷ b ∷ e ∷ []) d at_least below = absurd (omega (arith, at_least))
+five_texts (a ∷ b ∷ e ∷ f ∷ []) d at_least below = absurd (omega (arith, at_least))
+five_texts (a ∷ b ∷ e ∷ f ∷ g ∷ []) d at_least below = refl
+five_texts (a ∷ b ∷ e ∷ f ∷ g ∷ h ∷ xs) d at_least below = absurd (omega (arith, below))
+
+pub six_texts : (xs : List (Bor (List ℕ))) (d : Bor (List ℕ)) → 6 ≤ length xs → length xs < 7
+    → texts xs ≡ (get_or xs 0 d).now ∷ (get_or xs 1 d).now ∷ (get_or xs 2 d).now ∷ (get_or xs 3 d).now ∷ (get_or xs 4 d).now ∷ (get_or xs 5 d).now ∷ []
+six_texts [] d at_least below = absurd (omega (arith, at_least))
+six_texts (a ∷ xs) d at_least below = ap (λ ws. a.now ∷ ws) (five_texts xs d (omega (arith, at_least)) (omega (arith, below)))
+
+-- what is first bad stays so with more words behind it
+pub IsFirstBad-append : (limits : Limits) (arguments more : List Argument) (words others : List (List ℕ)) (cause : Cause)
+    → IsFirstBad limits arguments words cause → IsFirstBad limits (arguments ++ more) (words ++ others) cause
+IsFirstBad-append limits [] more words others cause bad = absurd bad
+IsFirstBad-append limits (argument ∷ arguments) more [] others cause bad = absurd bad
+IsFirstBad-append limits (argument ∷ arguments) more (word ∷ words) others cause (inl good) =
+    inl (good.0, IsFirstBad-append limits arguments more words others cause good.1)
+IsFirstBad-append limits (argument ∷ arguments) more (word ∷ words) others cause (inr bad) = inr bad
+
+pub bad_bare_lock : (name fd kind whence start len : List ℕ) (cause : Cause)
+    → IsFirstBad Small lock_arguments (fd ∷ kind ∷ whence ∷ start ∷ len ∷ []) cause
+    → CommandGives Small (name ∷ fd ∷ kind ∷ whence ∷ start ∷ len ∷ []) (lock_command name) (fd ∷ kind ∷ whence ∷ start ∷ len ∷ []) (Err cause)
+bad_bare_lock name fd kind whence start len cause bad =
+    inl (cause, IsFirstBad-append Small lock_arguments (AnyNumber ∷ []) (fd ∷ kind ∷ whence ∷ start ∷ len ∷ []) [] cause bad, refl)
+
+pub bad_lock : (name fd kind whence start len pid : List ℕ) (cause : Cause)
+    → IsFirstBad Small lock_arguments (fd ∷ kind ∷ whence ∷ start ∷ len ∷ []) cause
+    → CommandGives Small (name ∷ fd ∷ kind ∷ whence ∷ start ∷ len ∷ pid ∷ []) (lock_command name) (fd ∷ kind ∷ whence ∷ start ∷ len ∷ pid ∷ []) (Err cause)
+bad_lock name fd kind whence start len pid cause bad =
+    inl (cause, IsFirstBad-append Small lock_arguments (AnyNumber ∷ []) (fd ∷ kind ∷ whence ∷ start ∷ len ∷ []) (pid ∷ []) cause bad, refl)
+
+pub bad_pid : (name : List ℕ) (words : List (List ℕ)) (pid : List ℕ) (fd : ℕ) (lock : Lock) (cause : Cause) → words ≡ lock_words fd lock
+    → fd < 2 ^ 32 → FitsSigned w64 lock.start → FitsSigned w64 lock.len → IsBad Small AnyNumber pid cause
+    → CommandGives Small (name ∷ (words ++ pid ∷ [])) (lock_command name) (words ++ pid ∷ []) (Err cause)
+bad_pid name words pid fd lock cause spelled small start len bad =
+    subst (λ ws. CommandGives Small (name ∷ (ws ++ pid ∷ [])) (lock_command name) (ws ++ pid ∷ []) (Err cause)) (sym spelled)
+    (inl (cause, inl ((fd, small, refl), inl ((lock.kind, refl), inl ((lock.whence, refl), inl ((lock.start, start, refl), inl ((lock.len, len, refl), inr bad))))), refl))
+
+zero_pid : decimal 0 ≡ codes "0"
+unfolding digits
+zero_pid = refl
+
+-- a pid that is written is one that the text writes, or 0
+pub written_pid : (z : ℤ) → (z ≡ pos 0) ⊎ (signed_decimal z ∷ [] ≡ pid_words z)
+written_pid (pos zero) = inl refl
+written_pid (pos (suc n)) = inr refl
+written_pid (negsuc n) = inr refl
+
+written_zero : (z : ℤ) → z ≡ pos 0 → signed_decimal z ∷ [] ≡ pid_words z ++ codes "0" ∷ []
+written_zero z e = subst (λ z. signed_decimal z ∷ [] ≡ pid_words z ++ codes "0" ∷ []) (sym e) (ap (λ word. word ∷ []) zero_pid)
+
+says_lock : (cmd : LkCmd) (fd : ℕ) (lock : Lock) → (lock.pid ≡ pos 0) ⊎ (signed_decimal lock.pid ∷ [] ≡ pid_words lock.pid)
+    → Says (lock_command_word cmd ∷ (lock_words fd lock ++ signed_decimal lock.pid ∷ [])) (Lk fd cmd lock)
+says_lock cmd fd lock (inl none) = inr (none, ap (λ ws. lock_command_word cmd ∷ (lock_words fd lock ++ ws)) (written_zero lock.pid none))
+says_lock cmd fd lock (inr written) = inl (ap (λ ws. lock_command_word cmd ∷ (lock_words fd lock ++ ws)) written)
+
+pub good_lock : (cmd : LkCmd) (words : List (List ℕ)) (pid : List ℕ) (fd : ℕ) (lock : Lock) (z : ℤ) → words ≡ lock_words fd lock → pid ≡ signed_decimal z
+    → fd < 2 ^ 32 → FitsSigned w64 lock.start → FitsSigned w64 lock.len → FitsSigned w64 z
+    → CommandGives Small (lock_command_word cmd ∷ (words ++ pid ∷ [])) (lock_command (lock_command_word cmd)) (words ++ pid ∷ []) (Ok (Lk fd cmd (record lock { pid = z })))
+good_lock cmd words pid fd lock z spelled written small start len fits =
+    subst (λ ws. CommandGives Small (lock_command_word cmd ∷ (ws ++ pid ∷ [])) (lock_command (lock_command_word cmd)) (ws ++ pid ∷ []) (Ok (Lk fd cmd (record lock { pid = z })))) (sym spelled)
+    (subst (λ word. CommandGives Small (lock_command_word cmd ∷ (lock_words fd lock ++ word ∷ [])) (lock_command (lock_command_word cmd)) (lock_words fd lock ++ word ∷ []) (Ok (Lk fd cmd (record lock { pid = z })))) (sym written)
+    (inr (Lk fd cmd (record lock { pid = z }), record { says = says_lock cmd fd (record lock { pid = z }) (written_pid z); writable = (small, start, len, fits) }, refl)))

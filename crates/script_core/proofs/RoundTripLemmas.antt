@@ -1,0 +1,256 @@
+-- The text of a request, behind its process and a space, is a line that says it.
+use Rattle.std.proofs.Common.{◌≡◌, ℕ, zero, suc, ◌+◌, ◌^◌, ◌<◌, ◌≤◌, ◌==◌, nat_le, true, false, not, ◌&&◌, List, [], ◌∷◌, ◌++◌, length, get_or, filter, codes, decimal, ℤ, pos, negsuc, FitsSigned, w64, Ok, Some, inl, inr, refl, sym, ap, ◌∙◌, arith, lit<, lit≤, length-append, append_assoc}
+use Rattle.std.specs.Fmt.{signed_decimal}
+use Rattle.std.specs.Int.{IsInRange}
+use Rattle.std.specs.Str.Parse.{AllDigits}
+use Rattle.std.specs.List.{slice_split, join_with_byte}
+use Rattle.std.proofs.lemmas.Fmt.{decimal_is_IsNumeral, length-decimal-le, length_signed_le}
+use Rattle.std.proofs.lemmas.Str.Parse.{digit_from_value}
+use Rattle.std.proofs.lemmas.Bool.{le-ltb}
+use Rattle.std.proofs.lemmas.Bool.Decides.{nat_tests}
+use Rattle.lock_manager.specs.declared.request.Access.{Access}
+use Rattle.lock_manager.specs.declared.request.Access.TheVariants.{R, W, Rw}
+use Rattle.lock_manager.specs.declared.request.LkCmd.{LkCmd}
+use Rattle.lock_manager.specs.declared.request.LkCmd.TheVariants.{SetLk}
+use Rattle.lock_manager.specs.declared.request.Lock.{Lock}
+use Rattle.lock_manager.specs.declared.request.Limits.TheVariants.{Small}
+use Rattle.lock_manager.specs.declared.request.Request.{Request}
+use Rattle.lock_manager.specs.declared.request.Request.TheVariants.{OpenFile, Lk}
+use Rattle.range_core.specs.declared.Kind.{Kind}
+use Rattle.range_core.specs.declared.Kind.TheVariants.{Read, Write, Unlock}
+use Rattle.range_core.specs.declared.Whence.{Whence}
+use Rattle.range_core.specs.declared.Whence.TheVariants.{Set, Cur, End}
+use Rattle.script_core.specs.declared.TheConstants.{LINE_MAX}
+use Rattle.script_core.specs.Words.{words_of, is_printable}
+use Rattle.script_core.specs.RequestText.{access_word, kind_word, whence_word, lock_command_word, pid_words, lock_words, request_words, request_text}
+use Rattle.script_core.specs.ScriptText.{IsProcess, IsWritable}
+use Rattle.script_core.specs.Reading.{Reading, RequestGives, WordsGive, LineGives, IsReadBack, reading_after, is_comment}
+use Rattle.script_core.proofs.NumberLemmas.{BeginsPlainly-decimal}
+
+-- each byte is printable, and no space
+AreVisible : List ℕ → Type 0
+AreVisible [] = Unit {0}
+AreVisible (byte ∷ bytes) = (33 ≤ byte) × (byte ≤ 126) × AreVisible bytes
+
+-- one visible byte or more
+record IsWord (word : List ℕ) : Type 0 where
+  some : 0 < length word
+  visible : AreVisible word
+
+AreWords : List (List ℕ) → Type 0
+AreWords [] = Unit {0}
+AreWords (word ∷ words) = IsWord word × AreWords words
+
+AreVisible-digits : (bytes : List ℕ) → AllDigits 10 bytes → AreVisible bytes
+unfolding AreVisible
+AreVisible-digits [] digits = tt
+AreVisible-digits (byte ∷ bytes) digits =
+    let digit : IsInRange 48 57 byte = digit_from_value byte digits.0 in
+    (omega arith, omega arith, AreVisible-digits bytes digits.1)
+
+IsWord-decimal : (n : ℕ) → n < 2 ^ 64 → IsWord (decimal n)
+IsWord-decimal n small =
+    let numeral = (decimal_is_IsNumeral n small).0 in
+    record { some = numeral.0; visible = AreVisible-digits (decimal n) numeral.1 }
+
+IsWord-minus : (word : List ℕ) → IsWord word → IsWord (45 ∷ word)
+unfolding AreVisible
+IsWord-minus word is = record { some = omega arith; visible = (lit≤ tt, lit≤ tt, is.visible) }
+
+IsWord-signed_decimal : (z : ℤ) → FitsSigned w64 z → IsWord (signed_decimal z)
+IsWord-signed_decimal (pos n) fits = IsWord-decimal n (omega (arith, fits.sfits))
+IsWord-signed_decimal (negsuc n) fits = IsWord-minus (decimal (suc n)) (IsWord-decimal (suc n) (omega (arith, fits.sfits)))
+
+not_space : (byte : ℕ) → 33 ≤ byte → (byte == 32) ≡ false
+not_space byte visible = grind (arith, nat_tests)
+
+slice_split-word : (word : List ℕ) → AreVisible word → slice_split (λ byte. byte == 32) word ≡ word ∷ []
+unfolding AreVisible
+slice_split-word [] visible = refl
+slice_split-word (byte ∷ bytes) visible = rw (not_space byte visible.0, slice_split-word bytes visible.2) refl
+
+slice_split-words : (word rest : List ℕ) → AreVisible word → slice_split (λ byte. byte == 32) (word ++ 32 ∷ rest) ≡ word ∷ slice_split (λ byte. byte == 32) rest
+unfolding AreVisible
+slice_split-words [] rest visible = refl
+slice_split-words (byte ∷ bytes) rest visible = rw (not_space byte visible.0, slice_split-words bytes rest visible.2) refl
+
+slice_split-join : (word : List ℕ) (words : List (List ℕ)) → AreWords (word ∷ words) → slice_split (λ byte. byte == 32) (join_with_byte 32 (word ∷ words)) ≡ word ∷ words
+unfolding AreWords
+slice_split-join word [] are = slice_split-word word are.0.visible
+slice_split-join word (next ∷ words) are =
+    slice_split-words word (join_with_byte 32 (next ∷ words)) are.0.visible ∙ ap (λ ws. word ∷ ws) (slice_split-join next words are.1)
+
+not_empty : (n : ℕ) → 0 < n → not (n == 0) ≡ true
+not_empty n some = grind (arith, nat_tests)
+
+filter-words : (words : List (List ℕ)) → AreWords words → filter (λ word. not (length word == 0)) words ≡ words
+unfolding AreWords
+filter-words [] are = refl
+filter-words (word ∷ words) are = rw (not_empty (length word) are.0.some, filter-words words are.1) refl
+
+-- words with one space between each two are the words of their line
+words_of-join : (word : List ℕ) (words : List (List ℕ)) → AreWords (word ∷ words) → words_of (join_with_byte 32 (word ∷ words)) ≡ word ∷ words
+words_of-join word words are =
+    ap (λ pieces. filter (λ word. not (length word == 0)) pieces) (slice_split-join word words are) ∙ filter-words (word ∷ words) are
+
+printable_byte : (byte : ℕ) → 33 ≤ byte → byte ≤ 126 → (nat_le 32 byte && nat_le byte 126) ≡ true
+printable_byte byte low high = grind (arith, nat_tests)
+
+is_printable-word : (word : List ℕ) → AreVisible word → is_printable word ≡ true
+unfolding AreVisible
+is_printable-word [] visible = refl
+is_printable-word (byte ∷ bytes) visible = rw (printable_byte byte visible.0 visible.1) (is_printable-word bytes visible.2)
+
+is_printable-words : (word rest : List ℕ) → AreVisible word → is_printable rest ≡ true → is_printable (word ++ 32 ∷ rest) ≡ true
+unfolding AreVisible
+is_printable-words [] rest visible printable = printable
+is_printable-words (byte ∷ bytes) rest visible printable = rw (printable_byte byte visible.0 visible.1) (is_printable-words bytes rest visible.2 printable)
+
+is_printable-join : (word : List ℕ) (words : List (List ℕ)) → AreWords (word ∷ words) → is_printable (join_with_byte 32 (word ∷ words)) ≡ true
+unfolding AreWords
+is_printable-join word [] are = is_printable-word word are.0.visible
+is_printable-join word (next ∷ words) are = is_printable-words word (join_with_byte 32 (next ∷ words)) are.0.visible (is_printable-join next words are.1)
+
+-- how many bytes further words take, each behind its space
+more_length : List (List ℕ) → ℕ
+more_length [] = 0
+more_length (word ∷ words) = 1 + length word + more_length words
+
+length-join : (word : List ℕ) (words : List (List ℕ)) → length (join_with_byte 32 (word ∷ words)) ≡ length word + more_length words
+unfolding more_length
+length-join word [] = omega arith
+length-join word (next ∷ words) = omega (arith, length-append word (32 ∷ join_with_byte 32 (next ∷ words)), length-join next words)
+
+is_comment-digit : (word : List ℕ) → 48 ≤ get_or word 0 0 → is_comment word ≡ false
+is_comment-digit [] low = refl
+is_comment-digit (byte ∷ bytes) low = grind (arith, nat_tests)
+
+IsWord-access_word : (access : Access) → IsWord (access_word access)
+unfolding AreVisible
+IsWord-access_word R = record { some = lit< tt; visible = (lit≤ tt, lit≤ tt, tt) }
+IsWord-access_word W = record { some = lit< tt; visible = (lit≤ tt, lit≤ tt, tt) }
+IsWord-access_word Rw = record { some = lit< tt; visible = (lit≤ tt, lit≤ tt, (lit≤ tt, lit≤ tt, tt)) }
+
+IsWord-kind_word : (kind : Kind) → IsWord (kind_word kind)
+unfolding AreVisible
+IsWord-kind_word Read = record { some = lit< tt; visible = (lit≤ tt, lit≤ tt, tt) }
+IsWord-kind_word Write = record { some = lit< tt; visible = (lit≤ tt, lit≤ tt, tt) }
+IsWord-kind_word Unlock = record { some = lit< tt; visible = (lit≤ tt, lit≤ tt, tt) }
+
+IsWord-whence_word : (whence : Whence) → IsWord (whence_word whence)
+unfolding AreVisible
+IsWord-whence_word Set = record { some = lit< tt; visible = (lit≤ tt, lit≤ tt, (lit≤ tt, lit≤ tt, (lit≤ tt, lit≤ tt, tt))) }
+IsWord-whence_word Cur = record { some = lit< tt; visible = (lit≤ tt, lit≤ tt, (lit≤ tt, lit≤ tt, (lit≤ tt, lit≤ tt, tt))) }
+IsWord-whence_word End = record { some = lit< tt; visible = (lit≤ tt, lit≤ tt, (lit≤ tt, lit≤ tt, (lit≤ tt, lit≤ tt, tt))) }
+
+IsWord-open : IsWord (codes "open")
+unfolding AreVisible
+IsWord-open = record { some = lit< tt; visible = (lit≤ tt, lit≤ tt, (lit≤ tt, lit≤ tt, (lit≤ tt, lit≤ tt, (lit≤ tt, lit≤ tt, tt)))) }
+
+IsWord-lock_command_word : (cmd : LkCmd) → IsWord (lock_command_word cmd)
+unfolding AreVisible
+IsWord-lock_command_word SetLk = record { some = lit< tt; visible = (lit≤ tt, lit≤ tt, (lit≤ tt, lit≤ tt, (lit≤ tt, lit≤ tt, (lit≤ tt, lit≤ tt, (lit≤ tt, lit≤ tt, tt))))) }
+
+AreWords-pid_words : (z : ℤ) → FitsSigned w64 z → AreWords (pid_words z)
+unfolding AreWords
+AreWords-pid_words (pos zero) fits = tt
+AreWords-pid_words (pos (suc n)) fits = (IsWord-signed_decimal (pos (suc n)) fits, tt)
+AreWords-pid_words (negsuc n) fits = (IsWord-signed_decimal (negsuc n) fits, tt)
+
+AreWords-request_words : (request : Request) → IsWritable Small request → AreWords (request_words request)
+unfolding AreWords
+AreWords-request_words (OpenFile file access) writable = (IsWord-open, (IsWord-decimal file (omega (arith, writable)), (IsWord-access_word access, tt)))
+AreWords-request_words (Lk fd cmd lock) writable = (
+  IsWord-lock_command_word cmd,
+  (
+    IsWord-decimal fd (omega (arith, writable.0)),
+    (
+      IsWord-kind_word lock.kind,
+      (
+        IsWord-whence_word lock.whence,
+        (IsWord-signed_decimal lock.start writable.1, (IsWord-signed_decimal lock.len writable.2, AreWords-pid_words lock.pid writable.3)),
+      ),
+    ),
+  ),
+)
+
+length-access_word : (access : Access) → length (access_word access) ≤ 2
+length-access_word R = lit≤ tt
+length-access_word W = lit≤ tt
+length-access_word Rw = lit≤ tt
+
+length-kind_word : (kind : Kind) → length (kind_word kind) ≤ 1
+length-kind_word Read = lit≤ tt
+length-kind_word Write = lit≤ tt
+length-kind_word Unlock = lit≤ tt
+
+length-whence_word : (whence : Whence) → length (whence_word whence) ≤ 3
+length-whence_word Set = lit≤ tt
+length-whence_word Cur = lit≤ tt
+length-whence_word End = lit≤ tt
+
+length-lock_command_word : (cmd : LkCmd) → length (lock_command_word cmd) ≤ 5
+length-lock_command_word SetLk = lit≤ tt
+
+length-signed_decimal : (z : ℤ) → FitsSigned w64 z → length (signed_decimal z) ≤ 20
+length-signed_decimal z fits = length_signed_le 19 z (omega (arith, fits.sfits)) (omega (arith, fits.sfits))
+
+more_length-pid_words : (z : ℤ) → FitsSigned w64 z → more_length (pid_words z) ≤ 21
+unfolding more_length
+more_length-pid_words (pos zero) fits = lit≤ tt
+more_length-pid_words (pos (suc n)) fits = omega (arith, length-signed_decimal (pos (suc n)) fits)
+more_length-pid_words (negsuc n) fits = omega (arith, length-signed_decimal (negsuc n) fits)
+
+more_length-request_words : (request : Request) → IsWritable Small request → more_length (request_words request) ≤ 118
+unfolding more_length
+more_length-request_words (OpenFile file access) writable =
+    omega (arith, length-decimal-le 2 file (lit< tt) (omega (arith, writable)) (omega (arith, writable)), length-access_word access)
+more_length-request_words (Lk fd cmd lock) writable =
+    omega (
+      arith,
+      length-lock_command_word cmd,
+      length-decimal-le 10 fd (lit< tt) (omega (arith, writable.0)) (omega (arith, writable.0)),
+      length-kind_word lock.kind,
+      length-whence_word lock.whence,
+      length-signed_decimal lock.start writable.1,
+      length-signed_decimal lock.len writable.2,
+      more_length-pid_words lock.pid writable.3,
+    )
+
+-- the arguments of a lock command with this pid are as many as it has
+gives_lock : (fd : ℕ) (cmd : LkCmd) (lock : Lock) (pid : ℤ) → lock.pid ≡ pid → IsWritable Small (Lk fd cmd lock)
+    → RequestGives Small (lock_command_word cmd ∷ (lock_words fd lock ++ pid_words pid)) (Ok (Lk fd cmd lock))
+gives_lock fd SetLk lock (pos zero) e writable = inr (Lk fd SetLk lock, record { says = inl (ap (λ z. lock_command_word SetLk ∷ (lock_words fd lock ++ pid_words z)) (sym e)); writable = writable }, refl)
+gives_lock fd SetLk lock (pos (suc n)) e writable = inr (Lk fd SetLk lock, record { says = inl (ap (λ z. lock_command_word SetLk ∷ (lock_words fd lock ++ pid_words z)) (sym e)); writable = writable }, refl)
+gives_lock fd SetLk lock (negsuc n) e writable = inr (Lk fd SetLk lock, record { says = inl (ap (λ z. lock_command_word SetLk ∷ (lock_words fd lock ++ pid_words z)) (sym e)); writable = writable }, refl)
+
+gives_request : (request : Request) → IsWritable Small request → RequestGives Small (request_words request) (Ok request)
+gives_request (OpenFile file access) writable = inr (OpenFile file access, record { says = inl refl; writable = writable }, refl)
+gives_request (Lk fd cmd lock) writable = gives_lock fd cmd lock lock.pid refl writable
+
+reads_words : (reading : Reading) (p : ℕ) (words : List (List ℕ)) (request : Request) → IsProcess Small p → RequestGives Small words (Ok request)
+    → WordsGive reading (decimal p ∷ words) (Ok (reading_after reading (Some (p, request))))
+reads_words reading p words request process gives =
+    let plain = BeginsPlainly-decimal p (omega (arith, process.1)) in
+    rw (is_comment-digit (decimal p) plain.at_least) (inl (p, process, refl, Ok request, gives, refl))
+
+reads_line : (reading : Reading) (line : List ℕ) (words : List (List ℕ)) (after : Reading) → length line ≤ LINE_MAX → is_printable line ≡ true → words_of line ≡ words
+    → WordsGive reading words (Ok after) → LineGives reading line (Ok after)
+reads_line reading line words after short printable are gives =
+    rw (le-ltb LINE_MAX (length line) short, printable, are) gives
+
+join_cons : (p : ℕ) (request : Request) → decimal p ++ codes " " ++ request_text request ≡ join_with_byte 32 (decimal p ∷ request_words request)
+join_cons p (OpenFile file access) = append_assoc (decimal p) (codes " ") (request_text (OpenFile file access))
+join_cons p (Lk fd cmd lock) = append_assoc (decimal p) (codes " ") (request_text (Lk fd cmd lock))
+
+-- the text of a request, behind its process and a space, is a line that is read as this arrival
+pub reads_back : (p : ℕ) (request : Request) → IsProcess Small p → IsWritable Small request → IsReadBack p request
+unfolding AreWords
+reads_back p request process writable = λ reading.
+    let words = request_words request in
+    let are : AreWords (decimal p ∷ words) = (IsWord-decimal p (omega (arith, process.1)), AreWords-request_words request writable) in
+    let short : length (join_with_byte 32 (decimal p ∷ words)) ≤ LINE_MAX =
+    omega (arith, length-join (decimal p) words, length-decimal-le 2 p (lit< tt) (omega (arith, process.1)) (omega (arith, process.1)), more_length-request_words request writable) in
+    rw (join_cons p request)
+    (reads_line reading (join_with_byte 32 (decimal p ∷ words)) (decimal p ∷ words) (reading_after reading (Some (p, request))) short (is_printable-join (decimal p) words are)
+    (words_of-join (decimal p) words are) (reads_words reading p words request process (gives_request request writable)))

@@ -1,0 +1,137 @@
+-- The lines of a script.
+use Rattle.std.proofs.Common.{◌≡◌, ◌≢◌, ℕ, suc, ◌+◌, ◌<◌, List, [], ◌∷◌, ◌++◌, length, drop, get_or, Result, Ok, Err, Bool, true, false, cond, ◌==◌, MatchBool, MatchResult, ◌⊎◌, inl, inr, ◌≤◌, refl, sym, ap, ◌∙◌, subst, arith}
+use Rattle.std.specs.List.{slice_split, onto_first, enumerate_from}
+use Rattle.std.proofs.lemmas.List.{drop_all}
+use Rattle.std.proofs.lemmas.List.FromFn.{length-enumerate_from, get_or-enumerate_from}
+use Rattle.std.proofs.Common.{add-one, drop-cons}
+use Rattle.lock_manager.specs.declared.request.Request.{Request}
+use Rattle.std.proofs.lemmas.Bool.{le-ltb, eqb-true}
+use Rattle.script_core.specs.declared.script.Cause.{Cause}
+use Rattle.script_core.specs.declared.script.Cause.TheVariants.{TooLong}
+use Rattle.script_core.specs.declared.script.ScriptFault.{ScriptFault}
+use Rattle.script_core.specs.ScriptText.{Meaning}
+use Rattle.script_core.specs.Words.{without_empty_end, lines_of}
+use Rattle.script_core.specs.Reading.{LineGives, LinesGive, Reads, reading_of, start}
+use Rattle.script_core.specs.declared.TheConstants.{SCRIPT_MAX}
+
+-- whatever the lines from this one on give, all the lines give
+pub record IsReadUpTo (lines : List (List ℕ)) (count : ℕ) (arrivals : List (ℕ × Request)) : Type 0 where
+  pub goes_on : (result : Result Meaning ScriptFault) → LinesGive (count + 1) (reading_of arrivals) (drop count lines) result → LinesGive 1 start lines result
+
+pub IsReadUpTo-more : (lines : List (List ℕ)) (count : ℕ) (line : List ℕ) (old new : List (ℕ × Request)) → IsReadUpTo lines count old
+    → drop count lines ≡ line ∷ drop (count + 1) lines → LineGives (reading_of old) line (Ok (reading_of new)) → IsReadUpTo lines (count + 1) new
+IsReadUpTo-more lines count line old new before cut gives =
+    record { goes_on = λ result rest. before.goes_on result (rw cut (Ok (reading_of new), gives, rest)) }
+
+pub fault_at : (lines : List (List ℕ)) (count : ℕ) (line : List ℕ) (old : List (ℕ × Request)) (cause : Cause) → IsReadUpTo lines count old
+    → drop count lines ≡ line ∷ drop (count + 1) lines → LineGives (reading_of old) line (Err cause) → LinesGive 1 start lines (Err (record { line = count + 1; cause = cause }))
+fault_at lines count line old cause before cut gives = before.goes_on (Err (record { line = count + 1; cause = cause })) (rw cut (Err cause, gives, refl))
+
+pub read_all : (lines : List (List ℕ)) (count : ℕ) (arrivals : List (ℕ × Request)) → IsReadUpTo lines count arrivals
+    → count ≡ length lines → LinesGive 1 start lines (Ok (record { arrivals = arrivals }))
+read_all lines count arrivals before all =
+    let none : drop count lines ≡ [] = drop_all count lines (omega (arith, all)) in
+    before.goes_on (Ok (record { arrivals = arrivals })) (rw none refl)
+
+-- the numbered line of one turn is the next one
+pub cut_at : (lines : List (List ℕ)) (count index : ℕ) (line : List ℕ)
+    → (count < length (enumerate_from 0 lines)) × ((index, line) ≡ get_or (enumerate_from 0 lines) count (index, line))
+    → (index ≡ count) × (drop count lines ≡ line ∷ drop (count + 1) lines)
+cut_at lines count index line turn =
+    let below : count < length lines = omega (arith, turn.0, length-enumerate_from 0 lines) in
+    let item = turn.1 ∙ get_or-enumerate_from 0 lines count (index, line) below in
+    let number : index ≡ 0 + count = ap (λ p. p.0) item in
+    let text : line ≡ get_or lines count line = ap (λ p. p.1) item in
+    (omega arith, rw add-one (drop-cons lines count line below ∙ ap (λ first. first ∷ drop (suc count) lines) (sym text)))
+
+-- there is always a first piece
+pub record HasFirst (parts : List (List ℕ)) : Type 0 where
+  pub first : List ℕ
+  pub rest : List (List ℕ)
+  pub is : parts ≡ first ∷ rest
+
+HasFirst-cons : (test : Bool) (byte : ℕ) (parts : List (List ℕ)) → HasFirst parts → HasFirst (cond test ([] ∷ parts) (onto_first byte parts))
+HasFirst-cons true byte parts given = record { first = []; rest = parts; is = refl }
+HasFirst-cons false byte parts given = record { first = byte ∷ given.first; rest = given.rest; is = ap (onto_first byte) given.is }
+
+pub HasFirst-slice_split : (bytes : List ℕ) → HasFirst (slice_split (λ byte. byte == 10) bytes)
+HasFirst-slice_split [] = record { first = []; rest = []; is = refl }
+HasFirst-slice_split (byte ∷ bytes) = HasFirst-cons (byte == 10) byte (slice_split (λ byte. byte == 10) bytes) (HasFirst-slice_split bytes)
+
+onto_first-append : (byte : ℕ) (parts : List (List ℕ)) → HasFirst parts → onto_first byte (parts ++ [] ∷ []) ≡ onto_first byte parts ++ [] ∷ []
+onto_first-append byte parts given = rw given.is refl
+
+split_more : (test : Bool) (byte : ℕ) (parts more : List (List ℕ)) → HasFirst parts → more ≡ parts ++ [] ∷ []
+    → cond test ([] ∷ more) (onto_first byte more) ≡ cond test ([] ∷ parts) (onto_first byte parts) ++ [] ∷ []
+split_more true byte parts more given e = ap (λ ps. [] ∷ ps) e
+split_more false byte parts more given e = ap (onto_first byte) e ∙ onto_first-append byte parts given
+
+slice_split-feed : (bytes : List ℕ) → slice_split (λ byte. byte == 10) (bytes ++ 10 ∷ []) ≡ slice_split (λ byte. byte == 10) bytes ++ [] ∷ []
+slice_split-feed [] = refl
+slice_split-feed (byte ∷ bytes) =
+    split_more (byte == 10) byte (slice_split (λ byte. byte == 10) bytes) (slice_split (λ byte. byte == 10) (bytes ++ 10 ∷ [])) (HasFirst-slice_split bytes) (slice_split-feed bytes)
+
+without_empty_end-append : (parts : List (List ℕ)) → without_empty_end (parts ++ [] ∷ []) ≡ parts
+without_empty_end-append [] = refl
+without_empty_end-append ([] ∷ []) = refl
+without_empty_end-append ((byte ∷ bytes) ∷ []) = refl
+without_empty_end-append ([] ∷ next ∷ parts) = ap (λ ps. [] ∷ ps) (without_empty_end-append (next ∷ parts))
+without_empty_end-append ((byte ∷ bytes) ∷ next ∷ parts) = ap (λ ps. (byte ∷ bytes) ∷ ps) (without_empty_end-append (next ∷ parts))
+
+-- a last line feed ends the last line
+pub lines_of-feed : (bytes : List ℕ) → lines_of (bytes ++ 10 ∷ []) ≡ slice_split (λ byte. byte == 10) bytes
+lines_of-feed bytes = ap without_empty_end (slice_split-feed bytes) ∙ without_empty_end-append (slice_split (λ byte. byte == 10) bytes)
+
+-- the pieces end in one that isn't empty
+pub record IsFull (parts : List (List ℕ)) : Type 0 where
+  pub is : without_empty_end parts ≡ parts
+
+tail_of : List (List ℕ) → List (List ℕ)
+tail_of [] = []
+tail_of (part ∷ parts) = parts
+
+IsFull-empty : (parts : List (List ℕ)) → HasFirst parts → IsFull parts → IsFull ([] ∷ parts)
+IsFull-empty [] given full = absurd (let e = given.is in cc)
+IsFull-empty (part ∷ parts) given full = record { is = ap (λ ps. [] ∷ ps) full.is }
+
+IsFull-onto_first : (byte : ℕ) (parts : List (List ℕ)) → HasFirst parts → IsFull parts → IsFull (onto_first byte parts)
+unfolding tail_of
+IsFull-onto_first byte [] given full = record { is = refl }
+IsFull-onto_first byte (part ∷ []) given full = record { is = refl }
+IsFull-onto_first byte ([] ∷ next ∷ parts) given full = record { is = ap (λ ps. (byte ∷ []) ∷ tail_of ps) full.is }
+IsFull-onto_first byte ((first ∷ bytes) ∷ next ∷ parts) given full = record { is = ap (λ ps. (byte ∷ first ∷ bytes) ∷ tail_of ps) full.is }
+
+IsFull-cons : (test : Bool) (byte : ℕ) (parts : List (List ℕ)) → HasFirst parts → IsFull parts → IsFull (cond test ([] ∷ parts) (onto_first byte parts))
+IsFull-cons true byte parts given full = IsFull-empty parts given full
+IsFull-cons false byte parts given full = IsFull-onto_first byte parts given full
+
+single : (test : Bool) (byte : ℕ) → (test ≡ true → ⊥) → IsFull (cond test ([] ∷ [] ∷ []) ((byte ∷ []) ∷ []))
+single true byte other = absurd (other refl)
+single false byte other = record { is = refl }
+
+IsFull-slice_split : (byte : ℕ) (bytes : List ℕ) → ((front : List ℕ) → byte ∷ bytes ≢ front ++ 10 ∷ []) → IsFull (slice_split (λ byte. byte == 10) (byte ∷ bytes))
+IsFull-slice_split byte [] other = single (byte == 10) byte (λ e. other [] (ap (λ b. b ∷ []) (eqb-true byte 10 e)))
+IsFull-slice_split byte (next ∷ bytes) other =
+    IsFull-cons (byte == 10) byte (slice_split (λ byte. byte == 10) (next ∷ bytes)) (HasFirst-slice_split (next ∷ bytes))
+    (IsFull-slice_split next bytes (λ front e. other (byte ∷ front) (ap (λ bs. byte ∷ bs) e)))
+
+-- an empty line at the end says nothing
+no_line : (result : Result Meaning ScriptFault) → LinesGive 1 start ([] ∷ []) result → LinesGive 1 start [] result
+no_line result (next, line, rest) = subst (λ next. MatchResult next (λ after. LinesGive 2 after [] result) (λ cause. result ≡ Err (record { line = 1; cause = cause }))) line rest
+
+-- what the pieces give, the lines give
+pub lines_from_pieces : (bytes body : List ℕ) (result : Result Meaning ScriptFault)
+    → (bytes ≡ body ++ 10 ∷ []) ⊎ ((body ≡ bytes) × ((front : List ℕ) → bytes ≢ front ++ 10 ∷ []))
+    → LinesGive 1 start (slice_split (λ byte. byte == 10) body) result → LinesGive 1 start (lines_of bytes) result
+lines_from_pieces bytes body result (inl fed) given = rw (fed, lines_of-feed body) given
+lines_from_pieces [] body result (inr other) given = no_line result (rw other.0 at given)
+lines_from_pieces (byte ∷ bytes) body result (inr other) given =
+    let full = IsFull-slice_split byte bytes other.1 in
+    rw full.is (rw other.0 at given)
+
+pub reads_from_pieces : (bytes body : List ℕ) (result : Result Meaning ScriptFault) → length bytes ≤ SCRIPT_MAX
+    → (bytes ≡ body ++ 10 ∷ []) ⊎ ((body ≡ bytes) × ((front : List ℕ) → bytes ≢ front ++ 10 ∷ []))
+    → LinesGive 1 start (slice_split (λ byte. byte == 10) body) result → Reads bytes result
+reads_from_pieces bytes body result short cut given =
+    let long = result ≡ Err (record { line = 0; cause = TooLong }) in
+    subst (λ test. MatchBool test long (LinesGive 1 start (lines_of bytes) result)) (sym (le-ltb SCRIPT_MAX (length bytes) short)) (lines_from_pieces bytes body result cut given)

@@ -1,0 +1,11 @@
+use Rattle.std.proofs.lemmas.Result.{IfOk-weaker, IfErr-weaker}
+use Rattle.script_core.proofs.ScriptLemmas.{reads_from_pieces}
+use Rattle.script_core.proofs.script.parse.Goals as goal
+
+pub returns-clause-accepted : goal.returns-clause-accepted
+returns-clause-accepted c =
+    IfOk-weaker c.read_lines.result _ _ (λ script. reads_from_pieces c.args.bytes.now c.without_last_feed.result.now _ c.if-bytes-gt-SCRIPT_MAX.false c.without_last_feed.ensures) c.read_lines.ensures.accepted
+
+pub returns-clause-refused : goal.returns-clause-refused
+returns-clause-refused c =
+    IfErr-weaker c.read_lines.result _ _ (λ fault given other. reads_from_pieces c.args.bytes.now c.without_last_feed.result.now _ c.if-bytes-gt-SCRIPT_MAX.false c.without_last_feed.ensures (given other)) c.read_lines.ensures.refused

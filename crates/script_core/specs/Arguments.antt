@@ -1,0 +1,84 @@
+-- The arguments of the commands, and the first bad one (this project's choice).
+use Rattle.std.specs.Prelude.{◌≡◌, ℕ, ◌+◌, ◌^◌, ◌<◌, ◌≤◌, ◌==◌, Bool, ◌||◌, ℤ, FitsSigned, Option, List, [], ◌∷◌, length, find, codes, decimal, bytes_eq}
+use Rattle.std.specs.Int.{w64}
+use Rattle.std.specs.Fmt.{signed_decimal}
+use Rattle.range_core.specs.declared.Kind.{Kind}
+use Rattle.range_core.specs.declared.Whence.{Whence}
+use Rattle.lock_manager.specs.declared.TheConstants.{FILES}
+use Rattle.lock_manager.specs.declared.request.Access.{Access}
+use Rattle.lock_manager.specs.declared.request.Limits.{Limits}
+use Rattle.script_core.specs.Facts.{MatchFact}
+use Rattle.script_core.specs.Processes.{process_limit}
+use Rattle.script_core.specs.declared.script.Cause.{Cause}
+use Rattle.script_core.specs.declared.script.Cause.TheVariants.{Word, Number, Process}
+use Rattle.script_core.specs.RequestText.{access_word, kind_word, whence_word}
+
+-- what may stand in the place of an argument
+pub data Argument : Type 0 where
+  FileNumber DescriptorNumber AnyNumber ProcessNumber AccessWord KindWord WhenceWord : Argument
+
+-- the word is a spelling of such an argument
+abbrev pub Spells : Limits → Argument → List ℕ → Type 0
+Spells limits FileNumber word = (n : ℕ) × (n < FILES) × (word ≡ decimal n)
+Spells limits DescriptorNumber word = (n : ℕ) × (n < 2 ^ 32) × (word ≡ decimal n)
+Spells limits AnyNumber word = (z : ℤ) × FitsSigned w64 z × (word ≡ signed_decimal z)
+Spells limits ProcessNumber word = (n : ℕ) × (1 ≤ n) × (n ≤ process_limit limits) × (word ≡ decimal n)
+Spells limits AccessWord word = (access : Access) × (word ≡ access_word access)
+Spells limits KindWord word = (kind : Kind) × (word ≡ kind_word kind)
+Spells limits WhenceWord word = (whence : Whence) × (word ≡ whence_word whence)
+
+-- what is wrong with a word that spells no such argument
+abbrev pub cause_of : Argument → Cause
+cause_of FileNumber = Number
+cause_of DescriptorNumber = Number
+cause_of AnyNumber = Number
+cause_of ProcessNumber = Process
+cause_of AccessWord = Word
+cause_of KindWord = Word
+cause_of WhenceWord = Word
+
+-- the word spells no such argument, and this is its cause
+abbrev pub IsBad : Limits → Argument → List ℕ → Cause → Type 0
+IsBad limits argument word cause = (¬ (Spells limits argument word)) × (cause ≡ cause_of argument)
+
+-- the first of the words, from the left, that spells no argument of its place has this cause
+abbrev pub IsFirstBad : Limits → List Argument → List (List ℕ) → Cause → Type 0
+IsFirstBad limits [] words cause = ⊥
+IsFirstBad limits (argument ∷ arguments) [] cause = ⊥
+IsFirstBad limits (argument ∷ arguments) (word ∷ words) cause =
+    MatchFact (Spells limits argument word) (IsFirstBad limits arguments words cause) (cause ≡ cause_of argument)
+
+-- a command: its word, the arguments that it has, and those that may follow them
+pub record Command : Type 0 where
+  pub name : List ℕ
+  pub required : List Argument
+  pub optional : List Argument
+
+-- a command with just these arguments
+abbrev pub plain_command : List ℕ → List Argument → Command
+plain_command name required = record { name = name; required = required; optional = [] }
+
+-- open: a file and an access mode
+abbrev pub open_command : Command
+open_command = plain_command (codes "open") (FileNumber ∷ AccessWord ∷ [])
+
+-- what a lock command has in any case: descriptor, kind, whence, start and length
+abbrev pub lock_arguments : List Argument
+lock_arguments = DescriptorNumber ∷ KindWord ∷ WhenceWord ∷ AnyNumber ∷ AnyNumber ∷ []
+
+-- a lock command of fcntl: these, and then a pid or none
+abbrev pub lock_command : List ℕ → Command
+lock_command name = record { name = name; required = lock_arguments; optional = AnyNumber ∷ [] }
+
+-- all commands
+abbrev pub commands : List Command
+commands = open_command ∷ lock_command (codes "setlk") ∷ []
+
+-- the command of this word, if it is one
+abbrev pub command_named : List ℕ → Option Command
+command_named word = find (λ command. bytes_eq command.name word) commands
+
+-- whether the command has so many arguments: those required, with the optional ones or without
+abbrev pub has_count : Command → ℕ → Bool
+has_count command count =
+    (count == length command.required) || (count == length command.required + length command.optional)

@@ -1,0 +1,35 @@
+-- The text of an entry of the journal (this project's choice).
+use Rattle.std.specs.Prelude.{ℕ, List, [], ◌∷◌, ◌++◌, flat_map, codes, decimal}
+use Rattle.lock_manager.specs.declared.request.Errno.{Errno}
+use Rattle.lock_manager.specs.declared.request.Errno.TheVariants.{EBADF, EINVAL, EOVERFLOW, EMFILE}
+use Rattle.lock_manager.specs.declared.request.Reply.{Reply}
+use Rattle.lock_manager.specs.declared.request.Reply.TheVariants as replies
+use Rattle.lock_manager.specs.declared.request.Note.{Note}
+use Rattle.lock_manager.specs.declared.request.Note.TheVariants.{Answer}
+use Rattle.session_core.specs.Event.{Event}
+use Rattle.script_core.specs.RequestText.{request_text}
+
+-- the name of an error (POSIX.1-2017 <errno.h>)
+abbrev pub error_name : Errno → List ℕ
+error_name EBADF = codes "EBADF"
+error_name EINVAL = codes "EINVAL"
+error_name EOVERFLOW = codes "EOVERFLOW"
+error_name EMFILE = codes "EMFILE"
+
+-- an answer
+abbrev pub reply_text : Reply → List ℕ
+reply_text replies.Ok = codes "ok"
+reply_text (replies.Fd fd) = codes "fd " ++ decimal fd
+reply_text (replies.Err error) = error_name error
+
+-- the process and the number of a request
+abbrev pub tag : ℕ → ℕ → List ℕ
+tag p n = decimal p ++ codes "#" ++ decimal n
+
+-- a note, with the request that it answers
+abbrev pub note_text : Note → List ℕ
+note_text (Answer p n reply) = codes " | " ++ tag p n ++ codes " " ++ reply_text reply
+
+-- the line of an event: the request, and then each note
+abbrev pub entry_line : Event → List ℕ
+entry_line event = tag event.p event.n ++ codes " " ++ request_text event.request ++ flat_map note_text event.notes ++ 10 ∷ []

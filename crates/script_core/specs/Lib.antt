@@ -1,0 +1,11 @@
+pub mod Facts
+pub mod Processes
+pub mod Words
+pub mod Numbers
+pub mod RequestText
+pub mod Arguments
+pub mod ScriptText
+pub mod Reading
+pub mod EntryText
+pub mod ReportText
+pub mod Output

@@ -1,0 +1,65 @@
+-- The words of a request. A number has one spelling: decimal, without leading zeros, and with a minus sign where it is negative
+-- (this project's choice).
+use Rattle.std.specs.Prelude.{ℕ, zero, suc, ℤ, pos, negsuc, List, [], ◌∷◌, ◌++◌, codes, decimal}
+use Rattle.std.specs.Fmt.{signed_decimal}
+use Rattle.std.specs.List.{join_with_byte}
+use Rattle.range_core.specs.declared.Mode.{Mode}
+use Rattle.range_core.specs.declared.Mode.TheVariants as modes
+use Rattle.range_core.specs.declared.Kind.{Kind}
+use Rattle.range_core.specs.declared.Kind.TheVariants.{Read, Write, Unlock}
+use Rattle.range_core.specs.declared.Whence.{Whence}
+use Rattle.range_core.specs.declared.Whence.TheVariants.{Set, Cur, End}
+use Rattle.lock_manager.specs.declared.request.Access.{Access}
+use Rattle.lock_manager.specs.declared.request.Access.TheVariants.{R, W, Rw}
+use Rattle.lock_manager.specs.declared.request.Lock.{Lock}
+use Rattle.lock_manager.specs.declared.request.LkCmd.{LkCmd}
+use Rattle.lock_manager.specs.declared.request.LkCmd.TheVariants.{SetLk}
+use Rattle.lock_manager.specs.declared.request.Request.{Request}
+use Rattle.lock_manager.specs.declared.request.Request.TheVariants.{OpenFile, Lk}
+
+-- the word of an access mode
+abbrev pub access_word : Access → List ℕ
+access_word R = codes "r"
+access_word W = codes "w"
+access_word Rw = codes "rw"
+
+-- the word of a mode
+abbrev pub mode_word : Mode → List ℕ
+mode_word modes.Read = codes "r"
+mode_word modes.Write = codes "w"
+
+-- the word of a kind of lock
+abbrev pub kind_word : Kind → List ℕ
+kind_word Read = codes "r"
+kind_word Write = codes "w"
+kind_word Unlock = codes "u"
+
+-- the word of a whence
+abbrev pub whence_word : Whence → List ℕ
+whence_word Set = codes "set"
+whence_word Cur = codes "cur"
+whence_word End = codes "end"
+
+-- the word of a lock command of fcntl
+abbrev pub lock_command_word : LkCmd → List ℕ
+lock_command_word SetLk = codes "setlk"
+
+-- the member l_pid is written only where it isn't 0
+abbrev pub pid_words : ℤ → List (List ℕ)
+pid_words (pos zero) = []
+pid_words (pos (suc n)) = decimal (suc n) ∷ []
+pid_words (negsuc n) = signed_decimal (negsuc n) ∷ []
+
+-- the arguments of a lock command: descriptor, kind, whence, start and length
+abbrev pub lock_words : ℕ → Lock → List (List ℕ)
+lock_words fd lock =
+    decimal fd ∷ kind_word lock.kind ∷ whence_word lock.whence ∷ signed_decimal lock.start ∷ signed_decimal lock.len ∷ []
+
+-- the command and its arguments
+abbrev pub request_words : Request → List (List ℕ)
+request_words (OpenFile file access) = codes "open" ∷ decimal file ∷ access_word access ∷ []
+request_words (Lk fd cmd lock) = lock_command_word cmd ∷ (lock_words fd lock ++ pid_words lock.pid)
+
+-- the words with one space between each two
+abbrev pub request_text : Request → List ℕ
+request_text request = join_with_byte 32 (request_words request)

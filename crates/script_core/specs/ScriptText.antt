@@ -1,0 +1,42 @@
+-- What a script says, and which words say a request (this project's choice).
+use Rattle.std.specs.Prelude.{◌≡◌, ℕ, ◌^◌, ◌<◌, ◌≤◌, ◌⊎◌, pos, FitsSigned, List, [], ◌∷◌, ◌++◌, codes}
+use Rattle.std.specs.Int.{w64}
+use Rattle.lock_manager.specs.declared.TheConstants.{FILES}
+use Rattle.lock_manager.specs.declared.request.Limits.{Limits}
+use Rattle.lock_manager.specs.declared.request.Request.{Request}
+use Rattle.lock_manager.specs.declared.request.Request.TheVariants.{OpenFile, Lk}
+use Rattle.script_core.specs.Processes.{process_limit}
+use Rattle.script_core.specs.RequestText.{request_words}
+
+-- the requests of a script with their processes, in order
+pub record Meaning : Type 0 where
+  pub arrivals : List (ℕ × Request)
+
+-- the number is that of a descriptor as a script may write it
+abbrev pub IsDescriptor : ℕ → Type 0
+IsDescriptor fd = fd < 2 ^ 32
+
+-- the number is that of a process
+abbrev pub IsProcess : Limits → ℕ → Type 0
+IsProcess limits p = (1 ≤ p) × (p ≤ process_limit limits)
+
+-- the numbers of the request are such as a script may write
+abbrev pub IsWritable : Limits → Request → Type 0
+IsWritable limits (OpenFile file access) = file < FILES
+IsWritable limits (Lk fd cmd lock) =
+    IsDescriptor fd × FitsSigned w64 lock.start × FitsSigned w64 lock.len × FitsSigned w64 lock.pid
+
+-- the request is one in which a pid of 0 may be written or left out
+abbrev pub HasZeroPid : Request → Type 0
+HasZeroPid (OpenFile file access) = ⊥
+HasZeroPid (Lk fd cmd lock) = lock.pid ≡ pos 0
+
+-- the words say the request: they are its words, or these with a pid of 0 behind them
+abbrev pub Says : List (List ℕ) → Request → Type 0
+Says words request =
+    (words ≡ request_words request) ⊎ (HasZeroPid request × (words ≡ request_words request ++ codes "0" ∷ []))
+
+-- the words are a request as a script may write it
+pub record IsRequest (limits : Limits) (words : List (List ℕ)) (request : Request) : Type 0 where
+  pub says : Says words request
+  pub writable : IsWritable limits request
