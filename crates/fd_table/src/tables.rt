@@ -58,12 +58,12 @@ pub struct Tables {
 
 #[tactic(auto, unfolding(crate::specs::TablesView::view_of, crate::specs::TablesView::processes_of, crate::specs::TablesView::limits_of))]
 impl Tables {
-    ghost use Rattle.std.specs.Prelude.{◌≢◌, IsSome, IsTrue, IfOk, OnErr, Ok, Err, None};
+    ghost use Rattle.std.specs.Prelude.{◌==◌, ◌||◌, OnOk, ◌≢◌, IsSome, IsTrue, IfOk, OnErr, Ok, Err, None};
     ghost use Rattle.fd_table.specs.Descriptors.{Descriptors, AreOpening, opening_descriptors, process_limit, look_at, with_descriptor};
     ghost use Rattle.fd_table.specs.Calls.{OpenGives, OnlyLacksMemory, IsFreeProcess, DupGives, DupToGives, CloseGives, EndGives, ForkGives, SeekGives, ResizeGives};
     ghost use Rattle.fd_table.specs.Closing.{IsClosing, without_one};
     ghost use Rattle.fd_table.specs.Rows.{row_at, key_at, IsLowestClosed, AreAllOpen, WithKey};
-    ghost use Rattle.fd_table.specs.TablesView.{StandFor, processes_of, limits_of, ever_alive, SameTables, IsInRange, opened_in};
+    ghost use Rattle.fd_table.specs.TablesView.{SameLimits, StandFor, processes_of, limits_of, ever_alive, SameTables, IsInRange, opened_in};
 
     /// Process 1 alone lives, no descriptor is open and each file is empty. The room for the descriptors of process 1 is
     /// made here (this project's choice).
@@ -107,6 +107,7 @@ impl Tables {
             (E : Descriptors) × OpenGives (limits_of self.old) D p file access result E × StandFor self.new E }
         ensures memory { result ≡ Err FdFault.Memory → (D : Descriptors) → StandFor self.old D →
             OnlyLacksMemory (limits_of self.old) D p file × StandFor self.new D }
+        ensures refused { OnErr result ((D : Descriptors) → StandFor self.old D → StandFor self.new D) }
         ensures kept { SameTables self.old self.new }
     {
         if file >= FILES {
@@ -140,6 +141,7 @@ impl Tables {
     pub fn dup(&mut self, p: u8, fd: u32) -> Result<u32, FdFault>
         ensures step { (D : Descriptors) → StandFor self.old D →
             (E : Descriptors) × DupGives (limits_of self.old) D p fd result E × StandFor self.new E }
+        ensures refused { OnErr result ((D : Descriptors) → StandFor self.old D → StandFor self.new D) }
         ensures kept { SameTables self.old self.new }
     {
         if self.key_at(p, fd).is_none() {
@@ -159,6 +161,7 @@ impl Tables {
     pub fn dup2(&mut self, p: u8, fd: u32, to: u32) -> Result<(u32, Releases), FdFault>
         ensures step { (D : Descriptors) → StandFor self.old D →
             (E : Descriptors) × DupToGives (limits_of self.old) D p fd to result E × StandFor self.new E }
+        ensures refused { OnErr result ((D : Descriptors) → StandFor self.old D → StandFor self.new D) }
         ensures kept { SameTables self.old self.new }
     {
         if self.key_at(p, fd).is_none() || to as usize >= row_len(self.limits) {
@@ -178,6 +181,7 @@ impl Tables {
     pub fn close_fd(&mut self, p: u8, fd: u32) -> Result<Releases, FdFault>
         ensures step { (D : Descriptors) → StandFor self.old D →
             (E : Descriptors) × CloseGives D p fd result E × StandFor self.new E }
+        ensures refused { OnErr result ((D : Descriptors) → StandFor self.old D → StandFor self.new D) }
         ensures kept { SameTables self.old self.new }
     {
         match self.close_one(p, fd) {
@@ -197,7 +201,10 @@ impl Tables {
             (E : Descriptors) × ForkGives (processes_of self.old) D p child result E × StandFor self.new E }
         ensures memory { result ≡ Err FdFault.Memory → (D : Descriptors) → StandFor self.old D →
             IsFreeProcess (processes_of self.old) D child × StandFor self.new D }
-        ensures kept { SameTables self.old self.new }
+        ensures refused { OnErr result ((D : Descriptors) → StandFor self.old D → StandFor self.new D) }
+        ensures kept { SameLimits self.old self.new }
+        ensures alive { OnOk result ((q : ℕ) → ever_alive self.new q ≡ ((q == child) || ever_alive self.old q)) }
+        ensures same { OnErr result ((q : ℕ) → ever_alive self.new q ≡ ever_alive self.old q) }
     {
         if child == 0 || child > self.processes || self.born(child) {
             return Err(FdFault::Taken);
@@ -253,6 +260,7 @@ impl Tables {
     pub fn seek(&mut self, p: u8, fd: u32, offset: i64) -> Result<(), FdFault>
         ensures step { (D : Descriptors) → StandFor self.old D →
             (E : Descriptors) × SeekGives D p fd offset result E × StandFor self.new E }
+        ensures refused { OnErr result ((D : Descriptors) → StandFor self.old D → StandFor self.new D) }
         ensures kept { SameTables self.old self.new }
     {
         let Some(key) = self.key_at(p, fd) else {
@@ -272,6 +280,7 @@ impl Tables {
     pub fn resize(&mut self, p: u8, fd: u32, size: i64) -> Result<(), FdFault>
         ensures step { (D : Descriptors) → StandFor self.old D →
             (E : Descriptors) × ResizeGives D p fd size result E × StandFor self.new E }
+        ensures refused { OnErr result ((D : Descriptors) → StandFor self.old D → StandFor self.new D) }
         ensures kept { SameTables self.old self.new }
     {
         let Some(opened) = self.opened_at(p, fd) else {

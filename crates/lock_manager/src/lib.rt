@@ -1,13 +1,14 @@
 //! The lock manager of one machine: descriptors, locks and processes, one request at a time.
 #![tactic(auto)]
 
+mod answers;
+mod laws;
 mod manager;
+mod opening;
 mod request;
+#[cfg(test)]
+mod tests;
 
+pub use laws::step_has_one_outcome;
 pub use manager::Manager;
-pub use request::{
-    Access, Errno, Held, Limits, LkCmd, Lock, Note, Owner, Policy, ProcState, Reply, Request, Rules,
-};
-
-/// The number of files, which are numbered from 0 (this project's choice).
-pub const FILES: u8 = 64;
+pub use request::{Errno, LkCmd, Lock, Note, ProcState, Reply, Request, Rules};

@@ -1,33 +1,6 @@
-use range_core::{Kind, Mode, Span, Whence};
-
-/// What a file descriptor was opened for: the access mode of its open file description (POSIX.1-2017 open).
-#[derive(Clone, Copy, Debug, PartialEq, Eq)]
-pub enum Access {
-    /// `O_RDONLY`.
-    R,
-    /// `O_WRONLY`.
-    W,
-    /// `O_RDWR`.
-    Rw,
-}
-
-/// How many processes and descriptors there may be (this project's choice).
-#[derive(Clone, Copy, Debug, PartialEq, Eq)]
-pub enum Limits {
-    /// 1 to 16 processes, each with descriptors 0 to 31.
-    Small,
-    /// 1 to 64 processes, each with descriptors 0 to 255.
-    Wide,
-}
-
-/// What a request that would wait is tested against (this project's choice).
-#[derive(Clone, Copy, Debug, PartialEq, Eq)]
-pub enum Policy {
-    /// The locks that are held.
-    Held,
-    /// The locks that are held, and the waits that stand before it.
-    Queue,
-}
+use fd_table::{Access, Limits};
+use range_core::{Kind, Whence};
+use wait_core::Policy;
 
 /// The rules of a run.
 #[derive(Clone, Copy, Debug, PartialEq, Eq)]
@@ -78,6 +51,8 @@ pub enum Errno {
     EINVAL = 2,
     /// A byte of the range would lie past the largest offset.
     EOVERFLOW = 3,
+    /// A lock of another owner stands in the way.
+    EAGAIN = 4,
     /// The process has no free descriptor.
     EMFILE = 7,
 }
@@ -107,24 +82,4 @@ pub enum ProcState {
     Unborn,
     /// Its next request may be taken.
     Live,
-}
-
-/// Who a lock belongs to.
-#[derive(Clone, Copy, Debug, PartialEq, Eq)]
-pub enum Owner {
-    /// The process of a traditional record lock.
-    Process(u8),
-}
-
-/// A lock that is held, as the report tells it.
-#[derive(Clone, Copy, Debug, PartialEq, Eq)]
-pub struct Held {
-    /// The file, from 0 to 63.
-    pub file: u8,
-    /// Whose lock it is.
-    pub owner: Owner,
-    /// What it allows.
-    pub mode: Mode,
-    /// The largest range round its bytes of this owner's one mode.
-    pub span: Span,
 }

@@ -1,3 +1,4 @@
 pub mod Changes
+pub mod Facts
 pub mod Ranges
 pub mod Resolving

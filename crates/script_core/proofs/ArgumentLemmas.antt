@@ -1,11 +1,11 @@
 -- Commands and their arguments.
 use Rattle.std.proofs.Common.{◌≡◌, ℕ, zero, suc, ◌<◌, ◌≤◌, ◌^◌, List, [], ◌∷◌, ◌++◌, length, get_or, codes, decimal, ◌⊎◌, ℤ, pos, negsuc, FitsSigned, w64, Ok, Err, Bor, refl, sym, ap, subst, inl, inr, arith}
 use Rattle.std.specs.Fmt.{digits, signed_decimal}
-use Rattle.lock_manager.specs.declared.request.Limits.TheVariants.{Small}
+use Rattle.fd_table.specs.declared.Limits.TheVariants.{Small}
 use Rattle.lock_manager.specs.declared.request.Lock.{Lock}
 use Rattle.lock_manager.specs.declared.request.LkCmd.{LkCmd}
 use Rattle.lock_manager.specs.declared.request.Request.TheVariants.{Lk}
-use Rattle.lock_manager.specs.declared.request.Limits.{Limits}
+use Rattle.fd_table.specs.declared.Limits.{Limits}
 use Rattle.script_core.specs.declared.script.Cause.{Cause}
 use Rattle.script_core.specs.Words.{texts}
 use Rattle.script_core.specs.RequestText.{lock_command_word, lock_words, pid_words}

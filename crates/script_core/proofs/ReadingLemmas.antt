@@ -2,12 +2,12 @@
 use Rattle.std.proofs.Common.{◌≡◌, ℕ, zero, suc, ◌+◌, ◌*◌, ◌⊎◌, Bool, true, false, List, [], ◌∷◌, ◌++◌, length, drop, get_or, codes, decimal, ℤ, pos, negsuc, FitsSigned, w64, MatchBool, MatchOption, MatchResult, Option, Some, None, unwrap_or, Result, Ok, Err, inl, inr, refl, sym, ap, ◌∙◌, subst, arith, nat_lt}
 use Rattle.std.specs.Fmt.{digits, signed_decimal}
 use Rattle.std.proofs.lemmas.Fmt.{decimal_injective, signed_decimal_injective}
-use Rattle.lock_manager.specs.declared.request.Access.{Access}
-use Rattle.lock_manager.specs.declared.request.Access.TheVariants.{R, W, Rw}
+use Rattle.fd_table.specs.declared.Access.{Access}
+use Rattle.fd_table.specs.declared.Access.TheVariants.{R, W, Rw}
 use Rattle.lock_manager.specs.declared.request.LkCmd.{LkCmd}
 use Rattle.lock_manager.specs.declared.request.LkCmd.TheVariants.{SetLk}
 use Rattle.lock_manager.specs.declared.request.Lock.{Lock}
-use Rattle.lock_manager.specs.declared.request.Limits.{Limits}
+use Rattle.fd_table.specs.declared.Limits.{Limits}
 use Rattle.lock_manager.specs.declared.request.Request.{Request}
 use Rattle.lock_manager.specs.declared.request.Request.TheVariants.{OpenFile, Lk}
 use Rattle.range_core.specs.declared.Kind.{Kind}

@@ -4,11 +4,11 @@ use Rattle.std.specs.Int.{w64}
 use Rattle.std.specs.Fmt.{signed_decimal}
 use Rattle.range_core.specs.declared.Kind.{Kind}
 use Rattle.range_core.specs.declared.Whence.{Whence}
-use Rattle.lock_manager.specs.declared.TheConstants.{FILES}
-use Rattle.lock_manager.specs.declared.request.Access.{Access}
-use Rattle.lock_manager.specs.declared.request.Limits.{Limits}
-use Rattle.script_core.specs.Facts.{MatchFact}
-use Rattle.script_core.specs.Processes.{process_limit}
+use Rattle.fd_table.specs.declared.TheConstants.{FILES}
+use Rattle.fd_table.specs.declared.Access.{Access}
+use Rattle.fd_table.specs.declared.Limits.{Limits}
+use Rattle.range_core.specs.Facts.{MatchFact}
+use Rattle.fd_table.specs.Descriptors.{process_limit}
 use Rattle.script_core.specs.declared.script.Cause.{Cause}
 use Rattle.script_core.specs.declared.script.Cause.TheVariants.{Word, Number, Process}
 use Rattle.script_core.specs.RequestText.{access_word, kind_word, whence_word}

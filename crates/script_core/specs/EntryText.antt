@@ -1,7 +1,7 @@
 -- The text of an entry of the journal (this project's choice).
 use Rattle.std.specs.Prelude.{ℕ, List, [], ◌∷◌, ◌++◌, flat_map, codes, decimal}
 use Rattle.lock_manager.specs.declared.request.Errno.{Errno}
-use Rattle.lock_manager.specs.declared.request.Errno.TheVariants.{EBADF, EINVAL, EOVERFLOW, EMFILE}
+use Rattle.lock_manager.specs.declared.request.Errno.TheVariants.{EBADF, EINVAL, EOVERFLOW, EAGAIN, EMFILE}
 use Rattle.lock_manager.specs.declared.request.Reply.{Reply}
 use Rattle.lock_manager.specs.declared.request.Reply.TheVariants as replies
 use Rattle.lock_manager.specs.declared.request.Note.{Note}
@@ -14,6 +14,7 @@ abbrev pub error_name : Errno → List ℕ
 error_name EBADF = codes "EBADF"
 error_name EINVAL = codes "EINVAL"
 error_name EOVERFLOW = codes "EOVERFLOW"
+error_name EAGAIN = codes "EAGAIN"
 error_name EMFILE = codes "EMFILE"
 
 -- an answer

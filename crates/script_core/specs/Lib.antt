@@ -1,5 +1,3 @@
-pub mod Facts
-pub mod Processes
 pub mod Words
 pub mod Numbers
 pub mod RequestText

@@ -1,7 +1,7 @@
 -- How a script is read: line by line, up to the first fault (this project's choice).
 use Rattle.std.specs.Prelude.{◌≡◌, ℕ, ◌+◌, ◌==◌, ◌⊎◌, Bool, false, nat_lt, MatchBool, MatchOption, MatchResult, Option, None, Some, Result, Ok, Err, List, [], ◌∷◌, ◌++◌, length, codes, decimal}
-use Rattle.lock_manager.specs.declared.request.Limits.{Limits}
-use Rattle.lock_manager.specs.declared.request.Limits.TheVariants.{Small}
+use Rattle.fd_table.specs.declared.Limits.{Limits}
+use Rattle.fd_table.specs.declared.Limits.TheVariants.{Small}
 use Rattle.lock_manager.specs.declared.request.Request.{Request}
 use Rattle.script_core.specs.declared.TheConstants.{LINE_MAX, SCRIPT_MAX}
 use Rattle.script_core.specs.declared.script.Cause.{Cause}

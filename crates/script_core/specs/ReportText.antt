@@ -1,10 +1,11 @@
 -- The text of the report (this project's choice).
-use Rattle.std.specs.Prelude.{ℕ, List, [], ◌∷◌, ◌++◌, codes, decimal}
+use Rattle.std.specs.Prelude.{ℕ, List, [], ◌∷◌, ◌++◌, if◌then◌else◌, codes, decimal}
 use Rattle.range_core.specs.declared.Mode.{Mode}
+use Rattle.range_core.specs.declared.Mode.TheVariants.{Read, Write}
 use Rattle.range_core.specs.declared.Span.{Span}
-use Rattle.lock_manager.specs.declared.request.Owner.{Owner}
-use Rattle.lock_manager.specs.declared.request.Owner.TheVariants.{Process}
-use Rattle.lock_manager.specs.declared.request.Held.{Held}
+use Rattle.lock_book.specs.declared.Owner.{Owner}
+use Rattle.lock_book.specs.declared.Owner.TheVariants.{Process, Description}
+use Rattle.lock_book.specs.declared.Held.{Held}
 use Rattle.lock_manager.specs.declared.request.ProcState.{ProcState}
 use Rattle.lock_manager.specs.declared.request.ProcState.TheVariants.{Unborn, Live}
 use Rattle.script_core.specs.declared.text.ProcessLine.{ProcessLine}
@@ -13,15 +14,31 @@ use Rattle.script_core.specs.RequestText.{mode_word}
 -- the owner of a lock
 abbrev pub owner_text : Owner → List ℕ
 owner_text (Process p) = codes "process " ++ decimal p
+owner_text (Description d) = codes "description " ++ decimal d
+
+-- the mode of a flock lock
+abbrev pub flock_word : Mode → List ℕ
+flock_word Read = codes "sh"
+flock_word Write = codes "ex"
 
 -- a byte lock: file, owner, mode, first and last byte
 abbrev pub byte_lock_text : ℕ → Owner → Mode → Span → List ℕ
 byte_lock_text file owner mode span =
     decimal file ++ codes " " ++ owner_text owner ++ codes " " ++ mode_word mode ++ codes " " ++ decimal span.first ++ codes " " ++ decimal span.last
 
+-- a flock lock: description and mode
+abbrev pub flock_text : Owner → Mode → List ℕ
+flock_text owner mode = owner_text owner ++ codes " " ++ flock_word mode
+
 -- a lock that is held
+abbrev pub held_text : Held → List ℕ
+held_text held =
+    if held.whole then codes "flock " ++ decimal held.file ++ codes " " ++ flock_text held.owner held.mode
+    else codes "lock " ++ byte_lock_text held.file held.owner held.mode held.span
+
+-- the line of a lock that is held
 abbrev pub held_line : Held → List ℕ
-held_line held = codes "lock " ++ byte_lock_text held.file held.owner held.mode held.span ++ 10 ∷ []
+held_line held = held_text held ++ 10 ∷ []
 
 -- where a process stands
 abbrev pub state_word : ProcState → List ℕ

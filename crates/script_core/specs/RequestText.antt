@@ -9,8 +9,8 @@ use Rattle.range_core.specs.declared.Kind.{Kind}
 use Rattle.range_core.specs.declared.Kind.TheVariants.{Read, Write, Unlock}
 use Rattle.range_core.specs.declared.Whence.{Whence}
 use Rattle.range_core.specs.declared.Whence.TheVariants.{Set, Cur, End}
-use Rattle.lock_manager.specs.declared.request.Access.{Access}
-use Rattle.lock_manager.specs.declared.request.Access.TheVariants.{R, W, Rw}
+use Rattle.fd_table.specs.declared.Access.{Access}
+use Rattle.fd_table.specs.declared.Access.TheVariants.{R, W, Rw}
 use Rattle.lock_manager.specs.declared.request.Lock.{Lock}
 use Rattle.lock_manager.specs.declared.request.LkCmd.{LkCmd}
 use Rattle.lock_manager.specs.declared.request.LkCmd.TheVariants.{SetLk}

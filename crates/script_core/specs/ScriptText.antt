@@ -1,11 +1,11 @@
 -- What a script says, and which words say a request (this project's choice).
 use Rattle.std.specs.Prelude.{◌≡◌, ℕ, ◌^◌, ◌<◌, ◌≤◌, ◌⊎◌, pos, FitsSigned, List, [], ◌∷◌, ◌++◌, codes}
 use Rattle.std.specs.Int.{w64}
-use Rattle.lock_manager.specs.declared.TheConstants.{FILES}
-use Rattle.lock_manager.specs.declared.request.Limits.{Limits}
+use Rattle.fd_table.specs.declared.TheConstants.{FILES}
+use Rattle.fd_table.specs.declared.Limits.{Limits}
 use Rattle.lock_manager.specs.declared.request.Request.{Request}
 use Rattle.lock_manager.specs.declared.request.Request.TheVariants.{OpenFile, Lk}
-use Rattle.script_core.specs.Processes.{process_limit}
+use Rattle.fd_table.specs.Descriptors.{process_limit}
 use Rattle.script_core.specs.RequestText.{request_words}
 
 -- the requests of a script with their processes, in order

@@ -1,13 +1,13 @@
 ghost use Rattle.std.specs.Prelude.{◌≡◌, ◌<◌, ◌^◌, MatchResult, decimal};
 ghost use Rattle.std.specs.Fmt.{signed_decimal};
-ghost use Rattle.lock_manager.specs.declared.request.Limits.TheVariants.{Small};
+ghost use Rattle.fd_table.specs.declared.Limits.TheVariants.{Small};
 ghost use Rattle.script_core.specs.Arguments.{FileNumber, DescriptorNumber, AnyNumber, ProcessNumber, AccessWord, KindWord, WhenceWord, IsBad};
 ghost use Rattle.script_core.specs.RequestText.{access_word, kind_word, whence_word};
 ghost use Rattle.script_core.specs.ScriptText.{IsDescriptor, IsProcess};
 
 use crate::Cause;
 use crate::numbers::{integer_of, natural_of};
-use lock_manager::{Access, FILES};
+use fd_table::{Access, FILES};
 use range_core::{Kind, Whence};
 
 /// The number of processes.

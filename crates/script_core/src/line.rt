@@ -1,5 +1,5 @@
 ghost use Rattle.std.specs.Prelude.{◌≡◌, ◌≢◌, pos, [], ◌∷◌, Err, MatchResult, codes};
-ghost use Rattle.lock_manager.specs.declared.request.Limits.TheVariants.{Small};
+ghost use Rattle.fd_table.specs.declared.Limits.TheVariants.{Small};
 ghost use Rattle.script_core.specs.Words.{texts};
 ghost use Rattle.script_core.specs.RequestText.{lock_command_word, lock_words};
 ghost use Rattle.script_core.specs.Arguments.{IsFirstBad, open_command, lock_arguments, lock_command};

@@ -1,10 +1,12 @@
 use crate::{Cause, ScriptFault, parse, write_entry, write_report};
-use lock_manager::{Access, Errno, Limits, LkCmd, Lock, Note, Policy, Reply, Request, Rules};
+use fd_table::{Access, Limits};
+use lock_manager::{Errno, LkCmd, Lock, Note, Reply, Request, Rules};
 use range_core::{Kind, Whence};
 use session_core::{Entry, run_all};
 use std::alloc::Global;
 use std::process::Abort;
 use std::test::Fail;
+use wait_core::Policy;
 
 const CONVERSION: &[u8] = b"1 open 0 rw\n1 setlk 0 w set 0 100\n1 setlk 0 r set 40 20\n";
 
@@ -171,8 +173,8 @@ fn output_of(alloc: Global, script: &[u8]) -> Result<Vec<u8>, Fail> {
     let script = parse(alloc, script).map_err(|_| "refused")?;
     let session = run_all(alloc, 16, rules, &script.arrivals).map_err(|_| "not run")?;
     let mut sent = Vec::new(alloc);
-    for p in 1..=16 {
-        sent.push(session.sent(p))?;
+    for index in 0..session.manager().processes() {
+        sent.push(session.sent(index + 1))?;
     }
     let mut out = Vec::new(alloc);
     for entry in session.journal() {
@@ -207,25 +209,24 @@ fn check_parse(rt: &impl Abort, alloc: Global, script: &[u8], expected: Option<S
 /// Run with each allocation refused in turn: a refused growth of `write_entry` leaves the old bytes and a front of the
 /// text.
 #[test]
-fn write_without_memory(rt: HostRuntime) -> Result<(), Fail> {
-    let (p, n) = (1, 2);
-    let mut notes = Vec::new(rt.alloc());
-    notes.push(Note::Answer {
-        p,
-        n,
-        reply: Reply::Ok,
-    })?;
+fn write_without_memory(rt: HostRuntime) {
     let entry = Entry {
-        p,
-        n,
+        p: 1,
+        n: 2,
         request: set_lock(Kind::Write, 0, 100, 5),
-        notes,
+        notes: Vec::new(rt.alloc()),
     };
-    let mut out = Vec::from_slice(rt.alloc(), b"old\n")?;
-    let whole = b"old\n1#2 setlk 0 w set 0 100 5 | 1#2 ok\n";
-    match write_entry(&entry, &mut out) {
-        Ok(()) => assert_eq!(rt; out.as_slice(), whole.as_slice()),
-        Err(_) => assert!(rt; out.starts_with(b"old\n") && whole.starts_with(&out)),
+    let mut out = Vec::new(rt.alloc());
+    let whole = b"1#2 setlk 0 w set 0 100 5\n1#2 setlk 0 w set 0 100 5\n";
+    let lines = [&whole[..26], whole];
+    for line in lines {
+        let old = out.len();
+        match write_entry(&entry, &mut out) {
+            Ok(()) => assert_eq!(rt; out.as_slice(), line),
+            Err(_) => {
+                assert!(rt; old <= out.len() && line.starts_with(&out));
+                break;
+            }
+        }
     }
-    Ok(())
 }

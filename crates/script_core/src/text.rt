@@ -1,13 +1,15 @@
-ghost use Rattle.std.specs.Prelude.{◌≡◌, ◌∷◌, ◌++◌, OnOk, string_bytes, flat_map};
+ghost use Rattle.std.specs.Prelude.{◌≡◌, ◌∷◌, ◌++◌, OnOk, codes, decimal, string_bytes, flat_map};
 ghost use Rattle.std.specs.List.{join_with_byte};
 ghost use Rattle.script_core.specs.RequestText.{request_text, lock_words, pid_words};
 ghost use Rattle.script_core.specs.RequestText as spec;
 ghost use Rattle.script_core.specs.EntryText.{entry_line, note_text, reply_text};
 ghost use Rattle.script_core.specs.EntryText as entry_spec;
-ghost use Rattle.script_core.specs.ReportText.{held_line, owner_text, counts_text, process_line};
+ghost use Rattle.script_core.specs.ReportText.{held_line, held_text, byte_lock_text, flock_text, owner_text, counts_text, process_line};
 ghost use Rattle.script_core.specs.ReportText as report_spec;
 
-use lock_manager::{Access, Errno, Held, LkCmd, Lock, Note, Owner, ProcState, Reply, Request};
+use fd_table::Access;
+use lock_book::{Held, Owner};
+use lock_manager::{Errno, LkCmd, Lock, Note, ProcState, Reply, Request};
 use range_core::{Kind, Mode, Whence};
 use session_core::Entry;
 use std::alloc::AllocError;
@@ -26,15 +28,44 @@ pub fn push_entry(text: &mut String, entry: &Entry) -> Result<(), AllocError>
     text.push('\n')
 }
 
-/// Appends the line of a lock that is held: file, owner, mode, first and last byte.
+/// Appends the line of a lock that is held.
 pub fn push_held(text: &mut String, held: &Held) -> Result<(), AllocError>
     ensures { OnOk result (string_bytes text.new ≡ string_bytes text.old ++ held_line held.now) }
+{
+    push_held_text(text, held)?;
+    text.push_str("\n")
+}
+
+fn push_held_text(text: &mut String, held: &Held) -> Result<(), AllocError>
+    ensures { OnOk result (string_bytes text.new ≡ string_bytes text.old ++ held_text held.now) }
+{
+    if held.whole {
+        push_flock(text, held)
+    } else {
+        push_byte_lock(text, held)
+    }
+}
+
+/// A byte lock: file, owner, mode, first and last byte.
+fn push_byte_lock(text: &mut String, held: &Held) -> Result<(), AllocError>
+    ensures { OnOk result (string_bytes text.new ≡ string_bytes text.old ++ codes "lock " ++ byte_lock_text held.now.file held.now.owner held.now.mode held.now.span) }
 {
     let file = held.file;
     write!(text, "lock {file} ")?;
     push_owner(text, held.owner)?;
     let (mode, first, last) = (mode_word(held.mode), held.span.first, held.span.last);
-    writeln!(text, " {mode} {first} {last}")
+    write!(text, " {mode} {first} {last}")
+}
+
+/// A flock lock: file, description and mode.
+fn push_flock(text: &mut String, held: &Held) -> Result<(), AllocError>
+    ensures { OnOk result (string_bytes text.new ≡ string_bytes text.old ++ codes "flock " ++ decimal held.now.file ++ codes " " ++ flock_text held.now.owner held.now.mode) }
+{
+    let file = held.file;
+    write!(text, "flock {file} ")?;
+    push_owner(text, held.owner)?;
+    let mode = flock_word(held.mode);
+    write!(text, " {mode}")
 }
 
 /// What the report tells of one process.
@@ -132,6 +163,7 @@ fn push_owner(text: &mut String, owner: Owner) -> Result<(), AllocError>
 {
     match owner {
         Owner::Process(p) => write!(text, "process {p}"),
+        Owner::Description(description) => write!(text, "description {description}"),
     }
 }
 
@@ -182,6 +214,15 @@ fn mode_word(mode: Mode) -> &'static str
     }
 }
 
+fn flock_word(mode: Mode) -> &'static str
+    ensures { result.now ≡ report_spec.flock_word mode }
+{
+    match mode {
+        Mode::Read => "sh",
+        Mode::Write => "ex",
+    }
+}
+
 fn error_name(error: Errno) -> &'static str
     ensures { result.now ≡ entry_spec.error_name error }
 {
@@ -189,6 +230,7 @@ fn error_name(error: Errno) -> &'static str
         Errno::EBADF => "EBADF",
         Errno::EINVAL => "EINVAL",
         Errno::EOVERFLOW => "EOVERFLOW",
+        Errno::EAGAIN => "EAGAIN",
         Errno::EMFILE => "EMFILE",
     }
 }

@@ -1,5 +1,6 @@
-ghost use Rattle.std.specs.Prelude.{◌≡◌, ℕ, List, ◌++◌, OnOk, OnErr};
-ghost use Rattle.lock_manager.specs.declared.request.Limits.TheVariants.{Small};
+ghost use Rattle.std.specs.Prelude.{◌≡◌, ℕ, List, ◌++◌, OnOk, OnErr, length};
+ghost use Rattle.lock_manager.specs.ManagerView.{processes_of};
+ghost use Rattle.fd_table.specs.declared.Limits.TheVariants.{Small};
 ghost use Rattle.script_core.specs.ScriptText.{IsProcess, IsWritable};
 ghost use Rattle.script_core.specs.Reading.{IsReadBack};
 ghost use Rattle.script_core.specs.EntryText.{entry_line};
@@ -28,20 +29,23 @@ pub fn write_entry(entry: &Entry, out: &mut Vec<u8>) -> Result<(), Memory>
 /// something, with the count in `sent` of what it sent. After `Memory` the vector has its old bytes and a front of the
 /// text.
 pub fn write_report(session: &Session, sent: &[u64], out: &mut Vec<u8>) -> Result<(), Memory>
+    requires { length sent.now ≡ processes_of session.now.manager }
     ensures { (text : List ℕ) × (out.new.items ≡ out.old.items ++ text) }
 {
     let mut text = String::new(*out.allocator());
     for held in &session.manager().held()? {
         push_held(&mut text, held).map_err(|_| Memory)?;
     }
-    for (p, sent) in (1..=session.manager().processes()).zip(sent) {
+    for index in 0..session.manager().processes() {
+        let sent = sent[usize::from(index)];
+        let p = index + 1;
         let state = session.manager().state_of(p);
-        if state == ProcState::Unborn && *sent == 0 {
+        if state == ProcState::Unborn && sent == 0 {
             continue;
         }
         let line = ProcessLine {
             p,
-            sent: *sent,
+            sent,
             taken: session.taken(p),
             answered: session.answered(p),
             state,

@@ -1,3 +1,6 @@
+ghost use Rattle.std.specs.Prelude.{◌≤◌};
+ghost use Rattle.fd_table.specs.Descriptors.{process_limit};
+
 use crate::{ArriveFault, Session};
 use lock_manager::{Request, Rules};
 use range_core::Memory;
@@ -18,7 +21,9 @@ pub fn run_all(
     processes: u8,
     rules: Rules,
     arrivals: &[(u8, Request)],
-) -> Result<Session, RunAllFault> {
+) -> Result<Session, RunAllFault>
+    requires { (1 ≤ processes) × (processes ≤ process_limit rules.limits) }
+{
     let mut session = Session::new(alloc, processes, rules).map_err(|_| RunAllFault::Memory)?;
     for (p, request) in arrivals {
         session.arrive(*p, *request).map_err(run_fault)?;

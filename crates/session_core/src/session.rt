@@ -1,3 +1,8 @@
+ghost use Rattle.std.specs.Prelude.{◌≡◌, ◌≤◌, IfSome, IsTrue};
+ghost use Rattle.fd_table.specs.Descriptors.{process_limit};
+ghost use Rattle.lock_manager.specs.declared.request.ProcState.TheVariants.{Live};
+ghost use Rattle.lock_manager.specs.ManagerView.{processes_of, state_at};
+
 use crate::{Entry, N_MAX};
 use lock_manager::{Manager, Note, Reply, Request, Rules};
 use range_core::Memory;
@@ -46,7 +51,9 @@ pub struct Session {
 
 impl Session {
     /// No mail and no entry, with `processes` processes numbered from 1.
-    pub fn new(alloc: Global, processes: u8, rules: Rules) -> Result<Session, Memory> {
+    pub fn new(alloc: Global, processes: u8, rules: Rules) -> Result<Session, Memory>
+        requires { (1 ≤ processes) × (processes ≤ process_limit rules.limits) }
+    {
         let manager = Manager::new(alloc, processes, rules)?;
         let mut mailboxes = Vec::new(alloc);
         for index in 0..processes {
@@ -92,7 +99,9 @@ impl Session {
     }
 
     /// The manager, whose state is the journal's replay.
-    pub fn manager(&self) -> &Manager {
+    pub fn manager(&self) -> &Manager
+        ensures { result.now ≡ self.now.manager }
+    {
         &self.manager
     }
 
@@ -130,11 +139,19 @@ impl Session {
         })
     }
 
+    fn is_able(&self, p: u8) -> bool
+        ensures { IsTrue result → state_at self.now.manager p ≡ Live }
+    {
+        1 <= p && p <= self.manager.processes() && self.manager.able(p)
+    }
+
     /// The able process of least number that has mail, with the number of its next request and the request.
-    fn next_mail(&self) -> Option<(u8, u64, Request)> {
+    fn next_mail(&self) -> Option<(u8, u64, Request)>
+        ensures { IfSome result (λ next. state_at self.now.manager next.0 ≡ Live) }
+    {
         for mailbox in &self.mailboxes {
             if let Some((n, request)) = mailbox.next()
-                && self.manager.able(mailbox.p)
+                && self.is_able(mailbox.p)
             {
                 return Some((mailbox.p, n, request));
             }
@@ -143,7 +160,9 @@ impl Session {
     }
 
     /// The journal's place is reserved before the manager takes, so that nothing can fail afterwards.
-    fn take(&mut self, p: u8, n: u64, request: Request) -> Result<u64, Memory> {
+    fn take(&mut self, p: u8, n: u64, request: Request) -> Result<u64, Memory>
+        requires { state_at self.old.manager p ≡ Live }
+    {
         self.journal.reserve(1).map_err(|_| Memory)?;
         let notes = self.manager.take(p, n, request)?;
         let entry = Entry {

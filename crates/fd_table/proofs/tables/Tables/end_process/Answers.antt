@@ -19,7 +19,7 @@ loop-fd-init c =
       few = rw c.none-released.ensures (omega arith);
       no_files = rw c.none-released.ensures refl;
       marks = rw c.no_marks-files.ensures refl;
-      kept = record { processes = refl; limits = refl };
+      kept = record { processes = refl; limits = refl; alive = λ q. refl };
     }
 
 pub loop-fd-preserved : goal.loop-fd-preserved
@@ -29,7 +29,11 @@ loop-fd-preserved c =
     let p = c.args.p in
     let numbers = c.loop-fd.released.descriptions in
     let kept : SameTables c.args.self.now c.close_one.new.self =
-    record { processes = c.close_one.ensures.kept.processes ∙ i.kept.processes; limits = c.close_one.ensures.kept.limits ∙ i.kept.limits } in
+    record {
+      processes = c.close_one.ensures.kept.processes ∙ i.kept.processes;
+      limits = c.close_one.ensures.kept.limits ∙ i.kept.limits;
+      alive = λ q. c.close_one.ensures.kept.alive q ∙ i.kept.alive q;
+    } in
     let stands : (D : Descriptors) → StandFor c.args.self.now D → StandFor c.close_one.new.self (closed_below D p (fd + 1)) = λ D h.
     stands_for_same (view_of c.close_one.new.self) (without_one (closed_below D p fd) p fd) (closed_below D p (fd + 1)) (next_closed D p fd)
     (c.close_one.ensures.step (closed_below D p fd) (i.stands D h)).1 in

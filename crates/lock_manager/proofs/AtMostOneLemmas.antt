@@ -1,0 +1,39 @@
+-- Predicates that at most one value meets, and the choices and the chains that are made of them.
+use Rattle.std.proofs.Common.{◌≡◌, sym, ◌∙◌, subst₂, Bool, true, false, Option, Some, None, Result, Ok, Err, inl, inr, MatchBool, MatchOption, MatchResult}
+use Rattle.range_core.specs.Facts.{MatchFact}
+
+-- at most one value meets the predicate
+abbrev pub AtMostOne : {A : Type 0} → (A → Type 0) → Type 0
+AtMostOne {A} P = (x y : A) → P x → P y → x ≡ y
+
+-- at most one value is this one
+pub one_value : {A : Type 0} (a : A) → AtMostOne (λ x. x ≡ a)
+one_value a x y h k = h ∙ sym k
+
+-- where each case has at most one value, so has the choice
+pub MatchBool-unique : {A : Type 0} (b : Bool) (P Q : A → Type 0) → AtMostOne P → AtMostOne Q → AtMostOne (λ x. MatchBool b (P x) (Q x))
+MatchBool-unique true P Q p q = p
+MatchBool-unique false P Q p q = q
+
+pub MatchOption-unique : {A X : Type 0} (o : Option X) (P : A → Type 0) (Q : X → A → Type 0) → AtMostOne P → ((v : X) → AtMostOne (Q v)) → AtMostOne (λ x. MatchOption o (P x) (λ v. Q v x))
+MatchOption-unique None P Q p q = p
+MatchOption-unique (Some v) P Q p q = q v
+
+pub MatchResult-unique : {A X E : Type 0} (r : Result X E) (P : X → A → Type 0) (Q : E → A → Type 0) → ((v : X) → AtMostOne (P v)) → ((e : E) → AtMostOne (Q e)) → AtMostOne (λ x. MatchResult r (λ v. P v x) (λ e. Q e x))
+MatchResult-unique (Ok v) P Q p q = p v
+MatchResult-unique (Err e) P Q p q = q e
+
+pub MatchFact-unique : {A : Type 0} (Fact : Type 0) (P Q : A → Type 0) → AtMostOne P → AtMostOne Q → AtMostOne (λ x. MatchFact Fact (P x) (Q x))
+MatchFact-unique Fact P Q p q x y (inl h) (inl k) = p x y h.1 k.1
+MatchFact-unique Fact P Q p q x y (inl h) (inr k) = absurd (k.0 h.0)
+MatchFact-unique Fact P Q p q x y (inr h) (inl k) = absurd (h.0 k.0)
+MatchFact-unique Fact P Q p q x y (inr h) (inr k) = q x y h.1 k.1
+
+-- at most one value comes of two that are determined
+pub by_two : {A B X : Type 0} (Gives : A → B → Type 0) (Comes : A → B → X → Type 0)
+    → ((a : A) (b : B) (c : A) (d : B) → Gives a b → Gives c d → (a ≡ c) × (b ≡ d))
+    → ((a : A) (b : B) → AtMostOne (Comes a b))
+    → AtMostOne (λ x. (a : A) × (b : B) × Gives a b × Comes a b x)
+by_two {A} {B} {X} Gives Comes given comes x y h k =
+    let same : (h.0 ≡ k.0) × (h.1 ≡ k.1) = given h.0 h.1 k.0 k.1 h.2 k.2 in
+    comes k.0 k.1 x y (subst₂ (λ (a : A) (b : B). Comes a b x) same.0 same.1 h.3) k.3

@@ -1,0 +1,11 @@
+pub mod AtMostOneLemmas
+pub mod BookLemmas
+pub mod CallLaws
+pub mod DescriptorLaws
+pub mod NextLaws
+pub mod OutcomeLaws
+pub mod ReleaseLaws
+pub mod ReportLemmas
+pub mod SafetyLemmas
+pub mod SettlingLaws
+pub mod StandsLemmas

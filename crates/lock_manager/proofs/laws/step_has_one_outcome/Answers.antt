@@ -1,0 +1,5 @@
+use Rattle.lock_manager.proofs.OutcomeLaws.{Step-unique}
+use Rattle.lock_manager.proofs.laws.step_has_one_outcome.Goals as goal
+
+pub returns : goal.returns
+returns c = Step-unique

@@ -1,0 +1,6 @@
+use Rattle.std.proofs.Common.{◌≡◌, All, vec_len}
+use Rattle.lock_manager.specs.Opening.{HoldsNothing}
+use Rattle.lock_manager.proofs.opening.empty_books.Given as goal
+
+abbrev pub invariant-loop : goal.invariant-loop
+invariant-loop l = (vec_len l.books ≡ l.counter) × All HoldsNothing l.books.items

@@ -1,0 +1,11 @@
+pub mod State
+pub mod Settling
+pub mod Outcomes
+pub mod DescriptorCalls
+pub mod LockWords
+pub mod LockCommands
+pub mod Step
+pub mod Safety
+pub mod ManagerView
+pub mod Opening
+pub mod OneOutcome

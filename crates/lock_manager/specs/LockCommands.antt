@@ -1,0 +1,60 @@
+-- What the lock commands of fcntl come to.
+use Rattle.std.specs.Prelude.{◌≡◌, ℕ, ◌||◌, MatchBool, MatchResult, MatchOption, None}
+use Rattle.range_core.specs.Facts.{MatchFact}
+use Rattle.range_core.specs.declared.Mode.{Mode}
+use Rattle.range_core.specs.declared.Kind.{Kind}
+use Rattle.range_core.specs.declared.Span.{Span}
+use Rattle.range_core.specs.Resolving.{resolution}
+use Rattle.fd_table.specs.declared.tables.Look.{Look}
+use Rattle.fd_table.specs.Descriptors.{look_at}
+use Rattle.wait_core.specs.declared.Wait.{Wait}
+use Rattle.wait_core.specs.Blocking.{IsBlockedByLock}
+use Rattle.lock_manager.specs.declared.request.Rules.{Rules}
+use Rattle.lock_manager.specs.declared.request.Lock.{Lock}
+use Rattle.lock_manager.specs.declared.request.LkCmd.{LkCmd}
+use Rattle.lock_manager.specs.declared.request.LkCmd.TheVariants.{SetLk}
+use Rattle.lock_manager.specs.declared.request.Errno.TheVariants.{EBADF, EINVAL, EAGAIN}
+use Rattle.lock_manager.specs.declared.request.Reply.TheVariants as replies
+use Rattle.lock_manager.specs.State.{State, locks_held, with_byte_mode, with_lock}
+use Rattle.lock_manager.specs.Outcomes.{Outcome, answered, refused, range_error}
+use Rattle.lock_manager.specs.LockWords.{is_get, is_bad_argument, wanted_mode, permits, lock_owner, wanted_lock}
+
+-- the lock is set, and the caller answered (POSIX.1-2017 fcntl, DESCRIPTION, F_SETLK)
+abbrev pub IsLocked : State → Wait → Outcome → Type 0
+IsLocked S wanted outcome = outcome ≡ answered (with_lock S wanted) wanted.p wanted.n replies.Ok
+
+-- where nothing blocks the lock it is set; else F_SETLK is refused
+-- (POSIX.1-2017 fcntl, DESCRIPTION, F_SETLK, and ERRORS, EAGAIN)
+abbrev pub CommandComesTo : Rules → State → LkCmd → Wait → Outcome → Type 0
+CommandComesTo rules S SetLk wanted outcome =
+    MatchFact (IsBlockedByLock (locks_held S) wanted) (outcome ≡ refused S wanted.p wanted.n EAGAIN) (IsLocked S wanted outcome)
+
+-- on a range, with a mode: a set command needs the access mode, a get command doesn't
+-- (POSIX.1-2017 fcntl, ERRORS, EBADF; for the get commands this project's choice)
+abbrev pub ModeComesTo : Rules → State → ℕ → ℕ → LkCmd → Look → Span → Mode → Outcome → Type 0
+ModeComesTo rules S p n cmd look span mode outcome =
+    MatchBool (is_get cmd || permits look.access mode)
+    (CommandComesTo rules S cmd (wanted_lock cmd p n look span mode) outcome)
+    (outcome ≡ refused S p n EBADF)
+
+-- on a range: an unlock removes the owner's mode from each byte; else there is a mode
+-- (POSIX.1-2017 fcntl, DESCRIPTION, F_SETLK and F_UNLCK)
+abbrev pub RangeComesTo : Rules → State → ℕ → ℕ → LkCmd → Kind → Look → Span → Outcome → Type 0
+RangeComesTo rules S p n cmd kind look span outcome =
+    MatchOption (wanted_mode kind)
+    (outcome ≡ answered (with_byte_mode S look.file (lock_owner cmd p look) span None) p n replies.Ok)
+    (λ mode. ModeComesTo rules S p n cmd look span mode outcome)
+
+-- a lock command on an open descriptor: EINVAL for its arguments, EINVAL or EOVERFLOW for its range, and then what it comes to
+-- on the range (POSIX.1-2017 fcntl, ERRORS; the order is this project's choice)
+abbrev pub DescribedComesTo : Rules → State → ℕ → ℕ → LkCmd → Lock → Look → Outcome → Type 0
+DescribedComesTo rules S p n cmd lock look outcome =
+    MatchBool (is_bad_argument cmd lock)
+    (outcome ≡ refused S p n EINVAL)
+    (MatchResult (resolution lock.whence lock.start lock.len look.offset look.size) (λ span. RangeComesTo rules S p n cmd lock.kind look span outcome)
+    (λ fault. outcome ≡ refused S p n (range_error fault)))
+
+-- a lock command: EBADF where the descriptor isn't open (POSIX.1-2017 fcntl, ERRORS, EBADF)
+abbrev pub LockComesTo : Rules → State → ℕ → ℕ → ℕ → LkCmd → Lock → Outcome → Type 0
+LockComesTo rules S p n fd cmd lock outcome =
+    MatchOption (look_at S.descriptors p fd) (outcome ≡ refused S p n EBADF) (λ look. DescribedComesTo rules S p n cmd lock look outcome)

@@ -1,0 +1,66 @@
+-- Words on the lock commands of fcntl and their arguments.
+use Rattle.std.specs.Prelude.{ℕ, zero, suc, ◌&&◌, ◌||◌, not, Bool, true, false, if◌then◌else◌, ℤ, pos, negsuc, Option, Some, None}
+use Rattle.range_core.specs.declared.Mode.{Mode}
+use Rattle.range_core.specs.declared.Mode.TheVariants as modes
+use Rattle.range_core.specs.declared.Kind.{Kind}
+use Rattle.range_core.specs.declared.Kind.TheVariants.{Read, Write, Unlock}
+use Rattle.range_core.specs.declared.Span.{Span}
+use Rattle.lock_book.specs.declared.Owner.{Owner}
+use Rattle.lock_book.specs.declared.Owner.TheVariants.{Process, Description}
+use Rattle.fd_table.specs.declared.Access.{Access}
+use Rattle.fd_table.specs.declared.Access.TheVariants.{R, W, Rw}
+use Rattle.fd_table.specs.declared.tables.Look.{Look}
+use Rattle.wait_core.specs.declared.Family.TheVariants.{Bytes}
+use Rattle.wait_core.specs.declared.Wait.{Wait}
+use Rattle.lock_manager.specs.declared.request.Lock.{Lock}
+use Rattle.lock_manager.specs.declared.request.LkCmd.{LkCmd}
+use Rattle.lock_manager.specs.declared.request.LkCmd.TheVariants.{SetLk}
+
+-- whether the command is one of the three for open file description locks (fcntl_locking(2), "Open file description locks")
+abbrev pub is_ofd : LkCmd → Bool
+is_ofd SetLk = false
+
+-- whether the command only asks (POSIX.1-2017 fcntl, DESCRIPTION, F_GETLK; fcntl_locking(2), F_OFD_GETLK)
+abbrev pub is_get : LkCmd → Bool
+is_get SetLk = false
+
+-- whether the kind is F_UNLCK (POSIX.1-2017 fcntl, DESCRIPTION, l_type)
+abbrev pub is_unlock : Kind → Bool
+is_unlock Read = false
+is_unlock Write = false
+is_unlock Unlock = true
+
+-- whether l_pid is 0 (fcntl_locking(2), "Open file description locks", l_pid)
+abbrev pub is_zero : ℤ → Bool
+is_zero (pos zero) = true
+is_zero (pos (suc n)) = false
+is_zero (negsuc n) = false
+
+-- an OFD command whose l_pid isn't 0, or a get command with F_UNLCK
+-- (fcntl_locking(2), ERRORS, EINVAL; F_UNLCK in a get command is this project's choice)
+abbrev pub is_bad_argument : LkCmd → Lock → Bool
+is_bad_argument cmd lock = (is_ofd cmd && not (is_zero lock.pid)) || (is_get cmd && is_unlock lock.kind)
+
+-- the mode that is asked for, and none for an unlock (POSIX.1-2017 fcntl, DESCRIPTION, l_type)
+abbrev pub wanted_mode : Kind → Option Mode
+wanted_mode Read = Some modes.Read
+wanted_mode Write = Some modes.Write
+wanted_mode Unlock = None
+
+-- whether the access mode allows the lock: a read lock needs a descriptor open for reading, and a write lock one open
+-- for writing (POSIX.1-2017 fcntl, ERRORS, EBADF)
+abbrev pub permits : Access → Mode → Bool
+permits R modes.Read = true
+permits R modes.Write = false
+permits W modes.Read = false
+permits W modes.Write = true
+permits Rw mode = true
+
+-- the owner of the lock (POSIX.1-2017 fcntl, DESCRIPTION, F_SETLK; fcntl_locking(2), "Open file description locks")
+abbrev pub lock_owner : LkCmd → ℕ → Look → Owner
+lock_owner cmd p look = if is_ofd cmd then Description look.desc else Process p
+
+-- the request for a lock of this mode on this range, as it would wait (POSIX.1-2017 fcntl, DESCRIPTION, F_SETLKW)
+abbrev pub wanted_lock : LkCmd → ℕ → ℕ → Look → Span → Mode → Wait
+wanted_lock cmd p n look span mode =
+    record { p = p; n = n; file = look.file; family = Bytes; owner = lock_owner cmd p look; span = span; mode = mode }
