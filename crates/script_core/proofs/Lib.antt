@@ -5,3 +5,4 @@ pub mod RoundTripLemmas
 pub mod TextLemmas
 pub mod ScriptLemmas
 pub mod ArgumentLemmas
+pub mod ProcessLemmas

@@ -1,6 +1,8 @@
-ghost use Rattle.std.specs.Prelude.{◌≡◌, ◌≢◌, ◌⊎◌, ◌==◌, ℕ, List, [], ◌∷◌, ◌++◌, Ok, Err, IfOk, IfErr, OnOk};
+ghost use Rattle.std.specs.Prelude.{◌≡◌, ◌≢◌, ◌⊎◌, ◌==◌, ℕ, List, [], ◌∷◌, ◌++◌, All, Ok, Err, IfOk, IfErr, OnOk};
 ghost use Rattle.std.specs.List.{slice_split};
 ghost use Rattle.script_core.specs.Reading.{Reads, HasOneReading, LinesGive, LineGives, start, reading_of};
+ghost use Rattle.fd_table.specs.declared.Limits.TheVariants.{Small};
+ghost use Rattle.script_core.specs.ScriptText.{IsProcess};
 
 use crate::SCRIPT_MAX;
 use crate::line::read_line;
@@ -69,6 +71,9 @@ impl Model for Script {
 pub fn parse(alloc: Global, bytes: &[u8]) -> Result<Script, ScriptFault>
     ensures accepted { IfOk result (λ script. Reads bytes.now (Ok script)) }
     ensures refused { IfErr result (λ fault. fault.cause ≢ Cause.Memory → Reads bytes.now (Err fault)) }
+
+    // Each arrival is of a process.
+    ensures processes { IfOk result (λ script. All (λ arrival. IsProcess Small arrival.0) script.arrivals) }
 
     // The bytes have no other reading.
     ensures determined { HasOneReading bytes.now }

@@ -1,5 +1,6 @@
 ghost use Rattle.std.specs.Prelude.{◌≡◌, ℕ, List, ◌++◌, OnOk, OnErr, length};
 ghost use Rattle.lock_manager.specs.ManagerView.{processes_of};
+ghost use Rattle.session_core.specs.SessionView.{manager_of};
 ghost use Rattle.fd_table.specs.declared.Limits.TheVariants.{Small};
 ghost use Rattle.script_core.specs.ScriptText.{IsProcess, IsWritable};
 ghost use Rattle.script_core.specs.Reading.{IsReadBack};
@@ -29,7 +30,7 @@ pub fn write_entry(entry: &Entry, out: &mut Vec<u8>) -> Result<(), Memory>
 /// something, with the count in `sent` of what it sent. After `Memory` the vector has its old bytes and a front of the
 /// text.
 pub fn write_report(session: &Session, sent: &[u64], out: &mut Vec<u8>) -> Result<(), Memory>
-    requires { length sent.now ≡ processes_of session.now.manager }
+    requires { length sent.now ≡ processes_of (manager_of session.now) }
     ensures { (text : List ℕ) × (out.new.items ≡ out.old.items ++ text) }
 {
     let mut text = String::new(*out.allocator());

@@ -1,4 +1,7 @@
-use lock_manager::{Note, Request};
+ghost use Rattle.std.specs.Prelude.{◌≡◌, count_by};
+ghost use Rattle.session_core.specs.Mail.{answers_in, is_answer_to, reply_of as reply_of_lem, reply_among};
+
+use lock_manager::{Note, Reply, Request};
 use std::marker::Model;
 
 /// One event: request number `n` of process `p`, and what it told.
@@ -22,11 +25,42 @@ impl Model for Entry {
     ghost view = { λ entry. record { p = entry.p; n = entry.n; request = entry.request; notes = entry.notes.items } };
 }
 
-impl Entry {
-    /// Whether the event answered a request of the process.
-    pub fn answers(&self, p: u8) -> bool {
-        self.notes.iter().any(|note| match note {
-            Note::Answer { p: to, .. } => *to == p,
-        })
+/// How many requests of the process the notes answer.
+pub fn count_answers(notes: &[Note], p: u8) -> usize
+    ensures { result ≡ count_by (is_answer_to p) notes.now }
+{
+    notes.iter().filter(|note| is_answer(note, p)).count()
+}
+
+/// The answer to request number `n` of the process that is among the notes.
+pub fn find_reply(notes: &[Note], p: u8, n: u64) -> Option<Reply>
+    ensures { result ≡ reply_among n (answers_in p 0 notes.now) }
+{
+    for note in notes {
+        if let Some(reply) = reply_of(note, p, n) {
+            return Some(reply);
+        }
+    }
+    None
+}
+
+/// Whether the note answers a request of the process.
+fn is_answer(note: &Note, p: u8) -> bool
+    ensures { result ≡ is_answer_to p note.now }
+{
+    matches!(note, Note::Answer { p: to, .. } if *to == p)
+}
+
+/// The answer to request number `n` of the process, if the note is that.
+fn reply_of(note: &Note, p: u8, n: u64) -> Option<Reply>
+    ensures { result ≡ reply_of_lem p n note.now }
+{
+    match note {
+        Note::Answer {
+            p: to,
+            n: number,
+            reply,
+        } if *to == p && *number == n => Some(*reply),
+        _ => None,
     }
 }

@@ -2,8 +2,11 @@
 #![tactic(auto)]
 
 mod entry;
+mod mailbox;
 mod run;
 mod session;
+#[cfg(test)]
+mod tests;
 
 pub use entry::Entry;
 pub use run::{RunAllFault, run_all};

@@ -1,7 +1,13 @@
-ghost use Rattle.std.specs.Prelude.{◌≤◌};
+ghost use Rattle.std.specs.Prelude.{ℕ, ◌≡◌, ◌<◌, ◌≤◌, All, IfOk, OnOk, Err, length};
 ghost use Rattle.fd_table.specs.Descriptors.{process_limit};
+ghost use Rattle.lock_manager.specs.State.{State};
+ghost use Rattle.lock_manager.specs.ManagerView.{StandsFor, rules_of, processes_of};
+ghost use Rattle.session_core.specs.Mail.{requests_sent};
+ghost use Rattle.session_core.specs.Draining.{IsDrain};
+ghost use Rattle.session_core.specs.SessionView.{manager_of, events_in, sent_of, SessionHolds};
+ghost use Rattle.session_core.specs.Deliveries.{Drains, Delivers};
 
-use crate::{ArriveFault, Session};
+use crate::{ArriveFault, N_MAX, Session};
 use lock_manager::{Request, Rules};
 use range_core::Memory;
 use std::alloc::Global;
@@ -9,7 +15,7 @@ use std::alloc::Global;
 /// Why a list of arrivals can't be run.
 #[derive(Clone, Copy, Debug, PartialEq, Eq)]
 pub enum RunAllFault {
-    /// Some process sends more than [`crate::N_MAX`] requests.
+    /// Some process sends more than [`N_MAX`] requests.
     Full = 1,
     /// A growth was refused.
     Memory = 2,
@@ -22,29 +28,40 @@ pub fn run_all(
     rules: Rules,
     arrivals: &[(u8, Request)],
 ) -> Result<Session, RunAllFault>
-    requires { (1 ≤ processes) × (processes ≤ process_limit rules.limits) }
+    requires processes { (1 ≤ processes) × (processes ≤ process_limit rules.limits) }
+    requires arrivals { All (λ arrival. (1 ≤ arrival.0) × (arrival.0 ≤ processes)) arrivals.now }
+    ensures drained { IfOk result (λ session. (T : State) ×
+        IsDrain rules processes arrivals.now (events_in session) T × StandsFor (manager_of session) T) }
+    ensures sent { IfOk result (λ session. (p : ℕ) → sent_of session p ≡ requests_sent p arrivals.now) }
+    ensures rules { IfOk result (λ session. rules_of (manager_of session) ≡ rules) }
+    ensures processes { IfOk result (λ session. processes_of (manager_of session) ≡ processes) }
+    ensures holds { IfOk result (λ session. SessionHolds session) }
+    ensures full { result ≡ Err RunAllFault.Full → (p : ℕ) × (N_MAX < length (requests_sent p arrivals.now)) }
 {
     let mut session = Session::new(alloc, processes, rules).map_err(|_| RunAllFault::Memory)?;
     for (p, request) in arrivals {
-        session.arrive(*p, *request).map_err(run_fault)?;
-        drain(&mut session).map_err(|_| RunAllFault::Memory)?;
+        deliver(&mut session, *p, *request)?;
     }
     Ok(session)
 }
 
-fn run_fault(fault: ArriveFault) -> RunAllFault {
-    match fault {
-        ArriveFault::Full => RunAllFault::Full,
-        ArriveFault::Memory => RunAllFault::Memory,
+/// The request arrives, and then all that can be taken is taken.
+fn deliver(session: &mut Session, p: u8, request: Request) -> Result<(), RunAllFault>
+    requires { (1 ≤ p) × (p ≤ processes_of (manager_of session.old)) }
+    ensures ok { OnOk result (Delivers session.old session.new p request) }
+    ensures full { result ≡ Err RunAllFault.Full → length (sent_of session.old p) ≡ N_MAX }
+{
+    match session.arrive(p, request) {
+        Ok(_) => drain(session).map_err(|_| RunAllFault::Memory),
+        Err(ArriveFault::Full) => Err(RunAllFault::Full),
+        Err(ArriveFault::Memory) => Err(RunAllFault::Memory),
     }
 }
 
 /// Takes until no able process has mail.
-fn drain(session: &mut Session) -> Result<(), Memory> {
-    for _ in 0..u64::MAX {
-        if session.take_next()?.is_none() {
-            break;
-        }
-    }
+fn drain(session: &mut Session) -> Result<(), Memory>
+    ensures { OnOk result (Drains session.old session.new) }
+{
+    while session.take_next()?.is_some() {}
     Ok(())
 }

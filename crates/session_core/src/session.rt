@@ -1,10 +1,15 @@
-ghost use Rattle.std.specs.Prelude.{◌≡◌, ◌≤◌, IfSome, IsTrue};
+ghost use Rattle.std.specs.Prelude.{ℕ, ◌≡◌, ◌+◌, ◌<◌, ◌≤◌, ◌↔◌, All, IfOk, OnErr, IfSome, IfNone, Err, Some, length, option_copied};
 ghost use Rattle.fd_table.specs.Descriptors.{process_limit};
-ghost use Rattle.lock_manager.specs.declared.request.ProcState.TheVariants.{Live};
 ghost use Rattle.lock_manager.specs.ManagerView.{processes_of, state_at};
+ghost use Rattle.session_core.specs.Mail.{events_of, answers_to, reply_to};
+ghost use Rattle.session_core.specs.Mailboxes.{IsMailKept, IsEmptyMailbox, mail_sent, mailbox_of};
+ghost use Rattle.session_core.specs.Draining.{next_untaken, HasNoMailBelow, IsDrained};
+ghost use Rattle.session_core.specs.Headline.{Holds};
 
+use crate::entry::{count_answers, find_reply};
+use crate::mailbox::Mailbox;
 use crate::{Entry, N_MAX};
-use lock_manager::{Manager, Note, Reply, Request, Rules};
+use lock_manager::{Manager, ProcState, Reply, Request, Rules};
 use range_core::Memory;
 use std::alloc::Global;
 
@@ -17,54 +22,33 @@ pub enum ArriveFault {
     Memory = 2,
 }
 
-/// What one process has sent, in order, and how much of it was taken.
-#[derive(Drop)]
-struct Mailbox {
-    p: u8,
-    sent: Vec<Request>,
-    taken: usize,
-}
-
-impl Mailbox {
-    /// The first request that wasn't taken, with its number.
-    fn next(&self) -> Option<(u64, Request)> {
-        let request = self.sent.get(self.taken).copied()?;
-        Some((self.taken as u64 + 1, request))
-    }
-
-    /// The first request that wasn't taken is taken.
-    fn advance(&mut self) {
-        if self.taken < self.sent.len() {
-            self.taken += 1;
-        }
-    }
-}
-
 /// A lock manager with the mail of its processes, and the journal of what was taken.
 #[derive(Drop)]
 pub struct Session {
+    processes: u8,
     manager: Manager,
     /// By process, from process 1 on.
     mailboxes: Vec<Mailbox>,
     journal: Vec<Entry>,
+    ghost all: { processes ≡ processes_of manager },
+    ghost mail: { IsMailKept processes mailboxes.items journal.items },
+    ghost holds: { ∥ Holds manager (mail_sent mailboxes.items) journal.items ∥₁ },
 }
 
+#[tactic(auto, unfolding(crate::specs::SessionView::manager_of, crate::specs::SessionView::events_in, crate::specs::SessionView::sent_of))]
 impl Session {
+    ghost use Rattle.session_core.specs.SessionView.{manager_of, events_in, sent_of, IsEmptySession, SameSession, Arrives, TakesOne, TakesNext, SessionHolds};
+
     /// No mail and no entry, with `processes` processes numbered from 1.
     pub fn new(alloc: Global, processes: u8, rules: Rules) -> Result<Session, Memory>
         requires { (1 ≤ processes) × (processes ≤ process_limit rules.limits) }
+        ensures empty { IfOk result (λ session. IsEmptySession rules processes session) }
+        ensures holds { IfOk result (λ session. SessionHolds session) }
     {
         let manager = Manager::new(alloc, processes, rules)?;
-        let mut mailboxes = Vec::new(alloc);
-        for index in 0..processes {
-            let mailbox = Mailbox {
-                p: index + 1,
-                sent: Vec::new(alloc),
-                taken: 0,
-            };
-            mailboxes.push(mailbox).map_err(|_| Memory)?;
-        }
+        let mailboxes = empty_mailboxes(alloc, processes)?;
         Ok(Session {
+            processes,
             manager,
             mailboxes,
             journal: Vec::new(alloc),
@@ -72,97 +56,124 @@ impl Session {
     }
 
     /// The request comes to the mailbox of its process, and gets its number among those of the process, from 1.
-    pub fn arrive(&mut self, p: u8, request: Request) -> Result<u64, ArriveFault> {
-        let Some(mailbox) = self.mailboxes.get_mut(index_of(p)) else {
-            return Err(ArriveFault::Full);
-        };
-        let sent = mailbox.sent.len() as u64;
-        if sent >= N_MAX {
-            return Err(ArriveFault::Full);
-        }
-        mailbox.sent.push(request).map_err(|_| ArriveFault::Memory)?;
-        Ok(sent + 1)
+    pub fn arrive(&mut self, p: u8, request: Request) -> Result<u64, ArriveFault>
+        requires { (1 ≤ p) × (p ≤ processes_of (manager_of self.old)) }
+        ensures ok { IfOk result (λ n. Arrives self.old self.new p request n) }
+        ensures full { (result ≡ Err ArriveFault.Full) ↔ (length (sent_of self.old p) ≡ N_MAX) }
+        ensures err { OnErr result (SameSession self.old self.new) }
+        ensures holds { SessionHolds self.new }
+    {
+        self.mailboxes[usize::from(p) - 1].push(request)
     }
 
     /// Takes the next request of the able process of least number that has mail, and answers its place in the journal,
     /// from 1; `None` where no able process has mail. `Memory` leaves everything as it was.
-    pub fn take_next(&mut self) -> Result<Option<u64>, Memory> {
+    pub fn take_next(&mut self) -> Result<Option<u64>, Memory>
+        ensures taken { IfOk result (TakesNext self.old self.new) }
+        ensures memory { OnErr result (SameSession self.old self.new) }
+        ensures holds { SessionHolds self.new }
+    {
         match self.next_mail() {
-            Some((p, n, request)) => self.take(p, n, request).map(Some),
+            Some((p, request)) => self.take(p, request).map(Some),
             None => Ok(None),
         }
     }
 
     /// All that was taken, in order.
-    pub fn journal(&self) -> &[Entry] {
+    pub fn journal(&self) -> &[Entry]
+        ensures events { result.now ≡ events_in self.now }
+        ensures holds { SessionHolds self.now }
+    {
         &self.journal
     }
 
     /// The manager, whose state is the journal's replay.
     pub fn manager(&self) -> &Manager
-        ensures { result.now ≡ self.now.manager }
+        ensures { result.now ≡ manager_of self.now }
     {
         &self.manager
     }
 
     /// How many requests the process has sent.
-    pub fn sent(&self, p: u8) -> u64 {
-        match self.mailboxes.get(index_of(p)) {
-            Some(mailbox) => mailbox.sent.len() as u64,
+    pub fn sent(&self, p: u8) -> u64
+        ensures { result ≡ length (sent_of self.now p) }
+    {
+        match self.mailbox(p) {
+            Some(mailbox) => mailbox.sent(),
             None => 0,
         }
     }
 
     /// How many requests of the process were taken.
-    pub fn taken(&self, p: u8) -> u64 {
-        match self.mailboxes.get(index_of(p)) {
-            Some(mailbox) => mailbox.taken as u64,
+    pub fn taken(&self, p: u8) -> u64
+        ensures { result ≡ length (events_of p (events_in self.now)) }
+    {
+        match self.mailbox(p) {
+            Some(mailbox) => mailbox.taken(),
             None => 0,
         }
     }
 
     /// How many requests of the process were answered.
-    pub fn answered(&self, p: u8) -> u64 {
-        self.journal.iter().filter(|entry| entry.answers(p)).count() as u64
+    pub fn answered(&self, p: u8) -> u64
+        ensures { result ≡ length (answers_to p (events_in self.now)) }
+    {
+        let mut answered = 0;
+        for entry in &self.journal {
+            answered += count_answers(&entry.notes, p) as u64;
+        }
+        answered
     }
 
     /// The answer to request number `n` of the process, if it was answered.
-    pub fn answer_of(&self, p: u8, n: u64) -> Option<Reply> {
-        let mut notes = self.journal.iter().flat_map(|entry| entry.notes.iter());
-        notes.find_map(|note| match note {
-            Note::Answer {
-                p: to,
-                n: number,
-                reply,
-            } if *to == p && *number == n => Some(*reply),
-            _ => None,
-        })
-    }
-
-    fn is_able(&self, p: u8) -> bool
-        ensures { IsTrue result → state_at self.now.manager p ≡ Live }
+    pub fn answer_of(&self, p: u8, n: u64) -> Option<Reply>
+        ensures { result ≡ reply_to p n (events_in self.now) }
     {
-        1 <= p && p <= self.manager.processes() && self.manager.able(p)
-    }
-
-    /// The able process of least number that has mail, with the number of its next request and the request.
-    fn next_mail(&self) -> Option<(u8, u64, Request)>
-        ensures { IfSome result (λ next. state_at self.now.manager next.0 ≡ Live) }
-    {
-        for mailbox in &self.mailboxes {
-            if let Some((n, request)) = mailbox.next()
-                && self.is_able(mailbox.p)
-            {
-                return Some((mailbox.p, n, request));
+        for entry in &self.journal {
+            if let Some(reply) = find_reply(&entry.notes, p, n) {
+                return Some(reply);
             }
         }
         None
     }
 
-    /// The journal's place is reserved before the manager takes, so that nothing can fail afterwards.
-    fn take(&mut self, p: u8, n: u64, request: Request) -> Result<u64, Memory>
-        requires { state_at self.old.manager p ≡ Live }
+    /// The able process of least number that has mail, and its next request.
+    fn next_mail(&self) -> Option<(u8, Request)>
+        ensures process { IfSome result (λ mail. (1 ≤ mail.0) × (mail.0 ≤ processes_of (manager_of self.now))) }
+        ensures able { IfSome result (λ mail. state_at (manager_of self.now) mail.0 ≡ ProcState.Live) }
+        ensures next { IfSome result (λ mail. next_untaken (sent_of self.now) (events_in self.now) mail.0 ≡ Some mail.1) }
+        ensures least { IfSome result (λ mail. HasNoMailBelow (state_at (manager_of self.now)) (sent_of self.now) (events_in self.now) mail.0) }
+        ensures none { IfNone result (IsDrained (state_at (manager_of self.now)) (sent_of self.now) (events_in self.now)) }
     {
+        for index in 0..self.processes {
+            let p = index + 1;
+            if let Some(request) = self.untaken(p)
+                && self.manager.able(p)
+            {
+                return Some((p, request));
+            }
+        }
+        None
+    }
+
+    /// The first request of the process that wasn't taken.
+    fn untaken(&self, p: u8) -> Option<Request>
+        ensures { result ≡ next_untaken (sent_of self.now) (events_in self.now) p }
+    {
+        self.mailbox(p)?.next()
+    }
+
+    /// Takes this request, the next one of the process, and answers its place in the journal.
+    fn take(&mut self, p: u8, request: Request) -> Result<u64, Memory>
+        requires process { (1 ≤ p) × (p ≤ processes_of (manager_of self.old)) }
+        requires able { state_at (manager_of self.old) p ≡ ProcState.Live }
+        requires next { next_untaken (sent_of self.old) (events_in self.old) p ≡ Some request }
+        requires least { HasNoMailBelow (state_at (manager_of self.old)) (sent_of self.old) (events_in self.old) p }
+        ensures taken { IfOk result (TakesOne self.old self.new) }
+        ensures memory { OnErr result (SameSession self.old self.new) }
+    {
+        let n = self.taken(p) + 1;
+        // The journal's place is there before the manager takes, so that nothing can fail afterwards.
         self.journal.reserve(1).map_err(|_| Memory)?;
         let notes = self.manager.take(p, n, request)?;
         let entry = Entry {
@@ -171,14 +182,28 @@ impl Session {
             request,
             notes,
         };
-        self.journal.push(entry).map_err(|_| Memory)?;
-        if let Some(mailbox) = self.mailboxes.get_mut(index_of(p)) {
-            mailbox.advance();
-        }
+        self.journal.push(entry).unwrap();
+        self.mailboxes[usize::from(p) - 1].advance();
         Ok(self.journal.len() as u64)
+    }
+
+    /// The mailbox of the process.
+    fn mailbox(&self, p: u8) -> Option<&Mailbox>
+        ensures { option_copied result ≡ mailbox_of self.now.mailboxes.items p }
+    {
+        let place = usize::from(p).checked_sub(1)?;
+        self.mailboxes.get(place)
     }
 }
 
-fn index_of(p: u8) -> usize {
-    usize::from(p).wrapping_sub(1)
+/// A mailbox for each process.
+fn empty_mailboxes(alloc: Global, processes: u8) -> Result<Vec<Mailbox>, Memory>
+    ensures each { IfOk result (λ mailboxes. length mailboxes.items ≡ processes) }
+    ensures empty { IfOk result (λ mailboxes. All IsEmptyMailbox mailboxes.items) }
+{
+    let mut mailboxes = Vec::new(alloc);
+    for _ in 0..processes {
+        mailboxes.push(Mailbox::new(alloc)).map_err(|_| Memory)?;
+    }
+    Ok(mailboxes)
 }

@@ -1,8 +1,17 @@
 //! Waits for locks: who waits, what blocks a wait, and when a wait would close a cycle.
 #![tactic(auto)]
 
+mod conflicts;
+mod laws;
+mod pairs;
+#[cfg(test)]
+mod tests;
+mod waits;
+
+pub use laws::stay_free_of_cycles;
 use lock_book::Owner;
 use range_core::{Mode, Span};
+pub use waits::Waits;
 
 /// Which locks a wait is for: the two families never meet (fcntl_locking(2); flock(2)).
 #[derive(Clone, Copy, Debug, PartialEq, Eq)]

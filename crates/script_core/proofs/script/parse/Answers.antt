@@ -1,4 +1,5 @@
 use Rattle.std.proofs.lemmas.Result.{IfOk-weaker, IfErr-weaker}
+use Rattle.script_core.proofs.ProcessLemmas.{processes_read}
 use Rattle.script_core.proofs.ScriptLemmas.{reads_from_pieces}
 use Rattle.script_core.proofs.script.parse.Goals as goal
 
@@ -9,3 +10,9 @@ returns-clause-accepted c =
 pub returns-clause-refused : goal.returns-clause-refused
 returns-clause-refused c =
     IfErr-weaker c.read_lines.result _ _ (λ fault given other. reads_from_pieces c.args.bytes.now c.without_last_feed.result.now _ c.if-bytes-gt-SCRIPT_MAX.false c.without_last_feed.ensures (given other)) c.read_lines.ensures.refused
+
+pub returns-clause-processes : goal.returns-clause-processes
+returns-clause-processes c =
+    IfOk-weaker c.read_lines.result _ _
+    (λ script given. processes_read c.args.bytes.now script (reads_from_pieces c.args.bytes.now c.without_last_feed.result.now _ c.if-bytes-gt-SCRIPT_MAX.false c.without_last_feed.ensures given))
+    c.read_lines.ensures.accepted

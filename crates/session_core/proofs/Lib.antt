@@ -1,0 +1,12 @@
+pub mod Tally
+pub mod Moves
+pub mod OutcomeLaws
+pub mod DescriptorLaws
+pub mod LockLaws
+pub mod StepLaws
+pub mod MailLemmas
+pub mod RunLaws
+pub mod HeadlineLaws
+pub mod JournalLemmas
+pub mod AnswerLemmas
+pub mod DrainLemmas

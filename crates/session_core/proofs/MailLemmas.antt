@@ -1,0 +1,172 @@
+-- Mailboxes by process: what is written to one of them, and what stays.
+use Rattle.std.proofs.Common.{ℕ, zero, suc, ◌≡◌, ◌≢◌, ◌+◌, ◌-◌, ◌<◌, ◌≤◌, refl, sym, ◌∙◌, ap, arith, length, slice_get, set, get_or, List, [], ◌∷◌, ◌++◌, Some, Option, Result, Ok, Err, IfOk, OnOk, OnErr, eq-eqb, ne_eqb, ⊎_elim}
+use Rattle.std.specs.Prelude.{◌==◌, if◌then◌else◌}
+use Rattle.std.proofs.lemmas.List.{get_or-set_same, length-set, append-nil, append_assoc}
+use Rattle.std.proofs.lemmas.Option.{slice_get-get_or}
+use Rattle.std.proofs.lemmas.Bool.{cases_eq}
+use Rattle.lock_manager.specs.declared.request.Request.{Request}
+use Rattle.lock_manager.specs.declared.manager.Manager.{Manager}
+use Rattle.lock_manager.specs.ManagerView.{SameManager}
+use Rattle.session_core.specs.declared.mailbox.Mailbox.{Mailbox}
+use Rattle.session_core.specs.Mailboxes.{mailbox_of, requests_in, taken_in, mail_sent, mail_taken}
+use Rattle.session_core.specs.Event.{Event}
+use Rattle.session_core.specs.Mail.{IsPrefixOf, requests_taken}
+use Rattle.session_core.specs.Headline.{Holds}
+
+-- the place that is written has the new value
+pub slice_get-set_same : {X : Type 0} (xs : List X) (i : ℕ) (x : X) → i < length xs → slice_get (set xs i x) i ≡ Some x
+slice_get-set_same xs i x within =
+    slice_get-get_or (set xs i x) i x (rw length-set within) ∙ ap (λ y. Some y) (get_or-set_same xs i x x within)
+
+-- every other place keeps its value
+pub slice_get-set_other : {X : Type 0} (xs : List X) (i j : ℕ) (x : X) → j ≢ i → slice_get (set xs i x) j ≡ slice_get xs j
+slice_get-set_other [] i j x other = refl
+slice_get-set_other (y ∷ ys) zero zero x other = absurd (other refl)
+slice_get-set_other (y ∷ ys) zero (suc j) x other = refl
+slice_get-set_other (y ∷ ys) (suc i) zero x other = refl
+slice_get-set_other (y ∷ ys) (suc i) (suc j) x other = slice_get-set_other ys i j x (λ e. other (ap suc e))
+
+-- the mailbox of process p stands at this place
+pub record StandsAt (mailboxes : List Mailbox) (place p : ℕ) (mailbox : Mailbox) : Type 0 where
+  pub numbered : place + 1 ≡ p
+  pub within : place < length mailboxes
+  pub read : mailbox ≡ get_or mailboxes place mailbox
+
+-- so it does where each process has one
+pub StandsAt-index : (mailboxes : List Mailbox) (processes p index : ℕ) (mailbox : Mailbox) → length mailboxes ≡ processes → 1 ≤ p
+    → p ≤ processes → index ≡ p → mailbox ≡ get_or mailboxes (index - 1) mailbox → StandsAt mailboxes (index - 1) p mailbox
+StandsAt-index mailboxes processes p index mailbox each low high is read =
+    record { numbered = omega arith; within = omega arith; read = read }
+
+-- the mailbox of the process is there
+pub mailbox_of-there : (mailboxes : List Mailbox) (place p : ℕ) (mailbox : Mailbox) → StandsAt mailboxes place p mailbox
+    → mailbox_of mailboxes p ≡ Some mailbox
+mailbox_of-there mailboxes place zero mailbox at = absurd (omega arith)
+mailbox_of-there mailboxes place (suc k) mailbox at =
+    let same : k ≡ place = omega arith in
+    rw same (slice_get-get_or mailboxes place mailbox at.within ∙ ap (λ x. Some x) (sym at.read))
+
+-- the mailbox that is written is the new one
+mailbox_of-set_same : (mailboxes : List Mailbox) (place p : ℕ) (old new : Mailbox) → StandsAt mailboxes place p old
+    → mailbox_of (set mailboxes place new) p ≡ Some new
+mailbox_of-set_same mailboxes place zero old new at = absurd (omega arith)
+mailbox_of-set_same mailboxes place (suc k) old new at =
+    let same : k ≡ place = omega arith in
+    rw same (slice_get-set_same mailboxes place new at.within)
+
+-- every other mailbox stays
+mailbox_of-set_other : (mailboxes : List Mailbox) (place p q : ℕ) (old new : Mailbox) → StandsAt mailboxes place p old → q ≢ p
+    → mailbox_of (set mailboxes place new) q ≡ mailbox_of mailboxes q
+mailbox_of-set_other mailboxes place p zero old new at other = refl
+mailbox_of-set_other mailboxes place p (suc k) old new at other =
+    slice_get-set_other mailboxes place k new (omega (arith, at.numbered))
+
+-- what is read off a mailbox, where one was written
+of_set : {X : Type 0} (f : Option Mailbox → X) (mailboxes : List Mailbox) (place p : ℕ) (old new : Mailbox)
+    → StandsAt mailboxes place p old → (q : ℕ)
+    → f (mailbox_of (set mailboxes place new) q) ≡ (if q == p then f (Some new) else f (mailbox_of mailboxes q))
+of_set f mailboxes place p old new at q =
+    ⊎_elim
+    (λ same. rw (eq-eqb q p same, same) (ap f (mailbox_of-set_same mailboxes place p old new at)))
+    (λ other. rw (ne_eqb q p other) (ap f (mailbox_of-set_other mailboxes place p q old new at other)))
+    (cases_eq q p)
+
+-- what a process sent, where a mailbox was written
+pub mail_sent-set : (mailboxes : List Mailbox) (place p : ℕ) (old new : Mailbox) → StandsAt mailboxes place p old → (q : ℕ)
+    → mail_sent (set mailboxes place new) q ≡ (if q == p then new.sent.items else mail_sent mailboxes q)
+mail_sent-set mailboxes place p old new at q = of_set requests_in mailboxes place p old new at q
+
+-- how much was taken, where a mailbox was written
+pub mail_taken-set : (mailboxes : List Mailbox) (place p : ℕ) (old new : Mailbox) → StandsAt mailboxes place p old → (q : ℕ)
+    → mail_taken (set mailboxes place new) q ≡ (if q == p then new.taken else mail_taken mailboxes q)
+mail_taken-set mailboxes place p old new at q = of_set taken_in mailboxes place p old new at q
+
+-- a choice by process that comes to the same on both sides
+pub chosen_same : {X : Type 0} (f : ℕ → X) (p q : ℕ) (x : X) → x ≡ f p → (if q == p then x else f q) ≡ f q
+chosen_same f p q x is =
+    ⊎_elim (λ same. rw (eq-eqb q p same, same) is) (λ other. rw (ne_eqb q p other) refl) (cases_eq q p)
+
+-- a mailbox that is written with the same taken number leaves all of them
+pub mail_taken-kept : (mailboxes : List Mailbox) (place p : ℕ) (old new : Mailbox) → StandsAt mailboxes place p old
+    → new.taken ≡ old.taken → (q : ℕ) → mail_taken (set mailboxes place new) q ≡ mail_taken mailboxes q
+mail_taken-kept mailboxes place p old new at same q =
+    mail_taken-set mailboxes place p old new at q
+    ∙ chosen_same (mail_taken mailboxes) p q new.taken (same ∙ sym (ap taken_in (mailbox_of-there mailboxes place p old at)))
+
+-- a mailbox that is written with the same requests leaves all of them
+pub mail_sent-kept : (mailboxes : List Mailbox) (place p : ℕ) (old new : Mailbox) → StandsAt mailboxes place p old
+    → new.sent.items ≡ old.sent.items → (q : ℕ) → mail_sent (set mailboxes place new) q ≡ mail_sent mailboxes q
+mail_sent-kept mailboxes place p old new at same q =
+    mail_sent-set mailboxes place p old new at q
+    ∙ chosen_same (mail_sent mailboxes) p q new.sent.items
+    (same ∙ sym (ap requests_in (mailbox_of-there mailboxes place p old at)))
+
+-- a mailbox that is written with more requests adds to what its process sent, and to nothing else
+pub mail_sent-grown : (mailboxes : List Mailbox) (place p : ℕ) (old new : Mailbox) → StandsAt mailboxes place p old
+    → IsPrefixOf old.sent.items new.sent.items → (q : ℕ)
+    → IsPrefixOf (mail_sent mailboxes q) (mail_sent (set mailboxes place new) q)
+mail_sent-grown mailboxes place p old new at grown q =
+    ⊎_elim
+    (λ same. (
+      grown.0,
+      mail_sent-set mailboxes place p old new at q
+          ∙ rw (eq-eqb q p same, same) (grown.1 ∙ ap (λ xs. xs ++ grown.0) (sym (ap requests_in (mailbox_of-there mailboxes place p old at)))),
+    ))
+    (λ other.
+    ([], mail_sent-set mailboxes place p old new at q ∙ rw (ne_eqb q p other) (sym (append-nil (mail_sent mailboxes q)))))
+    (cases_eq q p)
+
+-- a list with one more item, or as it was, begins with what it was
+pub IsPrefixOf-pushed : {X E T : Type 0} (result : Result T E) (old new : List X) (x : X) → OnOk result (new ≡ old ++ x ∷ [])
+    → OnErr result (new ≡ old) → IsPrefixOf old new
+IsPrefixOf-pushed (Ok n) old new x ok err = (x ∷ [], ok)
+IsPrefixOf-pushed (Err fault) old new x ok err = ([], err ∙ sym (append-nil old))
+
+-- a prefix of a prefix is a prefix
+pub IsPrefixOf-longer : {X : Type 0} (xs ys zs : List X) → IsPrefixOf xs ys → IsPrefixOf ys zs → IsPrefixOf xs zs
+IsPrefixOf-longer xs ys zs first second =
+    (first.0 ++ second.0, second.1 ∙ ap (λ l. l ++ second.0) first.1 ∙ append_assoc xs first.0 second.0)
+
+-- what holds of a session holds where more was sent
+pub Holds-grown : (manager : Manager) (sent sent' : ℕ → List Request) (journal : List Event)
+    → ((q : ℕ) → IsPrefixOf (sent q) (sent' q)) → Holds manager sent journal → Holds manager sent' journal
+Holds-grown manager sent sent' journal grown holds =
+    record {
+      taken_in_order = λ p. IsPrefixOf-longer (requests_taken p journal) (sent p) (sent' p) (holds.taken_in_order p) (grown p);
+      answered_once = holds.answered_once;
+      answers_numbered = holds.answers_numbered;
+      answered_taken = holds.answered_taken;
+      answered_in_turn = holds.answered_in_turn;
+      told_in_range = holds.told_in_range;
+      quiet_after_end = holds.quiet_after_end;
+      safe = holds.safe;
+      replayed = holds.replayed;
+    }
+
+-- what a process sent, where its mailbox got one more request
+pub mail_sent-pushed : (mailboxes : List Mailbox) (place p : ℕ) (old new : Mailbox) (request : Request)
+    → StandsAt mailboxes place p old → new.sent.items ≡ old.sent.items ++ request ∷ [] → (q : ℕ)
+    → mail_sent (set mailboxes place new) q ≡ (if q == p then mail_sent mailboxes q ++ request ∷ [] else mail_sent mailboxes q)
+mail_sent-pushed mailboxes place p old new request at pushed q =
+    mail_sent-set mailboxes place p old new at q
+    ∙ ⊎_elim
+    (λ same.
+    rw (eq-eqb q p same, same) (pushed ∙ ap (λ mailbox. requests_in mailbox ++ request ∷ []) (sym (mailbox_of-there mailboxes place p old at))))
+    (λ other. rw (ne_eqb q p other) refl)
+    (cases_eq q p)
+
+-- how much a process sent, where its mailbox was written
+pub length-mail_sent-set : (mailboxes : List Mailbox) (place p n : ℕ) (old new : Mailbox) → StandsAt mailboxes place p old
+    → n ≡ length new.sent.items → n ≡ length (mail_sent (set mailboxes place new) p)
+length-mail_sent-set mailboxes place p n old new at is =
+    is ∙ ap (λ mailbox. length (requests_in mailbox)) (sym (mailbox_of-set_same mailboxes place p old new at))
+
+-- a manager stands for what it stands for
+pub SameManager-refl : (manager : Manager) → SameManager manager manager
+SameManager-refl manager = record { stands = λ S stands. stands; rules = refl; processes = refl }
+
+-- two facts of an answer as one
+pub IfOk-both : {T E : Type 0} (result : Result T E) (P Q R : T → Type 0) → ((x : T) → P x → Q x → R x) → IfOk result P
+    → IfOk result Q → IfOk result R
+IfOk-both (Ok x) P Q R both p q = both x p q
+IfOk-both (Err fault) P Q R both p q = tt

@@ -1,0 +1,79 @@
+-- What holds of a session at every moment between two events (the words are this project's choice).
+use Rattle.std.specs.Prelude.{◌≡◌, ◌≢◌, ℕ, ◌+◌, ◌≤◌, ◌⊎◌, Some, IfSome, IfNone, List, ◌∷◌, ◌++◌, map, length, All, slice_get}
+use Rattle.std.specs.List.Sorted.{IsStrictlyIncreasing}
+use Rattle.lock_manager.specs.declared.request.Note.{Note}
+use Rattle.lock_manager.specs.declared.request.Note.TheVariants.{Answer}
+use Rattle.lock_manager.specs.declared.request.ProcState.{ProcState}
+use Rattle.lock_manager.specs.declared.request.ProcState.TheVariants.{Unborn, Live}
+use Rattle.lock_manager.specs.declared.manager.Manager.{Manager}
+use Rattle.lock_manager.specs.ManagerView.{IsSafeManager, processes_of, state_at}
+use Rattle.lock_manager.specs.declared.request.Request.{Request}
+use Rattle.lock_manager.specs.declared.request.Request.TheVariants.{OpenFile, Lk}
+use Rattle.session_core.specs.Event.{Event}
+use Rattle.session_core.specs.Runs.{events_of}
+use Rattle.session_core.specs.Mail.{IsPrefixOf, requests_taken, answers_to, reply_to}
+use Rattle.session_core.specs.Draining.{IsReplayed}
+
+-- the process that a note is for
+abbrev pub told_process : Note → ℕ
+told_process (Answer p n reply) = p
+
+-- a process that stands so waits for the answer to its last request (none does: no request that is served waits)
+abbrev pub IsWaiting : ProcState → Type 0
+IsWaiting Unborn = ⊥
+IsWaiting Live = ⊥
+
+-- a process that stands so has ended (none does: no request that is served ends one)
+abbrev pub IsEnded : ProcState → Type 0
+IsEnded Unborn = ⊥
+IsEnded Live = ⊥
+
+-- the request ends the process, as its event tells
+abbrev pub EndsBy : Request → Event → ℕ → Type 0
+EndsBy (OpenFile file access) event p = ⊥
+EndsBy (Lk fd cmd lock) event p = ⊥
+
+-- the event ends the process (no request that is served does)
+abbrev pub EndsProcess : Event → ℕ → Type 0
+EndsProcess event p = EndsBy event.request event p
+
+-- the event is not of the process, and tells it nothing
+abbrev pub LeavesAlone : ℕ → Event → Type 0
+LeavesAlone p event = (event.p ≢ p) × All (λ note. told_process note ≢ p) event.notes
+
+-- after the event that ends a process no event and no note is the process'
+-- (POSIX.1-2017 _Exit, "Consequences of Process Termination")
+abbrev pub IsQuietAfterEnd : List Event → Type 0
+IsQuietAfterEnd events =
+    (p : ℕ) (before : List Event) (event : Event) (after : List Event)
+    → events ≡ before ++ event ∷ after → EndsProcess event p → All (LeavesAlone p) after
+
+-- a taken request of the process without an answer is its last, and then it waits or has ended
+abbrev pub IsAnsweredInTurn : Manager → List Event → ℕ → Type 0
+IsAnsweredInTurn manager events p =
+    (place : ℕ) (event : Event) → slice_get (events_of p events) place ≡ Some event
+    → IfNone (reply_to p event.n events)
+    ((length (events_of p events) ≡ place + 1) × (IsWaiting (state_at manager p) ⊎ IsEnded (state_at manager p)))
+
+-- the answers to the process have the numbers 1, 2, and so on
+abbrev pub AreAnswersNumbered : List Event → ℕ → Type 0
+AreAnswersNumbered events p = (place : ℕ) → IfSome (slice_get (answers_to p events) place) (λ answer. answer.0 ≡ place + 1)
+
+-- each note is for one of so many processes
+abbrev pub AreToldInRange : ℕ → List Event → Type 0
+AreToldInRange processes events =
+    All (λ event. All (λ note. (1 ≤ told_process note) × (told_process note ≤ processes)) event.notes) events
+
+-- of each process a prefix of what it sent was taken, each once and in order; each request is answered once at most, in turn,
+-- and never after the end; no owners conflict, each wait is blocked and closes no cycle; and the manager's state is the
+-- replay of the journal, which is a run
+pub record Holds (manager : Manager) (sent : ℕ → List Request) (journal : List Event) : Type 0 where
+  pub taken_in_order : (p : ℕ) → IsPrefixOf (requests_taken p journal) (sent p)
+  pub answered_once : (p : ℕ) → IsStrictlyIncreasing (map (λ answer. answer.0) (answers_to p journal))
+  pub answers_numbered : (p : ℕ) → AreAnswersNumbered journal p
+  pub answered_taken : (p : ℕ) → length (answers_to p journal) ≤ length (events_of p journal)
+  pub answered_in_turn : (p : ℕ) → IsAnsweredInTurn manager journal p
+  pub told_in_range : AreToldInRange (processes_of manager) journal
+  pub quiet_after_end : IsQuietAfterEnd journal
+  pub safe : IsSafeManager manager
+  pub replayed : IsReplayed manager journal

@@ -1,0 +1,40 @@
+-- What the mailboxes hold (the words are this project's choice).
+use Rattle.std.specs.Prelude.{◌≡◌, ◌≤◌, ℕ, zero, suc, Option, Some, None, List, [], length, slice_get}
+use Rattle.lock_manager.specs.declared.request.Request.{Request}
+use Rattle.session_core.specs.declared.mailbox.Mailbox.{Mailbox}
+use Rattle.session_core.specs.Event.{Event}
+use Rattle.session_core.specs.Runs.{events_of}
+
+-- the mailbox of a process: that of process p stands at place p - 1
+abbrev pub mailbox_of : List Mailbox → ℕ → Option Mailbox
+mailbox_of mailboxes zero = None
+mailbox_of mailboxes (suc place) = slice_get mailboxes place
+
+-- the requests that were sent to a mailbox, in order
+abbrev pub requests_in : Option Mailbox → List Request
+requests_in None = []
+requests_in (Some mailbox) = mailbox.sent.items
+
+-- how many requests were taken out of a mailbox
+abbrev pub taken_in : Option Mailbox → ℕ
+taken_in None = 0
+taken_in (Some mailbox) = mailbox.taken
+
+-- what a process sent, in order
+abbrev pub mail_sent : List Mailbox → ℕ → List Request
+mail_sent mailboxes p = requests_in (mailbox_of mailboxes p)
+
+-- how much of what a process sent was taken
+abbrev pub mail_taken : List Mailbox → ℕ → ℕ
+mail_taken mailboxes p = taken_in (mailbox_of mailboxes p)
+
+-- there is some process; each has a mailbox, and of each just so much was taken as the journal has
+pub record IsMailKept (processes : ℕ) (mailboxes : List Mailbox) (journal : List Event) : Type 0 where
+  pub some : 1 ≤ processes
+  pub one_each : length mailboxes ≡ processes
+  pub taken : (p : ℕ) → mail_taken mailboxes p ≡ length (events_of p journal)
+
+-- nothing was sent to the mailbox
+pub record IsEmptyMailbox (mailbox : Mailbox) : Type 0 where
+  pub sent : mailbox.sent.items ≡ []
+  pub taken : mailbox.taken ≡ 0

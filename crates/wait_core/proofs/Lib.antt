@@ -1,0 +1,6 @@
+pub mod AnyLemmas
+pub mod CycleLaws
+pub mod ListLemmas
+pub mod NextLaws
+pub mod PairLemmas
+pub mod ReachLemmas

@@ -1,0 +1,116 @@
+-- The list of waits: its room, what it finds, and which of it are blocked.
+use Rattle.std.proofs.Common.{ℕ, ◌≡◌, ◌≢◌, ◌+◌, ◌<◌, ◌≤◌, ◌∙◌, inl, inr, sym, ap, subst, refl, arith, append_assoc, append-nil, true, false, Some, None, List, [], ◌∷◌, ◌++◌, All, length, get_or, map, zero, suc, take, drop}
+use Rattle.std.specs.Prelude.{◌==◌, slice_get}
+use Rattle.std.specs.List.{AllPairs}
+use Rattle.std.proofs.lemmas.Bool.{cases_eq}
+use Rattle.std.proofs.lemmas.Bool.Decides.{nat_tests, Decides-eqb}
+use Rattle.std.proofs.lemmas.List.Elements.{All-nil, All-cons, All-map, All-weaker}
+use Rattle.std.proofs.lemmas.List.Folds.{Any-from_list_any}
+use Rattle.std.proofs.lemmas.List.Kept.{AllPairs-cons}
+use Rattle.std.proofs.lemmas.List.{get_or-map, take_more}
+use Rattle.std.proofs.lemmas.Map.Made.{IsDistinct-from_AllPairs}
+use Rattle.std.proofs.lemmas.Map.Steps.{length-le_from_distinct_below}
+use Rattle.std.proofs.lemmas.Option.{slice_get-get_or, slice_get_cases}
+use Rattle.wait_core.specs.declared.Policy.{Policy}
+use Rattle.wait_core.specs.declared.Wait.{Wait}
+use Rattle.wait_core.specs.Locks.{Locks}
+use Rattle.wait_core.specs.Blocking.{AllBlocked, IsBlocked, IsNextReady}
+use Rattle.wait_core.specs.WellFormed.{IsWellFormed}
+use Rattle.wait_core.specs.WaitsView.{wait_of}
+use Rattle.wait_core.proofs.AnyLemmas.{split_at}
+
+-- where a process has no wait, each wait is another one's
+pub none_of : (waits : List Wait) (p : ℕ) → wait_of waits p ≡ None → All (λ v. v.p ≢ p) waits
+none_of [] p none = All-nil (λ v. v.p ≢ p)
+none_of (w ∷ waits) p none = elim (cases_eq w.p p) [
+  | inl same ↦ absurd (let found : (w.p == p) ≡ true = grind (arith, nat_tests) in let some = rw found at none in cc)
+  | inr other ↦
+      let passed : (w.p == p) ≡ false = grind (arith, nat_tests) in
+      All-cons (λ v. v.p ≢ p) w waits other (none_of waits p (rw passed at none))
+]
+
+-- the numbers of the processes that wait
+numbers_of : List Wait → List ℕ
+numbers_of waits = map (λ wait. wait.p) waits
+
+length-numbers_of : (waits : List Wait) → length (map (λ (wait : Wait). wait.p) waits) ≡ length waits
+length-numbers_of [] = refl
+length-numbers_of (w ∷ waits) = ap (λ n. suc n) (length-numbers_of waits)
+
+apart_numbers : (d : Wait) (waits : List Wait) → AllPairs (λ v w. v.p ≢ w.p) waits → AllPairs (λ (x y : ℕ). x ≢ y) (map (λ (wait : Wait). wait.p) waits)
+apart_numbers d waits apart i j e before within same =
+    let count = length-numbers_of waits in
+    let j_within : j < length waits = omega arith in
+    let i_within : i < length waits = omega arith in
+    apart i j d before j_within
+    (sym (get_or-map (λ (wait : Wait). wait.p) waits i d e i_within) ∙ same ∙ get_or-map (λ (wait : Wait). wait.p) waits j d e j_within)
+
+-- a list of waits of so many processes has room for one more process
+pub room_for : (processes : ℕ) (waits : List Wait) (wait : Wait) → All (IsWellFormed processes) waits → AllPairs (λ v w. v.p ≢ w.p) waits → wait_of waits wait.p ≡ None → IsWellFormed processes wait → length waits < processes
+room_for processes waits wait each apart none fits =
+    let numbers : List ℕ = map (λ (v : Wait). v.p) waits in
+    let others : All (λ n. wait.p ≢ n) numbers =
+    All-map (λ n. wait.p ≢ n) (λ (v : Wait). v.p) waits
+    (All-weaker (λ (v : Wait). v.p ≢ wait.p) (λ (v : Wait). wait.p ≢ v.p) (λ v other same. other (sym same)) waits (none_of waits wait.p none)) in
+    let positive : All (λ n. 0 ≢ n) (wait.p ∷ numbers) =
+    All-cons (λ n. 0 ≢ n) wait.p numbers (λ zero_p. (let h = fits.from_one in omega arith))
+    (All-map (λ n. 0 ≢ n) (λ (v : Wait). v.p) waits
+    (All-weaker (IsWellFormed processes) (λ (v : Wait). 0 ≢ v.p) (λ v known zero_p. (let h = known.from_one in omega arith)) waits each)) in
+    let distinct = IsDistinct-from_AllPairs Decides-eqb (0 ∷ wait.p ∷ numbers)
+    (AllPairs-cons (λ (x y : ℕ). x ≢ y) 0 (wait.p ∷ numbers) positive
+    (AllPairs-cons (λ (x y : ℕ). x ≢ y) wait.p numbers others (apart_numbers wait waits apart))) in
+    let small : All (λ n. n < processes + 1) (0 ∷ wait.p ∷ numbers) =
+    All-cons (λ n. n < processes + 1) 0 (wait.p ∷ numbers) (omega arith)
+    (All-cons (λ n. n < processes + 1) wait.p numbers (let h = fits.process in omega arith)
+    (All-map (λ n. n < processes + 1) (λ (v : Wait). v.p) waits
+    (All-weaker (IsWellFormed processes) (λ (v : Wait). v.p < processes + 1) (λ v known. (let h = known.process in omega arith)) waits each))) in
+    let most : length (0 ∷ wait.p ∷ numbers) ≤ processes + 1 =
+    length-le_from_distinct_below (0 ∷ wait.p ∷ numbers) (processes + 1) distinct
+    (λ q among.
+    let (k, n, within, is, test) = Any-from_list_any (λ n. q == n) (0 ∷ wait.p ∷ numbers) among in
+    let below : n < processes + 1 = subst (λ (m : ℕ). m < processes + 1) is (small k n within) in
+    let same : q ≡ n = grind (arith, nat_tests) in omega arith) in
+    let count = length-numbers_of waits in omega arith
+
+-- one more wait that is blocked
+pub AllBlocked-push : (policy : Policy) (locks : Locks) (earlier waits : List Wait) (wait : Wait) → AllBlocked policy locks earlier waits → IsBlocked policy locks (earlier ++ waits) wait → AllBlocked policy locks earlier (waits ++ wait ∷ [])
+AllBlocked-push policy locks earlier [] wait all blocked = (subst (λ (es : List Wait). IsBlocked policy locks es wait) (append-nil earlier) blocked, tt)
+AllBlocked-push policy locks earlier (v ∷ waits) wait all blocked = (
+  all.0,
+  AllBlocked-push policy locks (earlier ++ v ∷ []) waits wait all.1
+      (subst (λ (es : List Wait). IsBlocked policy locks es wait) (sym (append_assoc earlier (v ∷ []) waits)) blocked),
+)
+
+-- one more wait that is blocked, in the list as far as it was looked at
+pub blocked_so_far : (policy : Policy) (locks : Locks) (waits : List Wait) (i : ℕ) → i < length waits → AllBlocked policy locks [] (take i waits) → ((wait : Wait) → slice_get waits i ≡ Some wait → IsBlocked policy locks (take i waits) wait) → AllBlocked policy locks [] (take (i + 1) waits)
+blocked_so_far policy locks waits i within all blocked = elim (slice_get_cases waits i).1 [
+  | inl (wait, inside, some, is) ↦
+      rw (take_more waits i wait within, is) (AllBlocked-push policy locks [] (take i waits) wait all (blocked wait some))
+  | inr (past, none) ↦ absurd (omega arith)
+]
+
+-- the first wait that isn't blocked
+pub first_ready : (policy : Policy) (locks : Locks) (waits : List Wait) (i : ℕ) (wait : Wait) → i < length waits → wait ≡ get_or waits i wait → AllBlocked policy locks [] (take i waits) → ((w : Wait) → slice_get waits i ≡ Some w → ¬ IsBlocked policy locks (take i waits) w) → IsNextReady policy locks waits wait
+first_ready policy locks waits i wait within is all ready = record {
+  before = take i waits;
+  after = drop (suc i) waits;
+  is_next = record {
+    place = split_at waits i wait within (sym is);
+    ready = ready wait (slice_get-get_or waits i wait within ∙ ap (λ (w : Wait). Some w) (sym is));
+    earliest = all;
+  };
+}
+
+-- no process has two waits, so each wait is the one that is found for its process
+pub found_itself : (waits : List Wait) (i : ℕ) (wait : Wait) → i < length waits → get_or waits i wait ≡ wait → AllPairs (λ v w. v.p ≢ w.p) waits → wait_of waits wait.p ≡ Some wait
+found_itself [] i wait within is apart = absurd (omega (arith, within))
+found_itself (v ∷ waits) zero wait within is apart =
+    let first : v ≡ wait = is in
+    let found : (v.p == wait.p) ≡ true = rw first (let e : wait.p ≡ wait.p = refl in grind (arith, nat_tests)) in
+    rw found (ap (λ (w : Wait). Some w) first)
+found_itself (v ∷ waits) (suc i) wait within is apart =
+    let inside : i < length waits = omega (arith, within) in
+    let differs : v.p ≢ wait.p = subst (λ (w : Wait). v.p ≢ w.p) is (apart 0 (suc i) wait (omega arith) within) in
+    let passed : (v.p == wait.p) ≡ false = grind (arith, nat_tests) in
+    rw passed (found_itself waits i wait inside is
+    (λ j k d before last. apart (suc j) (suc k) d (omega (arith, before)) (omega (arith, last))))

@@ -1,0 +1,45 @@
+use Rattle.std.proofs.Common.{◌≡◌, ◌≢◌, ◌<◌, ◌≤◌, arith, length}
+use Rattle.std.specs.Vec.{vec_len, vec_capacity}
+use Rattle.std.proofs.lemmas.List.Elements.{All-push}
+use Rattle.std.proofs.lemmas.List.Quantifiers.{all_pairs_push}
+use Rattle.wait_core.specs.declared.Wait.{Wait}
+use Rattle.wait_core.specs.WellFormed.{IsWellFormed}
+use Rattle.wait_core.specs.WaitsView.{waits_of, processes_of, has_pair}
+use Rattle.wait_core.proofs.ListLemmas.{none_of, room_for}
+use Rattle.wait_core.proofs.PairLemmas.{told, in_vec}
+use Rattle.wait_core.proofs.waits.Waits.join.Goals as goal
+
+pub push_reserved-requires : goal.push_reserved-requires
+unfolding waits_of processes_of
+push_reserved-requires c =
+    let self = c.args.self.now in
+    let few : length self.waits.items < self.processes =
+    room_for self.processes self.waits.items c.args.wait self.well_formed self.apart c.requires.none c.requires.well_formed in
+    let room : self.processes ≤ vec_capacity self.waits = self.room in
+    let len : vec_len self.waits ≡ length self.waits.items = self.waits.ok.0 in
+    omega arith
+
+pub invariant_of-self : goal.invariant_of-self
+unfolding waits_of processes_of
+invariant_of-self c =
+    let self = c.args.self.now in record {
+      few = self.few;
+      room = (let room : self.processes ≤ vec_capacity c.push_reserved.new.self = rw c.push_reserved.ensures.capacity self.room in room);
+      table = self.table;
+      well_formed = (λ k d within. let items = c.push_reserved.ensures.items in
+          let all = All-push (IsWellFormed self.processes) self.waits.items c.args.wait self.well_formed c.requires.well_formed in
+          rw items (all k d (rw items at within)));
+      apart = (λ i j d before within. let items = c.push_reserved.ensures.items in
+          let all = all_pairs_push (λ (v w : Wait). v.p ≢ w.p) self.waits.items c.args.wait self.apart
+          (λ k e inside. none_of self.waits.items c.args.wait.p c.requires.none k e inside) in
+          rw items (all i j d before (rw items at within)));
+    }
+
+pub returns-clause-told : goal.returns-clause-told
+unfolding waits_of has_pair
+returns-clause-told c =
+    let len : length c.tell.new.pairs ≡ vec_len c.args.self.now.pairs = omega (arith, c.deref_mut.ensures.len, c.tell.auto.pairs) in
+    told _ _ (λ p q p_few q_few.
+    let tells = c.tell.ensures p q p_few q_few in
+    let same = in_vec c.args.self.now.pairs c.tell.new.pairs len p q in
+    rw same (rw c.deref.ensures.value at tells))

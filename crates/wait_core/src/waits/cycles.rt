@@ -1,0 +1,101 @@
+ghost use Rattle.std.specs.Prelude.{ℕ, ◌≡◌, ◌<◌, ◌≤◌, ◌↔◌, Some, length, slice_get, IfSome, IfNone, IsTrue};
+ghost use Rattle.wait_core.specs.Locks.{Locks, locks_of};
+ghost use Rattle.wait_core.specs.Cycles.{ClosesCycle, IsBlockedByProcess, IsTraditional, WaitsFor};
+ghost use Rattle.wait_core.specs.Pairs.{is_in, IsClosed, IsBehind, IsNewlyReached, WaitsBehind};
+ghost use Rattle.wait_core.specs.WellFormed.{IsWellFormed};
+ghost use Rattle.wait_core.specs.WaitsView.{waits_of, policy_of, processes_of, AreTold};
+
+use super::Waits;
+use crate::pairs::{NUMBERS, has};
+use crate::{Policy, Wait};
+use lock_book::Book;
+
+#[tactic(auto, unfolding(crate::specs::WaitsView::waits_of, crate::specs::WaitsView::policy_of, crate::specs::WaitsView::processes_of, crate::specs::WaitsView::has_pair))]
+impl Waits {
+    /// Whether a traditional wait that would join closes a cycle: some process that blocks it is led to its process, each
+    /// process of the chain waiting for the next (POSIX.1-2017 fcntl, `EDEADLK`). Locks and waits of open file
+    /// descriptions make no step.
+    ///
+    /// The pairs are those of the books, a book for each of the 64 files.
+    pub fn would_cycle(&self, wait: &Wait, books: &[Book]) -> bool
+        requires traditional { IsTraditional wait.now }
+        requires well_formed { IsWellFormed (processes_of self.now) wait.now }
+        requires books { length books.now ≡ 64 }
+        requires told { AreTold self.now (locks_of books.now) }
+        ensures { IsTrue result ↔ ClosesCycle (policy_of self.now) (locks_of books.now) (waits_of self.now) wait.now }
+    {
+        let mut reached = self.blockers(wait, books);
+        while let Some(next) = self.newly_reached(&reached) {
+            reached[next] = true;
+        }
+        reached[usize::from(wait.p)]
+    }
+
+    /// The processes that would block the wait, were it to join.
+    fn blockers(&self, wait: &Wait, books: &[Book]) -> [bool; NUMBERS]
+        requires well_formed { IsWellFormed (processes_of self.now) wait.now }
+        requires books { length books.now ≡ 64 }
+        ensures { (q : ℕ) → q ≤ 64 → IsTrue (is_in result q) ↔ IsBlockedByProcess (policy_of self.now) (locks_of books.now) (waits_of self.now) wait.now q }
+    {
+        let mut blockers = [false; NUMBERS];
+        for q in 0..NUMBERS {
+            blockers[q] = self.is_blocked_by(q as u8, wait, books);
+        }
+        blockers
+    }
+
+    /// Whether the process would block the wait, were it to join.
+    fn is_blocked_by(&self, q: u8, wait: &Wait, books: &[Book]) -> bool
+        requires well_formed { IsWellFormed (processes_of self.now) wait.now }
+        requires books { length books.now ≡ 64 }
+        ensures { IsTrue result ↔ IsBlockedByProcess (policy_of self.now) (locks_of books.now) (waits_of self.now) wait.now q }
+    {
+        wait.is_blocked_by_process(q, books)
+            || self.policy == Policy::Queue && wait.conflicts_with_process(q, &self.waits)
+    }
+
+    /// A process that isn't reached yet, for which one that is reached waits; `None` where there is no more.
+    fn newly_reached(&self, reached: &[bool]) -> Option<usize>
+        requires { length reached.now ≡ 65 }
+        ensures next { IfSome result (λ q. (locks : Locks) → AreTold self.now locks → IsNewlyReached (WaitsFor (policy_of self.now) locks (waits_of self.now)) reached.now q) }
+        ensures closed { IfNone result ((locks : Locks) → AreTold self.now locks → IsClosed (WaitsFor (policy_of self.now) locks (waits_of self.now)) reached.now) }
+    {
+        for i in 0..NUMBERS * NUMBERS {
+            let (p, q) = (i / NUMBERS, i % NUMBERS);
+            if reached[p] && !reached[q] && self.waits_for(p as u8, q as u8) {
+                return Some(q);
+            }
+        }
+        None
+    }
+
+    /// Whether process `p` waits for process `q`.
+    fn waits_for(&self, p: u8, q: u8) -> bool
+        requires first { p ≤ 64 }
+        requires second { q ≤ 64 }
+        ensures { (locks : Locks) → AreTold self.now locks → IsTrue result ↔ WaitsFor (policy_of self.now) locks (waits_of self.now) p q }
+    {
+        has(&self.pairs, p, q) || self.policy == Policy::Queue && self.waits_behind(p, q)
+    }
+
+    /// Whether process `p` has a traditional wait behind one of process `q` that conflicts with it.
+    fn waits_behind(&self, p: u8, q: u8) -> bool
+        ensures { IsTrue result ↔ WaitsBehind (waits_of self.now) p q }
+    {
+        for i in 0..self.waits.len() {
+            if self.is_behind(i, p, q) {
+                return true;
+            }
+        }
+        false
+    }
+
+    /// Whether the wait at this place is a traditional one of process `p`, behind one of process `q` that conflicts with it.
+    fn is_behind(&self, i: usize, p: u8, q: u8) -> bool
+        requires { i < length (waits_of self.now) }
+        ensures { (wait : Wait) → slice_get (waits_of self.now) i ≡ Some wait → IsTrue result ↔ IsBehind (waits_of self.now) p q i wait }
+    {
+        let wait = &self.waits[i];
+        wait.p == p && wait.is_traditional() && wait.conflicts_with_process(q, &self.waits[..i])
+    }
+}
