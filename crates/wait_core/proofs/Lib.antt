@@ -1,6 +1,5 @@
 pub mod AnyLemmas
 pub mod CycleLaws
 pub mod ListLemmas
-pub mod NextLaws
 pub mod PairLemmas
 pub mod ReachLemmas
