@@ -1,7 +1,7 @@
--- The report of one file is determined by the locks.
-use Rattle.std.proofs.Common.{ℕ, ◌≡◌, ◌≤◌, ◌∙◌, sym, ap, refl, subst, arith, suc, Bool, List, [], ◌∷◌, ◌++◌, All, inl, inr}
+-- The report is determined by the locks.
+use Rattle.std.proofs.Common.{ℕ, ◌≡◌, ◌≤◌, ◌∙◌, sym, ap, refl, subst, arith, zero, suc, Bool, List, [], ◌∷◌, ◌++◌, All, inl, inr}
 use Rattle.std.specs.List.{AllPairs, Contains}
-use Rattle.std.specs.Prelude.{◌⊎◌}
+use Rattle.std.specs.Prelude.{◌⊎◌, ◌+◌}
 use Rattle.std.proofs.lemmas.List.Elements.{All-contains, Contains-get_or, Contains-append_right, Contains-append_cases, Contains-push_cases}
 use Rattle.range_core.specs.declared.Mode.{Mode}
 use Rattle.range_core.specs.declared.Span.{Span}
@@ -10,7 +10,8 @@ use Rattle.lock_book.specs.declared.Owner.{Owner}
 use Rattle.lock_book.specs.declared.Held.{Held}
 use Rattle.lock_book.specs.Owners.{IsBefore}
 use Rattle.lock_book.specs.Conflicts.{ByteModes, FlockModes}
-use Rattle.lock_book.specs.Reports.{AreByteLocks, AreFlockLocks, IsFlockLine, IsFileReport}
+use Rattle.lock_book.specs.Reports.{AreByteLocks, AreFlockLocks, IsFlockLine, IsFileReport, AreFileReports, IsHeldReport}
+use Rattle.lock_book.specs.OneReport.{LocksHaveOneReport}
 use Rattle.lock_book.proofs.OwnerLemmas.{IsBefore-asymmetric, IsBefore-same}
 use Rattle.lock_book.proofs.HeldLemmas.{ComesBefore, IsRunLine}
 
@@ -145,9 +146,24 @@ AreFlockLocks-unique file modes xs ys first second =
     (flock_lock_in file modes xs ys first second) (flock_lock_in file modes ys xs second first)
 
 -- there is one report of a file at most
-pub IsFileReport-unique : (file : ℕ) (bytes : ByteModes) (flocks : FlockModes) (one other : List Held) → IsFileReport file bytes flocks one → IsFileReport file bytes flocks other → one ≡ other
+IsFileReport-unique : (file : ℕ) (bytes : ByteModes) (flocks : FlockModes) (one other : List Held) → IsFileReport file bytes flocks one → IsFileReport file bytes flocks other → one ≡ other
 IsFileReport-unique file bytes flocks one other first second =
     first.is
     ∙ ap (λ (l : List Held). l ++ first.flock_locks) (AreByteLocks-unique file bytes first.byte_locks second.byte_locks first.are_bytes second.are_bytes)
     ∙ ap (λ (l : List Held). second.byte_locks ++ l) (AreFlockLocks-unique file flocks first.flock_locks second.flock_locks first.are_flocks second.are_flocks)
     ∙ sym second.is
+
+-- file by file
+AreFileReports-unique : (file more : ℕ) (bytes : ℕ → ByteModes) (flocks : ℕ → FlockModes) (one other : List Held)
+    → AreFileReports file more bytes flocks one → AreFileReports file more bytes flocks other → one ≡ other
+AreFileReports-unique file zero bytes flocks one other first second = first ∙ sym second
+AreFileReports-unique file (suc more) bytes flocks one other first second =
+    first.2
+    ∙ ap (λ (l : List Held). l ++ first.1) (IsFileReport-unique file (bytes file) (flocks file) first.0 second.0 first.3 second.3)
+    ∙ ap (λ (l : List Held). second.0 ++ l) (AreFileReports-unique (file + 1) more bytes flocks first.1 second.1 first.4 second.4)
+    ∙ sym second.2
+
+-- there is one report of all files at most
+pub IsHeldReport-unique : LocksHaveOneReport
+unfolding IsHeldReport
+IsHeldReport-unique bytes flocks report other first second = AreFileReports-unique 0 64 bytes flocks report other first second

@@ -3,3 +3,4 @@ pub mod Changes
 pub mod Conflicts
 pub mod Owners
 pub mod Reports
+pub mod OneReport

@@ -4,10 +4,12 @@
 // The proofs of this crate see through what a book stands for, which is opaque to the crates above.
 #[tactic(auto, unfolding(crate::specs::Books::list_of, crate::specs::Books::place_of, crate::specs::Books::byte_modes_of, crate::specs::Books::room_in, crate::specs::Books::flock_modes_of, crate::specs::Books::has_flock_place))]
 mod book;
+mod laws;
 #[cfg(test)]
 mod tests;
 
 pub use book::Book;
+pub use laws::locks_have_one_report;
 use range_core::{Mode, Span};
 
 /// Who a lock belongs to. Owners are ordered: processes by number, and then descriptions by number (this project's

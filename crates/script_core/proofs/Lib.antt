@@ -6,3 +6,5 @@ pub mod TextLemmas
 pub mod ScriptLemmas
 pub mod ArgumentLemmas
 pub mod ProcessLemmas
+pub mod ReportLemmas
+pub mod OutputLaws

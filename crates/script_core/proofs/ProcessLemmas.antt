@@ -1,5 +1,5 @@
 -- The arrivals of a script are of its processes.
-use Rattle.std.proofs.Common.{ℕ, ◌≡◌, ap, sym, subst, Bool, true, false, List, [], ◌∷◌, ◌++◌, ◌⊎◌, inl, inr, Result, Ok, Err, All}
+use Rattle.std.proofs.Common.{ℕ, ◌≡◌, sym, subst, Bool, true, false, List, [], ◌∷◌, ◌⊎◌, inl, inr, Result, Ok, Err, All}
 use Rattle.std.proofs.lemmas.List.Elements.{All-push, All-nil}
 use Rattle.fd_table.specs.declared.Limits.TheVariants.{Small}
 use Rattle.lock_manager.specs.declared.request.Request.{Request}

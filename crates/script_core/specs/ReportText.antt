@@ -1,13 +1,21 @@
 -- The text of the report (this project's choice).
-use Rattle.std.specs.Prelude.{ℕ, List, [], ◌∷◌, ◌++◌, if◌then◌else◌, codes, decimal}
+use Rattle.std.specs.Prelude.{◌≡◌, ℕ, zero, suc, ◌+◌, ◌-◌, ◌≤◌, Bool, true, nat_lt, if◌then◌else◌, List, [], ◌∷◌, ◌++◌, length, flat_map, slice_index, codes, decimal}
 use Rattle.range_core.specs.declared.Mode.{Mode}
 use Rattle.range_core.specs.declared.Mode.TheVariants.{Read, Write}
 use Rattle.range_core.specs.declared.Span.{Span}
 use Rattle.lock_book.specs.declared.Owner.{Owner}
 use Rattle.lock_book.specs.declared.Owner.TheVariants.{Process, Description}
 use Rattle.lock_book.specs.declared.Held.{Held}
+use Rattle.lock_book.specs.Changes.{mode_in, flock_mode_in}
+use Rattle.lock_book.specs.Reports.{IsHeldReport}
 use Rattle.lock_manager.specs.declared.request.ProcState.{ProcState}
 use Rattle.lock_manager.specs.declared.request.ProcState.TheVariants.{Unborn, Live}
+use Rattle.lock_manager.specs.State.{State}
+use Rattle.lock_manager.specs.ManagerView.{processes_of}
+use Rattle.session_core.specs.declared.session.Session.{Session}
+use Rattle.session_core.specs.Event.{Event}
+use Rattle.session_core.specs.Mail.{events_of, answers_to}
+use Rattle.session_core.specs.SessionView.{manager_of, events_in}
 use Rattle.script_core.specs.declared.text.ProcessLine.{ProcessLine}
 use Rattle.script_core.specs.RequestText.{mode_word}
 
@@ -53,3 +61,38 @@ counts_text line =
 -- a process, with its counts
 abbrev pub process_line : ProcessLine → List ℕ
 process_line line = codes "proc " ++ decimal line.p ++ codes " " ++ counts_text line ++ codes " " ++ state_word line.state ++ 10 ∷ []
+
+-- whether the report has a line for a process that stands so and sent so much: it was ever alive, or has sent something
+abbrev pub is_reported : ProcState → ℕ → Bool
+is_reported Unborn sent = nat_lt 0 sent
+is_reported Live sent = true
+
+-- what there is to tell of a process: where it stands, what it sent, and what was taken and answered by these events
+abbrev pub line_of : (ℕ → ProcState) → List Event → (ℕ → ℕ) → ℕ → ProcessLine
+line_of states events sent p =
+    record { p = p; sent = sent p; taken = length (events_of p events); answered = length (answers_to p events); state = states p }
+
+-- the line of a process, where the report has one
+abbrev pub reported_line : ProcessLine → List ℕ
+reported_line line = if is_reported line.state line.sent then process_line line else []
+
+-- the lines of the processes from this one on, so many of them
+unfoldable pub process_lines : (ℕ → ProcState) → List Event → (ℕ → ℕ) → ℕ → ℕ → List ℕ
+process_lines states events sent p zero = []
+process_lines states events sent p (suc more) = reported_line (line_of states events sent p) ++ process_lines states events sent (p + 1) more
+
+-- the report of a state of so many processes after these events: the locks that are held, and the processes with the count of
+-- what each sent
+pub record IsReport (processes : ℕ) (S : State) (events : List Event) (sent : ℕ → ℕ) (text : List ℕ) : Type 0 where
+  pub held : List Held
+  pub is_held : IsHeldReport (mode_in S.changes) (flock_mode_in S.flock_changes) held
+  pub is : text ≡ flat_map held_line held ++ process_lines S.states events sent 1 processes
+
+-- the list has the count of each process, from process 1 on
+abbrev pub AreCounts : List ℕ → (ℕ → ℕ) → Type 0
+AreCounts counts count = (p : ℕ) → 1 ≤ p → p ≤ length counts → slice_index counts (p - 1) ≡ count p
+
+-- the text is the report of the session in this state, with the counts of the list
+abbrev pub IsReportOf : Session → List ℕ → State → List ℕ → Type 0
+IsReportOf session counts S text =
+    (sent : ℕ → ℕ) → AreCounts counts sent → IsReport (processes_of (manager_of session)) S (events_in session) sent text

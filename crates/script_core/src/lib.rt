@@ -2,6 +2,7 @@
 #![tactic(auto)]
 
 mod arguments;
+mod laws;
 mod line;
 mod numbers;
 mod script;
@@ -11,6 +12,7 @@ mod text;
 mod words;
 mod write;
 
+pub use laws::scripts_have_one_output;
 pub use script::{Cause, Script, ScriptFault, parse};
 pub use write::{write_entry, write_report};
 

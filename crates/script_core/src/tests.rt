@@ -162,6 +162,13 @@ fn whole_output(rt: HostRuntime) -> Result<(), Fail> {
         empty.as_slice(),
         b"proc 1 sent 0 taken 0 answered 0 live\n".as_slice()
     );
+    let unborn = output_of(rt.alloc(), b"3 open 0 r\n")?;
+    assert_eq!(rt;
+        unborn.as_slice(),
+        b"proc 1 sent 0 taken 0 answered 0 live\n\
+        proc 3 sent 1 taken 0 answered 0 unborn\n"
+            .as_slice()
+    );
     Ok(())
 }
 

@@ -1,16 +1,21 @@
-ghost use Rattle.std.specs.Prelude.{◌≡◌, ℕ, List, ◌++◌, OnOk, OnErr, length};
-ghost use Rattle.lock_manager.specs.ManagerView.{processes_of};
-ghost use Rattle.session_core.specs.SessionView.{manager_of};
+ghost use Rattle.std.specs.Prelude.{◌≡◌, ℕ, ◌≤◌, List, ◌++◌, IfOk, OnOk, OnErr, IsTrue, length, flat_map, string_bytes};
+ghost use Rattle.lock_manager.specs.State.{State};
+ghost use Rattle.lock_manager.specs.ManagerView.{StandsFor, processes_of, state_at};
+ghost use Rattle.session_core.specs.SessionView.{manager_of, events_in};
 ghost use Rattle.fd_table.specs.declared.Limits.TheVariants.{Small};
 ghost use Rattle.script_core.specs.ScriptText.{IsProcess, IsWritable};
 ghost use Rattle.script_core.specs.Reading.{IsReadBack};
 ghost use Rattle.script_core.specs.EntryText.{entry_line};
+ghost use Rattle.script_core.specs.ReportText.{held_line, reported_line, process_lines, AreCounts, IsReportOf};
+ghost use Rattle.script_core.specs.ReportText as spec;
 ghost use Rattle.script_core.specs.Output.{AppendsPartOf};
 
 use crate::text::{ProcessLine, push_entry, push_held, push_process};
+use lock_book::Held;
 use lock_manager::ProcState;
 use range_core::Memory;
 use session_core::{Entry, Session};
+use std::alloc::{AllocError, Global};
 
 /// Appends the line of an entry. After `Memory` the vector has its old bytes and a front of the text.
 #[tactic(auto, using(crate::proofs::RoundTripLemmas::reads_back))]
@@ -31,27 +36,83 @@ pub fn write_entry(entry: &Entry, out: &mut Vec<u8>) -> Result<(), Memory>
 /// text.
 pub fn write_report(session: &Session, sent: &[u64], out: &mut Vec<u8>) -> Result<(), Memory>
     requires { length sent.now ≡ processes_of (manager_of session.now) }
-    ensures { (text : List ℕ) × (out.new.items ≡ out.old.items ++ text) }
+
+    // One text is the report of whatever state the manager stands for.
+    ensures ok { OnOk result ((text : List ℕ) × ((S : State) → StandsFor (manager_of session.now) S → IsReportOf session.now sent.now S text)
+        × (out.new.items ≡ out.old.items ++ text)) }
+    ensures err { OnErr result ((S : State) → StandsFor (manager_of session.now) S → (text : List ℕ) → IsReportOf session.now sent.now S text
+        → AppendsPartOf out.old.items out.new.items text) }
 {
-    let mut text = String::new(*out.allocator());
-    for held in &session.manager().held()? {
-        push_held(&mut text, held).map_err(|_| Memory)?;
-    }
-    for index in 0..session.manager().processes() {
-        let sent = sent[usize::from(index)];
-        let p = index + 1;
-        let state = session.manager().state_of(p);
-        if state == ProcState::Unborn && sent == 0 {
-            continue;
-        }
-        let line = ProcessLine {
-            p,
-            sent,
-            taken: session.taken(p),
-            answered: session.answered(p),
-            state,
-        };
-        push_process(&mut text, &line).map_err(|_| Memory)?;
-    }
+    let text = report_text(*out.allocator(), session, sent)?;
     out.extend_from_slice(text.as_bytes()).map_err(|_| Memory)
+}
+
+/// The report of a session.
+fn report_text(alloc: Global, session: &Session, sent: &[u64]) -> Result<String, Memory>
+    requires { length sent.now ≡ processes_of (manager_of session.now) }
+    ensures { IfOk result (λ text. (S : State) → StandsFor (manager_of session.now) S → IsReportOf session.now sent.now S (string_bytes text)) }
+{
+    let locks = session.manager().held()?;
+    let mut text = String::new(alloc);
+    push_locks(&mut text, &locks).map_err(|_| Memory)?;
+    push_processes(&mut text, session, sent).map_err(|_| Memory)?;
+    Ok(text)
+}
+
+/// Appends a line for each lock that is held.
+fn push_locks(text: &mut String, locks: &[Held]) -> Result<(), AllocError>
+    ensures { OnOk result (string_bytes text.new ≡ string_bytes text.old ++ flat_map held_line locks.now) }
+{
+    for held in locks {
+        push_held(text, held)?;
+    }
+    Ok(())
+}
+
+/// Appends a line for each process that was ever alive or has sent something.
+fn push_processes(text: &mut String, session: &Session, sent: &[u64]) -> Result<(), AllocError>
+    requires { length sent.now ≡ processes_of (manager_of session.now) }
+    ensures { OnOk result ((counts : ℕ → ℕ) → AreCounts sent.now counts → string_bytes text.new ≡ string_bytes text.old
+        ++ process_lines (state_at (manager_of session.now)) (events_in session.now) counts 1 (processes_of (manager_of session.now))) }
+{
+    for index in 0..session.manager().processes() {
+        let line = line_of(session, index + 1, sent[usize::from(index)]);
+        push_reported(text, &line)?;
+    }
+    Ok(())
+}
+
+/// What there is to tell of a process that sent so much.
+fn line_of(session: &Session, p: u8, sent: u64) -> ProcessLine
+    requires { (1 ≤ p) × (p ≤ processes_of (manager_of session.now)) }
+    ensures { result ≡ spec.line_of (state_at (manager_of session.now)) (events_in session.now) (λ q. sent) p }
+{
+    ProcessLine {
+        p,
+        sent,
+        taken: session.taken(p),
+        answered: session.answered(p),
+        state: session.manager().state_of(p),
+    }
+}
+
+/// Appends the line of a process, where the report has one.
+fn push_reported(text: &mut String, line: &ProcessLine) -> Result<(), AllocError>
+    ensures { OnOk result (string_bytes text.new ≡ string_bytes text.old ++ reported_line line.now) }
+{
+    if is_reported(line) {
+        push_process(text, line)
+    } else {
+        Ok(())
+    }
+}
+
+/// Whether the process was ever alive, or has sent something.
+fn is_reported(line: &ProcessLine) -> bool
+    ensures { result ≡ spec.is_reported line.now.state line.now.sent }
+{
+    match line.state {
+        ProcState::Unborn => line.sent > 0,
+        ProcState::Live => true,
+    }
 }

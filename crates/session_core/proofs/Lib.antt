@@ -10,3 +10,4 @@ pub mod HeadlineLaws
 pub mod JournalLemmas
 pub mod AnswerLemmas
 pub mod DrainLemmas
+pub mod DrainLaws

@@ -6,3 +6,4 @@ pub mod Draining
 pub mod Headline
 pub mod SessionView
 pub mod Deliveries
+pub mod OneDrain

@@ -2,6 +2,7 @@
 #![tactic(auto)]
 
 mod entry;
+mod laws;
 mod mailbox;
 mod run;
 mod session;
@@ -9,6 +10,7 @@ mod session;
 mod tests;
 
 pub use entry::Entry;
+pub use laws::arrivals_have_one_drain;
 pub use run::{RunAllFault, run_all};
 pub use session::{ArriveFault, Session};
 

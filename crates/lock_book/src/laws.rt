@@ -1,0 +1,7 @@
+//! Laws of the report of the locks. Each is the contract of a function that does nothing.
+ghost use Rattle.lock_book.specs.OneReport.{LocksHaveOneReport};
+
+/// The locks that are held have one report: two reports of the same locks have the same lines in the same order.
+pub fn locks_have_one_report()
+    ensures { LocksHaveOneReport }
+{}

@@ -1,0 +1,41 @@
+-- A script has one output.
+use Rattle.std.proofs.Common.{◌≡◌, ℕ, List, ◌++◌, length, flat_map, Result, Ok, sym, ap, ◌∙◌, subst}
+use Rattle.lock_book.specs.OneReport.{LocksHaveOneReport}
+use Rattle.lock_manager.specs.State.{State}
+use Rattle.session_core.specs.Event.{Event}
+use Rattle.session_core.specs.Mail.{requests_sent}
+use Rattle.session_core.specs.Draining.{IsDrain}
+use Rattle.session_core.specs.OneDrain.{ArrivalsHaveOneDrain}
+use Rattle.script_core.specs.declared.script.ScriptFault.{ScriptFault}
+use Rattle.script_core.specs.ScriptText.{Meaning}
+use Rattle.script_core.specs.Reading.{Reads}
+use Rattle.script_core.specs.EntryText.{entry_line}
+use Rattle.script_core.specs.ReportText.{IsReport}
+use Rattle.script_core.specs.Output.{ScriptsHaveOneOutput, script_rules, script_processes}
+use Rattle.script_core.proofs.ReadingLemmas.{one_reading}
+use Rattle.script_core.proofs.ReportLemmas.{IsReport-unique}
+
+-- an accepted script has one meaning
+one_meaning : (bytes : List ℕ) (meaning other : Meaning) → Reads bytes (Ok meaning) → Reads bytes (Ok other) → meaning ≡ other
+one_meaning bytes meaning other h k =
+    let read : Result Meaning ScriptFault = Ok meaning in
+    let same : read ≡ Ok other = one_reading bytes (Ok meaning) (Ok other) h k in
+    cc
+
+-- the reports of equal states are equal
+one_report : LocksHaveOneReport → (processes : ℕ) (S T : State) (events journal : List Event) (sent : ℕ → ℕ) (text other : List ℕ)
+    → S ≡ T → events ≡ journal → IsReport processes S events sent text → IsReport processes T journal sent other → text ≡ other
+one_report one processes S T events journal sent text other same_state same_events h k =
+    IsReport-unique one processes T journal sent text other
+    (subst (λ l. IsReport processes T l sent text) same_events (subst (λ X. IsReport processes X events sent text) same_state h)) k
+
+pub IsOutput-unique : LocksHaveOneReport → ArrivalsHaveOneDrain → ScriptsHaveOneOutput
+IsOutput-unique report drain bytes text other h k =
+    let arrivals : k.script.arrivals ≡ h.script.arrivals = ap (λ (meaning : Meaning). meaning.arrivals) (one_meaning bytes k.script h.script k.accepted h.accepted) in
+    let same : (h.journal ≡ k.journal) × (h.state ≡ k.state) =
+    drain script_rules script_processes h.script.arrivals h.journal k.journal h.state k.state h.drained
+    (subst (λ l. IsDrain script_rules script_processes l k.journal k.state) arrivals k.drained) in
+    let reports : h.report ≡ k.report =
+    one_report report script_processes h.state k.state h.journal k.journal (λ p. length (requests_sent p h.script.arrivals)) h.report k.report same.1 same.0 h.is_report
+    (subst (λ l. IsReport script_processes k.state k.journal (λ p. length (requests_sent p l)) k.report) arrivals k.is_report) in
+    h.is ∙ (λ i. flat_map entry_line (same.0 i) ++ reports i) ∙ sym k.is

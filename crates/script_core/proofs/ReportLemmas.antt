@@ -1,0 +1,74 @@
+-- The text of the report.
+use Rattle.std.proofs.Common.{◌≡◌, ℕ, zero, suc, ◌+◌, ◌-◌, ◌<◌, List, ◌++◌, length, flat_map, sym, ap, ◌∙◌, arith, append_assoc, append-nil, add-one}
+use Rattle.std.specs.Prelude.{slice_index}
+use Rattle.lock_book.specs.declared.Held.{Held}
+use Rattle.lock_book.specs.Changes.{mode_in, flock_mode_in}
+use Rattle.lock_book.specs.Reports.{IsHeldReport}
+use Rattle.lock_book.specs.OneReport.{LocksHaveOneReport}
+use Rattle.lock_manager.specs.declared.request.ProcState.{ProcState}
+use Rattle.lock_manager.specs.declared.manager.Manager.{Manager}
+use Rattle.lock_manager.specs.State.{State}
+use Rattle.lock_manager.specs.ManagerView.{StandsFor, state_at}
+use Rattle.session_core.specs.Event.{Event}
+use Rattle.script_core.specs.ReportText.{held_line, line_of, reported_line, process_lines, IsReport, AreCounts}
+
+-- the lines of one more process
+process_lines-more : (states : ℕ → ProcState) (events : List Event) (sent : ℕ → ℕ) (p n : ℕ)
+    → process_lines states events sent p (suc n) ≡ process_lines states events sent p n ++ reported_line (line_of states events sent (p + n))
+unfolding process_lines
+process_lines-more states events sent p zero =
+    let here : p + 0 ≡ p = omega arith in
+    rw here (append-nil (reported_line (line_of states events sent p)))
+process_lines-more states events sent p (suc n) =
+    let place : p + 1 + n ≡ p + suc n = omega arith in
+    let rest = process_lines-more states events sent (p + 1) n in
+    let first = reported_line (line_of states events sent p) in
+    ap (λ l. first ++ l) rest
+    ∙ sym (append_assoc first (process_lines states events sent (p + 1) n) (reported_line (line_of states events sent (p + 1 + n))))
+    ∙ ap (λ q. first ++ process_lines states events sent (p + 1) n ++ reported_line (line_of states events sent q)) place
+
+-- the text of so many processes, and of one more, whose count stands at its place
+pub more_processes : (states : ℕ → ProcState) (events : List Event) (counts : List ℕ) (sent : ℕ → ℕ) (old before after : List ℕ) (index count : ℕ)
+    → AreCounts counts sent → index < length counts → slice_index counts index ≡ count
+    → before ≡ old ++ process_lines states events sent 1 index
+    → after ≡ before ++ reported_line (line_of states events (λ q. count) (index + 1))
+    → after ≡ old ++ process_lines states events sent 1 (index + 1)
+more_processes states events counts sent old before after index count are within at was is =
+    let place : index + 1 - 1 ≡ index = omega arith in
+    let same : count ≡ sent (index + 1) = sym at ∙ ap (slice_index counts) (sym place) ∙ are (index + 1) (omega arith) (omega arith) in
+    let next : index + 1 ≡ 1 + index = omega arith in
+    let lines = process_lines states events sent 1 index in
+    is
+    ∙ ap (λ l. l ++ reported_line (line_of states events (λ q. count) (index + 1))) was
+    ∙ append_assoc old lines (reported_line (line_of states events (λ q. count) (index + 1)))
+    ∙ ap (λ n. old ++ (lines ++ reported_line (line_of states events (λ q. n) (index + 1)))) same
+    ∙ ap (λ q. old ++ (lines ++ reported_line (line_of states events sent q))) next
+    ∙ ap (λ l. old ++ l) (sym (process_lines-more states events sent 1 index))
+    ∙ ap (λ n. old ++ process_lines states events sent 1 n) (sym (add-one index))
+
+-- no lines of no processes
+pub no_processes : (states : ℕ → ProcState) (events : List Event) (sent : ℕ → ℕ) (old : List ℕ) → old ≡ old ++ process_lines states events sent 1 0
+unfolding process_lines
+no_processes states events sent old = sym (append-nil old)
+
+-- the report of what a manager shows is that of each state that it stands for
+pub report_in_state : (manager : Manager) (S : State) (processes : ℕ) (events : List Event) (sent : ℕ → ℕ) (locks : List Held) (text : List ℕ)
+    → StandsFor manager S → IsHeldReport (mode_in S.changes) (flock_mode_in S.flock_changes) locks
+    → text ≡ flat_map held_line locks ++ process_lines (state_at manager) events sent 1 processes
+    → IsReport processes S events sent text
+report_in_state manager S processes events sent locks text h held is =
+    let states : state_at manager ≡ S.states = λ i p. h.states p i in
+    record {
+      held = locks;
+      is_held = held;
+      is = is ∙ ap (λ f. flat_map held_line locks ++ process_lines f events sent 1 processes) states;
+    }
+
+-- a state after these events has one report
+pub IsReport-unique : LocksHaveOneReport → (processes : ℕ) (S : State) (events : List Event) (sent : ℕ → ℕ) (text other : List ℕ)
+    → IsReport processes S events sent text → IsReport processes S events sent other → text ≡ other
+IsReport-unique one processes S events sent text other h k =
+    h.is
+    ∙ ap (λ locks. flat_map held_line locks ++ process_lines S.states events sent 1 processes)
+    (one (mode_in S.changes) (flock_mode_in S.flock_changes) h.held k.held h.is_held k.is_held)
+    ∙ sym k.is
