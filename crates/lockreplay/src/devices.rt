@@ -1,4 +1,5 @@
-ghost use Rattle.std.specs.Prelude.{◌<◌, ◌≤◌, IfOk, length};
+ghost use Rattle.std.specs.Prelude.{ℕ, ◌≡◌, ◌≤◌, ◌+◌, Bool, false, Option, List, IfOk, OnOk, OnErr};
+ghost use Rattle.lockreplay.specs.Devices.{GivesByte, TakesSome, Fails};
 
 use std::io::{Read, Write};
 
@@ -8,38 +9,75 @@ pub struct DeviceFault;
 
 /// Where a script is read from, byte by byte.
 pub trait Source {
+    /// The bytes that it has left, where they are known.
+    ghost remaining: { Self → Option (List ℕ) };
+
+    /// Whether a call has failed.
+    ghost failed: { Self → Bool };
+
+    /// How many calls were made, where the source counts them; no call counts for more than one.
+    ghost calls: { Self → ℕ };
+
     /// The next byte, and `None` at the end.
-    fn read_byte(&mut self) -> Result<Option<u8>, DeviceFault>;
+    fn read_byte(&mut self) -> Result<Option<u8>, DeviceFault>
+        ensures byte { IfOk result (GivesByte (remaining self.old) (remaining self.new)) }
+        ensures sound { OnOk result (failed self.new ≡ failed self.old) }
+        ensures fault { OnErr result (Fails (remaining self.old) (remaining self.new) (failed self.new)) }
+        ensures call { calls self.new ≤ calls self.old + 1 };
 }
 
 /// Where a text is written to.
 pub trait Sink {
+    /// The bytes that were written, where they are known.
+    ghost written: { Self → Option (List ℕ) };
+
+    /// Whether a call has failed.
+    ghost failed: { Self → Bool };
+
     /// Writes the front of the text, at least one byte of a text that isn't empty, and says how many bytes.
     fn write_some(&mut self, text: &[u8]) -> Result<usize, DeviceFault>
-        ensures within { IfOk result (λ count. count ≤ length text.now) }
-        ensures some { IfOk result (λ count. 0 < length text.now → 0 < count) };
+        ensures some { IfOk result (TakesSome (written self.old) (written self.new) text.now) }
+        ensures sound { OnOk result (failed self.new ≡ failed self.old) }
+        ensures fault { OnErr result (Fails (written self.old) (written self.new) (failed self.new)) };
 }
 
 /// A reader as a source. Each error of the reader is a fault, `Interrupted` too (this project's choice).
 #[derive(Drop)]
 pub struct FromReader<R> {
     reader: R,
+    failed: bool,
 }
 
 impl<R: Read> FromReader<R> {
     /// A source of the bytes that the reader has left.
-    pub fn new(reader: R) -> FromReader<R> {
-        FromReader { reader }
+    pub fn new(reader: R) -> FromReader<R>
+        ensures reader { result.reader ≡ reader }
+        ensures sound { result.failed ≡ false }
+    {
+        FromReader {
+            reader,
+            failed: false,
+        }
     }
 }
 
 impl<R: Read> Source for FromReader<R> {
+    ghost remaining = { λ source. R.remaining source.reader };
+
+    ghost failed = { λ source. source.failed };
+
+    // It doesn't count.
+    ghost calls = { λ source. 0 };
+
     fn read_byte(&mut self) -> Result<Option<u8>, DeviceFault> {
         let mut byte = [0];
         match self.reader.read(&mut byte) {
             Ok(0) => Ok(None),
             Ok(_) => Ok(Some(byte[0])),
-            Err(_) => Err(DeviceFault),
+            Err(_) => {
+                self.failed = true;
+                Err(DeviceFault)
+            }
         }
     }
 }
@@ -48,26 +86,41 @@ impl<R: Read> Source for FromReader<R> {
 #[derive(Drop)]
 pub struct ToWriter<W> {
     writer: W,
+    failed: bool,
 }
 
 impl<W: Write> ToWriter<W> {
     /// A sink that writes behind what the writer holds.
-    pub fn new(writer: W) -> ToWriter<W> {
-        ToWriter { writer }
+    pub fn new(writer: W) -> ToWriter<W>
+        ensures writer { result.writer ≡ writer }
+        ensures sound { result.failed ≡ false }
+    {
+        ToWriter {
+            writer,
+            failed: false,
+        }
     }
 
     /// The writer, with what was written to it.
-    pub fn into_inner(self) -> W {
+    pub fn into_inner(self) -> W
+        ensures { result ≡ self.writer }
+    {
         self.writer
     }
 }
 
 impl<W: Write> Sink for ToWriter<W> {
+    ghost written = { λ sink. W.contents sink.writer };
+
+    ghost failed = { λ sink. sink.failed };
+
     fn write_some(&mut self, text: &[u8]) -> Result<usize, DeviceFault> {
         match self.writer.write(text) {
-            Ok(0) if !text.is_empty() => Err(DeviceFault),
-            Ok(count) => Ok(count),
-            Err(_) => Err(DeviceFault),
+            Ok(count) if count > 0 || text.is_empty() => Ok(count),
+            _ => {
+                self.failed = true;
+                Err(DeviceFault)
+            }
         }
     }
 }

@@ -1,0 +1,26 @@
+-- The exit status of a fault.
+use Rattle.std.specs.Prelude.{ℕ, Bool, IsTrue, ⊤, List, Err}
+use Rattle.script_core.specs.Reading.{Reads}
+use Rattle.lockreplay.specs.declared.replay.RunFault.{RunFault}
+use Rattle.lockreplay.specs.declared.replay.RunFault.TheVariants as faults
+
+-- a faulty script ends with 2, and all else that goes wrong with 1 (this project's choice)
+abbrev pub status_of : RunFault → ℕ
+status_of faults.Read = 1
+status_of faults.Write = 1
+status_of faults.Memory = 1
+status_of (faults.Script fault) = 2
+
+-- reading ends so: the source failed, or a growth was refused
+abbrev pub IsReadFault : Bool → RunFault → Type 0
+IsReadFault failed faults.Read = IsTrue failed
+IsReadFault failed faults.Memory = ⊤
+IsReadFault failed faults.Write = ⊥
+IsReadFault failed (faults.Script fault) = ⊥
+
+-- bytes have no output for this: they are no script, and have this fault, or a growth was refused
+abbrev pub IsOutputFault : List ℕ → RunFault → Type 0
+IsOutputFault bytes (faults.Script fault) = Reads bytes (Err fault)
+IsOutputFault bytes faults.Memory = ⊤
+IsOutputFault bytes faults.Read = ⊥
+IsOutputFault bytes faults.Write = ⊥

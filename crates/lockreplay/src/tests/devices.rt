@@ -1,0 +1,267 @@
+//! Runs on devices that fail, move a byte at a time, or never end.
+ghost use Rattle.std.specs.Prelude.{◌≤◌, None, false};
+
+use crate::devices::{DeviceFault, FromReader, Sink, Source, ToWriter};
+use crate::replay::{RunFault, replay};
+use script_core::{Cause, SCRIPT_MAX, ScriptFault};
+use std::alloc::Global;
+use std::io;
+use std::io::Write;
+use std::test::Fail;
+
+const SCRIPT: &str = "1 open 0 rw
+1 setlk 0 w set 0 100
+";
+
+const OUTPUT: &str = "1#1 open 0 rw | 1#1 fd 0
+1#2 setlk 0 w set 0 100 | 1#2 ok
+lock 0 process 1 w 0 99
+proc 1 sent 2 taken 2 answered 2 live
+";
+
+/// Bytes that are given one by one, and a fault in place of one of them.
+#[derive(Drop)]
+struct Scripted {
+    bytes: &'static [u8],
+    fails_at: u64,
+    calls: u64,
+    failed: bool,
+}
+
+impl Scripted {
+    /// A source that fails at its call number `fails_at`, from 1.
+    fn new(bytes: &'static [u8], fails_at: u64) -> Scripted {
+        Scripted {
+            bytes,
+            fails_at,
+            calls: 0,
+            failed: false,
+        }
+    }
+}
+
+impl Source for Scripted {
+    ghost remaining = { λ source. None };
+
+    ghost failed = { λ source. source.failed };
+
+    ghost calls = { λ source. source.calls };
+
+    fn read_byte(&mut self) -> Result<Option<u8>, DeviceFault> {
+        self.calls = self.calls.saturating_add(1);
+        if self.calls == self.fails_at {
+            self.failed = true;
+            return Err(DeviceFault);
+        }
+        let Some((first, rest)) = self.bytes.split_first() else {
+            return Ok(None);
+        };
+        self.bytes = rest;
+        Ok(Some(*first))
+    }
+}
+
+/// The same byte without end.
+#[derive(Drop)]
+struct Endless {
+    byte: u8,
+    calls: u64,
+}
+
+impl Source for Endless {
+    ghost remaining = { λ source. None };
+
+    ghost failed = { λ source. false };
+
+    ghost calls = { λ source. source.calls };
+
+    fn read_byte(&mut self) -> Result<Option<u8>, DeviceFault> {
+        self.calls = self.calls.saturating_add(1);
+        Ok(Some(self.byte))
+    }
+}
+
+/// A sink that takes so many bytes of each text at most, and fails once it has so many.
+#[derive(Drop)]
+struct Narrow {
+    written: Vec<u8>,
+    at_once: usize,
+    fails_after: usize,
+    failed: bool,
+}
+
+impl Narrow {
+    /// A sink that takes `at_once` bytes at a time, and none but the first `fails_after` ones.
+    fn new(alloc: Global, at_once: usize, fails_after: usize) -> Narrow {
+        Narrow {
+            written: Vec::new(alloc),
+            at_once,
+            fails_after,
+            failed: false,
+        }
+    }
+
+    /// How many bytes of a text of this length it takes.
+    fn room(&self, len: usize) -> usize
+        ensures { result ≤ len }
+    {
+        let left = self.fails_after.saturating_sub(self.written.len());
+        len.min(self.at_once).min(left)
+    }
+}
+
+impl Sink for Narrow {
+    ghost written = { λ sink. None };
+
+    ghost failed = { λ sink. sink.failed };
+
+    fn write_some(&mut self, text: &[u8]) -> Result<usize, DeviceFault> {
+        let count = self.room(text.len());
+        if count == 0 && !text.is_empty()
+            || self.written.extend_from_slice(&text[..count]).is_err()
+        {
+            self.failed = true;
+            return Err(DeviceFault);
+        }
+        Ok(count)
+    }
+}
+
+/// A writer that takes nothing.
+#[derive(Drop)]
+struct Full;
+
+impl Write for Full {
+    fn write(&mut self, buf: &[u8]) -> io::Result<usize> {
+        Ok(0)
+    }
+
+    fn flush(&mut self) -> io::Result<()> {
+        Ok(())
+    }
+}
+
+/// Where a source fails, the run is told so, and nothing is written: at each byte, and where the end would come.
+#[test]
+fn tells_a_source_that_fails(rt: HostRuntime) -> Result<(), Fail> {
+    for call in 1..=SCRIPT.len() as u64 + 1 {
+        let mut source = Scripted::new(SCRIPT.as_bytes(), call);
+        let mut sink = ToWriter::new(Vec::new(rt.alloc()));
+        let result = replay(rt.alloc(), &mut source, &mut sink);
+        assert_eq!(rt; result, Err(RunFault::Read), "at call {call}");
+        assert_eq!(rt; source.calls, call, "the calls where call {call} fails");
+        assert!(rt;
+            sink.into_inner().is_empty(),
+            "the output where call {call} fails"
+        );
+    }
+    Ok(())
+}
+
+/// A source that fails at a later call only is read once for each byte, and once for the end.
+#[test]
+fn reads_no_further_than_the_end(rt: HostRuntime) -> Result<(), Fail> {
+    let calls = SCRIPT.len() as u64 + 1;
+    let mut source = Scripted::new(SCRIPT.as_bytes(), calls + 1);
+    let mut sink = ToWriter::new(Vec::new(rt.alloc()));
+    assert_eq!(rt; replay(rt.alloc(), &mut source, &mut sink), Ok(()));
+    assert_eq!(rt; source.calls, calls);
+    assert_eq!(rt; sink.into_inner().as_slice(), OUTPUT.as_bytes());
+    Ok(())
+}
+
+/// However few bytes a sink takes at once, it gets the whole output.
+#[test]
+fn writes_to_a_narrow_sink(rt: HostRuntime) -> Result<(), Fail> {
+    for at_once in 1..=3 {
+        let mut source = FromReader::new(SCRIPT.as_bytes());
+        let mut sink = Narrow::new(rt.alloc(), at_once, OUTPUT.len());
+        assert_eq!(rt;
+            replay(rt.alloc(), &mut source, &mut sink),
+            Ok(()),
+            "{at_once} at once"
+        );
+        assert_eq!(rt;
+            sink.written.as_slice(),
+            OUTPUT.as_bytes(),
+            "{at_once} at once"
+        );
+    }
+    Ok(())
+}
+
+/// Where a sink fails, the run is told so, and what stands there is the front of the output.
+#[test]
+fn tells_a_sink_that_fails(rt: HostRuntime) -> Result<(), Fail> {
+    for len in 0..OUTPUT.len() {
+        let mut source = FromReader::new(SCRIPT.as_bytes());
+        let mut sink = Narrow::new(rt.alloc(), 7, len);
+        let result = replay(rt.alloc(), &mut source, &mut sink);
+        assert_eq!(rt; result, Err(RunFault::Write), "after {len} bytes");
+        assert_eq!(rt;
+            sink.written.as_slice(),
+            &OUTPUT.as_bytes()[..len],
+            "after {len} bytes"
+        );
+    }
+    Ok(())
+}
+
+/// A write of no byte is a fault.
+#[test]
+fn tells_a_writer_that_takes_nothing(rt: HostRuntime) -> Result<(), Fail> {
+    let mut source = FromReader::new(SCRIPT.as_bytes());
+    let mut sink = ToWriter::new(Full);
+    let result = replay(rt.alloc(), &mut source, &mut sink);
+    assert_eq!(rt; result, Err(RunFault::Write));
+    Ok(())
+}
+
+/// A source without end is read up to one byte past the longest script.
+#[test]
+fn refuses_a_source_without_end(rt: HostRuntime) -> Result<(), Fail> {
+    let mut source = Endless {
+        byte: b' ',
+        calls: 0,
+    };
+    let mut sink = ToWriter::new(Vec::new(rt.alloc()));
+    let fault = ScriptFault {
+        line: 0,
+        cause: Cause::TooLong,
+    };
+    let result = replay(rt.alloc(), &mut source, &mut sink);
+    assert_eq!(rt; result, Err(RunFault::Script(fault)));
+    assert_eq!(rt; source.calls, SCRIPT_MAX as u64 + 1);
+    assert!(rt; sink.into_inner().is_empty());
+    Ok(())
+}
+
+/// The longest script has [`SCRIPT_MAX`] bytes, whatever its lines are.
+#[test]
+fn accepts_the_longest_script(rt: HostRuntime) -> Result<(), Fail> {
+    let mut feeds = vec![in rt.alloc(); b'\n'; SCRIPT_MAX]?;
+    let mut sink = ToWriter::new(Vec::new(rt.alloc()));
+    let longest = replay(
+        rt.alloc(),
+        &mut FromReader::new(feeds.as_slice()),
+        &mut sink,
+    );
+    assert_eq!(rt; longest, Ok(()));
+    let empty = "proc 1 sent 0 taken 0 answered 0 live\n";
+    assert_eq!(rt; sink.into_inner().as_slice(), empty.as_bytes());
+
+    feeds.push(b'\n')?;
+    let mut sink = ToWriter::new(Vec::new(rt.alloc()));
+    let fault = ScriptFault {
+        line: 0,
+        cause: Cause::TooLong,
+    };
+    let longer = replay(
+        rt.alloc(),
+        &mut FromReader::new(feeds.as_slice()),
+        &mut sink,
+    );
+    assert_eq!(rt; longer, Err(RunFault::Script(fault)));
+    assert!(rt; sink.into_inner().is_empty());
+    Ok(())
+}
