@@ -203,6 +203,8 @@ impl Tables {
             IsFreeProcess (processes_of self.old) D child × StandFor self.new D }
         ensures refused { OnErr result ((D : Descriptors) → StandFor self.old D → StandFor self.new D) }
         ensures kept { SameLimits self.old self.new }
+        ensures child { OnOk result ((1 ≤ child) × (child ≤ processes_of self.old)) }
+        ensures unborn { OnOk result ((D : Descriptors) → StandFor self.old D → (fd : ℕ) → D.description_of child fd ≡ None) }
         ensures alive { OnOk result ((q : ℕ) → ever_alive self.new q ≡ ((q == child) || ever_alive self.old q)) }
         ensures same { OnErr result ((q : ℕ) → ever_alive self.new q ≡ ever_alive self.old q) }
     {

@@ -1,5 +1,5 @@
 -- Predicates that at most one value meets, and the choices and the chains that are made of them.
-use Rattle.std.proofs.Common.{◌≡◌, sym, ◌∙◌, subst₂, Bool, true, false, Option, Some, None, Result, Ok, Err, inl, inr, MatchBool, MatchOption, MatchResult}
+use Rattle.std.proofs.Common.{◌≡◌, sym, ◌∙◌, subst, subst₂, Bool, true, false, Option, Some, None, Result, Ok, Err, inl, inr, MatchBool, MatchOption, MatchResult}
 use Rattle.range_core.specs.Facts.{MatchFact}
 
 -- at most one value meets the predicate
@@ -28,6 +28,12 @@ MatchFact-unique Fact P Q p q x y (inl h) (inl k) = p x y h.1 k.1
 MatchFact-unique Fact P Q p q x y (inl h) (inr k) = absurd (k.0 h.0)
 MatchFact-unique Fact P Q p q x y (inr h) (inl k) = absurd (h.0 k.0)
 MatchFact-unique Fact P Q p q x y (inr h) (inr k) = q x y h.1 k.1
+
+-- at most one value comes of one that is determined
+pub by_one : {A X : Type 0} (Gives : A → Type 0) (Comes : A → X → Type 0) → AtMostOne Gives → ((a : A) → AtMostOne (Comes a))
+    → AtMostOne (λ x. (a : A) × Gives a × Comes a x)
+by_one {A} {X} Gives Comes given comes x y h k =
+    comes k.0 x y (subst (λ (a : A). Comes a x) (given h.0 k.0 h.1 k.1) h.2) k.2
 
 -- at most one value comes of two that are determined
 pub by_two : {A B X : Type 0} (Gives : A → B → Type 0) (Comes : A → B → X → Type 0)

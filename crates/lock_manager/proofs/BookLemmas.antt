@@ -2,6 +2,7 @@
 use Rattle.std.proofs.Common.{ℕ, ◌≡◌, ◌≢◌, ◌<◌, ◌≤◌, refl, sym, ◌∙◌, ap, subst, List, [], ◌∷◌, ◌++◌, length, Some, None, inl, inr, Option, Bool, true, false, get_or, Result, Ok, Err, OnOk, OnErr, All}
 use Rattle.lock_manager.specs.Opening.{HoldsNothing}
 use Rattle.std.specs.Prelude.{slice_get, slice_set, ◌==◌, ◌&&◌, if◌then◌else◌}
+use Rattle.range_core.specs.declared.Memory.{Memory}
 use Rattle.range_core.specs.declared.Mode.{Mode}
 use Rattle.range_core.specs.declared.Span.{Span}
 use Rattle.range_core.specs.Changes.{is_covered}
@@ -10,7 +11,7 @@ use Rattle.lock_book.specs.declared.book.Book.{Book}
 use Rattle.lock_book.specs.Owners.{is_same_owner}
 use Rattle.lock_book.specs.Changes.{Change, sets_byte, mode_from}
 use Rattle.lock_book.specs.Books.{flock_modes_of, SetsOwnerMode, SameBook}
-use Rattle.wait_core.specs.Locks.{locks_of, byte_modes_at, flock_modes_at}
+use Rattle.wait_core.specs.Locks.{Locks, locks_of, byte_modes_at, flock_modes_at}
 use Rattle.std.proofs.lemmas.Bool.Decides.{eqb_tells}
 use Rattle.std.proofs.lemmas.Bool.{eqb-true}
 use Rattle.std.proofs.lemmas.Bool.{cases_lt}
@@ -62,7 +63,7 @@ flocks_at true entry old new d was same = same ∙ ap (λ e. flock_modes_at e d)
 flocks_at false entry old new d was same = refl
 
 -- the entry of the file that is changed
-entry_is : (books : List Book) (file f : ℕ) (old : Book) → slice_get books file ≡ Some old → (file == f) ≡ true → slice_get books f ≡ Some old
+pub entry_is : (books : List Book) (file f : ℕ) (old : Book) → slice_get books file ≡ Some old → (file == f) ≡ true → slice_get books f ≡ Some old
 entry_is books file f old was same = subst (λ k. slice_get books k ≡ Some old) (eqb-true file f same) was
 
 -- the modes of the file whose book was changed, and of all others
@@ -94,6 +95,25 @@ pub same_bytes : (books : List Book) (file : ℕ) (old new : Book)
 same_bytes books file old new within was same f o byte =
     rw (slice_get-set books file f new within)
     (same_at (file == f) (slice_get books f) old new o byte (entry_is books file f old was) same)
+
+-- one owner's mode of a change, or what stood there
+abbrev pub changed : Locks → ℕ → Owner → Span → Option Mode → ℕ → Owner → ℕ → Option Mode
+changed locks file owner span mode f o byte =
+    if (file == f) && is_same_owner owner o && is_covered span byte then mode else locks.bytes f o byte
+
+-- what holds of the locks after the change, and where they stay, holds after one book's set, refused or not
+pub after_set : (P : Locks → Type 0) (books : List Book) (file : ℕ) (old new : Book) (owner : Owner) (span : Span) (mode : Option Mode) (result : Result (Unit {0}) Memory)
+    → file < length books → slice_get books file ≡ Some old
+    → OnOk result (SetsOwnerMode old new owner span mode) → OnErr result (SameBook old new)
+    → (((f : ℕ) (o : Owner) (byte : ℕ) → (locks_of (slice_set books file new)).bytes f o byte ≡ changed (locks_of books) file owner span mode f o byte)
+    → ((f d : ℕ) → (locks_of (slice_set books file new)).flocks f d ≡ (locks_of books).flocks f d) → P (locks_of (slice_set books file new)))
+    → (((f : ℕ) (o : Owner) (byte : ℕ) → (locks_of (slice_set books file new)).bytes f o byte ≡ (locks_of books).bytes f o byte)
+    → ((f d : ℕ) → (locks_of (slice_set books file new)).flocks f d ≡ (locks_of books).flocks f d) → P (locks_of (slice_set books file new)))
+    → P (locks_of (slice_set books file new))
+after_set P books file old new owner span mode (Ok done) within was sets same then_changed then_same =
+    then_changed (set_bytes books file old new owner span mode within was sets) (set_flocks books file old new within was sets.flocks)
+after_set P books file old new owner span mode (Err memory) within was sets same then_changed then_same =
+    then_same (same_bytes books file old new within was same) (set_flocks books file old new within was same.flocks)
 
 -- the book that a mutable loan of an element of the list reads
 pub book_at : (books : List Book) (i file : ℕ) (book : Book) → i ≡ file → file < length books → book ≡ get_or books i book → slice_get books file ≡ Some book

@@ -1,5 +1,5 @@
 -- What a request comes to is determined, and so is the step.
-use Rattle.std.proofs.Common.{◌≡◌, ℕ, ◌++◌, ◌||◌, sym, ◌∙◌, ap₂, subst, Result}
+use Rattle.std.proofs.Common.{◌≡◌, ℕ, ℤ, List, [], ◌++◌, ◌||◌, sym, ◌∙◌, ap₂, subst, Result}
 use Rattle.std.specs.Prelude.{MatchResult}
 use Rattle.range_core.specs.declared.Kind.{Kind}
 use Rattle.range_core.specs.declared.Mode.{Mode}
@@ -9,26 +9,31 @@ use Rattle.fd_table.specs.declared.Access.{Access}
 use Rattle.fd_table.specs.declared.FdFault.{FdFault}
 use Rattle.fd_table.specs.declared.FdFault.TheVariants.{BadFd, TooMany, Invalid, Taken, Memory}
 use Rattle.fd_table.specs.declared.tables.Look.{Look}
-use Rattle.fd_table.specs.Descriptors.{look_at}
-use Rattle.fd_table.specs.Calls.{OpenGives}
+use Rattle.fd_table.specs.Descriptors.{Descriptors, look_at}
+use Rattle.fd_table.specs.Calls.{OpenGives, DupGives, DupToGives, CloseGives, SeekGives, ResizeGives, ForkGives, EndGives}
 use Rattle.wait_core.specs.declared.Wait.{Wait}
 use Rattle.wait_core.specs.Blocking.{IsBlockedByLock}
 use Rattle.lock_manager.specs.declared.request.Rules.{Rules}
 use Rattle.lock_manager.specs.declared.request.Lock.{Lock}
 use Rattle.lock_manager.specs.declared.request.LkCmd.{LkCmd}
-use Rattle.lock_manager.specs.declared.request.LkCmd.TheVariants.{SetLk}
+use Rattle.lock_manager.specs.declared.request.LkCmd.TheVariants.{GetLk, SetLk, OGetLk, OSetLk}
 use Rattle.lock_manager.specs.declared.request.Request.{Request}
-use Rattle.lock_manager.specs.declared.request.Request.TheVariants.{OpenFile, Lk}
+use Rattle.lock_manager.specs.declared.request.Request.TheVariants.{OpenFile, Dup, DupTo, CloseFd, Seek, Resize, Lk, Fork, Exit}
 use Rattle.lock_manager.specs.declared.request.Reply.TheVariants as replies
-use Rattle.lock_manager.specs.State.{State, locks_held}
+use Rattle.lock_manager.specs.declared.request.ProcState.TheVariants.{Live}
+use Rattle.lock_manager.specs.State.{State, locks_held, with_process}
 use Rattle.lock_manager.specs.Outcomes.{Outcome, answered, IsRefusal}
-use Rattle.lock_manager.specs.DescriptorCalls.{OpenComesTo}
+use Rattle.lock_manager.specs.declared.request.Note.{Note}
+use Rattle.lock_manager.specs.DescriptorCalls.{OpenComesTo, DupComesTo, DupToComesTo, CloseComesTo, SeekComesTo, ResizeComesTo, with_released}
 use Rattle.lock_manager.specs.LockWords.{is_get, is_bad_argument, wanted_mode, permits, wanted_lock}
-use Rattle.lock_manager.specs.LockCommands.{CommandComesTo, ModeComesTo, RangeComesTo, DescribedComesTo, LockComesTo}
+use Rattle.lock_manager.specs.LockCommands.{GetComesTo, SetComesTo, CommandComesTo, ModeComesTo, RangeComesTo, DescribedComesTo, LockComesTo}
+use Rattle.lock_manager.specs.ProcessCalls.{ForkComesTo, EndComesTo}
 use Rattle.lock_manager.specs.Settling.{Settles}
 use Rattle.lock_manager.specs.Step.{ComesTo}
 use Rattle.lock_manager.specs.OneOutcome.{StepHasOneOutcome}
-use Rattle.lock_manager.proofs.AtMostOneLemmas.{AtMostOne, one_value, MatchBool-unique, MatchOption-unique, MatchResult-unique, MatchFact-unique, by_two}
+use Rattle.lock_manager.proofs.AtMostOneLemmas.{AtMostOne, one_value, MatchBool-unique, MatchOption-unique, MatchResult-unique, MatchFact-unique, by_one, by_two}
+use Rattle.lock_manager.proofs.BlockerLaws.{IsFirstBlocker-unique}
+use Rattle.lock_manager.proofs.CallLaws.{DupGives-unique, DupToGives-unique, CloseGives-unique, SeekGives-unique, ResizeGives-unique, ForkGives-unique, EndGives-unique}
 use Rattle.lock_manager.proofs.DescriptorLaws.{OpenGives-unique}
 use Rattle.lock_manager.proofs.SettlingLaws.{Settles-unique}
 
@@ -50,8 +55,55 @@ OpenComesTo-unique rules S p n file access =
     by_two (OpenGives rules.limits S.descriptors p file access) _ (OpenGives-unique rules.limits S.descriptors p file access)
     (λ result descriptors. answer-unique S p n (λ fd. answered (record S { descriptors = descriptors }) p n (replies.Fd fd)) result)
 
+DupComesTo-unique : (rules : Rules) (S : State) (p n fd : ℕ) → AtMostOne (DupComesTo rules S p n fd)
+DupComesTo-unique rules S p n fd =
+    by_two (DupGives rules.limits S.descriptors p fd) _ (DupGives-unique rules.limits S.descriptors p fd)
+    (λ result descriptors. answer-unique S p n (λ free. answered (record S { descriptors = descriptors }) p n (replies.Fd free)) result)
+
+DupToComesTo-unique : (rules : Rules) (S : State) (p n fd to : ℕ) → AtMostOne (DupToComesTo rules S p n fd to)
+DupToComesTo-unique rules S p n fd to =
+    by_two (DupToGives rules.limits S.descriptors p fd to) _ (DupToGives-unique rules.limits S.descriptors p fd to)
+    (λ result descriptors. answer-unique S p n (λ answer. answered (with_released S descriptors p answer.1) p n (replies.Fd answer.0)) result)
+
+CloseComesTo-unique : (S : State) (p n fd : ℕ) → AtMostOne (CloseComesTo S p n fd)
+CloseComesTo-unique S p n fd =
+    by_two (CloseGives S.descriptors p fd) _ (CloseGives-unique S.descriptors p fd)
+    (λ result descriptors. answer-unique S p n (λ released. answered (with_released S descriptors p released) p n replies.Ok) result)
+
+-- a call that answers nothing but that it is done
+done-unique : (S : State) (p n : ℕ) (descriptors : Descriptors) (result : Result (Unit {0}) FdFault)
+    → AtMostOne (λ outcome. MatchResult result (λ done. outcome ≡ answered (record S { descriptors = descriptors }) p n replies.Ok) (λ fault. IsRefusal S p n fault outcome))
+done-unique S p n descriptors result = answer-unique S p n (λ done. answered (record S { descriptors = descriptors }) p n replies.Ok) result
+
+SeekComesTo-unique : (S : State) (p n fd : ℕ) (offset : ℤ) → AtMostOne (SeekComesTo S p n fd offset)
+SeekComesTo-unique S p n fd offset =
+    by_two (SeekGives S.descriptors p fd offset) _ (SeekGives-unique S.descriptors p fd offset) (λ result descriptors. done-unique S p n descriptors result)
+
+ResizeComesTo-unique : (S : State) (p n fd : ℕ) (size : ℤ) → AtMostOne (ResizeComesTo S p n fd size)
+ResizeComesTo-unique S p n fd size =
+    by_two (ResizeGives S.descriptors p fd size) _ (ResizeGives-unique S.descriptors p fd size) (λ result descriptors. done-unique S p n descriptors result)
+
+ForkComesTo-unique : (processes : ℕ) (S : State) (p n child : ℕ) → AtMostOne (ForkComesTo processes S p n child)
+ForkComesTo-unique processes S p n child =
+    by_two (ForkGives processes S.descriptors p child) _ (ForkGives-unique processes S.descriptors p child)
+    (λ result descriptors. answer-unique S p n (λ done. answered (with_process (record S { descriptors = descriptors }) child Live) p n replies.Ok) result)
+
+EndComesTo-unique : (S : State) (p : ℕ) (told : List Note) → AtMostOne (EndComesTo S p told)
+EndComesTo-unique S p told =
+    by_two (EndGives S.descriptors p) _ (EndGives-unique S.descriptors p) (λ released descriptors. one_value _)
+
+-- what a get command answers is one outcome
+GetComesTo-unique : (S : State) (wanted : Wait) → AtMostOne (GetComesTo S wanted)
+GetComesTo-unique S wanted = MatchFact-unique _ _ _ (by_one _ _ (IsFirstBlocker-unique _ _ _ _) (λ blocker. one_value _)) (one_value _)
+
+SetComesTo-unique : (S : State) (wanted : Wait) → AtMostOne (SetComesTo S wanted)
+SetComesTo-unique S wanted = MatchFact-unique (IsBlockedByLock (locks_held S) wanted) _ _ (one_value _) (one_value _)
+
 CommandComesTo-unique : (rules : Rules) (S : State) (cmd : LkCmd) (wanted : Wait) → AtMostOne (CommandComesTo rules S cmd wanted)
-CommandComesTo-unique rules S SetLk wanted = MatchFact-unique (IsBlockedByLock (locks_held S) wanted) _ _ (one_value _) (one_value _)
+CommandComesTo-unique rules S GetLk wanted = GetComesTo-unique S wanted
+CommandComesTo-unique rules S OGetLk wanted = GetComesTo-unique S wanted
+CommandComesTo-unique rules S SetLk wanted = SetComesTo-unique S wanted
+CommandComesTo-unique rules S OSetLk wanted = SetComesTo-unique S wanted
 
 ModeComesTo-unique : (rules : Rules) (S : State) (p n : ℕ) (cmd : LkCmd) (look : Look) (span : Span) (mode : Mode) → AtMostOne (ModeComesTo rules S p n cmd look span mode)
 ModeComesTo-unique rules S p n cmd look span mode =
@@ -75,6 +127,13 @@ LockComesTo-unique rules S p n fd cmd lock =
 -- a request comes to one outcome
 pub ComesTo-unique : (rules : Rules) (processes : ℕ) (S : State) (p n : ℕ) (request : Request) → AtMostOne (ComesTo rules processes S p n request)
 ComesTo-unique rules processes S p n (OpenFile file access) = OpenComesTo-unique rules S p n file access
+ComesTo-unique rules processes S p n (Dup fd) = DupComesTo-unique rules S p n fd
+ComesTo-unique rules processes S p n (DupTo fd to) = DupToComesTo-unique rules S p n fd to
+ComesTo-unique rules processes S p n (CloseFd fd) = CloseComesTo-unique S p n fd
+ComesTo-unique rules processes S p n (Seek fd offset) = SeekComesTo-unique S p n fd offset
+ComesTo-unique rules processes S p n (Resize fd size) = ResizeComesTo-unique S p n fd size
+ComesTo-unique rules processes S p n (Fork child) = ForkComesTo-unique processes S p n child
+ComesTo-unique rules processes S p n Exit = EndComesTo-unique S p []
 ComesTo-unique rules processes S p n (Lk fd cmd lock) = LockComesTo-unique rules S p n fd cmd lock
 
 -- the step has one outcome

@@ -1,10 +1,10 @@
 -- No owners conflict after a change that nothing blocked.
 use Rattle.std.proofs.Common.{ℕ, ◌≡◌, ◌≢◌, ◌<◌, refl, sym, ◌∙◌, ap, subst, List, [], ◌∷◌, ◌++◌, Some, Option, Bool, true, false, All}
-use Rattle.std.specs.Prelude.{◌==◌, ◌&&◌, nat_le, if◌then◌else◌, slice_get, slice_set, Result, Ok, Err, OnOk, OnErr, length}
+use Rattle.std.specs.Prelude.{◌==◌, ◌&&◌, nat_le, if◌then◌else◌, slice_get, slice_set, Result, OnOk, OnErr, length}
 use Rattle.range_core.specs.declared.Memory.{Memory}
 use Rattle.lock_book.specs.declared.book.Book.{Book}
 use Rattle.lock_book.specs.Books.{SetsOwnerMode, SameBook}
-use Rattle.lock_manager.proofs.BookLemmas.{unlocked_bytes, unlocked_flocks, set_bytes, set_flocks, same_bytes}
+use Rattle.lock_manager.proofs.BookLemmas.{unlocked_bytes, unlocked_flocks, changed, after_set}
 use Rattle.std.proofs.lemmas.Bool.{eqb-true, leb-true}
 use Rattle.range_core.specs.declared.Mode.{Mode}
 use Rattle.range_core.specs.declared.Mode.TheVariants.{Read, Write}
@@ -37,16 +37,16 @@ conflict_back Write Read h = tt
 conflict_back Write Write h = tt
 
 -- what a change on this byte of this file is
-record Hits (file : ℕ) (owner : Owner) (span : Span) (f : ℕ) (o : Owner) (byte : ℕ) : Type 0 where
-  file_is : file ≡ f
-  owner_is : owner ≡ o
-  covered : Covers span byte
+pub record Hits (file : ℕ) (owner : Owner) (span : Span) (f : ℕ) (o : Owner) (byte : ℕ) : Type 0 where
+  pub file_is : file ≡ f
+  pub owner_is : owner ≡ o
+  pub covered : Covers span byte
 
-both : (a b : Bool) → (a && b) ≡ true → (a ≡ true) × (b ≡ true)
+pub both : (a b : Bool) → (a && b) ≡ true → (a ≡ true) × (b ≡ true)
 both true b e = (refl, e)
 both false b e = cc
 
-hit : (file : ℕ) (owner : Owner) (span : Span) (f : ℕ) (o : Owner) (byte : ℕ) → ((file == f) && is_same_owner owner o && is_covered span byte) ≡ true → Hits file owner span f o byte
+pub hit : (file : ℕ) (owner : Owner) (span : Span) (f : ℕ) (o : Owner) (byte : ℕ) → ((file == f) && is_same_owner owner o && is_covered span byte) ≡ true → Hits file owner span f o byte
 hit file owner span f o byte e =
     let outer : (((file == f) && is_same_owner owner o) ≡ true) × (is_covered span byte ≡ true) =
     both ((file == f) && is_same_owner owner o) (is_covered span byte) e in
@@ -76,11 +76,6 @@ free_without_waits policy locks p led = no_chain policy locks p led.0 p led.1
 pub safe_without_waits : (policy : Policy) (locks : Locks) → AreCompatible locks → IsSafe policy locks []
 safe_without_waits policy locks compatible =
     record { compatible = compatible; settled = tt; free_of_cycles = free_without_waits policy locks }
-
--- one owner's mode of a change, or what stood there
-abbrev changed : Locks → ℕ → Owner → Span → Option Mode → ℕ → Owner → ℕ → Option Mode
-changed locks file owner span mode f o byte =
-    if (file == f) && is_same_owner owner o && is_covered span byte then mode else locks.bytes f o byte
 
 -- of two owners with conflicting modes after a change, neither is the one that changed without standing against the other before
 no_conflict : (locks : Locks) (file : ℕ) (owner : Owner) (span : Span) (mode : Option Mode) → AreCompatible locks
@@ -145,14 +140,11 @@ pub safe_after : (policy : Policy) (books : List Book) (file : ℕ) (old new : B
     → ((m : Mode) → mode ≡ Some m → ¬ ByteConflict ((locks_of books).bytes file) owner span m)
     → OnOk result (SetsOwnerMode old new owner span mode) → OnErr result (SameBook old new)
     → IsSafe policy (locks_of books) [] → IsSafe policy (locks_of (slice_set books file new)) []
-safe_after policy books file old new owner span mode (Ok done) within was free sets same before =
+safe_after policy books file old new owner span mode result within was free sets same before =
     safe_without_waits policy (locks_of (slice_set books file new))
-    (compatible_set (locks_of books) (locks_of (slice_set books file new)) file owner span mode before.compatible free
-    (set_bytes books file old new owner span mode within was sets) (set_flocks books file old new within was sets.flocks))
-safe_after policy books file old new owner span mode (Err memory) within was free sets same before =
-    safe_without_waits policy (locks_of (slice_set books file new))
-    (compatible_same (locks_of books) (locks_of (slice_set books file new)) before.compatible
-    (same_bytes books file old new within was same) (set_flocks books file old new within was same.flocks))
+    (after_set AreCompatible books file old new owner span mode result within was sets same
+    (compatible_set (locks_of books) (locks_of (slice_set books file new)) file owner span mode before.compatible free)
+    (compatible_same (locks_of books) (locks_of (slice_set books file new)) before.compatible))
 
 -- where there are no locks none conflict
 pub safe_without_locks : (policy : Policy) (books : List Book) → All HoldsNothing books → IsSafe policy (locks_of books) []

@@ -1,11 +1,15 @@
 pub mod State
 pub mod Settling
 pub mod Outcomes
+pub mod Notes
 pub mod DescriptorCalls
 pub mod LockWords
 pub mod LockCommands
+pub mod ProcessCalls
 pub mod Step
 pub mod Safety
+pub mod DescriptionLocks
+pub mod LockReleases
 pub mod ManagerView
 pub mod Opening
 pub mod OneOutcome

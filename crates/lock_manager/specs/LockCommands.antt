@@ -5,6 +5,9 @@ use Rattle.range_core.specs.declared.Mode.{Mode}
 use Rattle.range_core.specs.declared.Kind.{Kind}
 use Rattle.range_core.specs.declared.Span.{Span}
 use Rattle.range_core.specs.Resolving.{resolution}
+use Rattle.lock_book.specs.declared.Owner.{Owner}
+use Rattle.lock_book.specs.declared.Blocker.{Blocker}
+use Rattle.lock_book.specs.Conflicts.{ByteModes, ByteConflict, IsFirstBlocker}
 use Rattle.fd_table.specs.declared.tables.Look.{Look}
 use Rattle.fd_table.specs.Descriptors.{look_at}
 use Rattle.wait_core.specs.declared.Wait.{Wait}
@@ -12,22 +15,42 @@ use Rattle.wait_core.specs.Blocking.{IsBlockedByLock}
 use Rattle.lock_manager.specs.declared.request.Rules.{Rules}
 use Rattle.lock_manager.specs.declared.request.Lock.{Lock}
 use Rattle.lock_manager.specs.declared.request.LkCmd.{LkCmd}
-use Rattle.lock_manager.specs.declared.request.LkCmd.TheVariants.{SetLk}
+use Rattle.lock_manager.specs.declared.request.LkCmd.TheVariants.{GetLk, SetLk, OGetLk, OSetLk}
 use Rattle.lock_manager.specs.declared.request.Errno.TheVariants.{EBADF, EINVAL, EAGAIN}
+use Rattle.lock_manager.specs.declared.request.Reply.{Reply}
 use Rattle.lock_manager.specs.declared.request.Reply.TheVariants as replies
 use Rattle.lock_manager.specs.State.{State, locks_held, with_byte_mode, with_lock}
 use Rattle.lock_manager.specs.Outcomes.{Outcome, answered, refused, range_error}
-use Rattle.lock_manager.specs.LockWords.{is_get, is_bad_argument, wanted_mode, permits, lock_owner, wanted_lock}
+use Rattle.lock_manager.specs.LockWords.{is_get, is_bad_argument, wanted_mode, permits, held_reply, lock_owner, wanted_lock}
+
+-- a get command tells the first lock that blocks, or that there is none (POSIX.1-2017 fcntl, DESCRIPTION, F_GETLK)
+abbrev pub GetTells : ByteModes → Owner → Span → Mode → (Reply → Type 0) → Type 0
+GetTells modes owner span mode told =
+    MatchFact (ByteConflict modes owner span mode)
+    ((blocker : Blocker) × IsFirstBlocker modes owner span mode blocker × told (held_reply blocker))
+    (told replies.Free)
+
+-- the caller is told so, and the state stays (POSIX.1-2017 fcntl, DESCRIPTION, F_GETLK)
+abbrev pub GetComesTo : State → Wait → Outcome → Type 0
+GetComesTo S wanted outcome =
+    GetTells ((locks_held S).bytes wanted.file) wanted.owner wanted.span wanted.mode (λ reply. outcome ≡ answered S wanted.p wanted.n reply)
 
 -- the lock is set, and the caller answered (POSIX.1-2017 fcntl, DESCRIPTION, F_SETLK)
 abbrev pub IsLocked : State → Wait → Outcome → Type 0
 IsLocked S wanted outcome = outcome ≡ answered (with_lock S wanted) wanted.p wanted.n replies.Ok
 
--- where nothing blocks the lock it is set; else F_SETLK is refused
--- (POSIX.1-2017 fcntl, DESCRIPTION, F_SETLK, and ERRORS, EAGAIN)
-abbrev pub CommandComesTo : Rules → State → LkCmd → Wait → Outcome → Type 0
-CommandComesTo rules S SetLk wanted outcome =
+-- where nothing blocks the lock it is set; else F_SETLK and F_OFD_SETLK are refused
+-- (POSIX.1-2017 fcntl, DESCRIPTION, F_SETLK, and ERRORS, EAGAIN; fcntl_locking(2), F_OFD_SETLK)
+abbrev pub SetComesTo : State → Wait → Outcome → Type 0
+SetComesTo S wanted outcome =
     MatchFact (IsBlockedByLock (locks_held S) wanted) (outcome ≡ refused S wanted.p wanted.n EAGAIN) (IsLocked S wanted outcome)
+
+-- a get command asks, and a set command sets
+abbrev pub CommandComesTo : Rules → State → LkCmd → Wait → Outcome → Type 0
+CommandComesTo rules S GetLk wanted outcome = GetComesTo S wanted outcome
+CommandComesTo rules S OGetLk wanted outcome = GetComesTo S wanted outcome
+CommandComesTo rules S SetLk wanted outcome = SetComesTo S wanted outcome
+CommandComesTo rules S OSetLk wanted outcome = SetComesTo S wanted outcome
 
 -- on a range, with a mode: a set command needs the access mode, a get command doesn't
 -- (POSIX.1-2017 fcntl, ERRORS, EBADF; for the get commands this project's choice)

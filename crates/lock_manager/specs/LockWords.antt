@@ -1,5 +1,6 @@
 -- Words on the lock commands of fcntl and their arguments.
-use Rattle.std.specs.Prelude.{ℕ, zero, suc, ◌&&◌, ◌||◌, not, Bool, true, false, if◌then◌else◌, ℤ, pos, negsuc, Option, Some, None}
+use Rattle.std.specs.Prelude.{ℕ, zero, suc, ◌+◌, ◌-◌, ◌==◌, ◌&&◌, ◌||◌, not, Bool, true, false, if◌then◌else◌, ℤ, pos, negsuc, Option, Some, None}
+use Rattle.range_core.specs.declared.TheConstants.{OFFMAX}
 use Rattle.range_core.specs.declared.Mode.{Mode}
 use Rattle.range_core.specs.declared.Mode.TheVariants as modes
 use Rattle.range_core.specs.declared.Kind.{Kind}
@@ -7,6 +8,7 @@ use Rattle.range_core.specs.declared.Kind.TheVariants.{Read, Write, Unlock}
 use Rattle.range_core.specs.declared.Span.{Span}
 use Rattle.lock_book.specs.declared.Owner.{Owner}
 use Rattle.lock_book.specs.declared.Owner.TheVariants.{Process, Description}
+use Rattle.lock_book.specs.declared.Blocker.{Blocker}
 use Rattle.fd_table.specs.declared.Access.{Access}
 use Rattle.fd_table.specs.declared.Access.TheVariants.{R, W, Rw}
 use Rattle.fd_table.specs.declared.tables.Look.{Look}
@@ -14,15 +16,23 @@ use Rattle.wait_core.specs.declared.Family.TheVariants.{Bytes}
 use Rattle.wait_core.specs.declared.Wait.{Wait}
 use Rattle.lock_manager.specs.declared.request.Lock.{Lock}
 use Rattle.lock_manager.specs.declared.request.LkCmd.{LkCmd}
-use Rattle.lock_manager.specs.declared.request.LkCmd.TheVariants.{SetLk}
+use Rattle.lock_manager.specs.declared.request.LkCmd.TheVariants.{GetLk, SetLk, OGetLk, OSetLk}
+use Rattle.lock_manager.specs.declared.request.Reply.{Reply}
+use Rattle.lock_manager.specs.declared.request.Reply.TheVariants as replies
 
--- whether the command is one of the three for open file description locks (fcntl_locking(2), "Open file description locks")
+-- whether the command is for open file description locks (fcntl_locking(2), "Open file description locks")
 abbrev pub is_ofd : LkCmd → Bool
+is_ofd GetLk = false
 is_ofd SetLk = false
+is_ofd OGetLk = true
+is_ofd OSetLk = true
 
 -- whether the command only asks (POSIX.1-2017 fcntl, DESCRIPTION, F_GETLK; fcntl_locking(2), F_OFD_GETLK)
 abbrev pub is_get : LkCmd → Bool
+is_get GetLk = true
+is_get OGetLk = true
 is_get SetLk = false
+is_get OSetLk = false
 
 -- whether the kind is F_UNLCK (POSIX.1-2017 fcntl, DESCRIPTION, l_type)
 abbrev pub is_unlock : Kind → Bool
@@ -55,6 +65,18 @@ permits R modes.Write = false
 permits W modes.Read = false
 permits W modes.Write = true
 permits Rw mode = true
+
+-- the process of a traditional lock, and -1 for an OFD lock (fcntl_locking(2), F_OFD_GETLK)
+abbrev pub reported_pid : Owner → ℤ
+reported_pid (Process p) = pos p
+reported_pid (Description d) = negsuc 0
+
+-- the blocker as a lock description from SEEK_SET, with the length 0 where it ends at the largest offset
+-- (POSIX.1-2017 fcntl, DESCRIPTION, F_GETLK and l_len)
+abbrev pub held_reply : Blocker → Reply
+held_reply blocker =
+    let span = blocker.span in
+    replies.Held blocker.mode span.first (if span.last == OFFMAX then 0 else (span.last - span.first + 1)) (reported_pid blocker.owner)
 
 -- the owner of the lock (POSIX.1-2017 fcntl, DESCRIPTION, F_SETLK; fcntl_locking(2), "Open file description locks")
 abbrev pub lock_owner : LkCmd → ℕ → Look → Owner

@@ -10,6 +10,7 @@ use Rattle.lock_manager.specs.declared.request.ProcState.{ProcState}
 use Rattle.lock_manager.specs.declared.manager.Manager.{Manager}
 use Rattle.lock_manager.specs.declared.request.Request.{Request}
 use Rattle.lock_manager.specs.declared.request.Reply.{Reply}
+use Rattle.lock_manager.specs.declared.request.Note.{Note}
 use Rattle.lock_manager.specs.State.{State, state_numbered}
 use Rattle.lock_manager.specs.Outcomes.{answered}
 use Rattle.lock_manager.specs.Step.{ComesTo}
@@ -54,6 +55,13 @@ abbrev pub Answers : Manager → Manager → ℕ → Request → Reply → Type 
 Answers old new p request reply =
     (n : ℕ) (S : State) → StandsFor old S →
     (T : State) × ComesTo (rules_of old) (processes_of old) S p n request (answered T p n reply) × StandsFor new T
+
+-- in each state that old stands for the request, number n of process p, comes to these notes, and new stands for the state that
+-- it leaves
+abbrev pub Tells : Manager → Manager → ℕ → ℕ → Request → List Note → Type 0
+Tells old new p n request told =
+    (S : State) → StandsFor old S →
+    (T : State) × ComesTo (rules_of old) (processes_of old) S p n request (record { told = told; after = T }) × StandsFor new T
 
 -- no owners conflict, each wait is blocked, and no traditional wait closes a cycle
 abbrev pub IsSafeManager : Manager → Type 0

@@ -1,12 +1,15 @@
 //! Answers, and what a lock description asks for.
-ghost use Rattle.std.specs.Prelude.{◌≡◌, ℕ, IfNone, IfSome};
-ghost use Rattle.lock_manager.specs.LockWords.{permits as permits_of, wanted_mode as wanted_mode_of};
-ghost use Rattle.lock_manager.specs.Outcomes.{range_error as range_error_of, IsRefusal, refused};
+ghost use Rattle.std.specs.Prelude.{◌≡◌, ℕ, IfOk, OnErr};
+ghost use Rattle.range_core.specs.Ranges.{IsByteRange};
+ghost use Rattle.lock_manager.specs.LockWords.{held_reply as held_reply_of, permits as permits_of, wanted_mode as wanted_mode_of};
+ghost use Rattle.lock_manager.specs.Outcomes.{range_error as range_error_of, IsRefusal, answered};
 ghost use Rattle.lock_manager.specs.State.{State};
+ghost use Rattle.lock_manager.specs.Notes.{note_of};
 
-use crate::Errno;
+use crate::{Errno, Note, Reply};
 use fd_table::{Access, FdFault};
-use range_core::{Kind, Mode, RangeFault};
+use lock_book::{Blocker, Owner};
+use range_core::{Kind, Memory, Mode, OFFMAX, RangeFault, Span};
 
 /// The error of a range that there isn't (POSIX.1-2017 fcntl, ERRORS).
 pub fn range_error(fault: RangeFault) -> Errno
@@ -39,16 +42,47 @@ pub fn permits(access: Access, mode: Mode) -> bool
     }
 }
 
-/// The error of a call on descriptors that was refused, and none where a growth was refused.
-pub fn fd_error(fault: FdFault) -> Option<Errno>
-    ensures none { IfNone result (fault ≡ FdFault.Memory) }
-    ensures some { IfSome result (λ error. (S : State) (p n : ℕ) → IsRefusal S p n fault (refused S p n error)) }
+/// The reply that tells of a lock: its mode, its range from the first byte of the file, with length 0 where it ends at the
+/// largest offset, and the process of a traditional lock, or -1 (POSIX.1-2017 fcntl, `F_GETLK` and `l_len`;
+/// fcntl_locking(2), `F_OFD_GETLK`).
+pub fn held_reply(blocker: Blocker) -> Reply
+    requires { IsByteRange blocker.span }
+    ensures { result ≡ held_reply_of blocker }
+{
+    let Span { first, last } = blocker.span;
+    let len = if last == OFFMAX { 0 } else { last - first + 1 };
+    let pid = match blocker.owner {
+        Owner::Process(process) => i64::from(process),
+        Owner::Description(_) => -1,
+    };
+    Reply::Held {
+        mode: blocker.mode,
+        start: first,
+        len,
+        pid,
+    }
+}
+
+/// The reply to a call on descriptors that was refused; want of memory is no reply.
+pub fn refusal(fault: FdFault) -> Result<Reply, Memory>
+    ensures refused { IfOk result (λ reply. (S : State) (p n : ℕ) → IsRefusal S p n fault (answered S p n reply)) }
+    ensures memory { OnErr result (fault ≡ FdFault.Memory) }
 {
     match fault {
-        FdFault::BadFd => Some(Errno::EBADF),
-        FdFault::TooMany => Some(Errno::EMFILE),
-        FdFault::Invalid => Some(Errno::EINVAL),
-        FdFault::Taken => Some(Errno::EAGAIN),
-        FdFault::Memory => None,
+        FdFault::BadFd => Ok(Reply::Err(Errno::EBADF)),
+        FdFault::TooMany => Ok(Reply::Err(Errno::EMFILE)),
+        FdFault::Invalid => Ok(Reply::Err(Errno::EINVAL)),
+        FdFault::Taken => Ok(Reply::Err(Errno::EAGAIN)),
+        FdFault::Memory => Err(Memory),
+    }
+}
+
+/// The note of the reply to request number `n` of process `p`.
+pub fn answer(p: u8, n: u64, reply: Result<Reply, Memory>) -> Result<Option<Note>, Memory>
+    ensures { result ≡ note_of p n reply }
+{
+    match reply {
+        Ok(reply) => Ok(Some(Note::Answer { p, n, reply })),
+        Err(Memory) => Err(Memory),
     }
 }

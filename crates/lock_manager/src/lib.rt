@@ -2,9 +2,13 @@
 #![tactic(auto)]
 
 mod answers;
+mod commands;
 mod laws;
+// The proofs of the manager see through what it stands for, which is opaque to the crates above.
+#[tactic(auto, unfolding(crate::specs::ManagerView::rules_of, crate::specs::ManagerView::processes_of, crate::specs::ManagerView::state_at, crate::specs::ManagerView::locks_in_books, crate::specs::ManagerView::waits_of))]
 mod manager;
 mod opening;
+mod releasing;
 mod request;
 #[cfg(test)]
 mod tests;

@@ -1,17 +1,22 @@
-ghost use Rattle.std.specs.Prelude.{ℕ, ◌≡◌, ◌≢◌, ◌≤◌, ◌<◌, ◌↔◌, List, [], true, vec_len, IfOk, OnOk, OnErr, IsTrue};
+ghost use Rattle.std.specs.Prelude.{ℕ, ◌≡◌, ◌≤◌, ◌↔◌, [], true, vec_len, IfOk, OnErr, IsTrue};
 ghost use Rattle.fd_table.specs.declared.TheConstants.{FILES};
-ghost use Rattle.fd_table.specs.TablesView.{processes_of as processes_in, limits_of, ever_alive, IsInRange};
+ghost use Rattle.fd_table.specs.TablesView.{processes_of as processes_in, limits_of, ever_alive};
 ghost use Rattle.wait_core.specs.Locks.{locks_of};
 ghost use Rattle.lock_manager.specs.declared.request.ProcState.TheVariants.{Live};
 ghost use Rattle.lock_manager.specs.State.{state_numbered};
 ghost use Rattle.lock_manager.specs.Safety.{IsSafe};
+ghost use Rattle.lock_manager.specs.DescriptionLocks.{AreOwned, AreWithinFiles};
 
-use crate::answers::{fd_error, permits, range_error, wanted_mode};
+mod descriptors;
+mod locks;
+mod processes;
+
+use crate::answers::answer;
 use crate::opening::{empty_books, opening_states};
-use crate::{Errno, LkCmd, Lock, Note, ProcState, Reply, Request, Rules};
-use fd_table::{Access, FILES, Look, Tables};
-use lock_book::{Book, Held, Owner};
-use range_core::{Kind, Memory, Mode, Span, resolve};
+use crate::{Note, ProcState, Request, Rules};
+use fd_table::{FILES, Tables};
+use lock_book::{Book, Held};
+use range_core::Memory;
 use std::alloc::Global;
 
 /// The lock manager: descriptors, locks and processes.
@@ -31,22 +36,18 @@ pub struct Manager {
     ghost limited: { limits_of tables ≡ rules.limits },
     ghost alive: { (p : ℕ) → state_numbered states.items p ≡ Live → ever_alive tables p ≡ true },
     ghost safe: { ∥ IsSafe rules.policy (locks_of books.items) [] ∥₁ },
+    ghost owned: { AreOwned tables (locks_of books.items) },
+    ghost within: { AreWithinFiles (locks_of books.items) },
 }
 
-#[tactic(auto, unfolding(crate::specs::ManagerView::rules_of, crate::specs::ManagerView::processes_of, crate::specs::ManagerView::state_at, crate::specs::ManagerView::locks_in_books, crate::specs::ManagerView::waits_of))]
 impl Manager {
     ghost use Rattle.fd_table.specs.Descriptors.{process_limit};
-    ghost use Rattle.std.specs.Prelude.{Some};
-    ghost use Rattle.range_core.specs.declared.Mode.{Mode};
-    ghost use Rattle.range_core.specs.Ranges.{IsByteRange};
+    ghost use Rattle.std.specs.Prelude.{option_to_list};
     ghost use Rattle.lock_book.specs.Changes.{mode_in, flock_mode_in};
-    ghost use Rattle.lock_book.specs.Conflicts.{ByteConflict};
     ghost use Rattle.lock_book.specs.Reports.{IsHeldReport};
-    ghost use Rattle.lock_manager.specs.State.{State, opening_state, with_byte_mode};
-    ghost use Rattle.lock_manager.specs.Outcomes.{answered};
+    ghost use Rattle.lock_manager.specs.State.{State, opening_state};
     ghost use Rattle.lock_manager.specs.Step.{Step};
-    ghost use Rattle.lock_manager.specs.LockCommands.{LockComesTo, RangeComesTo};
-    ghost use Rattle.lock_manager.specs.ManagerView.{StandsFor, SameManager, IsSafeManager, Answers, rules_of, processes_of, state_at, locks_in_books};
+    ghost use Rattle.lock_manager.specs.ManagerView.{StandsFor, SameManager, IsSafeManager, Tells, rules_of, processes_of, state_at};
 
     /// Process 1 lives, and there is nothing else (this project's choice). There are `processes` processes, numbered from 1:
     /// at most 16, or 64 where the limits are wide.
@@ -71,7 +72,7 @@ impl Manager {
     }
 
     /// One event: request number `n` of process `p`, which is able, with all that it causes; the notes are the caller's
-    /// alone, since no command that is served concerns others.
+    /// alone, since no command that is served concerns others, and there is none to the end of a process.
     ///
     /// `Memory` may come in place of any answer, and leaves everything as it was.
     pub fn take(&mut self, p: u8, n: u64, request: Request) -> Result<Vec<Note>, Memory>
@@ -89,8 +90,9 @@ impl Manager {
         ensures memory { OnErr result (SameManager self.old self.new) }
     {
         let mut notes = Vec::with_capacity(self.alloc, 1).map_err(|_| Memory)?;
-        let reply = self.reply_to(p, request)?;
-        notes.push(Note::Answer { p, n, reply }).unwrap();
+        if let Some(note) = self.serve(p, n, request)? {
+            notes.push(note).unwrap();
+        }
         Ok(notes)
     }
 
@@ -131,109 +133,28 @@ impl Manager {
         self.state_of(p) == ProcState::Live
     }
 
-    /// The reply to a request of a live process.
-    fn reply_to(&mut self, p: u8, request: Request) -> Result<Reply, Memory>
+    /// Serves a request of a live process. There is a note to it unless the process ends.
+    #[tactic(auto, using(crate::proofs::StandsLemmas::untold_by))]
+    fn serve(&mut self, p: u8, n: u64, request: Request) -> Result<Option<Note>, Memory>
         requires { state_at self.old p ≡ ProcState.Live }
-        ensures answers { IfOk result (Answers self.old self.new p request) }
+        ensures told { IfOk result (λ note. Tells self.old self.new p n request (option_to_list note)) }
         ensures memory { OnErr result (SameManager self.old self.new) }
         ensures rules { rules_of self.new ≡ rules_of self.old }
         ensures processes { processes_of self.new ≡ processes_of self.old }
     {
         match request {
-            Request::OpenFile { file, access } => self.open_file(p, file, access),
-            Request::Lk {
-                fd,
-                cmd: LkCmd::SetLk,
-                lock,
-            } => self.set_lock(p, fd, lock),
-        }
-    }
-
-    /// open (POSIX.1-2017 open).
-    fn open_file(&mut self, p: u8, file: u8, access: Access) -> Result<Reply, Memory>
-        requires { state_at self.old p ≡ ProcState.Live }
-        ensures answers { IfOk result (Answers self.old self.new p (Request.OpenFile file access)) }
-        ensures memory { OnErr result (SameManager self.old self.new) }
-        ensures rules { rules_of self.new ≡ rules_of self.old }
-        ensures processes { processes_of self.new ≡ processes_of self.old }
-    {
-        match self.tables.open_file(p, file, access) {
-            Ok(fd) => Ok(Reply::Fd(fd)),
-            Err(fault) => match fd_error(fault) {
-                Some(error) => Ok(Reply::Err(error)),
-                None => Err(Memory),
+            Request::OpenFile { file, access } => answer(p, n, self.open_file(p, file, access)),
+            Request::Dup { fd } => answer(p, n, self.dup(p, fd)),
+            Request::DupTo { fd, to } => answer(p, n, self.dup_to(p, fd, to)),
+            Request::CloseFd { fd } => answer(p, n, self.close_fd(p, fd)),
+            Request::Seek { fd, offset } => answer(p, n, self.seek(p, fd, offset)),
+            Request::Resize { fd, size } => answer(p, n, self.resize(p, fd, size)),
+            Request::Lk { fd, cmd, lock } => answer(p, n, self.lock_command(p, fd, cmd, lock)),
+            Request::Fork { child } => answer(p, n, self.fork(p, child)),
+            Request::Exit => {
+                self.end(p);
+                Ok(None)
             },
         }
-    }
-
-    /// `F_SETLK` of a traditional lock: EBADF for a descriptor that isn't open, then EINVAL or EOVERFLOW for the range, and
-    /// then what it comes to on the range (POSIX.1-2017 fcntl, ERRORS; the order is this project's choice).
-    fn set_lock(&mut self, p: u8, fd: u32, lock: Lock) -> Result<Reply, Memory>
-        ensures answers { IfOk result (Answers self.old self.new p (Request.Lk fd LkCmd.SetLk lock)) }
-        ensures memory { OnErr result (SameManager self.old self.new) }
-        ensures rules { rules_of self.new ≡ rules_of self.old }
-        ensures processes { processes_of self.new ≡ processes_of self.old }
-    {
-        let Some(look) = self.tables.look(p, fd) else {
-            return Ok(Reply::Err(Errno::EBADF));
-        };
-        match resolve(lock.whence, lock.start, lock.len, look.offset, look.size) {
-            Ok(span) => self.set_range(p, look, lock.kind, span),
-            Err(fault) => Ok(Reply::Err(range_error(fault))),
-        }
-    }
-
-    /// `F_SETLK` on a range: an unlock is never refused; a lock is where the access mode doesn't allow it, and then where
-    /// a lock of another owner stands in its way (POSIX.1-2017 fcntl, `F_SETLK`).
-    fn set_range(&mut self, p: u8, look: Look, kind: Kind, span: Span) -> Result<Reply, Memory>
-        requires look { look.file < FILES }
-        requires span { IsByteRange span }
-        ensures answers { IfOk result (λ reply. (n : ℕ) (S : State) → StandsFor self.old S →
-            (T : State) × RangeComesTo (rules_of self.old) S p n LkCmd.SetLk kind look span (answered T p n reply) × StandsFor self.new T) }
-        ensures memory { OnErr result (SameManager self.old self.new) }
-        ensures rules { rules_of self.new ≡ rules_of self.old }
-        ensures processes { processes_of self.new ≡ processes_of self.old }
-    {
-        let owner = Owner::Process(p);
-        let Some(mode) = wanted_mode(kind) else {
-            self.change(look.file, owner, span, None)?;
-            return Ok(Reply::Ok);
-        };
-        if !permits(look.access, mode) {
-            return Ok(Reply::Err(Errno::EBADF));
-        }
-        if self.is_blocked(look.file, owner, span, mode) {
-            return Ok(Reply::Err(Errno::EAGAIN));
-        }
-        self.change(look.file, owner, span, Some(mode))?;
-        Ok(Reply::Ok)
-    }
-
-    /// Whether a lock of another owner stands in the way of this one.
-    fn is_blocked(&self, file: u8, owner: Owner, span: Span, mode: Mode) -> bool
-        requires file { file < FILES }
-        requires span { IsByteRange span }
-        ensures { IsTrue result ↔ ByteConflict ((locks_in_books self.now).bytes file) owner span mode }
-    {
-        self.books[usize::from(file)].blocked(owner, span, mode)
-    }
-
-    /// The owner has this mode on the range from now on, or none.
-    fn change(
-        &mut self,
-        file: u8,
-        owner: Owner,
-        span: Span,
-        mode: Option<Mode>,
-    ) -> Result<(), Memory>
-        requires file { file < FILES }
-        requires span { IsByteRange span }
-        requires free { (m : Mode) → mode ≡ Some m → ¬ ByteConflict ((locks_in_books self.old).bytes file) owner span m }
-        ensures ok { OnOk result ((S : State) → StandsFor self.old S → StandsFor self.new (with_byte_mode S file owner span mode)) }
-        ensures memory { OnErr result (SameManager self.old self.new) }
-        ensures rules { rules_of self.new ≡ rules_of self.old }
-        ensures processes { processes_of self.new ≡ processes_of self.old }
-    {
-        self.books[usize::from(file)].set(owner, span, mode)
     }
 }

@@ -1,5 +1,5 @@
 use fd_table::{Access, Limits};
-use range_core::{Kind, Whence};
+use range_core::{Kind, Mode, Whence};
 use wait_core::Policy;
 
 /// The rules of a run.
@@ -22,15 +22,21 @@ pub struct Lock {
     pub start: i64,
     /// `l_len`, in bytes; 0 goes to the largest offset, and a negative length back from the start.
     pub len: i64,
-    /// `l_pid`, which the commands that are served ignore.
+    /// `l_pid`, which the traditional commands ignore, and which must be 0 for those of OFD locks (fcntl_locking(2)).
     pub pid: i64,
 }
 
 /// A lock command of fcntl.
 #[derive(Clone, Copy, Debug, PartialEq, Eq)]
 pub enum LkCmd {
-    /// `F_SETLK`.
+    /// `F_GETLK`: asks for the first lock that would block (POSIX.1-2017 fcntl).
+    GetLk,
+    /// `F_SETLK`: sets or removes a traditional lock, which belongs to the process (POSIX.1-2017 fcntl).
     SetLk,
+    /// `F_OFD_GETLK`: asks on behalf of the open file description (fcntl_locking(2)).
+    OGetLk,
+    /// `F_OFD_SETLK`: sets or removes a lock of the open file description (fcntl_locking(2)).
+    OSetLk,
 }
 
 /// What a process asks for.
@@ -38,8 +44,22 @@ pub enum LkCmd {
 pub enum Request {
     /// open: a new open file description of the file, from 0 to 63, under the lowest free descriptor.
     OpenFile { file: u8, access: Access },
+    /// dup: the lowest free descriptor refers to the same description (POSIX.1-2017 dup).
+    Dup { fd: u32 },
+    /// dup2: the descriptor `to`, closed first where it is open, refers to the same description (POSIX.1-2017 dup2).
+    DupTo { fd: u32, to: u32 },
+    /// close (POSIX.1-2017 close).
+    CloseFd { fd: u32 },
+    /// lseek to an offset in bytes from the start, for all who share the description (POSIX.1-2017 lseek).
+    Seek { fd: u32, offset: i64 },
+    /// ftruncate to a size in bytes (POSIX.1-2017 ftruncate).
+    Resize { fd: u32, size: i64 },
     /// fcntl with a lock command on a descriptor.
     Lk { fd: u32, cmd: LkCmd, lock: Lock },
+    /// fork, in which the caller names the child (POSIX.1-2017 fork; the name is this project's choice).
+    Fork { child: u8 },
+    /// _Exit, which is never answered (POSIX.1-2017 _Exit).
+    Exit,
 }
 
 /// The errors of the answers, by their names in `<errno.h>`.
@@ -47,13 +67,13 @@ pub enum Request {
 pub enum Errno {
     /// The descriptor isn't open, or isn't open for such a lock.
     EBADF = 1,
-    /// An argument is out of range.
+    /// An argument is out of range, or none that the command takes.
     EINVAL = 2,
     /// A byte of the range would lie past the largest offset.
     EOVERFLOW = 3,
-    /// A lock of another owner stands in the way.
+    /// A lock of another owner stands in the way, or the number of a child can't be had.
     EAGAIN = 4,
-    /// The process has no free descriptor.
+    /// The process has no free descriptor, or no further description can be made.
     EMFILE = 7,
 }
 
@@ -64,6 +84,17 @@ pub enum Reply {
     Ok,
     /// The request succeeded with this descriptor.
     Fd(u32),
+    /// A get command: nothing blocks (POSIX.1-2017 fcntl, `F_GETLK`, `F_UNLCK`).
+    Free,
+    /// A get command: this lock blocks, from byte `start` on, `len` bytes long; 0 is the length of one that ends at the
+    /// largest offset. `pid` is the process of a traditional lock, and -1 for an OFD lock (POSIX.1-2017 fcntl, `F_GETLK`;
+    /// fcntl_locking(2), `F_OFD_GETLK`).
+    Held {
+        mode: Mode,
+        start: u64,
+        len: u64,
+        pid: i64,
+    },
     /// The request was refused, and changed nothing.
     Err(Errno),
 }
@@ -82,4 +113,6 @@ pub enum ProcState {
     Unborn,
     /// Its next request may be taken.
     Live,
+    /// It has ended: none of its requests is taken any more.
+    Ended,
 }

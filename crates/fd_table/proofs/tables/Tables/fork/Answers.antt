@@ -2,9 +2,11 @@ use Rattle.std.proofs.Common.{◌≡◌, ◌<◌, List, false, length, set, refl
 use Rattle.fd_table.specs.Rows.{Keys, row_at, has_row}
 use Rattle.fd_table.specs.Soundness.{AreRows, AreEntries}
 use Rattle.fd_table.specs.Descriptors.{with_child}
-use Rattle.fd_table.specs.TablesView.{view_of, processes_of, seen_in}
+use Rattle.fd_table.specs.TablesView.{view_of, processes_of, seen_in, IsSeen}
 use Rattle.fd_table.proofs.RowsLemmas.{row-short}
 use Rattle.fd_table.proofs.ViewLemmas.{forked}
+use Rattle.std.specs.Prelude.{slice_index_or, None}
+use Rattle.fd_table.proofs.EntryLemmas.{seen_by}
 use Rattle.fd_table.proofs.CallLemmas.{same}
 use Rattle.fd_table.proofs.ChangeLemmas.{few_users}
 use Rattle.fd_table.proofs.ForkLemmas.{AreCounted, row_of_alive, row_of_unborn, row_read, AreRows-forked, entries_forked, seen_forked, has_row-forked}
@@ -56,3 +58,10 @@ returns-clause-step c = λ n D h.
           refl (λ x. refl)
           (λ q. ap (λ (rows : List Keys). has_row rows q) after ∙ has_row-forked t.rows.items c.args.p c.args.child inside c.requires q) h,
     )
+
+pub returns-clause-unborn : goal.returns-clause-unborn
+unfolding view_of
+returns-clause-unborn c = λ D h fd.
+    let t = c.args.self.now in
+    let unborn : has_row t.rows.items c.args.child ≡ false = sym c.born.ensures ∙ c.if-born.false in
+    subst (λ (row : Keys). IsSeen (seen_by t.opened (slice_index_or row fd None)) D c.args.child fd) (row_of_unborn t.rows.items c.args.child unborn) (h.seen c.args.child fd)

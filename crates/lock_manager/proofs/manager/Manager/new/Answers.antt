@@ -1,3 +1,5 @@
+use Rattle.lock_manager.proofs.BookLemmas.{unlocked_bytes}
+use Rattle.lock_manager.proofs.OwnedLemmas.{owned_at_opening}
 use Rattle.lock_manager.proofs.SafetyLemmas.{safe_without_locks}
 use Rattle.lock_manager.proofs.StandsLemmas.{at_opening, first_lives}
 use Rattle.lock_manager.proofs.manager.Manager.new.Goals as goal
@@ -11,6 +13,8 @@ invariant_of-result c =
       limited = c.in_ok-tables.ensures.limits;
       alive = λ p live. first_lives c.in_ok-tables.tables c.in_ok-states.states.items c.in_ok-tables.ensures.opening c.in_ok-states.ensures.states p live;
       safe = ∣ safe_without_locks c.args.rules.policy c.in_ok-books.books.items c.in_ok-books.ensures.empty ∣₁;
+      owned = owned_at_opening c.in_ok-tables.tables c.in_ok-books.books.items c.in_ok-tables.ensures.opening c.in_ok-books.ensures.empty;
+      within = λ file owner byte past. unlocked_bytes c.in_ok-books.books.items c.in_ok-books.ensures.empty file owner byte;
     }
 
 pub returns-clause-opening : goal.returns-clause-opening

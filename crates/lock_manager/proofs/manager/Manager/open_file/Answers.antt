@@ -1,12 +1,31 @@
+use Rattle.lock_manager.proofs.CallLemmas.{Opens, with_descriptors, served_by_open}
+use Rattle.lock_manager.proofs.StandsLemmas.{with_tables}
+use Rattle.lock_manager.specs.declared.request.Reply.TheVariants as replies
+use Rattle.lock_manager.specs.declared.request.Request.TheVariants.{OpenFile}
+use Rattle.lock_manager.proofs.CallLemmas.{done_by, refused_by}
 use Rattle.std.proofs.Common.{refl}
-use Rattle.lock_manager.proofs.StandsLemmas.{opened, not_opened}
+use Rattle.fd_table.specs.TablesView.{limits_of}
+use Rattle.wait_core.specs.Locks.{locks_of}
+use Rattle.lock_manager.proofs.StayOpenLemmas.{opened_stays, owned_call}
 use Rattle.lock_manager.proofs.manager.Manager.open_file.Goals as goal
+
+pub invariant_of-self-clause-owned : goal.invariant_of-self-clause-owned
+invariant_of-self-clause-owned c =
+    let manager = c.args.self.now in
+    owned_call (Opens manager c.args.p c.args.file c.args.access) manager.tables c.open_file.new.self (locks_of manager.books.items) c.open_file.result
+    (λ D E fd is stands gives. opened_stays (limits_of manager.tables) D E c.args.p c.args.file c.args.access fd gives)
+    c.open_file.ensures.step c.open_file.ensures.refused manager.owned
 
 pub returns-in-Ok-clause-answers : goal.returns-in-Ok-clause-answers
 returns-in-Ok-clause-answers c =
-    opened c.args.self.now _ c.args.p c.args.file c.args.access c.in-Ok.fd refl refl (c.in-Ok.ensures.step (λ e. cc))
+    done_by (Opens c.args.self.now c.args.p c.args.file c.args.access) with_descriptors replies.Fd c.args.self.now _ c.args.p (OpenFile c.args.file c.args.access) c.in-Ok.fd
+    (served_by_open c.args.self.now c.args.p c.args.file c.args.access)
+    (λ S E h gives tables. with_tables c.args.self.now _ S E refl refl h tables)
+    (c.in-Ok.ensures.step (λ e. cc))
 
-pub returns-in-Some-clause-answers : goal.returns-in-Some-clause-answers
-returns-in-Some-clause-answers c =
-    not_opened c.args.self.now _ c.args.p c.args.file c.args.access c.in-Err.fault c.in-Some.error refl refl c.in-Err.ensures.step
-    c.in-Err.ensures.refused c.in-Some.ensures.some
+pub returns-in-Err-clause-answers : goal.returns-in-Err-clause-answers
+returns-in-Err-clause-answers c =
+    refused_by (Opens c.args.self.now c.args.p c.args.file c.args.access) with_descriptors replies.Fd c.args.self.now _ c.args.p (OpenFile c.args.file c.args.access) c.in-Err.fault c.refusal.result
+    (served_by_open c.args.self.now c.args.p c.args.file c.args.access)
+    refl refl
+    c.in-Err.ensures.step c.in-Err.ensures.refused c.refusal.ensures.refused

@@ -1,0 +1,7 @@
+use Rattle.std.proofs.Common.{◌≡◌, take, vec_len}
+use Rattle.wait_core.specs.Locks.{locks_of}
+use Rattle.lock_manager.specs.LockReleases.{ReleasesLocks}
+use Rattle.lock_manager.proofs.releasing.release.Given as goal
+
+abbrev pub invariant-loop-file : goal.invariant-loop-file
+invariant-loop-file l = (vec_len l.books ≡ 64) × ReleasesLocks (locks_of l.fn.books.items) (locks_of l.books.items) l.p (take l.file-index l.released.files) l.descriptions
