@@ -1,13 +1,13 @@
 -- The headline, from what a session keeps: its journal is a run whose state the manager stands for.
-use Rattle.std.proofs.Common.{ℕ, ◌≡◌, ◌+◌, ◌<◌, ◌≤◌, ◌⊎◌, sym, ◌∙◌, ap, subst, arith, length, List, ◌∷◌, ◌++◌, ⊎_elim, Option, Some, None, IfSome, IfNone, All, map, slice_get, option_map}
+use Rattle.std.proofs.Common.{ℕ, ◌≡◌, ◌+◌, ◌<◌, ◌≤◌, ◌⊎◌, inr, sym, ◌∙◌, ap, subst, arith, length, List, ◌∷◌, ◌++◌, ⊎_elim, Option, Some, None, IfSome, IfNone, All, map, slice_get, option_map}
 use Rattle.std.specs.List.{AllByRecursion as Each}
 use Rattle.std.proofs.lemmas.Bool.{cases_lt}
-use Rattle.std.proofs.lemmas.List.{length-map}
+use Rattle.std.proofs.lemmas.List.{length-map, nil_from_length}
 use Rattle.std.proofs.lemmas.List.Elements.{All-from_recursion}
 use Rattle.std.proofs.lemmas.Option.{slice_get_within, IfSome_then}
 use Rattle.lock_manager.specs.declared.request.Request.{Request}
 use Rattle.lock_manager.specs.declared.request.ProcState.{ProcState}
-use Rattle.lock_manager.specs.declared.request.ProcState.TheVariants.{Unborn, Live}
+use Rattle.lock_manager.specs.declared.request.ProcState.TheVariants.{Unborn, Live, Ended}
 use Rattle.lock_manager.specs.declared.manager.Manager.{Manager}
 use Rattle.lock_manager.specs.State.{State, opening_state}
 use Rattle.lock_manager.specs.ManagerView.{IsSafeManager, rules_of, processes_of, state_at}
@@ -15,7 +15,7 @@ use Rattle.session_core.specs.Event.{Event}
 use Rattle.session_core.specs.Runs.{Leads, events_of}
 use Rattle.session_core.specs.Mail.{IsPrefixOf, requests_taken, answers_to, reply_to}
 use Rattle.session_core.specs.Draining.{IsReplayed}
-use Rattle.session_core.specs.Headline.{IsWaiting, IsEnded, told_process, LeavesAlone, IsQuietAfterEnd, IsAnsweredInTurn, Holds}
+use Rattle.session_core.specs.Headline.{IsWaiting, IsEnded, told_process, LeavesAlone, IsQuietBeforeBirth, IsQuietAfterEnd, IsAnsweredInTurn, Holds}
 use Rattle.session_core.proofs.Tally.{AreCountedFrom, TallyAt, Each-map}
 use Rattle.session_core.proofs.RunLaws.{numbers_of, AreNext, AreNext-numbered, IsTallied, Leads-tallied, Leads-quiet_after, opening_tallies, answers_from-numbers, IsStrictlyIncreasing-counted, counted_answers, found_answer}
 
@@ -59,12 +59,14 @@ tally_of processes journal T t p =
 at_most_taken : (state : ProcState) (taken answered : ℕ) → TallyAt state taken answered → answered ≤ taken
 at_most_taken Unborn taken answered h = omega arith
 at_most_taken Live taken answered h = omega arith
+at_most_taken Ended taken answered h = omega arith
 
 -- a process with a taken request that wasn't answered waits or has ended, and it was the last
 unanswered_last : (state : ProcState) (taken answered place : ℕ) → TallyAt state taken answered → answered ≤ place → place < taken
     → (taken ≡ place + 1) × (IsWaiting state ⊎ IsEnded state)
 unanswered_last Unborn taken answered place h low high = absurd (omega arith)
 unanswered_last Live taken answered place h low high = absurd (omega arith)
+unanswered_last Ended taken answered place h low high = (omega arith, inr tt)
 
 IfNone-always : {X : Type 0} (o : Option X) (P : Type 0) → P → IfNone o P
 IfNone-always None P h = h
@@ -90,6 +92,15 @@ in_turn manager journal some r p place event found =
     IfNone-always (reply_to p event.n journal) ((taken ≡ place + 1) × (IsWaiting (state_at manager p) ⊎ IsEnded (state_at manager p)))
     (last.0, subst (λ state. IsWaiting state ⊎ IsEnded state) (sym stands) last.1))
     (cases_lt place answered)
+
+before_birth : (manager : Manager) (journal : List Event) → 1 ≤ processes_of manager → IsReplayed manager journal → (p : ℕ)
+    → IsQuietBeforeBirth manager journal p
+before_birth manager journal some r p unborn =
+    let t = replayed_tallied manager journal some r in
+    let nothing : (length (events_of p journal) ≡ 0) × (length (answers_to p journal) ≡ 0) =
+    subst (λ state. TallyAt state (length (events_of p journal)) (length (answers_to p journal))) (sym (r.stands.states p) ∙ unborn)
+    (tally_of (processes_of manager) journal r.state t p) in
+    (nil_from_length (events_of p journal) nothing.0, nil_from_length (answers_to p journal) nothing.1)
 
 quiet : (manager : Manager) (journal : List Event) → 1 ≤ processes_of manager → IsReplayed manager journal → IsQuietAfterEnd journal
 quiet manager journal some r p before event after is ends =
@@ -120,6 +131,7 @@ Holds-from manager sent journal some in_order safe r =
           (Each-map (λ event. Each (λ note. (1 ≤ told_process note) × (told_process note ≤ processes_of manager)) event.notes)
           (λ event. All (λ note. (1 ≤ told_process note) × (told_process note ≤ processes_of manager)) event.notes) journal
           (λ event h. All-from_recursion (λ note. (1 ≤ told_process note) × (told_process note ≤ processes_of manager)) event.notes h) t.in_range);
+      quiet_before_birth = before_birth manager journal some r;
       quiet_after_end = quiet manager journal some r;
       safe = safe;
       replayed = r;

@@ -11,21 +11,41 @@ use Rattle.wait_core.specs.declared.Wait.{Wait}
 use Rattle.lock_manager.specs.declared.request.Rules.{Rules}
 use Rattle.lock_manager.specs.declared.request.Lock.{Lock}
 use Rattle.lock_manager.specs.declared.request.LkCmd.{LkCmd}
-use Rattle.lock_manager.specs.declared.request.LkCmd.TheVariants.{SetLk}
+use Rattle.lock_manager.specs.declared.request.LkCmd.TheVariants.{GetLk, SetLk, OGetLk, OSetLk}
 use Rattle.lock_manager.specs.declared.request.Reply.TheVariants as replies
 use Rattle.lock_manager.specs.State.{State, with_byte_mode}
-use Rattle.lock_manager.specs.LockWords.{is_get, is_bad_argument, wanted_mode, permits, lock_owner, wanted_lock}
+use Rattle.lock_manager.specs.LockWords.{is_get, is_bad_argument, wanted_mode, permits, held_reply, lock_owner, wanted_lock}
 use Rattle.lock_manager.specs.Outcomes.{range_error, Outcome, refused}
-use Rattle.lock_manager.specs.LockCommands.{LockComesTo, DescribedComesTo, RangeComesTo, ModeComesTo, CommandComesTo}
+use Rattle.lock_manager.specs.LockCommands.{LockComesTo, DescribedComesTo, RangeComesTo, ModeComesTo, CommandComesTo, GetComesTo, SetComesTo}
+use Rattle.session_core.proofs.Moves.{SameProcesses-refl}
 use Rattle.session_core.proofs.OutcomeLaws.{IsAtHand, IsTold, told_answer, told_locked, told_refused, cases_fact, cases_bool, cases_option, cases_result}
+
+-- a get command tells the first lock that blocks, or that there is none
+told_get : (processes : ℕ) (S : State) (taken counts : ℕ → ℕ) (wanted : Wait) (outcome : Outcome)
+    → IsAtHand processes S taken counts wanted.p wanted.n → GetComesTo S wanted outcome
+    → IsTold processes S taken counts wanted.p outcome
+told_get processes S taken counts wanted outcome h is =
+    ⊎_elim
+    (λ held. told_answer processes S S taken counts wanted.p wanted.n (held_reply held.0) outcome h (SameProcesses-refl S) held.2)
+    (λ free. told_answer processes S S taken counts wanted.p wanted.n replies.Free outcome h (SameProcesses-refl S) free)
+    (cases_fact is)
+
+-- a set command sets the lock, or is refused
+told_set : (processes : ℕ) (S : State) (taken counts : ℕ → ℕ) (wanted : Wait) (outcome : Outcome)
+    → IsAtHand processes S taken counts wanted.p wanted.n → SetComesTo S wanted outcome
+    → IsTold processes S taken counts wanted.p outcome
+told_set processes S taken counts wanted outcome h is =
+    ⊎_elim (λ no. told_refused processes S taken counts wanted.p wanted.n _ outcome h no)
+    (λ yes. told_locked processes S taken counts wanted outcome h yes) (cases_fact is)
 
 -- a command on a range, with a mode
 told_command : (rules : Rules) (processes : ℕ) (S : State) (taken counts : ℕ → ℕ) (cmd : LkCmd) (wanted : Wait) (outcome : Outcome)
     → IsAtHand processes S taken counts wanted.p wanted.n → CommandComesTo rules S cmd wanted outcome
     → IsTold processes S taken counts wanted.p outcome
-told_command rules processes S taken counts SetLk wanted outcome h is =
-    ⊎_elim (λ no. told_refused processes S taken counts wanted.p wanted.n _ outcome h no)
-    (λ yes. told_locked processes S taken counts wanted outcome h yes) (cases_fact is)
+told_command rules processes S taken counts GetLk wanted outcome h is = told_get processes S taken counts wanted outcome h is
+told_command rules processes S taken counts OGetLk wanted outcome h is = told_get processes S taken counts wanted outcome h is
+told_command rules processes S taken counts SetLk wanted outcome h is = told_set processes S taken counts wanted outcome h is
+told_command rules processes S taken counts OSetLk wanted outcome h is = told_set processes S taken counts wanted outcome h is
 
 told_mode : (rules : Rules) (processes : ℕ) (S : State) (taken counts : ℕ → ℕ) (p n : ℕ) (cmd : LkCmd) (look : Look) (span : Span)
     (mode : Mode) (outcome : Outcome) → IsAtHand processes S taken counts p n → ModeComesTo rules S p n cmd look span mode outcome

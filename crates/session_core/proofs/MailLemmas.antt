@@ -138,6 +138,7 @@ Holds-grown manager sent sent' journal grown holds =
       answered_taken = holds.answered_taken;
       answered_in_turn = holds.answered_in_turn;
       told_in_range = holds.told_in_range;
+      quiet_before_birth = holds.quiet_before_birth;
       quiet_after_end = holds.quiet_after_end;
       safe = holds.safe;
       replayed = holds.replayed;

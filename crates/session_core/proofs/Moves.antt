@@ -11,7 +11,7 @@ use Rattle.lock_manager.specs.declared.request.Note.TheVariants.{Answer}
 use Rattle.lock_manager.specs.declared.request.Reply.{Reply}
 use Rattle.lock_manager.specs.declared.request.Reply.TheVariants as replies
 use Rattle.lock_manager.specs.declared.request.ProcState.{ProcState}
-use Rattle.lock_manager.specs.declared.request.ProcState.TheVariants.{Unborn, Live}
+use Rattle.lock_manager.specs.declared.request.ProcState.TheVariants.{Unborn, Live, Ended}
 use Rattle.lock_manager.specs.State.{State, with_lock, with_lock_of}
 use Rattle.lock_manager.specs.Settling.{Settles, granted}
 use Rattle.session_core.specs.Headline.{IsWaiting, IsEnded}
@@ -78,21 +78,29 @@ Live≢Unborn e = cc
 waiting_born : (state : ProcState) → IsWaiting state → state ≢ Unborn
 waiting_born Unborn h e = h
 waiting_born Live h e = h
+waiting_born Ended h e = h
 
 waiting_goes_on : (state : ProcState) → IsWaiting state → ¬ IsEnded state
 waiting_goes_on Unborn h e = h
 waiting_goes_on Live h e = h
+waiting_goes_on Ended h e = h
 
 waiting_behind : (state : ProcState) (taken answered : ℕ) → IsWaiting state → TallyAt state taken answered → taken ≡ answered + 1
 waiting_behind Unborn taken answered h t = absurd h
 waiting_behind Live taken answered h t = absurd h
+waiting_behind Ended taken answered h t = absurd h
+
+-- who doesn't wait has no wait
+idle_apart : (states : ℕ → ProcState) (taken : ℕ → ℕ) (p : ℕ) (waits : List Wait) → ¬ IsWaiting (states p)
+    → Each (IsLastTaken states taken) waits → Each (λ wait. wait.p ≢ p) waits
+idle_apart states taken p waits idle h =
+    Each-map (IsLastTaken states taken) (λ wait. wait.p ≢ p) waits
+    (λ wait last same. idle (subst IsWaiting (ap states same) last.waiting)) h
 
 -- who lives has no wait
-pub live_apart : (states : ℕ → ProcState) (taken : ℕ → ℕ) (p : ℕ) (waits : List Wait) → states p ≡ Live
+live_apart : (states : ℕ → ProcState) (taken : ℕ → ℕ) (p : ℕ) (waits : List Wait) → states p ≡ Live
     → Each (IsLastTaken states taken) waits → Each (λ wait. wait.p ≢ p) waits
-live_apart states taken p waits live h =
-    Each-map (IsLastTaken states taken) (λ wait. wait.p ≢ p) waits
-    (λ wait last same. subst IsWaiting (ap states same ∙ live) last.waiting) h
+live_apart states taken p waits live h = idle_apart states taken p waits (λ waiting. subst IsWaiting live waiting) h
 
 -- the waits of the others stay the last that were taken of them
 pub waits_of_others : (states states' : ℕ → ProcState) (taken taken' : ℕ → ℕ) (r : ℕ) (waits : List Wait)
@@ -173,6 +181,57 @@ wake_moves processes S T taken answered wait reply left t last now waits_are oth
           subst (λ waits. Each (IsLastTaken T.states taken) waits) (sym waits_are)
           (waits_of_others S.states T.states taken taken p left (stands_there S p Live T now) (λ q other. refl) others lasts);
       apart = subst AreApart (sym waits_are) apart;
+    }
+
+-- a live process ends, and is told nothing
+pub end_moves : (processes : ℕ) (S T : State) (taken answered : ℕ → ℕ) (p : ℕ) → Tallies processes S taken answered
+    → S.states p ≡ Live → StandsNow S p Ended T → T.waits ≡ S.waits → KeepsAlive S T
+    → MovesOne processes S taken answered p [] T (one_more p taken)
+end_moves processes S T taken answered p t live now same_waits alive =
+    let even : answered p ≡ taken p = subst (λ s. TallyAt s (taken p) (answered p)) live (t.tally p) in
+    record {
+      here =
+          subst (λ s. TallyAt s (one_more p taken p) (answered p + 0)) (sym (stands_here S p Ended T now))
+          (rw (eq-eqb p p refl) (omega arith));
+      counted = tt;
+      not_ended = λ e. subst IsEnded live e;
+      born = born_kept processes S T p alive (born_of processes S taken answered t p Live live Live≢Unborn);
+      notes_here = tt;
+      states = stands_there S p Ended T now;
+      taken_there = λ q other. one_more-other p q taken other;
+      alive = alive;
+      waits =
+          subst (λ waits. Each (IsLastTaken T.states (one_more p taken)) waits) (sym same_waits)
+          (waits_of_others S.states T.states taken (one_more p taken) p S.waits (stands_there S p Ended T now)
+          (λ q other. one_more-other p q taken other)
+          (live_apart S.states taken p S.waits live t.waits)
+          t.waits);
+      apart = subst AreApart (sym same_waits) t.apart;
+    }
+
+-- a process that was never alive begins to live
+pub begin_moves : (processes : ℕ) (S T : State) (taken answered : ℕ → ℕ) (child : ℕ) → Tallies processes S taken answered
+    → S.states child ≡ Unborn → StandsNow S child Live T → T.waits ≡ S.waits → KeepsAlive S T → IsBorn processes T child
+    → MovesOne processes S taken answered child [] T taken
+begin_moves processes S T taken answered child t unborn now same_waits alive born =
+    let none : (taken child ≡ 0) × (answered child ≡ 0) =
+    subst (λ s. TallyAt s (taken child) (answered child)) unborn (t.tally child) in
+    record {
+      here = subst (λ s. TallyAt s (taken child) (answered child + 0)) (sym (stands_here S child Live T now)) (omega (arith, none.0, none.1));
+      counted = tt;
+      not_ended = λ e. subst IsEnded unborn e;
+      born = born;
+      notes_here = tt;
+      states = stands_there S child Live T now;
+      taken_there = λ q other. refl;
+      alive = alive;
+      waits =
+          subst (λ waits. Each (IsLastTaken T.states taken) waits) (sym same_waits)
+          (waits_of_others S.states T.states taken taken child S.waits (stands_there S child Live T now)
+          (λ q other. refl)
+          (idle_apart S.states taken child S.waits (λ waiting. subst IsWaiting unborn waiting) t.waits)
+          t.waits);
+      apart = subst AreApart (sym same_waits) t.apart;
     }
 
 -- settling answers each wait that it grants, in turn

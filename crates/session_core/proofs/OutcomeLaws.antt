@@ -1,5 +1,5 @@
 -- What the outcomes of requests tell, whatever the request.
-use Rattle.std.proofs.Common.{ℕ, ◌≡◌, ◌+◌, ◌⊎◌, inl, inr, refl, sym, subst, Bool, true, false, [], ◌∷◌, ⊎_elim, Option, Some, None, Result, Ok, Err, MatchBool, MatchOption, MatchResult}
+use Rattle.std.proofs.Common.{ℕ, ◌≡◌, ◌+◌, ◌⊎◌, inl, inr, sym, subst, Bool, true, false, [], ◌∷◌, ⊎_elim, Option, Some, None, Result, Ok, Err, MatchBool, MatchOption, MatchResult}
 use Rattle.range_core.specs.Facts.{MatchFact}
 use Rattle.fd_table.specs.declared.FdFault.{FdFault}
 use Rattle.fd_table.specs.declared.FdFault.TheVariants as faults
@@ -45,17 +45,6 @@ told_refusal processes S taken counts p n faults.Invalid outcome h is =
 told_refusal processes S taken counts p n faults.Taken outcome h is =
     told_answer processes S S taken counts p n _ outcome h (SameProcesses-refl S) is
 told_refusal processes S taken counts p n faults.Memory outcome h is = absurd is
-
--- a call on descriptors that ends no process and begins none
-pub told_call : {X : Type 0} (processes : ℕ) (S : State) (T : X → State) (taken counts : ℕ → ℕ) (p n : ℕ) (reply : X → Reply)
-    (result : Result X FdFault) (outcome : Outcome) → IsAtHand processes S taken counts p n
-    → ((x : X) → result ≡ Ok x → SameProcesses S (T x))
-    → MatchResult result (λ x. outcome ≡ answered (T x) p n (reply x)) (λ fault. IsRefusal S p n fault outcome)
-    → IsTold processes S taken counts p outcome
-told_call processes S T taken counts p n reply (Ok x) outcome h same is =
-    told_answer processes S (T x) taken counts p n (reply x) outcome h (same x refl) is
-told_call processes S T taken counts p n reply (Err fault) outcome h same is =
-    told_refusal processes S taken counts p n fault outcome h is
 
 -- the lock that was asked for is set
 pub told_locked : (processes : ℕ) (S : State) (taken counts : ℕ → ℕ) (wanted : Wait) (outcome : Outcome)

@@ -7,7 +7,7 @@ use Rattle.wait_core.specs.declared.Wait.{Wait}
 use Rattle.lock_manager.specs.declared.request.Note.{Note}
 use Rattle.lock_manager.specs.declared.request.Note.TheVariants.{Answer}
 use Rattle.lock_manager.specs.declared.request.ProcState.{ProcState}
-use Rattle.lock_manager.specs.declared.request.ProcState.TheVariants.{Unborn, Live}
+use Rattle.lock_manager.specs.declared.request.ProcState.TheVariants.{Unborn, Live, Ended}
 use Rattle.lock_manager.specs.State.{State}
 use Rattle.session_core.specs.Headline.{told_process, IsWaiting, IsEnded}
 
@@ -30,6 +30,7 @@ AreApart (wait ∷ waits) = Each (λ other. other.p ≢ wait.p) waits × AreApar
 abbrev pub TallyAt : ProcState → ℕ → ℕ → Type 0
 TallyAt Unborn taken answered = (taken ≡ 0) × (answered ≡ 0)
 TallyAt Live taken answered = answered ≡ taken
+TallyAt Ended taken answered = taken ≡ answered + 1
 
 -- the process waits, and with the last request that was taken of it
 pub record IsLastTaken (states : ℕ → ProcState) (taken : ℕ → ℕ) (wait : Wait) : Type 0 where

@@ -1,14 +1,14 @@
 -- What holds of a session at every moment between two events (the words are this project's choice).
-use Rattle.std.specs.Prelude.{◌≡◌, ◌≢◌, ℕ, ◌+◌, ◌≤◌, ◌⊎◌, Some, IfSome, IfNone, List, ◌∷◌, ◌++◌, map, length, All, slice_get}
+use Rattle.std.specs.Prelude.{◌≡◌, ◌≢◌, ℕ, ◌+◌, ◌≤◌, ◌⊎◌, Some, IfSome, IfNone, List, [], ◌∷◌, ◌++◌, map, length, All, slice_get}
 use Rattle.std.specs.List.Sorted.{IsStrictlyIncreasing}
 use Rattle.lock_manager.specs.declared.request.Note.{Note}
 use Rattle.lock_manager.specs.declared.request.Note.TheVariants.{Answer}
 use Rattle.lock_manager.specs.declared.request.ProcState.{ProcState}
-use Rattle.lock_manager.specs.declared.request.ProcState.TheVariants.{Unborn, Live}
+use Rattle.lock_manager.specs.declared.request.ProcState.TheVariants.{Unborn, Live, Ended}
 use Rattle.lock_manager.specs.declared.manager.Manager.{Manager}
 use Rattle.lock_manager.specs.ManagerView.{IsSafeManager, processes_of, state_at}
 use Rattle.lock_manager.specs.declared.request.Request.{Request}
-use Rattle.lock_manager.specs.declared.request.Request.TheVariants.{OpenFile, Lk}
+use Rattle.lock_manager.specs.declared.request.Request.TheVariants.{Exit}
 use Rattle.session_core.specs.Event.{Event}
 use Rattle.session_core.specs.Runs.{events_of}
 use Rattle.session_core.specs.Mail.{IsPrefixOf, requests_taken, answers_to, reply_to}
@@ -22,20 +22,17 @@ told_process (Answer p n reply) = p
 abbrev pub IsWaiting : ProcState → Type 0
 IsWaiting Unborn = ⊥
 IsWaiting Live = ⊥
+IsWaiting Ended = ⊥
 
--- a process that stands so has ended (none does: no request that is served ends one)
+-- a process that stands so has ended
 abbrev pub IsEnded : ProcState → Type 0
 IsEnded Unborn = ⊥
 IsEnded Live = ⊥
+IsEnded Ended = Unit {0}
 
--- the request ends the process, as its event tells
-abbrev pub EndsBy : Request → Event → ℕ → Type 0
-EndsBy (OpenFile file access) event p = ⊥
-EndsBy (Lk fd cmd lock) event p = ⊥
-
--- the event ends the process (no request that is served does)
+-- the event ends the process: it is its exit (POSIX.1-2017 _Exit)
 abbrev pub EndsProcess : Event → ℕ → Type 0
-EndsProcess event p = EndsBy event.request event p
+EndsProcess event p = (event.p ≡ p) × (event.request ≡ Exit)
 
 -- the event is not of the process, and tells it nothing
 abbrev pub LeavesAlone : ℕ → Event → Type 0
@@ -47,6 +44,10 @@ abbrev pub IsQuietAfterEnd : List Event → Type 0
 IsQuietAfterEnd events =
     (p : ℕ) (before : List Event) (event : Event) (after : List Event)
     → events ≡ before ++ event ∷ after → EndsProcess event p → All (LeavesAlone p) after
+
+-- of a process that was never alive nothing was taken, and nothing was answered to it
+abbrev pub IsQuietBeforeBirth : Manager → List Event → ℕ → Type 0
+IsQuietBeforeBirth manager events p = state_at manager p ≡ Unborn → (events_of p events ≡ []) × (answers_to p events ≡ [])
 
 -- a taken request of the process without an answer is its last, and then it waits or has ended
 abbrev pub IsAnsweredInTurn : Manager → List Event → ℕ → Type 0
@@ -64,9 +65,9 @@ abbrev pub AreToldInRange : ℕ → List Event → Type 0
 AreToldInRange processes events =
     All (λ event. All (λ note. (1 ≤ told_process note) × (told_process note ≤ processes)) event.notes) events
 
--- of each process a prefix of what it sent was taken, each once and in order; each request is answered once at most, in turn,
--- and never after the end; no owners conflict, each wait is blocked and closes no cycle; and the manager's state is the
--- replay of the journal, which is a run
+-- of each process a prefix of what it sent was taken, each once and in order; each request is answered once at most, in turn;
+-- there is nothing of a process before it lives, and nothing after its end; no owners conflict, each wait is blocked and closes
+-- no cycle; and the manager's state is the replay of the journal, which is a run
 pub record Holds (manager : Manager) (sent : ℕ → List Request) (journal : List Event) : Type 0 where
   pub taken_in_order : (p : ℕ) → IsPrefixOf (requests_taken p journal) (sent p)
   pub answered_once : (p : ℕ) → IsStrictlyIncreasing (map (λ answer. answer.0) (answers_to p journal))
@@ -74,6 +75,7 @@ pub record Holds (manager : Manager) (sent : ℕ → List Request) (journal : Li
   pub answered_taken : (p : ℕ) → length (answers_to p journal) ≤ length (events_of p journal)
   pub answered_in_turn : (p : ℕ) → IsAnsweredInTurn manager journal p
   pub told_in_range : AreToldInRange (processes_of manager) journal
+  pub quiet_before_birth : (p : ℕ) → IsQuietBeforeBirth manager journal p
   pub quiet_after_end : IsQuietAfterEnd journal
   pub safe : IsSafeManager manager
   pub replayed : IsReplayed manager journal

@@ -23,6 +23,8 @@ const OPEN: Request = Request::OpenFile {
     access: Access::Rw,
 };
 
+const FORK: Request = Request::Fork { child: 2 };
+
 /// `F_SETLK` from the first byte of the file.
 fn set(fd: u32, kind: Kind, start: i64, len: i64) -> Request {
     let lock = Lock {
@@ -182,5 +184,77 @@ fn arrivals_are_run(rt: HostRuntime) -> Result<(), Fail> {
     assert_eq!(rt; locks.as_slice(), expected.as_slice());
     assert!(rt; session.manager().processes() == 2);
     assert_eq!(rt; session.manager().state_of(2), ProcState::Unborn);
+    Ok(())
+}
+
+/// A process begins with its parent's descriptors, and ends: its exit is not answered, its locks are released, and its mail stays.
+#[test]
+fn processes_begin_and_end(rt: HostRuntime) -> Result<(), Fail> {
+    let mut session = two_processes(rt.alloc())?;
+    assert_eq!(rt; arrive(&rt, &mut session, 2, OPEN)?, 1);
+    for request in [OPEN, set(0, Kind::Write, 0, 100), FORK, Request::Exit, OPEN] {
+        arrive(&rt, &mut session, 1, request)?;
+    }
+    for place in 1..=3 {
+        assert_eq!(rt; take_next(&rt, &mut session)?, Some(place));
+    }
+    assert_eq!(rt; counts(&session), [5, 3, 3, 1, 0, 0, 3]);
+    // Both have mail, and process 1 is the least.
+    assert_eq!(rt; take_next(&rt, &mut session)?, Some(4));
+    assert!(rt;
+        session
+            .journal()
+            .last()
+            .is_some_and(|entry| entry.p == 1 && entry.notes.is_empty())
+    );
+    assert_eq!(rt; all_held(&session)?.len(), 0);
+    assert_eq!(rt; take_next(&rt, &mut session)?, Some(5));
+    assert_eq!(rt; take_next(&rt, &mut session)?, None);
+    assert_eq!(rt; counts(&session), [5, 4, 3, 1, 1, 1, 5]);
+    assert_eq!(rt; session.answer_of(1, 3), Some(Reply::Ok));
+    assert_eq!(rt; session.answer_of(1, 4), None);
+    assert_eq!(rt; session.answer_of(2, 1), Some(Reply::Fd(1)));
+    assert!(rt; session.manager().processes() == 2);
+    assert_eq!(rt; session.manager().state_of(1), ProcState::Ended);
+    assert_eq!(rt; session.manager().state_of(2), ProcState::Live);
+    Ok(())
+}
+
+/// Who has ended never lives again, and its mail comes to nothing.
+#[test]
+fn who_has_ended_stays_so(rt: HostRuntime) -> Result<(), Fail> {
+    let arrivals = [
+        (1, OPEN),
+        (1, FORK),
+        (1, Request::Exit),
+        (1, OPEN),
+        (2, Request::Fork { child: 1 }),
+        (2, set(0, Kind::Write, 0, 100)),
+    ];
+    let session = run(rt.alloc(), &arrivals)?;
+    assert_eq!(rt; counts(&session), [4, 3, 2, 2, 2, 2, 5]);
+    assert_eq!(rt; session.answer_of(2, 1), Some(Reply::Err(Errno::EAGAIN)));
+    assert_eq!(rt; session.answer_of(2, 2), Some(Reply::Ok));
+    Ok(())
+}
+
+/// Mail of the unborn is taken after the fork, without the parent's locks, and the child's end releases none of them.
+#[test]
+fn mail_of_the_unborn_waits_for_the_fork(rt: HostRuntime) -> Result<(), Fail> {
+    let arrivals = [
+        (2, set(0, Kind::Read, 0, 10)),
+        (2, Request::Exit),
+        (2, OPEN),
+        (1, OPEN),
+        (1, set(0, Kind::Write, 0, 100)),
+        (1, FORK),
+        (1, set(0, Kind::Unlock, 50, 0)),
+    ];
+    let session = run(rt.alloc(), &arrivals)?;
+    assert_eq!(rt; counts(&session), [4, 4, 4, 3, 2, 1, 6]);
+    assert_eq!(rt; session.answer_of(2, 1), Some(Reply::Err(Errno::EAGAIN)));
+    assert_eq!(rt; session.answer_of(2, 2), None);
+    let locks = all_held(&session)?;
+    assert_eq!(rt; locks.as_slice(), [held(Mode::Write, 0, 49)].as_slice());
     Ok(())
 }
