@@ -1,6 +1,8 @@
 -- Commands and their arguments.
-use Rattle.std.proofs.Common.{◌≡◌, ℕ, zero, suc, ◌<◌, ◌≤◌, ◌^◌, List, [], ◌∷◌, ◌++◌, length, get_or, codes, decimal, ◌⊎◌, ℤ, pos, negsuc, FitsSigned, w64, Ok, Err, Bor, refl, sym, ap, subst, inl, inr, arith}
+use Rattle.std.proofs.Common.{◌≡◌, ℕ, zero, suc, ◌<◌, ◌≤◌, ◌^◌, List, [], ◌∷◌, ◌++◌, length, get_or, codes, decimal, ◌⊎◌, Bool, true, false, ℤ, pos, negsuc, FitsSigned, w64, Ok, Err, Bor, refl, sym, ap, subst, inl, inr, arith}
 use Rattle.std.specs.Fmt.{digits, signed_decimal}
+use Rattle.std.specs.Str.{bytes_eq}
+use Rattle.std.proofs.lemmas.Slice.Eq.{bytes_eq-Decides}
 use Rattle.fd_table.specs.declared.Limits.TheVariants.{Small}
 use Rattle.lock_manager.specs.declared.request.Lock.{Lock}
 use Rattle.lock_manager.specs.declared.request.LkCmd.{LkCmd}
@@ -12,6 +14,14 @@ use Rattle.script_core.specs.RequestText.{lock_command_word, lock_words, pid_wor
 use Rattle.script_core.specs.Arguments.{Argument, AnyNumber, IsBad, IsFirstBad, lock_arguments, lock_command}
 use Rattle.script_core.specs.ScriptText.{Says}
 use Rattle.script_core.specs.Reading.{CommandGives}
+
+false_where_not : (test : Bool) → (test ≡ true → ⊥) → test ≡ false
+false_where_not true fails = absurd (fails refl)
+false_where_not false fails = refl
+
+-- a word that differs from a command's name isn't found under it
+pub not_named : (name word : List ℕ) → (word ≡ name → ⊥) → bytes_eq name word ≡ false
+not_named name word differ = false_where_not (bytes_eq name word) (λ same. differ (sym ((bytes_eq-Decides name word).0 same)))
 
 -- the texts of a list of this length, one by one
 pub five_texts : (xs : List (Bor (List ℕ))) (d : Bor (List ℕ)) → 5 ≤ length xs → length xs < 6

@@ -1,5 +1,5 @@
 -- Words that spell numbers.
-use Rattle.std.proofs.Common.{◌≡◌, ◌≢◌, ◌∙◌, ℕ, ◌<◌, ◌^◌, zero, suc, List, ◌∷◌, length, drop, get_or, decimal, Option, Some, None, Result, Ok, Err, MatchOption, ℤ, pos, negsuc, ◌-ℤ◌, FitsSigned, refl, sym, ap, subst, arith, lit<}
+use Rattle.std.proofs.Common.{◌≡◌, ◌≢◌, ◌∙◌, ℕ, ◌<◌, ◌≤◌, ◌^◌, zero, suc, ◌==◌, false, cond, List, [], ◌∷◌, length, drop, get_or, codes, decimal, Option, Some, None, Result, Ok, Err, MatchOption, ℤ, pos, negsuc, ◌-ℤ◌, neg_ℤ, FitsSigned, refl, sym, ap, subst, arith, lit<}
 use Rattle.std.specs.Fmt.{digits, signed_decimal}
 use Rattle.std.specs.Option.{SomeIff}
 use Rattle.std.specs.Result.{OkIff, result_ok}
@@ -7,6 +7,7 @@ use Rattle.std.specs.Int.{IsInRange, w64}
 use Rattle.std.specs.Str.Parse.{AllDigits, digits_value, ParsesUnsigned}
 use Rattle.std.proofs.lemmas.Str.Parse.{IsNumeralModel, numerals_by_value, tells_digits, digit_at, parse_plain}
 use Rattle.std.proofs.lemmas.Int.{ints}
+use Rattle.std.proofs.lemmas.Bool.Decides.{nat_tests}
 use Rattle.script_core.specs.Numbers.{BeginsPlainly}
 use Rattle.std.proofs.lemmas.Fmt.{decimal_is_IsNumeral, decimal-digits_value, first_decimal, parse-decimal, decimal_injective}
 
@@ -96,3 +97,30 @@ signed_some word digits (suc n) None split small some spelled given = none
 -- a word spells one natural number
 pub one_number : (word : List ℕ) (m n : ℕ) → word ≡ decimal m → word ≡ decimal n → m < 2 ^ 64 → n < 2 ^ 64 → m ≡ n
 one_number word m n first second small fits = decimal_injective m n small fits (sym first ∙ second)
+
+-- the number that a text is the spelling of
+pub number_in : List ℕ → ℤ
+number_in [] = pos 0
+number_in (byte ∷ bytes) = cond (byte == 45) (neg_ℤ (pos (digits_value 10 bytes))) (pos (digits_value 10 (byte ∷ bytes)))
+
+pub digits_value-spelled : (n : ℕ) → n < 2 ^ 64 → digits_value 10 (decimal n) ≡ n
+digits_value-spelled n small = (decimal_is_IsNumeral n small).1
+
+no_sign : (byte : ℕ) → 48 ≤ byte → (byte == 45) ≡ false
+no_sign byte digit = grind (arith, nat_tests)
+
+number_in-plain : (bytes : List ℕ) → 48 ≤ get_or bytes 0 0 → number_in bytes ≡ pos (digits_value 10 bytes)
+unfolding number_in
+number_in-plain [] digit = absurd (omega (arith, digit))
+number_in-plain (byte ∷ bytes) digit = rw (no_sign byte digit) refl
+
+pub number_in-zero : number_in (codes "0") ≡ pos 0
+unfolding number_in
+number_in-zero = refl
+
+pub number_in-spelled : (z : ℤ) → FitsSigned w64 z → number_in (signed_decimal z) ≡ z
+unfolding number_in
+number_in-spelled (pos n) fits =
+    let small : n < 2 ^ 64 = omega (arith, fits.sfits) in
+    number_in-plain (decimal n) (BeginsPlainly-decimal n small).at_least ∙ ap pos (digits_value-spelled n small)
+number_in-spelled (negsuc n) fits = ap (λ m. neg_ℤ (pos m)) (digits_value-spelled (suc n) (omega (arith, fits.sfits)))

@@ -1,15 +1,18 @@
 -- A script has one reading.
-use Rattle.std.proofs.Common.{◌≡◌, ℕ, zero, suc, ◌+◌, ◌*◌, ◌⊎◌, Bool, true, false, List, [], ◌∷◌, ◌++◌, length, drop, get_or, codes, decimal, ℤ, pos, negsuc, FitsSigned, w64, MatchBool, MatchOption, MatchResult, Option, Some, None, unwrap_or, Result, Ok, Err, inl, inr, refl, sym, ap, ◌∙◌, subst, arith, nat_lt}
+use Rattle.std.proofs.Common.{◌≡◌, ℕ, zero, suc, ◌+◌, ◌<◌, ◌^◌, ◌⊎◌, Bool, true, false, cond, List, [], ◌∷◌, ◌++◌, length, drop, get_or, codes, decimal, ℤ, pos, negsuc, FitsSigned, w64, MatchBool, MatchOption, MatchResult, Option, Some, None, unwrap_or, Result, Ok, Err, inl, inr, refl, sym, ap, ◌∙◌, subst, arith, nat_lt}
 use Rattle.std.specs.Fmt.{digits, signed_decimal}
-use Rattle.std.proofs.lemmas.Fmt.{decimal_injective, signed_decimal_injective}
+use Rattle.std.specs.Str.{bytes_eq}
+use Rattle.std.specs.Str.Parse.{digits_value}
+use Rattle.std.proofs.lemmas.Fmt.{decimal_injective}
 use Rattle.fd_table.specs.declared.Access.{Access}
 use Rattle.fd_table.specs.declared.Access.TheVariants.{R, W, Rw}
 use Rattle.lock_manager.specs.declared.request.LkCmd.{LkCmd}
-use Rattle.lock_manager.specs.declared.request.LkCmd.TheVariants.{SetLk}
+use Rattle.lock_manager.specs.declared.request.LkCmd.TheVariants.{GetLk, SetLk, OGetLk, OSetLk}
 use Rattle.lock_manager.specs.declared.request.Lock.{Lock}
 use Rattle.fd_table.specs.declared.Limits.{Limits}
+use Rattle.fd_table.specs.declared.Limits.TheVariants.{Small, Wide}
 use Rattle.lock_manager.specs.declared.request.Request.{Request}
-use Rattle.lock_manager.specs.declared.request.Request.TheVariants.{OpenFile, Lk}
+use Rattle.lock_manager.specs.declared.request.Request.TheVariants.{OpenFile, Dup, DupTo, CloseFd, Seek, Resize, Lk, Fork, Exit}
 use Rattle.range_core.specs.declared.Kind.{Kind}
 use Rattle.range_core.specs.declared.Kind.TheVariants.{Read, Write, Unlock}
 use Rattle.range_core.specs.declared.Whence.{Whence}
@@ -19,10 +22,11 @@ use Rattle.script_core.specs.declared.script.Cause.{Cause}
 use Rattle.script_core.specs.declared.script.Cause.TheVariants.{Byte, Word, Count, Process, TooLong}
 use Rattle.script_core.specs.declared.script.ScriptFault.{ScriptFault}
 use Rattle.script_core.specs.Words.{lines_of, words_of, is_printable}
-use Rattle.script_core.specs.RequestText.{access_word, kind_word, whence_word, lock_command_word, pid_words, lock_words}
-use Rattle.script_core.specs.Arguments.{Argument, FileNumber, DescriptorNumber, AnyNumber, ProcessNumber, AccessWord, KindWord, WhenceWord, Spells, IsFirstBad, lock_arguments, open_command, lock_command, Command, command_named, has_count}
-use Rattle.script_core.specs.ScriptText.{Meaning, Says, IsRequest, IsProcess, IsWritable}
+use Rattle.script_core.specs.RequestText.{access_word, kind_word, whence_word, lock_command_word, pid_words, lock_words, request_words}
+use Rattle.script_core.specs.Arguments.{Argument, FileNumber, DescriptorNumber, AnyNumber, ProcessNumber, AccessWord, Spells, IsFirstBad, lock_arguments, open_command, descriptor_command, number_command, dup_to_command, lock_command, fork_command, exit_command, Command, command_named, has_count}
+use Rattle.script_core.specs.ScriptText.{Meaning, HasZeroPid, Says, IsRequest, IsProcess, IsWritable}
 use Rattle.script_core.specs.Reading.{Reading, ArgumentsGive, CommandGives, RequestGives, ArrivalGives, WordsGive, LineGives, LinesGive, HasOneReading, is_comment, limits_of, meaning_of, start}
+use Rattle.script_core.proofs.NumberLemmas.{number_in, number_in-zero, digits_value-spelled, number_in-spelled}
 
 same_value : {X : Type 0} (value a b : X) → a ≡ value → b ≡ value → a ≡ b
 same_value value a b first second = first ∙ sym second
@@ -41,46 +45,6 @@ IsFirstBad-unique limits (argument ∷ arguments) (word ∷ words) a b (inl firs
 IsFirstBad-unique limits (argument ∷ arguments) (word ∷ words) a b (inl first) (inr second) = absurd (second.0 first.0)
 IsFirstBad-unique limits (argument ∷ arguments) (word ∷ words) a b (inr first) (inl second) = absurd (first.0 second.0)
 IsFirstBad-unique limits (argument ∷ arguments) (word ∷ words) a b (inr first) (inr second) = first.1 ∙ sym second.1
-
--- a number that tells the words of one list apart
-abbrev mark : List ℕ → ℕ
-mark word = length word * 256 + get_or word 0 0
-
-access_word-injective : (a b : Access) → access_word a ≡ access_word b → a ≡ b
-access_word-injective R R e = refl
-access_word-injective R W e = absurd (omega (arith, ap mark e))
-access_word-injective R Rw e = absurd (omega (arith, ap mark e))
-access_word-injective W R e = absurd (omega (arith, ap mark e))
-access_word-injective W W e = refl
-access_word-injective W Rw e = absurd (omega (arith, ap mark e))
-access_word-injective Rw R e = absurd (omega (arith, ap mark e))
-access_word-injective Rw W e = absurd (omega (arith, ap mark e))
-access_word-injective Rw Rw e = refl
-
-kind_word-injective : (a b : Kind) → kind_word a ≡ kind_word b → a ≡ b
-kind_word-injective Read Read e = refl
-kind_word-injective Read Write e = absurd (omega (arith, ap mark e))
-kind_word-injective Read Unlock e = absurd (omega (arith, ap mark e))
-kind_word-injective Write Read e = absurd (omega (arith, ap mark e))
-kind_word-injective Write Write e = refl
-kind_word-injective Write Unlock e = absurd (omega (arith, ap mark e))
-kind_word-injective Unlock Read e = absurd (omega (arith, ap mark e))
-kind_word-injective Unlock Write e = absurd (omega (arith, ap mark e))
-kind_word-injective Unlock Unlock e = refl
-
-whence_word-injective : (a b : Whence) → whence_word a ≡ whence_word b → a ≡ b
-whence_word-injective Set Set e = refl
-whence_word-injective Set Cur e = absurd (omega (arith, ap mark e))
-whence_word-injective Set End e = absurd (omega (arith, ap mark e))
-whence_word-injective Cur Set e = absurd (omega (arith, ap mark e))
-whence_word-injective Cur Cur e = refl
-whence_word-injective Cur End e = absurd (omega (arith, ap mark e))
-whence_word-injective End Set e = absurd (omega (arith, ap mark e))
-whence_word-injective End Cur e = absurd (omega (arith, ap mark e))
-whence_word-injective End End e = refl
-
-lock_command_word-injective : (a b : LkCmd) → lock_command_word a ≡ lock_command_word b → a ≡ b
-lock_command_word-injective SetLk SetLk e = refl
 
 -- what may stand behind the words of a lock command with this pid: nothing where it is 0, or its spelling
 abbrev PidFollows : ℤ → List (List ℕ) → Type 0
@@ -111,106 +75,237 @@ SaysLock-from_says words fd cmd lock (inr says) = record { rest = pid_words lock
 lock_equal : (a b : Lock) → a.kind ≡ b.kind → a.whence ≡ b.whence → a.start ≡ b.start → a.len ≡ b.len → a.pid ≡ b.pid → a ≡ b
 lock_equal a b kind whence start len pid = λ i. record { kind = kind i; whence = whence i; start = start i; len = len i; pid = pid i }
 
-pid_equal : (a b : ℤ) (rest : List (List ℕ)) → PidFollows a rest → PidFollows b rest → FitsSigned w64 a → FitsSigned w64 b → a ≡ b
-pid_equal a b rest (inl first) (inl second) fits_a fits_b = first.0 ∙ sym second.0
-pid_equal a b rest (inl first) (inr second) fits_a fits_b = absurd (omega (arith, ap length (sym first.1 ∙ second)))
-pid_equal a b rest (inr first) (inl second) fits_a fits_b = absurd (omega (arith, ap length (sym first ∙ second.1)))
-pid_equal a b rest (inr first) (inr second) fits_a fits_b =
-    signed_decimal_injective a b (omega (arith, fits_a.sfits)) (omega (arith, fits_b.sfits)) (ap (λ ws. get_or ws 0 []) (sym first ∙ second))
+-- the word of an access mode, a kind or a whence, read back
+access_in : List ℕ → Access
+access_in word = cond (bytes_eq word (codes "r")) R (cond (bytes_eq word (codes "w")) W Rw)
 
--- the words of a lock command say one request
-lock_request-unique : (limits : Limits) (words : List (List ℕ)) (fd ge : ℕ) (cmd dmc : LkCmd) (lock held : Lock)
-    → SaysLock words fd cmd lock → SaysLock words ge dmc held → IsWritable limits (Lk fd cmd lock) → IsWritable limits (Lk ge dmc held) → Lk fd cmd lock ≡ Lk ge dmc held
-lock_request-unique limits words fd ge cmd dmc lock held first second fits others =
-    let same = sym first.are ∙ second.are in
-    let command : cmd ≡ dmc = lock_command_word-injective cmd dmc (ap (λ ws. get_or ws 0 []) same) in
-    let descriptor : fd ≡ ge = decimal_injective fd ge (omega (arith, fits.0)) (omega (arith, others.0)) (ap (λ ws. get_or ws 1 []) same) in
-    let kind = kind_word-injective lock.kind held.kind (ap (λ ws. get_or ws 2 []) same) in
-    let whence = whence_word-injective lock.whence held.whence (ap (λ ws. get_or ws 3 []) same) in
-    let start = signed_decimal_injective lock.start held.start (omega (arith, fits.1.sfits)) (omega (arith, others.1.sfits)) (ap (λ ws. get_or ws 4 []) same) in
-    let len = signed_decimal_injective lock.len held.len (omega (arith, fits.2.sfits)) (omega (arith, others.2.sfits)) (ap (λ ws. get_or ws 5 []) same) in
-    let rest : first.rest ≡ second.rest = ap (λ ws. drop 6 ws) same in
-    let pid = pid_equal lock.pid held.pid second.rest (subst (λ ws. PidFollows lock.pid ws) rest first.follows) second.follows fits.3 others.3 in
-    λ i. Lk (descriptor i) (command i) (lock_equal lock held kind whence start len pid i)
+kind_in : List ℕ → Kind
+kind_in word = cond (bytes_eq word (codes "r")) Read (cond (bytes_eq word (codes "w")) Write Unlock)
 
-open_differs : (cmd : LkCmd) → codes "open" ≡ lock_command_word cmd → ⊥
-open_differs SetLk e = omega (arith, ap mark e)
+whence_in : List ℕ → Whence
+whence_in word = cond (bytes_eq word (codes "set")) Set (cond (bytes_eq word (codes "cur")) Cur End)
+
+access_in-word : (access : Access) → access_in (access_word access) ≡ access
+unfolding access_in
+access_in-word R = refl
+access_in-word W = refl
+access_in-word Rw = refl
+
+kind_in-word : (kind : Kind) → kind_in (kind_word kind) ≡ kind
+unfolding kind_in
+kind_in-word Read = refl
+kind_in-word Write = refl
+kind_in-word Unlock = refl
+
+whence_in-word : (whence : Whence) → whence_in (whence_word whence) ≡ whence
+unfolding whence_in
+whence_in-word Set = refl
+whence_in-word Cur = refl
+whence_in-word End = refl
+
+-- the numbers at a place of the words
+natural_at : ℕ → List (List ℕ) → ℕ
+natural_at place words = digits_value 10 (get_or words place [])
+
+number_at : ℕ → List (List ℕ) → ℤ
+number_at place words = number_in (get_or words place (codes "0"))
+
+-- the lock that the words of a lock command describe
+lock_in : List (List ℕ) → Lock
+lock_in words = record {
+  kind = kind_in (get_or words 2 []);
+  whence = whence_in (get_or words 3 []);
+  start = number_at 4 words;
+  len = number_at 5 words;
+  pid = number_at 6 words;
+}
+
+-- the request that the words say, read back from them
+said : List (List ℕ) → Request
+said words =
+    let name = get_or words 0 [] in
+    let fd = natural_at 1 words in
+    cond (bytes_eq name (codes "open")) (OpenFile fd (access_in (get_or words 2 [])))
+    (cond (bytes_eq name (codes "dup")) (Dup fd)
+    (cond (bytes_eq name (codes "dup2")) (DupTo fd (natural_at 2 words))
+    (cond (bytes_eq name (codes "close")) (CloseFd fd)
+    (cond (bytes_eq name (codes "seek")) (Seek fd (number_at 2 words))
+    (cond (bytes_eq name (codes "resize")) (Resize fd (number_at 2 words))
+    (cond (bytes_eq name (codes "getlk")) (Lk fd GetLk (lock_in words))
+    (cond (bytes_eq name (codes "setlk")) (Lk fd SetLk (lock_in words))
+    (cond (bytes_eq name (codes "ogetlk")) (Lk fd OGetLk (lock_in words))
+    (cond (bytes_eq name (codes "osetlk")) (Lk fd OSetLk (lock_in words))
+    (cond (bytes_eq name (codes "fork")) (Fork fd) Exit))))))))))
+
+said_lock : (cmd : LkCmd) (arguments : List (List ℕ))
+    → said (lock_command_word cmd ∷ arguments) ≡ Lk (natural_at 1 (lock_command_word cmd ∷ arguments)) cmd (lock_in (lock_command_word cmd ∷ arguments))
+unfolding said
+said_lock GetLk arguments = refl
+said_lock SetLk arguments = refl
+said_lock OGetLk arguments = refl
+said_lock OSetLk arguments = refl
+
+pid_said : (pid : ℤ) (rest : List (List ℕ)) → PidFollows pid rest → FitsSigned w64 pid → number_at 0 rest ≡ pid
+unfolding number_at
+pid_said pid rest (inl none) fits = ap (λ words. number_in (get_or words 0 (codes "0"))) none.1 ∙ (number_in-zero ∙ sym none.0)
+pid_said pid rest (inr is) fits = ap (λ words. number_in (get_or words 0 (codes "0"))) is ∙ number_in-spelled pid fits
+
+-- what the words of a lock command say is what they were written of
+lock_said : (name : List ℕ) (fd : ℕ) (lock : Lock) (rest : List (List ℕ)) → PidFollows lock.pid rest
+    → FitsSigned w64 lock.start → FitsSigned w64 lock.len → FitsSigned w64 lock.pid → lock_in (name ∷ (lock_words fd lock ++ rest)) ≡ lock
+unfolding lock_in number_at
+lock_said name fd lock rest follows start len pid = λ i. record {
+  kind = kind_in-word lock.kind i;
+  whence = whence_in-word lock.whence i;
+  start = number_in-spelled lock.start start i;
+  len = number_in-spelled lock.len len i;
+  pid = pid_said lock.pid rest follows pid i;
+}
+
+-- a request in which no pid of 0 may be written has just its words
+has_words : (words : List (List ℕ)) (request : Request) → (HasZeroPid request → ⊥) → Says words request → words ≡ request_words request
+has_words words request none (inl says) = says
+has_words words request none (inr says) = absurd (none says.0)
+
+small_process : (limits : Limits) (p : ℕ) → IsProcess limits p → p < 2 ^ 64
+small_process Small p is = omega (arith, is.1)
+small_process Wide p is = omega (arith, is.1)
+
+-- the words of a request say that request
+said_is : (limits : Limits) (words : List (List ℕ)) (request : Request) → Says words request → IsWritable limits request → said words ≡ request
+unfolding said natural_at number_at
+said_is limits words (OpenFile file access) says fits =
+    let number = digits_value-spelled file (omega (arith, fits)) in
+    ap said (has_words words (OpenFile file access) (λ zero. zero) says) ∙ (λ i. OpenFile (number i) (access_in-word access i))
+said_is limits words (Dup fd) says fits = ap said (has_words words (Dup fd) (λ zero. zero) says) ∙ ap Dup (digits_value-spelled fd (omega (arith, fits)))
+said_is limits words (DupTo fd to) says fits =
+    let from = digits_value-spelled fd (omega (arith, fits.0)) in
+    let onto = digits_value-spelled to (omega (arith, fits.1)) in
+    ap said (has_words words (DupTo fd to) (λ zero. zero) says) ∙ (λ i. DupTo (from i) (onto i))
+said_is limits words (CloseFd fd) says fits = ap said (has_words words (CloseFd fd) (λ zero. zero) says) ∙ ap CloseFd (digits_value-spelled fd (omega (arith, fits)))
+said_is limits words (Seek fd offset) says fits =
+    let number = digits_value-spelled fd (omega (arith, fits.0)) in
+    ap said (has_words words (Seek fd offset) (λ zero. zero) says) ∙ (λ i. Seek (number i) (number_in-spelled offset fits.1 i))
+said_is limits words (Resize fd size) says fits =
+    let number = digits_value-spelled fd (omega (arith, fits.0)) in
+    ap said (has_words words (Resize fd size) (λ zero. zero) says) ∙ (λ i. Resize (number i) (number_in-spelled size fits.1 i))
+said_is limits words (Lk fd cmd lock) says fits =
+    let spelled = SaysLock-from_says words fd cmd lock says in
+    let number = digits_value-spelled fd (omega (arith, fits.0)) in
+    let described = lock_said (lock_command_word cmd) fd lock spelled.rest spelled.follows fits.1 fits.2 fits.3 in
+    ap said spelled.are ∙ (said_lock cmd (lock_words fd lock ++ spelled.rest) ∙ (λ i. Lk (number i) cmd (described i)))
+said_is limits words (Fork child) says fits = ap said (has_words words (Fork child) (λ zero. zero) says) ∙ ap Fork (digits_value-spelled child (small_process limits child fits))
+said_is limits words Exit says fits = ap said (has_words words Exit (λ zero. zero) says)
 
 -- the words of a request say one request
 IsRequest-unique : (limits : Limits) (words : List (List ℕ)) (a b : Request) → IsRequest limits words a → IsRequest limits words b → a ≡ b
-IsRequest-unique limits words a b first second = says_unique limits words a b first.says second.says first.writable second.writable
-  where
-    says_unique : (limits : Limits) (words : List (List ℕ)) (a b : Request) → Says words a → Says words b → IsWritable limits a → IsWritable limits b → a ≡ b
-    says_unique limits words (OpenFile file access) (OpenFile elif other) (inl first) (inl second) fits others =
-        let same = sym first ∙ second in
-        let number : file ≡ elif = decimal_injective file elif (omega (arith, fits)) (omega (arith, others)) (ap (λ ws. get_or ws 1 []) same) in
-        let mode = access_word-injective access other (ap (λ ws. get_or ws 2 []) same) in
-        λ i. OpenFile (number i) (mode i)
-    says_unique limits words (OpenFile file access) b (inr first) second fits others = absurd first.0
-    says_unique limits words (OpenFile file access) (OpenFile elif other) (inl first) (inr second) fits others = absurd second.0
-    says_unique limits words (OpenFile file access) (Lk fd cmd lock) (inl first) second fits others =
-        absurd (open_differs cmd (ap (λ ws. get_or ws 0 []) (sym first ∙ (SaysLock-from_says words fd cmd lock second).are)))
-    says_unique limits words (Lk fd cmd lock) (OpenFile file access) first (inl second) fits others =
-        absurd (open_differs cmd (ap (λ ws. get_or ws 0 []) (sym second ∙ (SaysLock-from_says words fd cmd lock first).are)))
-    says_unique limits words (Lk fd cmd lock) (OpenFile file access) first (inr second) fits others = absurd second.0
-    says_unique limits words (Lk fd cmd lock) (Lk ge dmc held) first second fits others =
-        lock_request-unique limits words fd ge cmd dmc lock held (SaysLock-from_says words fd cmd lock first) (SaysLock-from_says words ge dmc held second) fits others
+IsRequest-unique limits words a b first second =
+    sym (said_is limits words a first.says first.writable) ∙ said_is limits words b second.says second.writable
 
--- a word that spells its argument isn't the first bad one
-pass : (limits : Limits) (argument : Argument) (arguments : List Argument) (word : List ℕ) (words : List (List ℕ)) (cause : Cause)
-    → Spells limits argument word → IsFirstBad limits (argument ∷ arguments) (word ∷ words) cause → IsFirstBad limits arguments words cause
-pass limits argument arguments word words cause spelled (inl bad) = bad.1
-pass limits argument arguments word words cause spelled (inr bad) = absurd (bad.0 spelled)
+-- each word spells the argument of its place
+AllSpell : Limits → List Argument → List (List ℕ) → Type 0
+AllSpell limits arguments [] = Unit {0}
+AllSpell limits [] (word ∷ words) = Unit {0}
+AllSpell limits (argument ∷ arguments) (word ∷ words) = Spells limits argument word × AllSpell limits arguments words
 
-lock_not_bad : (limits : Limits) (fd : ℕ) (lock : Lock) (rest : List (List ℕ)) (cause : Cause) → IsWritable limits (Lk fd SetLk lock) → PidFollows lock.pid rest
-    → IsFirstBad limits (lock_arguments ++ AnyNumber ∷ []) (lock_words fd lock ++ rest) cause → ⊥
-lock_not_bad limits fd lock rest cause fits follows bad =
-    let kind = kind_word lock.kind in
-    let whence = whence_word lock.whence in
-    let start = signed_decimal lock.start in
-    let len = signed_decimal lock.len in
-    let numbers = AnyNumber ∷ AnyNumber ∷ AnyNumber ∷ [] in
-    let kind_on = pass limits DescriptorNumber (KindWord ∷ WhenceWord ∷ numbers) (decimal fd) (kind ∷ whence ∷ start ∷ len ∷ rest) cause (fd, fits.0, refl) bad in
-    let whence_on = pass limits KindWord (WhenceWord ∷ numbers) kind (whence ∷ start ∷ len ∷ rest) cause (lock.kind, refl) kind_on in
-    let start_on = pass limits WhenceWord numbers whence (start ∷ len ∷ rest) cause (lock.whence, refl) whence_on in
-    let len_on = pass limits AnyNumber (AnyNumber ∷ AnyNumber ∷ []) start (len ∷ rest) cause (lock.start, fits.1, refl) start_on in
-    pid_not_bad rest follows (pass limits AnyNumber (AnyNumber ∷ []) len rest cause (lock.len, fits.2, refl) len_on)
-  where
-    pid_not_bad : (rest : List (List ℕ)) → PidFollows lock.pid rest → IsFirstBad limits (AnyNumber ∷ []) rest cause → ⊥
-    pid_not_bad [] follows bad = bad
-    pid_not_bad (word ∷ words) (inl none) bad = absurd (omega (arith, ap length none.1))
-    pid_not_bad (word ∷ words) (inr is) bad = pass limits AnyNumber [] word words cause (lock.pid, fits.3, ap (λ ws. get_or ws 0 []) is) bad
+-- where each word spells its argument, none is the first bad one
+not_bad : (limits : Limits) (arguments : List Argument) (words : List (List ℕ)) (cause : Cause) → AllSpell limits arguments words → IsFirstBad limits arguments words cause → ⊥
+unfolding AllSpell
+not_bad limits [] words cause all bad = bad
+not_bad limits (argument ∷ arguments) [] cause all bad = bad
+not_bad limits (argument ∷ arguments) (word ∷ words) cause all (inl bad) = not_bad limits arguments words cause all.1 bad.1
+not_bad limits (argument ∷ arguments) (word ∷ words) cause all (inr bad) = bad.0 all.0
+
+pid_spelled : (limits : Limits) (pid : ℤ) (rest : List (List ℕ)) → PidFollows pid rest → FitsSigned w64 pid → AllSpell limits (AnyNumber ∷ []) rest
+unfolding AllSpell
+pid_spelled limits pid rest (inl none) fits = subst (AllSpell limits (AnyNumber ∷ [])) (sym none.1) tt
+pid_spelled limits pid rest (inr is) fits = subst (AllSpell limits (AnyNumber ∷ [])) (sym is) ((pid, fits, refl), tt)
 
 command_is : (command known : Command) → Some known ≡ Some command → known ≡ command
 command_is command known e = ap (λ o. unwrap_or o known) e
 
-lock_named : (cmd : LkCmd) → command_named (lock_command_word cmd) ≡ Some (lock_command (lock_command_word cmd))
+-- a lock command is known by its word
+pub lock_named : (cmd : LkCmd) → command_named (lock_command_word cmd) ≡ Some (lock_command (lock_command_word cmd))
+lock_named GetLk = refl
 lock_named SetLk = refl
+lock_named OGetLk = refl
+lock_named OSetLk = refl
+
+-- the arguments that the command of a request may have
+arguments_of : Request → List Argument
+arguments_of (OpenFile file access) = FileNumber ∷ AccessWord ∷ []
+arguments_of (Dup fd) = DescriptorNumber ∷ []
+arguments_of (DupTo fd to) = DescriptorNumber ∷ DescriptorNumber ∷ []
+arguments_of (CloseFd fd) = DescriptorNumber ∷ []
+arguments_of (Seek fd offset) = DescriptorNumber ∷ AnyNumber ∷ []
+arguments_of (Resize fd size) = DescriptorNumber ∷ AnyNumber ∷ []
+arguments_of (Lk fd cmd lock) = lock_arguments ++ AnyNumber ∷ []
+arguments_of (Fork child) = ProcessNumber ∷ []
+arguments_of Exit = []
+
+-- the first of the words is a command with these arguments
+abbrev Names : List Argument → List (List ℕ) → Type 0
+Names arguments words = (command : Command) → command_named (get_or words 0 []) ≡ Some command → arguments ≡ command.required ++ command.optional
+
+names_by : (known : Command) (words : List (List ℕ)) → command_named (get_or words 0 []) ≡ Some known → Names (known.required ++ known.optional) words
+names_by known words named = λ command found. ap (λ (c : Command). c.required ++ c.optional) (command_is command known (sym named ∙ found))
+
+names_so : (known : Command) (words : List (List ℕ)) (request : Request) → (HasZeroPid request → ⊥) → Says words request
+    → command_named (get_or (request_words request) 0 []) ≡ Some known → Names (known.required ++ known.optional) words
+names_so known words request none says named =
+    names_by known words (ap (λ ws. command_named (get_or ws 0 [])) (has_words words request none says) ∙ named)
+
+request_named : (words : List (List ℕ)) (request : Request) → Says words request → Names (arguments_of request) words
+unfolding arguments_of
+request_named words (OpenFile file access) says = names_so open_command words (OpenFile file access) (λ zero. zero) says refl
+request_named words (Dup fd) says = names_so (descriptor_command (codes "dup")) words (Dup fd) (λ zero. zero) says refl
+request_named words (DupTo fd to) says = names_so dup_to_command words (DupTo fd to) (λ zero. zero) says refl
+request_named words (CloseFd fd) says = names_so (descriptor_command (codes "close")) words (CloseFd fd) (λ zero. zero) says refl
+request_named words (Seek fd offset) says = names_so (number_command (codes "seek")) words (Seek fd offset) (λ zero. zero) says refl
+request_named words (Resize fd size) says = names_so (number_command (codes "resize")) words (Resize fd size) (λ zero. zero) says refl
+request_named words (Lk fd cmd lock) says =
+    let spelled = SaysLock-from_says words fd cmd lock says in
+    names_by (lock_command (lock_command_word cmd)) words (ap (λ ws. command_named (get_or ws 0 [])) spelled.are ∙ lock_named cmd)
+request_named words (Fork child) says = names_so fork_command words (Fork child) (λ zero. zero) says refl
+request_named words Exit says = names_so exit_command words Exit (λ zero. zero) says refl
+
+spells_so : (limits : Limits) (arguments : List Argument) (words : List (List ℕ)) (request : Request) → (HasZeroPid request → ⊥) → Says words request
+    → AllSpell limits arguments (drop 1 (request_words request)) → AllSpell limits arguments (drop 1 words)
+spells_so limits arguments words request none says all =
+    subst (λ ws. AllSpell limits arguments (drop 1 ws)) (sym (has_words words request none says)) all
+
+-- the words behind the name of a request spell its arguments
+request_spelled : (limits : Limits) (words : List (List ℕ)) (request : Request) → Says words request → IsWritable limits request
+    → AllSpell limits (arguments_of request) (drop 1 words)
+unfolding arguments_of AllSpell
+request_spelled limits words (OpenFile file access) says fits = spells_so limits (FileNumber ∷ AccessWord ∷ []) words (OpenFile file access) (λ zero. zero) says ((file, fits, refl), ((access, refl), tt))
+request_spelled limits words (Dup fd) says fits = spells_so limits (DescriptorNumber ∷ []) words (Dup fd) (λ zero. zero) says ((fd, fits, refl), tt)
+request_spelled limits words (DupTo fd to) says fits = spells_so limits (DescriptorNumber ∷ DescriptorNumber ∷ []) words (DupTo fd to) (λ zero. zero) says ((fd, fits.0, refl), ((to, fits.1, refl), tt))
+request_spelled limits words (CloseFd fd) says fits = spells_so limits (DescriptorNumber ∷ []) words (CloseFd fd) (λ zero. zero) says ((fd, fits, refl), tt)
+request_spelled limits words (Seek fd offset) says fits = spells_so limits (DescriptorNumber ∷ AnyNumber ∷ []) words (Seek fd offset) (λ zero. zero) says ((fd, fits.0, refl), ((offset, fits.1, refl), tt))
+request_spelled limits words (Resize fd size) says fits = spells_so limits (DescriptorNumber ∷ AnyNumber ∷ []) words (Resize fd size) (λ zero. zero) says ((fd, fits.0, refl), ((size, fits.1, refl), tt))
+request_spelled limits words (Lk fd cmd lock) says fits =
+    let spelled = SaysLock-from_says words fd cmd lock says in
+    let pid = pid_spelled limits lock.pid spelled.rest spelled.follows fits.3 in
+    subst (λ ws. AllSpell limits (lock_arguments ++ AnyNumber ∷ []) (drop 1 ws)) (sym spelled.are)
+    ((fd, fits.0, refl), ((lock.kind, refl), ((lock.whence, refl), ((lock.start, fits.1, refl), ((lock.len, fits.2, refl), pid)))))
+request_spelled limits words (Fork child) says fits = spells_so limits (ProcessNumber ∷ []) words (Fork child) (λ zero. zero) says ((child, fits.0, fits.1, refl), tt)
+request_spelled limits words Exit says fits = spells_so limits [] words Exit (λ zero. zero) says tt
 
 -- where the words are a request, no argument is bad
 no_bad : (limits : Limits) (name : List ℕ) (arguments : List (List ℕ)) (command : Command) (request : Request) (cause : Cause) → command_named name ≡ Some command
-    → Says (name ∷ arguments) request → IsWritable limits request → IsFirstBad limits (command.required ++ command.optional) arguments cause → ⊥
-no_bad limits name arguments command (OpenFile file access) cause named (inr says) fits bad = says.0
-no_bad limits name arguments command (OpenFile file access) cause named (inl says) fits bad =
-    let opened = subst (λ word. command_named word ≡ Some command) (ap (λ ws. get_or ws 0 []) says) named in
-    let known = command_is command open_command opened in
-    let first = subst (λ known. IsFirstBad limits (known.required ++ known.optional) arguments cause) (sym known) bad in
-    let access_on = pass limits FileNumber (AccessWord ∷ []) (decimal file) (access_word access ∷ []) cause (file, fits, refl) (subst (λ ws. IsFirstBad limits (open_command.required ++ open_command.optional) ws cause) (ap (λ ws. drop 1 ws) says) first) in
-    pass limits AccessWord [] (access_word access) [] cause (access, refl) access_on
-no_bad limits name arguments command (Lk fd cmd lock) cause named says fits bad =
-    let lock_says = SaysLock-from_says (name ∷ arguments) fd cmd lock says in
-    let named_so = subst (λ word. command_named word ≡ Some command) (ap (λ ws. get_or ws 0 []) lock_says.are) named in
-    let known = command_is command (lock_command (lock_command_word cmd)) (sym (lock_named cmd) ∙ named_so) in
-    let first = subst (λ known. IsFirstBad limits (known.required ++ known.optional) arguments cause) (sym known) bad in
-    lock_not_bad limits fd lock lock_says.rest cause fits lock_says.follows
-    (subst (λ ws. IsFirstBad limits (lock_arguments ++ AnyNumber ∷ []) ws cause) (ap (λ ws. drop 1 ws) lock_says.are) first)
+    → IsRequest limits (name ∷ arguments) request → IsFirstBad limits (command.required ++ command.optional) arguments cause → ⊥
+no_bad limits name arguments command request cause named is bad =
+    let same = request_named (name ∷ arguments) request is.says command named in
+    let all = subst (λ expected. AllSpell limits expected arguments) same (request_spelled limits (name ∷ arguments) request is.says is.writable) in
+    not_bad limits (command.required ++ command.optional) arguments cause all bad
 
 ArgumentsGive-unique : (limits : Limits) (name : List ℕ) (arguments : List (List ℕ)) (command : Command) → command_named name ≡ Some command
     → (a b : Result Request Cause) → ArgumentsGive limits (name ∷ arguments) command arguments a → ArgumentsGive limits (name ∷ arguments) command arguments b → a ≡ b
 ArgumentsGive-unique limits name arguments command named a b (inl first) (inl second) =
     first.2 ∙ (ap Err (IsFirstBad-unique limits (command.required ++ command.optional) arguments first.0 second.0 first.1 second.1) ∙ sym second.2)
-ArgumentsGive-unique limits name arguments command named a b (inl first) (inr second) = absurd (no_bad limits name arguments command second.0 first.0 named second.1.says second.1.writable first.1)
-ArgumentsGive-unique limits name arguments command named a b (inr first) (inl second) = absurd (no_bad limits name arguments command first.0 second.0 named first.1.says first.1.writable second.1)
+ArgumentsGive-unique limits name arguments command named a b (inl first) (inr second) = absurd (no_bad limits name arguments command second.0 first.0 named second.1 first.1)
+ArgumentsGive-unique limits name arguments command named a b (inr first) (inl second) = absurd (no_bad limits name arguments command first.0 second.0 named first.1 second.1)
 ArgumentsGive-unique limits name arguments command named a b (inr first) (inr second) =
     first.2 ∙ (ap Ok (IsRequest-unique limits (name ∷ arguments) first.0 second.0 first.1 second.1) ∙ sym second.2)
 

@@ -1,9 +1,9 @@
 -- The text of a request, behind its process and a space, is a line that says it.
-use Rattle.std.proofs.Common.{◌≡◌, ℕ, zero, suc, ◌+◌, ◌^◌, ◌<◌, ◌≤◌, ◌==◌, nat_le, true, false, not, ◌&&◌, List, [], ◌∷◌, ◌++◌, length, get_or, filter, codes, decimal, ℤ, pos, negsuc, FitsSigned, w64, Ok, Some, inl, inr, refl, sym, ap, ◌∙◌, arith, lit<, lit≤, length-append, append_assoc}
+use Rattle.std.proofs.Common.{◌≡◌, ℕ, zero, suc, ◌+◌, ◌^◌, ◌<◌, ◌≤◌, ◌==◌, Bool, nat_le, nat_lt, true, false, not, ◌&&◌, List, [], ◌∷◌, ◌++◌, length, get_or, filter, codes, decimal, ℤ, pos, negsuc, FitsSigned, w64, Ok, Some, inl, inr, refl, ap, ◌∙◌, arith, tests, lit<, lit≤, length-append, append_assoc}
 use Rattle.std.specs.Fmt.{signed_decimal}
 use Rattle.std.specs.Int.{IsInRange}
 use Rattle.std.specs.Str.Parse.{AllDigits}
-use Rattle.std.specs.List.{slice_split, join_with_byte}
+use Rattle.std.specs.List.{list_all, slice_split, join_with_byte}
 use Rattle.std.proofs.lemmas.Fmt.{decimal_is_IsNumeral, length-decimal-le, length_signed_le}
 use Rattle.std.proofs.lemmas.Str.Parse.{digit_from_value}
 use Rattle.std.proofs.lemmas.Bool.{le-ltb}
@@ -11,11 +11,11 @@ use Rattle.std.proofs.lemmas.Bool.Decides.{nat_tests}
 use Rattle.fd_table.specs.declared.Access.{Access}
 use Rattle.fd_table.specs.declared.Access.TheVariants.{R, W, Rw}
 use Rattle.lock_manager.specs.declared.request.LkCmd.{LkCmd}
-use Rattle.lock_manager.specs.declared.request.LkCmd.TheVariants.{SetLk}
+use Rattle.lock_manager.specs.declared.request.LkCmd.TheVariants.{GetLk, SetLk, OGetLk, OSetLk}
 use Rattle.lock_manager.specs.declared.request.Lock.{Lock}
 use Rattle.fd_table.specs.declared.Limits.TheVariants.{Small}
 use Rattle.lock_manager.specs.declared.request.Request.{Request}
-use Rattle.lock_manager.specs.declared.request.Request.TheVariants.{OpenFile, Lk}
+use Rattle.lock_manager.specs.declared.request.Request.TheVariants.{OpenFile, Dup, DupTo, CloseFd, Seek, Resize, Lk, Fork, Exit}
 use Rattle.range_core.specs.declared.Kind.{Kind}
 use Rattle.range_core.specs.declared.Kind.TheVariants.{Read, Write, Unlock}
 use Rattle.range_core.specs.declared.Whence.{Whence}
@@ -23,9 +23,11 @@ use Rattle.range_core.specs.declared.Whence.TheVariants.{Set, Cur, End}
 use Rattle.script_core.specs.declared.TheConstants.{LINE_MAX}
 use Rattle.script_core.specs.Words.{words_of, is_printable}
 use Rattle.script_core.specs.RequestText.{access_word, kind_word, whence_word, lock_command_word, pid_words, lock_words, request_words, request_text}
-use Rattle.script_core.specs.ScriptText.{IsProcess, IsWritable}
+use Rattle.script_core.specs.ScriptText.{IsProcess, IsDescriptor, IsWritable, IsRequest}
+use Rattle.script_core.specs.Arguments.{Command, lock_command, command_named, has_count}
 use Rattle.script_core.specs.Reading.{Reading, RequestGives, WordsGive, LineGives, IsReadBack, reading_after, is_comment}
 use Rattle.script_core.proofs.NumberLemmas.{BeginsPlainly-decimal}
+use Rattle.script_core.proofs.ReadingLemmas.{lock_named}
 
 -- each byte is printable, and no space
 AreVisible : List ℕ → Type 0
@@ -40,6 +42,19 @@ record IsWord (word : List ℕ) : Type 0 where
 AreWords : List (List ℕ) → Type 0
 AreWords [] = Unit {0}
 AreWords (word ∷ words) = IsWord word × AreWords words
+
+-- whether the bytes are a word
+abbrev is_word : List ℕ → Bool
+is_word word = nat_lt 0 (length word) && list_all (λ byte. nat_le 33 byte && nat_le byte 126) word
+
+AreVisible-tested : (bytes : List ℕ) → list_all (λ byte. nat_le 33 byte && nat_le byte 126) bytes ≡ true → AreVisible bytes
+unfolding AreVisible
+AreVisible-tested [] tested = tt
+AreVisible-tested (byte ∷ bytes) tested =
+    (grind (arith, tests), grind (arith, tests), AreVisible-tested bytes (grind (arith, tests)))
+
+IsWord-tested : (word : List ℕ) → is_word word ≡ true → IsWord word
+IsWord-tested word tested = record { some = grind (arith, tests); visible = AreVisible-tested word (grind (arith, tests)) }
 
 AreVisible-digits : (bytes : List ℕ) → AllDigits 10 bytes → AreVisible bytes
 unfolding AreVisible
@@ -60,6 +75,9 @@ IsWord-minus word is = record { some = omega arith; visible = (lit≤ tt, lit≤
 IsWord-signed_decimal : (z : ℤ) → FitsSigned w64 z → IsWord (signed_decimal z)
 IsWord-signed_decimal (pos n) fits = IsWord-decimal n (omega (arith, fits.sfits))
 IsWord-signed_decimal (negsuc n) fits = IsWord-minus (decimal (suc n)) (IsWord-decimal (suc n) (omega (arith, fits.sfits)))
+
+IsWord-descriptor : (fd : ℕ) → IsDescriptor fd → IsWord (decimal fd)
+IsWord-descriptor fd small = IsWord-decimal fd (omega (arith, small))
 
 not_space : (byte : ℕ) → 33 ≤ byte → (byte == 32) ≡ false
 not_space byte visible = grind (arith, nat_tests)
@@ -126,30 +144,25 @@ is_comment-digit [] low = refl
 is_comment-digit (byte ∷ bytes) low = grind (arith, nat_tests)
 
 IsWord-access_word : (access : Access) → IsWord (access_word access)
-unfolding AreVisible
-IsWord-access_word R = record { some = lit< tt; visible = (lit≤ tt, lit≤ tt, tt) }
-IsWord-access_word W = record { some = lit< tt; visible = (lit≤ tt, lit≤ tt, tt) }
-IsWord-access_word Rw = record { some = lit< tt; visible = (lit≤ tt, lit≤ tt, (lit≤ tt, lit≤ tt, tt)) }
+IsWord-access_word R = IsWord-tested (access_word R) refl
+IsWord-access_word W = IsWord-tested (access_word W) refl
+IsWord-access_word Rw = IsWord-tested (access_word Rw) refl
 
 IsWord-kind_word : (kind : Kind) → IsWord (kind_word kind)
-unfolding AreVisible
-IsWord-kind_word Read = record { some = lit< tt; visible = (lit≤ tt, lit≤ tt, tt) }
-IsWord-kind_word Write = record { some = lit< tt; visible = (lit≤ tt, lit≤ tt, tt) }
-IsWord-kind_word Unlock = record { some = lit< tt; visible = (lit≤ tt, lit≤ tt, tt) }
+IsWord-kind_word Read = IsWord-tested (kind_word Read) refl
+IsWord-kind_word Write = IsWord-tested (kind_word Write) refl
+IsWord-kind_word Unlock = IsWord-tested (kind_word Unlock) refl
 
 IsWord-whence_word : (whence : Whence) → IsWord (whence_word whence)
-unfolding AreVisible
-IsWord-whence_word Set = record { some = lit< tt; visible = (lit≤ tt, lit≤ tt, (lit≤ tt, lit≤ tt, (lit≤ tt, lit≤ tt, tt))) }
-IsWord-whence_word Cur = record { some = lit< tt; visible = (lit≤ tt, lit≤ tt, (lit≤ tt, lit≤ tt, (lit≤ tt, lit≤ tt, tt))) }
-IsWord-whence_word End = record { some = lit< tt; visible = (lit≤ tt, lit≤ tt, (lit≤ tt, lit≤ tt, (lit≤ tt, lit≤ tt, tt))) }
-
-IsWord-open : IsWord (codes "open")
-unfolding AreVisible
-IsWord-open = record { some = lit< tt; visible = (lit≤ tt, lit≤ tt, (lit≤ tt, lit≤ tt, (lit≤ tt, lit≤ tt, (lit≤ tt, lit≤ tt, tt)))) }
+IsWord-whence_word Set = IsWord-tested (whence_word Set) refl
+IsWord-whence_word Cur = IsWord-tested (whence_word Cur) refl
+IsWord-whence_word End = IsWord-tested (whence_word End) refl
 
 IsWord-lock_command_word : (cmd : LkCmd) → IsWord (lock_command_word cmd)
-unfolding AreVisible
-IsWord-lock_command_word SetLk = record { some = lit< tt; visible = (lit≤ tt, lit≤ tt, (lit≤ tt, lit≤ tt, (lit≤ tt, lit≤ tt, (lit≤ tt, lit≤ tt, (lit≤ tt, lit≤ tt, tt))))) }
+IsWord-lock_command_word GetLk = IsWord-tested (lock_command_word GetLk) refl
+IsWord-lock_command_word SetLk = IsWord-tested (lock_command_word SetLk) refl
+IsWord-lock_command_word OGetLk = IsWord-tested (lock_command_word OGetLk) refl
+IsWord-lock_command_word OSetLk = IsWord-tested (lock_command_word OSetLk) refl
 
 AreWords-pid_words : (z : ℤ) → FitsSigned w64 z → AreWords (pid_words z)
 unfolding AreWords
@@ -159,11 +172,18 @@ AreWords-pid_words (negsuc n) fits = (IsWord-signed_decimal (negsuc n) fits, tt)
 
 AreWords-request_words : (request : Request) → IsWritable Small request → AreWords (request_words request)
 unfolding AreWords
-AreWords-request_words (OpenFile file access) writable = (IsWord-open, (IsWord-decimal file (omega (arith, writable)), (IsWord-access_word access, tt)))
+AreWords-request_words (OpenFile file access) writable = (IsWord-tested (codes "open") refl, (IsWord-decimal file (omega (arith, writable)), (IsWord-access_word access, tt)))
+AreWords-request_words (Dup fd) writable = (IsWord-tested (codes "dup") refl, (IsWord-descriptor fd writable, tt))
+AreWords-request_words (DupTo fd to) writable = (IsWord-tested (codes "dup2") refl, (IsWord-descriptor fd writable.0, (IsWord-descriptor to writable.1, tt)))
+AreWords-request_words (CloseFd fd) writable = (IsWord-tested (codes "close") refl, (IsWord-descriptor fd writable, tt))
+AreWords-request_words (Seek fd offset) writable = (IsWord-tested (codes "seek") refl, (IsWord-descriptor fd writable.0, (IsWord-signed_decimal offset writable.1, tt)))
+AreWords-request_words (Resize fd size) writable = (IsWord-tested (codes "resize") refl, (IsWord-descriptor fd writable.0, (IsWord-signed_decimal size writable.1, tt)))
+AreWords-request_words (Fork child) writable = (IsWord-tested (codes "fork") refl, (IsWord-decimal child (omega (arith, writable.1)), tt))
+AreWords-request_words Exit writable = (IsWord-tested (codes "exit") refl, tt)
 AreWords-request_words (Lk fd cmd lock) writable = (
   IsWord-lock_command_word cmd,
   (
-    IsWord-decimal fd (omega (arith, writable.0)),
+    IsWord-descriptor fd writable.0,
     (
       IsWord-kind_word lock.kind,
       (
@@ -189,8 +209,14 @@ length-whence_word Set = lit≤ tt
 length-whence_word Cur = lit≤ tt
 length-whence_word End = lit≤ tt
 
-length-lock_command_word : (cmd : LkCmd) → length (lock_command_word cmd) ≤ 5
+length-lock_command_word : (cmd : LkCmd) → length (lock_command_word cmd) ≤ 6
+length-lock_command_word GetLk = lit≤ tt
 length-lock_command_word SetLk = lit≤ tt
+length-lock_command_word OGetLk = lit≤ tt
+length-lock_command_word OSetLk = lit≤ tt
+
+length-descriptor : (fd : ℕ) → IsDescriptor fd → length (decimal fd) ≤ 10
+length-descriptor fd small = length-decimal-le 10 fd (lit< tt) (omega (arith, small)) (omega (arith, small))
 
 length-signed_decimal : (z : ℤ) → FitsSigned w64 z → length (signed_decimal z) ≤ 20
 length-signed_decimal z fits = length_signed_le 19 z (omega (arith, fits.sfits)) (omega (arith, fits.sfits))
@@ -205,11 +231,18 @@ more_length-request_words : (request : Request) → IsWritable Small request →
 unfolding more_length
 more_length-request_words (OpenFile file access) writable =
     omega (arith, length-decimal-le 2 file (lit< tt) (omega (arith, writable)) (omega (arith, writable)), length-access_word access)
+more_length-request_words (Dup fd) writable = omega (arith, length-descriptor fd writable)
+more_length-request_words (DupTo fd to) writable = omega (arith, length-descriptor fd writable.0, length-descriptor to writable.1)
+more_length-request_words (CloseFd fd) writable = omega (arith, length-descriptor fd writable)
+more_length-request_words (Seek fd offset) writable = omega (arith, length-descriptor fd writable.0, length-signed_decimal offset writable.1)
+more_length-request_words (Resize fd size) writable = omega (arith, length-descriptor fd writable.0, length-signed_decimal size writable.1)
+more_length-request_words (Fork child) writable = omega (arith, length-decimal-le 2 child (lit< tt) (omega (arith, writable.1)) (omega (arith, writable.1)))
+more_length-request_words Exit writable = lit≤ tt
 more_length-request_words (Lk fd cmd lock) writable =
     omega (
       arith,
       length-lock_command_word cmd,
-      length-decimal-le 10 fd (lit< tt) (omega (arith, writable.0)) (omega (arith, writable.0)),
+      length-descriptor fd writable.0,
       length-kind_word lock.kind,
       length-whence_word lock.whence,
       length-signed_decimal lock.start writable.1,
@@ -217,16 +250,34 @@ more_length-request_words (Lk fd cmd lock) writable =
       more_length-pid_words lock.pid writable.3,
     )
 
--- the arguments of a lock command with this pid are as many as it has
-gives_lock : (fd : ℕ) (cmd : LkCmd) (lock : Lock) (pid : ℤ) → lock.pid ≡ pid → IsWritable Small (Lk fd cmd lock)
-    → RequestGives Small (lock_command_word cmd ∷ (lock_words fd lock ++ pid_words pid)) (Ok (Lk fd cmd lock))
-gives_lock fd SetLk lock (pos zero) e writable = inr (Lk fd SetLk lock, record { says = inl (ap (λ z. lock_command_word SetLk ∷ (lock_words fd lock ++ pid_words z)) (sym e)); writable = writable }, refl)
-gives_lock fd SetLk lock (pos (suc n)) e writable = inr (Lk fd SetLk lock, record { says = inl (ap (λ z. lock_command_word SetLk ∷ (lock_words fd lock ++ pid_words z)) (sym e)); writable = writable }, refl)
-gives_lock fd SetLk lock (negsuc n) e writable = inr (Lk fd SetLk lock, record { says = inl (ap (λ z. lock_command_word SetLk ∷ (lock_words fd lock ++ pid_words z)) (sym e)); writable = writable }, refl)
+-- words with as many arguments as their command has, which are a request, are read as it
+gives_named : (name : List ℕ) (arguments : List (List ℕ)) (command : Command) (request : Request) → command_named name ≡ Some command
+    → has_count command (length arguments) ≡ true → IsRequest Small (name ∷ arguments) request → RequestGives Small (name ∷ arguments) (Ok request)
+gives_named name arguments command request named counted is = rw (named, counted) (inr (request, is, refl))
+
+-- a lock command has so many arguments, with a pid and without
+lock_counted : (name : List ℕ) (fd : ℕ) (lock : Lock) (pid : ℤ) → has_count (lock_command name) (length (lock_words fd lock ++ pid_words pid)) ≡ true
+lock_counted name fd lock (pos zero) = refl
+lock_counted name fd lock (pos (suc n)) = refl
+lock_counted name fd lock (negsuc n) = refl
+
+-- the words of a request are that request
+is_written : (request : Request) → IsWritable Small request → IsRequest Small (request_words request) request
+is_written request writable = record { says = inl refl; writable = writable }
 
 gives_request : (request : Request) → IsWritable Small request → RequestGives Small (request_words request) (Ok request)
-gives_request (OpenFile file access) writable = inr (OpenFile file access, record { says = inl refl; writable = writable }, refl)
-gives_request (Lk fd cmd lock) writable = gives_lock fd cmd lock lock.pid refl writable
+gives_request (OpenFile file access) writable = inr (OpenFile file access, is_written (OpenFile file access) writable, refl)
+gives_request (Dup fd) writable = inr (Dup fd, is_written (Dup fd) writable, refl)
+gives_request (DupTo fd to) writable = inr (DupTo fd to, is_written (DupTo fd to) writable, refl)
+gives_request (CloseFd fd) writable = inr (CloseFd fd, is_written (CloseFd fd) writable, refl)
+gives_request (Seek fd offset) writable = inr (Seek fd offset, is_written (Seek fd offset) writable, refl)
+gives_request (Resize fd size) writable = inr (Resize fd size, is_written (Resize fd size) writable, refl)
+gives_request (Lk fd cmd lock) writable =
+    let name = lock_command_word cmd in
+    gives_named name (lock_words fd lock ++ pid_words lock.pid) (lock_command name) (Lk fd cmd lock) (lock_named cmd) (lock_counted name fd lock lock.pid)
+    (is_written (Lk fd cmd lock) writable)
+gives_request (Fork child) writable = inr (Fork child, is_written (Fork child) writable, refl)
+gives_request Exit writable = inr (Exit, is_written Exit writable, refl)
 
 reads_words : (reading : Reading) (p : ℕ) (words : List (List ℕ)) (request : Request) → IsProcess Small p → RequestGives Small words (Ok request)
     → WordsGive reading (decimal p ∷ words) (Ok (reading_after reading (Some (p, request))))
@@ -241,6 +292,13 @@ reads_line reading line words after short printable are gives =
 
 join_cons : (p : ℕ) (request : Request) → decimal p ++ codes " " ++ request_text request ≡ join_with_byte 32 (decimal p ∷ request_words request)
 join_cons p (OpenFile file access) = append_assoc (decimal p) (codes " ") (request_text (OpenFile file access))
+join_cons p (Dup fd) = append_assoc (decimal p) (codes " ") (request_text (Dup fd))
+join_cons p (DupTo fd to) = append_assoc (decimal p) (codes " ") (request_text (DupTo fd to))
+join_cons p (CloseFd fd) = append_assoc (decimal p) (codes " ") (request_text (CloseFd fd))
+join_cons p (Seek fd offset) = append_assoc (decimal p) (codes " ") (request_text (Seek fd offset))
+join_cons p (Resize fd size) = append_assoc (decimal p) (codes " ") (request_text (Resize fd size))
+join_cons p (Fork child) = append_assoc (decimal p) (codes " ") (request_text (Fork child))
+join_cons p Exit = append_assoc (decimal p) (codes " ") (request_text Exit)
 join_cons p (Lk fd cmd lock) = append_assoc (decimal p) (codes " ") (request_text (Lk fd cmd lock))
 
 -- the text of a request, behind its process and a space, is a line that is read as this arrival

@@ -1,5 +1,5 @@
 -- The arguments of the commands, and the first bad one (this project's choice).
-use Rattle.std.specs.Prelude.{◌≡◌, ℕ, ◌+◌, ◌^◌, ◌<◌, ◌≤◌, ◌==◌, Bool, ◌||◌, ℤ, FitsSigned, Option, List, [], ◌∷◌, length, find, codes, decimal, bytes_eq}
+use Rattle.std.specs.Prelude.{◌≡◌, ℕ, ◌+◌, ◌^◌, ◌<◌, ◌≤◌, ◌==◌, Bool, ◌||◌, ℤ, FitsSigned, Option, List, [], ◌∷◌, length, MatchBool, find, codes, decimal, bytes_eq}
 use Rattle.std.specs.Int.{w64}
 use Rattle.std.specs.Fmt.{signed_decimal}
 use Rattle.range_core.specs.declared.Kind.{Kind}
@@ -10,7 +10,7 @@ use Rattle.fd_table.specs.declared.Limits.{Limits}
 use Rattle.range_core.specs.Facts.{MatchFact}
 use Rattle.fd_table.specs.Descriptors.{process_limit}
 use Rattle.script_core.specs.declared.script.Cause.{Cause}
-use Rattle.script_core.specs.declared.script.Cause.TheVariants.{Word, Number, Process}
+use Rattle.script_core.specs.declared.script.Cause.TheVariants.{Word, Count, Number, Process}
 use Rattle.script_core.specs.RequestText.{access_word, kind_word, whence_word}
 
 -- what may stand in the place of an argument
@@ -48,6 +48,11 @@ IsFirstBad limits (argument ∷ arguments) [] cause = ⊥
 IsFirstBad limits (argument ∷ arguments) (word ∷ words) cause =
     MatchFact (Spells limits argument word) (IsFirstBad limits arguments words cause) (cause ≡ cause_of argument)
 
+-- the words are not such arguments: another number of them stands there, or the first bad one has this cause
+abbrev pub AreRefused : Limits → List Argument → List (List ℕ) → Cause → Type 0
+AreRefused limits arguments words cause =
+    MatchBool (length words == length arguments) (IsFirstBad limits arguments words cause) (cause ≡ Count)
+
 -- a command: its word, the arguments that it has, and those that may follow them
 pub record Command : Type 0 where
   pub name : List ℕ
@@ -70,9 +75,33 @@ lock_arguments = DescriptorNumber ∷ KindWord ∷ WhenceWord ∷ AnyNumber ∷ 
 abbrev pub lock_command : List ℕ → Command
 lock_command name = record { name = name; required = lock_arguments; optional = AnyNumber ∷ [] }
 
+-- a command on a descriptor alone: dup, close
+abbrev pub descriptor_command : List ℕ → Command
+descriptor_command name = plain_command name (DescriptorNumber ∷ [])
+
+-- a command on a descriptor and a number: seek, resize
+abbrev pub number_command : List ℕ → Command
+number_command name = plain_command name (DescriptorNumber ∷ AnyNumber ∷ [])
+
+-- dup2: a descriptor, and the one that is to refer to the same description
+abbrev pub dup_to_command : Command
+dup_to_command = plain_command (codes "dup2") (DescriptorNumber ∷ DescriptorNumber ∷ [])
+
+-- fork: the child
+abbrev pub fork_command : Command
+fork_command = plain_command (codes "fork") (ProcessNumber ∷ [])
+
+-- exit: no argument
+abbrev pub exit_command : Command
+exit_command = plain_command (codes "exit") []
+
 -- all commands
 abbrev pub commands : List Command
-commands = open_command ∷ lock_command (codes "setlk") ∷ []
+commands =
+    open_command ∷ descriptor_command (codes "dup") ∷ dup_to_command ∷ descriptor_command (codes "close")
+    ∷ number_command (codes "seek") ∷ number_command (codes "resize")
+    ∷ lock_command (codes "getlk") ∷ lock_command (codes "setlk") ∷ lock_command (codes "ogetlk") ∷ lock_command (codes "osetlk")
+    ∷ fork_command ∷ exit_command ∷ []
 
 -- the command of this word, if it is one
 abbrev pub command_named : List ℕ → Option Command

@@ -1,5 +1,6 @@
 -- The text of an entry of the journal (this project's choice).
 use Rattle.std.specs.Prelude.{ℕ, List, [], ◌∷◌, ◌++◌, flat_map, codes, decimal}
+use Rattle.std.specs.Fmt.{signed_decimal}
 use Rattle.lock_manager.specs.declared.request.Errno.{Errno}
 use Rattle.lock_manager.specs.declared.request.Errno.TheVariants.{EBADF, EINVAL, EOVERFLOW, EAGAIN, EMFILE}
 use Rattle.lock_manager.specs.declared.request.Reply.{Reply}
@@ -7,7 +8,7 @@ use Rattle.lock_manager.specs.declared.request.Reply.TheVariants as replies
 use Rattle.lock_manager.specs.declared.request.Note.{Note}
 use Rattle.lock_manager.specs.declared.request.Note.TheVariants.{Answer}
 use Rattle.session_core.specs.Event.{Event}
-use Rattle.script_core.specs.RequestText.{request_text}
+use Rattle.script_core.specs.RequestText.{mode_word, request_text}
 
 -- the name of an error (POSIX.1-2017 <errno.h>)
 abbrev pub error_name : Errno → List ℕ
@@ -17,10 +18,13 @@ error_name EOVERFLOW = codes "EOVERFLOW"
 error_name EAGAIN = codes "EAGAIN"
 error_name EMFILE = codes "EMFILE"
 
--- an answer
+-- an answer, of which a lock that is held has its mode, start, length and pid
 abbrev pub reply_text : Reply → List ℕ
 reply_text replies.Ok = codes "ok"
 reply_text (replies.Fd fd) = codes "fd " ++ decimal fd
+reply_text replies.Free = codes "free"
+reply_text (replies.Held mode start len pid) =
+    codes "held " ++ mode_word mode ++ codes " " ++ decimal start ++ codes " " ++ decimal len ++ codes " " ++ signed_decimal pid
 reply_text (replies.Err error) = error_name error
 
 -- the process and the number of a request

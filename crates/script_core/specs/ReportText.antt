@@ -9,7 +9,7 @@ use Rattle.lock_book.specs.declared.Held.{Held}
 use Rattle.lock_book.specs.Changes.{mode_in, flock_mode_in}
 use Rattle.lock_book.specs.Reports.{IsHeldReport}
 use Rattle.lock_manager.specs.declared.request.ProcState.{ProcState}
-use Rattle.lock_manager.specs.declared.request.ProcState.TheVariants.{Unborn, Live}
+use Rattle.lock_manager.specs.declared.request.ProcState.TheVariants.{Unborn, Live, Ended}
 use Rattle.lock_manager.specs.State.{State}
 use Rattle.lock_manager.specs.ManagerView.{processes_of}
 use Rattle.session_core.specs.declared.session.Session.{Session}
@@ -52,6 +52,7 @@ held_line held = held_text held ++ 10 ∷ []
 abbrev pub state_word : ProcState → List ℕ
 state_word Unborn = codes "unborn"
 state_word Live = codes "live"
+state_word Ended = codes "ended"
 
 -- how many requests a process sent, how many were taken and how many answered
 abbrev pub counts_text : ProcessLine → List ℕ
@@ -62,10 +63,11 @@ counts_text line =
 abbrev pub process_line : ProcessLine → List ℕ
 process_line line = codes "proc " ++ decimal line.p ++ codes " " ++ counts_text line ++ codes " " ++ state_word line.state ++ 10 ∷ []
 
--- whether the report has a line for a process that stands so and sent so much: it was ever alive, or has sent something
+-- whether the report has a line for a process that stands so and sent so much: it isn't unborn, or has sent something
 abbrev pub is_reported : ProcState → ℕ → Bool
 is_reported Unborn sent = nat_lt 0 sent
 is_reported Live sent = true
+is_reported Ended sent = true
 
 -- what there is to tell of a process: where it stands, what it sent, and what was taken and answered by these events
 abbrev pub line_of : (ℕ → ProcState) → List Event → (ℕ → ℕ) → ℕ → ProcessLine

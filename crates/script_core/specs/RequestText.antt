@@ -13,9 +13,9 @@ use Rattle.fd_table.specs.declared.Access.{Access}
 use Rattle.fd_table.specs.declared.Access.TheVariants.{R, W, Rw}
 use Rattle.lock_manager.specs.declared.request.Lock.{Lock}
 use Rattle.lock_manager.specs.declared.request.LkCmd.{LkCmd}
-use Rattle.lock_manager.specs.declared.request.LkCmd.TheVariants.{SetLk}
+use Rattle.lock_manager.specs.declared.request.LkCmd.TheVariants.{GetLk, SetLk, OGetLk, OSetLk}
 use Rattle.lock_manager.specs.declared.request.Request.{Request}
-use Rattle.lock_manager.specs.declared.request.Request.TheVariants.{OpenFile, Lk}
+use Rattle.lock_manager.specs.declared.request.Request.TheVariants.{OpenFile, Dup, DupTo, CloseFd, Seek, Resize, Lk, Fork, Exit}
 
 -- the word of an access mode
 abbrev pub access_word : Access → List ℕ
@@ -42,7 +42,10 @@ whence_word End = codes "end"
 
 -- the word of a lock command of fcntl
 abbrev pub lock_command_word : LkCmd → List ℕ
+lock_command_word GetLk = codes "getlk"
 lock_command_word SetLk = codes "setlk"
+lock_command_word OGetLk = codes "ogetlk"
+lock_command_word OSetLk = codes "osetlk"
 
 -- the member l_pid is written only where it isn't 0
 abbrev pub pid_words : ℤ → List (List ℕ)
@@ -58,7 +61,14 @@ lock_words fd lock =
 -- the command and its arguments
 abbrev pub request_words : Request → List (List ℕ)
 request_words (OpenFile file access) = codes "open" ∷ decimal file ∷ access_word access ∷ []
+request_words (Dup fd) = codes "dup" ∷ decimal fd ∷ []
+request_words (DupTo fd to) = codes "dup2" ∷ decimal fd ∷ decimal to ∷ []
+request_words (CloseFd fd) = codes "close" ∷ decimal fd ∷ []
+request_words (Seek fd offset) = codes "seek" ∷ decimal fd ∷ signed_decimal offset ∷ []
+request_words (Resize fd size) = codes "resize" ∷ decimal fd ∷ signed_decimal size ∷ []
 request_words (Lk fd cmd lock) = lock_command_word cmd ∷ (lock_words fd lock ++ pid_words lock.pid)
+request_words (Fork child) = codes "fork" ∷ decimal child ∷ []
+request_words Exit = codes "exit" ∷ []
 
 -- the words with one space between each two
 abbrev pub request_text : Request → List ℕ

@@ -1,10 +1,10 @@
 -- What a script says, and which words say a request (this project's choice).
-use Rattle.std.specs.Prelude.{◌≡◌, ℕ, ◌^◌, ◌<◌, ◌≤◌, ◌⊎◌, pos, FitsSigned, List, [], ◌∷◌, ◌++◌, codes}
+use Rattle.std.specs.Prelude.{◌≡◌, ℕ, ◌^◌, ◌<◌, ◌≤◌, ◌⊎◌, ⊤, pos, FitsSigned, List, [], ◌∷◌, ◌++◌, codes}
 use Rattle.std.specs.Int.{w64}
 use Rattle.fd_table.specs.declared.TheConstants.{FILES}
 use Rattle.fd_table.specs.declared.Limits.{Limits}
 use Rattle.lock_manager.specs.declared.request.Request.{Request}
-use Rattle.lock_manager.specs.declared.request.Request.TheVariants.{OpenFile, Lk}
+use Rattle.lock_manager.specs.declared.request.Request.TheVariants.{OpenFile, Dup, DupTo, CloseFd, Seek, Resize, Lk, Fork, Exit}
 use Rattle.fd_table.specs.Descriptors.{process_limit}
 use Rattle.script_core.specs.RequestText.{request_words}
 
@@ -23,13 +23,27 @@ IsProcess limits p = (1 ≤ p) × (p ≤ process_limit limits)
 -- the numbers of the request are such as a script may write
 abbrev pub IsWritable : Limits → Request → Type 0
 IsWritable limits (OpenFile file access) = file < FILES
+IsWritable limits (Dup fd) = IsDescriptor fd
+IsWritable limits (DupTo fd to) = IsDescriptor fd × IsDescriptor to
+IsWritable limits (CloseFd fd) = IsDescriptor fd
+IsWritable limits (Seek fd offset) = IsDescriptor fd × FitsSigned w64 offset
+IsWritable limits (Resize fd size) = IsDescriptor fd × FitsSigned w64 size
 IsWritable limits (Lk fd cmd lock) =
     IsDescriptor fd × FitsSigned w64 lock.start × FitsSigned w64 lock.len × FitsSigned w64 lock.pid
+IsWritable limits (Fork child) = IsProcess limits child
+IsWritable limits Exit = ⊤
 
 -- the request is one in which a pid of 0 may be written or left out
 abbrev pub HasZeroPid : Request → Type 0
 HasZeroPid (OpenFile file access) = ⊥
+HasZeroPid (Dup fd) = ⊥
+HasZeroPid (DupTo fd to) = ⊥
+HasZeroPid (CloseFd fd) = ⊥
+HasZeroPid (Seek fd offset) = ⊥
+HasZeroPid (Resize fd size) = ⊥
 HasZeroPid (Lk fd cmd lock) = lock.pid ≡ pos 0
+HasZeroPid (Fork child) = ⊥
+HasZeroPid Exit = ⊥
 
 -- the words say the request: they are its words, or these with a pid of 0 behind them
 abbrev pub Says : List (List ℕ) → Request → Type 0

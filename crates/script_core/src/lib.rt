@@ -2,6 +2,7 @@
 #![tactic(auto)]
 
 mod arguments;
+mod commands;
 mod laws;
 mod line;
 mod numbers;

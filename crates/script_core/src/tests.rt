@@ -1,7 +1,7 @@
 use crate::{Cause, ScriptFault, parse, write_entry, write_report};
 use fd_table::{Access, Limits};
 use lock_manager::{Errno, LkCmd, Lock, Note, Reply, Request, Rules};
-use range_core::{Kind, Whence};
+use range_core::{Kind, Mode, Whence};
 use session_core::{Entry, run_all};
 use std::alloc::Global;
 use std::process::Abort;
@@ -58,6 +58,24 @@ fn one_line_scripts(rt: HostRuntime) {
         (b"1 setlk 0 x set -0 1\n", Some(Cause::Word)),
         (b"1 setlk 0 w set\n", Some(Cause::Count)),
         (b"1 setlk 0 w set 0 1 2 3\n", Some(Cause::Count)),
+        (b"1 seek 0 -0\n", Some(Cause::Number)),
+        (b"1 seek 0 9223372036854775808\n", Some(Cause::Number)),
+        (b"1 seek 4294967296 -0 0\n", Some(Cause::Count)),
+        (b"1 resize 0 -9223372036854775808\n", None),
+        (b"1 resize -1 x\n", Some(Cause::Number)),
+        (b"1 fork 0\n", Some(Cause::Process)),
+        (b"1 fork 17\n", Some(Cause::Process)),
+        (b"1 fork 16\n", None),
+        (b"1 dup\n", Some(Cause::Count)),
+        (b"1 dup 4294967296\n", Some(Cause::Number)),
+        (b"1 Dup 0\n", Some(Cause::Word)),
+        (b"1 dup2 0\n", Some(Cause::Count)),
+        (b"1 dup2 0 -1\n", Some(Cause::Number)),
+        (b"1 close 0 0\n", Some(Cause::Count)),
+        (b"1 exit 0\n", Some(Cause::Count)),
+        (b"1 getlk 0 w set 0\n", Some(Cause::Count)),
+        (b"1 ogetlk 0 x set -0 1\n", Some(Cause::Word)),
+        (b"1 osetlk 0 w set 0 1 -7\n", None),
         (b"1\texit\n", Some(Cause::Byte)),
         (b"# 17 exit\n", None),
         (b"  \n", None),
@@ -76,8 +94,8 @@ fn one_line_scripts(rt: HostRuntime) {
 /// A line of 120 bytes is accepted, and one of 121 isn't.
 #[test]
 fn longest_line(rt: HostRuntime) -> Result<(), Fail> {
-    let mut line = Vec::from_slice(rt.alloc(), b"1 open 0 r")?;
-    for _ in 0..110 {
+    let mut line = Vec::from_slice(rt.alloc(), b"1 exit")?;
+    for _ in 0..114 {
         line.push(b' ')?;
     }
     assert_eq!(rt; fault_of(rt.alloc(), &line), None);
@@ -125,6 +143,172 @@ fn arrivals_of_script(rt: HostRuntime) -> Result<(), Fail> {
     ];
     assert_eq!(rt; script.arrivals.as_slice(), expected.as_slice());
     Ok(())
+}
+
+/// A request of each command.
+#[test]
+fn arrivals_of_each_command(rt: HostRuntime) -> Result<(), Fail> {
+    let script =
+        b"1 dup 4294967295\n1 dup2 0 31\n1 close 7\n1 seek 2 -5\n1 resize 3 9223372036854775807\n\
+        1 getlk 0 w set 1 2 3\n1 ogetlk 0 w set 1 2\n1 osetlk 0 w set 1 2\n1 fork 16\n1 exit\n";
+    let script = parse(rt.alloc(), script).map_err(|_| "refused")?;
+    let lock = |cmd, pid| with_command(cmd, set_lock(Kind::Write, 1, 2, pid));
+    let expected = [
+        (1, Request::Dup { fd: u32::MAX }),
+        (1, Request::DupTo { fd: 0, to: 31 }),
+        (1, Request::CloseFd { fd: 7 }),
+        (1, Request::Seek { fd: 2, offset: -5 }),
+        (
+            1,
+            Request::Resize {
+                fd: 3,
+                size: i64::MAX,
+            },
+        ),
+        (1, lock(LkCmd::GetLk, 3)),
+        (1, lock(LkCmd::OGetLk, 0)),
+        (1, lock(LkCmd::OSetLk, 0)),
+        (1, Request::Fork { child: 16 }),
+        (1, Request::Exit),
+    ];
+    assert_eq!(rt; script.arrivals.as_slice(), expected.as_slice());
+    Ok(())
+}
+
+/// The lock request with this command in place of its own.
+fn with_command(cmd: LkCmd, request: Request) -> Request {
+    match request {
+        Request::Lk { fd, lock, .. } => Request::Lk { fd, cmd, lock },
+        other => other,
+    }
+}
+
+/// A worked script of dup2: what is read of each line is what its entry writes.
+#[test]
+fn entries_of_dup2(rt: HostRuntime) -> Result<(), Fail> {
+    let script = b"1 open 0 rw\n1 open 0 rw\n1 setlk 0 w set 0 10\n1 dup2 0 0\n1 dup2 0 1\n\
+        1 dup2 0 32\n1 dup 0\n1 close 1\n1 open 1 r\n";
+    let replies = [
+        Some(Reply::Fd(0)),
+        Some(Reply::Fd(1)),
+        Some(Reply::Ok),
+        Some(Reply::Fd(0)),
+        Some(Reply::Fd(1)),
+        Some(Reply::Err(Errno::EBADF)),
+        Some(Reply::Fd(2)),
+        Some(Reply::Ok),
+        Some(Reply::Fd(1)),
+    ];
+    let entries = b"1#1 open 0 rw | 1#1 fd 0\n\
+        1#2 open 0 rw | 1#2 fd 1\n\
+        1#3 setlk 0 w set 0 10 | 1#3 ok\n\
+        1#4 dup2 0 0 | 1#4 fd 0\n\
+        1#5 dup2 0 1 | 1#5 fd 1\n\
+        1#6 dup2 0 32 | 1#6 EBADF\n\
+        1#7 dup 0 | 1#7 fd 2\n\
+        1#8 close 1 | 1#8 ok\n\
+        1#9 open 1 r | 1#9 fd 1\n";
+    check_entries(&rt, rt.alloc(), script, &replies, entries)
+}
+
+/// A worked script in which an OFD lock passes through dup, fork and exit.
+#[test]
+fn entries_of_fork_and_exit(rt: HostRuntime) -> Result<(), Fail> {
+    let script = b"1 open 0 rw\n1 osetlk 0 w set 0 0\n1 dup 0\n1 close 0\n1 fork 2\n1 exit\n\
+        2 osetlk 1 u set 0 10\n";
+    let replies = [
+        Some(Reply::Fd(0)),
+        Some(Reply::Ok),
+        Some(Reply::Fd(1)),
+        Some(Reply::Ok),
+        Some(Reply::Ok),
+        None,
+        Some(Reply::Ok),
+    ];
+    let entries = b"1#1 open 0 rw | 1#1 fd 0\n\
+        1#2 osetlk 0 w set 0 0 | 1#2 ok\n\
+        1#3 dup 0 | 1#3 fd 1\n\
+        1#4 close 0 | 1#4 ok\n\
+        1#5 fork 2 | 1#5 ok\n\
+        1#6 exit\n\
+        2#1 osetlk 1 u set 0 10 | 2#1 ok\n";
+    check_entries(&rt, rt.alloc(), script, &replies, entries)
+}
+
+/// A worked script of the get commands.
+#[test]
+fn entries_of_get_commands(rt: HostRuntime) -> Result<(), Fail> {
+    let script = b"1 open 0 rw\n1 setlk 0 w set 0 10\n1 osetlk 0 w set 5 1\n1 ogetlk 0 w set 5 1\n\
+        1 osetlk 0 r set 20 5\n1 getlk 0 w set 0 0\n1 getlk 0 r set 20 5\n";
+    let replies = [
+        Some(Reply::Fd(0)),
+        Some(Reply::Ok),
+        Some(Reply::Err(Errno::EAGAIN)),
+        Some(held(Mode::Write, 0, 10, 1)),
+        Some(Reply::Ok),
+        Some(held(Mode::Read, 20, 5, -1)),
+        Some(Reply::Free),
+    ];
+    let entries = b"1#1 open 0 rw | 1#1 fd 0\n\
+        1#2 setlk 0 w set 0 10 | 1#2 ok\n\
+        1#3 osetlk 0 w set 5 1 | 1#3 EAGAIN\n\
+        1#4 ogetlk 0 w set 5 1 | 1#4 held w 0 10 1\n\
+        1#5 osetlk 0 r set 20 5 | 1#5 ok\n\
+        1#6 getlk 0 w set 0 0 | 1#6 held r 20 5 -1\n\
+        1#7 getlk 0 r set 20 5 | 1#7 free\n";
+    check_entries(&rt, rt.alloc(), script, &replies, entries)
+}
+
+/// Lines of a worked script in which an offset is shared.
+#[test]
+fn entries_of_seek_and_resize(rt: HostRuntime) -> Result<(), Fail> {
+    let script = b"2 resize 0 50\n2 seek 0 100\n1 seek 0 0\n";
+    let entries = b"2#1 resize 0 50 | 2#1 ok\n2#2 seek 0 100 | 2#2 ok\n1#1 seek 0 0 | 1#1 ok\n";
+    check_entries(&rt, rt.alloc(), script, &[Some(Reply::Ok); 3], entries)
+}
+
+fn held(mode: Mode, start: u64, len: u64, pid: i64) -> Reply {
+    Reply::Held {
+        mode,
+        start,
+        len,
+        pid,
+    }
+}
+
+/// The requests of the script, taken in its order and answered so, have these entries.
+fn check_entries(
+    rt: &impl Abort,
+    alloc: Global,
+    script: &[u8],
+    replies: &[Option<Reply>],
+    entries: &[u8],
+) -> Result<(), Fail> {
+    let arrivals = parse(alloc, script).map_err(|_| "refused")?.arrivals;
+    assert_eq!(rt; arrivals.len(), replies.len());
+    let mut out = Vec::new(alloc);
+    for (index, (arrival, reply)) in arrivals.iter().zip(replies).enumerate() {
+        let (p, request) = *arrival;
+        let so_far = arrivals.iter().take(index + 1);
+        let n = so_far.filter(|other| other.0 == p).count() as u64;
+        let notes = notes_of(alloc, p, n, *reply)?;
+        let entry = Entry {
+            p,
+            n,
+            request,
+            notes,
+        };
+        write_entry(&entry, &mut out).map_err(|_| "no memory")?;
+    }
+    assert_eq!(rt; out.as_slice(), entries);
+    Ok(())
+}
+
+fn notes_of(alloc: Global, p: u8, n: u64, reply: Option<Reply>) -> Result<Vec<Note>, Fail> {
+    match reply {
+        Some(reply) => Ok(vec![in alloc; Note::Answer { p, n, reply }]?),
+        None => Ok(Vec::new(alloc)),
+    }
 }
 
 /// Each answer, behind what stood there before; a pid of 0 isn't written.

@@ -109,11 +109,18 @@ fn push_request(text: &mut String, request: &Request) -> Result<(), AllocError>
             let access = access_word(*access);
             write!(text, "open {file} {access}")
         }
+        Request::Dup { fd } => write!(text, "dup {fd}"),
+        Request::DupTo { fd, to } => write!(text, "dup2 {fd} {to}"),
+        Request::CloseFd { fd } => write!(text, "close {fd}"),
+        Request::Seek { fd, offset } => write!(text, "seek {fd} {offset}"),
+        Request::Resize { fd, size } => write!(text, "resize {fd} {size}"),
         Request::Lk { fd, cmd, lock } => {
             let name = command_word(*cmd);
             write!(text, "{name} ")?;
             push_lock(text, *fd, lock)
         }
+        Request::Fork { child } => write!(text, "fork {child}"),
+        Request::Exit => text.push_str("exit"),
     }
 }
 
@@ -154,6 +161,16 @@ fn push_reply(text: &mut String, reply: Reply) -> Result<(), AllocError>
     match reply {
         Reply::Ok => text.push_str("ok"),
         Reply::Fd(fd) => write!(text, "fd {fd}"),
+        Reply::Free => text.push_str("free"),
+        Reply::Held {
+            mode,
+            start,
+            len,
+            pid,
+        } => {
+            let mode = mode_word(mode);
+            write!(text, "held {mode} {start} {len} {pid}")
+        }
         Reply::Err(error) => text.push_str(error_name(error)),
     }
 }
@@ -171,7 +188,10 @@ fn command_word(cmd: LkCmd) -> &'static str
     ensures { result.now ≡ spec.lock_command_word cmd }
 {
     match cmd {
+        LkCmd::GetLk => "getlk",
         LkCmd::SetLk => "setlk",
+        LkCmd::OGetLk => "ogetlk",
+        LkCmd::OSetLk => "osetlk",
     }
 }
 
@@ -241,5 +261,6 @@ fn state_word(state: ProcState) -> &'static str
     match state {
         ProcState::Unborn => "unborn",
         ProcState::Live => "live",
+        ProcState::Ended => "ended",
     }
 }

@@ -113,6 +113,6 @@ fn is_reported(line: &ProcessLine) -> bool
 {
     match line.state {
         ProcState::Unborn => line.sent > 0,
-        ProcState::Live => true,
+        ProcState::Live | ProcState::Ended => true,
     }
 }

@@ -3,7 +3,7 @@ use Rattle.std.proofs.lemmas.Int.{to_z-of_z}
 use Rattle.std.proofs.lemmas.Result.{err_from_is_err_and}
 use Rattle.script_core.specs.RequestText.{lock_command_word}
 use Rattle.script_core.proofs.ArgumentLemmas.{five_texts, six_texts, bad_bare_lock, bad_lock, bad_pid, good_lock}
-use Rattle.script_core.proofs.line.read_lock.Goals as goal
+use Rattle.script_core.proofs.commands.read_lock.Goals as goal
 
 nothing : Bor (List ℕ)
 nothing = record { ref_ptr = (0, 0); now = [] }

@@ -1,0 +1,146 @@
+ghost use Rattle.std.specs.Prelude.{◌≡◌, pos, [], ◌∷◌, MatchResult, codes, decimal};
+ghost use Rattle.std.specs.Fmt.{signed_decimal};
+ghost use Rattle.fd_table.specs.declared.Limits.TheVariants.{Small};
+ghost use Rattle.script_core.specs.Words.{texts};
+ghost use Rattle.script_core.specs.RequestText.{lock_command_word, lock_words};
+ghost use Rattle.script_core.specs.Arguments.{DescriptorNumber, AnyNumber, IsFirstBad, AreRefused, open_command, dup_to_command, fork_command, exit_command, lock_arguments, lock_command};
+ghost use Rattle.script_core.specs.Reading.{CommandGives, RequestGives};
+
+use crate::Cause;
+use crate::arguments::{
+    read_access, read_descriptor, read_file, read_kind, read_number, read_process, read_whence,
+};
+use lock_manager::{LkCmd, Lock, Request};
+
+/// The request that a command of this name makes of its arguments.
+pub fn read_command(name: &str, arguments: &[&str]) -> Result<Request, Cause>
+    ensures { RequestGives Small (name.now ∷ texts arguments.now) result }
+{
+    match name {
+        "open" => read_open(arguments),
+        "dup" => read_descriptor_alone(arguments).map(|fd| Request::Dup { fd }),
+        "dup2" => read_dup_to(arguments),
+        "close" => read_descriptor_alone(arguments).map(|fd| Request::CloseFd { fd }),
+        "seek" => {
+            let (fd, offset) = read_descriptor_and_number(arguments)?;
+            Ok(Request::Seek { fd, offset })
+        }
+        "resize" => {
+            let (fd, size) = read_descriptor_and_number(arguments)?;
+            Ok(Request::Resize { fd, size })
+        }
+        "getlk" => read_lock(LkCmd::GetLk, arguments),
+        "setlk" => read_lock(LkCmd::SetLk, arguments),
+        "ogetlk" => read_lock(LkCmd::OGetLk, arguments),
+        "osetlk" => read_lock(LkCmd::OSetLk, arguments),
+        "fork" => read_fork(arguments),
+        "exit" => read_exit(arguments),
+        _ => Err(Cause::Word),
+    }
+}
+
+fn read_open(arguments: &[&str]) -> Result<Request, Cause>
+    ensures { CommandGives Small (codes "open" ∷ texts arguments.now) open_command (texts arguments.now) result }
+{
+    let [file, access] = arguments else {
+        return Err(Cause::Count);
+    };
+    let file = read_file(file)?;
+    let access = read_access(access)?;
+    Ok(Request::OpenFile { file, access })
+}
+
+/// The arguments of a command on a descriptor alone.
+fn read_descriptor_alone(arguments: &[&str]) -> Result<u32, Cause>
+    ensures { MatchResult result (λ fd. texts arguments.now ≡ decimal fd ∷ [])
+        (AreRefused Small (DescriptorNumber ∷ []) (texts arguments.now)) }
+{
+    match arguments {
+        [fd] => read_descriptor(fd),
+        _ => Err(Cause::Count),
+    }
+}
+
+/// The arguments of a command on a descriptor and a number.
+fn read_descriptor_and_number(arguments: &[&str]) -> Result<(u32, i64), Cause>
+    ensures { MatchResult result (λ pair. texts arguments.now ≡ decimal pair.0 ∷ signed_decimal pair.1 ∷ [])
+        (AreRefused Small (DescriptorNumber ∷ AnyNumber ∷ []) (texts arguments.now)) }
+{
+    match arguments {
+        [fd, number] => Ok((read_descriptor(fd)?, read_number(number)?)),
+        _ => Err(Cause::Count),
+    }
+}
+
+fn read_dup_to(arguments: &[&str]) -> Result<Request, Cause>
+    ensures { CommandGives Small (codes "dup2" ∷ texts arguments.now) dup_to_command (texts arguments.now) result }
+{
+    let [fd, to] = arguments else {
+        return Err(Cause::Count);
+    };
+    let fd = read_descriptor(fd)?;
+    let to = read_descriptor(to)?;
+    Ok(Request::DupTo { fd, to })
+}
+
+fn read_fork(arguments: &[&str]) -> Result<Request, Cause>
+    ensures { CommandGives Small (codes "fork" ∷ texts arguments.now) fork_command (texts arguments.now) result }
+{
+    let [child] = arguments else {
+        return Err(Cause::Count);
+    };
+    let child = read_process(child)?;
+    Ok(Request::Fork { child })
+}
+
+fn read_exit(arguments: &[&str]) -> Result<Request, Cause>
+    ensures { CommandGives Small (codes "exit" ∷ texts arguments.now) exit_command (texts arguments.now) result }
+{
+    match arguments {
+        [] => Ok(Request::Exit),
+        _ => Err(Cause::Count),
+    }
+}
+
+/// A lock command: its arguments, and then the pid where it is written.
+fn read_lock(cmd: LkCmd, arguments: &[&str]) -> Result<Request, Cause>
+    ensures { let name = lock_command_word cmd in
+        CommandGives Small (name ∷ texts arguments.now) (lock_command name) (texts arguments.now) result }
+{
+    match arguments {
+        [fd, kind, whence, start, len] => {
+            let (fd, lock) = read_described(fd, kind, whence, start, len)?;
+            Ok(Request::Lk { fd, cmd, lock })
+        }
+        [fd, kind, whence, start, len, pid] => {
+            let (fd, lock) = read_described(fd, kind, whence, start, len)?;
+            let pid = read_number(pid)?;
+            let lock = Lock { pid, ..lock };
+            Ok(Request::Lk { fd, cmd, lock })
+        }
+        _ => Err(Cause::Count),
+    }
+}
+
+/// A descriptor, and the lock that the words describe, with a pid of 0.
+fn read_described(
+    fd: &str,
+    kind: &str,
+    whence: &str,
+    start: &str,
+    len: &str,
+) -> Result<(u32, Lock), Cause>
+    ensures { let words = fd.now ∷ kind.now ∷ whence.now ∷ start.now ∷ len.now ∷ [] in
+        MatchResult result (λ described. (words ≡ lock_words described.0 described.1) × (described.1.pid ≡ pos 0))
+        (IsFirstBad Small lock_arguments words) }
+{
+    let fd = read_descriptor(fd)?;
+    let lock = Lock {
+        kind: read_kind(kind)?,
+        whence: read_whence(whence)?,
+        start: read_number(start)?,
+        len: read_number(len)?,
+        pid: 0,
+    };
+    Ok((fd, lock))
+}
