@@ -12,23 +12,22 @@ use Rattle.script_core.specs.ReportText.{IsReport}
 use Rattle.script_core.specs.Output.{IsOutput}
 use Rattle.lockreplay.specs.Devices.{ReadsWhole, TakesFront}
 
--- all that the source had was read, and its output was written
-pub record WritesOutput (read_old read_new written_old written_new : Option (List ℕ)) : Type 0 where
+-- all that the source had was read, and of its output so much was written
+pub record WritesOf (read_old read_new : Option (List ℕ)) (Written : List ℕ → Type 0) : Type 0 where
   pub input : List ℕ
   pub consumed : Consumes read_old read_new input
   pub ended : IsAtEnd read_new
   pub text : List ℕ
   pub is_output : IsOutput input text
-  pub written : Appends written_old written_new text
+  pub written : Written text
+
+-- all that the source had was read, and its output was written
+abbrev pub WritesOutput : (read_old read_new written_old written_new : Option (List ℕ)) → Type 0
+WritesOutput read_old read_new written_old written_new = WritesOf read_old read_new (λ text. Appends written_old written_new text)
 
 -- all that the source had was read, and a front of its output was written
-pub record WritesFront (read_old read_new written_old written_new : Option (List ℕ)) : Type 0 where
-  pub input : List ℕ
-  pub consumed : Consumes read_old read_new input
-  pub ended : IsAtEnd read_new
-  pub text : List ℕ
-  pub is_output : IsOutput input text
-  pub written : TakesFront written_old written_new text
+abbrev pub WritesFront : (read_old read_new written_old written_new : Option (List ℕ)) → Type 0
+WritesFront read_old read_new written_old written_new = WritesOf read_old read_new (λ text. TakesFront written_old written_new text)
 
 -- what was read isn't a script: this is its fault
 pub record ReadsFaulty (read_old read_new : Option (List ℕ)) (fault : ScriptFault) : Type 0 where

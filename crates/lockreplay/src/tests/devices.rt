@@ -6,7 +6,7 @@ use crate::replay::{RunFault, replay};
 use script_core::{Cause, SCRIPT_MAX, ScriptFault};
 use std::alloc::Global;
 use std::io;
-use std::io::Write;
+use std::io::{Read, Write};
 use std::test::Fail;
 
 const SCRIPT: &str = "1 open 0 rw
@@ -141,6 +141,42 @@ impl Write for Full {
     }
 }
 
+/// A reader that is interrupted at its first call, and then at its end.
+#[derive(Drop)]
+struct InterruptedReader {
+    was_called: bool,
+}
+
+impl Read for InterruptedReader {
+    fn read(&mut self, buf: &mut [u8]) -> io::Result<usize> {
+        if self.was_called {
+            return Ok(0);
+        }
+        self.was_called = true;
+        Err(io::Error::from(io::ErrorKind::Interrupted))
+    }
+}
+
+/// A writer that is interrupted at its first call, and then takes all.
+#[derive(Drop)]
+struct InterruptedWriter {
+    was_called: bool,
+}
+
+impl Write for InterruptedWriter {
+    fn write(&mut self, buf: &[u8]) -> io::Result<usize> {
+        if self.was_called {
+            return Ok(buf.len());
+        }
+        self.was_called = true;
+        Err(io::Error::from(io::ErrorKind::Interrupted))
+    }
+
+    fn flush(&mut self) -> io::Result<()> {
+        Ok(())
+    }
+}
+
 /// Where a source fails, the run is told so, and nothing is written: at each byte, and where the end would come.
 #[test]
 fn tells_a_source_that_fails(rt: HostRuntime) -> Result<(), Fail> {
@@ -212,6 +248,22 @@ fn tells_a_sink_that_fails(rt: HostRuntime) -> Result<(), Fail> {
 fn tells_a_writer_that_takes_nothing(rt: HostRuntime) -> Result<(), Fail> {
     let mut source = FromReader::new(SCRIPT.as_bytes());
     let mut sink = ToWriter::new(Full);
+    let result = replay(rt.alloc(), &mut source, &mut sink);
+    assert_eq!(rt; result, Err(RunFault::Write));
+    Ok(())
+}
+
+/// An interrupted call of a reader or a writer is a fault, as each error is, and isn't made again.
+#[test]
+fn tells_an_interrupted_call(rt: HostRuntime) -> Result<(), Fail> {
+    let mut source = FromReader::new(InterruptedReader { was_called: false });
+    let mut sink = ToWriter::new(Vec::new(rt.alloc()));
+    let result = replay(rt.alloc(), &mut source, &mut sink);
+    assert_eq!(rt; result, Err(RunFault::Read));
+    assert!(rt; sink.into_inner().is_empty());
+
+    let mut source = FromReader::new(SCRIPT.as_bytes());
+    let mut sink = ToWriter::new(InterruptedWriter { was_called: false });
     let result = replay(rt.alloc(), &mut source, &mut sink);
     assert_eq!(rt; result, Err(RunFault::Write));
     Ok(())
