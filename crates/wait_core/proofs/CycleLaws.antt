@@ -14,7 +14,7 @@ use Rattle.wait_core.specs.declared.Wait.{Wait}
 use Rattle.wait_core.specs.Locks.{Locks}
 use Rattle.wait_core.specs.Cycles.{IsTraditional, IsBlockedByProcess, WaitsFor, IsChain, ClosesCycle}
 use Rattle.wait_core.specs.Pairs.{IsConflictOf}
-use Rattle.wait_core.specs.FreeOfCycles.{FreeWhenOneJoins, FreeWhenOneLeaves, FreeWhenLocksChange}
+use Rattle.wait_core.specs.FreeOfCycles.{FreeWhenOneJoins, FreeWhenOneLeaves, FreeWhenLocksChange, FreeWhenDescriptionLocksChange}
 use Rattle.wait_core.proofs.AnyLemmas.{Any-weaker, Any-unfilter, split_within, split_is}
 use Rattle.wait_core.proofs.ReachLemmas.{chain_append, chain_start, not_own_blocker}
 
@@ -227,3 +227,19 @@ free_when_locks_change policy old new waits owner free agree others p (through, 
     } in kept) in
     let first : (r : ℕ) × Step p r = chain_start Step (λ n. (r : ℕ) × Step n r) (λ a b step. (b, step)) p through p chain in
     free p (through, chain_on Step (WaitsFor policy old waits) on p through p first.0 chain first.1)
+
+-- a step by other locks of descriptions alone was a step before
+step_kept : (policy : Policy) (old new : Locks) (waits : List Wait) (p q : ℕ) → ((file r byte : ℕ) → new.bytes file (Process r) byte ≡ old.bytes file (Process r) byte) → WaitsFor policy new waits p q → WaitsFor policy old waits p q
+step_kept policy old new waits p q agree step = record {
+  before = step.before;
+  wait = step.wait;
+  after = step.after;
+  place = step.place;
+  of_p = step.of_p;
+  traditional = step.traditional;
+  blocked = blocked_kept policy old new step.before step.wait q (λ byte. agree step.wait.file q byte) step.blocked;
+}
+
+pub free_when_description_locks_change : FreeWhenDescriptionLocksChange
+free_when_description_locks_change policy old new waits free agree p (through, chain) =
+    free p (through, chain_weaker (WaitsFor policy new waits) (WaitsFor policy old waits) (λ a b step. step_kept policy old new waits a b agree step) p through p chain)

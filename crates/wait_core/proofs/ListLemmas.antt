@@ -37,38 +37,39 @@ length-numbers_of : (waits : List Wait) → length (map (λ (wait : Wait). wait.
 length-numbers_of [] = refl
 length-numbers_of (w ∷ waits) = ap (λ n. suc n) (length-numbers_of waits)
 
-apart_numbers : (d : Wait) (waits : List Wait) → AllPairs (λ v w. v.p ≢ w.p) waits → AllPairs (λ (x y : ℕ). x ≢ y) (map (λ (wait : Wait). wait.p) waits)
-apart_numbers d waits apart i j e before within same =
-    let count = length-numbers_of waits in
-    let j_within : j < length waits = omega arith in
-    let i_within : i < length waits = omega arith in
-    apart i j d before j_within
-    (sym (get_or-map (λ (wait : Wait). wait.p) waits i d e i_within) ∙ same ∙ get_or-map (λ (wait : Wait). wait.p) waits j d e j_within)
+apart_numbers : (waits : List Wait) → AllPairs (λ v w. v.p ≢ w.p) waits → AllPairs (λ (x y : ℕ). x ≢ y) (map (λ (wait : Wait). wait.p) waits)
+apart_numbers [] apart i j e before within same = omega (arith, within)
+apart_numbers (wait ∷ waits) apart i j e before within same =
+    let count = length-numbers_of (wait ∷ waits) in
+    let j_within : j < length (wait ∷ waits) = omega (arith, within, count) in
+    let i_within : i < length (wait ∷ waits) = omega (arith, before, j_within) in
+    apart i j wait before j_within
+    (sym (get_or-map (λ (w : Wait). w.p) (wait ∷ waits) i wait e i_within) ∙ same ∙ get_or-map (λ (w : Wait). w.p) (wait ∷ waits) j wait e j_within)
 
--- a list of waits of so many processes has room for one more process
-pub room_for : (processes : ℕ) (waits : List Wait) (wait : Wait) → All (IsWellFormed processes) waits → AllPairs (λ v w. v.p ≢ w.p) waits → wait_of waits wait.p ≡ None → IsWellFormed processes wait → length waits < processes
-room_for processes waits wait each apart none fits =
+-- while a process has no wait, there are fewer waits than processes
+pub room_for : (processes : ℕ) (waits : List Wait) (p : ℕ) → All (IsWellFormed processes) waits → AllPairs (λ v w. v.p ≢ w.p) waits → 1 ≤ p → p ≤ processes → wait_of waits p ≡ None → length waits < processes
+room_for processes waits p each apart from_one within none =
     let numbers : List ℕ = map (λ (v : Wait). v.p) waits in
-    let others : All (λ n. wait.p ≢ n) numbers =
-    All-map (λ n. wait.p ≢ n) (λ (v : Wait). v.p) waits
-    (All-weaker (λ (v : Wait). v.p ≢ wait.p) (λ (v : Wait). wait.p ≢ v.p) (λ v other same. other (sym same)) waits (none_of waits wait.p none)) in
-    let positive : All (λ n. 0 ≢ n) (wait.p ∷ numbers) =
-    All-cons (λ n. 0 ≢ n) wait.p numbers (λ zero_p. (let h = fits.from_one in omega arith))
+    let others : All (λ n. p ≢ n) numbers =
+    All-map (λ n. p ≢ n) (λ (v : Wait). v.p) waits
+    (All-weaker (λ (v : Wait). v.p ≢ p) (λ (v : Wait). p ≢ v.p) (λ v other same. other (sym same)) waits (none_of waits p none)) in
+    let positive : All (λ n. 0 ≢ n) (p ∷ numbers) =
+    All-cons (λ n. 0 ≢ n) p numbers (λ zero_p. omega arith)
     (All-map (λ n. 0 ≢ n) (λ (v : Wait). v.p) waits
     (All-weaker (IsWellFormed processes) (λ (v : Wait). 0 ≢ v.p) (λ v known zero_p. (let h = known.from_one in omega arith)) waits each)) in
-    let distinct = IsDistinct-from_AllPairs Decides-eqb (0 ∷ wait.p ∷ numbers)
-    (AllPairs-cons (λ (x y : ℕ). x ≢ y) 0 (wait.p ∷ numbers) positive
-    (AllPairs-cons (λ (x y : ℕ). x ≢ y) wait.p numbers others (apart_numbers wait waits apart))) in
-    let small : All (λ n. n < processes + 1) (0 ∷ wait.p ∷ numbers) =
-    All-cons (λ n. n < processes + 1) 0 (wait.p ∷ numbers) (omega arith)
-    (All-cons (λ n. n < processes + 1) wait.p numbers (let h = fits.process in omega arith)
+    let distinct = IsDistinct-from_AllPairs Decides-eqb (0 ∷ p ∷ numbers)
+    (AllPairs-cons (λ (x y : ℕ). x ≢ y) 0 (p ∷ numbers) positive
+    (AllPairs-cons (λ (x y : ℕ). x ≢ y) p numbers others (apart_numbers waits apart))) in
+    let small : All (λ n. n < processes + 1) (0 ∷ p ∷ numbers) =
+    All-cons (λ n. n < processes + 1) 0 (p ∷ numbers) (omega arith)
+    (All-cons (λ n. n < processes + 1) p numbers (omega arith)
     (All-map (λ n. n < processes + 1) (λ (v : Wait). v.p) waits
     (All-weaker (IsWellFormed processes) (λ (v : Wait). v.p < processes + 1) (λ v known. (let h = known.process in omega arith)) waits each))) in
-    let most : length (0 ∷ wait.p ∷ numbers) ≤ processes + 1 =
-    length-le_from_distinct_below (0 ∷ wait.p ∷ numbers) (processes + 1) distinct
+    let most : length (0 ∷ p ∷ numbers) ≤ processes + 1 =
+    length-le_from_distinct_below (0 ∷ p ∷ numbers) (processes + 1) distinct
     (λ q among.
-    let (k, n, within, is, test) = Any-from_list_any (λ n. q == n) (0 ∷ wait.p ∷ numbers) among in
-    let below : n < processes + 1 = subst (λ (m : ℕ). m < processes + 1) is (small k n within) in
+    let (k, n, inside, is, test) = Any-from_list_any (λ n. q == n) (0 ∷ p ∷ numbers) among in
+    let below : n < processes + 1 = subst (λ (m : ℕ). m < processes + 1) is (small k n inside) in
     let same : q ≡ n = grind (arith, nat_tests) in omega arith) in
     let count = length-numbers_of waits in omega arith
 

@@ -142,6 +142,14 @@ impl Waits {
         self.waits.get(i).copied()
     }
 
+    /// The waits, in order of arrival. While a process has no wait, there are fewer waits than processes.
+    pub fn list(&self) -> &[Wait]
+        ensures waits { result.now ≡ waits_of self.now }
+        ensures few { (p : ℕ) → 1 ≤ p → p ≤ processes_of self.now → wait_of (waits_of self.now) p ≡ None → length (waits_of self.now) < processes_of self.now }
+    {
+        &self.waits
+    }
+
     /// Whether the wait at this place is blocked.
     fn is_blocked(&self, i: usize, books: &[Book]) -> bool
         requires place { i < length (waits_of self.now) }

@@ -21,7 +21,7 @@ impl Waits {
         requires traditional { IsTraditional wait.now }
         requires well_formed { IsWellFormed (processes_of self.now) wait.now }
         requires books { length books.now ≡ 64 }
-        requires told { AreTold self.now (locks_of books.now) }
+        requires told { ∥ AreTold self.now (locks_of books.now) ∥₁ }
         ensures { IsTrue result ↔ ClosesCycle (policy_of self.now) (locks_of books.now) (waits_of self.now) wait.now }
     {
         let mut reached = self.blockers(wait, books);

@@ -14,7 +14,7 @@ unfolding waits_of processes_of
 push_reserved-requires c =
     let self = c.args.self.now in
     let few : length self.waits.items < self.processes =
-    room_for self.processes self.waits.items c.args.wait self.well_formed self.apart c.requires.none c.requires.well_formed in
+    room_for self.processes self.waits.items c.args.wait.p self.well_formed self.apart c.requires.well_formed.from_one c.requires.well_formed.process c.requires.none in
     let room : self.processes ≤ vec_capacity self.waits = self.room in
     let len : vec_len self.waits ≡ length self.waits.items = self.waits.ok.0 in
     omega arith
