@@ -1,5 +1,6 @@
 -- What a request comes to is determined, and so is the step.
-use Rattle.std.proofs.Common.{◌≡◌, ℕ, ℤ, List, [], ◌++◌, ◌||◌, sym, ◌∙◌, ap₂, subst, Result}
+use Rattle.std.proofs.Common.{◌≡◌, ℕ, ℤ, List, [], ◌∷◌, ◌++◌, ◌==◌, ◌||◌, sym, ◌∙◌, ap₂, subst, Some, Result}
+use Rattle.std.proofs.lemmas.Option.{same_Some}
 use Rattle.std.specs.Prelude.{MatchResult}
 use Rattle.range_core.specs.declared.Kind.{Kind}
 use Rattle.range_core.specs.declared.Mode.{Mode}
@@ -12,22 +13,26 @@ use Rattle.fd_table.specs.declared.tables.Look.{Look}
 use Rattle.fd_table.specs.Descriptors.{Descriptors, look_at}
 use Rattle.fd_table.specs.Calls.{OpenGives, DupGives, DupToGives, CloseGives, SeekGives, ResizeGives, ForkGives, EndGives}
 use Rattle.wait_core.specs.declared.Wait.{Wait}
-use Rattle.wait_core.specs.Blocking.{IsBlockedByLock}
+use Rattle.wait_core.specs.Blocking.{IsBlockedByLock, IsBlocked}
+use Rattle.wait_core.specs.Cycles.{ClosesCycle}
+use Rattle.wait_core.specs.WaitsView.{wait_of}
 use Rattle.lock_manager.specs.declared.request.Rules.{Rules}
 use Rattle.lock_manager.specs.declared.request.Lock.{Lock}
 use Rattle.lock_manager.specs.declared.request.LkCmd.{LkCmd}
-use Rattle.lock_manager.specs.declared.request.LkCmd.TheVariants.{GetLk, SetLk, OGetLk, OSetLk}
+use Rattle.lock_manager.specs.declared.request.LkCmd.TheVariants.{GetLk, SetLk, SetLkW, OGetLk, OSetLk, OSetLkW}
 use Rattle.lock_manager.specs.declared.request.Request.{Request}
-use Rattle.lock_manager.specs.declared.request.Request.TheVariants.{OpenFile, Dup, DupTo, CloseFd, Seek, Resize, Lk, Fork, Exit}
+use Rattle.lock_manager.specs.declared.request.Request.TheVariants.{OpenFile, Dup, DupTo, CloseFd, Seek, Resize, Lk, Fork, Exit, Signal, Kill}
 use Rattle.lock_manager.specs.declared.request.Reply.TheVariants as replies
-use Rattle.lock_manager.specs.declared.request.ProcState.TheVariants.{Live}
+use Rattle.lock_manager.specs.declared.request.ProcState.{ProcState}
+use Rattle.lock_manager.specs.declared.request.ProcState.TheVariants.{Unborn, Live, Waiting, Ended}
 use Rattle.lock_manager.specs.State.{State, locks_held, with_process}
 use Rattle.lock_manager.specs.Outcomes.{Outcome, answered, IsRefusal}
 use Rattle.lock_manager.specs.declared.request.Note.{Note}
+use Rattle.lock_manager.specs.declared.request.Note.TheVariants.{Answer}
 use Rattle.lock_manager.specs.DescriptorCalls.{OpenComesTo, DupComesTo, DupToComesTo, CloseComesTo, SeekComesTo, ResizeComesTo, with_released}
 use Rattle.lock_manager.specs.LockWords.{is_get, is_bad_argument, wanted_mode, permits, wanted_lock}
-use Rattle.lock_manager.specs.LockCommands.{GetComesTo, SetComesTo, CommandComesTo, ModeComesTo, RangeComesTo, DescribedComesTo, LockComesTo}
-use Rattle.lock_manager.specs.ProcessCalls.{ForkComesTo, EndComesTo}
+use Rattle.lock_manager.specs.LockCommands.{GetComesTo, SetComesTo, SetOrWaitComesTo, WaitOrDeadlockComesTo, CommandComesTo, ModeComesTo, RangeComesTo, DescribedComesTo, LockComesTo}
+use Rattle.lock_manager.specs.ProcessCalls.{ForkComesTo, EndComesTo, SignalComesTo, KillOtherComesTo, KillComesTo}
 use Rattle.lock_manager.specs.Settling.{Settles}
 use Rattle.lock_manager.specs.Step.{ComesTo}
 use Rattle.lock_manager.specs.OneOutcome.{StepHasOneOutcome}
@@ -92,6 +97,26 @@ EndComesTo-unique : (S : State) (p : ℕ) (told : List Note) → AtMostOne (EndC
 EndComesTo-unique S p told =
     by_two (EndGives S.descriptors p) _ (EndGives-unique S.descriptors p) (λ released descriptors. one_value _)
 
+-- the wait of a process is one
+wait-unique : (S : State) (p : ℕ) → AtMostOne (λ wait. wait_of S.waits p ≡ Some wait)
+wait-unique S p x y h k = same_Some x y (sym h ∙ k)
+
+SignalComesTo-unique : (S : State) (p n target : ℕ) (state : ProcState) → AtMostOne (SignalComesTo S p n target state)
+SignalComesTo-unique S p n target Unborn = one_value _
+SignalComesTo-unique S p n target Ended = one_value _
+SignalComesTo-unique S p n target Live = one_value _
+SignalComesTo-unique S p n target Waiting = by_one _ _ (wait-unique S target) (λ wait. one_value _)
+
+KillOtherComesTo-unique : (S : State) (p n target : ℕ) (state : ProcState) → AtMostOne (KillOtherComesTo S p n target state)
+KillOtherComesTo-unique S p n target Unborn = one_value _
+KillOtherComesTo-unique S p n target Ended = one_value _
+KillOtherComesTo-unique S p n target Live = EndComesTo-unique S target (Answer p n replies.Ok ∷ [])
+KillOtherComesTo-unique S p n target Waiting = EndComesTo-unique S target (Answer p n replies.Ok ∷ [])
+
+KillComesTo-unique : (S : State) (p n target : ℕ) → AtMostOne (KillComesTo S p n target)
+KillComesTo-unique S p n target =
+    MatchBool-unique (target == p) _ _ (EndComesTo-unique S p []) (KillOtherComesTo-unique S p n target (S.states target))
+
 -- what a get command answers is one outcome
 GetComesTo-unique : (S : State) (wanted : Wait) → AtMostOne (GetComesTo S wanted)
 GetComesTo-unique S wanted = MatchFact-unique _ _ _ (by_one _ _ (IsFirstBlocker-unique _ _ _ _) (λ blocker. one_value _)) (one_value _)
@@ -99,11 +124,22 @@ GetComesTo-unique S wanted = MatchFact-unique _ _ _ (by_one _ _ (IsFirstBlocker-
 SetComesTo-unique : (S : State) (wanted : Wait) → AtMostOne (SetComesTo S wanted)
 SetComesTo-unique S wanted = MatchFact-unique (IsBlockedByLock (locks_held S) wanted) _ _ (one_value _) (one_value _)
 
+SetOrWaitComesTo-unique : (rules : Rules) (S : State) (wanted : Wait) → AtMostOne (SetOrWaitComesTo rules S wanted)
+SetOrWaitComesTo-unique rules S wanted = MatchFact-unique (IsBlocked rules.policy (locks_held S) S.waits wanted) _ _ (one_value _) (one_value _)
+
+WaitOrDeadlockComesTo-unique : (rules : Rules) (S : State) (wanted : Wait) → AtMostOne (WaitOrDeadlockComesTo rules S wanted)
+WaitOrDeadlockComesTo-unique rules S wanted =
+    MatchFact-unique (IsBlocked rules.policy (locks_held S) S.waits wanted) _ _
+    (MatchFact-unique (ClosesCycle rules.policy (locks_held S) S.waits wanted) _ _ (one_value _) (one_value _))
+    (one_value _)
+
 CommandComesTo-unique : (rules : Rules) (S : State) (cmd : LkCmd) (wanted : Wait) → AtMostOne (CommandComesTo rules S cmd wanted)
 CommandComesTo-unique rules S GetLk wanted = GetComesTo-unique S wanted
 CommandComesTo-unique rules S OGetLk wanted = GetComesTo-unique S wanted
 CommandComesTo-unique rules S SetLk wanted = SetComesTo-unique S wanted
 CommandComesTo-unique rules S OSetLk wanted = SetComesTo-unique S wanted
+CommandComesTo-unique rules S SetLkW wanted = WaitOrDeadlockComesTo-unique rules S wanted
+CommandComesTo-unique rules S OSetLkW wanted = SetOrWaitComesTo-unique rules S wanted
 
 ModeComesTo-unique : (rules : Rules) (S : State) (p n : ℕ) (cmd : LkCmd) (look : Look) (span : Span) (mode : Mode) → AtMostOne (ModeComesTo rules S p n cmd look span mode)
 ModeComesTo-unique rules S p n cmd look span mode =
@@ -134,6 +170,8 @@ ComesTo-unique rules processes S p n (Seek fd offset) = SeekComesTo-unique S p n
 ComesTo-unique rules processes S p n (Resize fd size) = ResizeComesTo-unique S p n fd size
 ComesTo-unique rules processes S p n (Fork child) = ForkComesTo-unique processes S p n child
 ComesTo-unique rules processes S p n Exit = EndComesTo-unique S p []
+ComesTo-unique rules processes S p n (Signal target) = SignalComesTo-unique S p n target (S.states target)
+ComesTo-unique rules processes S p n (Kill target) = KillComesTo-unique S p n target
 ComesTo-unique rules processes S p n (Lk fd cmd lock) = LockComesTo-unique rules S p n fd cmd lock
 
 -- the step has one outcome

@@ -1,11 +1,11 @@
 -- Where the processes stand after one of them has changed.
-use Rattle.std.proofs.Common.{ℕ, zero, suc, ◌≡◌, ◌<◌, ◌≤◌, ◌+◌, None, refl, ap, List, length, Bool, true, false, sym, ◌∙◌, inl, inr, arith}
+use Rattle.std.proofs.Common.{ℕ, zero, suc, ◌≡◌, ◌≢◌, ◌<◌, ◌≤◌, ◌+◌, None, refl, ap, List, length, Bool, true, false, sym, ◌∙◌, inl, inr, arith}
 use Rattle.std.specs.Prelude.{slice_get, slice_set, ◌==◌, ◌||◌, if◌then◌else◌, unwrap_or}
 use Rattle.std.proofs.lemmas.Bool.{cases_lt}
 use Rattle.std.proofs.lemmas.Option.{slice_get_past}
 use Rattle.std.proofs.lemmas.Bool.Decides.{eqb_tells}
 use Rattle.lock_manager.specs.declared.request.ProcState.{ProcState}
-use Rattle.lock_manager.specs.declared.request.ProcState.TheVariants.{Unborn, Live}
+use Rattle.lock_manager.specs.declared.request.ProcState.TheVariants.{Unborn, Live, Waiting}
 use Rattle.lock_manager.specs.State.{state_numbered}
 use Rattle.lock_manager.proofs.BookLemmas.{slice_get-set_same, slice_get-set_other}
 
@@ -33,10 +33,42 @@ alive_with states was is child place at within more before q live =
     counted true lives = refl
     counted false lives = before q lives
 
--- a process that lives has a place
-pub place_of_live : (states : List ProcState) (p : ℕ) → state_numbered states p ≡ Live → (1 ≤ p) × (p ≤ length states)
-place_of_live states zero live = cc
-place_of_live states (suc k) live = elim (cases_lt k (length states)) [
+-- a process that was born has a place
+pub place_of_born : (states : List ProcState) (p : ℕ) → state_numbered states p ≢ Unborn → (1 ≤ p) × (p ≤ length states)
+place_of_born states zero born = absurd (born refl)
+place_of_born states (suc k) born = elim (cases_lt k (length states)) [
   | inl within ↦ (omega arith, omega arith)
-  | inr past ↦ absurd (let gone : slice_get states k ≡ None = slice_get_past states k past in cc)
+  | inr past ↦ absurd (let gone : slice_get states k ≡ None = slice_get_past states k past in born (ap (λ o. unwrap_or o Unborn) gone))
 ]
+
+-- so has one that lives
+pub place_of_live : (states : List ProcState) (p : ℕ) → state_numbered states p ≡ Live → (1 ≤ p) × (p ≤ length states)
+place_of_live states p live = place_of_born states p (λ unborn. cc)
+
+-- and one that waits
+pub place_of_waiting : (states : List ProcState) (p : ℕ) → state_numbered states p ≡ Waiting → (1 ≤ p) × (p ≤ length states)
+place_of_waiting states p waits = place_of_born states p (λ unborn. cc)
+
+-- whoever waits waits on while the state of another process changes
+pub waiting_still : (states : List ProcState) (p place : ℕ) (state : ProcState) → p ≡ place + 1 → place < length states → (q : ℕ) → q ≢ p
+    → state_numbered states q ≡ Waiting → state_numbered (slice_set states place state) q ≡ Waiting
+waiting_still states p place state at within q other waits = elim (eqb_tells q p) [
+  | inl same ↦ absurd (other same.1)
+  | inr differs ↦ state_numbered-set states p place state at within q ∙ rw differs.0 waits
+]
+
+-- where one process' state becomes another than Waiting, whoever waits is another one, and waited before
+pub waited_before : (states : List ProcState) (p place : ℕ) (state : ProcState) → p ≡ place + 1 → place < length states → state ≢ Waiting
+    → (q : ℕ) → state_numbered (slice_set states place state) q ≡ Waiting → (q ≢ p) × (state_numbered states q ≡ Waiting)
+waited_before states p place state at within other q waits = elim (eqb_tells q p) [
+  | inl same ↦ absurd (other (ap (λ b. if b then state else state_numbered states q) (sym same.0) ∙ sym (state_numbered-set states p place state at within q) ∙ waits))
+  | inr differs ↦ (differs.1, ap (λ b. if b then state else state_numbered states q) (sym differs.0) ∙ sym (state_numbered-set states p place state at within q) ∙ waits)
+]
+
+-- whoever was ever alive was so after one process more
+pub alive_still : (was is : ℕ → Bool) (child : ℕ) → ((q : ℕ) → is q ≡ ((q == child) || was q)) → (q : ℕ) → was q ≡ true → is q ≡ true
+alive_still was is child more q alive = more q ∙ ap (λ b. (q == child) || b) alive ∙ either (q == child)
+  where
+    either : (b : Bool) → (b || true) ≡ true
+    either true = refl
+    either false = refl

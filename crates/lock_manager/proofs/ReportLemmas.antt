@@ -8,9 +8,9 @@ use Rattle.lock_book.specs.Conflicts.{ByteModes, FlockModes}
 use Rattle.lock_book.specs.Reports.{IsFileReport, AreFileReports, IsHeldReport}
 use Rattle.lock_book.specs.Changes.{mode_in, flock_mode_in}
 use Rattle.wait_core.specs.Locks.{Locks, locks_of, byte_modes_at, flock_modes_at}
-use Rattle.lock_manager.specs.declared.manager.Manager.{Manager}
+use Rattle.lock_manager.specs.declared.machine.Machine.{Machine}
 use Rattle.lock_manager.specs.State.{State, locks_held}
-use Rattle.lock_manager.specs.ManagerView.{StandsFor, locks_in_books}
+use Rattle.lock_manager.specs.MachineView.{Shows, machine_locks}
 
 -- the report of one more file
 reports_push : (first n : ℕ) (bytes : ℕ → ByteModes) (flocks : ℕ → FlockModes) (xs ys : List Held) (file : ℕ)
@@ -40,14 +40,14 @@ reports_more books file book xs ys was before report =
     (subst (λ e. IsFileReport file (byte_modes_at e) (flock_modes_at e) ys) (sym was) report))
 
 -- the locks are one record of functions, equal at each place
-pub same_locks : (m : Manager) (S : State) → StandsFor m S → locks_in_books m ≡ locks_held S
+pub same_locks : (m : Machine) (S : State) → Shows m S → machine_locks m ≡ locks_held S
 same_locks m S h i = record { bytes = λ file owner byte. h.bytes file owner byte i; flocks = λ file description. h.flocks file description i }
 
--- what is held in the books is what is held in each state that the manager stands for
-pub held_in_state : (m : Manager) (S : State) (files : ℕ) (report : List Held) → files ≡ 64 → StandsFor m S
+-- what is held in the books is what is held in each state that the machine stands for
+pub held_in_state : (m : Machine) (S : State) (files : ℕ) (report : List Held) → files ≡ 64 → Shows m S
     → AreFileReports 0 files (locks_of m.books.items).bytes (locks_of m.books.items).flocks report
     → IsHeldReport (mode_in S.changes) (flock_mode_in S.flock_changes) report
-unfolding locks_in_books IsHeldReport
+unfolding machine_locks IsHeldReport
 held_in_state m S files report all_files h all =
     subst (λ n. AreFileReports 0 n (mode_in S.changes) (flock_mode_in S.flock_changes) report) all_files
     (subst (λ (locks : Locks). AreFileReports 0 files locks.bytes locks.flocks report) (same_locks m S h) all)

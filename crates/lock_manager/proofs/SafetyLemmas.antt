@@ -19,11 +19,11 @@ use Rattle.wait_core.specs.declared.Policy.{Policy}
 use Rattle.wait_core.specs.declared.Wait.{Wait}
 use Rattle.wait_core.specs.Locks.{Locks, locks_of}
 use Rattle.wait_core.specs.Cycles.{IsFreeOfCycles, WaitsFor, IsChain}
-use Rattle.lock_manager.specs.Safety.{AreCompatible, IsSafe}
+use Rattle.lock_manager.specs.Safety.{AreCompatible}
 use Rattle.lock_manager.specs.Opening.{HoldsNothing}
 
 -- two owners that are found the same are the same
-same_owner : (a b : Owner) → is_same_owner a b ≡ true → a ≡ b
+pub same_owner : (a b : Owner) → is_same_owner a b ≡ true → a ≡ b
 same_owner (Process p) (Process q) e = ap Process (eqb-true p q e)
 same_owner (Process p) (Description d) e = cc
 same_owner (Description d) (Process p) e = cc
@@ -69,13 +69,8 @@ no_chain policy locks p [] q step = no_place step.before step.wait step.after st
 no_chain policy locks p (next ∷ through) q steps = no_place steps.0.before steps.0.wait steps.0.after steps.0.place
 
 -- nothing is led anywhere without waits
-free_without_waits : (policy : Policy) (locks : Locks) → IsFreeOfCycles policy locks []
+pub free_without_waits : (policy : Policy) (locks : Locks) → IsFreeOfCycles policy locks []
 free_without_waits policy locks p led = no_chain policy locks p led.0 p led.1
-
--- with no waits it is enough that no owners conflict
-pub safe_without_waits : (policy : Policy) (locks : Locks) → AreCompatible locks → IsSafe policy locks []
-safe_without_waits policy locks compatible =
-    record { compatible = compatible; settled = tt; free_of_cycles = free_without_waits policy locks }
 
 -- of two owners with conflicting modes after a change, neither is the one that changed without standing against the other before
 no_conflict : (locks : Locks) (file : ℕ) (owner : Owner) (span : Span) (mode : Option Mode) → AreCompatible locks
@@ -134,24 +129,23 @@ compatible_same old new before bytes flocks = record {
       before.flocks f one other m k distinct (sym (flocks f one) ∙ m_is) (sym (flocks f other) ∙ k_is);
 }
 
--- one book's change that nothing blocks, or that was refused, leaves the locks safe
-pub safe_after : (policy : Policy) (books : List Book) (file : ℕ) (old new : Book) (owner : Owner) (span : Span) (mode : Option Mode) (result : Result (Unit {0}) Memory)
+-- one book's change that nothing blocks, or that was refused, makes no conflict
+pub compatible_after : (books : List Book) (file : ℕ) (old new : Book) (owner : Owner) (span : Span) (mode : Option Mode) (result : Result (Unit {0}) Memory)
     → file < length books → slice_get books file ≡ Some old
     → ((m : Mode) → mode ≡ Some m → ¬ ByteConflict ((locks_of books).bytes file) owner span m)
     → OnOk result (SetsOwnerMode old new owner span mode) → OnErr result (SameBook old new)
-    → IsSafe policy (locks_of books) [] → IsSafe policy (locks_of (slice_set books file new)) []
-safe_after policy books file old new owner span mode result within was free sets same before =
-    safe_without_waits policy (locks_of (slice_set books file new))
-    (after_set AreCompatible books file old new owner span mode result within was sets same
-    (compatible_set (locks_of books) (locks_of (slice_set books file new)) file owner span mode before.compatible free)
-    (compatible_same (locks_of books) (locks_of (slice_set books file new)) before.compatible))
+    → AreCompatible (locks_of books) → AreCompatible (locks_of (slice_set books file new))
+compatible_after books file old new owner span mode result within was free sets same before =
+    after_set AreCompatible books file old new owner span mode result within was sets same
+    (compatible_set (locks_of books) (locks_of (slice_set books file new)) file owner span mode before free)
+    (compatible_same (locks_of books) (locks_of (slice_set books file new)) before)
 
 -- where there are no locks none conflict
-pub safe_without_locks : (policy : Policy) (books : List Book) → All HoldsNothing books → IsSafe policy (locks_of books) []
-safe_without_locks policy books empty =
-    safe_without_waits policy (locks_of books) (record {
+pub compatible_without_locks : (books : List Book) → All HoldsNothing books → AreCompatible (locks_of books)
+compatible_without_locks books empty =
+    record {
       bytes = λ f one other byte m k distinct m_is k_is.
           absurd (let none = unlocked_bytes books empty f one byte in cc);
       flocks = λ f one other m k distinct m_is k_is.
           absurd (let none = unlocked_flocks books empty f one in cc);
-    })
+    }

@@ -12,6 +12,7 @@ use Rattle.fd_table.specs.declared.tables.Tables.{Tables}
 use Rattle.fd_table.specs.Descriptors.{Descriptors, OpenFileDescription, description_numbered}
 use Rattle.fd_table.specs.Calls.{OpenGives, DupGives, ForkGives, SeekGives, ResizeGives}
 use Rattle.fd_table.specs.TablesView.{StandFor}
+use Rattle.wait_core.specs.declared.Wait.{Wait}
 use Rattle.wait_core.specs.Locks.{Locks}
 use Rattle.lock_manager.specs.DescriptionLocks.{AreOwned}
 use Rattle.lock_manager.proofs.BookLemmas.{slice_get-set_same, slice_get-set_other}
@@ -51,18 +52,14 @@ given_stays : (D E : Descriptors) (p fd number : ℕ) → D.description_of p fd 
     → ((q k : ℕ) → E.description_of q k ≡ (if (q == p) && (k == fd) then Some number else D.description_of q k))
     → ((d file : ℕ) → file_of D.descriptions d ≡ Some file → file_of E.descriptions d ≡ Some file)
     → StayOpen D E
-given_stays D E p fd number free given files f d is =
-    let q = is.is_open.process in
-    let k = is.is_open.fd in
+given_stays D E p fd number free given files f d q is =
+    let k = is.fd in
     let was_free : ((q == p) && (k == fd)) ≡ true → D.description_of q k ≡ None = λ e.
     let place : ((q == p) ≡ true) × ((k == fd) ≡ true) = both (q == p) (k == fd) e in
     ap (λ r. D.description_of r k) (eqb-true q p place.0) ∙ ap (D.description_of p) (eqb-true k fd place.1) ∙ free in
     record {
-      is_open = record {
-        process = q;
-        fd = k;
-        refers = given q k ∙ other_refers D p fd q k number d ((q == p) && (k == fd)) was_free is.is_open.refers;
-      };
+      fd = k;
+      refers = given q k ∙ other_refers D p fd q k number d ((q == p) && (k == fd)) was_free is.refers;
       of_file = files d f is.of_file;
     }
 
@@ -70,15 +67,8 @@ given_stays D E p fd number free given files f d is =
 same_stays : (D E : Descriptors) → ((q k : ℕ) → E.description_of q k ≡ D.description_of q k)
     → ((d file : ℕ) → file_of D.descriptions d ≡ Some file → file_of E.descriptions d ≡ Some file)
     → StayOpen D E
-same_stays D E refers files f d is =
-    record {
-      is_open = record {
-        process = is.is_open.process;
-        fd = is.is_open.fd;
-        refers = refers is.is_open.process is.is_open.fd ∙ is.is_open.refers;
-      };
-      of_file = files d f is.of_file;
-    }
+same_stays D E refers files f d q is =
+    record { fd = is.fd; refers = refers q is.fd ∙ is.refers; of_file = files d f is.of_file }
 
 -- the same descriptions have the same files
 same_files : (xs ys : List OpenFileDescription) → ys ≡ xs → (d file : ℕ) → file_of xs d ≡ Some file → file_of ys d ≡ Some file
@@ -131,27 +121,23 @@ not_child D p child q k d false none refers = refers
 
 -- so does a fork, since the child had no descriptor before
 pub forked_stays : (processes : ℕ) (D E : Descriptors) (p child : ℕ) → ((fd : ℕ) → D.description_of child fd ≡ None) → ForkGives processes D p child (Ok tt) E → StayOpen D E
-forked_stays processes D E p child none gives f d is =
-    let q = is.is_open.process in
-    let k = is.is_open.fd in
+forked_stays processes D E p child none gives f d q is =
+    let k = is.fd in
     record {
-      is_open = record {
-        process = q;
-        fd = k;
-        refers = gives.1.description_of q k
-            ∙ not_child D p child q k d (q == child) (λ e. ap (λ r. D.description_of r k) (eqb-true q child e) ∙ none k) is.is_open.refers;
-      };
+      fd = k;
+      refers = gives.1.description_of q k
+          ∙ not_child D p child q k d (q == child) (λ e. ap (λ r. D.description_of r k) (eqb-true q child e) ∙ none k) is.refers;
       of_file = same_files D.descriptions E.descriptions gives.1.descriptions d f is.of_file;
     }
 
--- after a call that closes nothing, refused or not, locks of descriptions are of open ones
-pub owned_call : {X : Type 0} (Gives : Giving X) (old new : Tables) (locks : Locks) (result : Result X FdFault)
+-- after a call that closes nothing, refused or not, locks and waits of descriptions are of open ones
+pub owned_call : {X : Type 0} (Gives : Giving X) (old new : Tables) (locks : Locks) (waits : List Wait) (result : Result X FdFault)
     → ((D E : Descriptors) (x : X) → result ≡ Ok x → StandFor old D → Gives D (Ok x) E → StayOpen D E)
     → (result ≢ Err faults.Memory → Gave Gives old new result)
     → OnErr result ((D : Descriptors) → StandFor old D → StandFor new D)
-    → AreOwned old locks → AreOwned new locks
-owned_call Gives old new locks (Ok x) stays step refused owned =
-    owned_after old new locks owned
+    → AreOwned old locks waits → AreOwned new locks waits
+owned_call Gives old new locks waits (Ok x) stays step refused owned =
+    owned_after old new locks waits owned
     (λ D stands. let given = step (λ e. cc) D stands in (given.0, stays D given.0 x refl stands given.1, given.2))
-owned_call Gives old new locks (Err fault) stays step refused owned =
-    owned_after old new locks owned (λ D stands. (D, λ file d is. is, refused D stands))
+owned_call Gives old new locks waits (Err fault) stays step refused owned =
+    owned_after old new locks waits owned (λ D stands. (D, λ file d q is. is, refused D stands))

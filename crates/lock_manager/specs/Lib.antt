@@ -9,7 +9,9 @@ pub mod ProcessCalls
 pub mod Step
 pub mod Safety
 pub mod DescriptionLocks
+pub mod WaitsKept
 pub mod LockReleases
+pub mod MachineView
 pub mod ManagerView
 pub mod Opening
 pub mod OneOutcome

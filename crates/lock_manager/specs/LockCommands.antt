@@ -1,5 +1,5 @@
 -- What the lock commands of fcntl come to.
-use Rattle.std.specs.Prelude.{◌≡◌, ℕ, ◌||◌, MatchBool, MatchResult, MatchOption, None}
+use Rattle.std.specs.Prelude.{◌≡◌, ℕ, ◌||◌, MatchBool, MatchResult, MatchOption, None, []}
 use Rattle.range_core.specs.Facts.{MatchFact}
 use Rattle.range_core.specs.declared.Mode.{Mode}
 use Rattle.range_core.specs.declared.Kind.{Kind}
@@ -11,16 +11,17 @@ use Rattle.lock_book.specs.Conflicts.{ByteModes, ByteConflict, IsFirstBlocker}
 use Rattle.fd_table.specs.declared.tables.Look.{Look}
 use Rattle.fd_table.specs.Descriptors.{look_at}
 use Rattle.wait_core.specs.declared.Wait.{Wait}
-use Rattle.wait_core.specs.Blocking.{IsBlockedByLock}
+use Rattle.wait_core.specs.Blocking.{IsBlockedByLock, IsBlocked}
+use Rattle.wait_core.specs.Cycles.{ClosesCycle}
 use Rattle.lock_manager.specs.declared.request.Rules.{Rules}
 use Rattle.lock_manager.specs.declared.request.Lock.{Lock}
 use Rattle.lock_manager.specs.declared.request.LkCmd.{LkCmd}
-use Rattle.lock_manager.specs.declared.request.LkCmd.TheVariants.{GetLk, SetLk, OGetLk, OSetLk}
-use Rattle.lock_manager.specs.declared.request.Errno.TheVariants.{EBADF, EINVAL, EAGAIN}
+use Rattle.lock_manager.specs.declared.request.LkCmd.TheVariants.{GetLk, SetLk, SetLkW, OGetLk, OSetLk, OSetLkW}
+use Rattle.lock_manager.specs.declared.request.Errno.TheVariants.{EBADF, EINVAL, EAGAIN, EDEADLK}
 use Rattle.lock_manager.specs.declared.request.Reply.{Reply}
 use Rattle.lock_manager.specs.declared.request.Reply.TheVariants as replies
 use Rattle.lock_manager.specs.State.{State, locks_held, with_byte_mode, with_lock}
-use Rattle.lock_manager.specs.Outcomes.{Outcome, answered, refused, range_error}
+use Rattle.lock_manager.specs.Outcomes.{Outcome, answered, refused, waits_then, range_error}
 use Rattle.lock_manager.specs.LockWords.{is_get, is_bad_argument, wanted_mode, permits, held_reply, lock_owner, wanted_lock}
 
 -- a get command tells the first lock that blocks, or that there is none (POSIX.1-2017 fcntl, DESCRIPTION, F_GETLK)
@@ -45,12 +46,29 @@ abbrev pub SetComesTo : State → Wait → Outcome → Type 0
 SetComesTo S wanted outcome =
     MatchFact (IsBlockedByLock (locks_held S) wanted) (outcome ≡ refused S wanted.p wanted.n EAGAIN) (IsLocked S wanted outcome)
 
--- a get command asks, and a set command sets
+-- where nothing blocks the lock it is set; else F_OFD_SETLKW waits. A request that would wait is blocked as a wait is, with
+-- the whole list of waits before it (fcntl_locking(2), F_OFD_SETLKW)
+abbrev pub SetOrWaitComesTo : Rules → State → Wait → Outcome → Type 0
+SetOrWaitComesTo rules S wanted outcome =
+    MatchFact (IsBlocked rules.policy (locks_held S) S.waits wanted) (outcome ≡ waits_then S wanted []) (IsLocked S wanted outcome)
+
+-- where nothing blocks the lock it is set; else F_SETLKW is refused where its wait would close a cycle, and else waits
+-- (POSIX.1-2017 fcntl, DESCRIPTION, F_SETLKW, and ERRORS, EDEADLK)
+abbrev pub WaitOrDeadlockComesTo : Rules → State → Wait → Outcome → Type 0
+WaitOrDeadlockComesTo rules S wanted outcome =
+    MatchFact (IsBlocked rules.policy (locks_held S) S.waits wanted)
+    (MatchFact (ClosesCycle rules.policy (locks_held S) S.waits wanted) (outcome ≡ refused S wanted.p wanted.n EDEADLK)
+    (outcome ≡ waits_then S wanted []))
+    (IsLocked S wanted outcome)
+
+-- a get command asks, and a set command sets, at once or as soon as nothing blocks it
 abbrev pub CommandComesTo : Rules → State → LkCmd → Wait → Outcome → Type 0
 CommandComesTo rules S GetLk wanted outcome = GetComesTo S wanted outcome
 CommandComesTo rules S OGetLk wanted outcome = GetComesTo S wanted outcome
 CommandComesTo rules S SetLk wanted outcome = SetComesTo S wanted outcome
 CommandComesTo rules S OSetLk wanted outcome = SetComesTo S wanted outcome
+CommandComesTo rules S SetLkW wanted outcome = WaitOrDeadlockComesTo rules S wanted outcome
+CommandComesTo rules S OSetLkW wanted outcome = SetOrWaitComesTo rules S wanted outcome
 
 -- on a range, with a mode: a set command needs the access mode, a get command doesn't
 -- (POSIX.1-2017 fcntl, ERRORS, EBADF; for the get commands this project's choice)

@@ -16,7 +16,7 @@ use Rattle.wait_core.specs.declared.Family.TheVariants.{Bytes}
 use Rattle.wait_core.specs.declared.Wait.{Wait}
 use Rattle.lock_manager.specs.declared.request.Lock.{Lock}
 use Rattle.lock_manager.specs.declared.request.LkCmd.{LkCmd}
-use Rattle.lock_manager.specs.declared.request.LkCmd.TheVariants.{GetLk, SetLk, OGetLk, OSetLk}
+use Rattle.lock_manager.specs.declared.request.LkCmd.TheVariants.{GetLk, SetLk, SetLkW, OGetLk, OSetLk, OSetLkW}
 use Rattle.lock_manager.specs.declared.request.Reply.{Reply}
 use Rattle.lock_manager.specs.declared.request.Reply.TheVariants as replies
 
@@ -24,15 +24,28 @@ use Rattle.lock_manager.specs.declared.request.Reply.TheVariants as replies
 abbrev pub is_ofd : LkCmd → Bool
 is_ofd GetLk = false
 is_ofd SetLk = false
+is_ofd SetLkW = false
 is_ofd OGetLk = true
 is_ofd OSetLk = true
+is_ofd OSetLkW = true
 
 -- whether the command only asks (POSIX.1-2017 fcntl, DESCRIPTION, F_GETLK; fcntl_locking(2), F_OFD_GETLK)
 abbrev pub is_get : LkCmd → Bool
 is_get GetLk = true
 is_get OGetLk = true
 is_get SetLk = false
+is_get SetLkW = false
 is_get OSetLk = false
+is_get OSetLkW = false
+
+-- whether the command waits where a lock is in the way (POSIX.1-2017 fcntl, DESCRIPTION, F_SETLKW; fcntl_locking(2), F_OFD_SETLKW)
+abbrev pub may_wait : LkCmd → Bool
+may_wait GetLk = false
+may_wait SetLk = false
+may_wait SetLkW = true
+may_wait OGetLk = false
+may_wait OSetLk = false
+may_wait OSetLkW = true
 
 -- whether the kind is F_UNLCK (POSIX.1-2017 fcntl, DESCRIPTION, l_type)
 abbrev pub is_unlock : Kind → Bool

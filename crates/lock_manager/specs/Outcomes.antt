@@ -1,16 +1,18 @@
 -- What a request comes to, before the waits are settled: what is told, and the state.
-use Rattle.std.specs.Prelude.{◌≡◌, ℕ, List, [], ◌∷◌}
+use Rattle.std.specs.Prelude.{◌≡◌, ℕ, List, [], ◌∷◌, ◌++◌}
 use Rattle.fd_table.specs.declared.FdFault.{FdFault}
 use Rattle.fd_table.specs.declared.FdFault.TheVariants.{BadFd, TooMany, Invalid, Taken, Memory}
 use Rattle.range_core.specs.declared.RangeFault.{RangeFault}
 use Rattle.range_core.specs.declared.RangeFault.TheVariants as range_faults
+use Rattle.wait_core.specs.declared.Wait.{Wait}
 use Rattle.lock_manager.specs.declared.request.Errno.{Errno}
 use Rattle.lock_manager.specs.declared.request.Errno.TheVariants.{EBADF, EINVAL, EOVERFLOW, EAGAIN, EMFILE}
 use Rattle.lock_manager.specs.declared.request.Reply.{Reply}
 use Rattle.lock_manager.specs.declared.request.Reply.TheVariants as replies
 use Rattle.lock_manager.specs.declared.request.Note.{Note}
-use Rattle.lock_manager.specs.declared.request.Note.TheVariants.{Answer}
-use Rattle.lock_manager.specs.State.{State}
+use Rattle.lock_manager.specs.declared.request.Note.TheVariants as notes
+use Rattle.lock_manager.specs.declared.request.ProcState.TheVariants as states
+use Rattle.lock_manager.specs.State.{State, with_process}
 
 -- the notes so far, and the state (this project's choice)
 pub record Outcome : Type 0 where
@@ -19,7 +21,7 @@ pub record Outcome : Type 0 where
 
 -- the caller is answered, and then these grants were made (this project's choice)
 abbrev pub answered_then : State → ℕ → ℕ → Reply → List Note → Outcome
-answered_then S p n reply grants = record { told = Answer p n reply ∷ grants; after = S }
+answered_then S p n reply grants = record { told = notes.Answer p n reply ∷ grants; after = S }
 
 -- the caller is answered (this project's choice)
 abbrev pub answered : State → ℕ → ℕ → Reply → Outcome
@@ -29,6 +31,15 @@ answered S p n reply = answered_then S p n reply []
 -- (POSIX.1-2017, "Error Numbers"; that the state stays is this project's choice)
 abbrev pub refused : State → ℕ → ℕ → Errno → Outcome
 refused S p n error = answered S p n (replies.Err error)
+
+-- the caller waits, last in order of arrival, and then these grants were made
+-- (POSIX.1-2017 fcntl, DESCRIPTION, F_SETLKW; fcntl_locking(2), F_OFD_SETLKW)
+abbrev pub waits_then : State → Wait → List Note → Outcome
+waits_then S wait grants =
+    record {
+      told = notes.Waits wait.p wait.n ∷ grants;
+      after = with_process (record S { waits = S.waits ++ wait ∷ [] }) wait.p states.Waiting;
+    }
 
 -- the error of a range that there isn't (POSIX.1-2017 fcntl, ERRORS, EINVAL and EOVERFLOW)
 abbrev pub range_error : RangeFault → Errno

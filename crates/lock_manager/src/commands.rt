@@ -1,6 +1,6 @@
 //! What a lock command of fcntl asks for.
 ghost use Rattle.std.specs.Prelude.{◌≡◌};
-ghost use Rattle.lock_manager.specs.LockWords.{is_ofd as is_ofd_command, is_get as is_get_command, is_bad_argument, lock_owner};
+ghost use Rattle.lock_manager.specs.LockWords.{is_ofd as is_ofd_command, is_get as is_get_command, may_wait as may_wait_command, is_bad_argument, lock_owner};
 
 use crate::{LkCmd, Lock};
 use fd_table::Look;
@@ -13,8 +13,8 @@ impl LkCmd {
         ensures { result ≡ is_ofd_command self }
     {
         match self {
-            LkCmd::OGetLk | LkCmd::OSetLk => true,
-            LkCmd::GetLk | LkCmd::SetLk => false,
+            LkCmd::OGetLk | LkCmd::OSetLk | LkCmd::OSetLkW => true,
+            LkCmd::GetLk | LkCmd::SetLk | LkCmd::SetLkW => false,
         }
     }
 
@@ -24,7 +24,17 @@ impl LkCmd {
     {
         match self {
             LkCmd::GetLk | LkCmd::OGetLk => true,
-            LkCmd::SetLk | LkCmd::OSetLk => false,
+            LkCmd::SetLk | LkCmd::SetLkW | LkCmd::OSetLk | LkCmd::OSetLkW => false,
+        }
+    }
+
+    /// Whether it waits where a lock is in the way (POSIX.1-2017 fcntl, `F_SETLKW`; fcntl_locking(2), `F_OFD_SETLKW`).
+    pub(crate) fn may_wait(self) -> bool
+        ensures { result ≡ may_wait_command self }
+    {
+        match self {
+            LkCmd::SetLkW | LkCmd::OSetLkW => true,
+            LkCmd::GetLk | LkCmd::SetLk | LkCmd::OGetLk | LkCmd::OSetLk => false,
         }
     }
 

@@ -4,7 +4,10 @@
 mod answers;
 mod commands;
 mod laws;
-// The proofs of the manager see through what it stands for, which is opaque to the crates above.
+// The proofs of the machine see through what it shows, and those of the manager through what it stands for, which is opaque to the
+// crates above.
+#[tactic(auto, unfolding(crate::specs::MachineView::machine_rules, crate::specs::MachineView::machine_processes, crate::specs::MachineView::machine_state, crate::specs::MachineView::machine_locks, crate::specs::MachineView::machine_waits))]
+mod machine;
 #[tactic(auto, unfolding(crate::specs::ManagerView::rules_of, crate::specs::ManagerView::processes_of, crate::specs::ManagerView::state_at, crate::specs::ManagerView::locks_in_books, crate::specs::ManagerView::waits_of))]
 mod manager;
 mod opening;

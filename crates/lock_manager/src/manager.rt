@@ -1,53 +1,29 @@
-ghost use Rattle.std.specs.Prelude.{ℕ, ◌≡◌, ◌≤◌, ◌↔◌, [], true, vec_len, IfOk, OnErr, IsTrue};
-ghost use Rattle.fd_table.specs.declared.TheConstants.{FILES};
-ghost use Rattle.fd_table.specs.TablesView.{processes_of as processes_in, limits_of, ever_alive};
-ghost use Rattle.wait_core.specs.Locks.{locks_of};
-ghost use Rattle.lock_manager.specs.declared.request.ProcState.TheVariants.{Live};
-ghost use Rattle.lock_manager.specs.State.{state_numbered};
+ghost use Rattle.std.specs.Prelude.{ℕ, ◌≡◌, ◌≤◌, ◌↔◌, List, [], IfOk, OnErr, IsTrue};
 ghost use Rattle.lock_manager.specs.Safety.{IsSafe};
-ghost use Rattle.lock_manager.specs.DescriptionLocks.{AreOwned, AreWithinFiles};
+ghost use Rattle.lock_manager.specs.MachineView.{machine_rules, machine_locks, machine_waits};
 
-mod descriptors;
-mod locks;
-mod processes;
-
-use crate::answers::answer;
-use crate::opening::{empty_books, opening_states};
+use crate::machine::Machine;
 use crate::{Note, ProcState, Request, Rules};
-use fd_table::{FILES, Tables};
-use lock_book::{Book, Held};
+use lock_book::Held;
 use range_core::Memory;
 use std::alloc::Global;
+use wait_core::Wait;
 
 /// The lock manager: descriptors, locks and processes.
 #[derive(Drop)]
 pub struct Manager {
     alloc: Global,
-    processes: u8,
-    rules: Rules,
-    tables: Tables,
-    /// By file.
-    books: Vec<Book>,
-    /// By process, from process 1 on.
-    states: Vec<ProcState>,
-    ghost files: { vec_len books ≡ FILES },
-    ghost numbered: { vec_len states ≡ processes },
-    ghost tabled: { processes_in tables ≡ processes },
-    ghost limited: { limits_of tables ≡ rules.limits },
-    ghost alive: { (p : ℕ) → state_numbered states.items p ≡ Live → ever_alive tables p ≡ true },
-    ghost safe: { ∥ IsSafe rules.policy (locks_of books.items) [] ∥₁ },
-    ghost owned: { AreOwned tables (locks_of books.items) },
-    ghost within: { AreWithinFiles (locks_of books.items) },
+    machine: Machine,
+    ghost safe: { ∥ IsSafe (machine_rules machine).policy (machine_locks machine) (machine_waits machine) ∥₁ },
 }
 
 impl Manager {
     ghost use Rattle.fd_table.specs.Descriptors.{process_limit};
-    ghost use Rattle.std.specs.Prelude.{option_to_list};
     ghost use Rattle.lock_book.specs.Changes.{mode_in, flock_mode_in};
     ghost use Rattle.lock_book.specs.Reports.{IsHeldReport};
     ghost use Rattle.lock_manager.specs.State.{State, opening_state};
     ghost use Rattle.lock_manager.specs.Step.{Step};
-    ghost use Rattle.lock_manager.specs.ManagerView.{StandsFor, SameManager, IsSafeManager, Tells, rules_of, processes_of, state_at};
+    ghost use Rattle.lock_manager.specs.ManagerView.{StandsFor, SameManager, IsSafeManager, rules_of, processes_of, state_at};
 
     /// Process 1 lives, and there is nothing else (this project's choice). There are `processes` processes, numbered from 1:
     /// at most 16, or 64 where the limits are wide.
@@ -58,17 +34,8 @@ impl Manager {
         ensures rules { IfOk result (λ manager. rules_of manager ≡ rules) }
         ensures safe { IfOk result IsSafeManager }
     {
-        let tables = Tables::new(alloc, processes, rules.limits)?;
-        let books = empty_books(alloc)?;
-        let states = opening_states(alloc, processes)?;
-        Ok(Manager {
-            alloc,
-            processes,
-            rules,
-            tables,
-            books,
-            states,
-        })
+        let machine = Machine::new(alloc, processes, rules)?;
+        Ok(Manager { alloc, machine })
     }
 
     /// One event: request number `n` of process `p`, which is able, with all that it causes; the notes are the caller's
@@ -89,10 +56,11 @@ impl Manager {
         // Want of memory changes nothing.
         ensures memory { OnErr result (SameManager self.old self.new) }
     {
-        let mut notes = Vec::with_capacity(self.alloc, 1).map_err(|_| Memory)?;
-        if let Some(note) = self.serve(p, n, request)? {
-            notes.push(note).unwrap();
-        }
+        let most = self.machine.most_notes();
+        let mut notes = Vec::with_capacity(self.alloc, most).map_err(|_| Memory)?;
+        let told = self.machine.serve(p, n, request)?;
+        told.tell(&mut notes);
+        self.machine.settle(&mut notes);
         Ok(notes)
     }
 
@@ -102,19 +70,22 @@ impl Manager {
         ensures { IfOk result (λ report. (S : State) → StandsFor self.now S →
             IsHeldReport (mode_in S.changes) (flock_mode_in S.flock_changes) report.items) }
     {
-        let mut report = Vec::new(self.alloc);
-        for file in 0..FILES {
-            let mut locks = self.books[usize::from(file)].held(file)?;
-            report.append(&mut locks).map_err(|_| Memory)?;
-        }
-        Ok(report)
+        self.machine.held(self.alloc)
+    }
+
+    /// The requests that wait, in order of arrival (POSIX.1-2017 fcntl, `F_SETLKW`; fcntl_locking(2), `F_OFD_SETLKW`;
+    /// flock(2)).
+    pub fn waits(&self) -> Result<Vec<Wait>, Memory>
+        ensures { IfOk result (λ waits. (S : State) → StandsFor self.now S → waits.items ≡ S.waits) }
+    {
+        self.machine.waits(self.alloc)
     }
 
     /// How many processes there are, numbered from 1.
     pub fn processes(&self) -> u8
         ensures { result ≡ processes_of self.now }
     {
-        self.processes
+        self.machine.processes()
     }
 
     /// Where the process stands.
@@ -122,7 +93,7 @@ impl Manager {
         requires { (1 ≤ p) × (p ≤ processes_of self.now) }
         ensures { result ≡ state_at self.now p }
     {
-        self.states[usize::from(p) - 1]
+        self.machine.state_of(p)
     }
 
     /// Whether a request of the process may be taken.
@@ -131,30 +102,5 @@ impl Manager {
         ensures { IsTrue result ↔ (state_at self.now p ≡ ProcState.Live) }
     {
         self.state_of(p) == ProcState::Live
-    }
-
-    /// Serves a request of a live process. There is a note to it unless the process ends.
-    #[tactic(auto, using(crate::proofs::StandsLemmas::untold_by))]
-    fn serve(&mut self, p: u8, n: u64, request: Request) -> Result<Option<Note>, Memory>
-        requires { state_at self.old p ≡ ProcState.Live }
-        ensures told { IfOk result (λ note. Tells self.old self.new p n request (option_to_list note)) }
-        ensures memory { OnErr result (SameManager self.old self.new) }
-        ensures rules { rules_of self.new ≡ rules_of self.old }
-        ensures processes { processes_of self.new ≡ processes_of self.old }
-    {
-        match request {
-            Request::OpenFile { file, access } => answer(p, n, self.open_file(p, file, access)),
-            Request::Dup { fd } => answer(p, n, self.dup(p, fd)),
-            Request::DupTo { fd, to } => answer(p, n, self.dup_to(p, fd, to)),
-            Request::CloseFd { fd } => answer(p, n, self.close_fd(p, fd)),
-            Request::Seek { fd, offset } => answer(p, n, self.seek(p, fd, offset)),
-            Request::Resize { fd, size } => answer(p, n, self.resize(p, fd, size)),
-            Request::Lk { fd, cmd, lock } => answer(p, n, self.lock_command(p, fd, cmd, lock)),
-            Request::Fork { child } => answer(p, n, self.fork(p, child)),
-            Request::Exit => {
-                self.end(p);
-                Ok(None)
-            },
-        }
     }
 }

@@ -1,22 +1,39 @@
 //! What the closing of descriptors does to the locks.
-ghost use Rattle.std.specs.Prelude.{◌≡◌, vec_len};
+ghost use Rattle.std.specs.Prelude.{ℕ, ◌≡◌, ◌≢◌, All, vec_len};
 ghost use Rattle.fd_table.specs.declared.TheConstants.{FILES};
+ghost use Rattle.lock_book.specs.declared.Owner.TheVariants.{Process};
+ghost use Rattle.wait_core.specs.declared.Policy.{Policy};
 ghost use Rattle.wait_core.specs.Locks.{locks_of};
-ghost use Rattle.lock_manager.specs.LockReleases.{ReleasesInBook, ReleasesLocks};
+ghost use Rattle.wait_core.specs.Cycles.{IsFreeOfCycles};
+ghost use Rattle.wait_core.specs.WaitsView.{waits_of, AreTold};
+ghost use Rattle.lock_manager.specs.LockReleases.{ReleasesInBook, ReleasesLocks, ReleasesRoom};
+ghost use Rattle.lock_manager.specs.WaitsKept.{SameWaits};
 
 use fd_table::Releases;
 use lock_book::{Book, Owner};
+use wait_core::{Waits, stay_free_of_cycles};
 
 /// Removes, on each file of which the process closed a descriptor, its traditional locks (POSIX.1-2017 close), and the OFD
-/// and flock locks of the descriptions that were closed for good (fcntl_locking(2); flock(2)). It takes no memory.
-pub fn release(books: &mut Vec<Book>, p: u8, released: &Releases)
+/// and flock locks of the descriptions that were closed for good (fcntl_locking(2); flock(2)), and tells the waits. It
+/// takes no memory.
+pub fn release(books: &mut Vec<Book>, waits: &mut Waits, p: u8, released: &Releases)
     requires { vec_len books.old ≡ FILES }
     ensures locks { ReleasesLocks (locks_of books.old.items) (locks_of books.new.items) p released.now.files released.now.descriptions }
+    ensures room { ReleasesRoom books.old.items books.new.items p released.now.files released.now.descriptions }
     ensures count { vec_len books.new ≡ FILES }
+    ensures waits { SameWaits waits.old waits.new }
+    ensures told { AreTold waits.old (locks_of books.old.items) → AreTold waits.new (locks_of books.new.items) }
+
+    // Where the process has no traditional wait no cycle is closed.
+    ensures free { (policy : Policy) → All (λ wait. wait.owner ≢ Process p) (waits_of waits.old) →
+        IsFreeOfCycles policy (locks_of books.old.items) (waits_of waits.old) → IsFreeOfCycles policy (locks_of books.new.items) (waits_of waits.new) }
 {
+    // A law, and nothing to run.
+    stay_free_of_cycles();
     let descriptions = released.descriptions();
     for file in released.files() {
         release_in(&mut books[usize::from(*file)], p, descriptions);
+        waits.refresh(*file, books);
     }
 }
 

@@ -33,10 +33,14 @@ pub enum LkCmd {
     GetLk,
     /// `F_SETLK`: sets or removes a traditional lock, which belongs to the process (POSIX.1-2017 fcntl).
     SetLk,
+    /// `F_SETLKW`: the same, and waits while a lock blocks it (POSIX.1-2017 fcntl).
+    SetLkW,
     /// `F_OFD_GETLK`: asks on behalf of the open file description (fcntl_locking(2)).
     OGetLk,
     /// `F_OFD_SETLK`: sets or removes a lock of the open file description (fcntl_locking(2)).
     OSetLk,
+    /// `F_OFD_SETLKW`: the same, and waits while a lock blocks it (fcntl_locking(2)).
+    OSetLkW,
 }
 
 /// What a process asks for.
@@ -60,6 +64,10 @@ pub enum Request {
     Fork { child: u8 },
     /// _Exit, which is never answered (POSIX.1-2017 _Exit).
     Exit,
+    /// A signal that is caught: it ends the wait of the process, and does nothing else (POSIX.1-2017 kill).
+    Signal { target: u8 },
+    /// `SIGKILL`: the process ends (POSIX.1-2017 kill). Of itself it is an exit.
+    Kill { target: u8 },
 }
 
 /// The errors of the answers, by their names in `<errno.h>`.
@@ -73,8 +81,14 @@ pub enum Errno {
     EOVERFLOW = 3,
     /// A lock of another owner stands in the way, or the number of a child can't be had.
     EAGAIN = 4,
+    /// The wait would close a cycle of processes that wait for each other's traditional locks.
+    EDEADLK = 5,
+    /// A signal ended the wait, and the lock isn't set.
+    EINTR = 6,
     /// The process has no free descriptor, or no further description can be made.
     EMFILE = 7,
+    /// There is no such process: it was never alive, or has ended.
+    ESRCH = 8,
 }
 
 /// What a process is answered.
@@ -104,6 +118,8 @@ pub enum Reply {
 pub enum Note {
     /// Process `p` is answered its request number `n`.
     Answer { p: u8, n: u64, reply: Reply },
+    /// Process `p` waits with its request number `n`, and is told later what became of it.
+    Waits { p: u8, n: u64 },
 }
 
 /// Where a process stands.
@@ -113,6 +129,8 @@ pub enum ProcState {
     Unborn,
     /// Its next request may be taken.
     Live,
+    /// Its last request waits for a lock, and none is taken until it is answered.
+    Waiting,
     /// It has ended: none of its requests is taken any more.
     Ended,
 }

@@ -1,3 +1,5 @@
+mod waits;
+
 use crate::{Errno, LkCmd, Lock, Manager, Note, ProcState, Reply, Request, Rules};
 use fd_table::{Access, Limits};
 use lock_book::{Held, Owner};
@@ -5,7 +7,7 @@ use range_core::{Kind, Memory, Mode, OFFMAX, Span, Whence};
 use std::alloc::Global;
 use std::process::Abort;
 use std::test::Fail;
-use wait_core::Policy;
+use wait_core::{Policy, Wait};
 
 const RULES: Rules = Rules {
     policy: Policy::Held,
@@ -53,6 +55,14 @@ fn all_held(manager: &Manager) -> Result<Vec<Held>, Memory> {
     }
 }
 
+/// The waits, asked again where a growth is refused.
+fn all_waits(manager: &Manager) -> Result<Vec<Wait>, Memory> {
+    match manager.waits() {
+        Ok(waits) => Ok(waits),
+        Err(Memory) => manager.waits(),
+    }
+}
+
 /// Where each of the 16 processes stands.
 fn all_states(rt: &impl Abort, manager: &Manager) -> [ProcState; 16] {
     assert!(rt; manager.processes() == 16);
@@ -73,6 +83,7 @@ fn answer(
     request: Request,
 ) -> Result<Vec<Note>, Fail> {
     let before = all_held(manager)?;
+    let waits = all_waits(manager)?;
     let states = all_states(rt, manager);
     assert!(rt; 1 <= p && p <= manager.processes());
     assert!(rt; manager.able(p));
@@ -85,6 +96,7 @@ fn answer(
                 before.as_slice(),
                 "held after a refusal of {n}"
             );
+            assert_eq!(rt; all_waits(manager)?.as_slice(), waits.as_slice());
             assert_eq!(rt; all_states(rt, manager), states);
             assert!(rt; p <= manager.processes());
             assert!(rt; manager.able(p));
@@ -401,5 +413,30 @@ fn ofd_locks_go_with_the_last_descriptor(rt: HostRuntime) -> Result<(), Fail> {
     let ended = answer(&rt, &mut manager, 2, 2, Request::Exit)?;
     assert!(rt; ended.is_empty());
     assert!(rt; all_held(&manager)?.is_empty());
+    Ok(())
+}
+
+/// Nobody waits, neither at the opening nor beside a lock that stands in the way.
+#[test]
+fn nobody_waits(rt: HostRuntime) -> Result<(), Fail> {
+    let turns = [
+        (
+            1,
+            Request::OpenFile {
+                file: 0,
+                access: Access::Rw,
+            },
+            Reply::Fd(0),
+        ),
+        (1, Request::Fork { child: 2 }, Reply::Ok),
+        (1, set(0, Kind::Write, 0, 1), Reply::Ok),
+        (2, set(0, Kind::Write, 0, 1), Reply::Err(Errno::EAGAIN)),
+    ];
+    let manager = replies_in_turn(&rt, rt.alloc(), &turns)?;
+    let waits = match manager.waits() {
+        Ok(waits) => waits,
+        Err(Memory) => manager.waits()?,
+    };
+    assert!(rt; waits.is_empty());
     Ok(())
 }

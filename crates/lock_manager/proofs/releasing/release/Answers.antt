@@ -1,6 +1,14 @@
-use Rattle.std.proofs.Common.{◌≡◌, ◌<◌, ◌∙◌, length, get_or, sym, ap, arith, refl}
+use Rattle.std.proofs.Common.{◌≡◌, ◌<◌, ◌∙◌, length, get_or, take, sym, ap, subst, arith, refl}
+use Rattle.std.proofs.lemmas.List.{take_all}
+use Rattle.std.specs.Prelude.{slice_set}
+use Rattle.wait_core.specs.Locks.{locks_of}
+use Rattle.wait_core.specs.Cycles.{IsFreeOfCycles}
+use Rattle.wait_core.specs.WaitsView.{waits_of, AreTold, AgreeBut}
+use Rattle.lock_manager.specs.LockReleases.{ReleasesLocks}
 use Rattle.lock_manager.proofs.BookLemmas.{book_at}
-use Rattle.lock_manager.proofs.ReleaseLemmas.{released_file}
+use Rattle.lock_manager.proofs.ReleaseLemmas.{released_file, released_room}
+use Rattle.lock_manager.proofs.WaitLemmas.{agree_but}
+use Rattle.lock_manager.proofs.WaitCloseLemmas.{free_released}
 use Rattle.lock_manager.proofs.releasing.release.Goals as goal
 
 pub loop-file-preserved : goal.loop-file-preserved
@@ -12,8 +20,34 @@ loop-file-preserved c =
     let same : c.files-file-items.result.now ≡ files = c.files-file-items.ensures.value in
     let inside : i < length files = omega (arith, ap length same) in
     let is : get_or files i 0 ≡ file = ap (λ xs. get_or xs i 0) (sym same) ∙ sym c.from.ensures in
-    let within : file < length books = omega (arith, c.files-file-items.ensures.in_range i 0) in (
-      c.loop-file.invariant.0,
-      released_file c.args.books.now.items books c.index_mut.result.now c.release_in.new.book c.args.p files c.descriptions-descriptions.result.now i 0 file inside is within
-          (book_at books file file c.index_mut.result.now refl within c.index_mut.ensures.value) c.loop-file.invariant.1 c.release_in.ensures,
+    let within : file < length books = omega (arith, c.files-file-items.ensures.in_range i 0) in
+    let was = book_at books file file c.index_mut.result.now refl within c.index_mut.ensures.value in
+    let before = c.loop-file.invariant in (
+      before.0,
+      released_file c.args.books.now.items books c.index_mut.result.now c.release_in.new.book c.args.p files c.descriptions-descriptions.result.now i 0 file inside is within was before.1 c.release_in.ensures,
+      released_room c.args.books.now.items books c.index_mut.result.now c.release_in.new.book c.args.p files c.descriptions-descriptions.result.now i 0 file inside is within was before.2 c.release_in.ensures,
+      record {
+        waits = c.refresh.ensures.waits ∙ before.3.waits;
+        policy = c.refresh.ensures.policy ∙ before.3.policy;
+        processes = c.refresh.ensures.processes ∙ before.3.processes;
+      },
+      λ told.
+          subst (λ bs. AreTold c.refresh.new.self (locks_of bs)) c.deref.ensures.value
+          (c.refresh.ensures.told (locks_of books) (before.4 told)
+          (subst (λ bs. AgreeBut (get_or c.files-file-items.result.now i 0) (locks_of books) (locks_of bs)) (sym c.deref.ensures.value)
+          (subst (λ f. AgreeBut f (locks_of books) (locks_of (slice_set books file c.release_in.new.book))) c.from.ensures (agree_but books file c.release_in.new.book)))),
     )
+
+pub returns-clause-free : goal.returns-clause-free
+returns-clause-free c policy others free =
+    let files = c.args.released.now.files in
+    let descriptions = c.descriptions-descriptions.result.now in
+    let old = locks_of c.args.books.now.items in
+    let new = locks_of c.loop-file.books.items in
+    let same : c.files-file-items.result.now ≡ files = c.files-file-items.ensures.value in
+    let all : take c.loop-file.file-index files ≡ files = take_all c.loop-file.file-index files (omega (arith, ap length same, c.loop-file-test.false)) in
+    let laws = c.stay_free_of_cycles.ensures in
+    let before = c.loop-file.invariant in
+    subst (IsFreeOfCycles policy new) (sym before.3.waits)
+    (free_released laws.locks_change laws.description_locks_change policy old new (waits_of c.args.waits.now) c.args.p files descriptions
+    (subst (λ fs. ReleasesLocks old new c.args.p fs descriptions) all before.1) others free)

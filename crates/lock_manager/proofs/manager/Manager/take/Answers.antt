@@ -1,16 +1,17 @@
-use Rattle.std.proofs.Common.{◌≡◌, [], refl, rules}
-use Rattle.std.specs.Prelude.{option_to_list}
-use Rattle.lock_manager.proofs.StandsLemmas.{one_step}
+use Rattle.std.proofs.Common.{◌≡◌, ◌++◌, ◌∙◌, [], ap, rules}
+use Rattle.lock_manager.specs.Notes.{notes_told}
+use Rattle.lock_manager.proofs.ManagerLemmas.{one_step, safe_machine}
 use Rattle.lock_manager.proofs.manager.Manager.take.Goals as goal
-use Rattle.lock_manager.proofs.manager.Manager.take.Goals.{in-Some, in_default}
+
+pub invariant_of-self-2 : goal.invariant_of-self-2
+invariant_of-self-2 c = record { safe = ∣ safe_machine c.settle.new.self c.settle.ensures.settled ∣₁ }
 
 pub returns-clause-step : goal.returns-clause-step
 returns-clause-step c =
     let empty : c.in_ok-notes.notes.items ≡ [] = search rules in
-    let told = option_to_list c.in_ok-note.field-0 in
-    let is : c.match-branch-3.notes.items ≡ told = elim c.match-branch-3.branch [
-      | in-Some w ↦ rw (w.notes-is, w.push.ensures.items, w.unwrap.ensures, empty, w.in-Some.is) refl
-      | in_default w ↦ rw (w.notes-is, empty, w.in_default.is) refl
-    ] in
-    one_step c.args.self.now c.serve.new.self c.args.p c.args.n c.args.request told c.match-branch-3.notes.items
-    c.requires c.in_ok-note.ensures.told is
+    let told = notes_told c.in_ok-told.told in
+    let settled = c.settle.ensures.settles in
+    let is : c.settle.new.notes.items ≡ told ++ settled.0 =
+    settled.1 ∙ ap (λ notes. notes ++ settled.0) (c.tell.ensures.told ∙ ap (λ notes. notes ++ told) empty) in
+    one_step c.args.self.now _ c.serve.new.self c.args.p c.args.n c.args.request told settled.0 c.settle.new.notes.items
+    c.requires c.in_ok-told.ensures.told c.serve.ensures.rules settled.2 is

@@ -1,0 +1,121 @@
+-- What holds of the machine at every moment, after a change of one book and after a release.
+use Rattle.std.proofs.Common.{ℕ, ◌≡◌, ◌≢◌, ◌<◌, ◌≤◌, sym, ◌∙◌, subst, List, length, Some, Option, All, Result, OnOk, OnErr}
+use Rattle.std.proofs.Math.Logic.{∥∥₁_map}
+use Rattle.std.specs.Prelude.{slice_get, slice_set}
+use Rattle.range_core.specs.declared.Memory.{Memory}
+use Rattle.range_core.specs.declared.Mode.{Mode}
+use Rattle.range_core.specs.declared.Span.{Span}
+use Rattle.range_core.specs.Ranges.{IsByteRange}
+use Rattle.lock_book.specs.declared.Owner.{Owner}
+use Rattle.lock_book.specs.declared.Owner.TheVariants.{Process}
+use Rattle.lock_book.specs.declared.book.Book.{Book}
+use Rattle.lock_book.specs.Books.{SetsOwnerMode, SameBook, room_in}
+use Rattle.lock_book.specs.Conflicts.{ByteConflict}
+use Rattle.fd_table.specs.declared.tables.Tables.{Tables}
+use Rattle.fd_table.specs.Released.{Released}
+use Rattle.fd_table.specs.Descriptors.{Descriptors}
+use Rattle.fd_table.specs.TablesView.{StandFor}
+use Rattle.wait_core.specs.declared.Policy.{Policy}
+use Rattle.wait_core.specs.declared.waits.Waits.{Waits}
+use Rattle.wait_core.specs.Locks.{locks_of}
+use Rattle.wait_core.specs.Cycles.{IsFreeOfCycles}
+use Rattle.wait_core.specs.WaitsView.{waits_of, policy_of, processes_of, AreTold, AgreeBut}
+use Rattle.wait_core.specs.FreeOfCycles.{FreeWhenLocksChange, FreeWhenDescriptionLocksChange}
+use Rattle.lock_manager.specs.declared.machine.Machine.{Machine}
+use Rattle.lock_manager.specs.declared.request.Rules.{Rules}
+use Rattle.lock_manager.specs.declared.request.ProcState.TheVariants.{Live}
+use Rattle.lock_manager.specs.State.{state_numbered}
+use Rattle.lock_manager.specs.Safety.{AreCompatible}
+use Rattle.lock_manager.specs.DescriptionLocks.{AreOwned, AreWithinFiles, MayLock}
+use Rattle.lock_manager.specs.LockReleases.{ReleasesLocks, ReleasesRoom}
+use Rattle.lock_manager.specs.WaitsKept.{AreApart, HaveRoom, SameWaits}
+use Rattle.lock_manager.proofs.SafetyLemmas.{compatible_after}
+use Rattle.lock_manager.proofs.OwnedLemmas.{owned_set, within_files_set}
+use Rattle.lock_manager.proofs.ClosingLemmas.{Closing}
+use Rattle.lock_manager.proofs.AfterCloseLemmas.{compatible_released, owned_released, within_released}
+use Rattle.lock_manager.proofs.WaitLemmas.{waits_of_others, not_owned_by, agree_but, free_after, room_after}
+use Rattle.lock_manager.proofs.WaitCloseLemmas.{none_of_released, room_released}
+
+-- what holds of these tables, books and waits
+pub record AreKept (rules : Rules) (processes : ℕ) (tables : Tables) (books : List Book) (waits : Waits) : Type 0 where
+  pub compatible : AreCompatible (locks_of books)
+  pub owned : AreOwned tables (locks_of books) (waits_of waits)
+  pub within : AreWithinFiles (locks_of books)
+  pub policy : policy_of waits ≡ rules.policy
+  pub counted : processes_of waits ≡ processes
+  pub told : ∥ AreTold waits (locks_of books) ∥₁
+  pub apart : AreApart (waits_of waits)
+  pub room : HaveRoom books (waits_of waits)
+  pub free_of_cycles : IsFreeOfCycles rules.policy (locks_of books) (waits_of waits)
+
+-- it holds after a change of one book by an owner that doesn't wait, which nothing blocks, refused or not, where there is room for
+-- the waits
+pub kept_in_room : FreeWhenLocksChange → FreeWhenDescriptionLocksChange → (m : Machine) (books : List Book) (waits : Waits) (file : ℕ) (old new : Book) (owner : Owner) (span : Span) (mode : Option Mode) (result : Result (Unit {0}) Memory)
+    → books ≡ slice_set m.books.items file new → file < length m.books.items → slice_get m.books.items file ≡ Some old
+    → MayLock m.tables file owner → IsByteRange span → ((p : ℕ) → owner ≡ Process p → state_numbered m.states.items p ≡ Live)
+    → ((k : Mode) → mode ≡ Some k → ¬ ByteConflict ((locks_of m.books.items).bytes file) owner span k)
+    → OnOk result (SetsOwnerMode old new owner span mode) → HaveRoom (slice_set m.books.items file new) (waits_of m.waits) → OnErr result (SameBook old new)
+    → SameWaits m.waits waits → (AreTold m.waits (locks_of m.books.items) → AgreeBut file (locks_of m.books.items) (locks_of books) → AreTold waits (locks_of books))
+    → AreKept m.rules m.processes m.tables books waits
+kept_in_room one all m books waits file old new owner span mode result is within was may range live free sets room same waits_same told =
+    let before = m.books.items in
+    let after = slice_set before file new in
+    let list = waits_of m.waits in
+    let idle : (p : ℕ) → owner ≡ Process p → All (λ wait. wait.owner ≢ Process p) list =
+    λ p e. not_owned_by m.tables (locks_of before) list p m.owned (waits_of_others m.tables m.states.items list p m.suspended (live p e)) in
+    record {
+      compatible = subst (λ bs. AreCompatible (locks_of bs)) (sym is) (compatible_after before file old new owner span mode result within was free sets same m.compatible);
+      owned = subst (λ bs. AreOwned m.tables (locks_of bs) (waits_of waits)) (sym is)
+          (subst (λ ws. AreOwned m.tables (locks_of after) ws) (sym waits_same.waits)
+          (owned_set m.tables list before file old new owner span mode result within was may sets same m.owned));
+      within = subst (λ bs. AreWithinFiles (locks_of bs)) (sym is) (within_files_set before file old new owner span mode result within was range sets same m.within);
+      policy = waits_same.policy ∙ m.policy;
+      counted = waits_same.processes ∙ m.counted;
+      told = ∥∥₁_map m.told (λ before_told. told before_told (subst (λ bs. AgreeBut file (locks_of before) (locks_of bs)) (sym is) (agree_but before file new)));
+      apart = subst AreApart (sym waits_same.waits) m.apart;
+      room = subst (λ bs. HaveRoom bs (waits_of waits)) (sym is)
+          (subst (HaveRoom after) (sym waits_same.waits) room);
+      free_of_cycles = subst (λ bs. IsFreeOfCycles m.rules.policy (locks_of bs) (waits_of waits)) (sym is)
+          (subst (IsFreeOfCycles m.rules.policy (locks_of after)) (sym waits_same.waits)
+          (free_after one all m.rules.policy list before file old new owner span mode result within was idle sets same m.free_of_cycles));
+    }
+
+-- so it does where the change takes no room
+pub kept_by_change : FreeWhenLocksChange → FreeWhenDescriptionLocksChange → (m : Machine) (books : List Book) (waits : Waits) (file : ℕ) (old new : Book) (owner : Owner) (span : Span) (mode : Option Mode) (result : Result (Unit {0}) Memory)
+    → books ≡ slice_set m.books.items file new → file < length m.books.items → slice_get m.books.items file ≡ Some old
+    → MayLock m.tables file owner → IsByteRange span → ((p : ℕ) → owner ≡ Process p → state_numbered m.states.items p ≡ Live)
+    → ((k : Mode) → mode ≡ Some k → ¬ ByteConflict ((locks_of m.books.items).bytes file) owner span k)
+    → OnOk result (SetsOwnerMode old new owner span mode) → OnOk result (room_in old owner ≤ room_in new owner) → OnErr result (SameBook old new)
+    → SameWaits m.waits waits → (AreTold m.waits (locks_of m.books.items) → AgreeBut file (locks_of m.books.items) (locks_of books) → AreTold waits (locks_of books))
+    → AreKept m.rules m.processes m.tables books waits
+kept_by_change one all m books waits file old new owner span mode result is within was may range live free sets kept same waits_same told =
+    kept_in_room one all m books waits file old new owner span mode result is within was may range live free sets
+    (room_after (waits_of m.waits) m.books.items file old new owner span mode result within was sets kept same m.room) same waits_same told
+
+-- and after a release of what a live process closed
+pub kept_by_release : (m : Machine) (tables : Tables) (books : List Book) (waits : Waits) (p : ℕ) (released : Released)
+    → state_numbered m.states.items p ≡ Live
+    → ((D : Descriptors) → StandFor m.tables D → (E : Descriptors) × Closing D E p released × StandFor tables E)
+    → ReleasesLocks (locks_of m.books.items) (locks_of books) p released.files released.descriptions
+    → ReleasesRoom m.books.items books p released.files released.descriptions
+    → SameWaits m.waits waits → (AreTold m.waits (locks_of m.books.items) → AreTold waits (locks_of books))
+    → ((policy : Policy) → All (λ wait. wait.owner ≢ Process p) (waits_of m.waits) → IsFreeOfCycles policy (locks_of m.books.items) (waits_of m.waits)
+    → IsFreeOfCycles policy (locks_of books) (waits_of waits))
+    → AreKept m.rules m.processes tables books waits
+kept_by_release m tables books waits p released live call locks room same told free =
+    let old = locks_of m.books.items in
+    let new = locks_of books in
+    let list = waits_of m.waits in
+    let others : All (λ wait. wait.p ≢ p) list = waits_of_others m.tables m.states.items list p m.suspended live in
+    record {
+      compatible = compatible_released old new p released.files released.descriptions locks m.compatible;
+      owned = subst (AreOwned tables new) (sym same.waits) (owned_released m.tables tables old new list p released call locks others m.owned);
+      within = within_released old new p released.files released.descriptions locks m.within;
+      policy = same.policy ∙ m.policy;
+      counted = same.processes ∙ m.counted;
+      told = ∥∥₁_map m.told told;
+      apart = subst AreApart (sym same.waits) m.apart;
+      room = subst (HaveRoom books) (sym same.waits)
+          (room_released m.books.items books list p released.files released.descriptions room (none_of_released m.tables tables old list p released call others m.owned) m.room);
+      free_of_cycles = free m.rules.policy (not_owned_by m.tables old list p m.owned others) m.free_of_cycles;
+    }

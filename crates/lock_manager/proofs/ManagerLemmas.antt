@@ -1,0 +1,69 @@
+-- From the machine to the manager.
+use Rattle.std.proofs.Common.{ℕ, ◌≡◌, sym, ◌∙◌, subst, List, [], ◌++◌}
+use Rattle.lock_manager.specs.declared.request.Rules.{Rules}
+use Rattle.lock_manager.specs.Settling.{Settles}
+use Rattle.lock_manager.specs.declared.machine.Machine.{Machine}
+use Rattle.lock_manager.specs.declared.manager.Manager.{Manager}
+use Rattle.lock_manager.specs.declared.request.Request.{Request}
+use Rattle.lock_manager.specs.declared.request.Note.{Note}
+use Rattle.lock_manager.specs.declared.request.ProcState.TheVariants.{Live}
+use Rattle.wait_core.specs.Blocking.{AllBlocked}
+use Rattle.lock_manager.specs.State.{State}
+use Rattle.lock_manager.specs.Step.{Step}
+use Rattle.lock_manager.specs.Safety.{IsSafe}
+use Rattle.lock_manager.specs.MachineView.{Shows, SameMachine, Tells, machine_rules, machine_locks, machine_waits}
+use Rattle.lock_manager.specs.ManagerView.{StandsFor, SameManager, rules_of, processes_of, state_at, locks_in_books, waits_of}
+
+-- the manager stands for what its machine shows
+pub stands_for : (manager : Manager) (S : State) → Shows manager.machine S → StandsFor manager S
+unfolding locks_in_books state_at waits_of
+stands_for manager S h = record { bytes = h.bytes; flocks = h.flocks; descriptors = h.descriptors; waits = h.waits; states = h.states }
+
+-- and for nothing else
+pub shows : (manager : Manager) (S : State) → StandsFor manager S → Shows manager.machine S
+unfolding locks_in_books state_at waits_of
+shows manager S h = record { bytes = h.bytes; flocks = h.flocks; descriptors = h.descriptors; waits = h.waits; states = h.states }
+
+-- where the machine shows what it showed the manager stands for what it stood for
+pub same_manager : (old new : Manager) → SameMachine old.machine new.machine → SameManager old new
+unfolding rules_of processes_of
+same_manager old new same =
+    record { stands = λ S h. stands_for new S (same.shows S (shows old S h)); rules = same.rules; processes = same.processes }
+
+-- where each wait is blocked the machine is safe
+pub safe_machine : (machine : Machine) → AllBlocked (machine_rules machine).policy (machine_locks machine) [] (machine_waits machine)
+    → IsSafe (machine_rules machine).policy (machine_locks machine) (machine_waits machine)
+unfolding machine_rules machine_locks machine_waits
+safe_machine machine blocked = record { compatible = machine.compatible; settled = blocked; free_of_cycles = machine.free_of_cycles }
+
+-- and so is one with the same locks and waits
+pub safe_still : (old new : Machine) → SameMachine old new → IsSafe (machine_rules old).policy (machine_locks old) (machine_waits old)
+    → IsSafe (machine_rules new).policy (machine_locks new) (machine_waits new)
+safe_still old new same safe =
+    let locks : machine_locks new ≡ machine_locks old =
+    λ i. record { bytes = λ file owner byte. same.bytes file owner byte i; flocks = λ file description. same.flocks file description i } in
+    subst (λ (rs : Rules). IsSafe rs.policy (machine_locks new) (machine_waits new)) (sym same.rules)
+    (subst (λ ls. IsSafe (machine_rules old).policy ls (machine_waits new)) (sym locks)
+    (subst (IsSafe (machine_rules old).policy (machine_locks old)) (sym same.waits) safe))
+
+-- what a request of a live process tells, and then the grants of the settling, are what its step makes
+pub one_step : (old new : Manager) (middle : Machine) (p n : ℕ) (request : Request) (told grants notes : List Note)
+    → state_at old p ≡ Live → Tells old.machine middle p n request told → machine_rules middle ≡ machine_rules old.machine
+    → ((S : State) → Shows middle S → (T : State) × Settles (machine_rules middle).policy S grants T × Shows new.machine T)
+    → notes ≡ told ++ grants
+    → (S : State) → StandsFor old S → (T : State) × Step (rules_of old) (processes_of old) S p n request notes T × StandsFor new T
+unfolding rules_of processes_of
+one_step old new middle p n request told grants notes live tells rules settles is S h =
+    let given = tells S (shows old S h) in
+    let settled = settles given.0 given.2 in (
+      settled.0,
+      record {
+        live = sym (h.states p) ∙ live;
+        outcome = record { told = told; after = given.0 };
+        comes_to = given.1;
+        grants = grants;
+        settles = subst (λ (rs : Rules). Settles rs.policy given.0 grants settled.0) rules settled.1;
+        are_notes = is;
+      },
+      stands_for new settled.0 settled.2,
+    )

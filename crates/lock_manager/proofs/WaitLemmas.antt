@@ -1,0 +1,167 @@
+-- What holds of the waits stays so while locks, descriptors and processes change.
+use Rattle.std.proofs.Common.{ℕ, ◌≡◌, ◌≢◌, ◌<◌, ◌≤◌, refl, sym, ◌∙◌, ap, subst, List, [], length, Some, Option, Bool, true, false, Result, Ok, Err, OnOk, OnErr, All, get_or, inl, inr, arith}
+use Rattle.std.proofs.Math.Logic.{∥∥₁_elim}
+use Rattle.std.proofs.lemmas.Bool.{cases_Bool}
+use Rattle.std.proofs.lemmas.Bool.Decides.{eqb_tells}
+use Rattle.std.specs.Prelude.{◌==◌, ◌&&◌, if◌then◌else◌, slice_get, slice_set, IsFalse}
+use Rattle.std.specs.List.{filter}
+use Rattle.range_core.specs.declared.Memory.{Memory}
+use Rattle.range_core.specs.declared.Mode.{Mode}
+use Rattle.range_core.specs.declared.Span.{Span}
+use Rattle.lock_book.specs.declared.Owner.{Owner}
+use Rattle.lock_book.specs.declared.Owner.TheVariants.{Process, Description}
+use Rattle.lock_book.specs.declared.book.Book.{Book}
+use Rattle.lock_book.specs.Owners.{is_same_owner}
+use Rattle.lock_book.specs.Books.{SetsOwnerMode, SameBook, room_in, has_flock_place}
+use Rattle.range_core.specs.Changes.{is_covered}
+use Rattle.fd_table.specs.declared.tables.Tables.{Tables}
+use Rattle.fd_table.specs.Descriptors.{Descriptors}
+use Rattle.fd_table.specs.TablesView.{StandFor, ever_alive}
+use Rattle.wait_core.specs.declared.Policy.{Policy}
+use Rattle.wait_core.specs.declared.Wait.{Wait}
+use Rattle.wait_core.specs.Locks.{Locks, locks_of, byte_modes_at}
+use Rattle.wait_core.specs.Cycles.{IsFreeOfCycles}
+use Rattle.wait_core.specs.WaitsView.{AgreeBut}
+use Rattle.wait_core.specs.FreeOfCycles.{FreeWhenLocksChange, FreeWhenDescriptionLocksChange}
+use Rattle.lock_manager.specs.declared.request.ProcState.{ProcState}
+use Rattle.lock_manager.specs.declared.request.ProcState.TheVariants.{Live, Waiting}
+use Rattle.lock_manager.specs.State.{state_numbered}
+use Rattle.lock_manager.specs.DescriptionLocks.{MayWaitAs, AreOwned}
+use Rattle.lock_manager.specs.WaitsKept.{IsSuspended, AreAwaited, HaveRoom, is_byte_wait, room_at, has_place_at}
+use Rattle.lock_manager.proofs.BookLemmas.{slice_get-set, slice_get-set_other, entry_is, after_set, changed}
+use Rattle.lock_manager.proofs.SafetyLemmas.{same_owner, hit}
+
+-- a process stays suspended where it waits on
+pub suspended_after : (old new : Tables) (states states' : List ProcState) (waits : List Wait)
+    → ((q : ℕ) → ever_alive old q ≡ true → ever_alive new q ≡ true)
+    → ((q : ℕ) → ever_alive old q ≡ true → state_numbered states q ≡ Waiting → state_numbered states' q ≡ Waiting)
+    → All (IsSuspended old states) waits → All (IsSuspended new states') waits
+suspended_after old new states states' waits born stay h k d within =
+    let wait = get_or waits k d in
+    let was = h k d within in
+    record { born = born wait.p was.born; waiting = stay wait.p was.born was.waiting }
+
+-- no wait is of a live process
+pub waits_of_others : (tables : Tables) (states : List ProcState) (waits : List Wait) (p : ℕ) → All (IsSuspended tables states) waits → state_numbered states p ≡ Live
+    → All (λ wait. wait.p ≢ p) waits
+waits_of_others tables states waits p h live k d within e =
+    let both : Waiting ≡ Live = sym (h k d within).waiting ∙ ap (state_numbered states) e ∙ live in cc
+
+-- who waits is awaited in the same list
+pub awaited_in : (states : List ProcState) (old new : List Wait) → new ≡ old → AreAwaited states old → AreAwaited states new
+awaited_in states old new same = subst (AreAwaited states) (sym same)
+
+-- nor is its process the owner of one
+pub not_owned_by : (tables : Tables) (locks : Locks) (waits : List Wait) (p : ℕ) → AreOwned tables locks waits → All (λ wait. wait.p ≢ p) waits
+    → All (λ wait. wait.owner ≢ Process p) waits
+not_owned_by tables locks waits p owned others k d within e =
+    ∥∥₁_elim owned (λ x y. absurd x)
+    (λ given.
+    let wait = get_or waits k d in
+    let may : p ≡ wait.p = subst (λ o. MayWaitAs given.0 wait o) e (given.3 k d within) in
+    others k d within (sym may))
+
+-- a process that no descriptors count as alive was never alive
+pub never_alive : (tables : Tables) (locks : Locks) (waits : List Wait) (child : ℕ) → AreOwned tables locks waits
+    → ((D : Descriptors) → StandFor tables D → IsFalse (D.ever_alive child)) → ¬ (ever_alive tables child ≡ true)
+never_alive tables locks waits child owned free e =
+    ∥∥₁_elim owned (λ x y. absurd x)
+    (λ given.
+    let no = free given.0 given.1 in
+    let same = given.1.ever_alive child in
+    cc)
+
+-- the books but that of the file stay
+pub agree_but : (books : List Book) (file : ℕ) (new : Book) → AgreeBut file (locks_of books) (locks_of (slice_set books file new))
+agree_but books file new other owner byte distinct = ap (λ e. byte_modes_at e owner byte) (slice_get-set_other books file other new distinct)
+
+-- a change on a byte is of its owner alone
+changed_else : (locks : Locks) (file : ℕ) (owner : Owner) (span : Span) (mode : Option Mode) (f : ℕ) (o : Owner) (byte : ℕ) → o ≢ owner
+    → changed locks file owner span mode f o byte ≡ locks.bytes f o byte
+changed_else locks file owner span mode f o byte other = at ((file == f) && is_same_owner owner o && is_covered span byte) refl
+  where
+    at : (b : Bool) → ((file == f) && is_same_owner owner o && is_covered span byte) ≡ b → (if b then mode else locks.bytes f o byte) ≡ locks.bytes f o byte
+    at true e = absurd (other (sym (hit file owner span f o byte e).owner_is))
+    at false e = refl
+
+process_not_description : (p d : ℕ) → Process p ≢ Description d
+process_not_description p d e = cc
+
+-- a change of the locks of an owner closes no cycle, where a process that is the owner doesn't wait
+free_changed : FreeWhenLocksChange → FreeWhenDescriptionLocksChange → (policy : Policy) (old new : Locks) (waits : List Wait) (file : ℕ) (owner : Owner) (span : Span) (mode : Option Mode)
+    → ((p : ℕ) → owner ≡ Process p → All (λ wait. wait.owner ≢ Process p) waits)
+    → ((f : ℕ) (o : Owner) (byte : ℕ) → new.bytes f o byte ≡ changed old file owner span mode f o byte)
+    → IsFreeOfCycles policy old waits → IsFreeOfCycles policy new waits
+free_changed one all policy old new waits file (Process p) span mode idle bytes free =
+    one policy old new waits (Process p) free
+    (λ f o byte other. bytes f o byte ∙ changed_else old file (Process p) span mode f o byte other) (idle p refl)
+free_changed one all policy old new waits file (Description d) span mode idle bytes free =
+    all policy old new waits free
+    (λ f q byte. bytes f (Process q) byte ∙ changed_else old file (Description d) span mode f (Process q) byte (process_not_description q d))
+
+-- one book's change, refused or not, closes no cycle
+pub free_after : FreeWhenLocksChange → FreeWhenDescriptionLocksChange
+    → (policy : Policy) (waits : List Wait) (books : List Book) (file : ℕ) (old new : Book) (owner : Owner) (span : Span) (mode : Option Mode) (result : Result (Unit {0}) Memory)
+    → file < length books → slice_get books file ≡ Some old
+    → ((p : ℕ) → owner ≡ Process p → All (λ wait. wait.owner ≢ Process p) waits)
+    → OnOk result (SetsOwnerMode old new owner span mode) → OnErr result (SameBook old new)
+    → IsFreeOfCycles policy (locks_of books) waits → IsFreeOfCycles policy (locks_of (slice_set books file new)) waits
+free_after one all policy waits books file old new owner span mode result within was idle sets same free =
+    after_set (λ locks. IsFreeOfCycles policy locks waits) books file old new owner span mode result within was sets same
+    (λ bytes flocks. free_changed one all policy (locks_of books) (locks_of (slice_set books file new)) waits file owner span mode idle bytes free)
+    (λ bytes flocks. all policy (locks_of books) (locks_of (slice_set books file new)) waits free (λ f q byte. bytes f (Process q) byte))
+
+-- of a book that was changed, or of another one
+rooms_at : (is_it : Bool) (entry : Option Book) (old new : Book) (owner : Owner) (count : ℕ) → (is_it ≡ true → entry ≡ Some old) → room_in old owner ≤ room_in new owner
+    → count ≤ room_at entry owner → count ≤ room_at (if is_it then Some new else entry) owner
+rooms_at true entry old new owner count was more enough =
+    let here : count ≤ room_in old owner = subst (λ e. count ≤ room_at e owner) (was refl) enough in omega (arith, here, more)
+rooms_at false entry old new owner count was more enough = enough
+
+pub places_at : (is_it : Bool) (entry : Option Book) (old new : Book) (d : ℕ) → (is_it ≡ true → entry ≡ Some old) → has_flock_place new d ≡ has_flock_place old d
+    → has_place_at entry d ≡ true → has_place_at (if is_it then Some new else entry) d ≡ true
+places_at true entry old new d was same there = same ∙ subst (λ e. has_place_at e d ≡ true) (was refl) there
+places_at false entry old new d was same there = there
+
+-- a book in whose place one stands with no less room and the same places
+pub room_with : (books : List Book) (waits : List Wait) (file : ℕ) (old new : Book) → file < length books → slice_get books file ≡ Some old
+    → ((o : Owner) → room_in old o ≤ room_in new o) → ((d : ℕ) → has_flock_place new d ≡ has_flock_place old d)
+    → HaveRoom books waits → HaveRoom (slice_set books file new) waits
+room_with books waits file old new within was more same h =
+    record {
+      rooms = λ f o. rw (slice_get-set books file f new within)
+          (rooms_at (file == f) (slice_get books f) old new o (length (filter (is_byte_wait f o) waits)) (entry_is books file f old was) (more o) (h.rooms f o));
+      places = λ f d asked. rw (slice_get-set books file f new within)
+          (places_at (file == f) (slice_get books f) old new d (entry_is books file f old was) (same d) (h.places f d asked));
+    }
+
+-- a set of one owner leaves at least the room that was there
+rooms_kept : (old new : Book) (owner : Owner) (span : Span) (mode : Option Mode) → SetsOwnerMode old new owner span mode → room_in old owner ≤ room_in new owner
+    → (o : Owner) → room_in old o ≤ room_in new o
+rooms_kept old new owner span mode sets kept o = elim (cases_Bool (is_same_owner o owner)) [
+  | inl same ↦ subst (λ (x : Owner). room_in old x ≤ room_in new x) (sym (same_owner o owner same)) kept
+  | inr differs ↦
+      let there : room_in new o ≡ room_in old o = sets.rooms o (λ e. (let is : is_same_owner o owner ≡ true = subst (λ x. is_same_owner o x ≡ true) e (is_itself o) in cc)) in
+      omega (arith, there)
+]
+  where
+    is_itself : (x : Owner) → is_same_owner x x ≡ true
+    is_itself (Process p) = elim (eqb_tells p p) [ inl same ↦ same.0 | inr other ↦ absurd (other.1 refl) ]
+    is_itself (Description d) = elim (eqb_tells d d) [ inl same ↦ same.0 | inr other ↦ absurd (other.1 refl) ]
+
+same_room : (n m : ℕ) → m ≡ n → n ≤ m
+same_room n m e = omega (arith, e)
+
+-- one book's set, refused or not, leaves room for the waits
+pub room_after : (waits : List Wait) (books : List Book) (file : ℕ) (old new : Book) (owner : Owner) (span : Span) (mode : Option Mode) (result : Result (Unit {0}) Memory)
+    → file < length books → slice_get books file ≡ Some old
+    → OnOk result (SetsOwnerMode old new owner span mode) → OnOk result (room_in old owner ≤ room_in new owner) → OnErr result (SameBook old new)
+    → HaveRoom books waits → HaveRoom (slice_set books file new) waits
+room_after waits books file old new owner span mode (Ok done) within was sets kept same h =
+    room_with books waits file old new within was (rooms_kept old new owner span mode sets kept) sets.places h
+room_after waits books file old new owner span mode (Err memory) within was sets kept same h =
+    room_with books waits file old new within was (λ o. same_room (room_in old o) (room_in new o) (same.rooms o)) same.places h
+
+-- where nobody waits no room is wanted
+pub room_for_none : (books : List Book) → HaveRoom books []
+room_for_none books = record { rooms = λ file owner. omega arith; places = λ file d asked. absurd (cc) }

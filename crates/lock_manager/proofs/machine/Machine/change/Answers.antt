@@ -1,0 +1,67 @@
+use Rattle.std.proofs.Common.{◌<◌, sym, ap, subst, refl, length, All, arith}
+use Rattle.std.specs.Prelude.{slice_set}
+use Rattle.wait_core.specs.Locks.{locks_of}
+use Rattle.wait_core.specs.WaitsView.{waits_of, AreTold, AgreeBut}
+use Rattle.lock_manager.specs.WaitsKept.{IsSuspended, AreForRecords}
+use Rattle.lock_manager.specs.MachineView.{machine_locks, machine_state}
+use Rattle.lock_manager.proofs.BookLemmas.{book_at, OnOk-map, OnErr-map}
+use Rattle.lock_manager.proofs.KeptLemmas.{kept_by_change}
+use Rattle.lock_manager.proofs.WaitLemmas.{awaited_in}
+use Rattle.lock_manager.proofs.StandsLemmas.{with_change, without_change}
+use Rattle.lock_manager.proofs.machine.Machine.change.Goals as goal
+
+pub invariant_of-self : goal.invariant_of-self
+unfolding machine_locks machine_state
+invariant_of-self c =
+    let machine = c.args.self.now in
+    let books = machine.books.items in
+    let within : c.args.file < length books = omega arith in
+    let laws = c.stay_free_of_cycles.ensures in
+    let kept = kept_by_change laws.locks_change laws.description_locks_change machine (slice_set books c.from.result c.set-done.new.self) c.refresh.new.self
+    c.args.file c.index_mut.result.now c.set-done.new.self c.args.owner c.args.span c.args.mode c.set-done.result
+    (ap (λ i. slice_set books i c.set-done.new.self) c.from.ensures) within
+    (book_at books c.from.result c.args.file _ c.from.ensures within c.index_mut.ensures.value)
+    c.requires.owner c.requires.span c.requires.live c.requires.free c.set-done.ensures.ok c.set-done.ensures.room c.set-done.ensures.err
+    (record { waits = c.refresh.ensures.waits; policy = c.refresh.ensures.policy; processes = c.refresh.ensures.processes })
+    (λ told agree.
+    subst (λ bs. AreTold c.refresh.new.self (locks_of bs)) c.deref.ensures.value
+    (c.refresh.ensures.told (locks_of books) told (subst (λ bs. AgreeBut c.args.file (locks_of books) (locks_of bs)) (sym c.deref.ensures.value) agree))) in
+    record {
+      files = machine.files;
+      numbered = machine.numbered;
+      tabled = machine.tabled;
+      limited = machine.limited;
+      alive = machine.alive;
+      compatible = kept.compatible;
+      owned = kept.owned;
+      within = kept.within;
+      policy = kept.policy;
+      counted = kept.counted;
+      told = kept.told;
+      apart = kept.apart;
+      suspended = subst (All (IsSuspended machine.tables machine.states.items)) (sym c.refresh.ensures.waits) machine.suspended;
+      awaited = awaited_in machine.states.items (waits_of machine.waits) (waits_of c.refresh.new.self) c.refresh.ensures.waits machine.awaited;
+      records = subst AreForRecords (sym c.refresh.ensures.waits) machine.records;
+      room = kept.room;
+      free_of_cycles = kept.free_of_cycles;
+    }
+
+pub returns-clause-ok : goal.returns-clause-ok
+returns-clause-ok c =
+    let machine = c.args.self.now in
+    let books = machine.books.items in
+    let within : c.args.file < length books = omega arith in
+    OnOk-map _ _ c.set-done.result c.set-done.ensures.ok
+    (λ sets S h. with_change machine _ S c.args.file c.index_mut.result.now c.set-done.new.self c.args.owner c.args.span c.args.mode
+    (ap (λ i. slice_set books i c.set-done.new.self) c.from.ensures) refl refl within
+    (book_at books c.from.result c.args.file _ c.from.ensures within c.index_mut.ensures.value) sets c.refresh.ensures.waits h)
+
+pub returns-clause-memory : goal.returns-clause-memory
+returns-clause-memory c =
+    let machine = c.args.self.now in
+    let books = machine.books.items in
+    let within : c.args.file < length books = omega arith in
+    OnErr-map _ _ c.set-done.result c.set-done.ensures.err
+    (λ same. without_change machine _ c.args.file c.index_mut.result.now c.set-done.new.self
+    (ap (λ i. slice_set books i c.set-done.new.self) c.from.ensures) refl refl refl refl within
+    (book_at books c.from.result c.args.file _ c.from.ensures within c.index_mut.ensures.value) same c.refresh.ensures.waits)

@@ -1,0 +1,95 @@
+use Rattle.std.proofs.Common.{refl, sym, subst, ◌∙◌, All}
+use Rattle.fd_table.specs.TablesView.{limits_of}
+use Rattle.wait_core.specs.Locks.{locks_of}
+use Rattle.wait_core.specs.WaitsView.{waits_of}
+use Rattle.lock_manager.specs.declared.request.Reply.TheVariants as replies
+use Rattle.lock_manager.specs.declared.request.Request.TheVariants.{DupTo}
+use Rattle.lock_manager.proofs.BookLemmas.{OnErr-map}
+use Rattle.lock_manager.proofs.CallLemmas.{done_by, refused_by, never_memory}
+use Rattle.lock_manager.proofs.ClosingLemmas.{dup2_closes}
+use Rattle.lock_manager.proofs.AfterCloseLemmas.{DupsTo, after_dup2, served_by_dup2, with_release}
+use Rattle.lock_manager.proofs.OwnedLemmas.{owned_after}
+use Rattle.lock_manager.specs.MachineView.{machine_state}
+use Rattle.lock_manager.specs.WaitsKept.{IsSuspended, AreForRecords}
+use Rattle.lock_manager.proofs.KeptLemmas.{kept_by_release}
+use Rattle.lock_manager.proofs.WaitLemmas.{suspended_after, awaited_in}
+use Rattle.lock_manager.proofs.machine.Machine.dup_to.Goals as goal
+
+pub invariant_of-self : goal.invariant_of-self
+unfolding machine_state
+invariant_of-self c =
+    let machine = c.args.self.now in
+    let released = c.in-Ok.released in
+    let after = c.release.ensures in
+    let kept = kept_by_release machine c.dup2.new.self c.release.new.books.items c.release.new.waits c.args.p released c.requires
+    (λ D stands. let given = c.in-Ok.ensures.step D stands in (given.0, dup2_closes (limits_of machine.tables) D given.0 c.args.p c.args.fd c.args.to (c.in-Ok.number, released) given.1, given.2))
+    after.locks after.room after.waits after.told after.free in
+    record {
+      files = after.count;
+      numbered = machine.numbered;
+      tabled = c.dup2.ensures.kept.processes ∙ machine.tabled;
+      limited = c.dup2.ensures.kept.limits ∙ machine.limited;
+      alive = λ p live. c.dup2.ensures.kept.alive p ∙ machine.alive p live;
+      compatible = kept.compatible;
+      owned = kept.owned;
+      within = kept.within;
+      policy = kept.policy;
+      counted = kept.counted;
+      told = kept.told;
+      apart = kept.apart;
+      suspended = subst (All (IsSuspended c.dup2.new.self machine.states.items)) (sym after.waits.waits)
+          (suspended_after machine.tables c.dup2.new.self machine.states.items machine.states.items (waits_of machine.waits)
+          (λ q born. c.dup2.ensures.kept.alive q ∙ born) (λ q born live. live) machine.suspended);
+      awaited = awaited_in machine.states.items (waits_of machine.waits) (waits_of c.release.new.waits) after.waits.waits machine.awaited;
+      records = subst AreForRecords (sym after.waits.waits) machine.records;
+      room = kept.room;
+      free_of_cycles = kept.free_of_cycles;
+    }
+
+pub invariant_of-self-in-Err-1 : goal.invariant_of-self-in-Err-1
+invariant_of-self-in-Err-1 c =
+    let machine = c.args.self.now in
+    record {
+      files = machine.files;
+      numbered = machine.numbered;
+      tabled = c.dup2.ensures.kept.processes ∙ machine.tabled;
+      limited = c.dup2.ensures.kept.limits ∙ machine.limited;
+      alive = λ p live. c.dup2.ensures.kept.alive p ∙ machine.alive p live;
+      compatible = machine.compatible;
+      owned = owned_after machine.tables c.dup2.new.self (locks_of machine.books.items) (waits_of machine.waits) machine.owned
+          (λ D stands. (D, λ file d q is. is, c.in-Err.ensures.refused D stands));
+      within = machine.within;
+      policy = machine.policy;
+      counted = machine.counted;
+      told = machine.told;
+      apart = machine.apart;
+      suspended = suspended_after machine.tables c.dup2.new.self machine.states.items machine.states.items (waits_of machine.waits)
+          (λ q born. c.dup2.ensures.kept.alive q ∙ born) (λ q born live. live) machine.suspended;
+      awaited = machine.awaited;
+      records = machine.records;
+      room = machine.room;
+      free_of_cycles = machine.free_of_cycles;
+    }
+
+pub returns-in-Ok-clause-answers : goal.returns-in-Ok-clause-answers
+returns-in-Ok-clause-answers c =
+    let machine = c.args.self.now in
+    let released = c.in-Ok.released in
+    done_by (DupsTo machine c.args.p c.args.fd c.args.to) (after_dup2 c.args.p) (λ answer. replies.Fd answer.0) machine _ c.args.p (DupTo c.args.fd c.args.to) (c.in-Ok.number, c.in-Ok.released)
+    (served_by_dup2 machine c.args.p c.args.fd c.args.to)
+    (λ S E h gives tables. with_release machine _ S E c.args.p released (dup2_closes (limits_of machine.tables) S.descriptors E c.args.p c.args.fd c.args.to (c.in-Ok.number, released) gives)
+    c.release.ensures.locks refl c.release.ensures.waits.waits h tables)
+    c.in-Ok.ensures.step
+
+pub returns-in-Err-clause-answers : goal.returns-in-Err-clause-answers
+returns-in-Err-clause-answers c =
+    let machine = c.args.self.now in
+    refused_by (DupsTo machine c.args.p c.args.fd c.args.to) (after_dup2 c.args.p) (λ answer. replies.Fd answer.0) machine _ c.args.p (DupTo c.args.fd c.args.to) c.in-Err.fault c.refusal.result
+    (served_by_dup2 machine c.args.p c.args.fd c.args.to) refl refl refl
+    (λ other. c.in-Err.ensures.step) c.in-Err.ensures.refused c.refusal.ensures.refused
+
+pub returns-in-Err-clause-sure : goal.returns-in-Err-clause-sure
+returns-in-Err-clause-sure c =
+    let machine = c.args.self.now in
+    OnErr-map _ _ c.refusal.result c.refusal.ensures.memory
+    (never_memory (DupsTo machine c.args.p c.args.fd c.args.to) machine.tables c.dup2.new.self (locks_of machine.books.items) (waits_of machine.waits) c.in-Err.fault machine.owned (λ D E gives. gives) c.in-Err.ensures.step)

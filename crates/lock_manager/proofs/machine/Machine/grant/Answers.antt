@@ -1,0 +1,105 @@
+use Rattle.std.proofs.Common.{refl, ◌≡◌, ◌<◌, sym, ap, subst, length, Some, All, Ok, arith}
+use Rattle.std.proofs.lemmas.Option.{same_Some}
+use Rattle.std.specs.Prelude.{slice_set}
+use Rattle.lock_manager.specs.DescriptionLocks.{MayLock}
+use Rattle.lock_book.specs.Conflicts.{ByteConflict}
+use Rattle.wait_core.specs.declared.Family.TheVariants.{Bytes}
+use Rattle.wait_core.specs.Blocking.{IsBlockedIn}
+use Rattle.wait_core.specs.Locks.{locks_of}
+use Rattle.wait_core.specs.WaitsView.{waits_of, AreTold, AgreeBut}
+use Rattle.lock_manager.specs.State.{State, with_process}
+use Rattle.lock_manager.specs.ProcessCalls.{without_wait}
+use Rattle.lock_manager.specs.declared.request.ProcState.TheVariants.{Live}
+use Rattle.lock_manager.specs.WaitsKept.{AreApart, AreForRecords, IsSuspended, HaveRoom}
+use Rattle.lock_manager.specs.MachineView.{machine_locks, machine_state, machine_waits}
+use Rattle.lock_manager.proofs.BookLemmas.{book_at}
+use Rattle.lock_manager.proofs.GrantLemmas.{room_for_grant, room_granted, may_lock_granted, owner_granted, shows_granted}
+use Rattle.lock_manager.proofs.ProcessCallLemmas.{found_holds}
+use Rattle.lock_manager.proofs.KeptLemmas.{kept_in_room}
+use Rattle.lock_manager.proofs.StandsLemmas.{with_change}
+use Rattle.lock_manager.proofs.WaitLemmas.{awaited_in}
+use Rattle.lock_manager.proofs.machine.Machine.grant.Goals as goal
+
+pub interrupt-requires : goal.interrupt-requires
+unfolding machine_state machine_waits
+interrupt-requires c =
+    let machine = c.args.self.now in
+    (found_holds (IsSuspended machine.tables machine.states.items) (waits_of machine.waits) c.args.wait.p c.args.wait c.requires.waits machine.suspended).waiting
+
+pub set_reserved-requires-clause-room : goal.set_reserved-requires-clause-room
+unfolding machine_waits
+set_reserved-requires-clause-room c =
+    let machine = c.args.self.now in
+    let books = c.interrupt.new.self.books.items in
+    let within : c.args.wait.file < length books = (let few = c.requires.well_formed.file in omega arith) in
+    let was = book_at books c.from.result c.args.wait.file c.index_mut-book.result.now c.from.ensures within c.index_mut-book.ensures.value in
+    let family = found_holds (λ w. w.family ≡ Bytes) (waits_of machine.waits) c.args.wait.p c.args.wait c.requires.waits machine.records in
+    room_for_grant books (waits_of machine.waits) c.args.wait c.index_mut-book.result.now c.requires.waits family was
+    (subst (λ bs. HaveRoom bs (waits_of machine.waits)) (ap (λ bs. bs.items) (sym c.interrupt.ensures.books)) machine.room)
+
+pub invariant_of-self : goal.invariant_of-self
+unfolding machine_locks machine_state machine_waits
+invariant_of-self c =
+    let machine = c.interrupt.new.self in
+    let books = machine.books.items in
+    let wait = c.args.wait in
+    let before = waits_of c.args.self.now.waits in
+    let within : wait.file < length books = (let few = c.requires.well_formed.file in omega arith) in
+    let was = book_at books c.from.result wait.file c.index_mut-book.result.now c.from.ensures within c.index_mut-book.ensures.value in
+    let is = ap (λ i. slice_set books i c.set_reserved.new.self) c.from.ensures in
+    let family : wait.family ≡ Bytes = found_holds (λ w. w.family ≡ Bytes) before wait.p wait c.requires.waits c.args.self.now.records in
+    let same_books : machine.books.items ≡ c.args.self.now.books.items = ap (λ bs. bs.items) c.interrupt.ensures.books in
+    let room : HaveRoom (slice_set books wait.file c.set_reserved.new.self) (waits_of machine.waits) =
+    subst (HaveRoom (slice_set books wait.file c.set_reserved.new.self)) (sym c.interrupt.ensures.waits)
+    (room_granted books before wait c.index_mut-book.result.now c.set_reserved.new.self c.requires.waits family within was c.set_reserved.ensures.sets c.set_reserved.ensures.room
+    (subst (λ bs. HaveRoom bs before) (sym same_books) c.args.self.now.room)) in
+    let free : ¬ ByteConflict ((locks_of books).bytes wait.file) wait.owner wait.span wait.mode =
+    subst (λ bs. ¬ ByteConflict ((locks_of bs).bytes wait.file) wait.owner wait.span wait.mode) (sym same_books)
+    (subst (λ f. ¬ IsBlockedIn f (machine_locks c.args.self.now) wait) family c.requires.free) in
+    let tables : c.args.self.now.tables ≡ machine.tables = sym c.interrupt.ensures.tables in
+    let laws = c.stay_free_of_cycles.ensures in
+    let kept = kept_in_room laws.locks_change laws.description_locks_change machine (slice_set books c.from.result c.set_reserved.new.self) c.refresh.new.self
+    wait.file c.index_mut-book.result.now c.set_reserved.new.self wait.owner wait.span (Some wait.mode) (Ok tt) is within was
+    (subst (λ t. MayLock t wait.file wait.owner) tables (may_lock_granted c.args.self.now.tables (locks_of c.args.self.now.books.items) before wait c.args.self.now.owned c.requires.waits))
+    c.requires.well_formed.range
+    (λ q e. subst (λ p. machine_state machine p ≡ Live) (sym (owner_granted c.args.self.now.tables (locks_of c.args.self.now.books.items) before wait c.args.self.now.owned c.requires.waits q e)) c.interrupt.ensures.live)
+    (λ k e. subst (λ m. ¬ ByteConflict ((locks_of books).bytes wait.file) wait.owner wait.span m) (same_Some wait.mode k e) free)
+    c.set_reserved.ensures.sets room tt
+    (record { waits = c.refresh.ensures.waits; policy = c.refresh.ensures.policy; processes = c.refresh.ensures.processes })
+    (λ told agree.
+    subst (λ bs. AreTold c.refresh.new.self (locks_of bs)) c.deref.ensures.value
+    (c.refresh.ensures.told (locks_of books) told (subst (λ bs. AgreeBut wait.file (locks_of books) (locks_of bs)) (sym c.deref.ensures.value) agree))) in
+    record {
+      files = machine.files;
+      numbered = machine.numbered;
+      tabled = machine.tabled;
+      limited = machine.limited;
+      alive = machine.alive;
+      compatible = kept.compatible;
+      owned = kept.owned;
+      within = kept.within;
+      policy = kept.policy;
+      counted = kept.counted;
+      told = kept.told;
+      apart = kept.apart;
+      suspended = subst (All (IsSuspended machine.tables machine.states.items)) (sym c.refresh.ensures.waits) machine.suspended;
+      awaited = awaited_in machine.states.items (waits_of machine.waits) (waits_of c.refresh.new.self) c.refresh.ensures.waits machine.awaited;
+      records = subst AreForRecords (sym c.refresh.ensures.waits) machine.records;
+      room = kept.room;
+      free_of_cycles = kept.free_of_cycles;
+    }
+
+pub returns-clause-shows : goal.returns-clause-shows
+unfolding machine_waits
+returns-clause-shows c S before after h place =
+    let machine = c.interrupt.new.self in
+    let books = machine.books.items in
+    let wait = c.args.wait in
+    let within : wait.file < length books = (let few = c.requires.well_formed.file in omega arith) in
+    let was = book_at books c.from.result wait.file c.index_mut-book.result.now c.from.ensures within c.index_mut-book.ensures.value in
+    let family : wait.family ≡ Bytes = found_holds (λ w. w.family ≡ Bytes) (waits_of c.args.self.now.waits) wait.p wait c.requires.waits c.args.self.now.records in
+    let T : State = with_process (without_wait S wait.p) wait.p Live in
+    shows_granted _ S before wait after family (subst AreApart h.waits c.args.self.now.apart) place
+    (with_change machine _ T wait.file c.index_mut-book.result.now c.set_reserved.new.self wait.owner wait.span (Some wait.mode)
+    (ap (λ i. slice_set books i c.set_reserved.new.self) c.from.ensures) refl refl within was c.set_reserved.ensures.sets c.refresh.ensures.waits
+    (c.interrupt.ensures.shows S h))

@@ -1,0 +1,40 @@
+use Rattle.std.proofs.Common.{◌≡◌, sym, subst, arith}
+use Rattle.wait_core.specs.Locks.{locks_of}
+use Rattle.wait_core.specs.Cycles.{IsFreeOfCycles}
+use Rattle.wait_core.specs.WaitsView.{waits_of}
+use Rattle.wait_core.specs.declared.Family.TheVariants.{Bytes}
+use Rattle.lock_manager.specs.WaitsKept.{AreApart, IsSuspended, HaveRoom}
+use Rattle.lock_manager.proofs.WaitLemmas.{room_for_none}
+use Rattle.lock_manager.proofs.BookLemmas.{unlocked_bytes}
+use Rattle.lock_manager.proofs.OwnedLemmas.{owned_at_opening, of_no_wait}
+use Rattle.lock_manager.proofs.SafetyLemmas.{compatible_without_locks, free_without_waits}
+use Rattle.lock_manager.proofs.StandsLemmas.{at_opening, first_lives, none_waits}
+use Rattle.lock_manager.proofs.machine.Machine.new.Goals as goal
+
+pub invariant_of-result : goal.invariant_of-result
+invariant_of-result c =
+    let none = c.in_ok-waits.ensures.empty in
+    record {
+      files = c.in_ok-books.ensures.len;
+      numbered = c.in_ok-states.ensures.len;
+      tabled = c.in_ok-tables.ensures.processes;
+      limited = c.in_ok-tables.ensures.limits;
+      alive = λ p live. first_lives c.in_ok-tables.tables c.in_ok-states.states.items c.in_ok-tables.ensures.opening c.in_ok-states.ensures.states p live;
+      compatible = compatible_without_locks c.in_ok-books.books.items c.in_ok-books.ensures.empty;
+      owned = owned_at_opening c.in_ok-tables.tables c.in_ok-books.books.items (waits_of c.in_ok-waits.waits) c.in_ok-tables.ensures.opening c.in_ok-books.ensures.empty none;
+      within = λ file owner byte past. unlocked_bytes c.in_ok-books.books.items c.in_ok-books.ensures.empty file owner byte;
+      policy = c.in_ok-waits.ensures.policy;
+      counted = c.in_ok-waits.ensures.processes;
+      told = ∣ c.in_ok-waits.ensures.told (locks_of c.in_ok-books.books.items) ∣₁;
+      apart = subst AreApart (sym none) (λ i j d before within. absurd (omega (arith, within)));
+      suspended = of_no_wait (IsSuspended c.in_ok-tables.tables c.in_ok-states.states.items) (waits_of c.in_ok-waits.waits) none;
+      awaited = λ p waiting. absurd (none_waits c.in_ok-states.states.items c.in_ok-states.ensures.states p waiting);
+      records = of_no_wait (λ wait. wait.family ≡ Bytes) (waits_of c.in_ok-waits.waits) none;
+      room = subst (HaveRoom c.in_ok-books.books.items) (sym none) (room_for_none c.in_ok-books.books.items);
+      free_of_cycles = subst (IsFreeOfCycles c.args.rules.policy (locks_of c.in_ok-books.books.items)) (sym none)
+          (free_without_waits c.args.rules.policy (locks_of c.in_ok-books.books.items));
+    }
+
+pub returns-clause-opening : goal.returns-clause-opening
+returns-clause-opening c =
+    at_opening _ c.in_ok-books.ensures.empty c.in_ok-tables.ensures.opening c.in_ok-states.ensures.states c.in_ok-waits.ensures.empty

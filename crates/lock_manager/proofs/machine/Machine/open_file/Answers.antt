@@ -1,0 +1,39 @@
+use Rattle.lock_manager.proofs.CallLemmas.{Opens, with_descriptors, served_by_open}
+use Rattle.lock_manager.proofs.StandsLemmas.{with_tables}
+use Rattle.lock_manager.specs.declared.request.Reply.TheVariants as replies
+use Rattle.lock_manager.specs.declared.request.Request.TheVariants.{OpenFile}
+use Rattle.lock_manager.proofs.CallLemmas.{done_by, refused_by}
+use Rattle.lock_manager.proofs.WaitLemmas.{suspended_after}
+use Rattle.std.proofs.Common.{◌∙◌, refl}
+use Rattle.fd_table.specs.TablesView.{limits_of}
+use Rattle.wait_core.specs.Locks.{locks_of}
+use Rattle.wait_core.specs.WaitsView.{waits_of}
+use Rattle.lock_manager.proofs.StayOpenLemmas.{opened_stays, owned_call}
+use Rattle.lock_manager.proofs.machine.Machine.open_file.Goals as goal
+
+pub invariant_of-self-clause-owned : goal.invariant_of-self-clause-owned
+invariant_of-self-clause-owned c =
+    let machine = c.args.self.now in
+    owned_call (Opens machine c.args.p c.args.file c.args.access) machine.tables c.open_file.new.self (locks_of machine.books.items) (waits_of machine.waits) c.open_file.result
+    (λ D E fd is stands gives. opened_stays (limits_of machine.tables) D E c.args.p c.args.file c.args.access fd gives)
+    c.open_file.ensures.step c.open_file.ensures.refused machine.owned
+
+pub invariant_of-self-clause-suspended : goal.invariant_of-self-clause-suspended
+invariant_of-self-clause-suspended c =
+    let machine = c.args.self.now in
+    suspended_after machine.tables c.open_file.new.self machine.states.items machine.states.items (waits_of machine.waits)
+    (λ q born. c.open_file.ensures.kept.alive q ∙ born) (λ q born live. live) machine.suspended
+
+pub returns-in-Ok-clause-answers : goal.returns-in-Ok-clause-answers
+returns-in-Ok-clause-answers c =
+    done_by (Opens c.args.self.now c.args.p c.args.file c.args.access) with_descriptors replies.Fd c.args.self.now _ c.args.p (OpenFile c.args.file c.args.access) c.in-Ok.fd
+    (served_by_open c.args.self.now c.args.p c.args.file c.args.access)
+    (λ S E h gives tables. with_tables c.args.self.now _ S E refl refl refl h tables)
+    (c.in-Ok.ensures.step (λ e. cc))
+
+pub returns-in-Err-clause-answers : goal.returns-in-Err-clause-answers
+returns-in-Err-clause-answers c =
+    refused_by (Opens c.args.self.now c.args.p c.args.file c.args.access) with_descriptors replies.Fd c.args.self.now _ c.args.p (OpenFile c.args.file c.args.access) c.in-Err.fault c.refusal.result
+    (served_by_open c.args.self.now c.args.p c.args.file c.args.access)
+    refl refl refl
+    c.in-Err.ensures.step c.in-Err.ensures.refused c.refusal.ensures.refused

@@ -1,0 +1,8 @@
+use Rattle.std.proofs.Common.{sym, ◌∙◌}
+use Rattle.lock_manager.proofs.CommandLemmas.{asked}
+use Rattle.lock_manager.proofs.machine.Machine.range_command.Goals as goal
+
+pub returns-then-is_get-clause-told : goal.returns-then-is_get-clause-told
+returns-then-is_get-clause-told c =
+    asked c.args.self.now c.args.p c.args.n c.args.cmd c.args.kind c.args.look c.args.span c.in-Some.mode c.owner-owner.result c.get_reply.result c.answered-then-is_get.result
+    c.in-Some.ensures (sym c.is_get.ensures ∙ c.if-is_get.true) c.owner-owner.ensures c.answered-then-is_get.ensures c.get_reply.ensures

@@ -1,0 +1,44 @@
+use Rattle.lock_manager.proofs.WaitLemmas.{suspended_after}
+use Rattle.std.proofs.Common.{◌∙◌, refl, subst, Ok, Err, rules, FitsSigned, to_z, of_z, w64}
+use Rattle.std.proofs.lemmas.Int.{to_z-of_z}
+use Rattle.fd_table.specs.Calls.{ResizeGives}
+use Rattle.lock_manager.specs.declared.request.Reply.TheVariants as replies
+use Rattle.lock_manager.specs.declared.request.Request.TheVariants.{Resize}
+use Rattle.lock_manager.proofs.CallLemmas.{Gave, with_descriptors, done_by, refused_by}
+use Rattle.lock_manager.proofs.StandsLemmas.{with_tables}
+use Rattle.wait_core.specs.Locks.{locks_of}
+use Rattle.wait_core.specs.WaitsView.{waits_of}
+use Rattle.lock_manager.proofs.StayOpenLemmas.{resized_stays, owned_call}
+use Rattle.lock_manager.proofs.machine.Machine.resize.Goals as goal
+
+pub invariant_of-self-clause-owned : goal.invariant_of-self-clause-owned
+invariant_of-self-clause-owned c =
+    let machine = c.args.self.now in
+    owned_call (λ D result E. ResizeGives D c.args.p c.args.fd (to_z w64 (of_z w64 c.args.size)) result E) machine.tables c.resize.new.self (locks_of machine.books.items) (waits_of machine.waits) c.resize.result
+    (λ D E done is stands gives. resized_stays D E c.args.p c.args.fd (to_z w64 (of_z w64 c.args.size)) gives)
+    (λ other. c.resize.ensures.step) c.resize.ensures.refused machine.owned
+
+pub invariant_of-self-clause-suspended : goal.invariant_of-self-clause-suspended
+invariant_of-self-clause-suspended c =
+    let machine = c.args.self.now in
+    suspended_after machine.tables c.resize.new.self machine.states.items machine.states.items (waits_of machine.waits)
+    (λ q born. c.resize.ensures.kept.alive q ∙ born) (λ q born live. live) machine.suspended
+
+pub returns-in-Ok-clause-answers : goal.returns-in-Ok-clause-answers
+returns-in-Ok-clause-answers c =
+    let machine = c.args.self.now in
+    let fits : FitsSigned w64 c.args.size = search rules in
+    done_by (λ D result E. ResizeGives D c.args.p c.args.fd c.args.size result E) with_descriptors (λ done. replies.Ok) machine _ c.args.p (Resize c.args.fd c.args.size) tt
+    (λ S n outcome h. h)
+    (λ S E h gives tables. with_tables machine _ S E refl refl refl h tables)
+    (subst (λ size. Gave (λ D result E. ResizeGives D c.args.p c.args.fd size result E) machine.tables c.resize.new.self (Ok tt)) (to_z-of_z w64 c.args.size fits) c.in-Ok.ensures.step)
+
+pub returns-in-Err-clause-answers : goal.returns-in-Err-clause-answers
+returns-in-Err-clause-answers c =
+    let machine = c.args.self.now in
+    let fits : FitsSigned w64 c.args.size = search rules in
+    refused_by (λ D result E. ResizeGives D c.args.p c.args.fd c.args.size result E) with_descriptors (λ done. replies.Ok) machine _ c.args.p (Resize c.args.fd c.args.size) c.in-Err.fault c.refusal.result
+    (λ S n outcome h. h)
+    refl refl refl
+    (λ other. subst (λ size. Gave (λ D result E. ResizeGives D c.args.p c.args.fd size result E) machine.tables c.resize.new.self (Err c.in-Err.fault)) (to_z-of_z w64 c.args.size fits) c.in-Err.ensures.step)
+    c.in-Err.ensures.refused c.refusal.ensures.refused

@@ -1,0 +1,50 @@
+use Rattle.std.proofs.Common.{[], ◌∷◌, ◌++◌, ◌≡◌, refl, sym, ◌∙◌, ap, append-nil, arith, length, length-append}
+use Rattle.std.proofs.lemmas.List.{append_assoc}
+use Rattle.lock_manager.specs.declared.request.Note.TheVariants.{Answer}
+use Rattle.lock_manager.specs.declared.request.Reply.TheVariants as replies
+use Rattle.lock_manager.proofs.SettleLemmas.{leads_nowhere, next_is_free, leads_on, settled_here}
+use Rattle.lock_manager.proofs.machine.Machine.settle.Goals as goal
+
+pub loop-wait-init : goal.loop-wait-init
+loop-wait-init c = record {
+  room = c.requires;
+  rules = refl;
+  processes = refl;
+  grants = ([], sym (append-nil _), leads_nowhere c.args.self.now);
+}
+
+pub grant-requires-clause-free : goal.grant-requires-clause-free
+grant-requires-clause-free c = next_is_free _ _ _ _ c.in-Some.ensures.ready
+
+pub push_reserved-requires : goal.push_reserved-requires
+push_reserved-requires c =
+    let room = c.loop-wait.invariant.room in
+    let fewer = c.grant.ensures.fewer in
+    omega arith
+
+pub loop-wait-smaller : goal.loop-wait-smaller
+loop-wait-smaller c = let fewer = c.grant.ensures.fewer in omega arith
+
+pub loop-wait-preserved : goal.loop-wait-preserved
+loop-wait-preserved c =
+    let before = c.loop-wait.invariant in
+    let machine = c.loop-wait.self in
+    let note = Answer c.in-Some.wait.p c.in-Some.wait.n replies.Ok in
+    let items : c.push_reserved.new.self.items ≡ c.loop-wait.notes.items ++ note ∷ [] =
+    c.push_reserved.ensures.items ∙ ap (λ last. c.loop-wait.notes.items ++ last ∷ []) c.answered.ensures in
+    record {
+      room = (let room = before.room in let fewer = c.grant.ensures.fewer in let longer = ap length items ∙ length-append c.loop-wait.notes.items (note ∷ []) in
+          let same = c.push_reserved.ensures.capacity in omega arith);
+      rules = c.grant.ensures.rules ∙ before.rules;
+      processes = c.grant.ensures.processes ∙ before.processes;
+      grants = (
+        before.grants.0 ++ note ∷ [],
+        items ∙ ap (λ notes. notes ++ note ∷ []) before.grants.1 ∙ append_assoc c.args.notes.now.items before.grants.0 (note ∷ []),
+        leads_on c.args.self.now machine c.grant.new.self before.grants.0 c.in-Some.wait before.rules c.in-Some.ensures.ready c.grant.ensures.shows before.grants.2,
+      );
+    }
+
+pub returns-clause-settles : goal.returns-clause-settles
+returns-clause-settles c =
+    let last = c.loop-wait.invariant in
+    (last.grants.0, last.grants.1, settled_here c.args.self.now c.loop-wait.self last.grants.0 last.rules c.in_default.ensures.settled last.grants.2)

@@ -1,7 +1,0 @@
-use Rattle.lock_book.specs.Reports.{AreFileReports}
-use Rattle.wait_core.specs.Locks.{locks_of}
-use Rattle.lock_manager.proofs.manager.Manager.held.Given as goal
-
-abbrev pub invariant-loop-file : goal.invariant-loop-file
-invariant-loop-file l =
-    AreFileReports 0 l.file (locks_of l.self.books.items).bytes (locks_of l.self.books.items).flocks l.report.items

@@ -1,0 +1,77 @@
+-- What holds of the waits at every moment, also inside an event.
+use Rattle.std.specs.Prelude.{◌≡◌, ◌≢◌, ℕ, ◌≤◌, ◌==◌, ◌&&◌, Bool, true, false, List, All, AllPairs, Option, Some, None, length, filter, slice_get}
+use Rattle.std.specs.List.{list_any}
+use Rattle.lock_book.specs.declared.Owner.{Owner}
+use Rattle.lock_book.specs.declared.Owner.TheVariants.{Description}
+use Rattle.lock_book.specs.declared.book.Book.{Book}
+use Rattle.lock_book.specs.Owners.{is_same_owner}
+use Rattle.lock_book.specs.Books.{room_in, has_flock_place}
+use Rattle.fd_table.specs.declared.tables.Tables.{Tables}
+use Rattle.fd_table.specs.TablesView.{ever_alive}
+use Rattle.wait_core.specs.declared.Family.{Family}
+use Rattle.wait_core.specs.declared.Family.TheVariants.{Bytes, Whole}
+use Rattle.wait_core.specs.declared.Wait.{Wait}
+use Rattle.wait_core.specs.declared.waits.Waits.{Waits}
+use Rattle.wait_core.specs.WaitsView.{waits_of, policy_of, processes_of, wait_of}
+use Rattle.lock_manager.specs.declared.request.ProcState.{ProcState}
+use Rattle.lock_manager.specs.declared.request.ProcState.TheVariants.{Waiting}
+use Rattle.lock_manager.specs.State.{state_numbered}
+
+-- the waits are of different processes (this project's choice: a process that waits makes no request)
+abbrev pub AreApart : List Wait → Type 0
+AreApart waits = AllPairs (λ v w. v.p ≢ w.p) waits
+
+-- the process of the wait was alive, and no request of it is taken until the wait is over
+-- (POSIX.1-2017 fcntl, DESCRIPTION, F_SETLKW, "the thread shall wait")
+pub record IsSuspended (tables : Tables) (states : List ProcState) (wait : Wait) : Type 0 where
+  pub born : ever_alive tables wait.p ≡ true
+  pub waiting : state_numbered states wait.p ≡ Waiting
+
+-- each process that waits has a wait in the list (this project's choice)
+abbrev pub AreAwaited : List ProcState → List Wait → Type 0
+AreAwaited states waits = (p : ℕ) → state_numbered states p ≡ Waiting → wait_of waits p ≢ None
+
+-- no wait is for a whole file (no request that is served asks for one)
+abbrev pub AreForRecords : List Wait → Type 0
+AreForRecords waits = All (λ wait. wait.family ≡ Bytes) waits
+
+-- whether the locks of the family are those on bytes
+abbrev pub is_of_bytes : Family → Bool
+is_of_bytes Bytes = true
+is_of_bytes Whole = false
+
+-- whether the wait is for a byte lock of this owner on this file
+abbrev pub is_byte_wait : ℕ → Owner → Wait → Bool
+is_byte_wait file owner wait = is_of_bytes wait.family && (wait.file == file) && is_same_owner wait.owner owner
+
+-- whether the locks of the family are those on whole files
+abbrev pub is_of_whole : Family → Bool
+is_of_whole Bytes = false
+is_of_whole Whole = true
+
+-- whether the wait is for the flock lock of this description on this file
+abbrev pub is_flock_wait : ℕ → ℕ → Wait → Bool
+is_flock_wait file description wait =
+    is_of_whole wait.family && (wait.file == file) && is_same_owner wait.owner (Description description)
+
+-- the room that a file's book holds for the owner, and none without one
+abbrev pub room_at : Option Book → Owner → ℕ
+room_at None owner = 0
+room_at (Some book) owner = room_in book owner
+
+-- whether a file's book keeps a place for the description, and not without one
+abbrev pub has_place_at : Option Book → ℕ → Bool
+has_place_at None description = false
+has_place_at (Some book) description = has_flock_place book description
+
+-- an owner has on each file room for as many sets as it has waits for byte locks there, and a description a place for the
+-- flock lock that it waits for: so a grant takes no memory (this project's choice)
+pub record HaveRoom (books : List Book) (waits : List Wait) : Type 0 where
+  pub rooms : (file : ℕ) (owner : Owner) → length (filter (is_byte_wait file owner) waits) ≤ room_at (slice_get books file) owner
+  pub places : (file description : ℕ) → list_any (is_flock_wait file description) waits ≡ true → has_place_at (slice_get books file) description ≡ true
+
+-- the list of waits, their policy and the number of processes stay
+pub record SameWaits (old new : Waits) : Type 0 where
+  pub waits : waits_of new ≡ waits_of old
+  pub policy : policy_of new ≡ policy_of old
+  pub processes : processes_of new ≡ processes_of old

@@ -1,0 +1,107 @@
+//! The calls on descriptors.
+ghost use Rattle.std.specs.Prelude.{◌≡◌, IfOk, OnErr};
+ghost use Rattle.lock_manager.specs.MachineView.{SameMachine, Answers, machine_rules, machine_processes, machine_waits, machine_state};
+
+use super::Machine;
+use crate::answers::refusal;
+use crate::releasing::release;
+use crate::{ProcState, Reply, Request};
+use fd_table::Access;
+use range_core::Memory;
+
+impl Machine {
+    /// open (POSIX.1-2017 open).
+    pub(super) fn open_file(&mut self, p: u8, file: u8, access: Access) -> Result<Reply, Memory>
+        requires { machine_state self.old p ≡ ProcState.Live }
+        ensures answers { IfOk result (Answers self.old self.new p (Request.OpenFile file access)) }
+        ensures memory { OnErr result (SameMachine self.old self.new) }
+        ensures rules { machine_rules self.new ≡ machine_rules self.old }
+        ensures processes { machine_processes self.new ≡ machine_processes self.old }
+        ensures waits { machine_waits self.new ≡ machine_waits self.old }
+    {
+        match self.tables.open_file(p, file, access) {
+            Ok(fd) => Ok(Reply::Fd(fd)),
+            Err(fault) => refusal(fault),
+        }
+    }
+
+    /// dup (POSIX.1-2017 dup).
+    pub(super) fn dup(&mut self, p: u8, fd: u32) -> Result<Reply, Memory>
+        ensures answers { IfOk result (Answers self.old self.new p (Request.Dup fd)) }
+        ensures memory { OnErr result (SameMachine self.old self.new) }
+        ensures rules { machine_rules self.new ≡ machine_rules self.old }
+        ensures processes { machine_processes self.new ≡ machine_processes self.old }
+        ensures waits { machine_waits self.new ≡ machine_waits self.old }
+    {
+        match self.tables.dup(p, fd) {
+            Ok(free) => Ok(Reply::Fd(free)),
+            Err(fault) => refusal(fault),
+        }
+    }
+
+    /// dup2: what stood there is closed first, and what that closes is released (POSIX.1-2017 dup2). It takes no memory.
+    pub(super) fn dup_to(&mut self, p: u8, fd: u32, to: u32) -> Result<Reply, Memory>
+        requires { machine_state self.old p ≡ ProcState.Live }
+        ensures answers { IfOk result (Answers self.old self.new p (Request.DupTo fd to)) }
+        ensures memory { OnErr result (SameMachine self.old self.new) }
+        ensures sure { OnErr result ⊥ }
+        ensures rules { machine_rules self.new ≡ machine_rules self.old }
+        ensures processes { machine_processes self.new ≡ machine_processes self.old }
+        ensures waits { machine_waits self.new ≡ machine_waits self.old }
+    {
+        match self.tables.dup2(p, fd, to) {
+            Ok((number, released)) => {
+                release(&mut self.books, &mut self.waits, p, &released);
+                Ok(Reply::Fd(number))
+            },
+            Err(fault) => refusal(fault),
+        }
+    }
+
+    /// close: what that closes is released (POSIX.1-2017 close). It takes no memory.
+    pub(super) fn close_fd(&mut self, p: u8, fd: u32) -> Result<Reply, Memory>
+        requires { machine_state self.old p ≡ ProcState.Live }
+        ensures answers { IfOk result (Answers self.old self.new p (Request.CloseFd fd)) }
+        ensures memory { OnErr result (SameMachine self.old self.new) }
+        ensures sure { OnErr result ⊥ }
+        ensures rules { machine_rules self.new ≡ machine_rules self.old }
+        ensures processes { machine_processes self.new ≡ machine_processes self.old }
+        ensures waits { machine_waits self.new ≡ machine_waits self.old }
+    {
+        match self.tables.close_fd(p, fd) {
+            Ok(released) => {
+                release(&mut self.books, &mut self.waits, p, &released);
+                Ok(Reply::Ok)
+            },
+            Err(fault) => refusal(fault),
+        }
+    }
+
+    /// seek (POSIX.1-2017 lseek).
+    pub(super) fn seek(&mut self, p: u8, fd: u32, offset: i64) -> Result<Reply, Memory>
+        ensures answers { IfOk result (Answers self.old self.new p (Request.Seek fd offset)) }
+        ensures memory { OnErr result (SameMachine self.old self.new) }
+        ensures rules { machine_rules self.new ≡ machine_rules self.old }
+        ensures processes { machine_processes self.new ≡ machine_processes self.old }
+        ensures waits { machine_waits self.new ≡ machine_waits self.old }
+    {
+        match self.tables.seek(p, fd, offset) {
+            Ok(()) => Ok(Reply::Ok),
+            Err(fault) => refusal(fault),
+        }
+    }
+
+    /// resize (POSIX.1-2017 ftruncate).
+    pub(super) fn resize(&mut self, p: u8, fd: u32, size: i64) -> Result<Reply, Memory>
+        ensures answers { IfOk result (Answers self.old self.new p (Request.Resize fd size)) }
+        ensures memory { OnErr result (SameMachine self.old self.new) }
+        ensures rules { machine_rules self.new ≡ machine_rules self.old }
+        ensures processes { machine_processes self.new ≡ machine_processes self.old }
+        ensures waits { machine_waits self.new ≡ machine_waits self.old }
+    {
+        match self.tables.resize(p, fd, size) {
+            Ok(()) => Ok(Reply::Ok),
+            Err(fault) => refusal(fault),
+        }
+    }
+}

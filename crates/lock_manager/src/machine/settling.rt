@@ -1,0 +1,59 @@
+//! Settling: the earliest wait that nothing blocks is granted, again and again.
+ghost use Rattle.std.specs.Prelude.{ℕ, ◌≡◌, ◌+◌, ◌≤◌, ◌++◌, Some, List, [], ◌∷◌, length, vec_capacity, IfSome, IfNone};
+ghost use Rattle.wait_core.specs.Blocking.{AllBlocked, IsBlockedByLock, IsNextReady};
+ghost use Rattle.wait_core.specs.WaitsView.{wait_of};
+ghost use Rattle.wait_core.specs.WellFormed.{IsWellFormed};
+ghost use Rattle.lock_manager.specs.Settling.{Settles, granted};
+ghost use Rattle.lock_manager.specs.State.{State};
+ghost use Rattle.lock_manager.specs.MachineView.{Shows, machine_rules, machine_processes, machine_waits, machine_locks};
+
+use super::Machine;
+use crate::answers::answered;
+use crate::{Note, Reply};
+use wait_core::{Wait, stay_free_of_cycles};
+
+impl Machine {
+    /// Grants the earliest wait that nothing blocks, again and again until each is blocked, and tells of each grant. It takes
+    /// no memory: there is room for a note to each wait (POSIX leaves the order open; this is this project's choice).
+    pub fn settle(&mut self, notes: &mut Vec<Note>)
+        requires { length notes.old.items + length (machine_waits self.old) ≤ vec_capacity notes.old }
+        ensures settles { (grants : List Note) × (notes.new.items ≡ notes.old.items ++ grants)
+            × ((S : State) → Shows self.old S → (T : State) × Settles (machine_rules self.old).policy S grants T × Shows self.new T) }
+        ensures settled { AllBlocked (machine_rules self.new).policy (machine_locks self.new) [] (machine_waits self.new) }
+        ensures rules { machine_rules self.new ≡ machine_rules self.old }
+        ensures processes { machine_processes self.new ≡ machine_processes self.old }
+    {
+        while let Some(wait) = self.next_ready() {
+            self.grant(wait);
+            notes.push_reserved(answered(wait.p, wait.n, Reply::Ok));
+        }
+    }
+
+    /// The earliest wait that nothing blocks, and `None` where each is blocked.
+    fn next_ready(&self) -> Option<Wait>
+        ensures ready { IfSome result (IsNextReady (machine_rules self.now).policy (machine_locks self.now) (machine_waits self.now)) }
+        ensures found { IfSome result (λ wait. wait_of (machine_waits self.now) wait.p ≡ Some wait) }
+        ensures well_formed { IfSome result (IsWellFormed (machine_processes self.now)) }
+        ensures settled { IfNone result (AllBlocked (machine_rules self.now).policy (machine_locks self.now) [] (machine_waits self.now)) }
+    {
+        self.waits.next_ready(&self.books)
+    }
+
+    /// The wait leaves the list, its process lives and has the lock. It takes no memory (POSIX.1-2017 fcntl, `F_SETLKW`).
+    fn grant(&mut self, wait: Wait)
+        requires waits { wait_of (machine_waits self.old) wait.p ≡ Some wait }
+        requires well_formed { IsWellFormed (machine_processes self.old) wait }
+        requires free { ¬ IsBlockedByLock (machine_locks self.old) wait }
+        ensures shows { (S : State) (before after : List Wait) → Shows self.old S → S.waits ≡ before ++ wait ∷ after → Shows self.new (granted S before wait after) }
+        ensures fewer { length (machine_waits self.new) + 1 ≤ length (machine_waits self.old) }
+        ensures rules { machine_rules self.new ≡ machine_rules self.old }
+        ensures processes { machine_processes self.new ≡ machine_processes self.old }
+    {
+        // A law, and nothing to run.
+        stay_free_of_cycles();
+        self.interrupt(wait.p);
+        let book = &mut self.books[usize::from(wait.file)];
+        book.set_reserved(wait.owner, wait.span, Some(wait.mode));
+        self.waits.refresh(wait.file, &self.books);
+    }
+}
