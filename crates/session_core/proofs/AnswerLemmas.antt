@@ -9,7 +9,7 @@ use Rattle.std.proofs.Math.Logic.{∥∥₁_elim}
 use Rattle.std.proofs.Math.Bridge.{le_prop}
 use Rattle.lock_manager.specs.declared.request.Reply.{Reply}
 use Rattle.lock_manager.specs.declared.request.Note.{Note}
-use Rattle.lock_manager.specs.declared.request.Note.TheVariants.{Answer}
+use Rattle.lock_manager.specs.declared.request.Note.TheVariants.{Answer, Waits}
 use Rattle.session_core.specs.Event.{Event}
 use Rattle.lock_manager.specs.declared.manager.Manager.{Manager}
 use Rattle.lock_manager.specs.declared.request.Request.{Request}
@@ -56,6 +56,7 @@ reply_among-place p n place other (Answer q m reply ∷ notes) =
           [ true ↦ refl | false ↦ reply_among-place p n place other notes ]
       | false ↦ reply_among-place p n place other notes
     ]
+reply_among-place p n place other (Waits q m ∷ notes) = reply_among-place p n place other notes
 
 one_answer : (n m place : ℕ) (reply : Reply) → reply_among n ((m, reply, place) ∷ []) ≡ (if m == n then Some reply else None)
 one_answer n m place reply =
@@ -66,12 +67,14 @@ reply_of-among : (p n place : ℕ) (note : Note) → reply_among n (answers_in p
 reply_of-among p n place (Answer q m reply) =
     elim (q == p) as (λ b. reply_among n (if b then (m, reply, place) ∷ [] else []) ≡ (if b && (m == n) then Some reply else None))
     [ true ↦ one_answer n m place reply | false ↦ refl ]
+reply_of-among p n place (Waits q m) = refl
 
 answers_in-cons : (p place : ℕ) (note : Note) (notes : List Note)
     → answers_in p place (note ∷ notes) ≡ answers_in p place (note ∷ []) ++ answers_in p place notes
 answers_in-cons p place (Answer q m reply) notes =
     elim (q == p) as (λ b. (if b then (m, reply, place) ∷ answers_in p place notes else answers_in p place notes) ≡ (if b then (m, reply, place) ∷ [] else []) ++ answers_in p place notes)
     [ true ↦ refl | false ↦ refl ]
+answers_in-cons p place (Waits q m) notes = refl
 
 -- a note that is no such answer is passed over, and one that is ends the search
 pub reply_among-skip : (p n : ℕ) (notes : List Note) (i : ℕ) (note : Note) → i < length notes → note ≡ get_or notes i note
@@ -114,6 +117,7 @@ one_number : (p : ℕ) (note : Note) (notes : List Note)
 one_number p (Answer q m reply) notes =
     elim (q == p) as (λ b. length (if b then m ∷ numbers_in p notes else numbers_in p notes) ≡ (if b then 1 + length (numbers_in p notes) else length (numbers_in p notes)))
     [ true ↦ omega arith | false ↦ refl ]
+one_number p (Waits q m) notes = refl
 
 -- as many numbers as answers among the notes
 length-numbers_in : (p : ℕ) (notes : List Note) → length (numbers_in p notes) ≡ count_by (is_answer_to p) notes

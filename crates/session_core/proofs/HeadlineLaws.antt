@@ -1,5 +1,5 @@
 -- The headline, from what a session keeps: its journal is a run whose state the manager stands for.
-use Rattle.std.proofs.Common.{ℕ, ◌≡◌, ◌+◌, ◌<◌, ◌≤◌, ◌⊎◌, inr, sym, ◌∙◌, ap, subst, arith, length, List, ◌∷◌, ◌++◌, ⊎_elim, Option, Some, None, IfSome, IfNone, All, map, slice_get, option_map}
+use Rattle.std.proofs.Common.{ℕ, ◌≡◌, ◌+◌, ◌<◌, ◌≤◌, ◌⊎◌, inl, inr, sym, ◌∙◌, ap, subst, arith, length, List, ◌∷◌, ◌++◌, ⊎_elim, Option, Some, None, IfSome, IfNone, All, map, slice_get, option_map}
 use Rattle.std.specs.List.{AllByRecursion as Each}
 use Rattle.std.proofs.lemmas.Bool.{cases_lt}
 use Rattle.std.proofs.lemmas.List.{length-map, nil_from_length}
@@ -7,7 +7,7 @@ use Rattle.std.proofs.lemmas.List.Elements.{All-from_recursion}
 use Rattle.std.proofs.lemmas.Option.{slice_get_within, IfSome_then}
 use Rattle.lock_manager.specs.declared.request.Request.{Request}
 use Rattle.lock_manager.specs.declared.request.ProcState.{ProcState}
-use Rattle.lock_manager.specs.declared.request.ProcState.TheVariants.{Unborn, Live, Ended}
+use Rattle.lock_manager.specs.declared.request.ProcState.TheVariants.{Unborn, Live, Waiting, Ended}
 use Rattle.lock_manager.specs.declared.manager.Manager.{Manager}
 use Rattle.lock_manager.specs.State.{State, opening_state}
 use Rattle.lock_manager.specs.ManagerView.{IsSafeManager, rules_of, processes_of, state_at}
@@ -59,14 +59,17 @@ tally_of processes journal T t p =
 at_most_taken : (state : ProcState) (taken answered : ℕ) → TallyAt state taken answered → answered ≤ taken
 at_most_taken Unborn taken answered h = omega arith
 at_most_taken Live taken answered h = omega arith
-at_most_taken Ended taken answered h = omega arith
+at_most_taken Waiting taken answered h = omega arith
+at_most_taken Ended taken answered h = ⊎_elim (λ behind. omega arith) (λ even. omega arith) h
 
 -- a process with a taken request that wasn't answered waits or has ended, and it was the last
 unanswered_last : (state : ProcState) (taken answered place : ℕ) → TallyAt state taken answered → answered ≤ place → place < taken
     → (taken ≡ place + 1) × (IsWaiting state ⊎ IsEnded state)
 unanswered_last Unborn taken answered place h low high = absurd (omega arith)
 unanswered_last Live taken answered place h low high = absurd (omega arith)
-unanswered_last Ended taken answered place h low high = (omega arith, inr tt)
+unanswered_last Waiting taken answered place h low high = (omega arith, inl tt)
+unanswered_last Ended taken answered place h low high =
+    ⊎_elim (λ behind. (omega arith, inr tt)) (λ even. absurd (omega arith)) h
 
 IfNone-always : {X : Type 0} (o : Option X) (P : Type 0) → P → IfNone o P
 IfNone-always None P h = h

@@ -11,14 +11,14 @@ use Rattle.wait_core.specs.declared.Wait.{Wait}
 use Rattle.lock_manager.specs.declared.request.Rules.{Rules}
 use Rattle.lock_manager.specs.declared.request.Lock.{Lock}
 use Rattle.lock_manager.specs.declared.request.LkCmd.{LkCmd}
-use Rattle.lock_manager.specs.declared.request.LkCmd.TheVariants.{GetLk, SetLk, OGetLk, OSetLk}
+use Rattle.lock_manager.specs.declared.request.LkCmd.TheVariants.{GetLk, SetLk, SetLkW, OGetLk, OSetLk, OSetLkW}
 use Rattle.lock_manager.specs.declared.request.Reply.TheVariants as replies
 use Rattle.lock_manager.specs.State.{State, with_byte_mode}
 use Rattle.lock_manager.specs.LockWords.{is_get, is_bad_argument, wanted_mode, permits, held_reply, lock_owner, wanted_lock}
 use Rattle.lock_manager.specs.Outcomes.{range_error, Outcome, refused}
-use Rattle.lock_manager.specs.LockCommands.{LockComesTo, DescribedComesTo, RangeComesTo, ModeComesTo, CommandComesTo, GetComesTo, SetComesTo}
+use Rattle.lock_manager.specs.LockCommands.{LockComesTo, DescribedComesTo, RangeComesTo, ModeComesTo, CommandComesTo, GetComesTo, SetComesTo, SetOrWaitComesTo, WaitOrDeadlockComesTo}
 use Rattle.session_core.proofs.Moves.{SameProcesses-refl}
-use Rattle.session_core.proofs.OutcomeLaws.{IsAtHand, IsTold, told_answer, told_locked, told_refused, cases_fact, cases_bool, cases_option, cases_result}
+use Rattle.session_core.proofs.OutcomeLaws.{IsAtHand, IsTold, told_answer, told_locked, told_waits, told_refused, cases_fact, cases_bool, cases_option, cases_result}
 
 -- a get command tells the first lock that blocks, or that there is none
 told_get : (processes : ℕ) (S : State) (taken counts : ℕ → ℕ) (wanted : Wait) (outcome : Outcome)
@@ -38,6 +38,25 @@ told_set processes S taken counts wanted outcome h is =
     ⊎_elim (λ no. told_refused processes S taken counts wanted.p wanted.n _ outcome h no)
     (λ yes. told_locked processes S taken counts wanted outcome h yes) (cases_fact is)
 
+-- a set command that waits sets the lock, or waits
+told_set_or_wait : (rules : Rules) (processes : ℕ) (S : State) (taken counts : ℕ → ℕ) (wanted : Wait) (outcome : Outcome)
+    → IsAtHand processes S taken counts wanted.p wanted.n → SetOrWaitComesTo rules S wanted outcome
+    → IsTold processes S taken counts wanted.p outcome
+told_set_or_wait rules processes S taken counts wanted outcome h is =
+    ⊎_elim (λ waits. told_waits processes S taken counts wanted outcome h waits)
+    (λ yes. told_locked processes S taken counts wanted outcome h yes) (cases_fact is)
+
+-- one of traditional locks sets the lock, waits, or is refused where its wait would close a cycle
+told_wait_or_deadlock : (rules : Rules) (processes : ℕ) (S : State) (taken counts : ℕ → ℕ) (wanted : Wait) (outcome : Outcome)
+    → IsAtHand processes S taken counts wanted.p wanted.n → WaitOrDeadlockComesTo rules S wanted outcome
+    → IsTold processes S taken counts wanted.p outcome
+told_wait_or_deadlock rules processes S taken counts wanted outcome h is =
+    ⊎_elim
+    (λ blocked.
+    ⊎_elim (λ no. told_refused processes S taken counts wanted.p wanted.n _ outcome h no)
+    (λ waits. told_waits processes S taken counts wanted outcome h waits) (cases_fact blocked))
+    (λ yes. told_locked processes S taken counts wanted outcome h yes) (cases_fact is)
+
 -- a command on a range, with a mode
 told_command : (rules : Rules) (processes : ℕ) (S : State) (taken counts : ℕ → ℕ) (cmd : LkCmd) (wanted : Wait) (outcome : Outcome)
     → IsAtHand processes S taken counts wanted.p wanted.n → CommandComesTo rules S cmd wanted outcome
@@ -46,6 +65,8 @@ told_command rules processes S taken counts GetLk wanted outcome h is = told_get
 told_command rules processes S taken counts OGetLk wanted outcome h is = told_get processes S taken counts wanted outcome h is
 told_command rules processes S taken counts SetLk wanted outcome h is = told_set processes S taken counts wanted outcome h is
 told_command rules processes S taken counts OSetLk wanted outcome h is = told_set processes S taken counts wanted outcome h is
+told_command rules processes S taken counts SetLkW wanted outcome h is = told_wait_or_deadlock rules processes S taken counts wanted outcome h is
+told_command rules processes S taken counts OSetLkW wanted outcome h is = told_set_or_wait rules processes S taken counts wanted outcome h is
 
 told_mode : (rules : Rules) (processes : ℕ) (S : State) (taken counts : ℕ → ℕ) (p n : ℕ) (cmd : LkCmd) (look : Look) (span : Span)
     (mode : Mode) (outcome : Outcome) → IsAtHand processes S taken counts p n → ModeComesTo rules S p n cmd look span mode outcome

@@ -1,21 +1,24 @@
 -- What one process may do in a step, each with the tallies that it leaves.
-use Rattle.std.proofs.Common.{ℕ, ◌≡◌, ◌≢◌, ◌+◌, refl, sym, ◌∙◌, ap, subst, arith, true, eq-eqb, ne_eqb, length, List, [], ◌∷◌, ◌++◌}
+use Rattle.std.proofs.Common.{ℕ, ◌≡◌, ◌≢◌, ◌+◌, refl, sym, ◌∙◌, ap, subst, arith, true, eq-eqb, ne_eqb, length, List, [], ◌∷◌, ◌++◌, ⊎_elim, Some}
 use Rattle.std.specs.Prelude.{◌==◌, if◌then◌else◌}
 use Rattle.std.specs.List.{AllByRecursion as Each}
+use Rattle.std.proofs.lemmas.Bool.{cases_eq}
 use Rattle.wait_core.specs.declared.Policy.{Policy}
 use Rattle.wait_core.specs.declared.Wait.{Wait}
+use Rattle.wait_core.specs.WaitsView.{wait_of, without_wait_of}
 use Rattle.wait_core.specs.declared.Family.TheVariants.{Bytes, Whole}
 use Rattle.lock_book.specs.declared.Owner.TheVariants.{Process, Description}
 use Rattle.lock_manager.specs.declared.request.Note.{Note}
-use Rattle.lock_manager.specs.declared.request.Note.TheVariants.{Answer}
+use Rattle.lock_manager.specs.declared.request.Note.TheVariants.{Answer, Waits}
 use Rattle.lock_manager.specs.declared.request.Reply.{Reply}
 use Rattle.lock_manager.specs.declared.request.Reply.TheVariants as replies
 use Rattle.lock_manager.specs.declared.request.ProcState.{ProcState}
-use Rattle.lock_manager.specs.declared.request.ProcState.TheVariants.{Unborn, Live, Ended}
-use Rattle.lock_manager.specs.State.{State, with_lock, with_lock_of}
+use Rattle.lock_manager.specs.declared.request.ProcState.TheVariants.{Unborn, Live, Waiting, Ended}
+use Rattle.lock_manager.specs.State.{State, with_lock, with_lock_of, with_process}
+use Rattle.lock_manager.specs.ProcessCalls.{without_wait}
 use Rattle.lock_manager.specs.Settling.{Settles, granted}
 use Rattle.session_core.specs.Headline.{IsWaiting, IsEnded}
-use Rattle.session_core.proofs.Tally.{numbers_in, AreApart, TallyAt, IsLastTaken, IsBorn, Tallies, Tells, MovesOne, MovesOne-tells, Tells-then, Tallies-along, one_more, one_more-other, Each-map, Each-both, Each-middle, AreApart-middle}
+use Rattle.session_core.proofs.Tally.{numbers_in, AreApart, TallyAt, IsLastTaken, IsBorn, Tallies, Tells, MovesOne, MovesOne-tells, Tells-then, Tallies-along, one_more, one_more-same, one_more-other, Each-append, Each-map, Each-both, Each-middle, AreApart-middle, AreApart-push}
 
 -- where the processes stand, what waits and who was alive is the same
 pub record SameProcesses (S T : State) : Type 0 where
@@ -71,23 +74,26 @@ pub born_of : (processes : ℕ) (S : State) (taken answered : ℕ → ℕ) → T
     → S.states q ≡ state → state ≢ Unborn → IsBorn processes S q
 born_of processes S taken answered t q state e not_unborn = t.born q (λ k. not_unborn (sym e ∙ k))
 
-Live≢Unborn : Live ≢ Unborn
+pub Live≢Unborn : Live ≢ Unborn
 Live≢Unborn e = cc
 
 -- who waits has been born, hasn't ended, and has one request more than answers
 waiting_born : (state : ProcState) → IsWaiting state → state ≢ Unborn
 waiting_born Unborn h e = h
 waiting_born Live h e = h
+waiting_born Waiting h e = cc
 waiting_born Ended h e = h
 
 waiting_goes_on : (state : ProcState) → IsWaiting state → ¬ IsEnded state
 waiting_goes_on Unborn h e = h
 waiting_goes_on Live h e = h
+waiting_goes_on Waiting h e = e
 waiting_goes_on Ended h e = h
 
 waiting_behind : (state : ProcState) (taken answered : ℕ) → IsWaiting state → TallyAt state taken answered → taken ≡ answered + 1
 waiting_behind Unborn taken answered h t = absurd h
 waiting_behind Live taken answered h t = absurd h
+waiting_behind Waiting taken answered h t = t
 waiting_behind Ended taken answered h t = absurd h
 
 -- who doesn't wait has no wait
@@ -183,30 +189,109 @@ wake_moves processes S T taken answered wait reply left t last now waits_are oth
       apart = subst AreApart (sym waits_are) apart;
     }
 
--- a live process ends, and is told nothing
-pub end_moves : (processes : ℕ) (S T : State) (taken answered : ℕ → ℕ) (p : ℕ) → Tallies processes S taken answered
-    → S.states p ≡ Live → StandsNow S p Ended T → T.waits ≡ S.waits → KeepsAlive S T
-    → MovesOne processes S taken answered p [] T (one_more p taken)
-end_moves processes S T taken answered p t live now same_waits alive =
+-- a live process' request is taken, and waits
+pub wait_moves : (processes : ℕ) (S T : State) (taken answered : ℕ → ℕ) (wait : Wait) → Tallies processes S taken answered
+    → S.states wait.p ≡ Live → wait.n ≡ taken wait.p + 1 → StandsNow S wait.p Waiting T → T.waits ≡ S.waits ++ wait ∷ []
+    → KeepsAlive S T → MovesOne processes S taken answered wait.p (Waits wait.p wait.n ∷ []) T (one_more wait.p taken)
+wait_moves processes S T taken answered wait t live number now waits_are alive =
+    let p : ℕ = wait.p in
     let even : answered p ≡ taken p = subst (λ s. TallyAt s (taken p) (answered p)) live (t.tally p) in
+    let others = live_apart S.states taken p S.waits live t.waits in
+    let waiting : T.states p ≡ Waiting = stands_here S p Waiting T now in
+    let last : IsLastTaken T.states (one_more p taken) wait =
+    record { waiting = subst IsWaiting (sym waiting) tt; last = number ∙ sym (one_more-same p taken) } in
     record {
-      here =
-          subst (λ s. TallyAt s (one_more p taken p) (answered p + 0)) (sym (stands_here S p Ended T now))
-          (rw (eq-eqb p p refl) (omega arith));
+      here = subst (λ s. TallyAt s (one_more p taken p) (answered p + 0)) (sym waiting) (rw (eq-eqb p p refl) (omega arith));
       counted = tt;
       not_ended = λ e. subst IsEnded live e;
       born = born_kept processes S T p alive (born_of processes S taken answered t p Live live Live≢Unborn);
-      notes_here = tt;
-      states = stands_there S p Ended T now;
+      notes_here = (refl, tt);
+      states = stands_there S p Waiting T now;
       taken_there = λ q other. one_more-other p q taken other;
       alive = alive;
       waits =
-          subst (λ waits. Each (IsLastTaken T.states (one_more p taken)) waits) (sym same_waits)
-          (waits_of_others S.states T.states taken (one_more p taken) p S.waits (stands_there S p Ended T now)
-          (λ q other. one_more-other p q taken other)
-          (live_apart S.states taken p S.waits live t.waits)
-          t.waits);
-      apart = subst AreApart (sym same_waits) t.apart;
+          subst (λ waits. Each (IsLastTaken T.states (one_more p taken)) waits) (sym waits_are)
+          (Each-append (IsLastTaken T.states (one_more p taken)) S.waits (wait ∷ [])
+          (waits_of_others S.states T.states taken (one_more p taken) p S.waits (stands_there S p Waiting T now)
+          (λ q other. one_more-other p q taken other) others t.waits) (last, tt));
+      apart = subst AreApart (sym waits_are) (AreApart-push S.waits wait others t.apart);
+    }
+
+-- the waits of all other processes
+without_wait-each : (P : Wait → Type 0) (p : ℕ) (waits : List Wait) → Each P waits → Each P (without_wait_of waits p)
+without_wait-each P p [] h = tt
+without_wait-each P p (wait ∷ waits) h =
+    ⊎_elim (λ same. rw (eq-eqb wait.p p same) (without_wait-each P p waits h.1))
+    (λ other. rw (ne_eqb wait.p p other) (h.0, without_wait-each P p waits h.1)) (cases_eq wait.p p)
+
+without_wait-others : (p : ℕ) (waits : List Wait) → Each (λ wait. wait.p ≢ p) (without_wait_of waits p)
+without_wait-others p [] = tt
+without_wait-others p (wait ∷ waits) =
+    ⊎_elim (λ same. rw (eq-eqb wait.p p same) (without_wait-others p waits))
+    (λ other. rw (ne_eqb wait.p p other) (other, without_wait-others p waits)) (cases_eq wait.p p)
+
+without_wait-apart : (p : ℕ) (waits : List Wait) → AreApart waits → AreApart (without_wait_of waits p)
+without_wait-apart p [] h = tt
+without_wait-apart p (wait ∷ waits) h =
+    ⊎_elim (λ same. rw (eq-eqb wait.p p same) (without_wait-apart p waits h.1))
+    (λ other.
+    rw (ne_eqb wait.p p other) (without_wait-each (λ v. v.p ≢ wait.p) p waits h.0, without_wait-apart p waits h.1)) (cases_eq wait.p p)
+
+Some-same : {X : Type 0} {x y : X} → Some x ≡ Some y → x ≡ y
+Some-same e = cc
+
+-- the wait that is found for a process is one of the list, and of the process
+found_wait : (P : Wait → Type 0) (p : ℕ) (waits : List Wait) (wait : Wait) → wait_of waits p ≡ Some wait → Each P waits
+    → (wait.p ≡ p) × P wait
+found_wait P p [] wait found h = cc
+found_wait P p (v ∷ waits) wait found h =
+    ⊎_elim
+    (λ same.
+    let first : wait_of (v ∷ waits) p ≡ Some v = rw (eq-eqb v.p p same) refl in
+    let is : v ≡ wait = Some-same (sym first ∙ found) in
+    subst (λ w. (w.p ≡ p) × P w) is (same, h.0))
+    (λ other.
+    let later : wait_of (v ∷ waits) p ≡ wait_of waits p = rw (ne_eqb v.p p other) refl in
+    found_wait P p waits wait (sym later ∙ found) h.1)
+    (cases_eq v.p p)
+
+-- a process that waits is told that its wait has ended, and lives
+pub signal_tells : (processes : ℕ) (S : State) (taken answered : ℕ → ℕ) (target : ℕ) (wait : Wait) (reply : Reply)
+    → Tallies processes S taken answered → wait_of S.waits target ≡ Some wait
+    → Tells processes S.states answered (Answer target wait.n reply ∷ []) (with_process (without_wait S target) target Live) taken
+signal_tells processes S taken answered target wait reply t found =
+    let (same, last) = found_wait (IsLastTaken S.states taken) target S.waits wait found t.waits in
+    let p : ℕ = wait.p in
+    let T : State = with_process (without_wait S p) p Live in
+    let left = without_wait_of S.waits p in
+    let moves : MovesOne processes S taken answered p (Answer p wait.n reply ∷ []) T taken =
+    wake_moves processes S T taken answered wait reply left t last (λ q. refl) refl (without_wait-others p S.waits)
+    (without_wait-each (IsLastTaken S.states taken) p S.waits t.waits) (without_wait-apart p S.waits t.apart) (λ q e. e) in
+    subst (λ q. Tells processes S.states answered (Answer q wait.n reply ∷ []) (with_process (without_wait S q) q Live) taken) same
+    (MovesOne-tells processes S taken answered p (Answer p wait.n reply ∷ []) T taken t moves)
+
+-- a process ends, and is told nothing: its wait is gone
+pub end_moves : (processes : ℕ) (S T : State) (taken answered taken' : ℕ → ℕ) (p : ℕ) → Tallies processes S taken answered
+    → TallyAt Ended (taken' p) (answered p) → ¬ IsEnded (S.states p) → S.states p ≢ Unborn → ((q : ℕ) → q ≢ p → taken' q ≡ taken q)
+    → StandsNow S p Ended T → T.waits ≡ without_wait_of S.waits p → KeepsAlive S T
+    → MovesOne processes S taken answered p [] T taken'
+end_moves processes S T taken answered taken' p t tally goes_on born taken_there now waits_are alive =
+    let same : answered p ≡ answered p + 0 = omega arith in
+    record {
+      here = subst (λ s. TallyAt s (taken' p) (answered p + 0)) (sym (stands_here S p Ended T now)) (subst (λ a. TallyAt Ended (taken' p) a) same tally);
+      counted = tt;
+      not_ended = goes_on;
+      born = born_kept processes S T p alive (t.born p born);
+      notes_here = tt;
+      states = stands_there S p Ended T now;
+      taken_there = taken_there;
+      alive = alive;
+      waits =
+          subst (λ waits. Each (IsLastTaken T.states taken') waits) (sym waits_are)
+          (waits_of_others S.states T.states taken taken' p (without_wait_of S.waits p) (stands_there S p Ended T now) taken_there
+          (without_wait-others p S.waits)
+          (without_wait-each (IsLastTaken S.states taken) p S.waits t.waits));
+      apart = subst AreApart (sym waits_are) (without_wait-apart p S.waits t.apart);
     }
 
 -- a process that was never alive begins to live

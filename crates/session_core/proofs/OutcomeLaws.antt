@@ -1,18 +1,18 @@
 -- What the outcomes of requests tell, whatever the request.
-use Rattle.std.proofs.Common.{ℕ, ◌≡◌, ◌+◌, ◌⊎◌, inl, inr, sym, subst, Bool, true, false, [], ◌∷◌, ⊎_elim, Option, Some, None, Result, Ok, Err, MatchBool, MatchOption, MatchResult}
+use Rattle.std.proofs.Common.{ℕ, ◌≡◌, ◌+◌, ◌⊎◌, inl, inr, refl, sym, subst, Bool, true, false, [], ◌∷◌, ◌++◌, ⊎_elim, Option, Some, None, Result, Ok, Err, MatchBool, MatchOption, MatchResult}
 use Rattle.range_core.specs.Facts.{MatchFact}
 use Rattle.fd_table.specs.declared.FdFault.{FdFault}
 use Rattle.fd_table.specs.declared.FdFault.TheVariants as faults
 use Rattle.wait_core.specs.declared.Wait.{Wait}
 use Rattle.lock_manager.specs.declared.request.Errno.{Errno}
-use Rattle.lock_manager.specs.declared.request.Note.TheVariants.{Answer}
+use Rattle.lock_manager.specs.declared.request.Note.TheVariants.{Answer, Waits}
 use Rattle.lock_manager.specs.declared.request.Reply.{Reply}
 use Rattle.lock_manager.specs.declared.request.Reply.TheVariants as replies
-use Rattle.lock_manager.specs.declared.request.ProcState.TheVariants.{Live}
-use Rattle.lock_manager.specs.State.{State, with_lock}
-use Rattle.lock_manager.specs.Outcomes.{Outcome, answered, refused, IsRefusal}
+use Rattle.lock_manager.specs.declared.request.ProcState.TheVariants.{Live, Waiting}
+use Rattle.lock_manager.specs.State.{State, with_process, with_lock}
+use Rattle.lock_manager.specs.Outcomes.{Outcome, answered, refused, waits_then, IsRefusal}
 use Rattle.session_core.proofs.Tally.{Tallies, Tells, MovesOne-tells, one_more}
-use Rattle.session_core.proofs.Moves.{SameProcesses, SameProcesses-refl, SameProcesses-lock, answer_moves}
+use Rattle.session_core.proofs.Moves.{SameProcesses, SameProcesses-refl, SameProcesses-lock, answer_moves, wait_moves}
 
 -- a live process, the number of its next request, and the tallies before it
 pub record IsAtHand (processes : ℕ) (S : State) (taken counts : ℕ → ℕ) (p n : ℕ) : Type 0 where
@@ -52,6 +52,15 @@ pub told_locked : (processes : ℕ) (S : State) (taken counts : ℕ → ℕ) (wa
     → IsTold processes S taken counts wanted.p outcome
 told_locked processes S taken counts wanted outcome h is =
     told_answer processes S (with_lock S wanted) taken counts wanted.p wanted.n replies.Ok outcome h (SameProcesses-lock S wanted) is
+
+-- the caller waits
+pub told_waits : (processes : ℕ) (S : State) (taken counts : ℕ → ℕ) (wanted : Wait) (outcome : Outcome)
+    → IsAtHand processes S taken counts wanted.p wanted.n → outcome ≡ waits_then S wanted [] → IsTold processes S taken counts wanted.p outcome
+told_waits processes S taken counts wanted outcome h is =
+    let T : State = with_process (record S { waits = S.waits ++ wanted ∷ [] }) wanted.p Waiting in
+    subst (IsTold processes S taken counts wanted.p) (sym is)
+    (MovesOne-tells processes S taken counts wanted.p (Waits wanted.p wanted.n ∷ []) T (one_more wanted.p taken) h.tallies
+    (wait_moves processes S T taken counts wanted h.tallies h.live h.number (λ q. refl) refl (λ q e. e)))
 
 -- the caller is refused
 pub told_refused : (processes : ℕ) (S : State) (taken counts : ℕ → ℕ) (p n : ℕ) (error : Errno) (outcome : Outcome)

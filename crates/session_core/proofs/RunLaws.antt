@@ -11,7 +11,7 @@ use Rattle.fd_table.specs.Descriptors.{opening_descriptors}
 use Rattle.lock_manager.specs.declared.request.Rules.{Rules}
 use Rattle.lock_manager.specs.declared.request.Reply.{Reply}
 use Rattle.lock_manager.specs.declared.request.Note.{Note}
-use Rattle.lock_manager.specs.declared.request.Note.TheVariants.{Answer}
+use Rattle.lock_manager.specs.declared.request.Note.TheVariants.{Answer, Waits}
 use Rattle.lock_manager.specs.declared.request.ProcState.TheVariants.{Unborn, Live}
 use Rattle.lock_manager.specs.State.{State, opening_state}
 use Rattle.session_core.specs.Event.{Event}
@@ -141,6 +141,7 @@ answers_in-numbers p place [] = refl
 answers_in-numbers p place (Answer q n reply ∷ notes) =
     elim (q == p) as (λ b. map (λ answer. answer.0) (if b then (n, reply, place) ∷ answers_in p place notes else answers_in p place notes) ≡ (if b then n ∷ numbers_in p notes else numbers_in p notes))
     [ true ↦ ap (λ l. n ∷ l) (answers_in-numbers p place notes) | false ↦ answers_in-numbers p place notes ]
+answers_in-numbers p place (Waits q n ∷ notes) = answers_in-numbers p place notes
 
 pub answers_from-numbers : (p place : ℕ) (events : List Event) → map (λ answer. answer.0) (answers_from p place events) ≡ numbers_of p events
 answers_from-numbers p place [] = refl

@@ -1,13 +1,13 @@
 -- How much was taken of each process and answered to it: what each state of a run keeps, and what moves one process.
-use Rattle.std.proofs.Common.{ℕ, suc, ◌≡◌, ◌≢◌, ◌+◌, ◌≤◌, refl, sym, ◌∙◌, ap, subst, arith, true, eq-eqb, ne_eqb, length, length-append, List, [], ◌∷◌, ◌++◌, ⊎_elim}
+use Rattle.std.proofs.Common.{ℕ, suc, ◌≡◌, ◌≢◌, ◌+◌, ◌≤◌, ◌⊎◌, refl, sym, ◌∙◌, ap, subst, arith, true, eq-eqb, ne_eqb, length, length-append, List, [], ◌∷◌, ◌++◌, ⊎_elim}
 use Rattle.std.specs.Prelude.{◌==◌, if◌then◌else◌}
 use Rattle.std.specs.List.{AllByRecursion as Each}
 use Rattle.std.proofs.lemmas.Bool.{cases_eq}
 use Rattle.wait_core.specs.declared.Wait.{Wait}
 use Rattle.lock_manager.specs.declared.request.Note.{Note}
-use Rattle.lock_manager.specs.declared.request.Note.TheVariants.{Answer}
+use Rattle.lock_manager.specs.declared.request.Note.TheVariants.{Answer, Waits}
 use Rattle.lock_manager.specs.declared.request.ProcState.{ProcState}
-use Rattle.lock_manager.specs.declared.request.ProcState.TheVariants.{Unborn, Live, Ended}
+use Rattle.lock_manager.specs.declared.request.ProcState.TheVariants.{Unborn, Live, Waiting, Ended}
 use Rattle.lock_manager.specs.State.{State}
 use Rattle.session_core.specs.Headline.{told_process, IsWaiting, IsEnded}
 
@@ -15,6 +15,7 @@ use Rattle.session_core.specs.Headline.{told_process, IsWaiting, IsEnded}
 abbrev pub numbers_in : ℕ → List Note → List ℕ
 numbers_in q [] = []
 numbers_in q (Answer p n reply ∷ notes) = if p == q then n ∷ numbers_in q notes else numbers_in q notes
+numbers_in q (Waits p n ∷ notes) = numbers_in q notes
 
 -- the numbers go on after this one, one by one
 abbrev pub AreCountedFrom : ℕ → List ℕ → Type 0
@@ -26,11 +27,13 @@ abbrev pub AreApart : List Wait → Type 0
 AreApart [] = Unit {0}
 AreApart (wait ∷ waits) = Each (λ other. other.p ≢ wait.p) waits × AreApart waits
 
--- how many requests were taken of a process that stands so, and how many of them answered
+-- how many requests were taken of a process that stands so, and how many of them answered: it ends by a request of its own
+-- or while it waits, or by another's kill while it lives
 abbrev pub TallyAt : ProcState → ℕ → ℕ → Type 0
 TallyAt Unborn taken answered = (taken ≡ 0) × (answered ≡ 0)
 TallyAt Live taken answered = answered ≡ taken
-TallyAt Ended taken answered = taken ≡ answered + 1
+TallyAt Waiting taken answered = taken ≡ answered + 1
+TallyAt Ended taken answered = (taken ≡ answered + 1) ⊎ (taken ≡ answered)
 
 -- the process waits, and with the last request that was taken of it
 pub record IsLastTaken (states : ℕ → ProcState) (taken : ℕ → ℕ) (wait : Wait) : Type 0 where
@@ -82,6 +85,7 @@ numbers_in-append q [] ys = refl
 numbers_in-append q (Answer p n reply ∷ xs) ys =
     ⊎_elim (λ same. rw (eq-eqb p q same) (ap (λ l. n ∷ l) (numbers_in-append q xs ys)))
     (λ other. rw (ne_eqb p q other) (numbers_in-append q xs ys)) (cases_eq p q)
+numbers_in-append q (Waits p n ∷ xs) ys = numbers_in-append q xs ys
 
 pub AreCountedFrom-append : (last : ℕ) (xs ys : List ℕ) → AreCountedFrom last xs → AreCountedFrom (last + length xs) ys
     → AreCountedFrom last (xs ++ ys)
@@ -115,10 +119,17 @@ AreApart-middle (x ∷ xs) wait ys h =
     let rest = AreApart-middle xs wait ys h.1 in
     (((λ e. here.0 (sym e)), rest.0), (here.1, rest.1))
 
+-- one that comes last is apart from the others
+pub AreApart-push : (waits : List Wait) (wait : Wait) → Each (λ other. other.p ≢ wait.p) waits → AreApart waits → AreApart (waits ++ wait ∷ [])
+AreApart-push [] wait others h = (tt, tt)
+AreApart-push (x ∷ xs) wait others h =
+    (Each-append (λ other. other.p ≢ x.p) xs (wait ∷ []) h.0 ((λ e. others.0 (sym e)), tt), AreApart-push xs wait others.1 h.1)
+
 -- where no note is for the process, no answer is
 pub numbers_in-none : (q : ℕ) (notes : List Note) → Each (λ note. told_process note ≢ q) notes → numbers_in q notes ≡ []
 numbers_in-none q [] h = refl
 numbers_in-none q (Answer p n reply ∷ notes) h = rw (ne_eqb p q h.0) (numbers_in-none q notes h.1)
+numbers_in-none q (Waits p n ∷ notes) h = numbers_in-none q notes h.1
 
 -- from the state S to the state T one process moves, which is told these notes; all others stay
 pub record MovesOne (processes : ℕ) (S : State) (taken answered : ℕ → ℕ) (r : ℕ) (notes : List Note) (T : State) (taken' : ℕ → ℕ) : Type 0 where

@@ -1,14 +1,15 @@
 -- What holds of a session at every moment between two events (the words are this project's choice).
-use Rattle.std.specs.Prelude.{◌≡◌, ◌≢◌, ℕ, ◌+◌, ◌≤◌, ◌⊎◌, Some, IfSome, IfNone, List, [], ◌∷◌, ◌++◌, map, length, All, slice_get}
+use Rattle.std.specs.Prelude.{◌≡◌, ◌≢◌, ℕ, ◌+◌, ◌≤◌, ◌⊎◌, Some, IfSome, IfNone, List, [], ◌∷◌, ◌++◌, map, length, All, Contains, slice_get}
 use Rattle.std.specs.List.Sorted.{IsStrictlyIncreasing}
 use Rattle.lock_manager.specs.declared.request.Note.{Note}
-use Rattle.lock_manager.specs.declared.request.Note.TheVariants.{Answer}
+use Rattle.lock_manager.specs.declared.request.Note.TheVariants.{Answer, Waits}
+use Rattle.lock_manager.specs.declared.request.Reply.TheVariants as replies
 use Rattle.lock_manager.specs.declared.request.ProcState.{ProcState}
-use Rattle.lock_manager.specs.declared.request.ProcState.TheVariants.{Unborn, Live, Ended}
+use Rattle.lock_manager.specs.declared.request.ProcState.TheVariants.{Unborn, Live, Waiting, Ended}
 use Rattle.lock_manager.specs.declared.manager.Manager.{Manager}
 use Rattle.lock_manager.specs.ManagerView.{IsSafeManager, processes_of, state_at}
 use Rattle.lock_manager.specs.declared.request.Request.{Request}
-use Rattle.lock_manager.specs.declared.request.Request.TheVariants.{Exit}
+use Rattle.lock_manager.specs.declared.request.Request.TheVariants.{Exit, Kill}
 use Rattle.session_core.specs.Event.{Event}
 use Rattle.session_core.specs.Runs.{events_of}
 use Rattle.session_core.specs.Mail.{IsPrefixOf, requests_taken, answers_to, reply_to}
@@ -17,22 +18,29 @@ use Rattle.session_core.specs.Draining.{IsReplayed}
 -- the process that a note is for
 abbrev pub told_process : Note → ℕ
 told_process (Answer p n reply) = p
+told_process (Waits p n) = p
 
--- a process that stands so waits for the answer to its last request (none does: no request that is served waits)
+-- a process that stands so waits for the answer to its last request (POSIX.1-2017 fcntl, DESCRIPTION, F_SETLKW)
 abbrev pub IsWaiting : ProcState → Type 0
 IsWaiting Unborn = ⊥
 IsWaiting Live = ⊥
+IsWaiting Waiting = Unit {0}
 IsWaiting Ended = ⊥
 
 -- a process that stands so has ended
 abbrev pub IsEnded : ProcState → Type 0
 IsEnded Unborn = ⊥
 IsEnded Live = ⊥
+IsEnded Waiting = ⊥
 IsEnded Ended = Unit {0}
 
--- the event ends the process: it is its exit (POSIX.1-2017 _Exit)
+-- the event ends the process: it is its exit, its kill of itself, or a kill of it by another that was answered Ok
+-- (POSIX.1-2017 _Exit; kill, DESCRIPTION, SIGKILL)
 abbrev pub EndsProcess : Event → ℕ → Type 0
-EndsProcess event p = (event.p ≡ p) × (event.request ≡ Exit)
+EndsProcess event p =
+    ((event.p ≡ p) × (event.request ≡ Exit))
+    ⊎ ((event.p ≡ p) × (event.request ≡ Kill p))
+    ⊎ ((event.p ≢ p) × (event.request ≡ Kill p) × Contains event.notes (Answer event.p event.n replies.Ok))
 
 -- the event is not of the process, and tells it nothing
 abbrev pub LeavesAlone : ℕ → Event → Type 0

@@ -1,9 +1,9 @@
 -- What a process sent, what was taken of it, and what it was answered (the words are this project's choice).
-use Rattle.std.specs.Prelude.{◌≡◌, ℕ, ◌+◌, Bool, ◌==◌, ◌&&◌, if◌then◌else◌, Option, Some, None, List, [], ◌∷◌, ◌++◌, map, filter, find, option_map}
+use Rattle.std.specs.Prelude.{◌≡◌, ℕ, ◌+◌, Bool, false, ◌==◌, ◌&&◌, if◌then◌else◌, Option, Some, None, List, [], ◌∷◌, ◌++◌, map, filter, find, option_map}
 use Rattle.lock_manager.specs.declared.request.Request.{Request}
 use Rattle.lock_manager.specs.declared.request.Reply.{Reply}
 use Rattle.lock_manager.specs.declared.request.Note.{Note}
-use Rattle.lock_manager.specs.declared.request.Note.TheVariants.{Answer}
+use Rattle.lock_manager.specs.declared.request.Note.TheVariants.{Answer, Waits}
 use Rattle.session_core.specs.Event.{Event}
 pub use Rattle.session_core.specs.Runs.{events_of}
 
@@ -19,11 +19,12 @@ requests_sent p arrivals = map (λ arrival. arrival.1) (filter (λ arrival. arri
 abbrev pub requests_taken : ℕ → List Event → List Request
 requests_taken p events = map (λ event. event.request) (events_of p events)
 
--- the answers to one process among the notes of the event at this place: number, reply and place
+-- the answers to one process among the notes of the event at this place: number, reply and place (that it waits is no answer)
 abbrev pub answers_in : ℕ → ℕ → List Note → List (ℕ × Reply × ℕ)
 answers_in p place [] = []
 answers_in p place (Answer q n reply ∷ notes) =
     if q == p then (n, reply, place) ∷ answers_in p place notes else answers_in p place notes
+answers_in p place (Waits q n ∷ notes) = answers_in p place notes
 
 -- the answers to one process in these events, of which the first stands at this place
 abbrev pub answers_from : ℕ → ℕ → List Event → List (ℕ × Reply × ℕ)
@@ -45,7 +46,9 @@ reply_to p n events = reply_among n (answers_to p events)
 -- whether the note answers a request of the process
 abbrev pub is_answer_to : ℕ → Note → Bool
 is_answer_to p (Answer q n reply) = q == p
+is_answer_to p (Waits q n) = false
 
 -- the reply to the request number n of the process, if the note is that answer
 abbrev pub reply_of : ℕ → ℕ → Note → Option Reply
 reply_of p n (Answer q m reply) = if (q == p) && (m == n) then Some reply else None
+reply_of p n (Waits q m) = None

@@ -25,8 +25,8 @@ const OPEN: Request = Request::OpenFile {
 
 const FORK: Request = Request::Fork { child: 2 };
 
-/// `F_SETLK` from the first byte of the file.
-fn set(fd: u32, kind: Kind, start: i64, len: i64) -> Request {
+/// A lock command on descriptor `fd`, with offsets from the first byte of the file.
+fn lock(cmd: LkCmd, fd: u32, kind: Kind, start: i64, len: i64) -> Request {
     let lock = Lock {
         kind,
         whence: Whence::Set,
@@ -34,28 +34,57 @@ fn set(fd: u32, kind: Kind, start: i64, len: i64) -> Request {
         len,
         pid: 0,
     };
-    Request::Lk {
-        fd,
-        cmd: LkCmd::SetLk,
-        lock,
-    }
+    Request::Lk { fd, cmd, lock }
 }
 
-/// A byte lock of process 1 on file 0.
-fn held(mode: Mode, first: u64, last: u64) -> Held {
+/// `F_SETLK`.
+fn set(fd: u32, kind: Kind, start: i64, len: i64) -> Request {
+    lock(LkCmd::SetLk, fd, kind, start, len)
+}
+
+/// `F_SETLKW` on descriptor 0.
+fn wait(kind: Kind, start: i64, len: i64) -> Request {
+    lock(LkCmd::SetLkW, 0, kind, start, len)
+}
+
+/// A byte lock of a process on file 0.
+fn held_by(p: u8, mode: Mode, first: u64, last: u64) -> Held {
     Held {
         file: 0,
         whole: false,
-        owner: Owner::Process(1),
+        owner: Owner::Process(p),
         mode,
         span: Span { first, last },
     }
+}
+
+/// One of process 1.
+fn held(mode: Mode, first: u64, last: u64) -> Held {
+    held_by(1, mode, first, last)
+}
+
+/// The request of the process is answered so.
+fn answer(p: u8, n: u64, reply: Reply) -> Note {
+    Note::Answer { p, n, reply }
+}
+
+/// The entry at this place of the journal, from 1, told these notes.
+fn assert_told(rt: &impl Abort, session: &Session, place: usize, notes: &[Note]) {
+    let entry = session.journal().get(place.saturating_sub(1));
+    assert!(rt; entry.is_some_and(|entry| entry.notes.as_slice() == notes));
 }
 
 fn two_processes(alloc: Global) -> Result<Session, Memory> {
     match Session::new(alloc, 2, RULES) {
         Ok(session) => Ok(session),
         Err(Memory) => Session::new(alloc, 2, RULES),
+    }
+}
+
+fn three_processes(alloc: Global) -> Result<Session, Memory> {
+    match Session::new(alloc, 3, RULES) {
+        Ok(session) => Ok(session),
+        Err(Memory) => Session::new(alloc, 3, RULES),
     }
 }
 
@@ -119,6 +148,29 @@ fn run(alloc: Global, arrivals: &[(u8, Request)]) -> Result<Session, RunAllFault
         Err(RunAllFault::Memory) => run_all(alloc, 2, RULES, arrivals),
         first => first,
     }
+}
+
+/// Takes until nothing can be taken, so many times at most.
+fn take_all(rt: &impl Abort, session: &mut Session, most: usize) -> Result<(), Memory> {
+    for _ in 0..most {
+        if take_next(rt, session)?.is_none() {
+            break;
+        }
+    }
+    Ok(())
+}
+
+/// The arrivals in turn: after each, all that can be taken is taken.
+fn deliver(
+    rt: &impl Abort,
+    session: &mut Session,
+    arrivals: &[(u8, Request)],
+) -> Result<(), ArriveFault> {
+    for (p, request) in arrivals {
+        arrive(rt, session, *p, *request)?;
+        take_all(rt, session, arrivals.len()).map_err(|_| ArriveFault::Memory)?;
+    }
+    Ok(())
 }
 
 /// Mail comes in any order; of each process it is taken in order, and that of a process that isn't born stays.
@@ -256,5 +308,198 @@ fn mail_of_the_unborn_waits_for_the_fork(rt: HostRuntime) -> Result<(), Fail> {
     assert_eq!(rt; session.answer_of(2, 2), None);
     let locks = all_held(&session)?;
     assert_eq!(rt; locks.as_slice(), [held(Mode::Write, 0, 49)].as_slice());
+    Ok(())
+}
+
+/// While a process waits its mail stays, also where it is the only mail; with the answer it is taken.
+#[test]
+fn mail_of_a_waiting_process_stays(rt: HostRuntime) -> Result<(), Fail> {
+    let mut session = two_processes(rt.alloc())?;
+    for request in [OPEN, FORK, set(0, Kind::Write, 0, 1)] {
+        arrive(&rt, &mut session, 1, request)?;
+    }
+    for request in [wait(Kind::Write, 0, 1), Request::Dup { fd: 0 }] {
+        arrive(&rt, &mut session, 2, request)?;
+    }
+    for place in 1..=4 {
+        assert_eq!(rt; take_next(&rt, &mut session)?, Some(place));
+    }
+    assert_told(&rt, &session, 4, &[Note::Waits { p: 2, n: 1 }]);
+    assert_eq!(rt; take_next(&rt, &mut session)?, None);
+    assert_eq!(rt; counts(&session), [3, 3, 3, 2, 1, 0, 4]);
+    assert!(rt; session.manager().processes() == 2);
+    assert_eq!(rt; session.manager().state_of(2), ProcState::Waiting);
+    assert_eq!(rt; session.answer_of(2, 1), None);
+    arrive(&rt, &mut session, 1, set(0, Kind::Unlock, 0, 1))?;
+    assert_eq!(rt; take_next(&rt, &mut session)?, Some(5));
+    assert_told(
+        &rt,
+        &session,
+        5,
+        &[answer(1, 4, Reply::Ok), answer(2, 1, Reply::Ok)],
+    );
+    assert_eq!(rt; take_next(&rt, &mut session)?, Some(6));
+    assert_eq!(rt; take_next(&rt, &mut session)?, None);
+    assert_eq!(rt; counts(&session), [4, 4, 4, 2, 2, 2, 6]);
+    assert_eq!(rt; session.answer_of(2, 2), Some(Reply::Fd(1)));
+    let locks = all_held(&session)?;
+    assert_eq!(rt;
+        locks.as_slice(),
+        [held_by(2, Mode::Write, 0, 0)].as_slice()
+    );
+    Ok(())
+}
+
+/// Who waits is granted in another's event, and a wait that would close a cycle is refused.
+#[test]
+fn a_wait_is_granted_by_another(rt: HostRuntime) -> Result<(), Fail> {
+    let arrivals = [
+        (1, OPEN),
+        (1, FORK),
+        (1, set(0, Kind::Write, 0, 1)),
+        (2, set(0, Kind::Write, 1, 1)),
+        (1, wait(Kind::Write, 1, 1)),
+        (2, wait(Kind::Write, 0, 1)),
+        (2, set(0, Kind::Unlock, 1, 1)),
+    ];
+    let mut session = two_processes(rt.alloc())?;
+    deliver(&rt, &mut session, &arrivals)?;
+    assert_eq!(rt; counts(&session), [4, 4, 4, 3, 3, 3, 7]);
+    assert_told(&rt, &session, 5, &[Note::Waits { p: 1, n: 4 }]);
+    assert_told(
+        &rt,
+        &session,
+        6,
+        &[answer(2, 2, Reply::Err(Errno::EDEADLK))],
+    );
+    assert_told(
+        &rt,
+        &session,
+        7,
+        &[answer(2, 3, Reply::Ok), answer(1, 4, Reply::Ok)],
+    );
+    assert_eq!(rt; session.answer_of(1, 4), Some(Reply::Ok));
+    let locks = all_held(&session)?;
+    assert_eq!(rt; locks.as_slice(), [held(Mode::Write, 0, 1)].as_slice());
+    Ok(())
+}
+
+/// One event grants several waits, one of them only after another one's lock was set.
+#[test]
+fn one_event_grants_several_waits(rt: HostRuntime) -> Result<(), Fail> {
+    let arrivals = [
+        (1, OPEN),
+        (1, FORK),
+        (1, Request::Fork { child: 3 }),
+        (2, set(0, Kind::Write, 0, 10)),
+        (3, set(0, Kind::Write, 50, 10)),
+        (1, wait(Kind::Read, 0, 10)),
+        (2, wait(Kind::Read, 0, 100)),
+        (3, set(0, Kind::Unlock, 50, 10)),
+    ];
+    let mut session = three_processes(rt.alloc())?;
+    deliver(&rt, &mut session, &arrivals)?;
+    assert_eq!(rt; counts(&session), [4, 4, 4, 2, 2, 2, 8]);
+    let notes = [
+        answer(3, 2, Reply::Ok),
+        answer(2, 2, Reply::Ok),
+        answer(1, 4, Reply::Ok),
+    ];
+    assert_told(&rt, &session, 8, &notes);
+    let locks = all_held(&session)?;
+    let expected = [held(Mode::Read, 0, 9), held_by(2, Mode::Read, 0, 99)];
+    assert_eq!(rt; locks.as_slice(), expected.as_slice());
+    Ok(())
+}
+
+/// A signal ends a wait with EINTR, and then the mail goes on; of oneself it does nothing.
+#[test]
+fn a_signal_ends_a_wait(rt: HostRuntime) -> Result<(), Fail> {
+    let arrivals = [
+        (1, OPEN),
+        (1, FORK),
+        (1, set(0, Kind::Write, 0, 1)),
+        (2, wait(Kind::Read, 0, 1)),
+        (2, lock(LkCmd::GetLk, 0, Kind::Write, 0, 1)),
+        (1, Request::Signal { target: 1 }),
+        (1, Request::Signal { target: 2 }),
+    ];
+    let mut session = two_processes(rt.alloc())?;
+    deliver(&rt, &mut session, &arrivals)?;
+    assert_eq!(rt; counts(&session), [5, 5, 5, 2, 2, 2, 7]);
+    let interrupted = Reply::Err(Errno::EINTR);
+    assert_told(&rt, &session, 5, &[answer(1, 4, Reply::Ok)]);
+    let notes = [answer(1, 5, Reply::Ok), answer(2, 1, interrupted)];
+    assert_told(&rt, &session, 6, &notes);
+    let blocker = Reply::Held {
+        mode: Mode::Write,
+        start: 0,
+        len: 1,
+        pid: 1,
+    };
+    assert_told(&rt, &session, 7, &[answer(2, 2, blocker)]);
+    assert_eq!(rt; session.answer_of(2, 1), Some(interrupted));
+    Ok(())
+}
+
+/// A kill of who waits leaves its request without an answer, and its mail stays.
+#[test]
+fn a_kill_ends_a_wait(rt: HostRuntime) -> Result<(), Fail> {
+    let arrivals = [
+        (1, OPEN),
+        (1, FORK),
+        (1, set(0, Kind::Write, 0, 1)),
+        (2, wait(Kind::Write, 0, 1)),
+        (2, set(0, Kind::Read, 5, 1)),
+        (1, Request::Kill { target: 2 }),
+        (1, Request::Signal { target: 2 }),
+        (1, set(0, Kind::Unlock, 0, 1)),
+    ];
+    let mut session = two_processes(rt.alloc())?;
+    deliver(&rt, &mut session, &arrivals)?;
+    assert_eq!(rt; counts(&session), [6, 6, 6, 2, 1, 0, 7]);
+    assert_told(&rt, &session, 4, &[Note::Waits { p: 2, n: 1 }]);
+    assert_told(&rt, &session, 5, &[answer(1, 4, Reply::Ok)]);
+    let refusal = Reply::Err(Errno::ESRCH);
+    assert_told(&rt, &session, 6, &[answer(1, 5, refusal)]);
+    assert_told(&rt, &session, 7, &[answer(1, 6, Reply::Ok)]);
+    assert_eq!(rt; session.answer_of(2, 1), None);
+    assert!(rt; session.manager().processes() == 2);
+    assert_eq!(rt; session.manager().state_of(2), ProcState::Ended);
+    assert_eq!(rt; all_held(&session)?.len(), 0);
+    Ok(())
+}
+
+/// The end of who holds a lock grants it to who waits for it, and a kill of oneself is told nothing.
+#[test]
+fn kills_release_locks(rt: HostRuntime) -> Result<(), Fail> {
+    let arrivals = [
+        (1, OPEN),
+        (1, FORK),
+        (1, Request::Fork { child: 3 }),
+        (2, set(0, Kind::Write, 0, 10)),
+        (3, wait(Kind::Read, 0, 10)),
+        (1, Request::Kill { target: 2 }),
+        (2, OPEN),
+        (1, Request::Kill { target: 1 }),
+        (1, OPEN),
+    ];
+    let mut session = three_processes(rt.alloc())?;
+    deliver(&rt, &mut session, &arrivals)?;
+    assert_eq!(rt; counts(&session), [6, 5, 4, 2, 1, 1, 7]);
+    assert_told(&rt, &session, 5, &[Note::Waits { p: 3, n: 1 }]);
+    assert_told(
+        &rt,
+        &session,
+        6,
+        &[answer(1, 4, Reply::Ok), answer(3, 1, Reply::Ok)],
+    );
+    assert_told(&rt, &session, 7, &[]);
+    assert!(rt; session.manager().processes() == 3);
+    assert_eq!(rt; session.manager().state_of(1), ProcState::Ended);
+    assert_eq!(rt; session.manager().state_of(2), ProcState::Ended);
+    assert_eq!(rt; session.manager().state_of(3), ProcState::Live);
+    let locks = all_held(&session)?;
+    assert_eq!(rt; locks.as_slice(), [held_by(3, Mode::Read, 0, 9)].as_slice());
     Ok(())
 }
