@@ -7,12 +7,12 @@ use Rattle.std.proofs.lemmas.Fmt.{decimal_injective}
 use Rattle.fd_table.specs.declared.Access.{Access}
 use Rattle.fd_table.specs.declared.Access.TheVariants.{R, W, Rw}
 use Rattle.lock_manager.specs.declared.request.LkCmd.{LkCmd}
-use Rattle.lock_manager.specs.declared.request.LkCmd.TheVariants.{GetLk, SetLk, OGetLk, OSetLk}
+use Rattle.lock_manager.specs.declared.request.LkCmd.TheVariants.{GetLk, SetLk, SetLkW, OGetLk, OSetLk, OSetLkW}
 use Rattle.lock_manager.specs.declared.request.Lock.{Lock}
 use Rattle.fd_table.specs.declared.Limits.{Limits}
 use Rattle.fd_table.specs.declared.Limits.TheVariants.{Small, Wide}
 use Rattle.lock_manager.specs.declared.request.Request.{Request}
-use Rattle.lock_manager.specs.declared.request.Request.TheVariants.{OpenFile, Dup, DupTo, CloseFd, Seek, Resize, Lk, Fork, Exit}
+use Rattle.lock_manager.specs.declared.request.Request.TheVariants.{OpenFile, Dup, DupTo, CloseFd, Seek, Resize, Lk, Fork, Exit, Signal, Kill}
 use Rattle.range_core.specs.declared.Kind.{Kind}
 use Rattle.range_core.specs.declared.Kind.TheVariants.{Read, Write, Unlock}
 use Rattle.range_core.specs.declared.Whence.{Whence}
@@ -23,7 +23,7 @@ use Rattle.script_core.specs.declared.script.Cause.TheVariants.{Byte, Word, Coun
 use Rattle.script_core.specs.declared.script.ScriptFault.{ScriptFault}
 use Rattle.script_core.specs.Words.{lines_of, words_of, is_printable}
 use Rattle.script_core.specs.RequestText.{access_word, kind_word, whence_word, lock_command_word, pid_words, lock_words, request_words}
-use Rattle.script_core.specs.Arguments.{Argument, FileNumber, DescriptorNumber, AnyNumber, ProcessNumber, AccessWord, Spells, IsFirstBad, lock_arguments, open_command, descriptor_command, number_command, dup_to_command, lock_command, fork_command, exit_command, Command, command_named, has_count}
+use Rattle.script_core.specs.Arguments.{Argument, FileNumber, DescriptorNumber, AnyNumber, ProcessNumber, AccessWord, Spells, IsFirstBad, lock_arguments, open_command, descriptor_command, number_command, dup_to_command, lock_command, process_command, exit_command, Command, command_named, has_count}
 use Rattle.script_core.specs.ScriptText.{Meaning, HasZeroPid, Says, IsRequest, IsProcess, IsWritable}
 use Rattle.script_core.specs.Reading.{Reading, ArgumentsGive, CommandGives, RequestGives, ArrivalGives, WordsGive, LineGives, LinesGive, HasOneReading, is_comment, limits_of, meaning_of, start}
 use Rattle.script_core.proofs.NumberLemmas.{number_in, number_in-zero, digits_value-spelled, number_in-spelled}
@@ -133,17 +133,23 @@ said words =
     (cond (bytes_eq name (codes "resize")) (Resize fd (number_at 2 words))
     (cond (bytes_eq name (codes "getlk")) (Lk fd GetLk (lock_in words))
     (cond (bytes_eq name (codes "setlk")) (Lk fd SetLk (lock_in words))
+    (cond (bytes_eq name (codes "setlkw")) (Lk fd SetLkW (lock_in words))
     (cond (bytes_eq name (codes "ogetlk")) (Lk fd OGetLk (lock_in words))
     (cond (bytes_eq name (codes "osetlk")) (Lk fd OSetLk (lock_in words))
-    (cond (bytes_eq name (codes "fork")) (Fork fd) Exit))))))))))
+    (cond (bytes_eq name (codes "osetlkw")) (Lk fd OSetLkW (lock_in words))
+    (cond (bytes_eq name (codes "fork")) (Fork fd)
+    (cond (bytes_eq name (codes "signal")) (Signal fd)
+    (cond (bytes_eq name (codes "kill")) (Kill fd) Exit))))))))))))))
 
 said_lock : (cmd : LkCmd) (arguments : List (List ℕ))
     → said (lock_command_word cmd ∷ arguments) ≡ Lk (natural_at 1 (lock_command_word cmd ∷ arguments)) cmd (lock_in (lock_command_word cmd ∷ arguments))
 unfolding said
 said_lock GetLk arguments = refl
 said_lock SetLk arguments = refl
+said_lock SetLkW arguments = refl
 said_lock OGetLk arguments = refl
 said_lock OSetLk arguments = refl
+said_lock OSetLkW arguments = refl
 
 pid_said : (pid : ℤ) (rest : List (List ℕ)) → PidFollows pid rest → FitsSigned w64 pid → number_at 0 rest ≡ pid
 unfolding number_at
@@ -196,6 +202,8 @@ said_is limits words (Lk fd cmd lock) says fits =
     ap said spelled.are ∙ (said_lock cmd (lock_words fd lock ++ spelled.rest) ∙ (λ i. Lk (number i) cmd (described i)))
 said_is limits words (Fork child) says fits = ap said (has_words words (Fork child) (λ zero. zero) says) ∙ ap Fork (digits_value-spelled child (small_process limits child fits))
 said_is limits words Exit says fits = ap said (has_words words Exit (λ zero. zero) says)
+said_is limits words (Signal target) says fits = ap said (has_words words (Signal target) (λ zero. zero) says) ∙ ap Signal (digits_value-spelled target (small_process limits target fits))
+said_is limits words (Kill target) says fits = ap said (has_words words (Kill target) (λ zero. zero) says) ∙ ap Kill (digits_value-spelled target (small_process limits target fits))
 
 -- the words of a request say one request
 IsRequest-unique : (limits : Limits) (words : List (List ℕ)) (a b : Request) → IsRequest limits words a → IsRequest limits words b → a ≡ b
@@ -228,8 +236,10 @@ command_is command known e = ap (λ o. unwrap_or o known) e
 pub lock_named : (cmd : LkCmd) → command_named (lock_command_word cmd) ≡ Some (lock_command (lock_command_word cmd))
 lock_named GetLk = refl
 lock_named SetLk = refl
+lock_named SetLkW = refl
 lock_named OGetLk = refl
 lock_named OSetLk = refl
+lock_named OSetLkW = refl
 
 -- the arguments that the command of a request may have
 arguments_of : Request → List Argument
@@ -242,6 +252,8 @@ arguments_of (Resize fd size) = DescriptorNumber ∷ AnyNumber ∷ []
 arguments_of (Lk fd cmd lock) = lock_arguments ++ AnyNumber ∷ []
 arguments_of (Fork child) = ProcessNumber ∷ []
 arguments_of Exit = []
+arguments_of (Signal target) = ProcessNumber ∷ []
+arguments_of (Kill target) = ProcessNumber ∷ []
 
 -- the first of the words is a command with these arguments
 abbrev Names : List Argument → List (List ℕ) → Type 0
@@ -266,8 +278,10 @@ request_named words (Resize fd size) says = names_so (number_command (codes "res
 request_named words (Lk fd cmd lock) says =
     let spelled = SaysLock-from_says words fd cmd lock says in
     names_by (lock_command (lock_command_word cmd)) words (ap (λ ws. command_named (get_or ws 0 [])) spelled.are ∙ lock_named cmd)
-request_named words (Fork child) says = names_so fork_command words (Fork child) (λ zero. zero) says refl
+request_named words (Fork child) says = names_so (process_command (codes "fork")) words (Fork child) (λ zero. zero) says refl
 request_named words Exit says = names_so exit_command words Exit (λ zero. zero) says refl
+request_named words (Signal target) says = names_so (process_command (codes "signal")) words (Signal target) (λ zero. zero) says refl
+request_named words (Kill target) says = names_so (process_command (codes "kill")) words (Kill target) (λ zero. zero) says refl
 
 spells_so : (limits : Limits) (arguments : List Argument) (words : List (List ℕ)) (request : Request) → (HasZeroPid request → ⊥) → Says words request
     → AllSpell limits arguments (drop 1 (request_words request)) → AllSpell limits arguments (drop 1 words)
@@ -291,6 +305,8 @@ request_spelled limits words (Lk fd cmd lock) says fits =
     ((fd, fits.0, refl), ((lock.kind, refl), ((lock.whence, refl), ((lock.start, fits.1, refl), ((lock.len, fits.2, refl), pid)))))
 request_spelled limits words (Fork child) says fits = spells_so limits (ProcessNumber ∷ []) words (Fork child) (λ zero. zero) says ((child, fits.0, fits.1, refl), tt)
 request_spelled limits words Exit says fits = spells_so limits [] words Exit (λ zero. zero) says tt
+request_spelled limits words (Signal target) says fits = spells_so limits (ProcessNumber ∷ []) words (Signal target) (λ zero. zero) says ((target, fits.0, fits.1, refl), tt)
+request_spelled limits words (Kill target) says fits = spells_so limits (ProcessNumber ∷ []) words (Kill target) (λ zero. zero) says ((target, fits.0, fits.1, refl), tt)
 
 -- where the words are a request, no argument is bad
 no_bad : (limits : Limits) (name : List ℕ) (arguments : List (List ℕ)) (command : Command) (request : Request) (cause : Cause) → command_named name ≡ Some command

@@ -5,12 +5,13 @@ use Rattle.lock_book.specs.declared.Held.{Held}
 use Rattle.lock_book.specs.Changes.{mode_in, flock_mode_in}
 use Rattle.lock_book.specs.Reports.{IsHeldReport}
 use Rattle.lock_book.specs.OneReport.{LocksHaveOneReport}
+use Rattle.wait_core.specs.declared.Wait.{Wait}
 use Rattle.lock_manager.specs.declared.request.ProcState.{ProcState}
 use Rattle.lock_manager.specs.declared.manager.Manager.{Manager}
 use Rattle.lock_manager.specs.State.{State}
 use Rattle.lock_manager.specs.ManagerView.{StandsFor, state_at}
 use Rattle.session_core.specs.Event.{Event}
-use Rattle.script_core.specs.ReportText.{held_line, line_of, reported_line, process_lines, IsReport, AreCounts}
+use Rattle.script_core.specs.ReportText.{held_line, wait_line, line_of, reported_line, process_lines, IsReport, AreCounts}
 
 -- the lines of one more process
 process_lines-more : (states : ℕ → ProcState) (events : List Event) (sent : ℕ → ℕ) (p n : ℕ)
@@ -52,16 +53,16 @@ unfolding process_lines
 no_processes states events sent old = sym (append-nil old)
 
 -- the report of what a manager shows is that of each state that it stands for
-pub report_in_state : (manager : Manager) (S : State) (processes : ℕ) (events : List Event) (sent : ℕ → ℕ) (locks : List Held) (text : List ℕ)
-    → StandsFor manager S → IsHeldReport (mode_in S.changes) (flock_mode_in S.flock_changes) locks
-    → text ≡ flat_map held_line locks ++ process_lines (state_at manager) events sent 1 processes
+pub report_in_state : (manager : Manager) (S : State) (processes : ℕ) (events : List Event) (sent : ℕ → ℕ) (locks : List Held) (waits : List Wait) (text : List ℕ)
+    → StandsFor manager S → IsHeldReport (mode_in S.changes) (flock_mode_in S.flock_changes) locks → waits ≡ S.waits
+    → text ≡ flat_map held_line locks ++ flat_map wait_line waits ++ process_lines (state_at manager) events sent 1 processes
     → IsReport processes S events sent text
-report_in_state manager S processes events sent locks text h held is =
+report_in_state manager S processes events sent locks waits text h held wait is =
     let states : state_at manager ≡ S.states = λ i p. h.states p i in
     record {
       held = locks;
       is_held = held;
-      is = is ∙ ap (λ f. flat_map held_line locks ++ process_lines f events sent 1 processes) states;
+      is = is ∙ (λ i. flat_map held_line locks ++ flat_map wait_line (wait i) ++ process_lines (states i) events sent 1 processes);
     }
 
 -- a state after these events has one report
@@ -69,6 +70,6 @@ pub IsReport-unique : LocksHaveOneReport → (processes : ℕ) (S : State) (even
     → IsReport processes S events sent text → IsReport processes S events sent other → text ≡ other
 IsReport-unique one processes S events sent text other h k =
     h.is
-    ∙ ap (λ locks. flat_map held_line locks ++ process_lines S.states events sent 1 processes)
+    ∙ ap (λ locks. flat_map held_line locks ++ flat_map wait_line S.waits ++ process_lines S.states events sent 1 processes)
     (one (mode_in S.changes) (flock_mode_in S.flock_changes) h.held k.held h.is_held k.is_held)
     ∙ sym k.is

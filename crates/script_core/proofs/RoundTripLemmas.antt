@@ -11,11 +11,11 @@ use Rattle.std.proofs.lemmas.Bool.Decides.{nat_tests}
 use Rattle.fd_table.specs.declared.Access.{Access}
 use Rattle.fd_table.specs.declared.Access.TheVariants.{R, W, Rw}
 use Rattle.lock_manager.specs.declared.request.LkCmd.{LkCmd}
-use Rattle.lock_manager.specs.declared.request.LkCmd.TheVariants.{GetLk, SetLk, OGetLk, OSetLk}
+use Rattle.lock_manager.specs.declared.request.LkCmd.TheVariants.{GetLk, SetLk, SetLkW, OGetLk, OSetLk, OSetLkW}
 use Rattle.lock_manager.specs.declared.request.Lock.{Lock}
 use Rattle.fd_table.specs.declared.Limits.TheVariants.{Small}
 use Rattle.lock_manager.specs.declared.request.Request.{Request}
-use Rattle.lock_manager.specs.declared.request.Request.TheVariants.{OpenFile, Dup, DupTo, CloseFd, Seek, Resize, Lk, Fork, Exit}
+use Rattle.lock_manager.specs.declared.request.Request.TheVariants.{OpenFile, Dup, DupTo, CloseFd, Seek, Resize, Lk, Fork, Exit, Signal, Kill}
 use Rattle.range_core.specs.declared.Kind.{Kind}
 use Rattle.range_core.specs.declared.Kind.TheVariants.{Read, Write, Unlock}
 use Rattle.range_core.specs.declared.Whence.{Whence}
@@ -161,8 +161,10 @@ IsWord-whence_word End = IsWord-tested (whence_word End) refl
 IsWord-lock_command_word : (cmd : LkCmd) → IsWord (lock_command_word cmd)
 IsWord-lock_command_word GetLk = IsWord-tested (lock_command_word GetLk) refl
 IsWord-lock_command_word SetLk = IsWord-tested (lock_command_word SetLk) refl
+IsWord-lock_command_word SetLkW = IsWord-tested (lock_command_word SetLkW) refl
 IsWord-lock_command_word OGetLk = IsWord-tested (lock_command_word OGetLk) refl
 IsWord-lock_command_word OSetLk = IsWord-tested (lock_command_word OSetLk) refl
+IsWord-lock_command_word OSetLkW = IsWord-tested (lock_command_word OSetLkW) refl
 
 AreWords-pid_words : (z : ℤ) → FitsSigned w64 z → AreWords (pid_words z)
 unfolding AreWords
@@ -180,6 +182,8 @@ AreWords-request_words (Seek fd offset) writable = (IsWord-tested (codes "seek")
 AreWords-request_words (Resize fd size) writable = (IsWord-tested (codes "resize") refl, (IsWord-descriptor fd writable.0, (IsWord-signed_decimal size writable.1, tt)))
 AreWords-request_words (Fork child) writable = (IsWord-tested (codes "fork") refl, (IsWord-decimal child (omega (arith, writable.1)), tt))
 AreWords-request_words Exit writable = (IsWord-tested (codes "exit") refl, tt)
+AreWords-request_words (Signal target) writable = (IsWord-tested (codes "signal") refl, (IsWord-decimal target (omega (arith, writable.1)), tt))
+AreWords-request_words (Kill target) writable = (IsWord-tested (codes "kill") refl, (IsWord-decimal target (omega (arith, writable.1)), tt))
 AreWords-request_words (Lk fd cmd lock) writable = (
   IsWord-lock_command_word cmd,
   (
@@ -209,11 +213,13 @@ length-whence_word Set = lit≤ tt
 length-whence_word Cur = lit≤ tt
 length-whence_word End = lit≤ tt
 
-length-lock_command_word : (cmd : LkCmd) → length (lock_command_word cmd) ≤ 6
+length-lock_command_word : (cmd : LkCmd) → length (lock_command_word cmd) ≤ 7
 length-lock_command_word GetLk = lit≤ tt
 length-lock_command_word SetLk = lit≤ tt
+length-lock_command_word SetLkW = lit≤ tt
 length-lock_command_word OGetLk = lit≤ tt
 length-lock_command_word OSetLk = lit≤ tt
+length-lock_command_word OSetLkW = lit≤ tt
 
 length-descriptor : (fd : ℕ) → IsDescriptor fd → length (decimal fd) ≤ 10
 length-descriptor fd small = length-decimal-le 10 fd (lit< tt) (omega (arith, small)) (omega (arith, small))
@@ -238,6 +244,8 @@ more_length-request_words (Seek fd offset) writable = omega (arith, length-descr
 more_length-request_words (Resize fd size) writable = omega (arith, length-descriptor fd writable.0, length-signed_decimal size writable.1)
 more_length-request_words (Fork child) writable = omega (arith, length-decimal-le 2 child (lit< tt) (omega (arith, writable.1)) (omega (arith, writable.1)))
 more_length-request_words Exit writable = lit≤ tt
+more_length-request_words (Signal target) writable = omega (arith, length-decimal-le 2 target (lit< tt) (omega (arith, writable.1)) (omega (arith, writable.1)))
+more_length-request_words (Kill target) writable = omega (arith, length-decimal-le 2 target (lit< tt) (omega (arith, writable.1)) (omega (arith, writable.1)))
 more_length-request_words (Lk fd cmd lock) writable =
     omega (
       arith,
@@ -278,6 +286,8 @@ gives_request (Lk fd cmd lock) writable =
     (is_written (Lk fd cmd lock) writable)
 gives_request (Fork child) writable = inr (Fork child, is_written (Fork child) writable, refl)
 gives_request Exit writable = inr (Exit, is_written Exit writable, refl)
+gives_request (Signal target) writable = inr (Signal target, is_written (Signal target) writable, refl)
+gives_request (Kill target) writable = inr (Kill target, is_written (Kill target) writable, refl)
 
 reads_words : (reading : Reading) (p : ℕ) (words : List (List ℕ)) (request : Request) → IsProcess Small p → RequestGives Small words (Ok request)
     → WordsGive reading (decimal p ∷ words) (Ok (reading_after reading (Some (p, request))))
@@ -299,6 +309,8 @@ join_cons p (Seek fd offset) = append_assoc (decimal p) (codes " ") (request_tex
 join_cons p (Resize fd size) = append_assoc (decimal p) (codes " ") (request_text (Resize fd size))
 join_cons p (Fork child) = append_assoc (decimal p) (codes " ") (request_text (Fork child))
 join_cons p Exit = append_assoc (decimal p) (codes " ") (request_text Exit)
+join_cons p (Signal target) = append_assoc (decimal p) (codes " ") (request_text (Signal target))
+join_cons p (Kill target) = append_assoc (decimal p) (codes " ") (request_text (Kill target))
 join_cons p (Lk fd cmd lock) = append_assoc (decimal p) (codes " ") (request_text (Lk fd cmd lock))
 
 -- the text of a request, behind its process and a space, is a line that is read as this arrival

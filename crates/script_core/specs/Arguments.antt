@@ -87,9 +87,9 @@ number_command name = plain_command name (DescriptorNumber ∷ AnyNumber ∷ [])
 abbrev pub dup_to_command : Command
 dup_to_command = plain_command (codes "dup2") (DescriptorNumber ∷ DescriptorNumber ∷ [])
 
--- fork: the child
-abbrev pub fork_command : Command
-fork_command = plain_command (codes "fork") (ProcessNumber ∷ [])
+-- a command on a process alone: fork, signal, kill
+abbrev pub process_command : List ℕ → Command
+process_command name = plain_command name (ProcessNumber ∷ [])
 
 -- exit: no argument
 abbrev pub exit_command : Command
@@ -100,8 +100,9 @@ abbrev pub commands : List Command
 commands =
     open_command ∷ descriptor_command (codes "dup") ∷ dup_to_command ∷ descriptor_command (codes "close")
     ∷ number_command (codes "seek") ∷ number_command (codes "resize")
-    ∷ lock_command (codes "getlk") ∷ lock_command (codes "setlk") ∷ lock_command (codes "ogetlk") ∷ lock_command (codes "osetlk")
-    ∷ fork_command ∷ exit_command ∷ []
+    ∷ lock_command (codes "getlk") ∷ lock_command (codes "setlk") ∷ lock_command (codes "setlkw")
+    ∷ lock_command (codes "ogetlk") ∷ lock_command (codes "osetlk") ∷ lock_command (codes "osetlkw")
+    ∷ process_command (codes "fork") ∷ process_command (codes "signal") ∷ process_command (codes "kill") ∷ exit_command ∷ []
 
 -- the command of this word, if it is one
 abbrev pub command_named : List ℕ → Option Command

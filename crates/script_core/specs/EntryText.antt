@@ -2,11 +2,11 @@
 use Rattle.std.specs.Prelude.{ℕ, List, [], ◌∷◌, ◌++◌, flat_map, codes, decimal}
 use Rattle.std.specs.Fmt.{signed_decimal}
 use Rattle.lock_manager.specs.declared.request.Errno.{Errno}
-use Rattle.lock_manager.specs.declared.request.Errno.TheVariants.{EBADF, EINVAL, EOVERFLOW, EAGAIN, EMFILE}
+use Rattle.lock_manager.specs.declared.request.Errno.TheVariants.{EBADF, EINVAL, EOVERFLOW, EAGAIN, EDEADLK, EINTR, EMFILE, ESRCH}
 use Rattle.lock_manager.specs.declared.request.Reply.{Reply}
 use Rattle.lock_manager.specs.declared.request.Reply.TheVariants as replies
 use Rattle.lock_manager.specs.declared.request.Note.{Note}
-use Rattle.lock_manager.specs.declared.request.Note.TheVariants.{Answer}
+use Rattle.lock_manager.specs.declared.request.Note.TheVariants.{Answer, Waits}
 use Rattle.session_core.specs.Event.{Event}
 use Rattle.script_core.specs.RequestText.{mode_word, request_text}
 
@@ -16,7 +16,10 @@ error_name EBADF = codes "EBADF"
 error_name EINVAL = codes "EINVAL"
 error_name EOVERFLOW = codes "EOVERFLOW"
 error_name EAGAIN = codes "EAGAIN"
+error_name EDEADLK = codes "EDEADLK"
+error_name EINTR = codes "EINTR"
 error_name EMFILE = codes "EMFILE"
+error_name ESRCH = codes "ESRCH"
 
 -- an answer, of which a lock that is held has its mode, start, length and pid
 abbrev pub reply_text : Reply → List ℕ
@@ -31,9 +34,10 @@ reply_text (replies.Err error) = error_name error
 abbrev pub tag : ℕ → ℕ → List ℕ
 tag p n = decimal p ++ codes "#" ++ decimal n
 
--- a note, with the request that it answers
+-- a note, with the request that it answers, or that waits
 abbrev pub note_text : Note → List ℕ
 note_text (Answer p n reply) = codes " | " ++ tag p n ++ codes " " ++ reply_text reply
+note_text (Waits p n) = codes " | " ++ tag p n ++ codes " waits"
 
 -- the line of an event: the request, and then each note
 abbrev pub entry_line : Event → List ℕ

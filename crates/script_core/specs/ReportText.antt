@@ -8,8 +8,11 @@ use Rattle.lock_book.specs.declared.Owner.TheVariants.{Process, Description}
 use Rattle.lock_book.specs.declared.Held.{Held}
 use Rattle.lock_book.specs.Changes.{mode_in, flock_mode_in}
 use Rattle.lock_book.specs.Reports.{IsHeldReport}
+use Rattle.wait_core.specs.declared.Family.{Family}
+use Rattle.wait_core.specs.declared.Family.TheVariants.{Bytes, Whole}
+use Rattle.wait_core.specs.declared.Wait.{Wait}
 use Rattle.lock_manager.specs.declared.request.ProcState.{ProcState}
-use Rattle.lock_manager.specs.declared.request.ProcState.TheVariants.{Unborn, Live, Ended}
+use Rattle.lock_manager.specs.declared.request.ProcState.TheVariants.{Unborn, Live, Waiting, Ended}
 use Rattle.lock_manager.specs.State.{State}
 use Rattle.lock_manager.specs.ManagerView.{processes_of}
 use Rattle.session_core.specs.declared.session.Session.{Session}
@@ -18,6 +21,7 @@ use Rattle.session_core.specs.Mail.{events_of, answers_to}
 use Rattle.session_core.specs.SessionView.{manager_of, events_in}
 use Rattle.script_core.specs.declared.text.ProcessLine.{ProcessLine}
 use Rattle.script_core.specs.RequestText.{mode_word}
+use Rattle.script_core.specs.EntryText.{tag}
 
 -- the owner of a lock
 abbrev pub owner_text : Owner → List ℕ
@@ -48,10 +52,20 @@ held_text held =
 abbrev pub held_line : Held → List ℕ
 held_line held = held_text held ++ 10 ∷ []
 
+-- the lock that a wait is for
+abbrev pub wanted_text : Family → Wait → List ℕ
+wanted_text Bytes wait = byte_lock_text wait.file wait.owner wait.mode wait.span
+wanted_text Whole wait = decimal wait.file ++ codes " flock " ++ flock_text wait.owner wait.mode
+
+-- the line of a wait: the request that waits, and the lock that it is for
+abbrev pub wait_line : Wait → List ℕ
+wait_line wait = codes "wait " ++ tag wait.p wait.n ++ codes " " ++ wanted_text wait.family wait ++ 10 ∷ []
+
 -- where a process stands
 abbrev pub state_word : ProcState → List ℕ
 state_word Unborn = codes "unborn"
 state_word Live = codes "live"
+state_word Waiting = codes "waiting"
 state_word Ended = codes "ended"
 
 -- how many requests a process sent, how many were taken and how many answered
@@ -67,6 +81,7 @@ process_line line = codes "proc " ++ decimal line.p ++ codes " " ++ counts_text 
 abbrev pub is_reported : ProcState → ℕ → Bool
 is_reported Unborn sent = nat_lt 0 sent
 is_reported Live sent = true
+is_reported Waiting sent = true
 is_reported Ended sent = true
 
 -- what there is to tell of a process: where it stands, what it sent, and what was taken and answered by these events
@@ -83,12 +98,12 @@ unfoldable pub process_lines : (ℕ → ProcState) → List Event → (ℕ → �
 process_lines states events sent p zero = []
 process_lines states events sent p (suc more) = reported_line (line_of states events sent p) ++ process_lines states events sent (p + 1) more
 
--- the report of a state of so many processes after these events: the locks that are held, and the processes with the count of
--- what each sent
+-- the report of a state of so many processes after these events: the locks that are held, the waits in order of arrival, and the
+-- processes with the count of what each sent
 pub record IsReport (processes : ℕ) (S : State) (events : List Event) (sent : ℕ → ℕ) (text : List ℕ) : Type 0 where
   pub held : List Held
   pub is_held : IsHeldReport (mode_in S.changes) (flock_mode_in S.flock_changes) held
-  pub is : text ≡ flat_map held_line held ++ process_lines S.states events sent 1 processes
+  pub is : text ≡ flat_map held_line held ++ flat_map wait_line S.waits ++ process_lines S.states events sent 1 processes
 
 -- the list has the count of each process, from process 1 on
 abbrev pub AreCounts : List ℕ → (ℕ → ℕ) → Type 0

@@ -13,9 +13,9 @@ use Rattle.fd_table.specs.declared.Access.{Access}
 use Rattle.fd_table.specs.declared.Access.TheVariants.{R, W, Rw}
 use Rattle.lock_manager.specs.declared.request.Lock.{Lock}
 use Rattle.lock_manager.specs.declared.request.LkCmd.{LkCmd}
-use Rattle.lock_manager.specs.declared.request.LkCmd.TheVariants.{GetLk, SetLk, OGetLk, OSetLk}
+use Rattle.lock_manager.specs.declared.request.LkCmd.TheVariants.{GetLk, SetLk, SetLkW, OGetLk, OSetLk, OSetLkW}
 use Rattle.lock_manager.specs.declared.request.Request.{Request}
-use Rattle.lock_manager.specs.declared.request.Request.TheVariants.{OpenFile, Dup, DupTo, CloseFd, Seek, Resize, Lk, Fork, Exit}
+use Rattle.lock_manager.specs.declared.request.Request.TheVariants.{OpenFile, Dup, DupTo, CloseFd, Seek, Resize, Lk, Fork, Exit, Signal, Kill}
 
 -- the word of an access mode
 abbrev pub access_word : Access → List ℕ
@@ -44,8 +44,10 @@ whence_word End = codes "end"
 abbrev pub lock_command_word : LkCmd → List ℕ
 lock_command_word GetLk = codes "getlk"
 lock_command_word SetLk = codes "setlk"
+lock_command_word SetLkW = codes "setlkw"
 lock_command_word OGetLk = codes "ogetlk"
 lock_command_word OSetLk = codes "osetlk"
+lock_command_word OSetLkW = codes "osetlkw"
 
 -- the member l_pid is written only where it isn't 0
 abbrev pub pid_words : ℤ → List (List ℕ)
@@ -69,6 +71,8 @@ request_words (Resize fd size) = codes "resize" ∷ decimal fd ∷ signed_decima
 request_words (Lk fd cmd lock) = lock_command_word cmd ∷ (lock_words fd lock ++ pid_words lock.pid)
 request_words (Fork child) = codes "fork" ∷ decimal child ∷ []
 request_words Exit = codes "exit" ∷ []
+request_words (Signal target) = codes "signal" ∷ decimal target ∷ []
+request_words (Kill target) = codes "kill" ∷ decimal target ∷ []
 
 -- the words with one space between each two
 abbrev pub request_text : Request → List ℕ

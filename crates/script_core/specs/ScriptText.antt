@@ -4,7 +4,7 @@ use Rattle.std.specs.Int.{w64}
 use Rattle.fd_table.specs.declared.TheConstants.{FILES}
 use Rattle.fd_table.specs.declared.Limits.{Limits}
 use Rattle.lock_manager.specs.declared.request.Request.{Request}
-use Rattle.lock_manager.specs.declared.request.Request.TheVariants.{OpenFile, Dup, DupTo, CloseFd, Seek, Resize, Lk, Fork, Exit}
+use Rattle.lock_manager.specs.declared.request.Request.TheVariants.{OpenFile, Dup, DupTo, CloseFd, Seek, Resize, Lk, Fork, Exit, Signal, Kill}
 use Rattle.fd_table.specs.Descriptors.{process_limit}
 use Rattle.script_core.specs.RequestText.{request_words}
 
@@ -32,6 +32,8 @@ IsWritable limits (Lk fd cmd lock) =
     IsDescriptor fd × FitsSigned w64 lock.start × FitsSigned w64 lock.len × FitsSigned w64 lock.pid
 IsWritable limits (Fork child) = IsProcess limits child
 IsWritable limits Exit = ⊤
+IsWritable limits (Signal target) = IsProcess limits target
+IsWritable limits (Kill target) = IsProcess limits target
 
 -- the request is one in which a pid of 0 may be written or left out
 abbrev pub HasZeroPid : Request → Type 0
@@ -44,6 +46,8 @@ HasZeroPid (Resize fd size) = ⊥
 HasZeroPid (Lk fd cmd lock) = lock.pid ≡ pos 0
 HasZeroPid (Fork child) = ⊥
 HasZeroPid Exit = ⊥
+HasZeroPid (Signal target) = ⊥
+HasZeroPid (Kill target) = ⊥
 
 -- the words say the request: they are its words, or these with a pid of 0 behind them
 abbrev pub Says : List (List ℕ) → Request → Type 0

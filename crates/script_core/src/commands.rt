@@ -3,7 +3,8 @@ ghost use Rattle.std.specs.Fmt.{signed_decimal};
 ghost use Rattle.fd_table.specs.declared.Limits.TheVariants.{Small};
 ghost use Rattle.script_core.specs.Words.{texts};
 ghost use Rattle.script_core.specs.RequestText.{lock_command_word, lock_words};
-ghost use Rattle.script_core.specs.Arguments.{DescriptorNumber, AnyNumber, IsFirstBad, AreRefused, open_command, dup_to_command, fork_command, exit_command, lock_arguments, lock_command};
+ghost use Rattle.script_core.specs.Arguments.{DescriptorNumber, AnyNumber, ProcessNumber, IsFirstBad, AreRefused, open_command, dup_to_command, exit_command, lock_arguments, lock_command};
+ghost use Rattle.script_core.specs.ScriptText.{IsProcess};
 ghost use Rattle.script_core.specs.Reading.{CommandGives, RequestGives};
 
 use crate::Cause;
@@ -31,9 +32,13 @@ pub fn read_command(name: &str, arguments: &[&str]) -> Result<Request, Cause>
         }
         "getlk" => read_lock(LkCmd::GetLk, arguments),
         "setlk" => read_lock(LkCmd::SetLk, arguments),
+        "setlkw" => read_lock(LkCmd::SetLkW, arguments),
         "ogetlk" => read_lock(LkCmd::OGetLk, arguments),
         "osetlk" => read_lock(LkCmd::OSetLk, arguments),
-        "fork" => read_fork(arguments),
+        "osetlkw" => read_lock(LkCmd::OSetLkW, arguments),
+        "fork" => read_process_alone(arguments).map(|child| Request::Fork { child }),
+        "signal" => read_process_alone(arguments).map(|target| Request::Signal { target }),
+        "kill" => read_process_alone(arguments).map(|target| Request::Kill { target }),
         "exit" => read_exit(arguments),
         _ => Err(Cause::Word),
     }
@@ -83,14 +88,15 @@ fn read_dup_to(arguments: &[&str]) -> Result<Request, Cause>
     Ok(Request::DupTo { fd, to })
 }
 
-fn read_fork(arguments: &[&str]) -> Result<Request, Cause>
-    ensures { CommandGives Small (codes "fork" ∷ texts arguments.now) fork_command (texts arguments.now) result }
+/// The arguments of a command on a process alone.
+fn read_process_alone(arguments: &[&str]) -> Result<u8, Cause>
+    ensures { MatchResult result (λ p. IsProcess Small p × (texts arguments.now ≡ decimal p ∷ []))
+        (AreRefused Small (ProcessNumber ∷ []) (texts arguments.now)) }
 {
-    let [child] = arguments else {
-        return Err(Cause::Count);
-    };
-    let child = read_process(child)?;
-    Ok(Request::Fork { child })
+    match arguments {
+        [process] => read_process(process),
+        _ => Err(Cause::Count),
+    }
 }
 
 fn read_exit(arguments: &[&str]) -> Result<Request, Cause>

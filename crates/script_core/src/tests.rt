@@ -18,6 +18,31 @@ const CONVERSION_OUTPUT: &[u8] = b"1#1 open 0 rw | 1#1 fd 0\n\
     lock 0 process 1 w 60 99\n\
     proc 1 sent 3 taken 3 answered 3 live\n";
 
+const OFD_CYCLE: &[u8] = b"1 open 0 rw\n1 fork 2\n1 fork 3\n2 open 0 rw\n3 open 1 rw\n\
+    1 osetlk 0 w set 0 1\n2 osetlk 1 w set 1 1\n1 osetlkw 0 w set 1 1\n2 osetlkw 1 w set 0 1\n\
+    3 osetlk 1 w set 0 1\n3 setlkw 1 w set 0 1\n";
+
+const OFD_CYCLE_OUTPUT: &[u8] = b"1#1 open 0 rw | 1#1 fd 0\n\
+    1#2 fork 2 | 1#2 ok\n\
+    1#3 fork 3 | 1#3 ok\n\
+    2#1 open 0 rw | 2#1 fd 1\n\
+    3#1 open 1 rw | 3#1 fd 1\n\
+    1#4 osetlk 0 w set 0 1 | 1#4 ok\n\
+    2#2 osetlk 1 w set 1 1 | 2#2 ok\n\
+    1#5 osetlkw 0 w set 1 1 | 1#5 waits\n\
+    2#3 osetlkw 1 w set 0 1 | 2#3 waits\n\
+    3#2 osetlk 1 w set 0 1 | 3#2 ok\n\
+    3#3 setlkw 1 w set 0 1 | 3#3 waits\n\
+    lock 0 description 1 w 0 0\n\
+    lock 0 description 2 w 1 1\n\
+    lock 1 description 3 w 0 0\n\
+    wait 1#5 0 description 1 w 1 1\n\
+    wait 2#3 0 description 2 w 0 0\n\
+    wait 3#3 1 process 3 w 0 0\n\
+    proc 1 sent 5 taken 5 answered 4 waiting\n\
+    proc 2 sent 3 taken 3 answered 2 waiting\n\
+    proc 3 sent 3 taken 3 answered 2 waiting\n";
+
 fn fault_of(alloc: Global, bytes: &[u8]) -> Option<ScriptFault> {
     parse(alloc, bytes).err()
 }
@@ -76,6 +101,15 @@ fn one_line_scripts(rt: HostRuntime) {
         (b"1 getlk 0 w set 0\n", Some(Cause::Count)),
         (b"1 ogetlk 0 x set -0 1\n", Some(Cause::Word)),
         (b"1 osetlk 0 w set 0 1 -7\n", None),
+        (b"1 setlkw 0 w set 0\n", Some(Cause::Count)),
+        (b"1 osetlkw 0 x set -0 1\n", Some(Cause::Word)),
+        (b"1 osetlkw 0 w set 0 1 -7\n", None),
+        (b"1 signal\n", Some(Cause::Count)),
+        (b"1 signal 17\n", Some(Cause::Process)),
+        (b"1 kill 0\n", Some(Cause::Process)),
+        (b"1 kill 1 1\n", Some(Cause::Count)),
+        (b"1 kill 16\n", None),
+        (b"1 Kill 2\n", Some(Cause::Word)),
         (b"1\texit\n", Some(Cause::Byte)),
         (b"# 17 exit\n", None),
         (b"  \n", None),
@@ -150,7 +184,8 @@ fn arrivals_of_script(rt: HostRuntime) -> Result<(), Fail> {
 fn arrivals_of_each_command(rt: HostRuntime) -> Result<(), Fail> {
     let script =
         b"1 dup 4294967295\n1 dup2 0 31\n1 close 7\n1 seek 2 -5\n1 resize 3 9223372036854775807\n\
-        1 getlk 0 w set 1 2 3\n1 ogetlk 0 w set 1 2\n1 osetlk 0 w set 1 2\n1 fork 16\n1 exit\n";
+        1 getlk 0 w set 1 2 3\n1 setlkw 0 w set 1 2\n1 ogetlk 0 w set 1 2\n1 osetlk 0 w set 1 2\n\
+        1 osetlkw 0 w set 1 2 -4\n1 fork 16\n1 signal 2\n1 kill 3\n1 exit\n";
     let script = parse(rt.alloc(), script).map_err(|_| "refused")?;
     let lock = |cmd, pid| with_command(cmd, set_lock(Kind::Write, 1, 2, pid));
     let expected = [
@@ -166,9 +201,13 @@ fn arrivals_of_each_command(rt: HostRuntime) -> Result<(), Fail> {
             },
         ),
         (1, lock(LkCmd::GetLk, 3)),
+        (1, lock(LkCmd::SetLkW, 0)),
         (1, lock(LkCmd::OGetLk, 0)),
         (1, lock(LkCmd::OSetLk, 0)),
+        (1, lock(LkCmd::OSetLkW, -4)),
         (1, Request::Fork { child: 16 }),
+        (1, Request::Signal { target: 2 }),
+        (1, Request::Kill { target: 3 }),
         (1, Request::Exit),
     ];
     assert_eq!(rt; script.arrivals.as_slice(), expected.as_slice());
@@ -336,6 +375,42 @@ fn entry_lines(rt: HostRuntime) -> Result<(), Fail> {
     Ok(())
 }
 
+/// Lines of a worked script in which a signal ends a wait: the notes of the others that an event touches stand behind the
+/// caller's.
+#[test]
+fn entries_of_waits(rt: HostRuntime) -> Result<(), Fail> {
+    let waits = Note::Waits { p: 2, n: 1 };
+    let signalled = Note::Answer {
+        p: 1,
+        n: 4,
+        reply: Reply::Ok,
+    };
+    let interrupted = Note::Answer {
+        p: 2,
+        n: 1,
+        reply: Reply::Err(Errno::EINTR),
+    };
+    let waiting = Entry {
+        p: 2,
+        n: 1,
+        request: with_command(LkCmd::SetLkW, set_lock(Kind::Read, 0, 1, 0)),
+        notes: vec![in rt.alloc(); waits]?,
+    };
+    let signalling = Entry {
+        p: 1,
+        n: 4,
+        request: Request::Signal { target: 2 },
+        notes: vec![in rt.alloc(); signalled, interrupted]?,
+    };
+    let mut out = Vec::new(rt.alloc());
+    write_entry(&waiting, &mut out).map_err(|_| "no memory")?;
+    write_entry(&signalling, &mut out).map_err(|_| "no memory")?;
+    let text =
+        b"2#1 setlkw 0 r set 0 1 | 2#1 waits\n1#4 signal 2 | 1#4 ok | 2#1 EINTR\n".as_slice();
+    assert_eq!(rt; out.as_slice(), text);
+    Ok(())
+}
+
 /// From the bytes of a script to the text of its run.
 #[test]
 fn whole_output(rt: HostRuntime) -> Result<(), Fail> {
@@ -346,6 +421,8 @@ fn whole_output(rt: HostRuntime) -> Result<(), Fail> {
         empty.as_slice(),
         b"proc 1 sent 0 taken 0 answered 0 live\n".as_slice()
     );
+    let waiting = output_of(rt.alloc(), OFD_CYCLE)?;
+    assert_eq!(rt; waiting.as_slice(), OFD_CYCLE_OUTPUT);
     let unborn = output_of(rt.alloc(), b"3 open 0 r\n")?;
     assert_eq!(rt;
         unborn.as_slice(),

@@ -4,16 +4,17 @@ ghost use Rattle.script_core.specs.RequestText.{request_text, lock_words, pid_wo
 ghost use Rattle.script_core.specs.RequestText as spec;
 ghost use Rattle.script_core.specs.EntryText.{entry_line, note_text, reply_text};
 ghost use Rattle.script_core.specs.EntryText as entry_spec;
-ghost use Rattle.script_core.specs.ReportText.{held_line, held_text, byte_lock_text, flock_text, owner_text, counts_text, process_line};
+ghost use Rattle.script_core.specs.ReportText.{held_line, held_text, wait_line, wanted_text, byte_lock_text, flock_text, owner_text, counts_text, process_line};
 ghost use Rattle.script_core.specs.ReportText as report_spec;
 
 use fd_table::Access;
 use lock_book::{Held, Owner};
 use lock_manager::{Errno, LkCmd, Lock, Note, ProcState, Reply, Request};
-use range_core::{Kind, Mode, Whence};
+use range_core::{Kind, Mode, Span, Whence};
 use session_core::Entry;
 use std::alloc::AllocError;
 use std::fmt::Write;
+use wait_core::{Family, Wait};
 
 /// Appends the line of an entry: the request with its process and number, and then each note.
 pub fn push_entry(text: &mut String, entry: &Entry) -> Result<(), AllocError>
@@ -39,32 +40,62 @@ pub fn push_held(text: &mut String, held: &Held) -> Result<(), AllocError>
 fn push_held_text(text: &mut String, held: &Held) -> Result<(), AllocError>
     ensures { OnOk result (string_bytes text.new ≡ string_bytes text.old ++ held_text held.now) }
 {
+    let file = held.file;
     if held.whole {
-        push_flock(text, held)
+        write!(text, "flock {file} ")?;
+        push_flock(text, held.owner, held.mode)
     } else {
-        push_byte_lock(text, held)
+        text.push_str("lock ")?;
+        push_byte_lock(text, file, held.owner, held.mode, held.span)
+    }
+}
+
+/// Appends the line of a wait.
+pub fn push_wait(text: &mut String, wait: &Wait) -> Result<(), AllocError>
+    ensures { OnOk result (string_bytes text.new ≡ string_bytes text.old ++ wait_line wait.now) }
+{
+    let (p, n) = (wait.p, wait.n);
+    write!(text, "wait {p}#{n} ")?;
+    push_wanted(text, wait)?;
+    text.push_str("\n")
+}
+
+/// The lock that a wait is for.
+fn push_wanted(text: &mut String, wait: &Wait) -> Result<(), AllocError>
+    ensures { OnOk result (string_bytes text.new ≡ string_bytes text.old ++ wanted_text wait.now.family wait.now) }
+{
+    let file = wait.file;
+    match wait.family {
+        Family::Bytes => push_byte_lock(text, file, wait.owner, wait.mode, wait.span),
+        Family::Whole => {
+            write!(text, "{file} flock ")?;
+            push_flock(text, wait.owner, wait.mode)
+        }
     }
 }
 
 /// A byte lock: file, owner, mode, first and last byte.
-fn push_byte_lock(text: &mut String, held: &Held) -> Result<(), AllocError>
-    ensures { OnOk result (string_bytes text.new ≡ string_bytes text.old ++ codes "lock " ++ byte_lock_text held.now.file held.now.owner held.now.mode held.now.span) }
+fn push_byte_lock(
+    text: &mut String,
+    file: u8,
+    owner: Owner,
+    mode: Mode,
+    span: Span,
+) -> Result<(), AllocError>
+    ensures { OnOk result (string_bytes text.new ≡ string_bytes text.old ++ byte_lock_text file owner mode span) }
 {
-    let file = held.file;
-    write!(text, "lock {file} ")?;
-    push_owner(text, held.owner)?;
-    let (mode, first, last) = (mode_word(held.mode), held.span.first, held.span.last);
+    write!(text, "{file} ")?;
+    push_owner(text, owner)?;
+    let (mode, first, last) = (mode_word(mode), span.first, span.last);
     write!(text, " {mode} {first} {last}")
 }
 
-/// A flock lock: file, description and mode.
-fn push_flock(text: &mut String, held: &Held) -> Result<(), AllocError>
-    ensures { OnOk result (string_bytes text.new ≡ string_bytes text.old ++ codes "flock " ++ decimal held.now.file ++ codes " " ++ flock_text held.now.owner held.now.mode) }
+/// A flock lock: description and mode.
+fn push_flock(text: &mut String, owner: Owner, mode: Mode) -> Result<(), AllocError>
+    ensures { OnOk result (string_bytes text.new ≡ string_bytes text.old ++ flock_text owner mode) }
 {
-    let file = held.file;
-    write!(text, "flock {file} ")?;
-    push_owner(text, held.owner)?;
-    let mode = flock_word(held.mode);
+    push_owner(text, owner)?;
+    let mode = flock_word(mode);
     write!(text, " {mode}")
 }
 
@@ -121,6 +152,8 @@ fn push_request(text: &mut String, request: &Request) -> Result<(), AllocError>
         }
         Request::Fork { child } => write!(text, "fork {child}"),
         Request::Exit => text.push_str("exit"),
+        Request::Signal { target } => write!(text, "signal {target}"),
+        Request::Kill { target } => write!(text, "kill {target}"),
     }
 }
 
@@ -152,6 +185,7 @@ fn push_note(text: &mut String, note: &Note) -> Result<(), AllocError>
             write!(text, " | {p}#{n} ")?;
             push_reply(text, *reply)
         }
+        Note::Waits { p, n } => write!(text, " | {p}#{n} waits"),
     }
 }
 
@@ -190,8 +224,10 @@ fn command_word(cmd: LkCmd) -> &'static str
     match cmd {
         LkCmd::GetLk => "getlk",
         LkCmd::SetLk => "setlk",
+        LkCmd::SetLkW => "setlkw",
         LkCmd::OGetLk => "ogetlk",
         LkCmd::OSetLk => "osetlk",
+        LkCmd::OSetLkW => "osetlkw",
     }
 }
 
@@ -251,7 +287,10 @@ fn error_name(error: Errno) -> &'static str
         Errno::EINVAL => "EINVAL",
         Errno::EOVERFLOW => "EOVERFLOW",
         Errno::EAGAIN => "EAGAIN",
+        Errno::EDEADLK => "EDEADLK",
+        Errno::EINTR => "EINTR",
         Errno::EMFILE => "EMFILE",
+        Errno::ESRCH => "ESRCH",
     }
 }
 
@@ -261,6 +300,7 @@ fn state_word(state: ProcState) -> &'static str
     match state {
         ProcState::Unborn => "unborn",
         ProcState::Live => "live",
+        ProcState::Waiting => "waiting",
         ProcState::Ended => "ended",
     }
 }

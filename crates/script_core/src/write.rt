@@ -6,16 +6,17 @@ ghost use Rattle.fd_table.specs.declared.Limits.TheVariants.{Small};
 ghost use Rattle.script_core.specs.ScriptText.{IsProcess, IsWritable};
 ghost use Rattle.script_core.specs.Reading.{IsReadBack};
 ghost use Rattle.script_core.specs.EntryText.{entry_line};
-ghost use Rattle.script_core.specs.ReportText.{held_line, reported_line, process_lines, AreCounts, IsReportOf};
+ghost use Rattle.script_core.specs.ReportText.{held_line, wait_line, reported_line, process_lines, AreCounts, IsReportOf};
 ghost use Rattle.script_core.specs.ReportText as spec;
 ghost use Rattle.script_core.specs.Output.{AppendsPartOf};
 
-use crate::text::{ProcessLine, push_entry, push_held, push_process};
+use crate::text::{ProcessLine, push_entry, push_held, push_process, push_wait};
 use lock_book::Held;
 use lock_manager::ProcState;
 use range_core::Memory;
 use session_core::{Entry, Session};
 use std::alloc::{AllocError, Global};
+use wait_core::Wait;
 
 /// Appends the line of an entry. After `Memory` the vector has its old bytes and a front of the text.
 #[tactic(auto, using(crate::proofs::RoundTripLemmas::reads_back))]
@@ -31,9 +32,9 @@ pub fn write_entry(entry: &Entry, out: &mut Vec<u8>) -> Result<(), Memory>
     out.extend_from_slice(text.as_bytes()).map_err(|_| Memory)
 }
 
-/// Appends the report of a session: the locks that are held, and then each process that was ever alive or has sent
-/// something, with the count in `sent` of what it sent. After `Memory` the vector has its old bytes and a front of the
-/// text.
+/// Appends the report of a session: the locks that are held, then the requests that wait, and then each process that was
+/// ever alive or has sent something, with the count in `sent` of what it sent. After `Memory` the vector has its old bytes
+/// and a front of the text.
 pub fn write_report(session: &Session, sent: &[u64], out: &mut Vec<u8>) -> Result<(), Memory>
     requires { length sent.now ≡ processes_of (manager_of session.now) }
 
@@ -53,8 +54,10 @@ fn report_text(alloc: Global, session: &Session, sent: &[u64]) -> Result<String,
     ensures { IfOk result (λ text. (S : State) → StandsFor (manager_of session.now) S → IsReportOf session.now sent.now S (string_bytes text)) }
 {
     let locks = session.manager().held()?;
+    let waits = session.manager().waits()?;
     let mut text = String::new(alloc);
     push_locks(&mut text, &locks).map_err(|_| Memory)?;
+    push_waits(&mut text, &waits).map_err(|_| Memory)?;
     push_processes(&mut text, session, sent).map_err(|_| Memory)?;
     Ok(text)
 }
@@ -65,6 +68,16 @@ fn push_locks(text: &mut String, locks: &[Held]) -> Result<(), AllocError>
 {
     for held in locks {
         push_held(text, held)?;
+    }
+    Ok(())
+}
+
+/// Appends a line for each request that waits.
+fn push_waits(text: &mut String, waits: &[Wait]) -> Result<(), AllocError>
+    ensures { OnOk result (string_bytes text.new ≡ string_bytes text.old ++ flat_map wait_line waits.now) }
+{
+    for wait in waits {
+        push_wait(text, wait)?;
     }
     Ok(())
 }
@@ -113,6 +126,6 @@ fn is_reported(line: &ProcessLine) -> bool
 {
     match line.state {
         ProcState::Unborn => line.sent > 0,
-        ProcState::Live | ProcState::Ended => true,
+        ProcState::Live | ProcState::Waiting | ProcState::Ended => true,
     }
 }

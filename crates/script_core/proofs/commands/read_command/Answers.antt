@@ -15,9 +15,13 @@ returns-in_default c =
       not_named (codes "resize") word not.not-resize,
       not_named (codes "getlk") word not.not-getlk,
       not_named (codes "setlk") word not.not-setlk,
+      not_named (codes "setlkw") word not.not-setlkw,
       not_named (codes "ogetlk") word not.not-ogetlk,
       not_named (codes "osetlk") word not.not-osetlk,
+      not_named (codes "osetlkw") word not.not-osetlkw,
       not_named (codes "fork") word not.not-fork,
+      not_named (codes "signal") word not.not-signal,
+      not_named (codes "kill") word not.not-kill,
       not_named (codes "exit") word not.not-exit,
     )
     refl
