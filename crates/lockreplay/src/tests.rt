@@ -1,5 +1,6 @@
 mod devices;
 mod rows;
+mod waiting_rows;
 
 use crate::devices::{FromReader, ToWriter};
 use crate::replay::replay;
@@ -7,21 +8,47 @@ use rows::{ROWS, Row};
 use std::alloc::Global;
 use std::process::Abort;
 use std::test::Fail;
+use waiting_rows::WAITING_ROWS;
 
 #[test]
 fn prints_what_scripts_lead_to(rt: HostRuntime) -> Result<(), Fail> {
-    for row in &ROWS {
-        check(&rt, rt.alloc(), row, row.script)?;
-    }
-    Ok(())
+    check_all(&rt, rt.alloc(), &ROWS)
+}
+
+#[test]
+fn prints_what_waits_lead_to(rt: HostRuntime) -> Result<(), Fail> {
+    check_all(&rt, rt.alloc(), &WAITING_ROWS)
 }
 
 /// Bytes behind the last line feed are a line too.
 #[test]
 fn reads_a_last_line_without_a_feed(rt: HostRuntime) -> Result<(), Fail> {
-    for row in &ROWS {
+    check_all_without_the_last_feed(&rt, rt.alloc(), &ROWS)
+}
+
+/// So are those of a script of waits.
+#[test]
+fn reads_a_last_wait_without_a_feed(rt: HostRuntime) -> Result<(), Fail> {
+    check_all_without_the_last_feed(&rt, rt.alloc(), &WAITING_ROWS)
+}
+
+/// Each script gives what its row says.
+fn check_all(rt: &impl Abort, alloc: Global, rows: &[Row]) -> Result<(), Fail> {
+    for row in rows {
+        check(rt, alloc, row, row.script)?;
+    }
+    Ok(())
+}
+
+/// And so it does without the line feed at its end, where it has one.
+fn check_all_without_the_last_feed(
+    rt: &impl Abort,
+    alloc: Global,
+    rows: &[Row],
+) -> Result<(), Fail> {
+    for row in rows {
         let script = row.script.strip_suffix('\n').unwrap_or(row.script);
-        check(&rt, rt.alloc(), row, script)?;
+        check(rt, alloc, row, script)?;
     }
     Ok(())
 }
