@@ -1,7 +1,7 @@
 -- A wait that is granted leaves the list, and its owner has the lock.
 use Rattle.std.proofs.Common.{ℕ, suc, ◌≡◌, ◌≢◌, ◌<◌, ◌≤◌, ◌+◌, refl, sym, ◌∙◌, ap, subst, List, [], ◌∷◌, ◌++◌, length, get_or, Some, Bool, true, false, inl, inr, arith}
 use Rattle.std.proofs.Math.Logic.{∥∥₁_elim, ∥∥₁_map}
-use Rattle.std.proofs.lemmas.Bool.{eqb-true}
+use Rattle.std.proofs.lemmas.Bool.{eqb-true, eq-eqb}
 use Rattle.std.proofs.lemmas.Bool.Decides.{eqb_tells}
 use Rattle.std.proofs.lemmas.Option.{same_Some}
 use Rattle.std.specs.Prelude.{◌==◌, ◌&&◌, if◌then◌else◌, slice_get, slice_set}
@@ -27,7 +27,7 @@ use Rattle.lock_manager.specs.WaitsKept.{AreApart, HaveRoom, is_byte_wait, is_fl
 use Rattle.lock_manager.proofs.BookLemmas.{slice_get-set, entry_is}
 use Rattle.lock_manager.proofs.OwnedLemmas.{stay_open_in_all}
 use Rattle.lock_manager.proofs.ProcessCallLemmas.{found_holds, counted_without, found_without, without_absent}
-use Rattle.lock_manager.proofs.SafetyLemmas.{same_owner}
+use Rattle.lock_manager.proofs.SafetyLemmas.{same_owner, itself}
 use Rattle.lock_manager.proofs.WaitLemmas.{places_at}
 
 -- where the wait of a process passes a test, without it one less does
@@ -51,17 +51,10 @@ one_fewer test (first ∷ rest) p wait found passes =
 
 -- a wait for a byte lock is one for a lock of its owner on its file
 is_its_own : (wait : Wait) → wait.family ≡ Bytes → is_byte_wait wait.file wait.owner wait ≡ true
-is_its_own wait family = rw family (both (wait.file == wait.file) (is_same_owner wait.owner wait.owner) (itself wait.file) (is_itself wait.owner))
+is_its_own wait family = rw family (both (wait.file == wait.file) (is_same_owner wait.owner wait.owner) (eq-eqb wait.file wait.file refl) (itself wait.owner))
   where
     both : (a b : Bool) → a ≡ true → b ≡ true → (a && b) ≡ true
     both a b e k = rw (e, k) refl
-
-    itself : (n : ℕ) → (n == n) ≡ true
-    itself n = elim (eqb_tells n n) [ inl same ↦ same.0 | inr other ↦ absurd (other.1 refl) ]
-
-    is_itself : (owner : Owner) → is_same_owner owner owner ≡ true
-    is_itself (Process p) = itself p
-    is_itself (Description d) = itself d
 
 -- so there is room for it
 pub room_for_grant : (books : List Book) (waits : List Wait) (wait : Wait) (old : Book) → wait_of waits wait.p ≡ Some wait → wait.family ≡ Bytes
@@ -96,16 +89,12 @@ room_granted books waits wait old new found family within was sets kept h =
         subst (λ e. length (filter (is_byte_wait wait.file wait.owner) waits) ≤ room_at e wait.owner) was (h.rooms wait.file wait.owner) in
         omega (arith, fewer, enough, kept))
     here o false differs =
-        let other : o ≢ wait.owner = λ e. (let is : is_same_owner wait.owner o ≡ true = subst (λ x. is_same_owner wait.owner x ≡ true) (sym e) (is_itself wait.owner) in cc) in
+        let other : o ≢ wait.owner = λ e. (let is : is_same_owner wait.owner o ≡ true = subst (λ x. is_same_owner wait.owner x ≡ true) (sym e) (itself wait.owner) in cc) in
         let fewer = counted_without (is_byte_wait wait.file o) waits wait.p in
         let enough : length (filter (is_byte_wait wait.file o) waits) ≤ room_in old o =
         subst (λ e. length (filter (is_byte_wait wait.file o) waits) ≤ room_at e o) was (h.rooms wait.file o) in
         let same = sets.rooms o other in
         omega (arith, fewer, enough, same)
-      where
-        is_itself : (owner : Owner) → is_same_owner owner owner ≡ true
-        is_itself (Process p) = elim (eqb_tells p p) [ inl same ↦ same.0 | inr other ↦ absurd (other.1 refl) ]
-        is_itself (Description d) = elim (eqb_tells d d) [ inl same ↦ same.0 | inr other ↦ absurd (other.1 refl) ]
 
     rooms : (f : ℕ) (o : Owner) (b : Bool) → (wait.file == f) ≡ b → left f o ≤ room_at (if b then Some new else slice_get books f) o
     rooms f o true same = subst (λ g. left g o ≤ room_in new o) (eqb-true wait.file f same) (here o (is_same_owner wait.owner o) refl)
@@ -134,7 +123,7 @@ owner_granted tables locks waits wait owned found q is = elim (eqb_tells q wait.
 ]
 
 -- without the wait between these others these are left
-without_middle : (before : List Wait) (wait : Wait) (after : List Wait) → AreApart (before ++ wait ∷ after)
+pub without_middle : (before : List Wait) (wait : Wait) (after : List Wait) → AreApart (before ++ wait ∷ after)
     → without_wait_of (before ++ wait ∷ after) wait.p ≡ before ++ after
 without_middle [] wait after apart = elim (eqb_tells wait.p wait.p) [
   | inl same ↦ rw same.0 (without_absent after wait.p (λ k d within e. apart 0 (suc k) d (omega arith) (omega (arith, within)) (sym e)))

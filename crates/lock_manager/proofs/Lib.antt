@@ -9,6 +9,8 @@ pub mod ClosingLemmas
 pub mod CommandLemmas
 pub mod DescriptorLaws
 pub mod KeptLemmas
+pub mod FlockCallLemmas
+pub mod FlockLemmas
 pub mod GrantLemmas
 pub mod ManagerLemmas
 pub mod NextLaws

@@ -1,5 +1,5 @@
 -- What a request comes to is determined, and so is the step.
-use Rattle.std.proofs.Common.{◌≡◌, ℕ, ℤ, List, [], ◌∷◌, ◌++◌, ◌==◌, ◌||◌, sym, ◌∙◌, ap₂, subst, Some, Result}
+use Rattle.std.proofs.Common.{◌≡◌, ℕ, ℤ, List, [], ◌∷◌, ◌++◌, ◌==◌, ◌||◌, Bool, true, false, Option, None, sym, ◌∙◌, ap₂, subst, Some, Result}
 use Rattle.std.proofs.lemmas.Option.{same_Some}
 use Rattle.std.specs.Prelude.{MatchResult}
 use Rattle.range_core.specs.declared.Kind.{Kind}
@@ -21,17 +21,22 @@ use Rattle.lock_manager.specs.declared.request.Lock.{Lock}
 use Rattle.lock_manager.specs.declared.request.LkCmd.{LkCmd}
 use Rattle.lock_manager.specs.declared.request.LkCmd.TheVariants.{GetLk, SetLk, SetLkW, OGetLk, OSetLk, OSetLkW}
 use Rattle.lock_manager.specs.declared.request.Request.{Request}
-use Rattle.lock_manager.specs.declared.request.Request.TheVariants.{OpenFile, Dup, DupTo, CloseFd, Seek, Resize, Lk, Fork, Exit, Signal, Kill}
+use Rattle.lock_manager.specs.declared.request.Request.TheVariants.{OpenFile, Dup, DupTo, CloseFd, Seek, Resize, Lk, Flock, Fork, Exit, Signal, Kill}
 use Rattle.lock_manager.specs.declared.request.Reply.TheVariants as replies
 use Rattle.lock_manager.specs.declared.request.ProcState.{ProcState}
 use Rattle.lock_manager.specs.declared.request.ProcState.TheVariants.{Unborn, Live, Waiting, Ended}
-use Rattle.lock_manager.specs.State.{State, locks_held, with_process}
+use Rattle.lock_manager.specs.State.{State, locks_held, with_flock_mode, with_process}
 use Rattle.lock_manager.specs.Outcomes.{Outcome, answered, IsRefusal}
 use Rattle.lock_manager.specs.declared.request.Note.{Note}
 use Rattle.lock_manager.specs.declared.request.Note.TheVariants.{Answer}
 use Rattle.lock_manager.specs.DescriptorCalls.{OpenComesTo, DupComesTo, DupToComesTo, CloseComesTo, SeekComesTo, ResizeComesTo, with_released}
 use Rattle.lock_manager.specs.LockWords.{is_get, is_bad_argument, wanted_mode, permits, wanted_lock}
 use Rattle.lock_manager.specs.LockCommands.{GetComesTo, SetComesTo, SetOrWaitComesTo, WaitOrDeadlockComesTo, CommandComesTo, ModeComesTo, RangeComesTo, DescribedComesTo, LockComesTo}
+use Rattle.lock_book.specs.Changes.{flock_mode_in}
+use Rattle.lock_manager.specs.declared.request.FlockOp.{FlockOp}
+use Rattle.lock_manager.specs.declared.request.FlockOp.TheVariants.{Sh, Ex, Un}
+use Rattle.range_core.specs.declared.Mode.TheVariants.{Read, Write}
+use Rattle.lock_manager.specs.FlockCalls.{FlockTestComesTo, FlockModeComesTo, FlockOpComesTo, FlockComesTo, is_same_mode, wanted_flock}
 use Rattle.lock_manager.specs.ProcessCalls.{ForkComesTo, EndComesTo, SignalComesTo, KillOtherComesTo, KillComesTo}
 use Rattle.lock_manager.specs.Settling.{Settles}
 use Rattle.lock_manager.specs.Step.{ComesTo}
@@ -160,6 +165,29 @@ LockComesTo-unique : (rules : Rules) (S : State) (p n fd : ℕ) (cmd : LkCmd) (l
 LockComesTo-unique rules S p n fd cmd lock =
     MatchOption-unique (look_at S.descriptors p fd) _ _ (one_value _) (λ look. DescribedComesTo-unique rules S p n cmd lock look)
 
+FlockTestComesTo-unique : (rules : Rules) (S : State) (nb : Bool) (wanted : Wait) (grants : List Note) → AtMostOne (FlockTestComesTo rules S nb wanted grants)
+FlockTestComesTo-unique rules S true wanted grants = MatchFact-unique (IsBlockedByLock (locks_held S) wanted) _ _ (one_value _) (one_value _)
+FlockTestComesTo-unique rules S false wanted grants = MatchFact-unique (IsBlocked rules.policy (locks_held S) S.waits wanted) _ _ (one_value _) (one_value _)
+
+FlockModeComesTo-unique : (rules : Rules) (S : State) (look : Look) (nb : Bool) (wanted : Wait) (held : Option Mode) → AtMostOne (FlockModeComesTo rules S look nb wanted held)
+FlockModeComesTo-unique rules S look nb wanted None = FlockTestComesTo-unique rules S nb wanted []
+FlockModeComesTo-unique rules S look nb wanted (Some held) =
+    MatchBool-unique (is_same_mode held wanted.mode) _ _ (one_value _)
+    (by_two (λ grants settled. Settles rules.policy (with_flock_mode S look.file look.desc None) grants settled) _
+    (λ grants settled others other h k. Settles-unique rules.policy (with_flock_mode S look.file look.desc None) grants settled others other h k)
+    (λ grants settled. FlockTestComesTo-unique rules settled nb wanted grants))
+
+FlockOpComesTo-unique : (rules : Rules) (S : State) (p n : ℕ) (look : Look) (op : FlockOp) (nb : Bool) → AtMostOne (FlockOpComesTo rules S p n look op nb)
+FlockOpComesTo-unique rules S p n look Un nb = one_value _
+FlockOpComesTo-unique rules S p n look Sh nb =
+    FlockModeComesTo-unique rules S look nb (wanted_flock p n look Read) (flock_mode_in S.flock_changes look.file look.desc)
+FlockOpComesTo-unique rules S p n look Ex nb =
+    FlockModeComesTo-unique rules S look nb (wanted_flock p n look Write) (flock_mode_in S.flock_changes look.file look.desc)
+
+FlockComesTo-unique : (rules : Rules) (S : State) (p n fd : ℕ) (op : FlockOp) (nb : Bool) → AtMostOne (FlockComesTo rules S p n fd op nb)
+FlockComesTo-unique rules S p n fd op nb =
+    MatchOption-unique (look_at S.descriptors p fd) _ _ (one_value _) (λ look. FlockOpComesTo-unique rules S p n look op nb)
+
 -- a request comes to one outcome
 pub ComesTo-unique : (rules : Rules) (processes : ℕ) (S : State) (p n : ℕ) (request : Request) → AtMostOne (ComesTo rules processes S p n request)
 ComesTo-unique rules processes S p n (OpenFile file access) = OpenComesTo-unique rules S p n file access
@@ -168,6 +196,7 @@ ComesTo-unique rules processes S p n (DupTo fd to) = DupToComesTo-unique rules S
 ComesTo-unique rules processes S p n (CloseFd fd) = CloseComesTo-unique S p n fd
 ComesTo-unique rules processes S p n (Seek fd offset) = SeekComesTo-unique S p n fd offset
 ComesTo-unique rules processes S p n (Resize fd size) = ResizeComesTo-unique S p n fd size
+ComesTo-unique rules processes S p n (Flock fd op nb) = FlockComesTo-unique rules S p n fd op nb
 ComesTo-unique rules processes S p n (Fork child) = ForkComesTo-unique processes S p n child
 ComesTo-unique rules processes S p n Exit = EndComesTo-unique S p []
 ComesTo-unique rules processes S p n (Signal target) = SignalComesTo-unique S p n target (S.states target)

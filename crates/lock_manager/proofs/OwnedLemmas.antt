@@ -106,7 +106,7 @@ may_lock_on tables file (Description e) D d stands may is =
     subst (λ n. ∥ IsOpenOn D file n ∥₁) same (may D stands)
 
 -- a mode that is set, or else what was none, is none
-none_but_set : (is_it : Bool) (mode before : Option Mode) → (is_it ≡ true → ⊥) → before ≡ None → (if is_it then mode else before) ≡ None
+pub none_but_set : (is_it : Bool) (mode before : Option Mode) → (is_it ≡ true → ⊥) → before ≡ None → (if is_it then mode else before) ≡ None
 none_but_set true mode before not_it none = absurd (not_it refl)
 none_but_set false mode before not_it none = none
 

@@ -5,7 +5,7 @@ use Rattle.range_core.specs.declared.Memory.{Memory}
 use Rattle.lock_book.specs.declared.book.Book.{Book}
 use Rattle.lock_book.specs.Books.{SetsOwnerMode, SameBook}
 use Rattle.lock_manager.proofs.BookLemmas.{unlocked_bytes, unlocked_flocks, changed, after_set}
-use Rattle.std.proofs.lemmas.Bool.{eqb-true, leb-true}
+use Rattle.std.proofs.lemmas.Bool.{eqb-true, eq-eqb, leb-true}
 use Rattle.range_core.specs.declared.Mode.{Mode}
 use Rattle.range_core.specs.declared.Mode.TheVariants.{Read, Write}
 use Rattle.range_core.specs.declared.Span.{Span}
@@ -29,8 +29,13 @@ same_owner (Process p) (Description d) e = cc
 same_owner (Description d) (Process p) e = cc
 same_owner (Description d) (Description c) e = ap Description (eqb-true d c e)
 
+-- an owner is the same as itself
+pub itself : (owner : Owner) → is_same_owner owner owner ≡ true
+itself (Process p) = eq-eqb p p refl
+itself (Description d) = eq-eqb d d refl
+
 -- conflict is symmetric
-conflict_back : (m k : Mode) → Conflict m k → Conflict k m
+pub conflict_back : (m k : Mode) → Conflict m k → Conflict k m
 conflict_back Read Read h = h
 conflict_back Read Write h = tt
 conflict_back Write Read h = tt

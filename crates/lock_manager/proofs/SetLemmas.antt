@@ -61,16 +61,16 @@ CommandTells old new cmd wanted note =
     (S : State) → Shows old S → (T : State) × CommandComesTo (machine_rules old) S cmd wanted (record { told = note ∷ []; after = T }) × Shows new T
 
 -- what holds of the machine's locks and waits holds of those of each state that it shows
-at_state : (m : Machine) (S : State) (P : Locks → List Wait → Type 0) → Shows m S → P (machine_locks m) (machine_waits m) → P (locks_held S) S.waits
+pub at_state : (m : Machine) (S : State) (P : Locks → List Wait → Type 0) → Shows m S → P (machine_locks m) (machine_waits m) → P (locks_held S) S.waits
 at_state m S P h given = subst (P (locks_held S)) h.waits (subst (λ locks. P locks (machine_waits m)) (same_locks m S h) given)
 
 -- a wait is blocked by a held lock, or in the queue
-is_blocked : (policy : Policy) (locks : Locks) (waits : List Wait) (wanted : Wait) → IsBlockedByLock locks wanted ⊎ IsQueued policy waits wanted → IsBlocked policy locks waits wanted
+pub is_blocked : (policy : Policy) (locks : Locks) (waits : List Wait) (wanted : Wait) → IsBlockedByLock locks wanted ⊎ IsQueued policy waits wanted → IsBlocked policy locks waits wanted
 is_blocked Held locks waits wanted (inl h) = h
 is_blocked Held locks waits wanted (inr h) = absurd h
 is_blocked Queue locks waits wanted h = h
 
-not_blocked : (policy : Policy) (locks : Locks) (waits : List Wait) (wanted : Wait) → ¬ IsBlockedByLock locks wanted → ¬ IsQueued policy waits wanted → ¬ IsBlocked policy locks waits wanted
+pub not_blocked : (policy : Policy) (locks : Locks) (waits : List Wait) (wanted : Wait) → ¬ IsBlockedByLock locks wanted → ¬ IsQueued policy waits wanted → ¬ IsBlocked policy locks waits wanted
 not_blocked Held locks waits wanted free alone h = free h
 not_blocked Queue locks waits wanted free alone (inl h) = free h
 not_blocked Queue locks waits wanted free alone (inr h) = alone h

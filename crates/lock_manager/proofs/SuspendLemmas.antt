@@ -4,7 +4,7 @@ use Rattle.std.proofs.Math.Logic.{∥∥₁_map}
 use Rattle.std.specs.Prelude.{slice_get, slice_set, ◌==◌, ◌&&◌, ◌||◌, if◌then◌else◌, filter, find}
 use Rattle.std.specs.Option.{option_or}
 use Rattle.std.specs.List.{list_any}
-use Rattle.std.proofs.lemmas.Bool.{cases_Bool, eqb-true}
+use Rattle.std.proofs.lemmas.Bool.{cases_Bool, eqb-true, eq-eqb}
 use Rattle.std.proofs.lemmas.Bool.Decides.{eqb_tells}
 use Rattle.std.proofs.lemmas.List.Elements.{All-head, All-tail, All-push, filter-append}
 use Rattle.std.proofs.lemmas.List.Folds.{find-append, list_any-append}
@@ -35,7 +35,7 @@ use Rattle.lock_manager.specs.Safety.{AreCompatible}
 use Rattle.lock_manager.specs.MachineView.{Shows, machine_state, machine_locks, machine_waits}
 use Rattle.lock_manager.specs.WaitsKept.{AreApart, IsSuspended, AreAwaited, HaveRoom, is_byte_wait, is_flock_wait, is_of_bytes, is_of_whole, room_at, has_place_at}
 use Rattle.lock_manager.proofs.BookLemmas.{slice_get-set, slice_get-set_same, entry_is}
-use Rattle.lock_manager.proofs.SafetyLemmas.{same_owner, both}
+use Rattle.lock_manager.proofs.SafetyLemmas.{same_owner, itself, both}
 use Rattle.lock_manager.proofs.ProcessLemmas.{state_numbered-set, waiting_still}
 use Rattle.lock_manager.proofs.WaitLemmas.{waits_of_others, suspended_after, room_with}
 use Rattle.lock_manager.proofs.KeptLemmas.{AreKept}
@@ -106,13 +106,13 @@ suspended_joined tables states waits wait place at within live alive h =
     (suspended_after tables tables states (slice_set states place Waiting) waits (λ q born. born) (λ q born waiting. still q waiting) h)
     (record { born = alive wait.p live; waiting = now })
   where
-    itself : (b : Bool) → (b ≡ true) → (if b then Waiting else state_numbered states wait.p) ≡ Waiting
-    itself true e = refl
-    itself false e = cc
+    is_set : (b : Bool) → (b ≡ true) → (if b then Waiting else state_numbered states wait.p) ≡ Waiting
+    is_set true e = refl
+    is_set false e = cc
 
     now : state_numbered (slice_set states place Waiting) wait.p ≡ Waiting
     now = elim (eqb_tells wait.p wait.p) [
-      | inl same ↦ state_numbered-set states wait.p place Waiting at within wait.p ∙ itself (wait.p == wait.p) same.0
+      | inl same ↦ state_numbered-set states wait.p place Waiting at within wait.p ∙ is_set (wait.p == wait.p) same.0
       | inr other ↦ absurd (other.1 refl)
     ]
 
@@ -131,15 +131,12 @@ lives_beside states p place at within q live = before (q == p) (sym (state_numbe
 pub awaited_joined : (states : List ProcState) (waits : List Wait) (wait : Wait) (place : ℕ) → wait.p ≡ place + 1 → place < length states
     → AreAwaited states waits → AreAwaited (slice_set states place Waiting) (waits ++ wait ∷ [])
 awaited_joined states waits wait place at within h q waiting none = elim (eqb_tells q wait.p) [
-  | inl same ↦ last (find (λ w. w.p == q) waits) (wait.p == q) (subst (λ k. (wait.p == k) ≡ true) (sym same.1) (equal wait.p)) (sym found ∙ none)
+  | inl same ↦ last (find (λ w. w.p == q) waits) (wait.p == q) (subst (λ k. (wait.p == k) ≡ true) (sym same.1) (eq-eqb wait.p wait.p refl)) (sym found ∙ none)
   | inr other ↦ h q (sym (moved other.0) ∙ waiting) (first (find (λ w. w.p == q) waits) (find (λ w. w.p == q) (wait ∷ [])) (sym found ∙ none))
 ]
   where
     found : wait_of (waits ++ wait ∷ []) q ≡ option_or (find (λ w. w.p == q) waits) (find (λ w. w.p == q) (wait ∷ []))
     found = find-append (λ w. w.p == q) waits (wait ∷ [])
-
-    equal : (n : ℕ) → (n == n) ≡ true
-    equal n = elim (eqb_tells n n) [ inl same ↦ same.0 | inr other ↦ absurd (other.1 refl) ]
 
     moved : (q == wait.p) ≡ false → state_numbered (slice_set states place Waiting) q ≡ state_numbered states q
     moved differs = state_numbered-set states wait.p place Waiting at within q ∙ rw differs refl
@@ -154,7 +151,7 @@ awaited_joined states waits wait place at within h q waiting none = elim (eqb_te
     last (Some w) b is e = cc
 
 -- one more wait counts where it passes the test
-counted : (p : Wait → Bool) (waits : List Wait) (wait : Wait) → length (filter p (waits ++ wait ∷ [])) ≡ length (filter p waits) + (if p wait then 1 else 0)
+pub counted : (p : Wait → Bool) (waits : List Wait) (wait : Wait) → length (filter p (waits ++ wait ∷ [])) ≡ length (filter p waits) + (if p wait then 1 else 0)
 counted p waits wait =
     ap length (filter-append p waits (wait ∷ [])) ∙ length-append (filter p waits) (filter p (wait ∷ [])) ∙ ap (λ n. length (filter p waits) + n) (one (p wait))
   where
@@ -211,13 +208,9 @@ no_less_room : (old new : Book) (owner : Owner) → SameButRoom old new owner �
 no_less_room old new owner same kept o = elim (cases_Bool (is_same_owner o owner)) [
   | inl is ↦ subst (λ (x : Owner). room_in old x ≤ room_in new x) (sym (same_owner o owner is)) kept
   | inr differs ↦
-      let there : room_in new o ≡ room_in old o = same.rooms o (λ e. (let is : is_same_owner o owner ≡ true = subst (λ x. is_same_owner o x ≡ true) e (is_itself o) in cc)) in
+      let there : room_in new o ≡ room_in old o = same.rooms o (λ e. (let is : is_same_owner o owner ≡ true = subst (λ x. is_same_owner o x ≡ true) e (itself o) in cc)) in
       omega (arith, there)
 ]
-  where
-    is_itself : (x : Owner) → is_same_owner x x ≡ true
-    is_itself (Process p) = elim (eqb_tells p p) [ inl same ↦ same.0 | inr other ↦ absurd (other.1 refl) ]
-    is_itself (Description d) = elim (eqb_tells d d) [ inl same ↦ same.0 | inr other ↦ absurd (other.1 refl) ]
 
 -- and there is room for the waits, of which one is new
 room_for_one_more : (books : List Book) (waits : List Wait) (wait : Wait) (old new : Book) → wait.file < length books → slice_get books wait.file ≡ Some old → wait.family ≡ Bytes

@@ -2,7 +2,6 @@
 use Rattle.std.proofs.Common.{ℕ, ◌≡◌, ◌≢◌, ◌<◌, ◌≤◌, refl, sym, ◌∙◌, ap, subst, List, [], length, Some, Option, Bool, true, false, Result, Ok, Err, OnOk, OnErr, All, get_or, inl, inr, arith}
 use Rattle.std.proofs.Math.Logic.{∥∥₁_elim}
 use Rattle.std.proofs.lemmas.Bool.{cases_Bool}
-use Rattle.std.proofs.lemmas.Bool.Decides.{eqb_tells}
 use Rattle.std.specs.Prelude.{◌==◌, ◌&&◌, if◌then◌else◌, slice_get, slice_set, IsFalse}
 use Rattle.std.specs.List.{filter}
 use Rattle.range_core.specs.declared.Memory.{Memory}
@@ -29,7 +28,7 @@ use Rattle.lock_manager.specs.State.{state_numbered}
 use Rattle.lock_manager.specs.DescriptionLocks.{MayWaitAs, AreOwned}
 use Rattle.lock_manager.specs.WaitsKept.{IsSuspended, AreAwaited, HaveRoom, is_byte_wait, room_at, has_place_at}
 use Rattle.lock_manager.proofs.BookLemmas.{slice_get-set, slice_get-set_other, entry_is, after_set, changed}
-use Rattle.lock_manager.proofs.SafetyLemmas.{same_owner, hit}
+use Rattle.lock_manager.proofs.SafetyLemmas.{same_owner, itself, hit}
 
 -- a process stays suspended where it waits on
 pub suspended_after : (old new : Tables) (states states' : List ProcState) (waits : List Wait)
@@ -112,7 +111,7 @@ free_after one all policy waits books file old new owner span mode result within
     (λ bytes flocks. all policy (locks_of books) (locks_of (slice_set books file new)) waits free (λ f q byte. bytes f (Process q) byte))
 
 -- of a book that was changed, or of another one
-rooms_at : (is_it : Bool) (entry : Option Book) (old new : Book) (owner : Owner) (count : ℕ) → (is_it ≡ true → entry ≡ Some old) → room_in old owner ≤ room_in new owner
+pub rooms_at : (is_it : Bool) (entry : Option Book) (old new : Book) (owner : Owner) (count : ℕ) → (is_it ≡ true → entry ≡ Some old) → room_in old owner ≤ room_in new owner
     → count ≤ room_at entry owner → count ≤ room_at (if is_it then Some new else entry) owner
 rooms_at true entry old new owner count was more enough =
     let here : count ≤ room_in old owner = subst (λ e. count ≤ room_at e owner) (was refl) enough in omega (arith, here, more)
@@ -141,13 +140,9 @@ rooms_kept : (old new : Book) (owner : Owner) (span : Span) (mode : Option Mode)
 rooms_kept old new owner span mode sets kept o = elim (cases_Bool (is_same_owner o owner)) [
   | inl same ↦ subst (λ (x : Owner). room_in old x ≤ room_in new x) (sym (same_owner o owner same)) kept
   | inr differs ↦
-      let there : room_in new o ≡ room_in old o = sets.rooms o (λ e. (let is : is_same_owner o owner ≡ true = subst (λ x. is_same_owner o x ≡ true) e (is_itself o) in cc)) in
+      let there : room_in new o ≡ room_in old o = sets.rooms o (λ e. (let is : is_same_owner o owner ≡ true = subst (λ x. is_same_owner o x ≡ true) e (itself o) in cc)) in
       omega (arith, there)
 ]
-  where
-    is_itself : (x : Owner) → is_same_owner x x ≡ true
-    is_itself (Process p) = elim (eqb_tells p p) [ inl same ↦ same.0 | inr other ↦ absurd (other.1 refl) ]
-    is_itself (Description d) = elim (eqb_tells d d) [ inl same ↦ same.0 | inr other ↦ absurd (other.1 refl) ]
 
 same_room : (n m : ℕ) → m ≡ n → n ≤ m
 same_room n m e = omega (arith, e)

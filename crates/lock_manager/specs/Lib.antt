@@ -5,6 +5,7 @@ pub mod Notes
 pub mod DescriptorCalls
 pub mod LockWords
 pub mod LockCommands
+pub mod FlockCalls
 pub mod ProcessCalls
 pub mod Step
 pub mod Safety

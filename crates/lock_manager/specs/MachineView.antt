@@ -1,5 +1,5 @@
 -- Which states a `Machine` shows (the words are this project's choice).
-use Rattle.std.specs.Prelude.{◌≡◌, ℕ, List}
+use Rattle.std.specs.Prelude.{◌≡◌, ℕ, List, true, slice_get}
 use Rattle.lock_book.specs.declared.Owner.{Owner}
 use Rattle.lock_book.specs.Changes.{mode_in, flock_mode_in}
 use Rattle.fd_table.specs.TablesView.{StandFor}
@@ -15,6 +15,8 @@ use Rattle.lock_manager.specs.declared.request.Note.{Note}
 use Rattle.lock_manager.specs.State.{State, state_numbered}
 use Rattle.lock_manager.specs.Outcomes.{answered}
 use Rattle.lock_manager.specs.Step.{ComesTo}
+use Rattle.lock_manager.specs.WaitsKept.{has_place_at}
+use Rattle.lock_manager.specs.declared.request.ProcState.TheVariants.{Live}
 
 -- the rules of the machine
 unfoldable pub machine_rules : Machine → Rules
@@ -64,3 +66,12 @@ abbrev pub Tells : Machine → Machine → ℕ → ℕ → Request → List Note
 Tells old new p n request told =
     (S : State) → Shows old S →
     (T : State) × ComesTo (machine_rules old) (machine_processes old) S p n request (record { told = told; after = T }) × Shows new T
+
+-- each process that lives in old lives in new
+abbrev pub StayLive : Machine → Machine → Type 0
+StayLive old new = (p : ℕ) → machine_state old p ≡ Live → machine_state new p ≡ Live
+
+-- each place that old keeps for a flock lock new keeps too
+abbrev pub KeepPlaces : Machine → Machine → Type 0
+KeepPlaces old new = (file description : ℕ) → has_place_at (slice_get old.books.items file) description ≡ true
+    → has_place_at (slice_get new.books.items file) description ≡ true

@@ -2,7 +2,7 @@
 use Rattle.std.specs.Prelude.{◌≡◌, ℕ, List, [], ◌++◌}
 use Rattle.lock_manager.specs.declared.request.Rules.{Rules}
 use Rattle.lock_manager.specs.declared.request.Request.{Request}
-use Rattle.lock_manager.specs.declared.request.Request.TheVariants.{OpenFile, Dup, DupTo, CloseFd, Seek, Resize, Lk, Fork, Exit, Signal, Kill}
+use Rattle.lock_manager.specs.declared.request.Request.TheVariants.{OpenFile, Dup, DupTo, CloseFd, Seek, Resize, Lk, Flock, Fork, Exit, Signal, Kill}
 use Rattle.lock_manager.specs.declared.request.Note.{Note}
 use Rattle.lock_manager.specs.declared.request.ProcState.TheVariants.{Live}
 use Rattle.lock_manager.specs.State.{State}
@@ -10,10 +10,11 @@ use Rattle.lock_manager.specs.Settling.{Settles}
 use Rattle.lock_manager.specs.Outcomes.{Outcome}
 use Rattle.lock_manager.specs.DescriptorCalls.{OpenComesTo, DupComesTo, DupToComesTo, CloseComesTo, SeekComesTo, ResizeComesTo}
 use Rattle.lock_manager.specs.LockCommands.{LockComesTo}
+use Rattle.lock_manager.specs.FlockCalls.{FlockComesTo}
 use Rattle.lock_manager.specs.ProcessCalls.{ForkComesTo, EndComesTo, SignalComesTo, KillComesTo}
 
 -- what the request number n of process p, one of so many, comes to before the waits are settled
--- (POSIX.1-2017 open, dup, close, lseek, ftruncate, fcntl, fork, _Exit and kill; fcntl_locking(2))
+-- (POSIX.1-2017 open, dup, close, lseek, ftruncate, fcntl, fork, _Exit and kill; fcntl_locking(2); flock(2))
 abbrev pub ComesTo : Rules → ℕ → State → ℕ → ℕ → Request → Outcome → Type 0
 ComesTo rules processes S p n (OpenFile file access) outcome = OpenComesTo rules S p n file access outcome
 ComesTo rules processes S p n (Dup fd) outcome = DupComesTo rules S p n fd outcome
@@ -22,6 +23,7 @@ ComesTo rules processes S p n (CloseFd fd) outcome = CloseComesTo S p n fd outco
 ComesTo rules processes S p n (Seek fd offset) outcome = SeekComesTo S p n fd offset outcome
 ComesTo rules processes S p n (Resize fd size) outcome = ResizeComesTo S p n fd size outcome
 ComesTo rules processes S p n (Lk fd cmd lock) outcome = LockComesTo rules S p n fd cmd lock outcome
+ComesTo rules processes S p n (Flock fd op nb) outcome = FlockComesTo rules S p n fd op nb outcome
 ComesTo rules processes S p n (Fork child) outcome = ForkComesTo processes S p n child outcome
 ComesTo rules processes S p n Exit outcome = EndComesTo S p [] outcome
 ComesTo rules processes S p n (Signal target) outcome = SignalComesTo S p n target (S.states target) outcome

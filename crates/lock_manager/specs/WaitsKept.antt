@@ -1,5 +1,5 @@
 -- What holds of the waits at every moment, also inside an event.
-use Rattle.std.specs.Prelude.{◌≡◌, ◌≢◌, ℕ, ◌≤◌, ◌==◌, ◌&&◌, Bool, true, false, List, All, AllPairs, Option, Some, None, length, filter, slice_get}
+use Rattle.std.specs.Prelude.{◌≡◌, ◌≢◌, ℕ, ◌≤◌, ◌==◌, ◌&&◌, Bool, true, false, List, AllPairs, Option, Some, None, length, filter, slice_get}
 use Rattle.std.specs.List.{list_any}
 use Rattle.lock_book.specs.declared.Owner.{Owner}
 use Rattle.lock_book.specs.declared.Owner.TheVariants.{Description}
@@ -30,10 +30,6 @@ pub record IsSuspended (tables : Tables) (states : List ProcState) (wait : Wait)
 -- each process that waits has a wait in the list (this project's choice)
 abbrev pub AreAwaited : List ProcState → List Wait → Type 0
 AreAwaited states waits = (p : ℕ) → state_numbered states p ≡ Waiting → wait_of waits p ≢ None
-
--- no wait is for a whole file (no request that is served asks for one)
-abbrev pub AreForRecords : List Wait → Type 0
-AreForRecords waits = All (λ wait. wait.family ≡ Bytes) waits
 
 -- whether the locks of the family are those on bytes
 abbrev pub is_of_bytes : Family → Bool

@@ -78,7 +78,7 @@ pub fn refusal(fault: FdFault) -> Result<Reply, Memory>
 }
 
 /// What is told at once, before the waits are settled.
-#[derive(Clone, Copy, Debug, PartialEq, Eq)]
+#[derive(Clone, Copy)]
 pub struct Told {
     /// The note to the caller, and none where it has ended.
     pub caller: Option<Note>,

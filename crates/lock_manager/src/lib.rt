@@ -18,4 +18,4 @@ mod tests;
 
 pub use laws::step_has_one_outcome;
 pub use manager::Manager;
-pub use request::{Errno, LkCmd, Lock, Note, ProcState, Reply, Request, Rules};
+pub use request::{Errno, FlockOp, LkCmd, Lock, Note, ProcState, Reply, Request, Rules};

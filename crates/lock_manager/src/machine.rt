@@ -8,16 +8,17 @@ ghost use Rattle.lock_manager.specs.declared.request.ProcState.TheVariants.{Live
 ghost use Rattle.lock_manager.specs.State.{state_numbered};
 ghost use Rattle.lock_manager.specs.Safety.{AreCompatible};
 ghost use Rattle.lock_manager.specs.DescriptionLocks.{AreOwned, AreWithinFiles};
-ghost use Rattle.lock_manager.specs.WaitsKept.{AreApart, IsSuspended, AreAwaited, AreForRecords, HaveRoom};
+ghost use Rattle.lock_manager.specs.WaitsKept.{AreApart, IsSuspended, AreAwaited, HaveRoom};
 
 mod descriptors;
+mod flocks;
 mod locks;
 mod processes;
 mod settling;
 
 use crate::answers::{Told, answer};
 use crate::opening::{empty_books, opening_states};
-use crate::{ProcState, Request, Rules};
+use crate::{Note, ProcState, Request, Rules};
 use fd_table::{FILES, Tables};
 use lock_book::{Book, Held};
 use range_core::Memory;
@@ -49,14 +50,14 @@ pub struct Machine {
     ghost apart: { AreApart (waits_of waits) },
     ghost suspended: { All (IsSuspended tables states.items) (waits_of waits) },
     ghost awaited: { AreAwaited states.items (waits_of waits) },
-    ghost records: { AreForRecords (waits_of waits) },
     ghost room: { HaveRoom books.items (waits_of waits) },
     ghost free_of_cycles: { IsFreeOfCycles rules.policy (locks_of books.items) (waits_of waits) },
 }
 
 impl Machine {
     ghost use Rattle.fd_table.specs.Descriptors.{process_limit};
-    ghost use Rattle.std.specs.Prelude.{◌+◌, length};
+    ghost use Rattle.std.specs.Prelude.{Bool, ◌+◌, length, vec_capacity};
+    ghost use Rattle.lock_manager.specs.declared.request.FlockOp.{FlockOp};
     ghost use Rattle.lock_book.specs.Changes.{mode_in, flock_mode_in};
     ghost use Rattle.lock_book.specs.Reports.{IsHeldReport};
     ghost use Rattle.lock_manager.specs.Notes.{notes_told};
@@ -124,7 +125,7 @@ impl Machine {
     }
 
     /// Where the process stands: unborn where there is no such number.
-    pub fn standing(&self, p: u8) -> ProcState
+    pub fn state_of(&self, p: u8) -> ProcState
         ensures { result ≡ machine_state self.now p }
     {
         match usize::from(p).checked_sub(1) {
@@ -133,18 +134,38 @@ impl Machine {
         }
     }
 
-    /// Where the process stands.
-    pub fn state_of(&self, p: u8) -> ProcState
-        requires { (1 ≤ p) × (p ≤ machine_processes self.now) }
-        ensures { result ≡ machine_state self.now p }
+    /// Serves a request of a live process, but for the settling with which the event ends: the notes are told here.
+    pub fn serve(
+        &mut self,
+        p: u8,
+        n: u64,
+        request: Request,
+        notes: &mut Vec<Note>,
+    ) -> Result<(), Memory>
+        requires live { machine_state self.old p ≡ ProcState.Live }
+        requires empty { notes.old.items ≡ [] }
+
+        // Each wait may be granted a note, and there is room for two more.
+        requires room { length (machine_waits self.old) + 2 ≤ vec_capacity notes.old }
+        ensures told { OnOk result (Tells self.old self.new p n request notes.new.items) }
+        ensures few { OnOk result (length notes.new.items + length (machine_waits self.new) ≤ vec_capacity notes.new) }
+        ensures memory { OnErr result (SameMachine self.old self.new) }
+        ensures rules { machine_rules self.new ≡ machine_rules self.old }
+        ensures processes { machine_processes self.new ≡ machine_processes self.old }
     {
-        self.states[usize::from(p) - 1]
+        if let Request::Flock { fd, op, nb } = request {
+            return self.flock(p, n, fd, op, nb, notes);
+        }
+        let told = self.call(p, n, request)?;
+        told.tell(notes);
+        Ok(())
     }
 
-    /// Serves a request of a live process, but for the settling of the waits.
+    /// Serves a request that grants no wait: any but flock.
     #[tactic(auto, using(crate::proofs::StandsLemmas::untold_by, crate::proofs::StandsLemmas::few_by))]
-    pub fn serve(&mut self, p: u8, n: u64, request: Request) -> Result<Told, Memory>
-        requires { machine_state self.old p ≡ ProcState.Live }
+    fn call(&mut self, p: u8, n: u64, request: Request) -> Result<Told, Memory>
+        requires live { machine_state self.old p ≡ ProcState.Live }
+        requires other { (fd : ℕ) (op : FlockOp) (nb : Bool) → request ≢ Request.Flock fd op nb }
         ensures told { IfOk result (λ told. Tells self.old self.new p n request (notes_told told)) }
 
         // Each wait may be granted a note later, and there is room for two more.
@@ -163,6 +184,7 @@ impl Machine {
             Request::Lk { fd, cmd, lock } => {
                 Ok(Told::caller(self.lock_command(p, n, fd, cmd, lock)?))
             },
+            Request::Flock { .. } => unreachable!(),
             Request::Fork { child } => answer(p, n, self.fork(p, child)),
             Request::Exit => {
                 self.end(p);

@@ -38,8 +38,8 @@ impl Manager {
         Ok(Manager { alloc, machine })
     }
 
-    /// One event: request number `n` of process `p`, which is able, with all that it causes; the notes are the caller's
-    /// alone, since no command that is served concerns others, and there is none to the end of a process.
+    /// One event: request number `n` of process `p`, which is able, with all that it causes. The caller's note stands first,
+    /// and there is none to the end of a process; then comes who was interrupted, and then who was granted a lock, in order.
     ///
     /// `Memory` may come in place of any answer, and leaves everything as it was.
     pub fn take(&mut self, p: u8, n: u64, request: Request) -> Result<Vec<Note>, Memory>
@@ -58,8 +58,7 @@ impl Manager {
     {
         let most = self.machine.most_notes();
         let mut notes = Vec::with_capacity(self.alloc, most).map_err(|_| Memory)?;
-        let told = self.machine.serve(p, n, request)?;
-        told.tell(&mut notes);
+        self.machine.serve(p, n, request, &mut notes)?;
         self.machine.settle(&mut notes);
         Ok(notes)
     }

@@ -43,6 +43,17 @@ pub enum LkCmd {
     OSetLkW,
 }
 
+/// An operation of flock (flock(2)).
+#[derive(Clone, Copy, Debug, PartialEq, Eq)]
+pub enum FlockOp {
+    /// `LOCK_SH`: a shared lock on the whole file.
+    Sh,
+    /// `LOCK_EX`: an exclusive lock on the whole file.
+    Ex,
+    /// `LOCK_UN`: removes the lock.
+    Un,
+}
+
 /// What a process asks for.
 #[derive(Clone, Copy, Debug, PartialEq, Eq)]
 pub enum Request {
@@ -60,6 +71,8 @@ pub enum Request {
     Resize { fd: u32, size: i64 },
     /// fcntl with a lock command on a descriptor.
     Lk { fd: u32, cmd: LkCmd, lock: Lock },
+    /// flock on a descriptor; `nb` is `LOCK_NB`, by which it is refused where it would wait (flock(2)).
+    Flock { fd: u32, op: FlockOp, nb: bool },
     /// fork, in which the caller names the child (POSIX.1-2017 fork; the name is this project's choice).
     Fork { child: u8 },
     /// _Exit, which is never answered (POSIX.1-2017 _Exit).

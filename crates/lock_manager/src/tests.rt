@@ -1,3 +1,4 @@
+mod flocks;
 mod waits;
 
 use crate::{Errno, LkCmd, Lock, Manager, Note, ProcState, Reply, Request, Rules};

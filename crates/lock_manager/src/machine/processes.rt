@@ -60,6 +60,7 @@ impl Machine {
         ensures books { self.new.books ≡ self.old.books }
         ensures tables { self.new.tables ≡ self.old.tables }
         ensures live { machine_state self.new p ≡ ProcState.Live }
+        ensures others { (q : ℕ) → machine_state self.old q ≡ ProcState.Live → machine_state self.new q ≡ ProcState.Live }
         ensures rules { machine_rules self.new ≡ machine_rules self.old }
         ensures processes { machine_processes self.new ≡ machine_processes self.old }
     {
@@ -79,7 +80,7 @@ impl Machine {
         ensures rules { machine_rules self.new ≡ machine_rules self.old }
         ensures processes { machine_processes self.new ≡ machine_processes self.old }
     {
-        match self.standing(target) {
+        match self.state_of(target) {
             ProcState::Unborn | ProcState::Ended => Told::caller(refused(p, n, Errno::ESRCH)),
             ProcState::Live => Told::caller(answered(p, n, Reply::Ok)),
             ProcState::Waiting => {
@@ -105,7 +106,7 @@ impl Machine {
             self.end(p);
             return Told::nobody();
         }
-        let reply = match self.standing(target) {
+        let reply = match self.state_of(target) {
             ProcState::Unborn | ProcState::Ended => Reply::Err(Errno::ESRCH),
             ProcState::Live => {
                 self.end(target);

@@ -5,12 +5,13 @@ ghost use Rattle.wait_core.specs.WaitsView.{wait_of};
 ghost use Rattle.wait_core.specs.WellFormed.{IsWellFormed};
 ghost use Rattle.lock_manager.specs.Settling.{Settles, granted};
 ghost use Rattle.lock_manager.specs.State.{State};
-ghost use Rattle.lock_manager.specs.MachineView.{Shows, machine_rules, machine_processes, machine_waits, machine_locks};
+ghost use Rattle.lock_manager.specs.MachineView.{Shows, StayLive, KeepPlaces, machine_rules, machine_processes, machine_waits, machine_locks};
 
 use super::Machine;
 use crate::answers::answered;
 use crate::{Note, Reply};
-use wait_core::{Wait, stay_free_of_cycles};
+use lock_book::Owner;
+use wait_core::{Family, Wait, stay_free_of_cycles};
 
 impl Machine {
     /// Grants the earliest wait that nothing blocks, again and again until each is blocked, and tells of each grant. It takes
@@ -20,6 +21,11 @@ impl Machine {
         ensures settles { (grants : List Note) × (notes.new.items ≡ notes.old.items ++ grants)
             × ((S : State) → Shows self.old S → (T : State) × Settles (machine_rules self.old).policy S grants T × Shows self.new T) }
         ensures settled { AllBlocked (machine_rules self.new).policy (machine_locks self.new) [] (machine_waits self.new) }
+        ensures few { length notes.new.items + length (machine_waits self.new) ≤ length notes.old.items + length (machine_waits self.old) }
+        ensures capacity { vec_capacity notes.new ≡ vec_capacity notes.old }
+        ensures lives { StayLive self.old self.new }
+        ensures places { KeepPlaces self.old self.new }
+        ensures tables { self.new.tables ≡ self.old.tables }
         ensures rules { machine_rules self.new ≡ machine_rules self.old }
         ensures processes { machine_processes self.new ≡ machine_processes self.old }
     {
@@ -39,13 +45,40 @@ impl Machine {
         self.waits.next_ready(&self.books)
     }
 
-    /// The wait leaves the list, its process lives and has the lock. It takes no memory (POSIX.1-2017 fcntl, `F_SETLKW`).
+    /// The wait leaves the list, its process lives and has the lock. It takes no memory (POSIX.1-2017 fcntl, `F_SETLKW`;
+    /// flock(2)).
     fn grant(&mut self, wait: Wait)
         requires waits { wait_of (machine_waits self.old) wait.p ≡ Some wait }
         requires well_formed { IsWellFormed (machine_processes self.old) wait }
         requires free { ¬ IsBlockedByLock (machine_locks self.old) wait }
         ensures shows { (S : State) (before after : List Wait) → Shows self.old S → S.waits ≡ before ++ wait ∷ after → Shows self.new (granted S before wait after) }
         ensures fewer { length (machine_waits self.new) + 1 ≤ length (machine_waits self.old) }
+        ensures lives { StayLive self.old self.new }
+        ensures places { KeepPlaces self.old self.new }
+        ensures tables { self.new.tables ≡ self.old.tables }
+        ensures rules { machine_rules self.new ≡ machine_rules self.old }
+        ensures processes { machine_processes self.new ≡ machine_processes self.old }
+    {
+        match (wait.family, wait.owner) {
+            (Family::Bytes, _) => self.grant_bytes(wait),
+            (Family::Whole, Owner::Description(description)) => {
+                self.grant_flock(wait, description);
+            },
+            (Family::Whole, Owner::Process(_)) => unreachable!(),
+        }
+    }
+
+    /// The same, of a wait for a byte lock.
+    fn grant_bytes(&mut self, wait: Wait)
+        requires family { wait.family ≡ Family.Bytes }
+        requires waits { wait_of (machine_waits self.old) wait.p ≡ Some wait }
+        requires well_formed { IsWellFormed (machine_processes self.old) wait }
+        requires free { ¬ IsBlockedByLock (machine_locks self.old) wait }
+        ensures shows { (S : State) (before after : List Wait) → Shows self.old S → S.waits ≡ before ++ wait ∷ after → Shows self.new (granted S before wait after) }
+        ensures fewer { length (machine_waits self.new) + 1 ≤ length (machine_waits self.old) }
+        ensures lives { StayLive self.old self.new }
+        ensures places { KeepPlaces self.old self.new }
+        ensures tables { self.new.tables ≡ self.old.tables }
         ensures rules { machine_rules self.new ≡ machine_rules self.old }
         ensures processes { machine_processes self.new ≡ machine_processes self.old }
     {
@@ -55,5 +88,24 @@ impl Machine {
         let book = &mut self.books[usize::from(wait.file)];
         book.set_reserved(wait.owner, wait.span, Some(wait.mode));
         self.waits.refresh(wait.file, &self.books);
+    }
+
+    /// The same, of a wait for the flock lock of this description.
+    fn grant_flock(&mut self, wait: Wait, description: u64)
+        requires family { wait.family ≡ Family.Whole }
+        requires owner { wait.owner ≡ Owner.Description description }
+        requires waits { wait_of (machine_waits self.old) wait.p ≡ Some wait }
+        requires well_formed { IsWellFormed (machine_processes self.old) wait }
+        requires free { ¬ IsBlockedByLock (machine_locks self.old) wait }
+        ensures shows { (S : State) (before after : List Wait) → Shows self.old S → S.waits ≡ before ++ wait ∷ after → Shows self.new (granted S before wait after) }
+        ensures fewer { length (machine_waits self.new) + 1 ≤ length (machine_waits self.old) }
+        ensures lives { StayLive self.old self.new }
+        ensures places { KeepPlaces self.old self.new }
+        ensures tables { self.new.tables ≡ self.old.tables }
+        ensures rules { machine_rules self.new ≡ machine_rules self.old }
+        ensures processes { machine_processes self.new ≡ machine_processes self.old }
+    {
+        self.interrupt(wait.p);
+        self.change_flock(wait.file, description, Some(wait.mode));
     }
 }

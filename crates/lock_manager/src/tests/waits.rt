@@ -10,14 +10,14 @@ use std::test::Fail;
 use wait_core::{Family, Wait};
 
 /// An event: the process, the number of its request, the request, and what is told.
-type Event<'a> = (u8, u64, Request, &'a [Note]);
+pub type Event<'a> = (u8, u64, Request, &'a [Note]);
 
-const OPEN: Request = Request::OpenFile {
+pub const OPEN: Request = Request::OpenFile {
     file: 0,
     access: Access::Rw,
 };
 
-fn ok(p: u8, n: u64) -> Note {
+pub fn ok(p: u8, n: u64) -> Note {
     Note::Answer {
         p,
         n,
@@ -25,7 +25,7 @@ fn ok(p: u8, n: u64) -> Note {
     }
 }
 
-fn error(p: u8, n: u64, error: Errno) -> Note {
+pub fn error(p: u8, n: u64, error: Errno) -> Note {
     Note::Answer {
         p,
         n,
@@ -33,7 +33,7 @@ fn error(p: u8, n: u64, error: Errno) -> Note {
     }
 }
 
-fn opened(p: u8, n: u64, fd: u32) -> Note {
+pub fn opened(p: u8, n: u64, fd: u32) -> Note {
     Note::Answer {
         p,
         n,
@@ -41,11 +41,11 @@ fn opened(p: u8, n: u64, fd: u32) -> Note {
     }
 }
 
-fn waits(p: u8, n: u64) -> Note {
+pub fn waits(p: u8, n: u64) -> Note {
     Note::Waits { p, n }
 }
 
-fn fork(child: u8) -> Request {
+pub fn fork(child: u8) -> Request {
     Request::Fork { child }
 }
 
@@ -86,7 +86,7 @@ fn wait(p: u8, n: u64, owner: Owner, byte: u64) -> Wait {
 }
 
 /// Makes the events in turn, from the opening on, and looks for their notes.
-fn events_in_turn(rt: &impl Abort, alloc: Global, events: &[Event]) -> Result<Manager, Fail> {
+pub fn events_in_turn(rt: &impl Abort, alloc: Global, events: &[Event]) -> Result<Manager, Fail> {
     let mut manager = match Manager::new(alloc, 16, RULES) {
         Ok(manager) => manager,
         Err(Memory) => Manager::new(alloc, 16, RULES)?,

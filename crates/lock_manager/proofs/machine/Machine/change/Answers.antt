@@ -2,7 +2,7 @@ use Rattle.std.proofs.Common.{◌<◌, sym, ap, subst, refl, length, All, arith}
 use Rattle.std.specs.Prelude.{slice_set}
 use Rattle.wait_core.specs.Locks.{locks_of}
 use Rattle.wait_core.specs.WaitsView.{waits_of, AreTold, AgreeBut}
-use Rattle.lock_manager.specs.WaitsKept.{IsSuspended, AreForRecords}
+use Rattle.lock_manager.specs.WaitsKept.{IsSuspended}
 use Rattle.lock_manager.specs.MachineView.{machine_locks, machine_state}
 use Rattle.lock_manager.proofs.BookLemmas.{book_at, OnOk-map, OnErr-map}
 use Rattle.lock_manager.proofs.KeptLemmas.{kept_by_change}
@@ -41,7 +41,6 @@ invariant_of-self c =
       apart = kept.apart;
       suspended = subst (All (IsSuspended machine.tables machine.states.items)) (sym c.refresh.ensures.waits) machine.suspended;
       awaited = awaited_in machine.states.items (waits_of machine.waits) (waits_of c.refresh.new.self) c.refresh.ensures.waits machine.awaited;
-      records = subst AreForRecords (sym c.refresh.ensures.waits) machine.records;
       room = kept.room;
       free_of_cycles = kept.free_of_cycles;
     }

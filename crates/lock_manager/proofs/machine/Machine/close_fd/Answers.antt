@@ -9,7 +9,7 @@ use Rattle.lock_manager.proofs.ClosingLemmas.{close_closes}
 use Rattle.lock_manager.proofs.AfterCloseLemmas.{Closes, after_close, served_by_close, with_release}
 use Rattle.lock_manager.proofs.OwnedLemmas.{owned_after}
 use Rattle.lock_manager.specs.MachineView.{machine_state}
-use Rattle.lock_manager.specs.WaitsKept.{IsSuspended, AreForRecords}
+use Rattle.lock_manager.specs.WaitsKept.{IsSuspended}
 use Rattle.lock_manager.proofs.KeptLemmas.{kept_by_release}
 use Rattle.lock_manager.proofs.WaitLemmas.{suspended_after, awaited_in}
 use Rattle.lock_manager.proofs.machine.Machine.close_fd.Goals as goal
@@ -40,7 +40,6 @@ invariant_of-self c =
           (suspended_after machine.tables c.close_fd.new.self machine.states.items machine.states.items (waits_of machine.waits)
           (λ q born. c.close_fd.ensures.kept.alive q ∙ born) (λ q born live. live) machine.suspended);
       awaited = awaited_in machine.states.items (waits_of machine.waits) (waits_of c.release.new.waits) after.waits.waits machine.awaited;
-      records = subst AreForRecords (sym after.waits.waits) machine.records;
       room = kept.room;
       free_of_cycles = kept.free_of_cycles;
     }
@@ -65,7 +64,6 @@ invariant_of-self-in-Err-1 c =
       suspended = suspended_after machine.tables c.close_fd.new.self machine.states.items machine.states.items (waits_of machine.waits)
           (λ q born. c.close_fd.ensures.kept.alive q ∙ born) (λ q born live. live) machine.suspended;
       awaited = machine.awaited;
-      records = machine.records;
       room = machine.room;
       free_of_cycles = machine.free_of_cycles;
     }

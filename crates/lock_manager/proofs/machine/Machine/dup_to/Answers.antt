@@ -10,7 +10,7 @@ use Rattle.lock_manager.proofs.ClosingLemmas.{dup2_closes}
 use Rattle.lock_manager.proofs.AfterCloseLemmas.{DupsTo, after_dup2, served_by_dup2, with_release}
 use Rattle.lock_manager.proofs.OwnedLemmas.{owned_after}
 use Rattle.lock_manager.specs.MachineView.{machine_state}
-use Rattle.lock_manager.specs.WaitsKept.{IsSuspended, AreForRecords}
+use Rattle.lock_manager.specs.WaitsKept.{IsSuspended}
 use Rattle.lock_manager.proofs.KeptLemmas.{kept_by_release}
 use Rattle.lock_manager.proofs.WaitLemmas.{suspended_after, awaited_in}
 use Rattle.lock_manager.proofs.machine.Machine.dup_to.Goals as goal
@@ -41,7 +41,6 @@ invariant_of-self c =
           (suspended_after machine.tables c.dup2.new.self machine.states.items machine.states.items (waits_of machine.waits)
           (λ q born. c.dup2.ensures.kept.alive q ∙ born) (λ q born live. live) machine.suspended);
       awaited = awaited_in machine.states.items (waits_of machine.waits) (waits_of c.release.new.waits) after.waits.waits machine.awaited;
-      records = subst AreForRecords (sym after.waits.waits) machine.records;
       room = kept.room;
       free_of_cycles = kept.free_of_cycles;
     }
@@ -66,7 +65,6 @@ invariant_of-self-in-Err-1 c =
       suspended = suspended_after machine.tables c.dup2.new.self machine.states.items machine.states.items (waits_of machine.waits)
           (λ q born. c.dup2.ensures.kept.alive q ∙ born) (λ q born live. live) machine.suspended;
       awaited = machine.awaited;
-      records = machine.records;
       room = machine.room;
       free_of_cycles = machine.free_of_cycles;
     }

@@ -4,7 +4,7 @@ use Rattle.std.specs.Prelude.{slice_set}
 use Rattle.wait_core.specs.WaitsView.{waits_of}
 use Rattle.lock_manager.specs.declared.request.ProcState.TheVariants.{Live, Waiting, Ended}
 use Rattle.lock_manager.specs.State.{state_numbered}
-use Rattle.lock_manager.specs.WaitsKept.{IsSuspended, AreForRecords}
+use Rattle.lock_manager.specs.WaitsKept.{IsSuspended}
 use Rattle.lock_manager.specs.MachineView.{machine_state}
 use Rattle.lock_manager.proofs.ClosingLemmas.{end_closes}
 use Rattle.lock_manager.proofs.AfterCloseLemmas.{ended, alive_without}
@@ -50,7 +50,6 @@ invariant_of-self c =
           machine.suspended);
       awaited = awaited_in after_states (waits_of machine.waits) (waits_of c.release.new.waits) after.waits.waits
           (λ q waits. machine.awaited q (waited_before states c.args.p at Ended place within (λ e. cc) q waits).1);
-      records = subst AreForRecords (sym after.waits.waits) machine.records;
       room = kept.room;
       free_of_cycles = kept.free_of_cycles;
     }

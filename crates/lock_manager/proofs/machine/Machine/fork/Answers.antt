@@ -72,7 +72,6 @@ invariant_of-self-in-Err-1 c =
       suspended = suspended_after machine.tables c.fork.new.self machine.states.items machine.states.items (waits_of machine.waits)
           (λ q born. c.in-Err.ensures.same q ∙ born) (λ q born live. live) machine.suspended;
       awaited = machine.awaited;
-      records = machine.records;
       room = machine.room;
       free_of_cycles = machine.free_of_cycles;
     }

@@ -1,18 +1,17 @@
 use Rattle.std.proofs.Common.{◌≡◌, ◌<◌, ◌≤◌, ◌+◌, ◌-◌, refl, sym, subst, ◌∙◌, All, length, arith}
 use Rattle.std.proofs.Math.Logic.{∥∥₁_map}
-use Rattle.std.proofs.lemmas.List.Elements.{All-filter}
 use Rattle.std.proofs.lemmas.List.Kept.{AllPairs-filter}
 use Rattle.std.specs.Prelude.{◌≢◌, ◌==◌, not, slice_set}
-use Rattle.wait_core.specs.declared.Family.TheVariants.{Bytes}
 use Rattle.wait_core.specs.declared.Wait.{Wait}
 use Rattle.wait_core.specs.Locks.{locks_of}
 use Rattle.wait_core.specs.Cycles.{IsFreeOfCycles}
 use Rattle.wait_core.specs.WaitsView.{waits_of}
 use Rattle.lock_manager.specs.declared.request.ProcState.TheVariants.{Live}
 use Rattle.lock_manager.specs.DescriptionLocks.{AreOwned}
-use Rattle.lock_manager.specs.WaitsKept.{IsSuspended, AreApart, AreAwaited, AreForRecords, HaveRoom}
+use Rattle.lock_manager.specs.WaitsKept.{IsSuspended, AreApart, AreAwaited, HaveRoom}
 use Rattle.lock_manager.specs.MachineView.{machine_state, machine_waits}
 use Rattle.lock_manager.proofs.ProcessLemmas.{place_of_waiting}
+use Rattle.lock_manager.proofs.FlockLemmas.{live_still}
 use Rattle.lock_manager.proofs.ProcessCallLemmas.{fewer_without, room_without, owned_without, suspended_without, awaited_without, alive_without_wait, with_wait_gone, stands_set}
 use Rattle.lock_manager.proofs.machine.Machine.interrupt.Goals as goal
 
@@ -51,7 +50,6 @@ invariant_of-self c =
       apart = subst AreApart (sym left.rest) (AllPairs-filter (λ (v w : Wait). v.p ≢ w.p) kept before machine.apart);
       suspended = subst (All (IsSuspended machine.tables after)) (sym left.rest) (suspended_without machine.tables states before p at Live place within machine.suspended);
       awaited = subst (AreAwaited after) (sym left.rest) (awaited_without states before p at Live place within (λ e. cc) machine.awaited);
-      records = subst AreForRecords (sym left.rest) (All-filter kept (λ wait. wait.family ≡ Bytes) before machine.records);
       room = subst (HaveRoom machine.books.items) (sym left.rest) (room_without machine.books.items before p machine.room);
       free_of_cycles = subst (IsFreeOfCycles machine.rules.policy (locks_of machine.books.items)) (sym left.rest)
           (c.stay_free_of_cycles.ensures.one_leaves machine.rules.policy (locks_of machine.books.items) before p machine.free_of_cycles);
@@ -81,3 +79,12 @@ returns-clause-live c =
     let place : c.args.p ≡ c.from.result - 1 + 1 = omega arith in
     let within : c.from.result - 1 < length machine.states.items = omega arith in
     stands_set machine.states.items c.args.p (c.from.result - 1) Live place within
+
+pub returns-clause-others : goal.returns-clause-others
+unfolding machine_state
+returns-clause-others c q live =
+    let machine = c.args.self.now in
+    let there : (1 ≤ c.args.p) × (c.args.p ≤ length machine.states.items) = place_of_waiting machine.states.items c.args.p c.requires in
+    let place : c.args.p ≡ c.from.result - 1 + 1 = omega arith in
+    let within : c.from.result - 1 < length machine.states.items = omega arith in
+    live_still machine.states.items c.args.p (c.from.result - 1) place within q live

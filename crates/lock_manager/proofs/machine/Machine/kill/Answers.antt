@@ -28,27 +28,27 @@ returns-clause-told c =
     let n = c.args.n in
     let target = c.args.target in
     let tells = λ (new : Machine) (told : List Note). Tells old new p n (Kill target) told in
-    let told : notes_told c.caller.result ≡ Answer p n c.match-standing.reply ∷ [] =
+    let told : notes_told c.caller.result ≡ Answer p n c.match-state_of.reply ∷ [] =
     ap notes_told c.caller.ensures ∙ ap (λ (note : Note). note ∷ []) c.answered.ensures in
     let answer = λ (reply : Reply). Answer p n reply ∷ [] in
-    elim c.match-standing.branch [
+    elim c.match-state_of.branch [
       | in-Unborn w ↦
           rw w.self-is
           (subst (tells old) (sym (told ∙ ap answer w.reply-is))
           (elim w.in-Unborn.is [
-            | inl unborn ↦ kills_other old old p n target Unborn (answer (replies.Err ESRCH)) c.if-target-p.false (sym c.standing.ensures ∙ unborn) (λ S h. (S, refl, h))
-            | inr ended ↦ kills_other old old p n target Ended (answer (replies.Err ESRCH)) c.if-target-p.false (sym c.standing.ensures ∙ ended) (λ S h. (S, refl, h))
+            | inl unborn ↦ kills_other old old p n target Unborn (answer (replies.Err ESRCH)) c.if-target-p.false (sym c.state_of.ensures ∙ unborn) (λ S h. (S, refl, h))
+            | inr ended ↦ kills_other old old p n target Ended (answer (replies.Err ESRCH)) c.if-target-p.false (sym c.state_of.ensures ∙ ended) (λ S h. (S, refl, h))
           ]))
       | in-Live w ↦
           rw w.self-is
           (subst (tells w.end-in-Live.new.self) (sym (told ∙ ap answer w.reply-is))
-          (kills_other old w.end-in-Live.new.self p n target Live (answer replies.Ok) c.if-target-p.false (sym c.standing.ensures ∙ w.in-Live.is)
+          (kills_other old w.end-in-Live.new.self p n target Live (answer replies.Ok) c.if-target-p.false (sym c.state_of.ensures ∙ w.in-Live.is)
           (w.end-in-Live.ensures.ends (answer replies.Ok))))
       | in-Waiting w ↦
           let new = w.end-in-Waiting.new.self in
           rw w.self-is
           (subst (tells new) (sym (told ∙ ap answer w.reply-is))
-          (kills_other old new p n target Waiting (answer replies.Ok) c.if-target-p.false (sym c.standing.ensures ∙ w.in-Waiting.is)
+          (kills_other old new p n target Waiting (answer replies.Ok) c.if-target-p.false (sym c.state_of.ensures ∙ w.in-Waiting.is)
           (λ S h. ends_waiting new S target (answer replies.Ok)
           (w.end-in-Waiting.ensures.ends (answer replies.Ok) (with_process (without_wait S target) target Live) (w.interrupt.ensures.shows S h)))))
     ]

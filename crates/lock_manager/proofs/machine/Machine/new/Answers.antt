@@ -1,8 +1,7 @@
-use Rattle.std.proofs.Common.{◌≡◌, sym, subst, arith}
+use Rattle.std.proofs.Common.{sym, subst, arith}
 use Rattle.wait_core.specs.Locks.{locks_of}
 use Rattle.wait_core.specs.Cycles.{IsFreeOfCycles}
 use Rattle.wait_core.specs.WaitsView.{waits_of}
-use Rattle.wait_core.specs.declared.Family.TheVariants.{Bytes}
 use Rattle.lock_manager.specs.WaitsKept.{AreApart, IsSuspended, HaveRoom}
 use Rattle.lock_manager.proofs.WaitLemmas.{room_for_none}
 use Rattle.lock_manager.proofs.BookLemmas.{unlocked_bytes}
@@ -29,7 +28,6 @@ invariant_of-result c =
       apart = subst AreApart (sym none) (λ i j d before within. absurd (omega (arith, within)));
       suspended = of_no_wait (IsSuspended c.in_ok-tables.tables c.in_ok-states.states.items) (waits_of c.in_ok-waits.waits) none;
       awaited = λ p waiting. absurd (none_waits c.in_ok-states.states.items c.in_ok-states.ensures.states p waiting);
-      records = of_no_wait (λ wait. wait.family ≡ Bytes) (waits_of c.in_ok-waits.waits) none;
       room = subst (HaveRoom c.in_ok-books.books.items) (sym none) (room_for_none c.in_ok-books.books.items);
       free_of_cycles = subst (IsFreeOfCycles c.args.rules.policy (locks_of c.in_ok-books.books.items)) (sym none)
           (free_without_waits c.args.rules.policy (locks_of c.in_ok-books.books.items));

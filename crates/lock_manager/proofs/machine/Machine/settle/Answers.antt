@@ -10,6 +10,11 @@ loop-wait-init c = record {
   room = c.requires;
   rules = refl;
   processes = refl;
+  few = omega arith;
+  capacity = refl;
+  lives = λ p live. live;
+  places = λ f d there. there;
+  tables = refl;
   grants = ([], sym (append-nil _), leads_nowhere c.args.self.now);
 }
 
@@ -37,6 +42,11 @@ loop-wait-preserved c =
           let same = c.push_reserved.ensures.capacity in omega arith);
       rules = c.grant.ensures.rules ∙ before.rules;
       processes = c.grant.ensures.processes ∙ before.processes;
+      few = (let few = before.few in let fewer = c.grant.ensures.fewer in let longer = ap length items ∙ length-append c.loop-wait.notes.items (note ∷ []) in omega arith);
+      capacity = c.push_reserved.ensures.capacity ∙ before.capacity;
+      lives = λ p live. c.grant.ensures.lives p (before.lives p live);
+      places = λ f d there. c.grant.ensures.places f d (before.places f d there);
+      tables = c.grant.ensures.tables ∙ before.tables;
       grants = (
         before.grants.0 ++ note ∷ [],
         items ∙ ap (λ notes. notes ++ note ∷ []) before.grants.1 ∙ append_assoc c.args.notes.now.items before.grants.0 (note ∷ []),
@@ -48,3 +58,18 @@ pub returns-clause-settles : goal.returns-clause-settles
 returns-clause-settles c =
     let last = c.loop-wait.invariant in
     (last.grants.0, last.grants.1, settled_here c.args.self.now c.loop-wait.self last.grants.0 last.rules c.in_default.ensures.settled last.grants.2)
+
+pub returns-clause-few : goal.returns-clause-few
+returns-clause-few c = c.loop-wait.invariant.few
+
+pub returns-clause-capacity : goal.returns-clause-capacity
+returns-clause-capacity c = c.loop-wait.invariant.capacity
+
+pub returns-clause-lives : goal.returns-clause-lives
+returns-clause-lives c = c.loop-wait.invariant.lives
+
+pub returns-clause-places : goal.returns-clause-places
+returns-clause-places c = c.loop-wait.invariant.places
+
+pub returns-clause-tables : goal.returns-clause-tables
+returns-clause-tables c = c.loop-wait.invariant.tables

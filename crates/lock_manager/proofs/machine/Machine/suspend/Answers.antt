@@ -1,13 +1,11 @@
 use Rattle.std.proofs.Common.{◌≡◌, ◌<◌, ◌≤◌, ◌+◌, ◌-◌, sym, ap, refl, length, arith, subst, All}
 use Rattle.std.specs.Prelude.{slice_set, filter}
-use Rattle.std.proofs.lemmas.List.Elements.{All-push}
 use Rattle.lock_book.specs.Books.{room_in}
-use Rattle.wait_core.specs.declared.Family.TheVariants.{Bytes}
 use Rattle.wait_core.specs.Locks.{locks_of}
 use Rattle.wait_core.specs.WaitsView.{waits_of, AreTold}
 use Rattle.lock_manager.specs.declared.request.ProcState.TheVariants.{Waiting}
 use Rattle.lock_manager.specs.MachineView.{machine_rules, machine_processes, machine_state, machine_locks, machine_waits}
-use Rattle.lock_manager.specs.WaitsKept.{is_byte_wait, IsSuspended, AreAwaited, AreForRecords}
+use Rattle.lock_manager.specs.WaitsKept.{is_byte_wait, IsSuspended, AreAwaited}
 use Rattle.lock_manager.proofs.BookLemmas.{book_at}
 use Rattle.lock_manager.proofs.ProcessLemmas.{place_of_live}
 use Rattle.lock_manager.proofs.StandsLemmas.{without_change}
@@ -44,7 +42,6 @@ invariant_of-self c =
       apart = kept.apart;
       suspended = machine.suspended;
       awaited = machine.awaited;
-      records = machine.records;
       room = kept.room;
       free_of_cycles = kept.free_of_cycles;
     }
@@ -104,7 +101,6 @@ invariant_of-self-2 c =
           (suspended_joined machine.tables states list wanted (c.from-2.result - 1) place inside c.requires.live machine.alive machine.suspended);
       awaited = subst (AreAwaited (slice_set states (c.from-2.result - 1) Waiting)) (sym c.join.ensures.last)
           (awaited_joined states list wanted (c.from-2.result - 1) place inside machine.awaited);
-      records = subst AreForRecords (sym c.join.ensures.last) (All-push (λ wait. wait.family ≡ Bytes) list wanted machine.records c.requires.family);
       room = kept.room;
       free_of_cycles = kept.free_of_cycles;
     }

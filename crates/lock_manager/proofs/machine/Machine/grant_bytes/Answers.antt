@@ -1,16 +1,16 @@
-use Rattle.std.proofs.Common.{refl, ◌≡◌, ◌<◌, sym, ap, subst, length, Some, All, Ok, arith}
+use Rattle.std.proofs.Common.{refl, ◌≡◌, ◌<◌, sym, ◌∙◌, ap, subst, length, Some, All, Ok, arith, true}
 use Rattle.std.proofs.lemmas.Option.{same_Some}
-use Rattle.std.specs.Prelude.{slice_set}
+use Rattle.std.specs.Prelude.{slice_get, slice_set}
 use Rattle.lock_manager.specs.DescriptionLocks.{MayLock}
 use Rattle.lock_book.specs.Conflicts.{ByteConflict}
-use Rattle.wait_core.specs.declared.Family.TheVariants.{Bytes}
 use Rattle.wait_core.specs.Blocking.{IsBlockedIn}
 use Rattle.wait_core.specs.Locks.{locks_of}
 use Rattle.wait_core.specs.WaitsView.{waits_of, AreTold, AgreeBut}
 use Rattle.lock_manager.specs.State.{State, with_process}
 use Rattle.lock_manager.specs.ProcessCalls.{without_wait}
 use Rattle.lock_manager.specs.declared.request.ProcState.TheVariants.{Live}
-use Rattle.lock_manager.specs.WaitsKept.{AreApart, AreForRecords, IsSuspended, HaveRoom}
+use Rattle.lock_manager.specs.WaitsKept.{AreApart, IsSuspended, HaveRoom, has_place_at}
+use Rattle.lock_manager.proofs.FlockLemmas.{places_kept}
 use Rattle.lock_manager.specs.MachineView.{machine_locks, machine_state, machine_waits}
 use Rattle.lock_manager.proofs.BookLemmas.{book_at}
 use Rattle.lock_manager.proofs.GrantLemmas.{room_for_grant, room_granted, may_lock_granted, owner_granted, shows_granted}
@@ -18,7 +18,7 @@ use Rattle.lock_manager.proofs.ProcessCallLemmas.{found_holds}
 use Rattle.lock_manager.proofs.KeptLemmas.{kept_in_room}
 use Rattle.lock_manager.proofs.StandsLemmas.{with_change}
 use Rattle.lock_manager.proofs.WaitLemmas.{awaited_in}
-use Rattle.lock_manager.proofs.machine.Machine.grant.Goals as goal
+use Rattle.lock_manager.proofs.machine.Machine.grant_bytes.Goals as goal
 
 pub interrupt-requires : goal.interrupt-requires
 unfolding machine_state machine_waits
@@ -33,8 +33,7 @@ set_reserved-requires-clause-room c =
     let books = c.interrupt.new.self.books.items in
     let within : c.args.wait.file < length books = (let few = c.requires.well_formed.file in omega arith) in
     let was = book_at books c.from.result c.args.wait.file c.index_mut-book.result.now c.from.ensures within c.index_mut-book.ensures.value in
-    let family = found_holds (λ w. w.family ≡ Bytes) (waits_of machine.waits) c.args.wait.p c.args.wait c.requires.waits machine.records in
-    room_for_grant books (waits_of machine.waits) c.args.wait c.index_mut-book.result.now c.requires.waits family was
+    room_for_grant books (waits_of machine.waits) c.args.wait c.index_mut-book.result.now c.requires.waits c.requires.family was
     (subst (λ bs. HaveRoom bs (waits_of machine.waits)) (ap (λ bs. bs.items) (sym c.interrupt.ensures.books)) machine.room)
 
 pub invariant_of-self : goal.invariant_of-self
@@ -47,15 +46,14 @@ invariant_of-self c =
     let within : wait.file < length books = (let few = c.requires.well_formed.file in omega arith) in
     let was = book_at books c.from.result wait.file c.index_mut-book.result.now c.from.ensures within c.index_mut-book.ensures.value in
     let is = ap (λ i. slice_set books i c.set_reserved.new.self) c.from.ensures in
-    let family : wait.family ≡ Bytes = found_holds (λ w. w.family ≡ Bytes) before wait.p wait c.requires.waits c.args.self.now.records in
     let same_books : machine.books.items ≡ c.args.self.now.books.items = ap (λ bs. bs.items) c.interrupt.ensures.books in
     let room : HaveRoom (slice_set books wait.file c.set_reserved.new.self) (waits_of machine.waits) =
     subst (HaveRoom (slice_set books wait.file c.set_reserved.new.self)) (sym c.interrupt.ensures.waits)
-    (room_granted books before wait c.index_mut-book.result.now c.set_reserved.new.self c.requires.waits family within was c.set_reserved.ensures.sets c.set_reserved.ensures.room
+    (room_granted books before wait c.index_mut-book.result.now c.set_reserved.new.self c.requires.waits c.requires.family within was c.set_reserved.ensures.sets c.set_reserved.ensures.room
     (subst (λ bs. HaveRoom bs before) (sym same_books) c.args.self.now.room)) in
     let free : ¬ ByteConflict ((locks_of books).bytes wait.file) wait.owner wait.span wait.mode =
     subst (λ bs. ¬ ByteConflict ((locks_of bs).bytes wait.file) wait.owner wait.span wait.mode) (sym same_books)
-    (subst (λ f. ¬ IsBlockedIn f (machine_locks c.args.self.now) wait) family c.requires.free) in
+    (subst (λ f. ¬ IsBlockedIn f (machine_locks c.args.self.now) wait) c.requires.family c.requires.free) in
     let tables : c.args.self.now.tables ≡ machine.tables = sym c.interrupt.ensures.tables in
     let laws = c.stay_free_of_cycles.ensures in
     let kept = kept_in_room laws.locks_change laws.description_locks_change machine (slice_set books c.from.result c.set_reserved.new.self) c.refresh.new.self
@@ -84,7 +82,6 @@ invariant_of-self c =
       apart = kept.apart;
       suspended = subst (All (IsSuspended machine.tables machine.states.items)) (sym c.refresh.ensures.waits) machine.suspended;
       awaited = awaited_in machine.states.items (waits_of machine.waits) (waits_of c.refresh.new.self) c.refresh.ensures.waits machine.awaited;
-      records = subst AreForRecords (sym c.refresh.ensures.waits) machine.records;
       room = kept.room;
       free_of_cycles = kept.free_of_cycles;
     }
@@ -97,9 +94,23 @@ returns-clause-shows c S before after h place =
     let wait = c.args.wait in
     let within : wait.file < length books = (let few = c.requires.well_formed.file in omega arith) in
     let was = book_at books c.from.result wait.file c.index_mut-book.result.now c.from.ensures within c.index_mut-book.ensures.value in
-    let family : wait.family ≡ Bytes = found_holds (λ w. w.family ≡ Bytes) (waits_of c.args.self.now.waits) wait.p wait c.requires.waits c.args.self.now.records in
     let T : State = with_process (without_wait S wait.p) wait.p Live in
-    shows_granted _ S before wait after family (subst AreApart h.waits c.args.self.now.apart) place
+    shows_granted _ S before wait after c.requires.family (subst AreApart h.waits c.args.self.now.apart) place
     (with_change machine _ T wait.file c.index_mut-book.result.now c.set_reserved.new.self wait.owner wait.span (Some wait.mode)
     (ap (λ i. slice_set books i c.set_reserved.new.self) c.from.ensures) refl refl within was c.set_reserved.ensures.sets c.refresh.ensures.waits
     (c.interrupt.ensures.shows S h))
+
+pub returns-clause-lives : goal.returns-clause-lives
+unfolding machine_state
+returns-clause-lives c q live = c.interrupt.ensures.others q live
+
+pub returns-clause-places : goal.returns-clause-places
+returns-clause-places c f d there =
+    let machine = c.interrupt.new.self in
+    let books = machine.books.items in
+    let wait = c.args.wait in
+    let within : wait.file < length books = (let few = c.requires.well_formed.file in omega arith) in
+    let was = book_at books c.from.result wait.file c.index_mut-book.result.now c.from.ensures within c.index_mut-book.ensures.value in
+    subst (λ i. has_place_at (slice_get (slice_set books i c.set_reserved.new.self) f) d ≡ true) (sym c.from.ensures)
+    (places_kept books wait.file c.index_mut-book.result.now c.set_reserved.new.self within was (λ k is. c.set_reserved.ensures.sets.places k ∙ is) f d
+    (subst (λ bs. has_place_at (slice_get bs f) d ≡ true) (ap (λ bs. bs.items) (sym c.interrupt.ensures.books)) there))

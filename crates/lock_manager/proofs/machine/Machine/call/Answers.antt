@@ -4,7 +4,7 @@ use Rattle.lock_manager.specs.declared.request.Request.TheVariants.{Seek, Resize
 use Rattle.lock_manager.specs.Notes.{notes_told}
 use Rattle.lock_manager.specs.MachineView.{Tells}
 use Rattle.lock_manager.proofs.StandsLemmas.{told_by}
-use Rattle.lock_manager.proofs.machine.Machine.serve.Goals as goal
+use Rattle.lock_manager.proofs.machine.Machine.call.Goals as goal
 
 pub returns-in-OpenFile-clause-told : goal.returns-in-OpenFile-clause-told
 returns-in-OpenFile-clause-told c =

@@ -1,0 +1,48 @@
+use Rattle.std.proofs.Common.{◌≡◌, sym, ap, subst, true}
+use Rattle.std.specs.Prelude.{slice_get}
+use Rattle.wait_core.specs.Locks.{locks_of}
+use Rattle.wait_core.specs.WaitsView.{waits_of}
+use Rattle.lock_book.specs.declared.Owner.TheVariants.{Description}
+use Rattle.lock_manager.specs.State.{state_numbered}
+use Rattle.lock_manager.specs.DescriptionLocks.{MayLock}
+use Rattle.lock_manager.specs.declared.request.ProcState.TheVariants.{Live}
+use Rattle.lock_manager.specs.WaitsKept.{AreApart, IsSuspended, has_place_at, is_flock_wait}
+use Rattle.lock_manager.specs.MachineView.{machine_state, machine_waits}
+use Rattle.lock_manager.proofs.GrantLemmas.{may_lock_granted}
+use Rattle.lock_manager.proofs.ProcessCallLemmas.{found_holds}
+use Rattle.lock_manager.proofs.FlockCallLemmas.{found_asks, is_its_own_flock, shows_granted_flock}
+use Rattle.lock_manager.proofs.machine.Machine.grant_flock.Goals as goal
+
+pub interrupt-requires : goal.interrupt-requires
+unfolding machine_state machine_waits
+interrupt-requires c =
+    let machine = c.args.self.now in
+    (found_holds (IsSuspended machine.tables machine.states.items) (waits_of machine.waits) c.args.wait.p c.args.wait c.requires.waits machine.suspended).waiting
+
+pub change_flock-requires-clause-owner : goal.change_flock-requires-clause-owner
+unfolding machine_waits
+change_flock-requires-clause-owner c =
+    let machine = c.args.self.now in
+    subst (λ t. MayLock t c.args.wait.file (Description c.args.description)) (sym c.interrupt.ensures.tables)
+    (subst (λ o. MayLock machine.tables c.args.wait.file o) c.requires.owner
+    (may_lock_granted machine.tables (locks_of machine.books.items) (waits_of machine.waits) c.args.wait machine.owned c.requires.waits))
+
+pub change_flock-requires-clause-place : goal.change_flock-requires-clause-place
+unfolding machine_waits
+change_flock-requires-clause-place c m e =
+    let machine = c.args.self.now in
+    let wait = c.args.wait in
+    subst (λ bs. has_place_at (slice_get bs wait.file) c.args.description ≡ true) (ap (λ bs. bs.items) (sym c.interrupt.ensures.books))
+    (machine.room.places wait.file c.args.description
+    (found_asks (is_flock_wait wait.file c.args.description) (waits_of machine.waits) wait.p wait c.requires.waits (is_its_own_flock wait c.args.description c.requires.family c.requires.owner)))
+
+pub returns-clause-lives : goal.returns-clause-lives
+unfolding machine_state
+returns-clause-lives c q live =
+    subst (λ st. state_numbered st.items q ≡ Live) (sym c.change_flock.ensures.states) (c.interrupt.ensures.others q live)
+
+pub returns-clause-shows : goal.returns-clause-shows
+unfolding machine_waits
+returns-clause-shows c S before after h place =
+    shows_granted_flock _ S before c.args.wait after c.args.description c.requires.family c.requires.owner (subst AreApart h.waits c.args.self.now.apart) place
+    (c.change_flock.ensures.shows _ (c.interrupt.ensures.shows S h))

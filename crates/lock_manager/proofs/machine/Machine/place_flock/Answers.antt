@@ -1,0 +1,51 @@
+use Rattle.std.proofs.Common.{◌<◌, ap, refl, length, arith}
+use Rattle.std.specs.Prelude.{slice_set}
+use Rattle.lock_manager.proofs.BookLemmas.{book_at}
+use Rattle.lock_manager.proofs.FlockLemmas.{kept_by_place, place_taken, placed, same_by_place}
+use Rattle.lock_manager.proofs.machine.Machine.place_flock.Goals as goal
+
+pub invariant_of-self : goal.invariant_of-self
+invariant_of-self c =
+    let machine = c.args.self.now in
+    let books = machine.books.items in
+    let within : c.args.file < length books = omega arith in
+    let was = book_at books c.from.result c.args.file c.index_mut.result.now c.from.ensures within c.index_mut.ensures.value in
+    let kept = kept_by_place machine (slice_set books c.from.result c.flock_reserve.new.self) c.args.file c.index_mut.result.now c.flock_reserve.new.self
+    (ap (λ i. slice_set books i c.flock_reserve.new.self) c.from.ensures) within was
+    (place_taken c.index_mut.result.now c.flock_reserve.new.self c.args.description c.flock_reserve.result c.flock_reserve.ensures.ok c.flock_reserve.ensures.err) in
+    record {
+      files = machine.files;
+      numbered = machine.numbered;
+      tabled = machine.tabled;
+      limited = machine.limited;
+      alive = machine.alive;
+      compatible = kept.compatible;
+      owned = kept.owned;
+      within = kept.within;
+      policy = kept.policy;
+      counted = kept.counted;
+      told = kept.told;
+      apart = kept.apart;
+      suspended = machine.suspended;
+      awaited = machine.awaited;
+      room = kept.room;
+      free_of_cycles = kept.free_of_cycles;
+    }
+
+pub returns-clause-place : goal.returns-clause-place
+returns-clause-place c =
+    let machine = c.args.self.now in
+    let books = machine.books.items in
+    let within : c.args.file < length books = omega arith in
+    placed books (slice_set books c.from.result c.flock_reserve.new.self) c.args.file c.index_mut.result.now c.flock_reserve.new.self c.args.description c.flock_reserve.result
+    (ap (λ i. slice_set books i c.flock_reserve.new.self) c.from.ensures) within c.flock_reserve.ensures.ok
+
+pub returns-clause-same : goal.returns-clause-same
+returns-clause-same c =
+    let machine = c.args.self.now in
+    let books = machine.books.items in
+    let within : c.args.file < length books = omega arith in
+    let was = book_at books c.from.result c.args.file c.index_mut.result.now c.from.ensures within c.index_mut.ensures.value in
+    same_by_place machine _ c.args.file c.index_mut.result.now c.flock_reserve.new.self
+    (ap (λ i. slice_set books i c.flock_reserve.new.self) c.from.ensures) refl refl refl refl refl within was
+    (place_taken c.index_mut.result.now c.flock_reserve.new.self c.args.description c.flock_reserve.result c.flock_reserve.ensures.ok c.flock_reserve.ensures.err)
