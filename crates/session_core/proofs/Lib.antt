@@ -3,6 +3,7 @@ pub mod Moves
 pub mod OutcomeLaws
 pub mod DescriptorLaws
 pub mod LockLaws
+pub mod FlockLaws
 pub mod ProcessLaws
 pub mod StepLaws
 pub mod MailLemmas

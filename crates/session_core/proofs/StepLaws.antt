@@ -5,7 +5,7 @@ use Rattle.std.proofs.lemmas.Bool.{cases_eq}
 use Rattle.std.proofs.lemmas.List.Elements.{All-contains, All-from_recursion}
 use Rattle.lock_manager.specs.declared.request.Rules.{Rules}
 use Rattle.lock_manager.specs.declared.request.Request.{Request}
-use Rattle.lock_manager.specs.declared.request.Request.TheVariants.{OpenFile, Dup, DupTo, CloseFd, Seek, Resize, Lk, Fork, Exit, Signal, Kill}
+use Rattle.lock_manager.specs.declared.request.Request.TheVariants.{OpenFile, Dup, DupTo, CloseFd, Seek, Resize, Lk, Flock, Fork, Exit, Signal, Kill}
 use Rattle.lock_manager.specs.declared.request.Note.{Note}
 use Rattle.lock_manager.specs.declared.request.Note.TheVariants.{Answer, Waits}
 use Rattle.lock_manager.specs.declared.request.Errno.{Errno}
@@ -24,6 +24,7 @@ use Rattle.session_core.proofs.Moves.{Settles-tells}
 use Rattle.session_core.proofs.OutcomeLaws.{IsAtHand, IsTold}
 use Rattle.session_core.proofs.DescriptorLaws.{told_open, told_dup, told_dup_to, told_close, told_seek, told_resize}
 use Rattle.session_core.proofs.LockLaws.{told_lock}
+use Rattle.session_core.proofs.FlockLaws.{told_flock}
 use Rattle.session_core.proofs.ProcessLaws.{told_fork, told_exit, told_signal, told_kill, ended_by_end, ended_by_own_kill, killed_or_refused}
 
 -- whatever the request, it is told what it should be: one case for each request that is served
@@ -36,6 +37,7 @@ told_request rules processes S taken counts p n (CloseFd fd) outcome h is = told
 told_request rules processes S taken counts p n (Seek fd offset) outcome h is = told_seek processes S taken counts p n fd offset outcome h is
 told_request rules processes S taken counts p n (Resize fd size) outcome h is = told_resize processes S taken counts p n fd size outcome h is
 told_request rules processes S taken counts p n (Lk fd cmd lock) outcome h is = told_lock rules processes S taken counts p n fd cmd lock outcome h is
+told_request rules processes S taken counts p n (Flock fd op nb) outcome h is = told_flock rules processes S taken counts p n fd op nb outcome h is
 told_request rules processes S taken counts p n (Fork child) outcome h is = told_fork processes S taken counts p n child outcome h is
 told_request rules processes S taken counts p n Exit outcome h is = told_exit processes S taken counts p n outcome h is
 told_request rules processes S taken counts p n (Signal target) outcome h is =

@@ -13,7 +13,7 @@ pub struct Entry {
     pub n: u64,
     /// The request.
     pub request: Request,
-    /// The caller's note first, where there is one (there is none for an exit), then those of the others that it touched.
+    /// The caller's note first, where there is one (an exit and a kill of oneself have none), then those of the others that it touched.
     pub notes: Vec<Note>,
 }
 

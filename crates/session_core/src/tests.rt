@@ -3,8 +3,8 @@ ghost use Rattle.std.specs.Prelude.{◌≤◌, All};
 use crate::{ArriveFault, RunAllFault, Session, run_all};
 use fd_table::{Access, Limits};
 use lock_book::{Held, Owner};
-use lock_manager::{Errno, LkCmd, Lock, Note, ProcState, Reply, Request, Rules};
-use range_core::{Kind, Memory, Mode, Span, Whence};
+use lock_manager::{Errno, FlockOp, LkCmd, Lock, Note, ProcState, Reply, Request, Rules};
+use range_core::{Kind, Memory, Mode, OFFMAX, Span, Whence};
 use std::alloc::Global;
 use std::process::Abort;
 use std::test::Fail;
@@ -45,6 +45,25 @@ fn set(fd: u32, kind: Kind, start: i64, len: i64) -> Request {
 /// `F_SETLKW` on descriptor 0.
 fn wait(kind: Kind, start: i64, len: i64) -> Request {
     lock(LkCmd::SetLkW, 0, kind, start, len)
+}
+
+/// flock, without or with `LOCK_NB`.
+fn flock(fd: u32, op: FlockOp, nb: bool) -> Request {
+    Request::Flock { fd, op, nb }
+}
+
+/// A flock lock of a description on file 0.
+fn flock_held(description: u64, mode: Mode) -> Held {
+    Held {
+        file: 0,
+        whole: true,
+        owner: Owner::Description(description),
+        mode,
+        span: Span {
+            first: 0,
+            last: OFFMAX,
+        },
+    }
 }
 
 /// A byte lock of a process on file 0.
@@ -501,5 +520,113 @@ fn kills_release_locks(rt: HostRuntime) -> Result<(), Fail> {
     assert_eq!(rt; session.manager().state_of(3), ProcState::Live);
     let locks = all_held(&session)?;
     assert_eq!(rt; locks.as_slice(), [held_by(3, Mode::Read, 0, 9)].as_slice());
+    Ok(())
+}
+
+/// A conversion that is refused has lost its lock, and its entry tells the refusal before the grant.
+#[test]
+fn a_refused_conversion_grants_a_wait(rt: HostRuntime) -> Result<(), Fail> {
+    let arrivals = [
+        (1, OPEN),
+        (1, FORK),
+        (2, OPEN),
+        (1, flock(0, FlockOp::Ex, false)),
+        (2, flock(1, FlockOp::Ex, false)),
+        (1, flock(0, FlockOp::Sh, true)),
+    ];
+    let mut session = two_processes(rt.alloc())?;
+    deliver(&rt, &mut session, &arrivals)?;
+    assert_eq!(rt; counts(&session), [4, 4, 4, 2, 2, 2, 6]);
+    let refused = Reply::Err(Errno::EAGAIN);
+    assert_told(&rt, &session, 5, &[Note::Waits { p: 2, n: 2 }]);
+    assert_told(
+        &rt,
+        &session,
+        6,
+        &[answer(1, 4, refused), answer(2, 2, Reply::Ok)],
+    );
+    assert_eq!(rt; session.answer_of(1, 4), Some(refused));
+    assert_eq!(rt; session.answer_of(2, 2), Some(Reply::Ok));
+    let locks = all_held(&session)?;
+    assert_eq!(rt; locks.as_slice(), [flock_held(2, Mode::Write)].as_slice());
+    Ok(())
+}
+
+/// A conversion that waits has lost its lock, its entry tells the wait before the grant, and its mail stays until its own grant.
+#[test]
+fn a_waiting_conversion_grants_a_wait(rt: HostRuntime) -> Result<(), Fail> {
+    let arrivals = [
+        (1, OPEN),
+        (1, FORK),
+        (2, OPEN),
+        (1, flock(0, FlockOp::Sh, false)),
+        (2, flock(1, FlockOp::Sh, false)),
+        (1, flock(0, FlockOp::Ex, false)),
+        (2, flock(1, FlockOp::Ex, false)),
+        (2, Request::Dup { fd: 1 }),
+    ];
+    let mut session = two_processes(rt.alloc())?;
+    deliver(&rt, &mut session, &arrivals)?;
+    assert_eq!(rt; counts(&session), [4, 4, 4, 4, 3, 2, 7]);
+    assert_told(&rt, &session, 6, &[Note::Waits { p: 1, n: 4 }]);
+    assert_told(
+        &rt,
+        &session,
+        7,
+        &[Note::Waits { p: 2, n: 3 }, answer(1, 4, Reply::Ok)],
+    );
+    assert_eq!(rt; session.answer_of(1, 4), Some(Reply::Ok));
+    assert_eq!(rt; session.answer_of(2, 3), None);
+    assert!(rt; session.manager().processes() == 2);
+    assert_eq!(rt; session.manager().state_of(1), ProcState::Live);
+    assert_eq!(rt; session.manager().state_of(2), ProcState::Waiting);
+    let locks = all_held(&session)?;
+    assert_eq!(rt; locks.as_slice(), [flock_held(1, Mode::Write)].as_slice());
+    deliver(&rt, &mut session, &[(1, flock(0, FlockOp::Un, false))])?;
+    assert_told(
+        &rt,
+        &session,
+        8,
+        &[answer(1, 5, Reply::Ok), answer(2, 3, Reply::Ok)],
+    );
+    assert_eq!(rt; take_next(&rt, &mut session)?, Some(9));
+    assert_eq!(rt; take_next(&rt, &mut session)?, None);
+    assert_eq!(rt; counts(&session), [5, 5, 5, 4, 4, 4, 9]);
+    assert_eq!(rt; session.answer_of(2, 4), Some(Reply::Fd(2)));
+    let locks = all_held(&session)?;
+    assert_eq!(rt; locks.as_slice(), [flock_held(2, Mode::Write)].as_slice());
+    Ok(())
+}
+
+/// A conversion that succeeds tells so before each of its grants.
+#[test]
+fn a_conversion_grants_several_waits(rt: HostRuntime) -> Result<(), Fail> {
+    let arrivals = [
+        (1, OPEN),
+        (1, FORK),
+        (1, Request::Fork { child: 3 }),
+        (2, OPEN),
+        (3, OPEN),
+        (1, flock(0, FlockOp::Ex, false)),
+        (3, flock(1, FlockOp::Sh, false)),
+        (2, flock(1, FlockOp::Sh, false)),
+        (1, flock(0, FlockOp::Sh, false)),
+    ];
+    let mut session = three_processes(rt.alloc())?;
+    deliver(&rt, &mut session, &arrivals)?;
+    assert_eq!(rt; counts(&session), [5, 5, 5, 2, 2, 2, 9]);
+    let notes = [
+        answer(1, 5, Reply::Ok),
+        answer(3, 2, Reply::Ok),
+        answer(2, 2, Reply::Ok),
+    ];
+    assert_told(&rt, &session, 9, &notes);
+    let locks = all_held(&session)?;
+    let expected = [
+        flock_held(1, Mode::Read),
+        flock_held(2, Mode::Read),
+        flock_held(3, Mode::Read),
+    ];
+    assert_eq!(rt; locks.as_slice(), expected.as_slice());
     Ok(())
 }
