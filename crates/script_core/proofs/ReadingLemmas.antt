@@ -11,8 +11,10 @@ use Rattle.lock_manager.specs.declared.request.LkCmd.TheVariants.{GetLk, SetLk, 
 use Rattle.lock_manager.specs.declared.request.Lock.{Lock}
 use Rattle.fd_table.specs.declared.Limits.{Limits}
 use Rattle.fd_table.specs.declared.Limits.TheVariants.{Small, Wide}
+use Rattle.lock_manager.specs.declared.request.FlockOp.{FlockOp}
+use Rattle.lock_manager.specs.declared.request.FlockOp.TheVariants.{Sh, Ex, Un}
 use Rattle.lock_manager.specs.declared.request.Request.{Request}
-use Rattle.lock_manager.specs.declared.request.Request.TheVariants.{OpenFile, Dup, DupTo, CloseFd, Seek, Resize, Lk, Fork, Exit, Signal, Kill}
+use Rattle.lock_manager.specs.declared.request.Request.TheVariants.{OpenFile, Dup, DupTo, CloseFd, Seek, Resize, Lk, Flock, Fork, Exit, Signal, Kill}
 use Rattle.range_core.specs.declared.Kind.{Kind}
 use Rattle.range_core.specs.declared.Kind.TheVariants.{Read, Write, Unlock}
 use Rattle.range_core.specs.declared.Whence.{Whence}
@@ -22,8 +24,8 @@ use Rattle.script_core.specs.declared.script.Cause.{Cause}
 use Rattle.script_core.specs.declared.script.Cause.TheVariants.{Byte, Word, Count, Process, TooLong}
 use Rattle.script_core.specs.declared.script.ScriptFault.{ScriptFault}
 use Rattle.script_core.specs.Words.{lines_of, words_of, is_printable}
-use Rattle.script_core.specs.RequestText.{access_word, kind_word, whence_word, lock_command_word, pid_words, lock_words, request_words}
-use Rattle.script_core.specs.Arguments.{Argument, FileNumber, DescriptorNumber, AnyNumber, ProcessNumber, AccessWord, Spells, IsFirstBad, lock_arguments, open_command, descriptor_command, number_command, dup_to_command, lock_command, process_command, exit_command, Command, command_named, has_count}
+use Rattle.script_core.specs.RequestText.{access_word, kind_word, whence_word, op_word, nb_words, lock_command_word, pid_words, lock_words, request_words}
+use Rattle.script_core.specs.Arguments.{Argument, FileNumber, DescriptorNumber, AnyNumber, ProcessNumber, AccessWord, OpWord, NbWord, Spells, IsFirstBad, lock_arguments, open_command, descriptor_command, number_command, dup_to_command, lock_command, flock_command, process_command, exit_command, Command, command_named, has_count}
 use Rattle.script_core.specs.ScriptText.{Meaning, HasZeroPid, Says, IsRequest, IsProcess, IsWritable}
 use Rattle.script_core.specs.Reading.{Reading, ArgumentsGive, CommandGives, RequestGives, ArrivalGives, WordsGive, LineGives, LinesGive, HasOneReading, is_comment, limits_of, meaning_of, start}
 use Rattle.script_core.proofs.NumberLemmas.{number_in, number_in-zero, digits_value-spelled, number_in-spelled}
@@ -75,7 +77,7 @@ SaysLock-from_says words fd cmd lock (inr says) = record { rest = pid_words lock
 lock_equal : (a b : Lock) → a.kind ≡ b.kind → a.whence ≡ b.whence → a.start ≡ b.start → a.len ≡ b.len → a.pid ≡ b.pid → a ≡ b
 lock_equal a b kind whence start len pid = λ i. record { kind = kind i; whence = whence i; start = start i; len = len i; pid = pid i }
 
--- the word of an access mode, a kind or a whence, read back
+-- the word of an access mode, a kind, a whence or an operation of flock, read back
 access_in : List ℕ → Access
 access_in word = cond (bytes_eq word (codes "r")) R (cond (bytes_eq word (codes "w")) W Rw)
 
@@ -84,6 +86,14 @@ kind_in word = cond (bytes_eq word (codes "r")) Read (cond (bytes_eq word (codes
 
 whence_in : List ℕ → Whence
 whence_in word = cond (bytes_eq word (codes "set")) Set (cond (bytes_eq word (codes "cur")) Cur End)
+
+op_in : List ℕ → FlockOp
+op_in word = cond (bytes_eq word (codes "sh")) Sh (cond (bytes_eq word (codes "ex")) Ex Un)
+
+-- whether anything is written behind the operation of flock
+nb_in : List (List ℕ) → Bool
+nb_in [] = false
+nb_in (word ∷ words) = true
 
 access_in-word : (access : Access) → access_in (access_word access) ≡ access
 unfolding access_in
@@ -102,6 +112,17 @@ unfolding whence_in
 whence_in-word Set = refl
 whence_in-word Cur = refl
 whence_in-word End = refl
+
+op_in-word : (op : FlockOp) → op_in (op_word op) ≡ op
+unfolding op_in
+op_in-word Sh = refl
+op_in-word Ex = refl
+op_in-word Un = refl
+
+nb_in-words : (nb : Bool) → nb_in (nb_words nb) ≡ nb
+unfolding nb_in
+nb_in-words true = refl
+nb_in-words false = refl
 
 -- the numbers at a place of the words
 natural_at : ℕ → List (List ℕ) → ℕ
@@ -137,9 +158,10 @@ said words =
     (cond (bytes_eq name (codes "ogetlk")) (Lk fd OGetLk (lock_in words))
     (cond (bytes_eq name (codes "osetlk")) (Lk fd OSetLk (lock_in words))
     (cond (bytes_eq name (codes "osetlkw")) (Lk fd OSetLkW (lock_in words))
+    (cond (bytes_eq name (codes "flock")) (Flock fd (op_in (get_or words 2 [])) (nb_in (drop 3 words)))
     (cond (bytes_eq name (codes "fork")) (Fork fd)
     (cond (bytes_eq name (codes "signal")) (Signal fd)
-    (cond (bytes_eq name (codes "kill")) (Kill fd) Exit))))))))))))))
+    (cond (bytes_eq name (codes "kill")) (Kill fd) Exit)))))))))))))))
 
 said_lock : (cmd : LkCmd) (arguments : List (List ℕ))
     → said (lock_command_word cmd ∷ arguments) ≡ Lk (natural_at 1 (lock_command_word cmd ∷ arguments)) cmd (lock_in (lock_command_word cmd ∷ arguments))
@@ -200,6 +222,9 @@ said_is limits words (Lk fd cmd lock) says fits =
     let number = digits_value-spelled fd (omega (arith, fits.0)) in
     let described = lock_said (lock_command_word cmd) fd lock spelled.rest spelled.follows fits.1 fits.2 fits.3 in
     ap said spelled.are ∙ (said_lock cmd (lock_words fd lock ++ spelled.rest) ∙ (λ i. Lk (number i) cmd (described i)))
+said_is limits words (Flock fd op nb) says fits =
+    let number = digits_value-spelled fd (omega (arith, fits)) in
+    ap said (has_words words (Flock fd op nb) (λ zero. zero) says) ∙ (λ i. Flock (number i) (op_in-word op i) (nb_in-words nb i))
 said_is limits words (Fork child) says fits = ap said (has_words words (Fork child) (λ zero. zero) says) ∙ ap Fork (digits_value-spelled child (small_process limits child fits))
 said_is limits words Exit says fits = ap said (has_words words Exit (λ zero. zero) says)
 said_is limits words (Signal target) says fits = ap said (has_words words (Signal target) (λ zero. zero) says) ∙ ap Signal (digits_value-spelled target (small_process limits target fits))
@@ -229,6 +254,11 @@ unfolding AllSpell
 pid_spelled limits pid rest (inl none) fits = subst (AllSpell limits (AnyNumber ∷ [])) (sym none.1) tt
 pid_spelled limits pid rest (inr is) fits = subst (AllSpell limits (AnyNumber ∷ [])) (sym is) ((pid, fits, refl), tt)
 
+nb_spelled : (limits : Limits) (nb : Bool) → AllSpell limits (NbWord ∷ []) (nb_words nb)
+unfolding AllSpell
+nb_spelled limits true = (refl, tt)
+nb_spelled limits false = tt
+
 command_is : (command known : Command) → Some known ≡ Some command → known ≡ command
 command_is command known e = ap (λ o. unwrap_or o known) e
 
@@ -250,6 +280,7 @@ arguments_of (CloseFd fd) = DescriptorNumber ∷ []
 arguments_of (Seek fd offset) = DescriptorNumber ∷ AnyNumber ∷ []
 arguments_of (Resize fd size) = DescriptorNumber ∷ AnyNumber ∷ []
 arguments_of (Lk fd cmd lock) = lock_arguments ++ AnyNumber ∷ []
+arguments_of (Flock fd op nb) = DescriptorNumber ∷ OpWord ∷ NbWord ∷ []
 arguments_of (Fork child) = ProcessNumber ∷ []
 arguments_of Exit = []
 arguments_of (Signal target) = ProcessNumber ∷ []
@@ -278,6 +309,7 @@ request_named words (Resize fd size) says = names_so (number_command (codes "res
 request_named words (Lk fd cmd lock) says =
     let spelled = SaysLock-from_says words fd cmd lock says in
     names_by (lock_command (lock_command_word cmd)) words (ap (λ ws. command_named (get_or ws 0 [])) spelled.are ∙ lock_named cmd)
+request_named words (Flock fd op nb) says = names_so flock_command words (Flock fd op nb) (λ zero. zero) says refl
 request_named words (Fork child) says = names_so (process_command (codes "fork")) words (Fork child) (λ zero. zero) says refl
 request_named words Exit says = names_so exit_command words Exit (λ zero. zero) says refl
 request_named words (Signal target) says = names_so (process_command (codes "signal")) words (Signal target) (λ zero. zero) says refl
@@ -303,6 +335,8 @@ request_spelled limits words (Lk fd cmd lock) says fits =
     let pid = pid_spelled limits lock.pid spelled.rest spelled.follows fits.3 in
     subst (λ ws. AllSpell limits (lock_arguments ++ AnyNumber ∷ []) (drop 1 ws)) (sym spelled.are)
     ((fd, fits.0, refl), ((lock.kind, refl), ((lock.whence, refl), ((lock.start, fits.1, refl), ((lock.len, fits.2, refl), pid)))))
+request_spelled limits words (Flock fd op nb) says fits =
+    spells_so limits (DescriptorNumber ∷ OpWord ∷ NbWord ∷ []) words (Flock fd op nb) (λ zero. zero) says ((fd, fits, refl), ((op, refl), nb_spelled limits nb))
 request_spelled limits words (Fork child) says fits = spells_so limits (ProcessNumber ∷ []) words (Fork child) (λ zero. zero) says ((child, fits.0, fits.1, refl), tt)
 request_spelled limits words Exit says fits = spells_so limits [] words Exit (λ zero. zero) says tt
 request_spelled limits words (Signal target) says fits = spells_so limits (ProcessNumber ∷ []) words (Signal target) (λ zero. zero) says ((target, fits.0, fits.1, refl), tt)

@@ -1,5 +1,5 @@
 -- The text of a request, behind its process and a space, is a line that says it.
-use Rattle.std.proofs.Common.{◌≡◌, ℕ, zero, suc, ◌+◌, ◌^◌, ◌<◌, ◌≤◌, ◌==◌, Bool, nat_le, nat_lt, true, false, not, ◌&&◌, List, [], ◌∷◌, ◌++◌, length, get_or, filter, codes, decimal, ℤ, pos, negsuc, FitsSigned, w64, Ok, Some, inl, inr, refl, ap, ◌∙◌, arith, tests, lit<, lit≤, length-append, append_assoc}
+use Rattle.std.proofs.Common.{◌≡◌, ℕ, zero, suc, ◌+◌, ◌^◌, ◌<◌, ◌≤◌, ◌==◌, Bool, nat_le, nat_lt, true, false, not, ◌&&◌, List, [], ◌∷◌, ◌++◌, length, drop, get_or, filter, codes, decimal, ℤ, pos, negsuc, FitsSigned, w64, Ok, Some, inl, inr, refl, ap, ◌∙◌, arith, tests, lit<, lit≤, length-append, append_assoc}
 use Rattle.std.specs.Fmt.{signed_decimal}
 use Rattle.std.specs.Int.{IsInRange}
 use Rattle.std.specs.Str.Parse.{AllDigits}
@@ -14,17 +14,19 @@ use Rattle.lock_manager.specs.declared.request.LkCmd.{LkCmd}
 use Rattle.lock_manager.specs.declared.request.LkCmd.TheVariants.{GetLk, SetLk, SetLkW, OGetLk, OSetLk, OSetLkW}
 use Rattle.lock_manager.specs.declared.request.Lock.{Lock}
 use Rattle.fd_table.specs.declared.Limits.TheVariants.{Small}
+use Rattle.lock_manager.specs.declared.request.FlockOp.{FlockOp}
+use Rattle.lock_manager.specs.declared.request.FlockOp.TheVariants.{Sh, Ex, Un}
 use Rattle.lock_manager.specs.declared.request.Request.{Request}
-use Rattle.lock_manager.specs.declared.request.Request.TheVariants.{OpenFile, Dup, DupTo, CloseFd, Seek, Resize, Lk, Fork, Exit, Signal, Kill}
+use Rattle.lock_manager.specs.declared.request.Request.TheVariants.{OpenFile, Dup, DupTo, CloseFd, Seek, Resize, Lk, Flock, Fork, Exit, Signal, Kill}
 use Rattle.range_core.specs.declared.Kind.{Kind}
 use Rattle.range_core.specs.declared.Kind.TheVariants.{Read, Write, Unlock}
 use Rattle.range_core.specs.declared.Whence.{Whence}
 use Rattle.range_core.specs.declared.Whence.TheVariants.{Set, Cur, End}
 use Rattle.script_core.specs.declared.TheConstants.{LINE_MAX}
 use Rattle.script_core.specs.Words.{words_of, is_printable}
-use Rattle.script_core.specs.RequestText.{access_word, kind_word, whence_word, lock_command_word, pid_words, lock_words, request_words, request_text}
+use Rattle.script_core.specs.RequestText.{access_word, kind_word, whence_word, op_word, nb_words, lock_command_word, pid_words, lock_words, request_words, request_text}
 use Rattle.script_core.specs.ScriptText.{IsProcess, IsDescriptor, IsWritable, IsRequest}
-use Rattle.script_core.specs.Arguments.{Command, lock_command, command_named, has_count}
+use Rattle.script_core.specs.Arguments.{Command, lock_command, flock_command, command_named, has_count}
 use Rattle.script_core.specs.Reading.{Reading, RequestGives, WordsGive, LineGives, IsReadBack, reading_after, is_comment}
 use Rattle.script_core.proofs.NumberLemmas.{BeginsPlainly-decimal}
 use Rattle.script_core.proofs.ReadingLemmas.{lock_named}
@@ -158,6 +160,11 @@ IsWord-whence_word Set = IsWord-tested (whence_word Set) refl
 IsWord-whence_word Cur = IsWord-tested (whence_word Cur) refl
 IsWord-whence_word End = IsWord-tested (whence_word End) refl
 
+IsWord-op_word : (op : FlockOp) → IsWord (op_word op)
+IsWord-op_word Sh = IsWord-tested (op_word Sh) refl
+IsWord-op_word Ex = IsWord-tested (op_word Ex) refl
+IsWord-op_word Un = IsWord-tested (op_word Un) refl
+
 IsWord-lock_command_word : (cmd : LkCmd) → IsWord (lock_command_word cmd)
 IsWord-lock_command_word GetLk = IsWord-tested (lock_command_word GetLk) refl
 IsWord-lock_command_word SetLk = IsWord-tested (lock_command_word SetLk) refl
@@ -172,6 +179,11 @@ AreWords-pid_words (pos zero) fits = tt
 AreWords-pid_words (pos (suc n)) fits = (IsWord-signed_decimal (pos (suc n)) fits, tt)
 AreWords-pid_words (negsuc n) fits = (IsWord-signed_decimal (negsuc n) fits, tt)
 
+AreWords-nb_words : (nb : Bool) → AreWords (nb_words nb)
+unfolding AreWords
+AreWords-nb_words true = (IsWord-tested (codes "nb") refl, tt)
+AreWords-nb_words false = tt
+
 AreWords-request_words : (request : Request) → IsWritable Small request → AreWords (request_words request)
 unfolding AreWords
 AreWords-request_words (OpenFile file access) writable = (IsWord-tested (codes "open") refl, (IsWord-decimal file (omega (arith, writable)), (IsWord-access_word access, tt)))
@@ -180,6 +192,7 @@ AreWords-request_words (DupTo fd to) writable = (IsWord-tested (codes "dup2") re
 AreWords-request_words (CloseFd fd) writable = (IsWord-tested (codes "close") refl, (IsWord-descriptor fd writable, tt))
 AreWords-request_words (Seek fd offset) writable = (IsWord-tested (codes "seek") refl, (IsWord-descriptor fd writable.0, (IsWord-signed_decimal offset writable.1, tt)))
 AreWords-request_words (Resize fd size) writable = (IsWord-tested (codes "resize") refl, (IsWord-descriptor fd writable.0, (IsWord-signed_decimal size writable.1, tt)))
+AreWords-request_words (Flock fd op nb) writable = (IsWord-tested (codes "flock") refl, (IsWord-descriptor fd writable, (IsWord-op_word op, AreWords-nb_words nb)))
 AreWords-request_words (Fork child) writable = (IsWord-tested (codes "fork") refl, (IsWord-decimal child (omega (arith, writable.1)), tt))
 AreWords-request_words Exit writable = (IsWord-tested (codes "exit") refl, tt)
 AreWords-request_words (Signal target) writable = (IsWord-tested (codes "signal") refl, (IsWord-decimal target (omega (arith, writable.1)), tt))
@@ -213,6 +226,11 @@ length-whence_word Set = lit≤ tt
 length-whence_word Cur = lit≤ tt
 length-whence_word End = lit≤ tt
 
+length-op_word : (op : FlockOp) → length (op_word op) ≤ 2
+length-op_word Sh = lit≤ tt
+length-op_word Ex = lit≤ tt
+length-op_word Un = lit≤ tt
+
 length-lock_command_word : (cmd : LkCmd) → length (lock_command_word cmd) ≤ 7
 length-lock_command_word GetLk = lit≤ tt
 length-lock_command_word SetLk = lit≤ tt
@@ -233,6 +251,11 @@ more_length-pid_words (pos zero) fits = lit≤ tt
 more_length-pid_words (pos (suc n)) fits = omega (arith, length-signed_decimal (pos (suc n)) fits)
 more_length-pid_words (negsuc n) fits = omega (arith, length-signed_decimal (negsuc n) fits)
 
+more_length-nb_words : (nb : Bool) → more_length (nb_words nb) ≤ 3
+unfolding more_length
+more_length-nb_words true = lit≤ tt
+more_length-nb_words false = lit≤ tt
+
 more_length-request_words : (request : Request) → IsWritable Small request → more_length (request_words request) ≤ 118
 unfolding more_length
 more_length-request_words (OpenFile file access) writable =
@@ -242,6 +265,8 @@ more_length-request_words (DupTo fd to) writable = omega (arith, length-descript
 more_length-request_words (CloseFd fd) writable = omega (arith, length-descriptor fd writable)
 more_length-request_words (Seek fd offset) writable = omega (arith, length-descriptor fd writable.0, length-signed_decimal offset writable.1)
 more_length-request_words (Resize fd size) writable = omega (arith, length-descriptor fd writable.0, length-signed_decimal size writable.1)
+more_length-request_words (Flock fd op nb) writable =
+    omega (arith, length-descriptor fd writable, length-op_word op, more_length-nb_words nb)
 more_length-request_words (Fork child) writable = omega (arith, length-decimal-le 2 child (lit< tt) (omega (arith, writable.1)) (omega (arith, writable.1)))
 more_length-request_words Exit writable = lit≤ tt
 more_length-request_words (Signal target) writable = omega (arith, length-decimal-le 2 target (lit< tt) (omega (arith, writable.1)) (omega (arith, writable.1)))
@@ -269,6 +294,11 @@ lock_counted name fd lock (pos zero) = refl
 lock_counted name fd lock (pos (suc n)) = refl
 lock_counted name fd lock (negsuc n) = refl
 
+-- flock has so many arguments, with `nb` and without
+flock_counted : (fd : ℕ) (op : FlockOp) (nb : Bool) → has_count flock_command (length (drop 1 (request_words (Flock fd op nb)))) ≡ true
+flock_counted fd op true = refl
+flock_counted fd op false = refl
+
 -- the words of a request are that request
 is_written : (request : Request) → IsWritable Small request → IsRequest Small (request_words request) request
 is_written request writable = record { says = inl refl; writable = writable }
@@ -284,6 +314,9 @@ gives_request (Lk fd cmd lock) writable =
     let name = lock_command_word cmd in
     gives_named name (lock_words fd lock ++ pid_words lock.pid) (lock_command name) (Lk fd cmd lock) (lock_named cmd) (lock_counted name fd lock lock.pid)
     (is_written (Lk fd cmd lock) writable)
+gives_request (Flock fd op nb) writable =
+    gives_named (codes "flock") (drop 1 (request_words (Flock fd op nb))) flock_command (Flock fd op nb) refl (flock_counted fd op nb)
+    (is_written (Flock fd op nb) writable)
 gives_request (Fork child) writable = inr (Fork child, is_written (Fork child) writable, refl)
 gives_request Exit writable = inr (Exit, is_written Exit writable, refl)
 gives_request (Signal target) writable = inr (Signal target, is_written (Signal target) writable, refl)
@@ -307,6 +340,7 @@ join_cons p (DupTo fd to) = append_assoc (decimal p) (codes " ") (request_text (
 join_cons p (CloseFd fd) = append_assoc (decimal p) (codes " ") (request_text (CloseFd fd))
 join_cons p (Seek fd offset) = append_assoc (decimal p) (codes " ") (request_text (Seek fd offset))
 join_cons p (Resize fd size) = append_assoc (decimal p) (codes " ") (request_text (Resize fd size))
+join_cons p (Flock fd op nb) = append_assoc (decimal p) (codes " ") (request_text (Flock fd op nb))
 join_cons p (Fork child) = append_assoc (decimal p) (codes " ") (request_text (Fork child))
 join_cons p Exit = append_assoc (decimal p) (codes " ") (request_text Exit)
 join_cons p (Signal target) = append_assoc (decimal p) (codes " ") (request_text (Signal target))

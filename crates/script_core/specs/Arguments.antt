@@ -9,13 +9,14 @@ use Rattle.fd_table.specs.declared.Access.{Access}
 use Rattle.fd_table.specs.declared.Limits.{Limits}
 use Rattle.range_core.specs.Facts.{MatchFact}
 use Rattle.fd_table.specs.Descriptors.{process_limit}
+use Rattle.lock_manager.specs.declared.request.FlockOp.{FlockOp}
 use Rattle.script_core.specs.declared.script.Cause.{Cause}
 use Rattle.script_core.specs.declared.script.Cause.TheVariants.{Word, Count, Number, Process}
-use Rattle.script_core.specs.RequestText.{access_word, kind_word, whence_word}
+use Rattle.script_core.specs.RequestText.{access_word, kind_word, whence_word, op_word}
 
 -- what may stand in the place of an argument
 pub data Argument : Type 0 where
-  FileNumber DescriptorNumber AnyNumber ProcessNumber AccessWord KindWord WhenceWord : Argument
+  FileNumber DescriptorNumber AnyNumber ProcessNumber AccessWord KindWord WhenceWord OpWord NbWord : Argument
 
 -- the word is a spelling of such an argument
 abbrev pub Spells : Limits → Argument → List ℕ → Type 0
@@ -26,6 +27,8 @@ Spells limits ProcessNumber word = (n : ℕ) × (1 ≤ n) × (n ≤ process_limi
 Spells limits AccessWord word = (access : Access) × (word ≡ access_word access)
 Spells limits KindWord word = (kind : Kind) × (word ≡ kind_word kind)
 Spells limits WhenceWord word = (whence : Whence) × (word ≡ whence_word whence)
+Spells limits OpWord word = (op : FlockOp) × (word ≡ op_word op)
+Spells limits NbWord word = word ≡ codes "nb"
 
 -- what is wrong with a word that spells no such argument
 abbrev pub cause_of : Argument → Cause
@@ -36,6 +39,8 @@ cause_of ProcessNumber = Process
 cause_of AccessWord = Word
 cause_of KindWord = Word
 cause_of WhenceWord = Word
+cause_of OpWord = Word
+cause_of NbWord = Word
 
 -- the word spells no such argument, and this is its cause
 abbrev pub IsBad : Limits → Argument → List ℕ → Cause → Type 0
@@ -87,6 +92,10 @@ number_command name = plain_command name (DescriptorNumber ∷ AnyNumber ∷ [])
 abbrev pub dup_to_command : Command
 dup_to_command = plain_command (codes "dup2") (DescriptorNumber ∷ DescriptorNumber ∷ [])
 
+-- flock: a descriptor and an operation, and then `nb` or nothing
+abbrev pub flock_command : Command
+flock_command = record { name = codes "flock"; required = DescriptorNumber ∷ OpWord ∷ []; optional = NbWord ∷ [] }
+
 -- a command on a process alone: fork, signal, kill
 abbrev pub process_command : List ℕ → Command
 process_command name = plain_command name (ProcessNumber ∷ [])
@@ -102,7 +111,7 @@ commands =
     ∷ number_command (codes "seek") ∷ number_command (codes "resize")
     ∷ lock_command (codes "getlk") ∷ lock_command (codes "setlk") ∷ lock_command (codes "setlkw")
     ∷ lock_command (codes "ogetlk") ∷ lock_command (codes "osetlk") ∷ lock_command (codes "osetlkw")
-    ∷ process_command (codes "fork") ∷ process_command (codes "signal") ∷ process_command (codes "kill") ∷ exit_command ∷ []
+    ∷ flock_command ∷ process_command (codes "fork") ∷ process_command (codes "signal") ∷ process_command (codes "kill") ∷ exit_command ∷ []
 
 -- the command of this word, if it is one
 abbrev pub command_named : List ℕ → Option Command

@@ -1,6 +1,6 @@
 -- The words of a request. A number has one spelling: decimal, without leading zeros, and with a minus sign where it is negative
 -- (this project's choice).
-use Rattle.std.specs.Prelude.{ℕ, zero, suc, ℤ, pos, negsuc, List, [], ◌∷◌, ◌++◌, codes, decimal}
+use Rattle.std.specs.Prelude.{ℕ, zero, suc, Bool, true, false, ℤ, pos, negsuc, List, [], ◌∷◌, ◌++◌, codes, decimal}
 use Rattle.std.specs.Fmt.{signed_decimal}
 use Rattle.std.specs.List.{join_with_byte}
 use Rattle.range_core.specs.declared.Mode.{Mode}
@@ -14,8 +14,10 @@ use Rattle.fd_table.specs.declared.Access.TheVariants.{R, W, Rw}
 use Rattle.lock_manager.specs.declared.request.Lock.{Lock}
 use Rattle.lock_manager.specs.declared.request.LkCmd.{LkCmd}
 use Rattle.lock_manager.specs.declared.request.LkCmd.TheVariants.{GetLk, SetLk, SetLkW, OGetLk, OSetLk, OSetLkW}
+use Rattle.lock_manager.specs.declared.request.FlockOp.{FlockOp}
+use Rattle.lock_manager.specs.declared.request.FlockOp.TheVariants.{Sh, Ex, Un}
 use Rattle.lock_manager.specs.declared.request.Request.{Request}
-use Rattle.lock_manager.specs.declared.request.Request.TheVariants.{OpenFile, Dup, DupTo, CloseFd, Seek, Resize, Lk, Fork, Exit, Signal, Kill}
+use Rattle.lock_manager.specs.declared.request.Request.TheVariants.{OpenFile, Dup, DupTo, CloseFd, Seek, Resize, Lk, Flock, Fork, Exit, Signal, Kill}
 
 -- the word of an access mode
 abbrev pub access_word : Access → List ℕ
@@ -40,6 +42,12 @@ whence_word Set = codes "set"
 whence_word Cur = codes "cur"
 whence_word End = codes "end"
 
+-- the word of an operation of flock
+abbrev pub op_word : FlockOp → List ℕ
+op_word Sh = codes "sh"
+op_word Ex = codes "ex"
+op_word Un = codes "un"
+
 -- the word of a lock command of fcntl
 abbrev pub lock_command_word : LkCmd → List ℕ
 lock_command_word GetLk = codes "getlk"
@@ -55,6 +63,11 @@ pid_words (pos zero) = []
 pid_words (pos (suc n)) = decimal (suc n) ∷ []
 pid_words (negsuc n) = signed_decimal (negsuc n) ∷ []
 
+-- LOCK_NB is written only where it is set
+abbrev pub nb_words : Bool → List (List ℕ)
+nb_words true = codes "nb" ∷ []
+nb_words false = []
+
 -- the arguments of a lock command: descriptor, kind, whence, start and length
 abbrev pub lock_words : ℕ → Lock → List (List ℕ)
 lock_words fd lock =
@@ -69,6 +82,7 @@ request_words (CloseFd fd) = codes "close" ∷ decimal fd ∷ []
 request_words (Seek fd offset) = codes "seek" ∷ decimal fd ∷ signed_decimal offset ∷ []
 request_words (Resize fd size) = codes "resize" ∷ decimal fd ∷ signed_decimal size ∷ []
 request_words (Lk fd cmd lock) = lock_command_word cmd ∷ (lock_words fd lock ++ pid_words lock.pid)
+request_words (Flock fd op nb) = codes "flock" ∷ decimal fd ∷ op_word op ∷ nb_words nb
 request_words (Fork child) = codes "fork" ∷ decimal child ∷ []
 request_words Exit = codes "exit" ∷ []
 request_words (Signal target) = codes "signal" ∷ decimal target ∷ []

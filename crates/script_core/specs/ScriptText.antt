@@ -4,7 +4,7 @@ use Rattle.std.specs.Int.{w64}
 use Rattle.fd_table.specs.declared.TheConstants.{FILES}
 use Rattle.fd_table.specs.declared.Limits.{Limits}
 use Rattle.lock_manager.specs.declared.request.Request.{Request}
-use Rattle.lock_manager.specs.declared.request.Request.TheVariants.{OpenFile, Dup, DupTo, CloseFd, Seek, Resize, Lk, Fork, Exit, Signal, Kill}
+use Rattle.lock_manager.specs.declared.request.Request.TheVariants.{OpenFile, Dup, DupTo, CloseFd, Seek, Resize, Lk, Flock, Fork, Exit, Signal, Kill}
 use Rattle.fd_table.specs.Descriptors.{process_limit}
 use Rattle.script_core.specs.RequestText.{request_words}
 
@@ -30,6 +30,7 @@ IsWritable limits (Seek fd offset) = IsDescriptor fd × FitsSigned w64 offset
 IsWritable limits (Resize fd size) = IsDescriptor fd × FitsSigned w64 size
 IsWritable limits (Lk fd cmd lock) =
     IsDescriptor fd × FitsSigned w64 lock.start × FitsSigned w64 lock.len × FitsSigned w64 lock.pid
+IsWritable limits (Flock fd op nb) = IsDescriptor fd
 IsWritable limits (Fork child) = IsProcess limits child
 IsWritable limits Exit = ⊤
 IsWritable limits (Signal target) = IsProcess limits target
@@ -44,6 +45,7 @@ HasZeroPid (CloseFd fd) = ⊥
 HasZeroPid (Seek fd offset) = ⊥
 HasZeroPid (Resize fd size) = ⊥
 HasZeroPid (Lk fd cmd lock) = lock.pid ≡ pos 0
+HasZeroPid (Flock fd op nb) = ⊥
 HasZeroPid (Fork child) = ⊥
 HasZeroPid Exit = ⊥
 HasZeroPid (Signal target) = ⊥

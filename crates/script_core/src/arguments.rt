@@ -1,13 +1,14 @@
-ghost use Rattle.std.specs.Prelude.{◌≡◌, ◌<◌, ◌^◌, MatchResult, decimal};
+ghost use Rattle.std.specs.Prelude.{◌≡◌, ◌<◌, ◌^◌, MatchResult, codes, decimal};
 ghost use Rattle.std.specs.Fmt.{signed_decimal};
 ghost use Rattle.fd_table.specs.declared.Limits.TheVariants.{Small};
-ghost use Rattle.script_core.specs.Arguments.{FileNumber, DescriptorNumber, AnyNumber, ProcessNumber, AccessWord, KindWord, WhenceWord, IsBad};
-ghost use Rattle.script_core.specs.RequestText.{access_word, kind_word, whence_word};
+ghost use Rattle.script_core.specs.Arguments.{FileNumber, DescriptorNumber, AnyNumber, ProcessNumber, AccessWord, KindWord, WhenceWord, OpWord, NbWord, IsBad};
+ghost use Rattle.script_core.specs.RequestText.{access_word, kind_word, whence_word, op_word};
 ghost use Rattle.script_core.specs.ScriptText.{IsDescriptor, IsProcess};
 
 use crate::Cause;
 use crate::numbers::{integer_of, natural_of};
 use fd_table::{Access, FILES};
+use lock_manager::FlockOp;
 use range_core::{Kind, Whence};
 
 /// The number of processes.
@@ -85,6 +86,28 @@ pub fn read_whence(word: &str) -> Result<Whence, Cause>
         "set" => Ok(Whence::Set),
         "cur" => Ok(Whence::Cur),
         "end" => Ok(Whence::End),
+        _ => Err(Cause::Word),
+    }
+}
+
+/// An operation of flock.
+pub fn read_op(word: &str) -> Result<FlockOp, Cause>
+    ensures { MatchResult result (λ op. word.now ≡ op_word op) (IsBad Small OpWord word.now) }
+{
+    match word {
+        "sh" => Ok(FlockOp::Sh),
+        "ex" => Ok(FlockOp::Ex),
+        "un" => Ok(FlockOp::Un),
+        _ => Err(Cause::Word),
+    }
+}
+
+/// The word of `LOCK_NB`.
+pub fn read_nb(word: &str) -> Result<(), Cause>
+    ensures { MatchResult result (λ unit. word.now ≡ codes "nb") (IsBad Small NbWord word.now) }
+{
+    match word {
+        "nb" => Ok(()),
         _ => Err(Cause::Word),
     }
 }

@@ -3,13 +3,14 @@ ghost use Rattle.std.specs.Fmt.{signed_decimal};
 ghost use Rattle.fd_table.specs.declared.Limits.TheVariants.{Small};
 ghost use Rattle.script_core.specs.Words.{texts};
 ghost use Rattle.script_core.specs.RequestText.{lock_command_word, lock_words};
-ghost use Rattle.script_core.specs.Arguments.{DescriptorNumber, AnyNumber, ProcessNumber, IsFirstBad, AreRefused, open_command, dup_to_command, exit_command, lock_arguments, lock_command};
+ghost use Rattle.script_core.specs.Arguments.{DescriptorNumber, AnyNumber, ProcessNumber, IsFirstBad, AreRefused, open_command, dup_to_command, exit_command, flock_command, lock_arguments, lock_command};
 ghost use Rattle.script_core.specs.ScriptText.{IsProcess};
 ghost use Rattle.script_core.specs.Reading.{CommandGives, RequestGives};
 
 use crate::Cause;
 use crate::arguments::{
-    read_access, read_descriptor, read_file, read_kind, read_number, read_process, read_whence,
+    read_access, read_descriptor, read_file, read_kind, read_nb, read_number, read_op,
+    read_process, read_whence,
 };
 use lock_manager::{LkCmd, Lock, Request};
 
@@ -36,6 +37,7 @@ pub fn read_command(name: &str, arguments: &[&str]) -> Result<Request, Cause>
         "ogetlk" => read_lock(LkCmd::OGetLk, arguments),
         "osetlk" => read_lock(LkCmd::OSetLk, arguments),
         "osetlkw" => read_lock(LkCmd::OSetLkW, arguments),
+        "flock" => read_flock(arguments),
         "fork" => read_process_alone(arguments).map(|child| Request::Fork { child }),
         "signal" => read_process_alone(arguments).map(|target| Request::Signal { target }),
         "kill" => read_process_alone(arguments).map(|target| Request::Kill { target }),
@@ -104,6 +106,26 @@ fn read_exit(arguments: &[&str]) -> Result<Request, Cause>
 {
     match arguments {
         [] => Ok(Request::Exit),
+        _ => Err(Cause::Count),
+    }
+}
+
+/// flock: its arguments, and then `nb` where it is written.
+fn read_flock(arguments: &[&str]) -> Result<Request, Cause>
+    ensures { CommandGives Small (codes "flock" ∷ texts arguments.now) flock_command (texts arguments.now) result }
+{
+    match arguments {
+        [fd, op] => {
+            let fd = read_descriptor(fd)?;
+            let op = read_op(op)?;
+            Ok(Request::Flock { fd, op, nb: false })
+        }
+        [fd, op, nb] => {
+            let fd = read_descriptor(fd)?;
+            let op = read_op(op)?;
+            read_nb(nb)?;
+            Ok(Request::Flock { fd, op, nb: true })
+        }
         _ => Err(Cause::Count),
     }
 }

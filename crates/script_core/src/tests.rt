@@ -1,6 +1,6 @@
 use crate::{Cause, ScriptFault, parse, write_entry, write_report};
 use fd_table::{Access, Limits};
-use lock_manager::{Errno, LkCmd, Lock, Note, Reply, Request, Rules};
+use lock_manager::{Errno, FlockOp, LkCmd, Lock, Note, Reply, Request, Rules};
 use range_core::{Kind, Mode, Whence};
 use session_core::{Entry, run_all};
 use std::alloc::Global;
@@ -17,6 +17,21 @@ const CONVERSION_OUTPUT: &[u8] = b"1#1 open 0 rw | 1#1 fd 0\n\
     lock 0 process 1 r 40 59\n\
     lock 0 process 1 w 60 99\n\
     proc 1 sent 3 taken 3 answered 3 live\n";
+
+const FLOCKS: &[u8] =
+    b"1 open 0 r\n1 fork 2\n2 open 0 r\n1 flock 0 sh\n2 flock 1 sh\n1 flock 0 ex\n2 flock 1 ex\n";
+
+const FLOCKS_OUTPUT: &[u8] = b"1#1 open 0 r | 1#1 fd 0\n\
+    1#2 fork 2 | 1#2 ok\n\
+    2#1 open 0 r | 2#1 fd 1\n\
+    1#3 flock 0 sh | 1#3 ok\n\
+    2#2 flock 1 sh | 2#2 ok\n\
+    1#4 flock 0 ex | 1#4 waits\n\
+    2#3 flock 1 ex | 2#3 waits | 1#4 ok\n\
+    flock 0 description 1 ex\n\
+    wait 2#3 0 flock description 2 ex\n\
+    proc 1 sent 4 taken 4 answered 4 live\n\
+    proc 2 sent 3 taken 3 answered 2 waiting\n";
 
 const OFD_CYCLE: &[u8] = b"1 open 0 rw\n1 fork 2\n1 fork 3\n2 open 0 rw\n3 open 1 rw\n\
     1 osetlk 0 w set 0 1\n2 osetlk 1 w set 1 1\n1 osetlkw 0 w set 1 1\n2 osetlkw 1 w set 0 1\n\
@@ -110,6 +125,13 @@ fn one_line_scripts(rt: HostRuntime) {
         (b"1 kill 1 1\n", Some(Cause::Count)),
         (b"1 kill 16\n", None),
         (b"1 Kill 2\n", Some(Cause::Word)),
+        (b"1 flock 0\n", Some(Cause::Count)),
+        (b"1 flock 0 sh nb nb\n", Some(Cause::Count)),
+        (b"1 flock 4294967296 no\n", Some(Cause::Number)),
+        (b"1 flock 0 no no\n", Some(Cause::Word)),
+        (b"1 flock 0 SH\n", Some(Cause::Word)),
+        (b"1 flock 0 sh no\n", Some(Cause::Word)),
+        (b"1 flock 0 un nb\n", None),
         (b"1\texit\n", Some(Cause::Byte)),
         (b"# 17 exit\n", None),
         (b"  \n", None),
@@ -423,6 +445,8 @@ fn whole_output(rt: HostRuntime) -> Result<(), Fail> {
     );
     let waiting = output_of(rt.alloc(), OFD_CYCLE)?;
     assert_eq!(rt; waiting.as_slice(), OFD_CYCLE_OUTPUT);
+    let flocks = output_of(rt.alloc(), FLOCKS)?;
+    assert_eq!(rt; flocks.as_slice(), FLOCKS_OUTPUT);
     let unborn = output_of(rt.alloc(), b"3 open 0 r\n")?;
     assert_eq!(rt;
         unborn.as_slice(),
@@ -450,6 +474,39 @@ fn output_of(alloc: Global, script: &[u8]) -> Result<Vec<u8>, Fail> {
     }
     write_report(&session, &sent, &mut out).map_err(|_| "no memory")?;
     Ok(out)
+}
+
+/// Worked scripts of flock: what is read of each line is what its entry writes, `nb` behind an unlock too.
+#[test]
+fn entries_of_flock(rt: HostRuntime) -> Result<(), Fail> {
+    let script =
+        b"1 flock 0 sh\n1 flock 1 ex\n1 flock 0 ex nb\n1 flock 4294967295 un\n1  flock 0 un  nb\n";
+    let parsed = parse(rt.alloc(), script).map_err(|_| "refused")?;
+    let expected = [
+        (1, flock(0, FlockOp::Sh, false)),
+        (1, flock(1, FlockOp::Ex, false)),
+        (1, flock(0, FlockOp::Ex, true)),
+        (1, flock(u32::MAX, FlockOp::Un, false)),
+        (1, flock(0, FlockOp::Un, true)),
+    ];
+    assert_eq!(rt; parsed.arrivals.as_slice(), expected.as_slice());
+    let replies = [
+        Some(Reply::Ok),
+        Some(Reply::Ok),
+        Some(Reply::Err(Errno::EAGAIN)),
+        Some(Reply::Err(Errno::EBADF)),
+        Some(Reply::Ok),
+    ];
+    let entries = b"1#1 flock 0 sh | 1#1 ok\n\
+        1#2 flock 1 ex | 1#2 ok\n\
+        1#3 flock 0 ex nb | 1#3 EAGAIN\n\
+        1#4 flock 4294967295 un | 1#4 EBADF\n\
+        1#5 flock 0 un nb | 1#5 ok\n";
+    check_entries(&rt, rt.alloc(), script, &replies, entries)
+}
+
+fn flock(fd: u32, op: FlockOp, nb: bool) -> Request {
+    Request::Flock { fd, op, nb }
 }
 
 /// Run with each allocation refused in turn: a refused growth of `parse` is told as such, whatever the script says.

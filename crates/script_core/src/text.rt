@@ -1,6 +1,7 @@
 ghost use Rattle.std.specs.Prelude.{◌≡◌, ◌∷◌, ◌++◌, OnOk, codes, decimal, string_bytes, flat_map};
 ghost use Rattle.std.specs.List.{join_with_byte};
-ghost use Rattle.script_core.specs.RequestText.{request_text, lock_words, pid_words};
+ghost use Rattle.lock_manager.specs.declared.request.Request.TheVariants.{Flock};
+ghost use Rattle.script_core.specs.RequestText.{request_text, lock_words, pid_words, nb_words};
 ghost use Rattle.script_core.specs.RequestText as spec;
 ghost use Rattle.script_core.specs.EntryText.{entry_line, note_text, reply_text};
 ghost use Rattle.script_core.specs.EntryText as entry_spec;
@@ -9,7 +10,7 @@ ghost use Rattle.script_core.specs.ReportText as report_spec;
 
 use fd_table::Access;
 use lock_book::{Held, Owner};
-use lock_manager::{Errno, LkCmd, Lock, Note, ProcState, Reply, Request};
+use lock_manager::{Errno, FlockOp, LkCmd, Lock, Note, ProcState, Reply, Request};
 use range_core::{Kind, Mode, Span, Whence};
 use session_core::Entry;
 use std::alloc::AllocError;
@@ -150,6 +151,7 @@ fn push_request(text: &mut String, request: &Request) -> Result<(), AllocError>
             write!(text, "{name} ")?;
             push_lock(text, *fd, lock)
         }
+        Request::Flock { fd, op, nb } => push_flock_request(text, *fd, *op, *nb),
         Request::Fork { child } => write!(text, "fork {child}"),
         Request::Exit => text.push_str("exit"),
         Request::Signal { target } => write!(text, "signal {target}"),
@@ -175,6 +177,22 @@ fn push_pid(text: &mut String, pid: i64) -> Result<(), AllocError>
         return Ok(());
     }
     write!(text, " {pid}")
+}
+
+/// A request of flock.
+fn push_flock_request(text: &mut String, fd: u32, op: FlockOp, nb: bool) -> Result<(), AllocError>
+    ensures { OnOk result (string_bytes text.new ≡ string_bytes text.old ++ request_text (Flock fd op nb)) }
+{
+    let op = op_word(op);
+    write!(text, "flock {fd} {op}")?;
+    push_nb(text, nb)
+}
+
+/// `nb` is written only where it is set.
+fn push_nb(text: &mut String, nb: bool) -> Result<(), AllocError>
+    ensures { OnOk result (string_bytes text.new ≡ string_bytes text.old ++ flat_map (λ word. 32 ∷ word) (nb_words nb)) }
+{
+    if nb { text.push_str(" nb") } else { Ok(()) }
 }
 
 fn push_note(text: &mut String, note: &Note) -> Result<(), AllocError>
@@ -258,6 +276,16 @@ fn whence_word(whence: Whence) -> &'static str
         Whence::Set => "set",
         Whence::Cur => "cur",
         Whence::End => "end",
+    }
+}
+
+fn op_word(op: FlockOp) -> &'static str
+    ensures { result.now ≡ spec.op_word op }
+{
+    match op {
+        FlockOp::Sh => "sh",
+        FlockOp::Ex => "ex",
+        FlockOp::Un => "un",
     }
 }
 

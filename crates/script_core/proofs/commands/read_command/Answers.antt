@@ -19,6 +19,7 @@ returns-in_default c =
       not_named (codes "ogetlk") word not.not-ogetlk,
       not_named (codes "osetlk") word not.not-osetlk,
       not_named (codes "osetlkw") word not.not-osetlkw,
+      not_named (codes "flock") word not.not-flock,
       not_named (codes "fork") word not.not-fork,
       not_named (codes "signal") word not.not-signal,
       not_named (codes "kill") word not.not-kill,
