@@ -1,8 +1,8 @@
-//! Worked scripts of requests that wait. They stand apart from the others, since the prover reads a table as a whole.
+//! Worked scripts of requests that wait, and of flock. They stand apart from the others, since the prover reads a table as a whole.
 use super::rows::Row;
 
-/// The worked scripts of waits, grants, deadlocks, signals and kills.
-pub const WAITING_ROWS: [Row; 10] = [
+/// The worked scripts of waits, grants, deadlocks, signals and kills, and of flock.
+pub const WAITING_ROWS: [Row; 14] = [
     Row {
         name: "a cycle of two",
         script: "1 open 0 rw
@@ -307,6 +307,102 @@ wait 3#2 0 process 3 w 5 9
 proc 1 sent 6 taken 6 answered 6 live
 proc 2 sent 1 taken 1 answered 1 live
 proc 3 sent 2 taken 2 answered 1 waiting
+",
+        fault: "",
+        status: 0,
+    },
+    Row {
+        name: "a conversion by flock that is lost",
+        script: "1 open 0 r
+1 open 0 r
+1 flock 0 sh
+1 flock 1 sh
+1 flock 0 ex nb
+",
+        output: "1#1 open 0 r | 1#1 fd 0
+1#2 open 0 r | 1#2 fd 1
+1#3 flock 0 sh | 1#3 ok
+1#4 flock 1 sh | 1#4 ok
+1#5 flock 0 ex nb | 1#5 EAGAIN
+flock 0 description 2 sh
+proc 1 sent 5 taken 5 answered 5 live
+",
+        fault: "",
+        status: 0,
+    },
+    Row {
+        name: "a grant inside a conversion by flock",
+        script: "1 open 0 rw
+1 fork 2
+2 open 0 rw
+1 flock 0 ex
+2 flock 1 ex
+1 flock 0 sh nb
+",
+        output: "1#1 open 0 rw | 1#1 fd 0
+1#2 fork 2 | 1#2 ok
+2#1 open 0 rw | 2#1 fd 1
+1#3 flock 0 ex | 1#3 ok
+2#2 flock 1 ex | 2#2 waits
+1#4 flock 0 sh nb | 1#4 EAGAIN | 2#2 ok
+flock 0 description 2 ex
+proc 1 sent 4 taken 4 answered 4 live
+proc 2 sent 2 taken 2 answered 2 live
+",
+        fault: "",
+        status: 0,
+    },
+    Row {
+        name: "fork, and the last close of a flock lock",
+        script: "1 open 0 rw
+1 setlk 0 w set 0 10
+1 flock 0 ex
+1 fork 2
+2 getlk 0 w set 0 10
+1 close 0
+2 open 0 r
+2 flock 1 sh nb
+2 close 0
+2 flock 1 sh nb
+",
+        output: "1#1 open 0 rw | 1#1 fd 0
+1#2 setlk 0 w set 0 10 | 1#2 ok
+1#3 flock 0 ex | 1#3 ok
+1#4 fork 2 | 1#4 ok
+2#1 getlk 0 w set 0 10 | 2#1 held w 0 10 1
+1#5 close 0 | 1#5 ok
+2#2 open 0 r | 2#2 fd 1
+2#3 flock 1 sh nb | 2#3 EAGAIN
+2#4 close 0 | 2#4 ok
+2#5 flock 1 sh nb | 2#5 ok
+flock 0 description 2 sh
+proc 1 sent 5 taken 5 answered 5 live
+proc 2 sent 5 taken 5 answered 5 live
+",
+        fault: "",
+        status: 0,
+    },
+    Row {
+        name: "two conversions to exclusive flock locks",
+        script: "1 open 0 r
+1 fork 2
+2 open 0 r
+1 flock 0 sh
+2 flock 1 sh
+1 flock 0 ex
+2 flock 1 ex
+",
+        output: "1#1 open 0 r | 1#1 fd 0
+1#2 fork 2 | 1#2 ok
+2#1 open 0 r | 2#1 fd 1
+1#3 flock 0 sh | 1#3 ok
+2#2 flock 1 sh | 2#2 ok
+1#4 flock 0 ex | 1#4 waits
+2#3 flock 1 ex | 2#3 waits | 1#4 ok
+flock 0 description 1 ex
+wait 2#3 0 flock description 2 ex
+proc 1 sent 4 taken 4 answered 4 live
+proc 2 sent 3 taken 3 answered 2 waiting
 ",
         fault: "",
         status: 0,
