@@ -30,7 +30,7 @@ replayed_next manager journal r =
     (λ q place. IfSome_then (slice_get (events_of q journal) place) (r.run.numbered q place) (λ event e. omega arith))
 
 -- what a replayed journal leaves
-replayed_tallied : (manager : Manager) (journal : List Event) → 1 ≤ processes_of manager → (r : IsReplayed manager journal)
+pub replayed_tallied : (manager : Manager) (journal : List Event) → 1 ≤ processes_of manager → (r : IsReplayed manager journal)
     → IsTallied (processes_of manager) none none journal r.state
 replayed_tallied manager journal some r =
     Leads-tallied (rules_of manager) (processes_of manager) opening_state journal r.state none none

@@ -88,7 +88,7 @@ Leads-push rules processes S (e ∷ events) T event U leads step =
     (leads.0, leads.1, Leads-push rules processes leads.0 events T event U leads.2 step)
 
 -- a replayed journal with one more step of the manager
-IsReplayed-push : (old new : Manager) (journal : List Event) (event : Event) → event.n ≡ length (events_of event.p journal) + 1
+pub IsReplayed-push : (old new : Manager) (journal : List Event) (event : Event) → event.n ≡ length (events_of event.p journal) + 1
     → rules_of new ≡ rules_of old → processes_of new ≡ processes_of old
     → ((S : State) → StandsFor old S → (T : State) × IsStep (rules_of old) (processes_of old) S event T × StandsFor new T)
     → IsReplayed old journal → IsReplayed new (journal ++ event ∷ [])

@@ -13,3 +13,5 @@ pub mod JournalLemmas
 pub mod AnswerLemmas
 pub mod DrainLemmas
 pub mod DrainLaws
+pub mod NoteLemmas
+pub mod ReplayLemmas

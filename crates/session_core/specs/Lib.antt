@@ -7,3 +7,4 @@ pub mod Headline
 pub mod SessionView
 pub mod Deliveries
 pub mod OneDrain
+pub mod Replaying

@@ -1,6 +1,7 @@
 //! A lock manager with the mail of its processes and the journal of what was taken.
 #![tactic(auto)]
 
+mod check;
 mod entry;
 mod laws;
 mod mailbox;
@@ -9,6 +10,7 @@ mod session;
 #[cfg(test)]
 mod tests;
 
+pub use check::check_journal;
 pub use entry::Entry;
 pub use laws::arrivals_have_one_drain;
 pub use run::{RunAllFault, run_all};

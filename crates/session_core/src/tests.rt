@@ -1,3 +1,5 @@
+mod check;
+
 ghost use Rattle.std.specs.Prelude.{◌≤◌, All};
 
 use crate::{ArriveFault, RunAllFault, Session, run_all};

@@ -1,0 +1,218 @@
+-- Runs made again: their fronts, the one state that they leave, and one more event.
+use Rattle.std.proofs.Common.{ℕ, zero, suc, ◌≡◌, ◌≢◌, ◌+◌, ◌<◌, ◌≤◌, refl, sym, ◌∙◌, ap, subst, arith, Bool, true, false, length, List, [], ◌∷◌, ◌++◌, ⊎_elim, Some, IfSome, slice_get, get_or, set, get_or-set_same, get_or-set_other, replicate, take, drop, length-append}
+use Rattle.std.specs.Prelude.{◌==◌}
+use Rattle.std.specs.Bool.{Decides}
+use Rattle.std.proofs.lemmas.Bool.{cases_eq}
+use Rattle.std.proofs.lemmas.List.{take-append-drop, take_more}
+use Rattle.std.proofs.lemmas.List.Elements.{filter-append}
+use Rattle.lock_manager.specs.declared.request.Rules.{Rules}
+use Rattle.lock_manager.specs.declared.request.Note.{Note}
+use Rattle.lock_manager.specs.State.{State, opening_state}
+use Rattle.lock_manager.specs.Step.{Step}
+use Rattle.lock_manager.specs.OneOutcome.{StepHasOneOutcome}
+use Rattle.lock_manager.specs.ManagerView.{StandsFor, rules_of, processes_of}
+use Rattle.session_core.specs.declared.check.Replay.{Replay}
+use Rattle.session_core.specs.Event.{Event}
+use Rattle.session_core.specs.Runs.{IsStep, IsRun, Leads, AreNumbered, events_of}
+use Rattle.session_core.specs.Replaying.{HasMade, IsNextOf, Repeats, count_of}
+use Rattle.session_core.proofs.HeadlineLaws.{replayed_tallied}
+use Rattle.session_core.proofs.JournalLemmas.{events_of-push_own, events_of-push_other, IsReplayed-push}
+
+-- what leads through two lists of events leads through a state between them
+Leads-split : (rules : Rules) (processes : ℕ) (S : State) (xs ys : List Event) (T : State) → Leads rules processes S (xs ++ ys) T
+    → (U : State) × Leads rules processes S xs U × Leads rules processes U ys T
+Leads-split rules processes S [] ys T h = (S, refl, h)
+Leads-split rules processes S (x ∷ xs) ys T h =
+    let rest = Leads-split rules processes h.0 xs ys T h.2 in (rest.0, (h.0, h.1, rest.1), rest.2)
+
+-- events lead to one state
+Leads-unique : StepHasOneOutcome → (rules : Rules) (processes : ℕ) (S : State) (events : List Event) (T U : State)
+    → Leads rules processes S events T → Leads rules processes S events U → T ≡ U
+Leads-unique one rules processes S [] T U h k = h ∙ sym k
+Leads-unique one rules processes S (event ∷ events) T U h k =
+    let outcome : (event.notes ≡ event.notes) × (h.0 ≡ k.0) =
+    one rules processes S event.p event.n event.request event.notes event.notes h.0 k.0 h.1 k.1 in
+    Leads-unique one rules processes k.0 events T U (subst (λ X. Leads rules processes X events T) outcome.1 h.2) k.2
+
+IfSome-front : {X : Type 0} (P : X → Type 0) (xs ys : List X) (place : ℕ) → IfSome (slice_get (xs ++ ys) place) P
+    → IfSome (slice_get xs place) P
+IfSome-front P [] ys place h = tt
+IfSome-front P (x ∷ xs) ys zero h = h
+IfSome-front P (x ∷ xs) ys (suc place) h = IfSome-front P xs ys place h
+
+AreNumbered-front : (xs ys : List Event) → AreNumbered (xs ++ ys) → AreNumbered xs
+AreNumbered-front xs ys h p place =
+    IfSome-front (λ event. event.n ≡ place + 1) (events_of p xs) (events_of p ys) place
+    (subst (λ l. IfSome (slice_get l place) (λ event. event.n ≡ place + 1)) (filter-append (λ event. event.p == p) xs ys) (h p place))
+
+-- a front of a run is a run
+pub IsRun-front : (rules : Rules) (processes : ℕ) (xs ys : List Event) (T : State) → IsRun rules processes (xs ++ ys) T
+    → (S : State) × IsRun rules processes xs S
+IsRun-front rules processes xs ys T run =
+    let split = Leads-split rules processes opening_state xs ys T run.leads in
+    (split.0, record { leads = split.1; numbered = AreNumbered-front xs ys run.numbered })
+
+get_last : {X : Type 0} (xs : List X) (x : X) → slice_get (xs ++ x ∷ []) (length xs) ≡ Some x
+get_last [] x = refl
+get_last (y ∷ xs) x = get_last xs x
+
+-- the last event of a run is a step from the state that the others leave, and has the next number of its process
+record IsLastStep (rules : Rules) (processes : ℕ) (S : State) (events : List Event) (event : Event) (T : State) : Type 0 where
+  step : IsStep rules processes S event T
+  number : event.n ≡ length (events_of event.p events) + 1
+
+IsRun-last : StepHasOneOutcome → (rules : Rules) (processes : ℕ) (events : List Event) (S : State) (event : Event) (T : State)
+    → IsRun rules processes events S → IsRun rules processes (events ++ event ∷ []) T → IsLastStep rules processes S events event T
+IsRun-last one rules processes events S event T before run =
+    let split = Leads-split rules processes opening_state events (event ∷ []) T run.leads in
+    let same : split.0 ≡ S = Leads-unique one rules processes opening_state events split.0 S split.1 before.leads in
+    let last : IsStep rules processes split.0 event split.2.0 = split.2.1 in
+    let place = length (events_of event.p events) in
+    let found : slice_get (events_of event.p (events ++ event ∷ [])) place ≡ Some event =
+    ap (λ l. slice_get l place) (events_of-push_own event.p events event refl) ∙ get_last (events_of event.p events) event in
+    record {
+      step = subst (λ X. IsStep rules processes X event T) same (subst (λ X. IsStep rules processes split.0 event X) (sym split.2.2) last);
+      number = subst (λ o. IfSome o (λ e. e.n ≡ place + 1)) found (run.numbered event.p place);
+    }
+
+-- the run that was made, under the rules that are given
+made_run : (rules : Rules) (processes : ℕ) (replay : Replay) (events : List Event) → (made : HasMade rules processes replay events)
+    → IsRun rules processes events made.replayed.state
+made_run rules processes replay events made =
+    subst (λ r. IsRun r processes events made.replayed.state) made.rules_are
+    (subst (λ n. IsRun (rules_of replay.manager) n events made.replayed.state) made.processes_are made.replayed.run)
+
+pub run_of : (rules : Rules) (processes : ℕ) (replay : Replay) (events : List Event) → HasMade rules processes replay events
+    → (T : State) × IsRun rules processes events T
+run_of rules processes replay events made = (made.replayed.state, made_run rules processes replay events made)
+
+-- an event with which the run goes on is the next of its process
+IsNextOf-run : StepHasOneOutcome → (rules : Rules) (processes : ℕ) (replay : Replay) (events : List Event) (event : Event) (T : State)
+    → HasMade rules processes replay events → IsRun rules processes (events ++ event ∷ []) T → IsNextOf replay event
+IsNextOf-run one rules processes replay events event T made run =
+    let r = made.replayed in
+    let last = IsRun-last one rules processes events r.state event T (made_run rules processes replay events made) run in
+    let tallied = replayed_tallied replay.manager events (rw made.processes_are made.some) r in
+    let born = tallied.tallies.born event.p (λ unborn. let no = sym last.step.live ∙ unborn in cc) in
+    record {
+      able = record { low = born.low; high = born.high; live = r.stands.states event.p ∙ last.step.live };
+      number = last.number ∙ ap (λ k. k + 1) (sym (made.counts event.p));
+    }
+
+-- where the event isn't the next of its process there is no run with it
+pub Repeats-not_next : StepHasOneOutcome → (old new : Replay) (event : Event) → (IsNextOf old event → ⊥) → Repeats old new event false
+Repeats-not_next one old new event other rules processes events made T run =
+    other (IsNextOf-run one rules processes old events event T made run)
+
+count_elsewhere : (counts : List ℕ) (place n p : ℕ) → suc place ≢ p → count_of (set counts place n) p ≡ count_of counts p
+count_elsewhere counts place n zero other = refl
+count_elsewhere counts place n (suc k) other =
+    let apart : k ≢ place = λ e. other (ap suc (sym e)) in rw get_or-set_other refl
+
+-- the counts with one more request of the process of one more event
+count_of-push : (counts : List ℕ) (place : ℕ) (events : List Event) (event : Event) → suc place ≡ event.p → place < length counts
+    → event.n ≡ count_of counts event.p + 1 → ((p : ℕ) → count_of counts p ≡ length (events_of p events)) → (p : ℕ)
+    → count_of (set counts place event.n) p ≡ length (events_of p (events ++ event ∷ []))
+count_of-push counts place events event at within number h p =
+    ⊎_elim
+    (λ (own : event.p ≡ p).
+    let more : length (events_of p (events ++ event ∷ [])) ≡ length (events_of p events) + 1 =
+    ap length (events_of-push_own p events event own) ∙ length-append (events_of p events) (event ∷ []) in
+    let there : suc place ≡ p = at ∙ own in
+    let here : count_of (set counts place event.n) (suc place) ≡ event.n = rw get_or-set_same refl in
+    let counted : event.n ≡ count_of counts p + 1 = subst (λ q. event.n ≡ count_of counts q + 1) own number in
+    subst (λ q. count_of (set counts place event.n) q ≡ event.n) there here ∙ counted ∙ ap (λ k. k + 1) (h p) ∙ sym more)
+    (λ (other : event.p ≢ p).
+    let same : length (events_of p (events ++ event ∷ [])) ≡ length (events_of p events) =
+    ap length (events_of-push_other p events event other) in
+    count_elsewhere counts place event.n p (λ e. other (sym at ∙ e)) ∙ h p ∙ sym same)
+    (cases_eq event.p p)
+
+-- one more event, which the replay's manager told
+HasMade-push : (rules : Rules) (processes : ℕ) (old new : Replay) (events : List Event) (event : Event) (place : ℕ)
+    → IsNextOf old event → suc place ≡ event.p → new.taken.items ≡ set old.taken.items place event.n
+    → rules_of new.manager ≡ rules_of old.manager → processes_of new.manager ≡ processes_of old.manager
+    → ((S : State) → StandsFor old.manager S
+    → (T : State) × IsStep (rules_of old.manager) (processes_of old.manager) S event T × StandsFor new.manager T)
+    → HasMade rules processes old events → HasMade rules processes new (events ++ event ∷ [])
+HasMade-push rules processes old new events event place next at taken same_rules same_processes steps made =
+    let number : event.n ≡ length (events_of event.p events) + 1 = next.number ∙ ap (λ k. k + 1) (made.counts event.p) in
+    let high : event.p ≤ processes_of old.manager = next.able.high in
+    let many : length old.taken.items ≡ processes_of old.manager = old.one_each in
+    let within : place < length old.taken.items = omega arith in
+    record {
+      some = made.some;
+      rules_are = same_rules ∙ made.rules_are;
+      processes_are = same_processes ∙ made.processes_are;
+      replayed = IsReplayed-push old.manager new.manager events event number same_rules same_processes steps made.replayed;
+      counts = λ p.
+          subst (λ counts. count_of counts p ≡ length (events_of p (events ++ event ∷ []))) (sym taken)
+          (count_of-push old.taken.items place events event at within next.number made.counts p);
+    }
+
+-- the step of the next request was made, and the answer is whether it told the event's notes
+pub Repeats-taken : StepHasOneOutcome → (old new : Replay) (event : Event) (place : ℕ) (notes : List Note) (answer : Bool)
+    → Decides answer (notes ≡ event.notes) → IsNextOf old event → suc place ≡ event.p
+    → new.taken.items ≡ set old.taken.items place event.n → rules_of new.manager ≡ rules_of old.manager
+    → processes_of new.manager ≡ processes_of old.manager
+    → ((S : State) → StandsFor old.manager S → (T : State)
+    × Step (rules_of old.manager) (processes_of old.manager) S event.p event.n event.request notes T × StandsFor new.manager T)
+    → Repeats old new event answer
+Repeats-taken one old new event place notes true told next at taken same_rules same_processes steps rules processes events made =
+    HasMade-push rules processes old new events event place next at taken same_rules same_processes
+    (subst (λ l. (S : State) → StandsFor old.manager S → (T : State)
+    × Step (rules_of old.manager) (processes_of old.manager) S event.p event.n event.request l T × StandsFor new.manager T)
+    (told.0 refl) steps)
+    made
+Repeats-taken one old new event place notes false told next at taken same_rules same_processes steps rules processes events made =
+    λ T run.
+    let r = made.replayed in
+    let last = IsRun-last one rules processes events r.state event T (made_run rules processes old events made) run in
+    let made_step = steps r.state r.stands in
+    let step : Step rules processes r.state event.p event.n event.request notes made_step.0 =
+    subst (λ x. Step x processes r.state event.p event.n event.request notes made_step.0) made.rules_are
+    (subst (λ n. Step (rules_of old.manager) n r.state event.p event.n event.request notes made_step.0) made.processes_are made_step.1) in
+    let same : (notes ≡ event.notes) × (made_step.0 ≡ T) =
+    one rules processes r.state event.p event.n event.request notes event.notes made_step.0 T step last.step in
+    let no : false ≡ true = told.1 same.0 in
+    cc
+
+count_of-zeros : (many p : ℕ) → count_of (replicate many 0) p ≡ 0
+count_of-zeros many zero = refl
+count_of-zeros zero (suc place) = refl
+count_of-zeros (suc many) (suc zero) = refl
+count_of-zeros (suc many) (suc (suc place)) = count_of-zeros many (suc place)
+
+-- at the opening no event was made
+pub HasMade-opening : (rules : Rules) (processes : ℕ) (replay : Replay) (many : ℕ) → 1 ≤ processes → rules_of replay.manager ≡ rules
+    → processes_of replay.manager ≡ processes → StandsFor replay.manager opening_state → replay.taken.items ≡ replicate many 0
+    → HasMade rules processes replay []
+HasMade-opening rules processes replay many some rules_are processes_are opening zeros =
+    record {
+      some = some;
+      rules_are = rules_are;
+      processes_are = processes_are;
+      replayed = record { state = opening_state; run = record { leads = refl; numbered = λ q place. tt }; stands = opening };
+      counts = λ p. ap (λ counts. count_of counts p) zeros ∙ count_of-zeros many p;
+    }
+
+-- the events so far with this one are so many of all
+take_next : (events : List Event) (i : ℕ) (event : Event) → i < length events → event ≡ get_or events i event
+    → take (i + 1) events ≡ take i events ++ event ∷ []
+take_next events i event within at = take_more events i event within ∙ ap (λ e. take i events ++ e ∷ []) (sym at)
+
+-- where the events so far have no run with this one, all of them have none
+pub no_run : (rules : Rules) (processes : ℕ) (events : List Event) (i : ℕ) (event : Event) → i < length events
+    → event ≡ get_or events i event → ((T : State) → IsRun rules processes (take i events ++ event ∷ []) T → ⊥) → (T : State)
+    → IsRun rules processes events T → ⊥
+no_run rules processes events i event within at none T run =
+    let all : events ≡ take (i + 1) events ++ drop (i + 1) events = sym (take-append-drop (i + 1) events) in
+    let front = IsRun-front rules processes (take (i + 1) events) (drop (i + 1) events) T (subst (λ l. IsRun rules processes l T) all run) in
+    none front.0 (subst (λ l. IsRun rules processes l front.0) (take_next events i event within at) front.1)
+
+-- one entry more was made
+pub HasMade-more : (rules : Rules) (processes : ℕ) (replay : Replay) (events : List Event) (i : ℕ) (event : Event) → i < length events
+    → event ≡ get_or events i event → HasMade rules processes replay (take i events ++ event ∷ [])
+    → HasMade rules processes replay (take (i + 1) events)
+HasMade-more rules processes replay events i event within at made =
+    subst (λ l. HasMade rules processes replay l) (sym (take_next events i event within at)) made

@@ -1,0 +1,165 @@
+//! Which entries are a run.
+ghost use Rattle.std.specs.Prelude.{◌≤◌};
+
+use super::{FORK, OPEN, RULES, answer, set, wait};
+use crate::{Entry, check_journal};
+use lock_manager::{Note, Reply, Request};
+use range_core::{Kind, Memory};
+use std::alloc::Global;
+use std::test::Fail;
+
+/// The request of the last entry of the worked run.
+fn unlock() -> Request {
+    set(0, Kind::Unlock, 50, 10)
+}
+
+fn entry(alloc: Global, p: u8, n: u64, request: Request, notes: &[Note]) -> Result<Entry, Memory> {
+    let notes = Vec::from_slice(alloc, notes).map_err(|_| Memory)?;
+    Ok(Entry {
+        p,
+        n,
+        request,
+        notes,
+    })
+}
+
+/// An entry that tells the caller alone that its request succeeded.
+fn done(alloc: Global, p: u8, n: u64, request: Request) -> Result<Entry, Memory> {
+    entry(alloc, p, n, request, &[answer(p, n, Reply::Ok)])
+}
+
+/// A worked run, in which one unlock grants two waits, one of them only after the other one's lock was set.
+fn journal(alloc: Global) -> Result<[Entry; 8], Memory> {
+    let granted = [
+        answer(3, 2, Reply::Ok),
+        answer(2, 2, Reply::Ok),
+        answer(1, 4, Reply::Ok),
+    ];
+    Ok([
+        entry(alloc, 1, 1, OPEN, &[answer(1, 1, Reply::Fd(0))])?,
+        done(alloc, 1, 2, FORK)?,
+        done(alloc, 1, 3, Request::Fork { child: 3 })?,
+        done(alloc, 2, 1, set(0, Kind::Write, 0, 10))?,
+        done(alloc, 3, 1, set(0, Kind::Write, 50, 10))?,
+        entry(
+            alloc,
+            1,
+            4,
+            wait(Kind::Read, 0, 10),
+            &[Note::Waits { p: 1, n: 4 }],
+        )?,
+        entry(
+            alloc,
+            2,
+            2,
+            wait(Kind::Read, 0, 100),
+            &[Note::Waits { p: 2, n: 2 }],
+        )?,
+        entry(alloc, 3, 2, unlock(), &granted)?,
+    ])
+}
+
+/// Whether the entries are a run of so many processes.
+fn is_run(alloc: Global, processes: u8, entries: &[Entry]) -> Result<bool, Memory>
+    requires { (1 ≤ processes) × (processes ≤ 16) }
+{
+    match check_journal(alloc, processes, RULES, entries) {
+        Err(Memory) => check_journal(alloc, processes, RULES, entries),
+        first => first,
+    }
+}
+
+#[test]
+fn each_front_of_a_worked_journal_is_a_run(rt: HostRuntime) -> Result<(), Fail> {
+    let entries = journal(rt.alloc())?;
+    for count in 0..=8 {
+        assert!(rt; is_run(rt.alloc(), 3, &entries[..count])?);
+    }
+    Ok(())
+}
+
+#[test]
+fn other_notes_are_no_run(rt: HostRuntime) -> Result<(), Fail> {
+    let caller = answer(3, 2, Reply::Ok);
+    let second = answer(2, 2, Reply::Ok);
+    let first = answer(1, 4, Reply::Ok);
+    let others: [&[Note]; 8] = [
+        &[],
+        &[caller],
+        &[caller, second],
+        &[caller, first, second],
+        &[second, first, caller],
+        &[caller, second, Note::Waits { p: 1, n: 4 }],
+        &[caller, second, answer(1, 4, Reply::Free)],
+        &[caller, second, first, first],
+    ];
+    for notes in others {
+        let mut entries = journal(rt.alloc())?;
+        entries[7] = entry(rt.alloc(), 3, 2, unlock(), notes)?;
+        assert!(rt; !is_run(rt.alloc(), 3, &entries)?);
+    }
+    Ok(())
+}
+
+/// Two entries that touch nothing of each other may come in either order, and others only in one.
+#[test]
+fn entries_of_a_run_in_another_order(rt: HostRuntime) -> Result<(), Fail> {
+    let mut entries = journal(rt.alloc())?;
+    entries.swap(3, 4);
+    assert!(rt; is_run(rt.alloc(), 3, &entries)?);
+    entries.swap(6, 7);
+    assert!(rt; !is_run(rt.alloc(), 3, &entries)?);
+    entries.swap(6, 7);
+    let whole = &entries[..];
+    assert!(rt; !is_run(rt.alloc(), 3, &whole[1..])?);
+    Ok(())
+}
+
+/// With two processes the second fork is refused.
+#[test]
+fn a_run_of_three_processes_is_none_of_two(rt: HostRuntime) -> Result<(), Fail> {
+    let entries = journal(rt.alloc())?;
+    assert!(rt; !is_run(rt.alloc(), 2, &entries)?);
+    assert!(rt; !is_run(rt.alloc(), 2, &entries[..3])?);
+    assert!(rt; is_run(rt.alloc(), 2, &entries[..2])?);
+    Ok(())
+}
+
+/// Process 3 alone is able at the last place, with number 2: there is no process 0 or 4, and the others wait.
+#[test]
+fn other_processes_and_numbers_are_no_run(rt: HostRuntime) -> Result<(), Fail> {
+    let mut entries = journal(rt.alloc())?;
+    for (p, n) in [
+        (0, 0),
+        (0, 1),
+        (1, 5),
+        (2, 3),
+        (3, 0),
+        (3, 1),
+        (3, 3),
+        (3, u64::MAX),
+        (4, 1),
+        (255, 1),
+    ] {
+        entries[7] = done(rt.alloc(), p, n, FORK)?;
+        assert!(rt; !is_run(rt.alloc(), 3, &entries)?);
+    }
+    entries[7] = entry(rt.alloc(), 3, 2, OPEN, &[answer(3, 2, Reply::Fd(1))])?;
+    assert!(rt; is_run(rt.alloc(), 3, &entries)?);
+    Ok(())
+}
+
+/// Nothing is taken of a process before it lives, or after its end.
+#[test]
+fn entries_of_the_unborn_and_the_ended_are_no_run(rt: HostRuntime) -> Result<(), Fail> {
+    let fork = done(rt.alloc(), 1, 1, FORK)?;
+    let open = entry(rt.alloc(), 2, 1, OPEN, &[answer(2, 1, Reply::Fd(0))])?;
+    let exit = entry(rt.alloc(), 2, 2, Request::Exit, &[])?;
+    let again = entry(rt.alloc(), 2, 3, Request::Exit, &[])?;
+    let mut entries = [fork, open, exit, again];
+    assert!(rt; is_run(rt.alloc(), 2, &entries[..3])?);
+    assert!(rt; !is_run(rt.alloc(), 2, &entries)?);
+    entries.swap(0, 1);
+    assert!(rt; !is_run(rt.alloc(), 2, &entries[..1])?);
+    Ok(())
+}
