@@ -20,7 +20,7 @@ use Rattle.session_core.proofs.Tally.{AreCountedFrom, TallyAt, Each-map}
 use Rattle.session_core.proofs.RunLaws.{numbers_of, AreNext, AreNext-numbered, IsTallied, Leads-tallied, Leads-quiet_after, opening_tallies, answers_from-numbers, IsStrictlyIncreasing-counted, counted_answers, found_answer}
 
 -- nothing taken and nothing answered
-abbrev none : ℕ → ℕ
+abbrev pub none : ℕ → ℕ
 none q = 0
 
 -- the numbers of a replayed journal follow one another
@@ -56,7 +56,7 @@ tally_of processes journal T t p =
     subst (λ a. TallyAt (T.states p) (length (events_of p journal)) a) zero_answered
     (subst (λ k. TallyAt (T.states p) k (0 + length (numbers_of p journal))) zero_taken (t.tallies.tally p))
 
-at_most_taken : (state : ProcState) (taken answered : ℕ) → TallyAt state taken answered → answered ≤ taken
+pub at_most_taken : (state : ProcState) (taken answered : ℕ) → TallyAt state taken answered → answered ≤ taken
 at_most_taken Unborn taken answered h = omega arith
 at_most_taken Live taken answered h = omega arith
 at_most_taken Waiting taken answered h = omega arith

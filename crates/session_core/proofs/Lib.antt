@@ -15,3 +15,9 @@ pub mod DrainLemmas
 pub mod DrainLaws
 pub mod NoteLemmas
 pub mod ReplayLemmas
+pub mod AnyLemmas
+pub mod WaitPlaces
+pub mod WaitMoves
+pub mod TurnLemmas
+pub mod TurnLaws
+pub mod DoorLaws

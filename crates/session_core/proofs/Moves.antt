@@ -104,7 +104,7 @@ idle_apart states taken p waits idle h =
     (λ wait last same. idle (subst IsWaiting (ap states same) last.waiting)) h
 
 -- who lives has no wait
-live_apart : (states : ℕ → ProcState) (taken : ℕ → ℕ) (p : ℕ) (waits : List Wait) → states p ≡ Live
+pub live_apart : (states : ℕ → ProcState) (taken : ℕ → ℕ) (p : ℕ) (waits : List Wait) → states p ≡ Live
     → Each (IsLastTaken states taken) waits → Each (λ wait. wait.p ≢ p) waits
 live_apart states taken p waits live h = idle_apart states taken p waits (λ waiting. subst IsWaiting live waiting) h
 
@@ -241,7 +241,7 @@ Some-same : {X : Type 0} {x y : X} → Some x ≡ Some y → x ≡ y
 Some-same e = cc
 
 -- the wait that is found for a process is one of the list, and of the process
-found_wait : (P : Wait → Type 0) (p : ℕ) (waits : List Wait) (wait : Wait) → wait_of waits p ≡ Some wait → Each P waits
+pub found_wait : (P : Wait → Type 0) (p : ℕ) (waits : List Wait) (wait : Wait) → wait_of waits p ≡ Some wait → Each P waits
     → (wait.p ≡ p) × P wait
 found_wait P p [] wait found h = cc
 found_wait P p (v ∷ waits) wait found h =

@@ -8,3 +8,4 @@ pub mod SessionView
 pub mod Deliveries
 pub mod OneDrain
 pub mod Replaying
+pub mod QueuePolicy

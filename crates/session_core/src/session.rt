@@ -70,6 +70,8 @@ impl Session {
     /// from 1; `None` where no able process has mail. `Memory` leaves everything as it was.
     pub fn take_next(&mut self) -> Result<Option<u64>, Memory>
         ensures taken { IfOk result (TakesNext self.old self.new) }
+        ensures drained { IfOk result (λ place. IfNone place
+            (IsDrained (state_at (manager_of self.new)) (sent_of self.new) (events_in self.new))) }
         ensures memory { OnErr result (SameSession self.old self.new) }
         ensures holds { SessionHolds self.new }
     {

@@ -20,6 +20,11 @@ const RULES: Rules = Rules {
     limits: Limits::Small,
 };
 
+const QUEUE: Rules = Rules {
+    policy: Policy::Queue,
+    limits: Limits::Small,
+};
+
 const OPEN: Request = Request::OpenFile {
     file: 0,
     access: Access::Rw,
@@ -103,10 +108,35 @@ fn two_processes(alloc: Global) -> Result<Session, Memory> {
 }
 
 fn three_processes(alloc: Global) -> Result<Session, Memory> {
-    match Session::new(alloc, 3, RULES) {
+    three_under(alloc, RULES)
+}
+
+fn three_under(alloc: Global, rules: Rules) -> Result<Session, Memory> {
+    match Session::new(alloc, 3, rules) {
         Ok(session) => Ok(session),
-        Err(Memory) => Session::new(alloc, 3, RULES),
+        Err(Memory) => Session::new(alloc, 3, rules),
     }
+}
+
+/// Processes 1 to 3 have file 0 open. Process 1 has a read lock on its first 10 bytes, process 2 waits to write there, and
+/// then process 3 asks to read there, and would wait.
+fn reader_behind_a_writer(
+    rt: &impl Abort,
+    alloc: Global,
+    rules: Rules,
+) -> Result<Session, ArriveFault> {
+    let arrivals = [
+        (1, OPEN),
+        (1, FORK),
+        (1, Request::Fork { child: 3 }),
+        (1, set(0, Kind::Read, 0, 10)),
+        (2, wait(Kind::Write, 0, 10)),
+        (3, wait(Kind::Read, 0, 10)),
+    ];
+    let mut session = three_under(alloc, rules).map_err(|_| ArriveFault::Memory)?;
+    deliver(rt, &mut session, &arrivals)?;
+    assert_told(rt, &session, 5, &[Note::Waits { p: 2, n: 1 }]);
+    Ok(session)
 }
 
 fn all_held(session: &Session) -> Result<Vec<Held>, Memory> {
@@ -630,5 +660,98 @@ fn a_conversion_grants_several_waits(rt: HostRuntime) -> Result<(), Fail> {
         flock_held(3, Mode::Read),
     ];
     assert_eq!(rt; locks.as_slice(), expected.as_slice());
+    Ok(())
+}
+
+/// Under the held policy a reader passes a writer that waits, for held locks alone block.
+#[test]
+fn a_reader_passes_a_waiting_writer(rt: HostRuntime) -> Result<(), Fail> {
+    let mut session = reader_behind_a_writer(&rt, rt.alloc(), RULES)?;
+    assert_told(&rt, &session, 6, &[answer(3, 1, Reply::Ok)]);
+    deliver(&rt, &mut session, &[(1, set(0, Kind::Unlock, 0, 10))])?;
+    assert_told(&rt, &session, 7, &[answer(1, 5, Reply::Ok)]);
+    assert_eq!(rt; session.answer_of(2, 1), None);
+    let locks = all_held(&session)?;
+    assert_eq!(rt; locks.as_slice(), [held_by(3, Mode::Read, 0, 9)].as_slice());
+    Ok(())
+}
+
+/// Under the queue policy it waits behind the writer, and is granted after it.
+#[test]
+fn a_reader_queues_behind_a_waiting_writer(rt: HostRuntime) -> Result<(), Fail> {
+    let mut session = reader_behind_a_writer(&rt, rt.alloc(), QUEUE)?;
+    assert_told(&rt, &session, 6, &[Note::Waits { p: 3, n: 1 }]);
+    deliver(&rt, &mut session, &[(1, set(0, Kind::Unlock, 0, 10))])?;
+    let notes = [answer(1, 5, Reply::Ok), answer(2, 1, Reply::Ok)];
+    assert_told(&rt, &session, 7, &notes);
+    assert_eq!(rt; session.answer_of(3, 1), None);
+    let locks = all_held(&session)?;
+    assert_eq!(rt;
+        locks.as_slice(),
+        [held_by(2, Mode::Write, 0, 9)].as_slice()
+    );
+    deliver(&rt, &mut session, &[(2, set(0, Kind::Unlock, 0, 10))])?;
+    let notes = [answer(2, 2, Reply::Ok), answer(3, 1, Reply::Ok)];
+    assert_told(&rt, &session, 8, &notes);
+    Ok(())
+}
+
+/// The reader is granted as soon as the writer's wait is interrupted, in the same event and behind that.
+#[test]
+fn an_interrupted_wait_lets_the_next_by(rt: HostRuntime) -> Result<(), Fail> {
+    let mut session = reader_behind_a_writer(&rt, rt.alloc(), QUEUE)?;
+    deliver(&rt, &mut session, &[(1, Request::Signal { target: 2 })])?;
+    let notes = [
+        answer(1, 5, Reply::Ok),
+        answer(2, 1, Reply::Err(Errno::EINTR)),
+        answer(3, 1, Reply::Ok),
+    ];
+    assert_told(&rt, &session, 7, &notes);
+    let locks = all_held(&session)?;
+    let expected = [held(Mode::Read, 0, 9), held_by(3, Mode::Read, 0, 9)];
+    assert_eq!(rt; locks.as_slice(), expected.as_slice());
+    Ok(())
+}
+
+/// And as soon as the writer is killed, of which nobody is told but the killer.
+#[test]
+fn a_kill_lets_the_next_by(rt: HostRuntime) -> Result<(), Fail> {
+    let mut session = reader_behind_a_writer(&rt, rt.alloc(), QUEUE)?;
+    deliver(&rt, &mut session, &[(1, Request::Kill { target: 2 })])?;
+    let notes = [answer(1, 5, Reply::Ok), answer(3, 1, Reply::Ok)];
+    assert_told(&rt, &session, 7, &notes);
+    assert_eq!(rt; session.answer_of(2, 1), None);
+    Ok(())
+}
+
+/// A request that would wait for who waits for its process is a deadlock; one that wouldn't wait passes the queue.
+#[test]
+fn a_set_passes_the_queue(rt: HostRuntime) -> Result<(), Fail> {
+    let arrivals = [
+        (1, OPEN),
+        (1, FORK),
+        (1, set(0, Kind::Read, 0, 1)),
+        (2, wait(Kind::Write, 0, 1)),
+        (1, wait(Kind::Write, 0, 1)),
+        (1, set(0, Kind::Write, 0, 1)),
+        (1, set(0, Kind::Unlock, 0, 1)),
+    ];
+    let mut session = three_under(rt.alloc(), QUEUE)?;
+    deliver(&rt, &mut session, &arrivals)?;
+    assert_told(&rt, &session, 4, &[Note::Waits { p: 2, n: 1 }]);
+    assert_told(
+        &rt,
+        &session,
+        5,
+        &[answer(1, 4, Reply::Err(Errno::EDEADLK))],
+    );
+    assert_told(&rt, &session, 6, &[answer(1, 5, Reply::Ok)]);
+    let notes = [answer(1, 6, Reply::Ok), answer(2, 1, Reply::Ok)];
+    assert_told(&rt, &session, 7, &notes);
+    let locks = all_held(&session)?;
+    assert_eq!(rt;
+        locks.as_slice(),
+        [held_by(2, Mode::Write, 0, 0)].as_slice()
+    );
     Ok(())
 }

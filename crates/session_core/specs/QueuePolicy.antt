@@ -1,0 +1,146 @@
+-- What the queue policy promises of every run (the words are this project's choice).
+use Rattle.std.specs.Prelude.{◌≡◌, ℕ, ◌≤◌, ◌⊎◌, Some, Ok, IsTrue, IsFalse, List, [], ◌∷◌, ◌++◌, All, Any, Contains, flat_map}
+use Rattle.range_core.specs.declared.Mode.{Mode}
+use Rattle.range_core.specs.declared.Span.{Span}
+use Rattle.range_core.specs.Resolving.{resolution}
+use Rattle.lock_book.specs.declared.Owner.TheVariants.{Description}
+use Rattle.fd_table.specs.declared.tables.Look.{Look}
+use Rattle.fd_table.specs.Descriptors.{look_at}
+use Rattle.wait_core.specs.declared.Family.TheVariants.{Whole}
+use Rattle.wait_core.specs.declared.Policy.TheVariants.{Queue}
+use Rattle.wait_core.specs.declared.Wait.{Wait}
+use Rattle.wait_core.specs.Blocking.{WaitsConflict}
+use Rattle.lock_manager.specs.declared.request.Rules.{Rules}
+use Rattle.lock_manager.specs.declared.request.Lock.{Lock}
+use Rattle.lock_manager.specs.declared.request.LkCmd.{LkCmd}
+use Rattle.lock_manager.specs.declared.request.FlockOp.{FlockOp}
+use Rattle.lock_manager.specs.declared.request.Request.{Request}
+use Rattle.lock_manager.specs.declared.request.Request.TheVariants.{OpenFile, Dup, DupTo, CloseFd, Seek, Resize, Lk, Flock, Fork, Exit, Signal, Kill}
+use Rattle.lock_manager.specs.declared.request.Note.{Note}
+use Rattle.lock_manager.specs.declared.request.Note.TheVariants.{Answer, Waits}
+use Rattle.lock_manager.specs.declared.request.Reply.{Reply}
+use Rattle.lock_manager.specs.declared.request.Reply.TheVariants as replies
+use Rattle.lock_manager.specs.State.{State, opening_state, locks_held}
+use Rattle.lock_manager.specs.LockWords.{may_wait, wanted_mode, wanted_lock}
+use Rattle.lock_manager.specs.FlockCalls.{flock_wanted_mode, wanted_flock}
+use Rattle.session_core.specs.Event.{Event}
+use Rattle.session_core.specs.Runs.{Leads, IsRun}
+use Rattle.session_core.specs.Headline.{EndsProcess}
+
+-- the lock command asks for a lock: on the file of its descriptor, for the range that it describes there
+-- (POSIX.1-2017 fcntl, DESCRIPTION, F_SETLKW; fcntl_locking(2), F_OFD_SETLKW)
+pub record AsksForBytes (S : State) (p n fd : ℕ) (cmd : LkCmd) (lock : Lock) (wait : Wait) : Type 0 where
+  pub look : Look
+  pub of_open : look_at S.descriptors p fd ≡ Some look
+  pub span : Span
+  pub of_range : resolution lock.whence lock.start lock.len look.offset look.size ≡ Ok span
+  pub mode : Mode
+  pub of_kind : wanted_mode lock.kind ≡ Some mode
+  pub is : wait ≡ wanted_lock cmd p n look span mode
+
+-- flock asks for a lock: of the open file description of its descriptor, on the whole file (flock(2))
+pub record AsksForWhole (S : State) (p n fd : ℕ) (op : FlockOp) (wait : Wait) : Type 0 where
+  pub look : Look
+  pub of_open : look_at S.descriptors p fd ≡ Some look
+  pub mode : Mode
+  pub of_op : flock_wanted_mode op ≡ Some mode
+  pub is : wait ≡ wanted_flock p n look mode
+
+-- in the state S the request number n of process p asks for this lock, and would wait for it were it blocked: it is a setlkw, an
+-- osetlkw, or a flock without LOCK_NB
+abbrev pub WouldWaitAs : State → ℕ → ℕ → Request → Wait → Type 0
+WouldWaitAs S p n (Lk fd cmd lock) wait = IsTrue (may_wait cmd) × AsksForBytes S p n fd cmd lock wait
+WouldWaitAs S p n (Flock fd op nb) wait = IsFalse nb × AsksForWhole S p n fd op wait
+WouldWaitAs S p n (OpenFile file access) wait = ⊥
+WouldWaitAs S p n (Dup fd) wait = ⊥
+WouldWaitAs S p n (DupTo fd to) wait = ⊥
+WouldWaitAs S p n (CloseFd fd) wait = ⊥
+WouldWaitAs S p n (Seek fd offset) wait = ⊥
+WouldWaitAs S p n (Resize fd size) wait = ⊥
+WouldWaitAs S p n (Fork child) wait = ⊥
+WouldWaitAs S p n Exit wait = ⊥
+WouldWaitAs S p n (Signal target) wait = ⊥
+WouldWaitAs S p n (Kill target) wait = ⊥
+
+-- the event, which comes after these, tells that its request waits, and what it waits for is this
+pub record WaitsAs (rules : Rules) (processes : ℕ) (before : List Event) (event : Event) (wait : Wait) : Type 0 where
+  pub state : State
+  pub leads : Leads rules processes opening_state before state
+  pub asks : WouldWaitAs state event.p event.n event.request wait
+  pub told : Contains event.notes (Waits event.p event.n)
+
+-- under the queue policy each note that a request waits is of its event's own request, and there is what this waits for
+abbrev pub NotesAreOfWaits : Type 0
+NotesAreOfWaits =
+    (rules : Rules) (processes : ℕ) (before : List Event) (event : Event) (after : List Event) (T : State) (p n : ℕ)
+    → rules.policy ≡ Queue → IsRun rules processes (before ++ event ∷ after) T → Contains event.notes (Waits p n)
+    → (event.p ≡ p) × (event.n ≡ n) × (wait : Wait) × WaitsAs rules processes before event wait
+
+-- all that these events tell, in order
+abbrev pub notes_told : List Event → List Note
+notes_told events = flat_map (λ event. event.notes) events
+
+-- the wait is over: one of these notes answers its request (Ok, or EINTR), or one of these events ends its process
+abbrev pub IsOver : List Event → List Note → Wait → Type 0
+IsOver events notes wait =
+    ((reply : Reply) × Contains notes (Answer wait.p wait.n reply)) ⊎ Any (λ event. EndsProcess event wait.p) events
+
+-- one of these events tells an Ok to the request of the wait: the events before it, and its notes before that one
+pub record IsGrantedIn (events : List Event) (wait : Wait) : Type 0 where
+  pub before : List Event
+  pub event : Event
+  pub after : List Event
+  pub place : events ≡ before ++ event ∷ after
+  pub told : List Note
+  pub others : List Note
+  pub notes : event.notes ≡ told ++ Answer wait.p wait.n replies.Ok ∷ others
+
+-- under the queue policy, where the note that v waits stands before the note that w waits, and the two conflict, each Ok to w's
+-- request stands behind an answer to v's request, or behind the end of v's process. An event that ends a process stands before its own
+-- grants: they are made after the process has lost its locks and its wait
+abbrev pub GrantsAreInTurn : Type 0
+GrantsAreInTurn =
+    (rules : Rules) (processes : ℕ) (before : List Event) (first : Event) (between : List Event) (second : Event) (after : List Event)
+    (T : State) (v w : Wait)
+    → rules.policy ≡ Queue → 1 ≤ processes → IsRun rules processes (before ++ first ∷ between ++ second ∷ after) T
+    → WaitsAs rules processes before first v → WaitsAs rules processes (before ++ first ∷ between) second w → WaitsConflict v w
+    → (grant : IsGrantedIn (before ++ first ∷ between ++ second ∷ after) w)
+    → IsOver (grant.before ++ grant.event ∷ []) (notes_told grant.before ++ grant.told) v
+
+-- the wait is for a flock lock, and its description has one of this mode on the file (flock(2))
+abbrev pub HasFlock : State → Wait → Mode → Type 0
+HasFlock S wait mode =
+    (wait.family ≡ Whole) × (d : ℕ) × (wait.owner ≡ Description d) × ((locks_held S).flocks wait.file d ≡ Some mode)
+
+-- the first note of the event answers its request Ok, and its lock is set by that: flock sets nothing where the description has
+-- the mode already (flock(2))
+pub record SetsAtOnce (S : State) (event : Event) (wanted : Wait) : Type 0 where
+  pub others : List Note
+  pub told : event.notes ≡ Answer event.p event.n replies.Ok ∷ others
+  pub sets : ¬ HasFlock S wanted wanted.mode
+
+-- the wait left the list in the first half of a conversion, as the event tells: the old flock lock was removed, and the wait granted,
+-- before the request was tested (flock(2), "converting a lock")
+abbrev pub IsLetBy : State → Event → Wait → Wait → Type 0
+IsLetBy S event wanted v = ((held : Mode) × HasFlock S wanted held) × Contains event.notes (Answer v.p v.n replies.Ok)
+
+-- no wait of these conflicts with the lock, but for those that were let by
+abbrev pub PassesNoneOf : List Wait → State → Event → Wait → Type 0
+PassesNoneOf waits S event wanted = All (λ v. WaitsConflict v wanted → IsLetBy S event wanted v) waits
+
+-- none that an event before this one told to wait conflicts with the lock, but for those that are over before it or were let by
+abbrev pub PassesNoneTold : Rules → ℕ → List Event → State → Event → Wait → Type 0
+PassesNoneTold rules processes before S event wanted =
+    (early : List Event) (first : Event) (between : List Event) (v : Wait) → before ≡ early ++ first ∷ between
+    → WaitsAs rules processes early first v → WaitsConflict v wanted
+    → IsOver before (notes_told before) v ⊎ IsLetBy S event wanted v
+
+-- under the queue policy a request that would wait were it blocked sets its lock at once only where no wait in the list then
+-- conflicts with it, which is to say none that was told to wait and isn't over; those that left the list in the first half of its
+-- conversion stand in it no more
+abbrev pub RequestsJoinTheQueue : Type 0
+RequestsJoinTheQueue =
+    (rules : Rules) (processes : ℕ) (before : List Event) (event : Event) (after : List Event) (S T : State) (wanted : Wait)
+    → rules.policy ≡ Queue → 1 ≤ processes → IsRun rules processes (before ++ event ∷ after) T
+    → Leads rules processes opening_state before S → WouldWaitAs S event.p event.n event.request wanted → SetsAtOnce S event wanted
+    → PassesNoneOf S.waits S event wanted × PassesNoneTold rules processes before S event wanted
