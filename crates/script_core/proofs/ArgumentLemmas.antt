@@ -3,7 +3,6 @@ use Rattle.std.proofs.Common.{◌≡◌, ℕ, zero, suc, ◌<◌, ◌≤◌, ◌
 use Rattle.std.specs.Fmt.{digits, signed_decimal}
 use Rattle.std.specs.Str.{bytes_eq}
 use Rattle.std.proofs.lemmas.Slice.Eq.{bytes_eq-Decides}
-use Rattle.fd_table.specs.declared.Limits.TheVariants.{Small}
 use Rattle.lock_manager.specs.declared.request.Lock.{Lock}
 use Rattle.lock_manager.specs.declared.request.LkCmd.{LkCmd}
 use Rattle.lock_manager.specs.declared.request.Request.TheVariants.{Lk}
@@ -40,31 +39,31 @@ six_texts [] d at_least below = absurd (omega (arith, at_least))
 six_texts (a ∷ xs) d at_least below = ap (λ ws. a.now ∷ ws) (five_texts xs d (omega (arith, at_least)) (omega (arith, below)))
 
 -- what is first bad stays so with more words behind it
-pub IsFirstBad-append : (limits : Limits) (arguments more : List Argument) (words others : List (List ℕ)) (cause : Cause)
-    → IsFirstBad limits arguments words cause → IsFirstBad limits (arguments ++ more) (words ++ others) cause
-IsFirstBad-append limits [] more words others cause bad = absurd bad
-IsFirstBad-append limits (argument ∷ arguments) more [] others cause bad = absurd bad
-IsFirstBad-append limits (argument ∷ arguments) more (word ∷ words) others cause (inl good) =
-    inl (good.0, IsFirstBad-append limits arguments more words others cause good.1)
-IsFirstBad-append limits (argument ∷ arguments) more (word ∷ words) others cause (inr bad) = inr bad
+pub IsFirstBad-append : (arguments more : List Argument) (words others : List (List ℕ)) (cause : Cause)
+    → IsFirstBad arguments words cause → IsFirstBad (arguments ++ more) (words ++ others) cause
+IsFirstBad-append [] more words others cause bad = absurd bad
+IsFirstBad-append (argument ∷ arguments) more [] others cause bad = absurd bad
+IsFirstBad-append (argument ∷ arguments) more (word ∷ words) others cause (inl good) =
+    inl (good.0, IsFirstBad-append arguments more words others cause good.1)
+IsFirstBad-append (argument ∷ arguments) more (word ∷ words) others cause (inr bad) = inr bad
 
-pub bad_bare_lock : (name fd kind whence start len : List ℕ) (cause : Cause)
-    → IsFirstBad Small lock_arguments (fd ∷ kind ∷ whence ∷ start ∷ len ∷ []) cause
-    → CommandGives Small (name ∷ fd ∷ kind ∷ whence ∷ start ∷ len ∷ []) (lock_command name) (fd ∷ kind ∷ whence ∷ start ∷ len ∷ []) (Err cause)
-bad_bare_lock name fd kind whence start len cause bad =
-    inl (cause, IsFirstBad-append Small lock_arguments (AnyNumber ∷ []) (fd ∷ kind ∷ whence ∷ start ∷ len ∷ []) [] cause bad, refl)
+pub bad_bare_lock : (limits : Limits) (name fd kind whence start len : List ℕ) (cause : Cause)
+    → IsFirstBad lock_arguments (fd ∷ kind ∷ whence ∷ start ∷ len ∷ []) cause
+    → CommandGives limits (name ∷ fd ∷ kind ∷ whence ∷ start ∷ len ∷ []) (lock_command name) (fd ∷ kind ∷ whence ∷ start ∷ len ∷ []) (Err cause)
+bad_bare_lock limits name fd kind whence start len cause bad =
+    inl (cause, IsFirstBad-append lock_arguments (AnyNumber ∷ []) (fd ∷ kind ∷ whence ∷ start ∷ len ∷ []) [] cause bad, refl)
 
-pub bad_lock : (name fd kind whence start len pid : List ℕ) (cause : Cause)
-    → IsFirstBad Small lock_arguments (fd ∷ kind ∷ whence ∷ start ∷ len ∷ []) cause
-    → CommandGives Small (name ∷ fd ∷ kind ∷ whence ∷ start ∷ len ∷ pid ∷ []) (lock_command name) (fd ∷ kind ∷ whence ∷ start ∷ len ∷ pid ∷ []) (Err cause)
-bad_lock name fd kind whence start len pid cause bad =
-    inl (cause, IsFirstBad-append Small lock_arguments (AnyNumber ∷ []) (fd ∷ kind ∷ whence ∷ start ∷ len ∷ []) (pid ∷ []) cause bad, refl)
+pub bad_lock : (limits : Limits) (name fd kind whence start len pid : List ℕ) (cause : Cause)
+    → IsFirstBad lock_arguments (fd ∷ kind ∷ whence ∷ start ∷ len ∷ []) cause
+    → CommandGives limits (name ∷ fd ∷ kind ∷ whence ∷ start ∷ len ∷ pid ∷ []) (lock_command name) (fd ∷ kind ∷ whence ∷ start ∷ len ∷ pid ∷ []) (Err cause)
+bad_lock limits name fd kind whence start len pid cause bad =
+    inl (cause, IsFirstBad-append lock_arguments (AnyNumber ∷ []) (fd ∷ kind ∷ whence ∷ start ∷ len ∷ []) (pid ∷ []) cause bad, refl)
 
-pub bad_pid : (name : List ℕ) (words : List (List ℕ)) (pid : List ℕ) (fd : ℕ) (lock : Lock) (cause : Cause) → words ≡ lock_words fd lock
-    → fd < 2 ^ 32 → FitsSigned w64 lock.start → FitsSigned w64 lock.len → IsBad Small AnyNumber pid cause
-    → CommandGives Small (name ∷ (words ++ pid ∷ [])) (lock_command name) (words ++ pid ∷ []) (Err cause)
-bad_pid name words pid fd lock cause spelled small start len bad =
-    subst (λ ws. CommandGives Small (name ∷ (ws ++ pid ∷ [])) (lock_command name) (ws ++ pid ∷ []) (Err cause)) (sym spelled)
+pub bad_pid : (limits : Limits) (name : List ℕ) (words : List (List ℕ)) (pid : List ℕ) (fd : ℕ) (lock : Lock) (cause : Cause) → words ≡ lock_words fd lock
+    → fd < 2 ^ 32 → FitsSigned w64 lock.start → FitsSigned w64 lock.len → IsBad AnyNumber pid cause
+    → CommandGives limits (name ∷ (words ++ pid ∷ [])) (lock_command name) (words ++ pid ∷ []) (Err cause)
+bad_pid limits name words pid fd lock cause spelled small start len bad =
+    subst (λ ws. CommandGives limits (name ∷ (ws ++ pid ∷ [])) (lock_command name) (ws ++ pid ∷ []) (Err cause)) (sym spelled)
     (inl (cause, inl ((fd, small, refl), inl ((lock.kind, refl), inl ((lock.whence, refl), inl ((lock.start, start, refl), inl ((lock.len, len, refl), inr bad))))), refl))
 
 zero_pid : decimal 0 ≡ codes "0"
@@ -85,10 +84,10 @@ says_lock : (cmd : LkCmd) (fd : ℕ) (lock : Lock) → (lock.pid ≡ pos 0) ⊎ 
 says_lock cmd fd lock (inl none) = inr (none, ap (λ ws. lock_command_word cmd ∷ (lock_words fd lock ++ ws)) (written_zero lock.pid none))
 says_lock cmd fd lock (inr written) = inl (ap (λ ws. lock_command_word cmd ∷ (lock_words fd lock ++ ws)) written)
 
-pub good_lock : (cmd : LkCmd) (words : List (List ℕ)) (pid : List ℕ) (fd : ℕ) (lock : Lock) (z : ℤ) → words ≡ lock_words fd lock → pid ≡ signed_decimal z
+pub good_lock : (limits : Limits) (cmd : LkCmd) (words : List (List ℕ)) (pid : List ℕ) (fd : ℕ) (lock : Lock) (z : ℤ) → words ≡ lock_words fd lock → pid ≡ signed_decimal z
     → fd < 2 ^ 32 → FitsSigned w64 lock.start → FitsSigned w64 lock.len → FitsSigned w64 z
-    → CommandGives Small (lock_command_word cmd ∷ (words ++ pid ∷ [])) (lock_command (lock_command_word cmd)) (words ++ pid ∷ []) (Ok (Lk fd cmd (record lock { pid = z })))
-good_lock cmd words pid fd lock z spelled written small start len fits =
-    subst (λ ws. CommandGives Small (lock_command_word cmd ∷ (ws ++ pid ∷ [])) (lock_command (lock_command_word cmd)) (ws ++ pid ∷ []) (Ok (Lk fd cmd (record lock { pid = z })))) (sym spelled)
-    (subst (λ word. CommandGives Small (lock_command_word cmd ∷ (lock_words fd lock ++ word ∷ [])) (lock_command (lock_command_word cmd)) (lock_words fd lock ++ word ∷ []) (Ok (Lk fd cmd (record lock { pid = z })))) (sym written)
+    → CommandGives limits (lock_command_word cmd ∷ (words ++ pid ∷ [])) (lock_command (lock_command_word cmd)) (words ++ pid ∷ []) (Ok (Lk fd cmd (record lock { pid = z })))
+good_lock limits cmd words pid fd lock z spelled written small start len fits =
+    subst (λ ws. CommandGives limits (lock_command_word cmd ∷ (ws ++ pid ∷ [])) (lock_command (lock_command_word cmd)) (ws ++ pid ∷ []) (Ok (Lk fd cmd (record lock { pid = z })))) (sym spelled)
+    (subst (λ word. CommandGives limits (lock_command_word cmd ∷ (lock_words fd lock ++ word ∷ [])) (lock_command (lock_command_word cmd)) (lock_words fd lock ++ word ∷ []) (Ok (Lk fd cmd (record lock { pid = z })))) (sym written)
     (inr (Lk fd cmd (record lock { pid = z }), record { says = says_lock cmd fd (record lock { pid = z }) (written_pid z); writable = (small, start, len, fits) }, refl)))

@@ -5,6 +5,7 @@ pub mod RoundTripLemmas
 pub mod TextLemmas
 pub mod ScriptLemmas
 pub mod ArgumentLemmas
+pub mod HeaderLemmas
 pub mod ProcessLemmas
 pub mod ReportLemmas
 pub mod OutputLaws

@@ -1,5 +1,5 @@
 -- A script has one output.
-use Rattle.std.proofs.Common.{◌≡◌, ℕ, List, ◌++◌, length, flat_map, Result, Ok, sym, ap, ◌∙◌, subst}
+use Rattle.std.proofs.Common.{◌≡◌, ℕ, List, ◌++◌, length, flat_map, Result, Ok, sym, ◌∙◌, subst}
 use Rattle.lock_book.specs.OneReport.{LocksHaveOneReport}
 use Rattle.lock_manager.specs.State.{State}
 use Rattle.session_core.specs.Event.{Event}
@@ -11,7 +11,7 @@ use Rattle.script_core.specs.ScriptText.{Meaning}
 use Rattle.script_core.specs.Reading.{Reads}
 use Rattle.script_core.specs.EntryText.{entry_line}
 use Rattle.script_core.specs.ReportText.{IsReport}
-use Rattle.script_core.specs.Output.{ScriptsHaveOneOutput, script_rules, script_processes}
+use Rattle.script_core.specs.Output.{ScriptsHaveOneOutput, processes_in}
 use Rattle.script_core.proofs.ReadingLemmas.{one_reading}
 use Rattle.script_core.proofs.ReportLemmas.{IsReport-unique}
 
@@ -31,11 +31,12 @@ one_report one processes S T events journal sent text other same_state same_even
 
 pub IsOutput-unique : LocksHaveOneReport → ArrivalsHaveOneDrain → ScriptsHaveOneOutput
 IsOutput-unique report drain bytes text other h k =
-    let arrivals : k.script.arrivals ≡ h.script.arrivals = ap (λ (meaning : Meaning). meaning.arrivals) (one_meaning bytes k.script h.script k.accepted h.accepted) in
+    let meaning : k.script ≡ h.script = one_meaning bytes k.script h.script k.accepted h.accepted in
+    let processes : ℕ = processes_in h.script in
     let same : (h.journal ≡ k.journal) × (h.state ≡ k.state) =
-    drain script_rules script_processes h.script.arrivals h.journal k.journal h.state k.state h.drained
-    (subst (λ l. IsDrain script_rules script_processes l k.journal k.state) arrivals k.drained) in
+    drain h.script.rules processes h.script.arrivals h.journal k.journal h.state k.state h.drained
+    (subst (λ (script : Meaning). IsDrain script.rules (processes_in script) script.arrivals k.journal k.state) meaning k.drained) in
     let reports : h.report ≡ k.report =
-    one_report report script_processes h.state k.state h.journal k.journal (λ p. length (requests_sent p h.script.arrivals)) h.report k.report same.1 same.0 h.is_report
-    (subst (λ l. IsReport script_processes k.state k.journal (λ p. length (requests_sent p l)) k.report) arrivals k.is_report) in
+    one_report report processes h.state k.state h.journal k.journal (λ p. length (requests_sent p h.script.arrivals)) h.report k.report same.1 same.0 h.is_report
+    (subst (λ (script : Meaning). IsReport (processes_in script) k.state k.journal (λ p. length (requests_sent p script.arrivals)) k.report) meaning k.is_report) in
     h.is ∙ (λ i. flat_map entry_line (same.0 i) ++ reports i) ∙ sym k.is

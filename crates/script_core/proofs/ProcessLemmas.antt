@@ -1,82 +1,117 @@
 -- The arrivals of a script are of its processes.
-use Rattle.std.proofs.Common.{ℕ, ◌≡◌, sym, subst, Bool, true, false, List, [], ◌∷◌, ◌⊎◌, inl, inr, Result, Ok, Err, All}
+use Rattle.std.proofs.Common.{ℕ, ◌≡◌, refl, sym, subst, Bool, true, false, List, [], ◌∷◌, inl, inr, Result, Ok, Err, All}
 use Rattle.std.proofs.lemmas.List.Elements.{All-push, All-nil}
+use Rattle.fd_table.specs.declared.Limits.{Limits}
 use Rattle.fd_table.specs.declared.Limits.TheVariants.{Small}
 use Rattle.lock_manager.specs.declared.request.Request.{Request}
+use Rattle.script_core.specs.declared.line.Line.{Line}
+use Rattle.script_core.specs.declared.line.Line.TheVariants as lines
 use Rattle.script_core.specs.declared.script.Cause.{Cause}
+use Rattle.script_core.specs.declared.script.Cause.TheVariants.{Byte, Process, TooLong}
 use Rattle.script_core.specs.declared.script.ScriptFault.{ScriptFault}
 use Rattle.script_core.specs.ScriptText.{Meaning, IsProcess}
-use Rattle.script_core.specs.Reading.{Reading, reading_after, is_comment, ArrivalGives, WordsGive, LineGives, LinesGive, Reads}
+use Rattle.script_core.specs.Reading.{Reading, start, limits_of, meaning_of, reading_after, is_comment, is_empty, says_policy, says_limits, ArrivalGives, PolicyGives, LimitsGive, ProcessGives, WordsGive, LineGives, LinesGive, Reads}
 use Rattle.script_core.specs.Words.{words_of, is_printable, lines_of}
 use Rattle.script_core.specs.declared.TheConstants.{LINE_MAX, SCRIPT_MAX}
-use Rattle.std.specs.Prelude.{nat_lt, length, Some, MatchBool, MatchResult, ◌+◌}
+use Rattle.std.specs.Prelude.{nat_lt, length, MatchBool, ◌+◌, ◌&&◌, codes, bytes_eq, is_none}
 
--- each arrival is of a process
-abbrev AreOfProcesses : List (ℕ × Request) → Type 0
-AreOfProcesses arrivals = All (λ arrival. IsProcess Small arrival.0) arrivals
+-- each arrival is of a process that the limits have
+abbrev AreOfProcesses : Reading → Type 0
+AreOfProcesses reading = All (λ arrival. IsProcess (limits_of reading) arrival.0) reading.arrivals
 
--- a choice by a test is one of its two
-either : (b : Bool) (P Q : Type 0) → MatchBool b P Q → P ⊎ Q
-either true P Q h = inl h
-either false P Q h = inr h
+-- what a line says keeps it so: limits are said before all arrivals
+Keeps : Reading → Result Line Cause → Type 0
+Keeps reading (Ok lines.Skipped) = Unit {0}
+Keeps reading (Ok (lines.Policy policy)) = Unit {0}
+Keeps reading (Ok (lines.Limits limits)) = reading.arrivals ≡ []
+Keeps reading (Ok (lines.Arrival p request)) = IsProcess (limits_of reading) p
+Keeps reading (Err cause) = Unit {0}
 
--- a success with this reading
-abbrev read : Reading → Result Reading Cause
-read reading = Ok reading
+keeps_by : (reading : Reading) (expected result : Result Line Cause) → Keeps reading expected → result ≡ expected → Keeps reading result
+keeps_by reading expected result is e = subst (Keeps reading) (sym e) is
 
--- two successes that are the same have the same reading
-success : (after other : Reading) → read after ≡ read other → after ≡ other
-success after other e = cc
+-- a choice by a test, each side leading to the same
+join_by : (test : Bool) (P Q R : Type 0) → (test ≡ true → P → R) → (Q → R) → MatchBool test P Q → R
+join_by true P Q R f g h = f refl h
+join_by false P Q R f g h = g h
+
+keeps_arrival : (reading : Reading) (p : ℕ) (next : Result Request Cause) (result : Result Line Cause) → IsProcess (limits_of reading) p → ArrivalGives p next result → Keeps reading result
+unfolding Keeps
+keeps_arrival reading p (Ok request) result process is = keeps_by reading (Ok (lines.Arrival p request)) result process is
+keeps_arrival reading p (Err cause) result process is = keeps_by reading (Err cause) result tt is
+
+keeps_process : (reading : Reading) (first : List ℕ) (rest : List (List ℕ)) (result : Result Line Cause) → ProcessGives (limits_of reading) first rest result → Keeps reading result
+unfolding Keeps
+keeps_process reading first rest result (inl arrival) = keeps_arrival reading arrival.0 arrival.3 result arrival.1 arrival.5
+keeps_process reading first rest result (inr fault) = keeps_by reading (Err Process) result tt fault.1
+
+keeps_policy : (reading : Reading) (rest : List (List ℕ)) (result : Result Line Cause) → PolicyGives rest result → Keeps reading result
+unfolding Keeps
+keeps_policy reading rest result (inl fault) = keeps_by reading (Err fault.0) result tt fault.2
+keeps_policy reading rest result (inr policy) = keeps_by reading (Ok (lines.Policy policy.0)) result tt policy.2
+
+keeps_limits : (reading : Reading) (rest : List (List ℕ)) (result : Result Line Cause) → reading.arrivals ≡ [] → LimitsGive rest result → Keeps reading result
+unfolding Keeps
+keeps_limits reading rest result none (inl fault) = keeps_by reading (Err fault.0) result tt fault.2
+keeps_limits reading rest result none (inr limits) = keeps_by reading (Ok (lines.Limits limits.0)) result none limits.2
+
+empty_is : (arrivals : List (ℕ × Request)) → is_empty arrivals ≡ true → arrivals ≡ []
+empty_is [] e = refl
+empty_is (arrival ∷ arrivals) e = absurd (cc)
+
+last_of_three : (a b c : Bool) → (a && (b && c)) ≡ true → c ≡ true
+last_of_three true true c e = e
+last_of_three true false c e = absurd (cc)
+last_of_three false b c e = absurd (cc)
+
+before_arrivals : (reading : Reading) (first : List ℕ) → says_limits reading first ≡ true → reading.arrivals ≡ []
+before_arrivals reading first says =
+    empty_is reading.arrivals (last_of_three (bytes_eq first (codes "limits")) (is_none reading.limits) (is_empty reading.arrivals) says)
+
+keeps_words : (reading : Reading) (words : List (List ℕ)) (result : Result Line Cause) → WordsGive reading words result → Keeps reading result
+unfolding Keeps
+keeps_words reading [] result gives = keeps_by reading (Ok lines.Skipped) result tt gives
+keeps_words reading (first ∷ rest) result gives =
+    join_by (is_comment first) _ _ (Keeps reading result) (λ e. keeps_by reading (Ok lines.Skipped) result tt)
+    (join_by (says_policy reading first) _ _ (Keeps reading result) (λ e. keeps_policy reading rest result)
+    (join_by (says_limits reading first) _ _ (Keeps reading result) (λ e. keeps_limits reading rest result (before_arrivals reading first e)) (keeps_process reading first rest result)))
+    gives
+
+keeps_line : (reading : Reading) (line : List ℕ) (result : Result Line Cause) → LineGives reading line result → Keeps reading result
+unfolding Keeps
+keeps_line reading line result gives =
+    join_by (nat_lt LINE_MAX (length line)) _ _ (Keeps reading result) (λ e. keeps_by reading (Err TooLong) result tt)
+    (join_by (is_printable line) _ _ (Keeps reading result) (λ e. keeps_words reading (words_of line) result) (keeps_by reading (Err Byte) result tt)) gives
+
+-- no arrivals are of processes under any limits
+none_yet : (limits : Limits) (arrivals : List (ℕ × Request)) → arrivals ≡ [] → All (λ arrival. IsProcess limits arrival.0) arrivals
+none_yet limits arrivals e = subst (All (λ arrival. IsProcess limits arrival.0)) (sym e) (All-nil (λ arrival. IsProcess limits arrival.0))
+
+kept : (reading : Reading) (said : Line) → Keeps reading (Ok said) → AreOfProcesses reading → AreOfProcesses (reading_after reading said)
+unfolding Keeps
+kept reading lines.Skipped is before = before
+kept reading (lines.Policy policy) is before = before
+kept reading (lines.Limits limits) is before = none_yet limits reading.arrivals is
+kept reading (lines.Arrival p request) is before = All-push (λ arrival. IsProcess (limits_of reading) arrival.0) reading.arrivals (p, request) before is
 
 -- a script that is accepted
 abbrev accepted : Meaning → Result Meaning ScriptFault
 accepted meaning = Ok meaning
 
--- a line's arrival is of a process
-of_arrival : (reading after : Reading) (p : ℕ) (next : Result Request Cause) → IsProcess Small p → AreOfProcesses reading.arrivals → ArrivalGives reading p next (Ok after) → AreOfProcesses after.arrivals
-of_arrival reading after p (Ok request) process before gives =
-    subst (λ (r : Reading). AreOfProcesses r.arrivals) (sym (success after (reading_after reading (Some (p, request))) gives))
-    (All-push (λ arrival. IsProcess Small arrival.0) reading.arrivals (p, request) before process)
-of_arrival reading after p (Err cause) process before gives = absurd (cc)
+-- two meanings that are both accepted are the same
+success : (meaning other : Meaning) → accepted meaning ≡ accepted other → meaning ≡ other
+success meaning other e = cc
 
-of_words : (reading after : Reading) (words : List (List ℕ)) → AreOfProcesses reading.arrivals → WordsGive reading words (Ok after) → AreOfProcesses after.arrivals
-of_words reading after [] before gives = subst (λ (r : Reading). AreOfProcesses r.arrivals) (sym (success after reading gives)) before
-of_words reading after (first ∷ rest) before gives = elim (either (is_comment first) _ _ gives) [
-  | inl skipped ↦ subst (λ (r : Reading). AreOfProcesses r.arrivals) (sym (success after reading skipped)) before
-  | inr other ↦ elim other [
-    | inl arrival ↦ of_arrival reading after arrival.0 arrival.3 arrival.1 before arrival.5
-    | inr fault ↦ absurd (let refused = fault.1 in cc)
-  ]
-]
-
-of_line : (reading after : Reading) (line : List ℕ) → AreOfProcesses reading.arrivals → LineGives reading line (Ok after) → AreOfProcesses after.arrivals
-of_line reading after line before gives = elim (either (nat_lt LINE_MAX (length line)) _ _ gives) [
-  | inl long ↦ absurd (cc)
-  | inr short ↦ elim (either (is_printable line) _ _ short) [
-    | inl words ↦ of_words reading after (words_of line) before words
-    | inr byte ↦ absurd (cc)
-  ]
-]
-
-after_line : (number : ℕ) (reading : Reading) (line : List ℕ) (lines : List (List ℕ)) (meaning : Meaning) → AreOfProcesses reading.arrivals
-    → ((after : Reading) → AreOfProcesses after.arrivals → LinesGive (number + 1) after lines (Ok meaning) → AreOfProcesses meaning.arrivals)
-    → (next : Result Reading Cause) → LineGives reading line next
-    → MatchResult next (λ after. LinesGive (number + 1) after lines (Ok meaning)) (λ cause. accepted meaning ≡ Err (record { line = number; cause = cause }))
-    → AreOfProcesses meaning.arrivals
-after_line number reading line lines meaning before more (Ok after) given rest = more after (of_line reading after line before given) rest
-after_line number reading line lines meaning before more (Err cause) given refused = absurd (cc)
-
-of_lines : (number : ℕ) (reading : Reading) (lines : List (List ℕ)) (meaning : Meaning) → AreOfProcesses reading.arrivals → LinesGive number reading lines (Ok meaning) → AreOfProcesses meaning.arrivals
+of_lines : (number : ℕ) (reading : Reading) (lines : List (List ℕ)) (meaning : Meaning) → AreOfProcesses reading → LinesGive number reading lines (Ok meaning)
+    → All (λ arrival. IsProcess meaning.rules.limits arrival.0) meaning.arrivals
 of_lines number reading [] meaning before gives =
-    let same : meaning.arrivals ≡ reading.arrivals = cc in
-    subst AreOfProcesses (sym same) before
-of_lines number reading (line ∷ lines) meaning before gives =
-    after_line number reading line lines meaning before (λ after kept rest. of_lines (number + 1) after lines meaning kept rest)
-    gives.0 gives.1 gives.2
+    subst (λ (m : Meaning). All (λ arrival. IsProcess m.rules.limits arrival.0) m.arrivals) (sym (success meaning (meaning_of reading) gives)) before
+of_lines number reading (line ∷ rest) meaning before (Ok said, gives, more) =
+    of_lines (number + 1) (reading_after reading said) rest meaning (kept reading said (keeps_line reading line (Ok said) gives) before) more
+of_lines number reading (line ∷ rest) meaning before (Err cause, gives, refused) = absurd (cc)
 
 -- the arrivals of an accepted script are of its processes
-pub processes_read : (bytes : List ℕ) (meaning : Meaning) → Reads bytes (Ok meaning) → All (λ arrival. IsProcess Small arrival.0) meaning.arrivals
-processes_read bytes meaning reads = elim (either (nat_lt SCRIPT_MAX (length bytes)) _ _ reads) [
-  | inl long ↦ absurd (cc)
-  | inr lines ↦ of_lines 1 (record { arrivals = [] }) (lines_of bytes) meaning (All-nil (λ arrival. IsProcess Small arrival.0)) lines
-]
+pub processes_read : (bytes : List ℕ) (meaning : Meaning) → Reads bytes (Ok meaning) → All (λ arrival. IsProcess meaning.rules.limits arrival.0) meaning.arrivals
+processes_read bytes meaning reads =
+    join_by (nat_lt SCRIPT_MAX (length bytes)) _ _ (All (λ arrival. IsProcess meaning.rules.limits arrival.0) meaning.arrivals)
+    (λ e long. absurd (cc)) (of_lines 1 start (lines_of bytes) meaning (All-nil (λ arrival. IsProcess Small arrival.0))) reads

@@ -1,5 +1,5 @@
 -- A script has one reading.
-use Rattle.std.proofs.Common.{◌≡◌, ℕ, zero, suc, ◌+◌, ◌<◌, ◌^◌, ◌⊎◌, Bool, true, false, cond, List, [], ◌∷◌, ◌++◌, length, drop, get_or, codes, decimal, ℤ, pos, negsuc, FitsSigned, w64, MatchBool, MatchOption, MatchResult, Option, Some, None, unwrap_or, Result, Ok, Err, inl, inr, refl, sym, ap, ◌∙◌, subst, arith, nat_lt}
+use Rattle.std.proofs.Common.{◌≡◌, ℕ, zero, suc, ◌+◌, ◌<◌, ◌^◌, ◌==◌, ◌⊎◌, Bool, true, false, cond, List, [], ◌∷◌, ◌++◌, length, drop, get_or, codes, ℤ, pos, negsuc, FitsSigned, w64, MatchBool, MatchOption, MatchResult, Option, Some, None, unwrap_or, Result, Ok, Err, inl, inr, refl, sym, ap, ◌∙◌, subst, arith, nat_lt}
 use Rattle.std.specs.Fmt.{digits, signed_decimal}
 use Rattle.std.specs.Str.{bytes_eq}
 use Rattle.std.specs.Str.Parse.{digits_value}
@@ -11,6 +11,8 @@ use Rattle.lock_manager.specs.declared.request.LkCmd.TheVariants.{GetLk, SetLk, 
 use Rattle.lock_manager.specs.declared.request.Lock.{Lock}
 use Rattle.fd_table.specs.declared.Limits.{Limits}
 use Rattle.fd_table.specs.declared.Limits.TheVariants.{Small, Wide}
+use Rattle.wait_core.specs.declared.Policy.{Policy}
+use Rattle.wait_core.specs.declared.Policy.TheVariants.{Held, Queue}
 use Rattle.lock_manager.specs.declared.request.FlockOp.{FlockOp}
 use Rattle.lock_manager.specs.declared.request.FlockOp.TheVariants.{Sh, Ex, Un}
 use Rattle.lock_manager.specs.declared.request.Request.{Request}
@@ -20,14 +22,17 @@ use Rattle.range_core.specs.declared.Kind.TheVariants.{Read, Write, Unlock}
 use Rattle.range_core.specs.declared.Whence.{Whence}
 use Rattle.range_core.specs.declared.Whence.TheVariants.{Set, Cur, End}
 use Rattle.script_core.specs.declared.TheConstants.{LINE_MAX, SCRIPT_MAX}
+use Rattle.script_core.specs.declared.line.Line.{Line}
+use Rattle.script_core.specs.declared.line.Line.TheVariants as lines
 use Rattle.script_core.specs.declared.script.Cause.{Cause}
-use Rattle.script_core.specs.declared.script.Cause.TheVariants.{Byte, Word, Count, Process, TooLong}
+use Rattle.script_core.specs.declared.script.Cause.TheVariants.{Byte, Word, Count, TooLong}
 use Rattle.script_core.specs.declared.script.ScriptFault.{ScriptFault}
 use Rattle.script_core.specs.Words.{lines_of, words_of, is_printable}
+use Rattle.script_core.specs.HeaderText.{policy_word, limits_word}
 use Rattle.script_core.specs.RequestText.{access_word, kind_word, whence_word, op_word, nb_words, lock_command_word, pid_words, lock_words, request_words}
-use Rattle.script_core.specs.Arguments.{Argument, FileNumber, DescriptorNumber, AnyNumber, ProcessNumber, AccessWord, OpWord, NbWord, Spells, IsFirstBad, lock_arguments, open_command, descriptor_command, number_command, dup_to_command, lock_command, flock_command, process_command, exit_command, Command, command_named, has_count}
+use Rattle.script_core.specs.Arguments.{Argument, FileNumber, DescriptorNumber, AnyNumber, ProcessNumber, AccessWord, OpWord, NbWord, PolicyWord, LimitsWord, Spells, IsFirstBad, AreRefused, lock_arguments, open_command, descriptor_command, number_command, dup_to_command, lock_command, flock_command, process_command, exit_command, Command, command_named, has_count}
 use Rattle.script_core.specs.ScriptText.{Meaning, HasZeroPid, Says, IsRequest, IsProcess, IsWritable}
-use Rattle.script_core.specs.Reading.{Reading, ArgumentsGive, CommandGives, RequestGives, ArrivalGives, WordsGive, LineGives, LinesGive, HasOneReading, is_comment, limits_of, meaning_of, start}
+use Rattle.script_core.specs.Reading.{Reading, ArgumentsGive, CommandGives, RequestGives, ArrivalGives, ProcessGives, PolicyGives, LimitsGive, WordsGive, LineGives, LinesGive, HasOneReading, is_comment, says_policy, says_limits, limits_of, meaning_of, reading_after, start}
 use Rattle.script_core.proofs.NumberLemmas.{number_in, number_in-zero, digits_value-spelled, number_in-spelled}
 
 same_value : {X : Type 0} (value a b : X) → a ≡ value → b ≡ value → a ≡ b
@@ -40,13 +45,13 @@ MatchBool-unique P Q true here there a b first second = here a b first second
 MatchBool-unique P Q false here there a b first second = there a b first second
 
 -- the first bad argument has one cause
-IsFirstBad-unique : (limits : Limits) (arguments : List Argument) (words : List (List ℕ)) (a b : Cause) → IsFirstBad limits arguments words a → IsFirstBad limits arguments words b → a ≡ b
-IsFirstBad-unique limits [] words a b first second = absurd first
-IsFirstBad-unique limits (argument ∷ arguments) [] a b first second = absurd first
-IsFirstBad-unique limits (argument ∷ arguments) (word ∷ words) a b (inl first) (inl second) = IsFirstBad-unique limits arguments words a b first.1 second.1
-IsFirstBad-unique limits (argument ∷ arguments) (word ∷ words) a b (inl first) (inr second) = absurd (second.0 first.0)
-IsFirstBad-unique limits (argument ∷ arguments) (word ∷ words) a b (inr first) (inl second) = absurd (first.0 second.0)
-IsFirstBad-unique limits (argument ∷ arguments) (word ∷ words) a b (inr first) (inr second) = first.1 ∙ sym second.1
+IsFirstBad-unique : (arguments : List Argument) (words : List (List ℕ)) (a b : Cause) → IsFirstBad arguments words a → IsFirstBad arguments words b → a ≡ b
+IsFirstBad-unique [] words a b first second = absurd first
+IsFirstBad-unique (argument ∷ arguments) [] a b first second = absurd first
+IsFirstBad-unique (argument ∷ arguments) (word ∷ words) a b (inl first) (inl second) = IsFirstBad-unique arguments words a b first.1 second.1
+IsFirstBad-unique (argument ∷ arguments) (word ∷ words) a b (inl first) (inr second) = absurd (second.0 first.0)
+IsFirstBad-unique (argument ∷ arguments) (word ∷ words) a b (inr first) (inl second) = absurd (first.0 second.0)
+IsFirstBad-unique (argument ∷ arguments) (word ∷ words) a b (inr first) (inr second) = first.1 ∙ sym second.1
 
 -- what may stand behind the words of a lock command with this pid: nothing where it is 0, or its spelling
 abbrev PidFollows : ℤ → List (List ℕ) → Type 0
@@ -195,7 +200,7 @@ has_words : (words : List (List ℕ)) (request : Request) → (HasZeroPid reques
 has_words words request none (inl says) = says
 has_words words request none (inr says) = absurd (none says.0)
 
-small_process : (limits : Limits) (p : ℕ) → IsProcess limits p → p < 2 ^ 64
+pub small_process : (limits : Limits) (p : ℕ) → IsProcess limits p → p < 2 ^ 64
 small_process Small p is = omega (arith, is.1)
 small_process Wide p is = omega (arith, is.1)
 
@@ -236,130 +241,130 @@ IsRequest-unique limits words a b first second =
     sym (said_is limits words a first.says first.writable) ∙ said_is limits words b second.says second.writable
 
 -- each word spells the argument of its place
-AllSpell : Limits → List Argument → List (List ℕ) → Type 0
-AllSpell limits arguments [] = Unit {0}
-AllSpell limits [] (word ∷ words) = Unit {0}
-AllSpell limits (argument ∷ arguments) (word ∷ words) = Spells limits argument word × AllSpell limits arguments words
+AllSpell : List Argument → List (List ℕ) → Type 0
+AllSpell arguments [] = Unit {0}
+AllSpell [] (word ∷ words) = Unit {0}
+AllSpell (argument ∷ arguments) (word ∷ words) = Spells argument word × AllSpell arguments words
 
 -- where each word spells its argument, none is the first bad one
-not_bad : (limits : Limits) (arguments : List Argument) (words : List (List ℕ)) (cause : Cause) → AllSpell limits arguments words → IsFirstBad limits arguments words cause → ⊥
+not_bad : (arguments : List Argument) (words : List (List ℕ)) (cause : Cause) → AllSpell arguments words → IsFirstBad arguments words cause → ⊥
 unfolding AllSpell
-not_bad limits [] words cause all bad = bad
-not_bad limits (argument ∷ arguments) [] cause all bad = bad
-not_bad limits (argument ∷ arguments) (word ∷ words) cause all (inl bad) = not_bad limits arguments words cause all.1 bad.1
-not_bad limits (argument ∷ arguments) (word ∷ words) cause all (inr bad) = bad.0 all.0
+not_bad [] words cause all bad = bad
+not_bad (argument ∷ arguments) [] cause all bad = bad
+not_bad (argument ∷ arguments) (word ∷ words) cause all (inl bad) = not_bad arguments words cause all.1 bad.1
+not_bad (argument ∷ arguments) (word ∷ words) cause all (inr bad) = bad.0 all.0
 
-pid_spelled : (limits : Limits) (pid : ℤ) (rest : List (List ℕ)) → PidFollows pid rest → FitsSigned w64 pid → AllSpell limits (AnyNumber ∷ []) rest
+pid_spelled : (pid : ℤ) (rest : List (List ℕ)) → PidFollows pid rest → FitsSigned w64 pid → AllSpell (AnyNumber ∷ []) rest
 unfolding AllSpell
-pid_spelled limits pid rest (inl none) fits = subst (AllSpell limits (AnyNumber ∷ [])) (sym none.1) tt
-pid_spelled limits pid rest (inr is) fits = subst (AllSpell limits (AnyNumber ∷ [])) (sym is) ((pid, fits, refl), tt)
+pid_spelled pid rest (inl none) fits = subst (AllSpell (AnyNumber ∷ [])) (sym none.1) tt
+pid_spelled pid rest (inr is) fits = subst (AllSpell (AnyNumber ∷ [])) (sym is) ((pid, fits, refl), tt)
 
-nb_spelled : (limits : Limits) (nb : Bool) → AllSpell limits (NbWord ∷ []) (nb_words nb)
+nb_spelled : (nb : Bool) → AllSpell (NbWord ∷ []) (nb_words nb)
 unfolding AllSpell
-nb_spelled limits true = (refl, tt)
-nb_spelled limits false = tt
+nb_spelled true = (refl, tt)
+nb_spelled false = tt
 
 command_is : (command known : Command) → Some known ≡ Some command → known ≡ command
 command_is command known e = ap (λ o. unwrap_or o known) e
 
 -- a lock command is known by its word
-pub lock_named : (cmd : LkCmd) → command_named (lock_command_word cmd) ≡ Some (lock_command (lock_command_word cmd))
-lock_named GetLk = refl
-lock_named SetLk = refl
-lock_named SetLkW = refl
-lock_named OGetLk = refl
-lock_named OSetLk = refl
-lock_named OSetLkW = refl
+pub lock_named : (limits : Limits) (cmd : LkCmd) → command_named limits (lock_command_word cmd) ≡ Some (lock_command (lock_command_word cmd))
+lock_named limits GetLk = refl
+lock_named limits SetLk = refl
+lock_named limits SetLkW = refl
+lock_named limits OGetLk = refl
+lock_named limits OSetLk = refl
+lock_named limits OSetLkW = refl
 
 -- the arguments that the command of a request may have
-arguments_of : Request → List Argument
-arguments_of (OpenFile file access) = FileNumber ∷ AccessWord ∷ []
-arguments_of (Dup fd) = DescriptorNumber ∷ []
-arguments_of (DupTo fd to) = DescriptorNumber ∷ DescriptorNumber ∷ []
-arguments_of (CloseFd fd) = DescriptorNumber ∷ []
-arguments_of (Seek fd offset) = DescriptorNumber ∷ AnyNumber ∷ []
-arguments_of (Resize fd size) = DescriptorNumber ∷ AnyNumber ∷ []
-arguments_of (Lk fd cmd lock) = lock_arguments ++ AnyNumber ∷ []
-arguments_of (Flock fd op nb) = DescriptorNumber ∷ OpWord ∷ NbWord ∷ []
-arguments_of (Fork child) = ProcessNumber ∷ []
-arguments_of Exit = []
-arguments_of (Signal target) = ProcessNumber ∷ []
-arguments_of (Kill target) = ProcessNumber ∷ []
+arguments_of : Limits → Request → List Argument
+arguments_of limits (OpenFile file access) = FileNumber ∷ AccessWord ∷ []
+arguments_of limits (Dup fd) = DescriptorNumber ∷ []
+arguments_of limits (DupTo fd to) = DescriptorNumber ∷ DescriptorNumber ∷ []
+arguments_of limits (CloseFd fd) = DescriptorNumber ∷ []
+arguments_of limits (Seek fd offset) = DescriptorNumber ∷ AnyNumber ∷ []
+arguments_of limits (Resize fd size) = DescriptorNumber ∷ AnyNumber ∷ []
+arguments_of limits (Lk fd cmd lock) = lock_arguments ++ AnyNumber ∷ []
+arguments_of limits (Flock fd op nb) = DescriptorNumber ∷ OpWord ∷ NbWord ∷ []
+arguments_of limits (Fork child) = ProcessNumber limits ∷ []
+arguments_of limits Exit = []
+arguments_of limits (Signal target) = ProcessNumber limits ∷ []
+arguments_of limits (Kill target) = ProcessNumber limits ∷ []
 
 -- the first of the words is a command with these arguments
-abbrev Names : List Argument → List (List ℕ) → Type 0
-Names arguments words = (command : Command) → command_named (get_or words 0 []) ≡ Some command → arguments ≡ command.required ++ command.optional
+abbrev Names : Limits → List Argument → List (List ℕ) → Type 0
+Names limits arguments words = (command : Command) → command_named limits (get_or words 0 []) ≡ Some command → arguments ≡ command.required ++ command.optional
 
-names_by : (known : Command) (words : List (List ℕ)) → command_named (get_or words 0 []) ≡ Some known → Names (known.required ++ known.optional) words
-names_by known words named = λ command found. ap (λ (c : Command). c.required ++ c.optional) (command_is command known (sym named ∙ found))
+names_by : (limits : Limits) (known : Command) (words : List (List ℕ)) → command_named limits (get_or words 0 []) ≡ Some known → Names limits (known.required ++ known.optional) words
+names_by limits known words named = λ command found. ap (λ (c : Command). c.required ++ c.optional) (command_is command known (sym named ∙ found))
 
-names_so : (known : Command) (words : List (List ℕ)) (request : Request) → (HasZeroPid request → ⊥) → Says words request
-    → command_named (get_or (request_words request) 0 []) ≡ Some known → Names (known.required ++ known.optional) words
-names_so known words request none says named =
-    names_by known words (ap (λ ws. command_named (get_or ws 0 [])) (has_words words request none says) ∙ named)
+names_so : (limits : Limits) (known : Command) (words : List (List ℕ)) (request : Request) → (HasZeroPid request → ⊥) → Says words request
+    → command_named limits (get_or (request_words request) 0 []) ≡ Some known → Names limits (known.required ++ known.optional) words
+names_so limits known words request none says named =
+    names_by limits known words (ap (λ ws. command_named limits (get_or ws 0 [])) (has_words words request none says) ∙ named)
 
-request_named : (words : List (List ℕ)) (request : Request) → Says words request → Names (arguments_of request) words
+request_named : (limits : Limits) (words : List (List ℕ)) (request : Request) → Says words request → Names limits (arguments_of limits request) words
 unfolding arguments_of
-request_named words (OpenFile file access) says = names_so open_command words (OpenFile file access) (λ zero. zero) says refl
-request_named words (Dup fd) says = names_so (descriptor_command (codes "dup")) words (Dup fd) (λ zero. zero) says refl
-request_named words (DupTo fd to) says = names_so dup_to_command words (DupTo fd to) (λ zero. zero) says refl
-request_named words (CloseFd fd) says = names_so (descriptor_command (codes "close")) words (CloseFd fd) (λ zero. zero) says refl
-request_named words (Seek fd offset) says = names_so (number_command (codes "seek")) words (Seek fd offset) (λ zero. zero) says refl
-request_named words (Resize fd size) says = names_so (number_command (codes "resize")) words (Resize fd size) (λ zero. zero) says refl
-request_named words (Lk fd cmd lock) says =
+request_named limits words (OpenFile file access) says = names_so limits open_command words (OpenFile file access) (λ zero. zero) says refl
+request_named limits words (Dup fd) says = names_so limits (descriptor_command (codes "dup")) words (Dup fd) (λ zero. zero) says refl
+request_named limits words (DupTo fd to) says = names_so limits dup_to_command words (DupTo fd to) (λ zero. zero) says refl
+request_named limits words (CloseFd fd) says = names_so limits (descriptor_command (codes "close")) words (CloseFd fd) (λ zero. zero) says refl
+request_named limits words (Seek fd offset) says = names_so limits (number_command (codes "seek")) words (Seek fd offset) (λ zero. zero) says refl
+request_named limits words (Resize fd size) says = names_so limits (number_command (codes "resize")) words (Resize fd size) (λ zero. zero) says refl
+request_named limits words (Lk fd cmd lock) says =
     let spelled = SaysLock-from_says words fd cmd lock says in
-    names_by (lock_command (lock_command_word cmd)) words (ap (λ ws. command_named (get_or ws 0 [])) spelled.are ∙ lock_named cmd)
-request_named words (Flock fd op nb) says = names_so flock_command words (Flock fd op nb) (λ zero. zero) says refl
-request_named words (Fork child) says = names_so (process_command (codes "fork")) words (Fork child) (λ zero. zero) says refl
-request_named words Exit says = names_so exit_command words Exit (λ zero. zero) says refl
-request_named words (Signal target) says = names_so (process_command (codes "signal")) words (Signal target) (λ zero. zero) says refl
-request_named words (Kill target) says = names_so (process_command (codes "kill")) words (Kill target) (λ zero. zero) says refl
+    names_by limits (lock_command (lock_command_word cmd)) words (ap (λ ws. command_named limits (get_or ws 0 [])) spelled.are ∙ lock_named limits cmd)
+request_named limits words (Flock fd op nb) says = names_so limits flock_command words (Flock fd op nb) (λ zero. zero) says refl
+request_named limits words (Fork child) says = names_so limits (process_command limits (codes "fork")) words (Fork child) (λ zero. zero) says refl
+request_named limits words Exit says = names_so limits exit_command words Exit (λ zero. zero) says refl
+request_named limits words (Signal target) says = names_so limits (process_command limits (codes "signal")) words (Signal target) (λ zero. zero) says refl
+request_named limits words (Kill target) says = names_so limits (process_command limits (codes "kill")) words (Kill target) (λ zero. zero) says refl
 
-spells_so : (limits : Limits) (arguments : List Argument) (words : List (List ℕ)) (request : Request) → (HasZeroPid request → ⊥) → Says words request
-    → AllSpell limits arguments (drop 1 (request_words request)) → AllSpell limits arguments (drop 1 words)
-spells_so limits arguments words request none says all =
-    subst (λ ws. AllSpell limits arguments (drop 1 ws)) (sym (has_words words request none says)) all
+spells_so : (arguments : List Argument) (words : List (List ℕ)) (request : Request) → (HasZeroPid request → ⊥) → Says words request
+    → AllSpell arguments (drop 1 (request_words request)) → AllSpell arguments (drop 1 words)
+spells_so arguments words request none says all =
+    subst (λ ws. AllSpell arguments (drop 1 ws)) (sym (has_words words request none says)) all
 
 -- the words behind the name of a request spell its arguments
 request_spelled : (limits : Limits) (words : List (List ℕ)) (request : Request) → Says words request → IsWritable limits request
-    → AllSpell limits (arguments_of request) (drop 1 words)
+    → AllSpell (arguments_of limits request) (drop 1 words)
 unfolding arguments_of AllSpell
-request_spelled limits words (OpenFile file access) says fits = spells_so limits (FileNumber ∷ AccessWord ∷ []) words (OpenFile file access) (λ zero. zero) says ((file, fits, refl), ((access, refl), tt))
-request_spelled limits words (Dup fd) says fits = spells_so limits (DescriptorNumber ∷ []) words (Dup fd) (λ zero. zero) says ((fd, fits, refl), tt)
-request_spelled limits words (DupTo fd to) says fits = spells_so limits (DescriptorNumber ∷ DescriptorNumber ∷ []) words (DupTo fd to) (λ zero. zero) says ((fd, fits.0, refl), ((to, fits.1, refl), tt))
-request_spelled limits words (CloseFd fd) says fits = spells_so limits (DescriptorNumber ∷ []) words (CloseFd fd) (λ zero. zero) says ((fd, fits, refl), tt)
-request_spelled limits words (Seek fd offset) says fits = spells_so limits (DescriptorNumber ∷ AnyNumber ∷ []) words (Seek fd offset) (λ zero. zero) says ((fd, fits.0, refl), ((offset, fits.1, refl), tt))
-request_spelled limits words (Resize fd size) says fits = spells_so limits (DescriptorNumber ∷ AnyNumber ∷ []) words (Resize fd size) (λ zero. zero) says ((fd, fits.0, refl), ((size, fits.1, refl), tt))
+request_spelled limits words (OpenFile file access) says fits = spells_so (FileNumber ∷ AccessWord ∷ []) words (OpenFile file access) (λ zero. zero) says ((file, fits, refl), ((access, refl), tt))
+request_spelled limits words (Dup fd) says fits = spells_so (DescriptorNumber ∷ []) words (Dup fd) (λ zero. zero) says ((fd, fits, refl), tt)
+request_spelled limits words (DupTo fd to) says fits = spells_so (DescriptorNumber ∷ DescriptorNumber ∷ []) words (DupTo fd to) (λ zero. zero) says ((fd, fits.0, refl), ((to, fits.1, refl), tt))
+request_spelled limits words (CloseFd fd) says fits = spells_so (DescriptorNumber ∷ []) words (CloseFd fd) (λ zero. zero) says ((fd, fits, refl), tt)
+request_spelled limits words (Seek fd offset) says fits = spells_so (DescriptorNumber ∷ AnyNumber ∷ []) words (Seek fd offset) (λ zero. zero) says ((fd, fits.0, refl), ((offset, fits.1, refl), tt))
+request_spelled limits words (Resize fd size) says fits = spells_so (DescriptorNumber ∷ AnyNumber ∷ []) words (Resize fd size) (λ zero. zero) says ((fd, fits.0, refl), ((size, fits.1, refl), tt))
 request_spelled limits words (Lk fd cmd lock) says fits =
     let spelled = SaysLock-from_says words fd cmd lock says in
-    let pid = pid_spelled limits lock.pid spelled.rest spelled.follows fits.3 in
-    subst (λ ws. AllSpell limits (lock_arguments ++ AnyNumber ∷ []) (drop 1 ws)) (sym spelled.are)
+    let pid = pid_spelled lock.pid spelled.rest spelled.follows fits.3 in
+    subst (λ ws. AllSpell (lock_arguments ++ AnyNumber ∷ []) (drop 1 ws)) (sym spelled.are)
     ((fd, fits.0, refl), ((lock.kind, refl), ((lock.whence, refl), ((lock.start, fits.1, refl), ((lock.len, fits.2, refl), pid)))))
 request_spelled limits words (Flock fd op nb) says fits =
-    spells_so limits (DescriptorNumber ∷ OpWord ∷ NbWord ∷ []) words (Flock fd op nb) (λ zero. zero) says ((fd, fits, refl), ((op, refl), nb_spelled limits nb))
-request_spelled limits words (Fork child) says fits = spells_so limits (ProcessNumber ∷ []) words (Fork child) (λ zero. zero) says ((child, fits.0, fits.1, refl), tt)
-request_spelled limits words Exit says fits = spells_so limits [] words Exit (λ zero. zero) says tt
-request_spelled limits words (Signal target) says fits = spells_so limits (ProcessNumber ∷ []) words (Signal target) (λ zero. zero) says ((target, fits.0, fits.1, refl), tt)
-request_spelled limits words (Kill target) says fits = spells_so limits (ProcessNumber ∷ []) words (Kill target) (λ zero. zero) says ((target, fits.0, fits.1, refl), tt)
+    spells_so (DescriptorNumber ∷ OpWord ∷ NbWord ∷ []) words (Flock fd op nb) (λ zero. zero) says ((fd, fits, refl), ((op, refl), nb_spelled nb))
+request_spelled limits words (Fork child) says fits = spells_so (ProcessNumber limits ∷ []) words (Fork child) (λ zero. zero) says ((child, fits.0, fits.1, refl), tt)
+request_spelled limits words Exit says fits = spells_so [] words Exit (λ zero. zero) says tt
+request_spelled limits words (Signal target) says fits = spells_so (ProcessNumber limits ∷ []) words (Signal target) (λ zero. zero) says ((target, fits.0, fits.1, refl), tt)
+request_spelled limits words (Kill target) says fits = spells_so (ProcessNumber limits ∷ []) words (Kill target) (λ zero. zero) says ((target, fits.0, fits.1, refl), tt)
 
 -- where the words are a request, no argument is bad
-no_bad : (limits : Limits) (name : List ℕ) (arguments : List (List ℕ)) (command : Command) (request : Request) (cause : Cause) → command_named name ≡ Some command
-    → IsRequest limits (name ∷ arguments) request → IsFirstBad limits (command.required ++ command.optional) arguments cause → ⊥
+no_bad : (limits : Limits) (name : List ℕ) (arguments : List (List ℕ)) (command : Command) (request : Request) (cause : Cause) → command_named limits name ≡ Some command
+    → IsRequest limits (name ∷ arguments) request → IsFirstBad (command.required ++ command.optional) arguments cause → ⊥
 no_bad limits name arguments command request cause named is bad =
-    let same = request_named (name ∷ arguments) request is.says command named in
-    let all = subst (λ expected. AllSpell limits expected arguments) same (request_spelled limits (name ∷ arguments) request is.says is.writable) in
-    not_bad limits (command.required ++ command.optional) arguments cause all bad
+    let same = request_named limits (name ∷ arguments) request is.says command named in
+    let all = subst (λ expected. AllSpell expected arguments) same (request_spelled limits (name ∷ arguments) request is.says is.writable) in
+    not_bad (command.required ++ command.optional) arguments cause all bad
 
-ArgumentsGive-unique : (limits : Limits) (name : List ℕ) (arguments : List (List ℕ)) (command : Command) → command_named name ≡ Some command
+ArgumentsGive-unique : (limits : Limits) (name : List ℕ) (arguments : List (List ℕ)) (command : Command) → command_named limits name ≡ Some command
     → (a b : Result Request Cause) → ArgumentsGive limits (name ∷ arguments) command arguments a → ArgumentsGive limits (name ∷ arguments) command arguments b → a ≡ b
 ArgumentsGive-unique limits name arguments command named a b (inl first) (inl second) =
-    first.2 ∙ (ap Err (IsFirstBad-unique limits (command.required ++ command.optional) arguments first.0 second.0 first.1 second.1) ∙ sym second.2)
+    first.2 ∙ (ap Err (IsFirstBad-unique (command.required ++ command.optional) arguments first.0 second.0 first.1 second.1) ∙ sym second.2)
 ArgumentsGive-unique limits name arguments command named a b (inl first) (inr second) = absurd (no_bad limits name arguments command second.0 first.0 named second.1 first.1)
 ArgumentsGive-unique limits name arguments command named a b (inr first) (inl second) = absurd (no_bad limits name arguments command first.0 second.0 named first.1 second.1)
 ArgumentsGive-unique limits name arguments command named a b (inr first) (inr second) =
     first.2 ∙ (ap Ok (IsRequest-unique limits (name ∷ arguments) first.0 second.0 first.1 second.1) ∙ sym second.2)
 
-named_unique : (limits : Limits) (name : List ℕ) (arguments : List (List ℕ)) (found : Option Command) → command_named name ≡ found → (a b : Result Request Cause)
+named_unique : (limits : Limits) (name : List ℕ) (arguments : List (List ℕ)) (found : Option Command) → command_named limits name ≡ found → (a b : Result Request Cause)
     → MatchOption found (a ≡ Err Word) (λ command. CommandGives limits (name ∷ arguments) command arguments a)
     → MatchOption found (b ≡ Err Word) (λ command. CommandGives limits (name ∷ arguments) command arguments b) → a ≡ b
 named_unique limits name arguments None named a b first second = same_value (Err Word) a b first second
@@ -369,35 +374,92 @@ named_unique limits name arguments (Some command) named a b first second =
 
 RequestGives-unique : (limits : Limits) (words : List (List ℕ)) (a b : Result Request Cause) → RequestGives limits words a → RequestGives limits words b → a ≡ b
 RequestGives-unique limits [] a b first second = same_value (Err Count) a b first second
-RequestGives-unique limits (name ∷ arguments) a b first second = named_unique limits name arguments (command_named name) refl a b first second
+RequestGives-unique limits (name ∷ arguments) a b first second = named_unique limits name arguments (command_named limits name) refl a b first second
 
-ArrivalGives-unique : (reading : Reading) (p : ℕ) (next : Result Request Cause) (a b : Result Reading Cause) → ArrivalGives reading p next a → ArrivalGives reading p next b → a ≡ b
-ArrivalGives-unique reading p (Ok request) a b first second = first ∙ sym second
-ArrivalGives-unique reading p (Err cause) a b first second = first ∙ sym second
+ArrivalGives-unique : (p : ℕ) (next : Result Request Cause) (a b : Result Line Cause) → ArrivalGives p next a → ArrivalGives p next b → a ≡ b
+ArrivalGives-unique p (Ok request) a b first second = first ∙ sym second
+ArrivalGives-unique p (Err cause) a b first second = first ∙ sym second
+
+ProcessGives-unique : (limits : Limits) (word : List ℕ) (rest : List (List ℕ)) (a b : Result Line Cause) → ProcessGives limits word rest a → ProcessGives limits word rest b → a ≡ b
+ProcessGives-unique limits word rest a b (inl first) (inl second) =
+    let p : first.0 ≡ second.0 = decimal_injective first.0 second.0 (small_process limits first.0 first.1) (small_process limits second.0 second.1) (sym first.2 ∙ second.2) in
+    let next : first.3 ≡ second.3 = RequestGives-unique limits rest first.3 second.3 first.4 second.4 in
+    let arrival = subst (λ p. ArrivalGives p second.3 a) p (subst (λ next. ArrivalGives first.0 next a) next first.5) in
+    ArrivalGives-unique second.0 second.3 a b arrival second.5
+ProcessGives-unique limits word rest a b (inl first) (inr second) = absurd (second.0 (first.0, first.1.0, first.1.1, first.2))
+ProcessGives-unique limits word rest a b (inr first) (inl second) = absurd (first.0 (second.0, second.1.0, second.1.1, second.2))
+ProcessGives-unique limits word rest a b (inr first) (inr second) = first.1 ∙ sym second.1
+
+-- words that are refused have one cause
+AreRefused-unique : (arguments : List Argument) (words : List (List ℕ)) (a b : Cause) → AreRefused arguments words a → AreRefused arguments words b → a ≡ b
+AreRefused-unique arguments words a b first second =
+    MatchBool-unique (IsFirstBad arguments words) (λ cause. cause ≡ Count) (length words == length arguments) (IsFirstBad-unique arguments words) (same_value Count) a b first second
+
+-- one word that spells its argument isn't refused
+one_spelled : (argument : Argument) (word : List ℕ) (words : List (List ℕ)) (cause : Cause) → words ≡ word ∷ [] → Spells argument word → AreRefused (argument ∷ []) words cause → ⊥
+unfolding AllSpell
+one_spelled argument word words cause are spells refused =
+    not_bad (argument ∷ []) (word ∷ []) cause (spells, tt) (subst (λ ws. AreRefused (argument ∷ []) ws cause) are refused)
+
+-- the word of a policy, or of limits, read back
+policy_in : List ℕ → Policy
+policy_in word = cond (bytes_eq word (codes "held")) Held Queue
+
+limits_in : List ℕ → Limits
+limits_in word = cond (bytes_eq word (codes "small")) Small Wide
+
+policy_in-word : (policy : Policy) → policy_in (policy_word policy) ≡ policy
+unfolding policy_in
+policy_in-word Held = refl
+policy_in-word Queue = refl
+
+limits_in-word : (limits : Limits) → limits_in (limits_word limits) ≡ limits
+unfolding limits_in
+limits_in-word Small = refl
+limits_in-word Wide = refl
+
+PolicyGives-unique : (words : List (List ℕ)) (a b : Result Line Cause) → PolicyGives words a → PolicyGives words b → a ≡ b
+PolicyGives-unique words a b (inl first) (inl second) =
+    first.2 ∙ (ap Err (AreRefused-unique (PolicyWord ∷ []) words first.0 second.0 first.1 second.1) ∙ sym second.2)
+PolicyGives-unique words a b (inl first) (inr second) = absurd (one_spelled PolicyWord (policy_word second.0) words first.0 second.1 (second.0, refl) first.1)
+PolicyGives-unique words a b (inr first) (inl second) = absurd (one_spelled PolicyWord (policy_word first.0) words second.0 first.1 (first.0, refl) second.1)
+PolicyGives-unique words a b (inr first) (inr second) =
+    let read = ap (λ ws. policy_in (get_or ws 0 [])) (sym first.1 ∙ second.1) in
+    let same : first.0 ≡ second.0 = sym (policy_in-word first.0) ∙ (read ∙ policy_in-word second.0) in
+    first.2 ∙ (ap (λ policy. Ok (lines.Policy policy)) same ∙ sym second.2)
+
+LimitsGive-unique : (words : List (List ℕ)) (a b : Result Line Cause) → LimitsGive words a → LimitsGive words b → a ≡ b
+LimitsGive-unique words a b (inl first) (inl second) =
+    first.2 ∙ (ap Err (AreRefused-unique (LimitsWord ∷ []) words first.0 second.0 first.1 second.1) ∙ sym second.2)
+LimitsGive-unique words a b (inl first) (inr second) = absurd (one_spelled LimitsWord (limits_word second.0) words first.0 second.1 (second.0, refl) first.1)
+LimitsGive-unique words a b (inr first) (inl second) = absurd (one_spelled LimitsWord (limits_word first.0) words second.0 first.1 (first.0, refl) second.1)
+LimitsGive-unique words a b (inr first) (inr second) =
+    let read = ap (λ ws. limits_in (get_or ws 0 [])) (sym first.1 ∙ second.1) in
+    let same : first.0 ≡ second.0 = sym (limits_in-word first.0) ∙ (read ∙ limits_in-word second.0) in
+    first.2 ∙ (ap (λ limits. Ok (lines.Limits limits)) same ∙ sym second.2)
+
+-- a first word that is no comment and says no policy, with what follows it
+abbrev LaterGives : Reading → List ℕ → List (List ℕ) → Result Line Cause → Type 0
+LaterGives reading first rest result = MatchBool (says_limits reading first) (LimitsGive rest result) (ProcessGives (limits_of reading) first rest result)
 
 -- a first word that is no comment, with what follows it
-abbrev StartGives : Reading → List ℕ → List (List ℕ) → Result Reading Cause → Type 0
-StartGives reading first rest result =
-    ((p : ℕ) × IsProcess (limits_of reading) p × (first ≡ decimal p)
-    × (next : Result Request Cause) × RequestGives (limits_of reading) rest next × ArrivalGives reading p next result)
-    ⊎ ((¬ (Spells (limits_of reading) ProcessNumber first)) × (result ≡ Err Process))
+abbrev StartGives : Reading → List ℕ → List (List ℕ) → Result Line Cause → Type 0
+StartGives reading first rest result = MatchBool (says_policy reading first) (PolicyGives rest result) (LaterGives reading first rest result)
 
-StartGives-unique : (reading : Reading) (word : List ℕ) (rest : List (List ℕ)) (a b : Result Reading Cause) → StartGives reading word rest a → StartGives reading word rest b → a ≡ b
-StartGives-unique reading word rest a b (inl first) (inl second) =
-    let p : first.0 ≡ second.0 = decimal_injective first.0 second.0 (omega (arith, first.1.1)) (omega (arith, second.1.1)) (sym first.2 ∙ second.2) in
-    let next : first.3 ≡ second.3 = RequestGives-unique (limits_of reading) rest first.3 second.3 first.4 second.4 in
-    let arrival = subst (λ p. ArrivalGives reading p second.3 a) p (subst (λ next. ArrivalGives reading first.0 next a) next first.5) in
-    ArrivalGives-unique reading second.0 second.3 a b arrival second.5
-StartGives-unique reading word rest a b (inl first) (inr second) = absurd (second.0 (first.0, first.1.0, first.1.1, first.2))
-StartGives-unique reading word rest a b (inr first) (inl second) = absurd (first.0 (second.0, second.1.0, second.1.1, second.2))
-StartGives-unique reading word rest a b (inr first) (inr second) = first.1 ∙ sym second.1
+LaterGives-unique : (reading : Reading) (word : List ℕ) (rest : List (List ℕ)) (a b : Result Line Cause) → LaterGives reading word rest a → LaterGives reading word rest b → a ≡ b
+LaterGives-unique reading word rest a b first second =
+    MatchBool-unique (LimitsGive rest) (ProcessGives (limits_of reading) word rest) (says_limits reading word) (LimitsGive-unique rest) (ProcessGives-unique (limits_of reading) word rest) a b first second
 
-WordsGive-unique : (reading : Reading) (words : List (List ℕ)) (a b : Result Reading Cause) → WordsGive reading words a → WordsGive reading words b → a ≡ b
-WordsGive-unique reading [] a b first second = same_value (Ok reading) a b first second
+StartGives-unique : (reading : Reading) (word : List ℕ) (rest : List (List ℕ)) (a b : Result Line Cause) → StartGives reading word rest a → StartGives reading word rest b → a ≡ b
+StartGives-unique reading word rest a b first second =
+    MatchBool-unique (PolicyGives rest) (LaterGives reading word rest) (says_policy reading word) (PolicyGives-unique rest) (LaterGives-unique reading word rest) a b first second
+
+WordsGive-unique : (reading : Reading) (words : List (List ℕ)) (a b : Result Line Cause) → WordsGive reading words a → WordsGive reading words b → a ≡ b
+WordsGive-unique reading [] a b first second = same_value (Ok lines.Skipped) a b first second
 WordsGive-unique reading (word ∷ rest) a b first second =
-    MatchBool-unique (λ result. result ≡ Ok reading) (StartGives reading word rest) (is_comment word) (same_value (Ok reading)) (StartGives-unique reading word rest) a b first second
+    MatchBool-unique (λ result. result ≡ Ok lines.Skipped) (StartGives reading word rest) (is_comment word) (same_value (Ok lines.Skipped)) (StartGives-unique reading word rest) a b first second
 
-LineGives-unique : (reading : Reading) (line : List ℕ) (a b : Result Reading Cause) → LineGives reading line a → LineGives reading line b → a ≡ b
+LineGives-unique : (reading : Reading) (line : List ℕ) (a b : Result Line Cause) → LineGives reading line a → LineGives reading line b → a ≡ b
 LineGives-unique reading line a b first second =
     MatchBool-unique (λ result. result ≡ Err TooLong) (λ result. MatchBool (is_printable line) (WordsGive reading (words_of line) result) (result ≡ Err Byte)) (nat_lt LINE_MAX (length line))
     (same_value (Err TooLong))
@@ -405,19 +467,20 @@ LineGives-unique reading line a b first second =
     a b first second
 
 -- what comes after a line
-after_unique : (number : ℕ) (lines : List (List ℕ)) → ((after : Reading) (a b : Result Meaning ScriptFault) → LinesGive (number + 1) after lines a → LinesGive (number + 1) after lines b → a ≡ b)
-    → (next : Result Reading Cause) (a b : Result Meaning ScriptFault)
-    → MatchResult next (λ after. LinesGive (number + 1) after lines a) (λ cause. a ≡ Err (record { line = number; cause = cause }))
-    → MatchResult next (λ after. LinesGive (number + 1) after lines b) (λ cause. b ≡ Err (record { line = number; cause = cause })) → a ≡ b
-after_unique number lines later (Ok after) a b first second = later after a b first second
-after_unique number lines later (Err cause) a b first second = first ∙ sym second
+after_unique : (number : ℕ) (reading : Reading) (rest : List (List ℕ))
+    → ((after : Reading) (a b : Result Meaning ScriptFault) → LinesGive (number + 1) after rest a → LinesGive (number + 1) after rest b → a ≡ b)
+    → (next : Result Line Cause) (a b : Result Meaning ScriptFault)
+    → MatchResult next (λ said. LinesGive (number + 1) (reading_after reading said) rest a) (λ cause. a ≡ Err (record { line = number; cause = cause }))
+    → MatchResult next (λ said. LinesGive (number + 1) (reading_after reading said) rest b) (λ cause. b ≡ Err (record { line = number; cause = cause })) → a ≡ b
+after_unique number reading rest later (Ok said) a b first second = later (reading_after reading said) a b first second
+after_unique number reading rest later (Err cause) a b first second = first ∙ sym second
 
-LinesGive-unique : (number : ℕ) (reading : Reading) (lines : List (List ℕ)) (a b : Result Meaning ScriptFault) → LinesGive number reading lines a → LinesGive number reading lines b → a ≡ b
+LinesGive-unique : (number : ℕ) (reading : Reading) (rest : List (List ℕ)) (a b : Result Meaning ScriptFault) → LinesGive number reading rest a → LinesGive number reading rest b → a ≡ b
 LinesGive-unique number reading [] a b first second = same_value (Ok (meaning_of reading)) a b first second
-LinesGive-unique number reading (line ∷ lines) a b first second =
+LinesGive-unique number reading (line ∷ rest) a b first second =
     let next : first.0 ≡ second.0 = LineGives-unique reading line first.0 second.0 first.1 second.1 in
-    after_unique number lines (λ after. LinesGive-unique (number + 1) after lines) second.0 a b
-    (subst (λ next. MatchResult next (λ after. LinesGive (number + 1) after lines a) (λ cause. a ≡ Err (record { line = number; cause = cause }))) next first.2) second.2
+    after_unique number reading rest (λ after. LinesGive-unique (number + 1) after rest) second.0 a b
+    (subst (λ next. MatchResult next (λ said. LinesGive (number + 1) (reading_after reading said) rest a) (λ cause. a ≡ Err (record { line = number; cause = cause }))) next first.2) second.2
 
 -- two readings of the same bytes are equal
 pub one_reading : (bytes : List ℕ) → HasOneReading bytes

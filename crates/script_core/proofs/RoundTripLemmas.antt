@@ -13,7 +13,8 @@ use Rattle.fd_table.specs.declared.Access.TheVariants.{R, W, Rw}
 use Rattle.lock_manager.specs.declared.request.LkCmd.{LkCmd}
 use Rattle.lock_manager.specs.declared.request.LkCmd.TheVariants.{GetLk, SetLk, SetLkW, OGetLk, OSetLk, OSetLkW}
 use Rattle.lock_manager.specs.declared.request.Lock.{Lock}
-use Rattle.fd_table.specs.declared.Limits.TheVariants.{Small}
+use Rattle.fd_table.specs.declared.Limits.{Limits}
+use Rattle.fd_table.specs.declared.Limits.TheVariants.{Small, Wide}
 use Rattle.lock_manager.specs.declared.request.FlockOp.{FlockOp}
 use Rattle.lock_manager.specs.declared.request.FlockOp.TheVariants.{Sh, Ex, Un}
 use Rattle.lock_manager.specs.declared.request.Request.{Request}
@@ -27,9 +28,12 @@ use Rattle.script_core.specs.Words.{words_of, is_printable}
 use Rattle.script_core.specs.RequestText.{access_word, kind_word, whence_word, op_word, nb_words, lock_command_word, pid_words, lock_words, request_words, request_text}
 use Rattle.script_core.specs.ScriptText.{IsProcess, IsDescriptor, IsWritable, IsRequest}
 use Rattle.script_core.specs.Arguments.{Command, lock_command, flock_command, command_named, has_count}
-use Rattle.script_core.specs.Reading.{Reading, RequestGives, WordsGive, LineGives, IsReadBack, reading_after, is_comment}
+use Rattle.script_core.specs.declared.line.Line.{Line}
+use Rattle.script_core.specs.declared.line.Line.TheVariants as lines
+use Rattle.script_core.specs.Reading.{Reading, RequestGives, WordsGive, LineGives, IsReadBack, is_comment, limits_of}
 use Rattle.script_core.proofs.NumberLemmas.{BeginsPlainly-decimal}
-use Rattle.script_core.proofs.ReadingLemmas.{lock_named}
+use Rattle.script_core.proofs.ReadingLemmas.{lock_named, small_process}
+use Rattle.script_core.proofs.HeaderLemmas.{IsNoHeaderWord-decimal}
 
 -- each byte is printable, and no space
 AreVisible : List ℕ → Type 0
@@ -80,6 +84,9 @@ IsWord-signed_decimal (negsuc n) fits = IsWord-minus (decimal (suc n)) (IsWord-d
 
 IsWord-descriptor : (fd : ℕ) → IsDescriptor fd → IsWord (decimal fd)
 IsWord-descriptor fd small = IsWord-decimal fd (omega (arith, small))
+
+IsWord-process : (limits : Limits) (p : ℕ) → IsProcess limits p → IsWord (decimal p)
+IsWord-process limits p is = IsWord-decimal p (small_process limits p is)
 
 not_space : (byte : ℕ) → 33 ≤ byte → (byte == 32) ≡ false
 not_space byte visible = grind (arith, nat_tests)
@@ -184,20 +191,20 @@ unfolding AreWords
 AreWords-nb_words true = (IsWord-tested (codes "nb") refl, tt)
 AreWords-nb_words false = tt
 
-AreWords-request_words : (request : Request) → IsWritable Small request → AreWords (request_words request)
+AreWords-request_words : (limits : Limits) (request : Request) → IsWritable limits request → AreWords (request_words request)
 unfolding AreWords
-AreWords-request_words (OpenFile file access) writable = (IsWord-tested (codes "open") refl, (IsWord-decimal file (omega (arith, writable)), (IsWord-access_word access, tt)))
-AreWords-request_words (Dup fd) writable = (IsWord-tested (codes "dup") refl, (IsWord-descriptor fd writable, tt))
-AreWords-request_words (DupTo fd to) writable = (IsWord-tested (codes "dup2") refl, (IsWord-descriptor fd writable.0, (IsWord-descriptor to writable.1, tt)))
-AreWords-request_words (CloseFd fd) writable = (IsWord-tested (codes "close") refl, (IsWord-descriptor fd writable, tt))
-AreWords-request_words (Seek fd offset) writable = (IsWord-tested (codes "seek") refl, (IsWord-descriptor fd writable.0, (IsWord-signed_decimal offset writable.1, tt)))
-AreWords-request_words (Resize fd size) writable = (IsWord-tested (codes "resize") refl, (IsWord-descriptor fd writable.0, (IsWord-signed_decimal size writable.1, tt)))
-AreWords-request_words (Flock fd op nb) writable = (IsWord-tested (codes "flock") refl, (IsWord-descriptor fd writable, (IsWord-op_word op, AreWords-nb_words nb)))
-AreWords-request_words (Fork child) writable = (IsWord-tested (codes "fork") refl, (IsWord-decimal child (omega (arith, writable.1)), tt))
-AreWords-request_words Exit writable = (IsWord-tested (codes "exit") refl, tt)
-AreWords-request_words (Signal target) writable = (IsWord-tested (codes "signal") refl, (IsWord-decimal target (omega (arith, writable.1)), tt))
-AreWords-request_words (Kill target) writable = (IsWord-tested (codes "kill") refl, (IsWord-decimal target (omega (arith, writable.1)), tt))
-AreWords-request_words (Lk fd cmd lock) writable = (
+AreWords-request_words limits (OpenFile file access) writable = (IsWord-tested (codes "open") refl, (IsWord-decimal file (omega (arith, writable)), (IsWord-access_word access, tt)))
+AreWords-request_words limits (Dup fd) writable = (IsWord-tested (codes "dup") refl, (IsWord-descriptor fd writable, tt))
+AreWords-request_words limits (DupTo fd to) writable = (IsWord-tested (codes "dup2") refl, (IsWord-descriptor fd writable.0, (IsWord-descriptor to writable.1, tt)))
+AreWords-request_words limits (CloseFd fd) writable = (IsWord-tested (codes "close") refl, (IsWord-descriptor fd writable, tt))
+AreWords-request_words limits (Seek fd offset) writable = (IsWord-tested (codes "seek") refl, (IsWord-descriptor fd writable.0, (IsWord-signed_decimal offset writable.1, tt)))
+AreWords-request_words limits (Resize fd size) writable = (IsWord-tested (codes "resize") refl, (IsWord-descriptor fd writable.0, (IsWord-signed_decimal size writable.1, tt)))
+AreWords-request_words limits (Flock fd op nb) writable = (IsWord-tested (codes "flock") refl, (IsWord-descriptor fd writable, (IsWord-op_word op, AreWords-nb_words nb)))
+AreWords-request_words limits (Fork child) writable = (IsWord-tested (codes "fork") refl, (IsWord-process limits child writable, tt))
+AreWords-request_words limits Exit writable = (IsWord-tested (codes "exit") refl, tt)
+AreWords-request_words limits (Signal target) writable = (IsWord-tested (codes "signal") refl, (IsWord-process limits target writable, tt))
+AreWords-request_words limits (Kill target) writable = (IsWord-tested (codes "kill") refl, (IsWord-process limits target writable, tt))
+AreWords-request_words limits (Lk fd cmd lock) writable = (
   IsWord-lock_command_word cmd,
   (
     IsWord-descriptor fd writable.0,
@@ -242,6 +249,10 @@ length-lock_command_word OSetLkW = lit≤ tt
 length-descriptor : (fd : ℕ) → IsDescriptor fd → length (decimal fd) ≤ 10
 length-descriptor fd small = length-decimal-le 10 fd (lit< tt) (omega (arith, small)) (omega (arith, small))
 
+length-process : (limits : Limits) (p : ℕ) → IsProcess limits p → length (decimal p) ≤ 2
+length-process Small p is = length-decimal-le 2 p (lit< tt) (omega (arith, is.1)) (omega (arith, is.1))
+length-process Wide p is = length-decimal-le 2 p (lit< tt) (omega (arith, is.1)) (omega (arith, is.1))
+
 length-signed_decimal : (z : ℤ) → FitsSigned w64 z → length (signed_decimal z) ≤ 20
 length-signed_decimal z fits = length_signed_le 19 z (omega (arith, fits.sfits)) (omega (arith, fits.sfits))
 
@@ -256,22 +267,22 @@ unfolding more_length
 more_length-nb_words true = lit≤ tt
 more_length-nb_words false = lit≤ tt
 
-more_length-request_words : (request : Request) → IsWritable Small request → more_length (request_words request) ≤ 118
+more_length-request_words : (limits : Limits) (request : Request) → IsWritable limits request → more_length (request_words request) ≤ 118
 unfolding more_length
-more_length-request_words (OpenFile file access) writable =
+more_length-request_words limits (OpenFile file access) writable =
     omega (arith, length-decimal-le 2 file (lit< tt) (omega (arith, writable)) (omega (arith, writable)), length-access_word access)
-more_length-request_words (Dup fd) writable = omega (arith, length-descriptor fd writable)
-more_length-request_words (DupTo fd to) writable = omega (arith, length-descriptor fd writable.0, length-descriptor to writable.1)
-more_length-request_words (CloseFd fd) writable = omega (arith, length-descriptor fd writable)
-more_length-request_words (Seek fd offset) writable = omega (arith, length-descriptor fd writable.0, length-signed_decimal offset writable.1)
-more_length-request_words (Resize fd size) writable = omega (arith, length-descriptor fd writable.0, length-signed_decimal size writable.1)
-more_length-request_words (Flock fd op nb) writable =
+more_length-request_words limits (Dup fd) writable = omega (arith, length-descriptor fd writable)
+more_length-request_words limits (DupTo fd to) writable = omega (arith, length-descriptor fd writable.0, length-descriptor to writable.1)
+more_length-request_words limits (CloseFd fd) writable = omega (arith, length-descriptor fd writable)
+more_length-request_words limits (Seek fd offset) writable = omega (arith, length-descriptor fd writable.0, length-signed_decimal offset writable.1)
+more_length-request_words limits (Resize fd size) writable = omega (arith, length-descriptor fd writable.0, length-signed_decimal size writable.1)
+more_length-request_words limits (Flock fd op nb) writable =
     omega (arith, length-descriptor fd writable, length-op_word op, more_length-nb_words nb)
-more_length-request_words (Fork child) writable = omega (arith, length-decimal-le 2 child (lit< tt) (omega (arith, writable.1)) (omega (arith, writable.1)))
-more_length-request_words Exit writable = lit≤ tt
-more_length-request_words (Signal target) writable = omega (arith, length-decimal-le 2 target (lit< tt) (omega (arith, writable.1)) (omega (arith, writable.1)))
-more_length-request_words (Kill target) writable = omega (arith, length-decimal-le 2 target (lit< tt) (omega (arith, writable.1)) (omega (arith, writable.1)))
-more_length-request_words (Lk fd cmd lock) writable =
+more_length-request_words limits (Fork child) writable = omega (arith, length-process limits child writable)
+more_length-request_words limits Exit writable = lit≤ tt
+more_length-request_words limits (Signal target) writable = omega (arith, length-process limits target writable)
+more_length-request_words limits (Kill target) writable = omega (arith, length-process limits target writable)
+more_length-request_words limits (Lk fd cmd lock) writable =
     omega (
       arith,
       length-lock_command_word cmd,
@@ -284,9 +295,9 @@ more_length-request_words (Lk fd cmd lock) writable =
     )
 
 -- words with as many arguments as their command has, which are a request, are read as it
-gives_named : (name : List ℕ) (arguments : List (List ℕ)) (command : Command) (request : Request) → command_named name ≡ Some command
-    → has_count command (length arguments) ≡ true → IsRequest Small (name ∷ arguments) request → RequestGives Small (name ∷ arguments) (Ok request)
-gives_named name arguments command request named counted is = rw (named, counted) (inr (request, is, refl))
+gives_named : (limits : Limits) (name : List ℕ) (arguments : List (List ℕ)) (command : Command) (request : Request) → command_named limits name ≡ Some command
+    → has_count command (length arguments) ≡ true → IsRequest limits (name ∷ arguments) request → RequestGives limits (name ∷ arguments) (Ok request)
+gives_named limits name arguments command request named counted is = rw (named, counted) (inr (request, is, refl))
 
 -- a lock command has so many arguments, with a pid and without
 lock_counted : (name : List ℕ) (fd : ℕ) (lock : Lock) (pid : ℤ) → has_count (lock_command name) (length (lock_words fd lock ++ pid_words pid)) ≡ true
@@ -300,37 +311,39 @@ flock_counted fd op true = refl
 flock_counted fd op false = refl
 
 -- the words of a request are that request
-is_written : (request : Request) → IsWritable Small request → IsRequest Small (request_words request) request
-is_written request writable = record { says = inl refl; writable = writable }
+is_written : (limits : Limits) (request : Request) → IsWritable limits request → IsRequest limits (request_words request) request
+is_written limits request writable = record { says = inl refl; writable = writable }
 
-gives_request : (request : Request) → IsWritable Small request → RequestGives Small (request_words request) (Ok request)
-gives_request (OpenFile file access) writable = inr (OpenFile file access, is_written (OpenFile file access) writable, refl)
-gives_request (Dup fd) writable = inr (Dup fd, is_written (Dup fd) writable, refl)
-gives_request (DupTo fd to) writable = inr (DupTo fd to, is_written (DupTo fd to) writable, refl)
-gives_request (CloseFd fd) writable = inr (CloseFd fd, is_written (CloseFd fd) writable, refl)
-gives_request (Seek fd offset) writable = inr (Seek fd offset, is_written (Seek fd offset) writable, refl)
-gives_request (Resize fd size) writable = inr (Resize fd size, is_written (Resize fd size) writable, refl)
-gives_request (Lk fd cmd lock) writable =
+gives_request : (limits : Limits) (request : Request) → IsWritable limits request → RequestGives limits (request_words request) (Ok request)
+gives_request limits (OpenFile file access) writable = inr (OpenFile file access, is_written limits (OpenFile file access) writable, refl)
+gives_request limits (Dup fd) writable = inr (Dup fd, is_written limits (Dup fd) writable, refl)
+gives_request limits (DupTo fd to) writable = inr (DupTo fd to, is_written limits (DupTo fd to) writable, refl)
+gives_request limits (CloseFd fd) writable = inr (CloseFd fd, is_written limits (CloseFd fd) writable, refl)
+gives_request limits (Seek fd offset) writable = inr (Seek fd offset, is_written limits (Seek fd offset) writable, refl)
+gives_request limits (Resize fd size) writable = inr (Resize fd size, is_written limits (Resize fd size) writable, refl)
+gives_request limits (Lk fd cmd lock) writable =
     let name = lock_command_word cmd in
-    gives_named name (lock_words fd lock ++ pid_words lock.pid) (lock_command name) (Lk fd cmd lock) (lock_named cmd) (lock_counted name fd lock lock.pid)
-    (is_written (Lk fd cmd lock) writable)
-gives_request (Flock fd op nb) writable =
-    gives_named (codes "flock") (drop 1 (request_words (Flock fd op nb))) flock_command (Flock fd op nb) refl (flock_counted fd op nb)
-    (is_written (Flock fd op nb) writable)
-gives_request (Fork child) writable = inr (Fork child, is_written (Fork child) writable, refl)
-gives_request Exit writable = inr (Exit, is_written Exit writable, refl)
-gives_request (Signal target) writable = inr (Signal target, is_written (Signal target) writable, refl)
-gives_request (Kill target) writable = inr (Kill target, is_written (Kill target) writable, refl)
+    gives_named limits name (lock_words fd lock ++ pid_words lock.pid) (lock_command name) (Lk fd cmd lock) (lock_named limits cmd) (lock_counted name fd lock lock.pid)
+    (is_written limits (Lk fd cmd lock) writable)
+gives_request limits (Flock fd op nb) writable =
+    gives_named limits (codes "flock") (drop 1 (request_words (Flock fd op nb))) flock_command (Flock fd op nb) refl (flock_counted fd op nb)
+    (is_written limits (Flock fd op nb) writable)
+gives_request limits (Fork child) writable = inr (Fork child, is_written limits (Fork child) writable, refl)
+gives_request limits Exit writable = inr (Exit, is_written limits Exit writable, refl)
+gives_request limits (Signal target) writable = inr (Signal target, is_written limits (Signal target) writable, refl)
+gives_request limits (Kill target) writable = inr (Kill target, is_written limits (Kill target) writable, refl)
 
-reads_words : (reading : Reading) (p : ℕ) (words : List (List ℕ)) (request : Request) → IsProcess Small p → RequestGives Small words (Ok request)
-    → WordsGive reading (decimal p ∷ words) (Ok (reading_after reading (Some (p, request))))
+reads_words : (reading : Reading) (p : ℕ) (words : List (List ℕ)) (request : Request) → IsProcess (limits_of reading) p → RequestGives (limits_of reading) words (Ok request)
+    → WordsGive reading (decimal p ∷ words) (Ok (lines.Arrival p request))
 reads_words reading p words request process gives =
-    let plain = BeginsPlainly-decimal p (omega (arith, process.1)) in
-    rw (is_comment-digit (decimal p) plain.at_least) (inl (p, process, refl, Ok request, gives, refl))
+    let small = small_process (limits_of reading) p process in
+    let plain = BeginsPlainly-decimal p small in
+    let none = IsNoHeaderWord-decimal p small in
+    rw (is_comment-digit (decimal p) plain.at_least, none.0, none.1) (inl (p, process, refl, Ok request, gives, refl))
 
-reads_line : (reading : Reading) (line : List ℕ) (words : List (List ℕ)) (after : Reading) → length line ≤ LINE_MAX → is_printable line ≡ true → words_of line ≡ words
-    → WordsGive reading words (Ok after) → LineGives reading line (Ok after)
-reads_line reading line words after short printable are gives =
+reads_line : (reading : Reading) (line : List ℕ) (words : List (List ℕ)) (said : Line) → length line ≤ LINE_MAX → is_printable line ≡ true → words_of line ≡ words
+    → WordsGive reading words (Ok said) → LineGives reading line (Ok said)
+reads_line reading line words said short printable are gives =
     rw (le-ltb LINE_MAX (length line) short, printable, are) gives
 
 join_cons : (p : ℕ) (request : Request) → decimal p ++ codes " " ++ request_text request ≡ join_with_byte 32 (decimal p ∷ request_words request)
@@ -348,13 +361,14 @@ join_cons p (Kill target) = append_assoc (decimal p) (codes " ") (request_text (
 join_cons p (Lk fd cmd lock) = append_assoc (decimal p) (codes " ") (request_text (Lk fd cmd lock))
 
 -- the text of a request, behind its process and a space, is a line that is read as this arrival
-pub reads_back : (p : ℕ) (request : Request) → IsProcess Small p → IsWritable Small request → IsReadBack p request
+pub reads_back : (p : ℕ) (request : Request) → IsReadBack p request
 unfolding AreWords
-reads_back p request process writable = λ reading.
+reads_back p request = λ reading process writable.
+    let limits = limits_of reading in
     let words = request_words request in
-    let are : AreWords (decimal p ∷ words) = (IsWord-decimal p (omega (arith, process.1)), AreWords-request_words request writable) in
+    let are : AreWords (decimal p ∷ words) = (IsWord-process limits p process, AreWords-request_words limits request writable) in
     let short : length (join_with_byte 32 (decimal p ∷ words)) ≤ LINE_MAX =
-    omega (arith, length-join (decimal p) words, length-decimal-le 2 p (lit< tt) (omega (arith, process.1)) (omega (arith, process.1)), more_length-request_words request writable) in
+    omega (arith, length-join (decimal p) words, length-process limits p process, more_length-request_words limits request writable) in
     rw (join_cons p request)
-    (reads_line reading (join_with_byte 32 (decimal p ∷ words)) (decimal p ∷ words) (reading_after reading (Some (p, request))) short (is_printable-join (decimal p) words are)
-    (words_of-join (decimal p) words are) (reads_words reading p words request process (gives_request request writable)))
+    (reads_line reading (join_with_byte 32 (decimal p ∷ words)) (decimal p ∷ words) (lines.Arrival p request) short (is_printable-join (decimal p) words are)
+    (words_of-join (decimal p) words are) (reads_words reading p words request process (gives_request limits request writable)))

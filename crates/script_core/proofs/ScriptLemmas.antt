@@ -4,34 +4,34 @@ use Rattle.std.specs.List.{slice_split, onto_first, enumerate_from}
 use Rattle.std.proofs.lemmas.List.{drop_all}
 use Rattle.std.proofs.lemmas.List.FromFn.{length-enumerate_from, get_or-enumerate_from}
 use Rattle.std.proofs.Common.{add-one, drop-cons}
-use Rattle.lock_manager.specs.declared.request.Request.{Request}
 use Rattle.std.proofs.lemmas.Bool.{le-ltb, eqb-true}
+use Rattle.script_core.specs.declared.line.Line.{Line}
 use Rattle.script_core.specs.declared.script.Cause.{Cause}
 use Rattle.script_core.specs.declared.script.Cause.TheVariants.{TooLong}
 use Rattle.script_core.specs.declared.script.ScriptFault.{ScriptFault}
 use Rattle.script_core.specs.ScriptText.{Meaning}
 use Rattle.script_core.specs.Words.{without_empty_end, lines_of}
-use Rattle.script_core.specs.Reading.{LineGives, LinesGive, Reads, reading_of, start}
+use Rattle.script_core.specs.Reading.{Reading, LineGives, LinesGive, Reads, meaning_of, reading_after, start}
 use Rattle.script_core.specs.declared.TheConstants.{SCRIPT_MAX}
 
 -- whatever the lines from this one on give, all the lines give
-pub record IsReadUpTo (lines : List (List ℕ)) (count : ℕ) (arrivals : List (ℕ × Request)) : Type 0 where
-  pub goes_on : (result : Result Meaning ScriptFault) → LinesGive (count + 1) (reading_of arrivals) (drop count lines) result → LinesGive 1 start lines result
+pub record IsReadUpTo (lines : List (List ℕ)) (count : ℕ) (reading : Reading) : Type 0 where
+  pub goes_on : (result : Result Meaning ScriptFault) → LinesGive (count + 1) reading (drop count lines) result → LinesGive 1 start lines result
 
-pub IsReadUpTo-more : (lines : List (List ℕ)) (count : ℕ) (line : List ℕ) (old new : List (ℕ × Request)) → IsReadUpTo lines count old
-    → drop count lines ≡ line ∷ drop (count + 1) lines → LineGives (reading_of old) line (Ok (reading_of new)) → IsReadUpTo lines (count + 1) new
-IsReadUpTo-more lines count line old new before cut gives =
-    record { goes_on = λ result rest. before.goes_on result (rw cut (Ok (reading_of new), gives, rest)) }
+pub IsReadUpTo-more : (lines : List (List ℕ)) (count : ℕ) (line : List ℕ) (old new : Reading) (said : Line) → IsReadUpTo lines count old
+    → drop count lines ≡ line ∷ drop (count + 1) lines → LineGives old line (Ok said) → new ≡ reading_after old said → IsReadUpTo lines (count + 1) new
+IsReadUpTo-more lines count line old new said before cut gives is =
+    record { goes_on = λ result rest. before.goes_on result (rw cut (Ok said, gives, subst (λ reading. LinesGive (count + 1 + 1) reading (drop (count + 1) lines) result) is rest)) }
 
-pub fault_at : (lines : List (List ℕ)) (count : ℕ) (line : List ℕ) (old : List (ℕ × Request)) (cause : Cause) → IsReadUpTo lines count old
-    → drop count lines ≡ line ∷ drop (count + 1) lines → LineGives (reading_of old) line (Err cause) → LinesGive 1 start lines (Err (record { line = count + 1; cause = cause }))
+pub fault_at : (lines : List (List ℕ)) (count : ℕ) (line : List ℕ) (old : Reading) (cause : Cause) → IsReadUpTo lines count old
+    → drop count lines ≡ line ∷ drop (count + 1) lines → LineGives old line (Err cause) → LinesGive 1 start lines (Err (record { line = count + 1; cause = cause }))
 fault_at lines count line old cause before cut gives = before.goes_on (Err (record { line = count + 1; cause = cause })) (rw cut (Err cause, gives, refl))
 
-pub read_all : (lines : List (List ℕ)) (count : ℕ) (arrivals : List (ℕ × Request)) → IsReadUpTo lines count arrivals
-    → count ≡ length lines → LinesGive 1 start lines (Ok (record { arrivals = arrivals }))
-read_all lines count arrivals before all =
+pub read_all : (lines : List (List ℕ)) (count : ℕ) (reading : Reading) → IsReadUpTo lines count reading
+    → count ≡ length lines → LinesGive 1 start lines (Ok (meaning_of reading))
+read_all lines count reading before all =
     let none : drop count lines ≡ [] = drop_all count lines (omega (arith, all)) in
-    before.goes_on (Ok (record { arrivals = arrivals })) (rw none refl)
+    before.goes_on (Ok (meaning_of reading)) (rw none refl)
 
 -- the numbered line of one turn is the next one
 pub cut_at : (lines : List (List ℕ)) (count index : ℕ) (line : List ℕ)
@@ -117,7 +117,7 @@ IsFull-slice_split byte (next ∷ bytes) other =
 
 -- an empty line at the end says nothing
 no_line : (result : Result Meaning ScriptFault) → LinesGive 1 start ([] ∷ []) result → LinesGive 1 start [] result
-no_line result (next, line, rest) = subst (λ next. MatchResult next (λ after. LinesGive 2 after [] result) (λ cause. result ≡ Err (record { line = 1; cause = cause }))) line rest
+no_line result (next, line, rest) = subst (λ next. MatchResult next (λ said. LinesGive 2 (reading_after start said) [] result) (λ cause. result ≡ Err (record { line = 1; cause = cause }))) line rest
 
 -- what the pieces give, the lines give
 pub lines_from_pieces : (bytes body : List ℕ) (result : Result Meaning ScriptFault)

@@ -7,56 +7,63 @@ use Rattle.range_core.specs.declared.Whence.{Whence}
 use Rattle.fd_table.specs.declared.TheConstants.{FILES}
 use Rattle.fd_table.specs.declared.Access.{Access}
 use Rattle.fd_table.specs.declared.Limits.{Limits}
+use Rattle.wait_core.specs.declared.Policy.{Policy}
 use Rattle.range_core.specs.Facts.{MatchFact}
 use Rattle.fd_table.specs.Descriptors.{process_limit}
 use Rattle.lock_manager.specs.declared.request.FlockOp.{FlockOp}
 use Rattle.script_core.specs.declared.script.Cause.{Cause}
 use Rattle.script_core.specs.declared.script.Cause.TheVariants.{Word, Count, Number, Process}
+use Rattle.script_core.specs.HeaderText.{policy_word, limits_word}
 use Rattle.script_core.specs.RequestText.{access_word, kind_word, whence_word, op_word}
 
 -- what may stand in the place of an argument
 pub data Argument : Type 0 where
-  FileNumber DescriptorNumber AnyNumber ProcessNumber AccessWord KindWord WhenceWord OpWord NbWord : Argument
+  FileNumber DescriptorNumber AnyNumber AccessWord KindWord WhenceWord OpWord NbWord PolicyWord LimitsWord : Argument
+  ProcessNumber : Limits → Argument
 
 -- the word is a spelling of such an argument
-abbrev pub Spells : Limits → Argument → List ℕ → Type 0
-Spells limits FileNumber word = (n : ℕ) × (n < FILES) × (word ≡ decimal n)
-Spells limits DescriptorNumber word = (n : ℕ) × (n < 2 ^ 32) × (word ≡ decimal n)
-Spells limits AnyNumber word = (z : ℤ) × FitsSigned w64 z × (word ≡ signed_decimal z)
-Spells limits ProcessNumber word = (n : ℕ) × (1 ≤ n) × (n ≤ process_limit limits) × (word ≡ decimal n)
-Spells limits AccessWord word = (access : Access) × (word ≡ access_word access)
-Spells limits KindWord word = (kind : Kind) × (word ≡ kind_word kind)
-Spells limits WhenceWord word = (whence : Whence) × (word ≡ whence_word whence)
-Spells limits OpWord word = (op : FlockOp) × (word ≡ op_word op)
-Spells limits NbWord word = word ≡ codes "nb"
+abbrev pub Spells : Argument → List ℕ → Type 0
+Spells FileNumber word = (n : ℕ) × (n < FILES) × (word ≡ decimal n)
+Spells DescriptorNumber word = (n : ℕ) × (n < 2 ^ 32) × (word ≡ decimal n)
+Spells AnyNumber word = (z : ℤ) × FitsSigned w64 z × (word ≡ signed_decimal z)
+Spells (ProcessNumber limits) word = (n : ℕ) × (1 ≤ n) × (n ≤ process_limit limits) × (word ≡ decimal n)
+Spells AccessWord word = (access : Access) × (word ≡ access_word access)
+Spells KindWord word = (kind : Kind) × (word ≡ kind_word kind)
+Spells WhenceWord word = (whence : Whence) × (word ≡ whence_word whence)
+Spells OpWord word = (op : FlockOp) × (word ≡ op_word op)
+Spells NbWord word = word ≡ codes "nb"
+Spells PolicyWord word = (policy : Policy) × (word ≡ policy_word policy)
+Spells LimitsWord word = (limits : Limits) × (word ≡ limits_word limits)
 
 -- what is wrong with a word that spells no such argument
 abbrev pub cause_of : Argument → Cause
 cause_of FileNumber = Number
 cause_of DescriptorNumber = Number
 cause_of AnyNumber = Number
-cause_of ProcessNumber = Process
+cause_of (ProcessNumber limits) = Process
 cause_of AccessWord = Word
 cause_of KindWord = Word
 cause_of WhenceWord = Word
 cause_of OpWord = Word
 cause_of NbWord = Word
+cause_of PolicyWord = Word
+cause_of LimitsWord = Word
 
 -- the word spells no such argument, and this is its cause
-abbrev pub IsBad : Limits → Argument → List ℕ → Cause → Type 0
-IsBad limits argument word cause = (¬ (Spells limits argument word)) × (cause ≡ cause_of argument)
+abbrev pub IsBad : Argument → List ℕ → Cause → Type 0
+IsBad argument word cause = (¬ (Spells argument word)) × (cause ≡ cause_of argument)
 
 -- the first of the words, from the left, that spells no argument of its place has this cause
-abbrev pub IsFirstBad : Limits → List Argument → List (List ℕ) → Cause → Type 0
-IsFirstBad limits [] words cause = ⊥
-IsFirstBad limits (argument ∷ arguments) [] cause = ⊥
-IsFirstBad limits (argument ∷ arguments) (word ∷ words) cause =
-    MatchFact (Spells limits argument word) (IsFirstBad limits arguments words cause) (cause ≡ cause_of argument)
+abbrev pub IsFirstBad : List Argument → List (List ℕ) → Cause → Type 0
+IsFirstBad [] words cause = ⊥
+IsFirstBad (argument ∷ arguments) [] cause = ⊥
+IsFirstBad (argument ∷ arguments) (word ∷ words) cause =
+    MatchFact (Spells argument word) (IsFirstBad arguments words cause) (cause ≡ cause_of argument)
 
 -- the words are not such arguments: another number of them stands there, or the first bad one has this cause
-abbrev pub AreRefused : Limits → List Argument → List (List ℕ) → Cause → Type 0
-AreRefused limits arguments words cause =
-    MatchBool (length words == length arguments) (IsFirstBad limits arguments words cause) (cause ≡ Count)
+abbrev pub AreRefused : List Argument → List (List ℕ) → Cause → Type 0
+AreRefused arguments words cause =
+    MatchBool (length words == length arguments) (IsFirstBad arguments words cause) (cause ≡ Count)
 
 -- a command: its word, the arguments that it has, and those that may follow them
 pub record Command : Type 0 where
@@ -97,25 +104,26 @@ abbrev pub flock_command : Command
 flock_command = record { name = codes "flock"; required = DescriptorNumber ∷ OpWord ∷ []; optional = NbWord ∷ [] }
 
 -- a command on a process alone: fork, signal, kill
-abbrev pub process_command : List ℕ → Command
-process_command name = plain_command name (ProcessNumber ∷ [])
+abbrev pub process_command : Limits → List ℕ → Command
+process_command limits name = plain_command name (ProcessNumber limits ∷ [])
 
 -- exit: no argument
 abbrev pub exit_command : Command
 exit_command = plain_command (codes "exit") []
 
--- all commands
-abbrev pub commands : List Command
-commands =
+-- all commands, with the processes that these limits have
+abbrev pub commands : Limits → List Command
+commands limits =
     open_command ∷ descriptor_command (codes "dup") ∷ dup_to_command ∷ descriptor_command (codes "close")
     ∷ number_command (codes "seek") ∷ number_command (codes "resize")
     ∷ lock_command (codes "getlk") ∷ lock_command (codes "setlk") ∷ lock_command (codes "setlkw")
     ∷ lock_command (codes "ogetlk") ∷ lock_command (codes "osetlk") ∷ lock_command (codes "osetlkw")
-    ∷ flock_command ∷ process_command (codes "fork") ∷ process_command (codes "signal") ∷ process_command (codes "kill") ∷ exit_command ∷ []
+    ∷ flock_command ∷ process_command limits (codes "fork") ∷ process_command limits (codes "signal") ∷ process_command limits (codes "kill")
+    ∷ exit_command ∷ []
 
 -- the command of this word, if it is one
-abbrev pub command_named : List ℕ → Option Command
-command_named word = find (λ command. bytes_eq command.name word) commands
+abbrev pub command_named : Limits → List ℕ → Option Command
+command_named limits word = find (λ command. bytes_eq command.name word) (commands limits)
 
 -- whether the command has so many arguments: those required, with the optional ones or without
 abbrev pub has_count : Command → ℕ → Bool

@@ -1,9 +1,11 @@
 pub mod Words
 pub mod Numbers
 pub mod RequestText
+pub mod HeaderText
 pub mod Arguments
 pub mod ScriptText
 pub mod Reading
+pub mod WithoutHeaders
 pub mod EntryText
 pub mod ReportText
 pub mod Output

@@ -1,9 +1,6 @@
 -- The output of a script (this project's choice).
 use Rattle.std.specs.Prelude.{◌≡◌, ℕ, Ok, List, ◌++◌, length, flat_map}
-use Rattle.fd_table.specs.declared.Limits.TheVariants.{Small}
 use Rattle.fd_table.specs.Descriptors.{process_limit}
-use Rattle.wait_core.specs.declared.Policy.TheVariants.{Held}
-use Rattle.lock_manager.specs.declared.request.Rules.{Rules}
 use Rattle.lock_manager.specs.State.{State}
 use Rattle.session_core.specs.Event.{Event}
 use Rattle.session_core.specs.Mail.{requests_sent}
@@ -20,23 +17,19 @@ pub record AppendsPartOf (old new text : List ℕ) : Type 0 where
   pub is : text ≡ front ++ rest
   pub appended : new ≡ old ++ front
 
--- the rules under which a script runs
-abbrev pub script_rules : Rules
-script_rules = record { policy = Held; limits = Small }
+-- how many processes a script has: as many as its limits allow
+abbrev pub processes_in : Meaning → ℕ
+processes_in script = process_limit script.rules.limits
 
--- how many processes a script has
-abbrev pub script_processes : ℕ
-script_processes = process_limit script_rules.limits
-
--- the script is accepted, and the text is the lines of the journal that its arrivals make, and then the report
+-- the script is accepted, and the text is the lines of the journal that its arrivals make under its rules, and then the report
 pub record IsOutput (bytes text : List ℕ) : Type 0 where
   pub script : Meaning
   pub accepted : Reads bytes (Ok script)
   pub journal : List Event
   pub state : State
-  pub drained : IsDrain script_rules script_processes script.arrivals journal state
+  pub drained : IsDrain script.rules (processes_in script) script.arrivals journal state
   pub report : List ℕ
-  pub is_report : IsReport script_processes state journal (λ p. length (requests_sent p script.arrivals)) report
+  pub is_report : IsReport (processes_in script) state journal (λ p. length (requests_sent p script.arrivals)) report
   pub is : text ≡ flat_map entry_line journal ++ report
 
 -- two outputs of the same bytes are equal

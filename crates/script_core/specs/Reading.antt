@@ -1,56 +1,82 @@
 -- How a script is read: line by line, up to the first fault (this project's choice).
-use Rattle.std.specs.Prelude.{◌≡◌, ℕ, ◌+◌, ◌==◌, ◌⊎◌, Bool, false, nat_lt, MatchBool, MatchOption, MatchResult, Option, None, Some, Result, Ok, Err, List, [], ◌∷◌, ◌++◌, length, codes, decimal}
+use Rattle.std.specs.Prelude.{◌≡◌, ℕ, ◌+◌, ◌==◌, ◌⊎◌, Bool, true, false, ◌&&◌, nat_lt, MatchBool, MatchOption, MatchResult, Option, None, Some, is_none, unwrap_or, Result, Ok, Err, List, [], ◌∷◌, ◌++◌, length, codes, decimal, bytes_eq}
 use Rattle.fd_table.specs.declared.Limits.{Limits}
 use Rattle.fd_table.specs.declared.Limits.TheVariants.{Small}
+use Rattle.wait_core.specs.declared.Policy.{Policy}
+use Rattle.wait_core.specs.declared.Policy.TheVariants.{Held}
 use Rattle.lock_manager.specs.declared.request.Request.{Request}
 use Rattle.script_core.specs.declared.TheConstants.{LINE_MAX, SCRIPT_MAX}
+use Rattle.script_core.specs.declared.line.Line.{Line}
+use Rattle.script_core.specs.declared.line.Line.TheVariants as lines
 use Rattle.script_core.specs.declared.script.Cause.{Cause}
 use Rattle.script_core.specs.declared.script.Cause.TheVariants.{Byte, Word, Count, Process, TooLong}
 use Rattle.script_core.specs.declared.script.ScriptFault.{ScriptFault}
+use Rattle.script_core.specs.HeaderText.{policy_word, limits_word}
 use Rattle.script_core.specs.RequestText.{request_text}
 use Rattle.script_core.specs.Words.{lines_of, words_of, is_printable}
-use Rattle.script_core.specs.Arguments.{ProcessNumber, Spells, IsFirstBad, Command, command_named, has_count}
-use Rattle.script_core.specs.ScriptText.{Meaning, IsProcess, IsRequest}
+use Rattle.script_core.specs.Arguments.{ProcessNumber, PolicyWord, LimitsWord, Spells, IsFirstBad, AreRefused, Command, command_named, has_count}
+use Rattle.script_core.specs.ScriptText.{Meaning, IsProcess, IsWritable, IsRequest}
 
--- what was read so far: the arrivals
+-- what was read so far: what the header lines said, and the arrivals
 pub record Reading : Type 0 where
+  pub policy : Option Policy
+  pub limits : Option Limits
   pub arrivals : List (ℕ × Request)
-
--- these arrivals were read
-abbrev pub reading_of : List (ℕ × Request) → Reading
-reading_of arrivals = record { arrivals = arrivals }
 
 -- nothing was read
 abbrev pub start : Reading
-start = reading_of []
+start = record { policy = None; limits = None; arrivals = [] }
 
--- the limits that hold for the next line
+-- the limits that hold for the next line: small ones where no line said others
 abbrev pub limits_of : Reading → Limits
-limits_of reading = Small
+limits_of reading = unwrap_or reading.limits Small
 
--- the meaning of what was read
+-- the meaning of what was read: the policy is held where no line said another
 abbrev pub meaning_of : Reading → Meaning
-meaning_of reading = record { arrivals = reading.arrivals }
+meaning_of reading =
+    record { rules = record { policy = unwrap_or reading.policy Held; limits = limits_of reading }; arrivals = reading.arrivals }
 
--- the reading after a line that is an arrival, or is skipped
-abbrev pub reading_after : Reading → Option (ℕ × Request) → Reading
-reading_after reading None = reading
-reading_after reading (Some arrival) = record reading { arrivals = reading.arrivals ++ arrival ∷ [] }
+-- the reading after a line that says this
+abbrev pub reading_after : Reading → Line → Reading
+reading_after reading lines.Skipped = reading
+reading_after reading (lines.Policy policy) = record reading { policy = Some policy }
+reading_after reading (lines.Limits limits) = record reading { limits = Some limits }
+reading_after reading (lines.Arrival p request) = record reading { arrivals = reading.arrivals ++ (p, request) ∷ [] }
 
--- what comes of a reading after a line that says this, or has this fault
-abbrev pub reading_result : Reading → Result (Option (ℕ × Request)) Cause → Result Reading Cause
-reading_result reading (Ok found) = Ok (reading_after reading found)
-reading_result reading (Err cause) = Err cause
+-- whether the list is empty
+abbrev pub is_empty : List (ℕ × Request) → Bool
+is_empty [] = true
+is_empty (arrival ∷ arrivals) = false
 
 -- a comment begins with `#`
 abbrev pub is_comment : List ℕ → Bool
 is_comment [] = false
 is_comment (byte ∷ bytes) = byte == 35
 
+-- the line of this first word says the policy: no line said it, and none was an arrival
+abbrev pub says_policy : Reading → List ℕ → Bool
+says_policy reading first = bytes_eq first (codes "policy") && (is_none reading.policy && is_empty reading.arrivals)
+
+-- the line of this first word says the limits: no line said them, and none was an arrival
+abbrev pub says_limits : Reading → List ℕ → Bool
+says_limits reading first = bytes_eq first (codes "limits") && (is_none reading.limits && is_empty reading.arrivals)
+
+-- what follows the word `policy`: the word of a policy
+abbrev pub PolicyGives : List (List ℕ) → Result Line Cause → Type 0
+PolicyGives words result =
+    ((cause : Cause) × AreRefused (PolicyWord ∷ []) words cause × (result ≡ Err cause))
+    ⊎ ((policy : Policy) × (words ≡ policy_word policy ∷ []) × (result ≡ Ok (lines.Policy policy)))
+
+-- what follows the word `limits`: the word of limits
+abbrev pub LimitsGive : List (List ℕ) → Result Line Cause → Type 0
+LimitsGive words result =
+    ((cause : Cause) × AreRefused (LimitsWord ∷ []) words cause × (result ≡ Err cause))
+    ⊎ ((limits : Limits) × (words ≡ limits_word limits ∷ []) × (result ≡ Ok (lines.Limits limits)))
+
 -- the arguments of a command that are as many as it has: the first bad one is told, and else the words are a request
 abbrev pub ArgumentsGive : Limits → List (List ℕ) → Command → List (List ℕ) → Result Request Cause → Type 0
 ArgumentsGive limits words command arguments result =
-    ((cause : Cause) × IsFirstBad limits (command.required ++ command.optional) arguments cause × (result ≡ Err cause))
+    ((cause : Cause) × IsFirstBad (command.required ++ command.optional) arguments cause × (result ≡ Err cause))
     ⊎ ((request : Request) × IsRequest limits words request × (result ≡ Ok request))
 
 -- a command with its arguments: a wrong number of them, or arguments
@@ -62,25 +88,31 @@ CommandGives limits words command arguments result =
 abbrev pub RequestGives : Limits → List (List ℕ) → Result Request Cause → Type 0
 RequestGives limits [] result = result ≡ Err Count
 RequestGives limits (name ∷ arguments) result =
-    MatchOption (command_named name) (result ≡ Err Word)
+    MatchOption (command_named limits name) (result ≡ Err Word)
     (λ command. CommandGives limits (name ∷ arguments) command arguments result)
 
 -- a line of this process: a fault of its request is the line's, and else the line is an arrival
-abbrev pub ArrivalGives : Reading → ℕ → Result Request Cause → Result Reading Cause → Type 0
-ArrivalGives reading p (Ok request) result = result ≡ Ok (reading_after reading (Some (p, request)))
-ArrivalGives reading p (Err cause) result = result ≡ Err cause
+abbrev pub ArrivalGives : ℕ → Result Request Cause → Result Line Cause → Type 0
+ArrivalGives p (Ok request) result = result ≡ Ok (lines.Arrival p request)
+ArrivalGives p (Err cause) result = result ≡ Err cause
 
--- the words of a line: none or a comment, which is skipped; else a process and a request
-abbrev pub WordsGive : Reading → List (List ℕ) → Result Reading Cause → Type 0
-WordsGive reading [] result = result ≡ Ok reading
+-- a first word, and what follows it: a process and a request
+abbrev pub ProcessGives : Limits → List ℕ → List (List ℕ) → Result Line Cause → Type 0
+ProcessGives limits first rest result =
+    ((p : ℕ) × IsProcess limits p × (first ≡ decimal p)
+    × (next : Result Request Cause) × RequestGives limits rest next × ArrivalGives p next result)
+    ⊎ ((¬ (Spells (ProcessNumber limits) first)) × (result ≡ Err Process))
+
+-- the words of a line: none or a comment, which is skipped; a header line, where one may stand; else a process and a request
+abbrev pub WordsGive : Reading → List (List ℕ) → Result Line Cause → Type 0
+WordsGive reading [] result = result ≡ Ok lines.Skipped
 WordsGive reading (first ∷ rest) result =
-    MatchBool (is_comment first) (result ≡ Ok reading)
-    (((p : ℕ) × IsProcess (limits_of reading) p × (first ≡ decimal p)
-    × (next : Result Request Cause) × RequestGives (limits_of reading) rest next × ArrivalGives reading p next result)
-    ⊎ ((¬ (Spells (limits_of reading) ProcessNumber first)) × (result ≡ Err Process)))
+    MatchBool (is_comment first) (result ≡ Ok lines.Skipped)
+    (MatchBool (says_policy reading first) (PolicyGives rest result)
+    (MatchBool (says_limits reading first) (LimitsGive rest result) (ProcessGives (limits_of reading) first rest result)))
 
 -- a line: too long, with a byte that isn't printable, or words
-abbrev pub LineGives : Reading → List ℕ → Result Reading Cause → Type 0
+abbrev pub LineGives : Reading → List ℕ → Result Line Cause → Type 0
 LineGives reading line result =
     MatchBool (nat_lt LINE_MAX (length line)) (result ≡ Err TooLong)
     (MatchBool (is_printable line) (WordsGive reading (words_of line) result) (result ≡ Err Byte))
@@ -89,8 +121,9 @@ LineGives reading line result =
 abbrev pub LinesGive : ℕ → Reading → List (List ℕ) → Result Meaning ScriptFault → Type 0
 LinesGive number reading [] result = result ≡ Ok (meaning_of reading)
 LinesGive number reading (line ∷ lines) result =
-    (next : Result Reading Cause) × LineGives reading line next
-    × MatchResult next (λ after. LinesGive (number + 1) after lines result) (λ cause. result ≡ Err (record { line = number; cause = cause }))
+    (next : Result Line Cause) × LineGives reading line next
+    × MatchResult next (λ said. LinesGive (number + 1) (reading_after reading said) lines result)
+    (λ cause. result ≡ Err (record { line = number; cause = cause }))
 
 -- a script: its meaning, or the first fault of its first faulty line
 abbrev pub Reads : List ℕ → Result Meaning ScriptFault → Type 0
@@ -102,7 +135,8 @@ Reads bytes result =
 abbrev pub HasOneReading : List ℕ → Type 0
 HasOneReading bytes = (a b : Result Meaning ScriptFault) → Reads bytes a → Reads bytes b → a ≡ b
 
--- the text of the request, behind its process and a space, is a line that is read as this arrival
+-- the text of the request, behind its process and a space, is read as this arrival, wherever the limits have its numbers
 abbrev pub IsReadBack : ℕ → Request → Type 0
 IsReadBack p request =
-    (reading : Reading) → LineGives reading (decimal p ++ codes " " ++ request_text request) (Ok (reading_after reading (Some (p, request))))
+    (reading : Reading) → IsProcess (limits_of reading) p → IsWritable (limits_of reading) request
+    → LineGives reading (decimal p ++ codes " " ++ request_text request) (Ok (lines.Arrival p request))

@@ -3,24 +3,26 @@ use Rattle.std.specs.Prelude.{◌≡◌, ℕ, ◌^◌, ◌<◌, ◌≤◌, ◌�
 use Rattle.std.specs.Int.{w64}
 use Rattle.fd_table.specs.declared.TheConstants.{FILES}
 use Rattle.fd_table.specs.declared.Limits.{Limits}
+use Rattle.lock_manager.specs.declared.request.Rules.{Rules}
 use Rattle.lock_manager.specs.declared.request.Request.{Request}
 use Rattle.lock_manager.specs.declared.request.Request.TheVariants.{OpenFile, Dup, DupTo, CloseFd, Seek, Resize, Lk, Flock, Fork, Exit, Signal, Kill}
 use Rattle.fd_table.specs.Descriptors.{process_limit}
 use Rattle.script_core.specs.RequestText.{request_words}
 
--- the requests of a script with their processes, in order
+-- the rules of a script, and its requests with their processes, in order
 pub record Meaning : Type 0 where
+  pub rules : Rules
   pub arrivals : List (ℕ × Request)
 
 -- the number is that of a descriptor as a script may write it
 abbrev pub IsDescriptor : ℕ → Type 0
 IsDescriptor fd = fd < 2 ^ 32
 
--- the number is that of a process
+-- the number is that of a process under these limits
 abbrev pub IsProcess : Limits → ℕ → Type 0
 IsProcess limits p = (1 ≤ p) × (p ≤ process_limit limits)
 
--- the numbers of the request are such as a script may write
+-- the numbers of the request are such as a script of these limits may write
 abbrev pub IsWritable : Limits → Request → Type 0
 IsWritable limits (OpenFile file access) = file < FILES
 IsWritable limits (Dup fd) = IsDescriptor fd
@@ -56,7 +58,7 @@ abbrev pub Says : List (List ℕ) → Request → Type 0
 Says words request =
     (words ≡ request_words request) ⊎ (HasZeroPid request × (words ≡ request_words request ++ codes "0" ∷ []))
 
--- the words are a request as a script may write it
+-- the words are a request as a script of these limits may write it
 pub record IsRequest (limits : Limits) (words : List (List ℕ)) (request : Request) : Type 0 where
   pub says : Says words request
   pub writable : IsWritable limits request

@@ -1,26 +1,35 @@
 ghost use Rattle.std.specs.Prelude.{◌≡◌, ◌<◌, ◌^◌, MatchResult, codes, decimal};
 ghost use Rattle.std.specs.Fmt.{signed_decimal};
-ghost use Rattle.fd_table.specs.declared.Limits.TheVariants.{Small};
-ghost use Rattle.script_core.specs.Arguments.{FileNumber, DescriptorNumber, AnyNumber, ProcessNumber, AccessWord, KindWord, WhenceWord, OpWord, NbWord, IsBad};
+ghost use Rattle.fd_table.specs.Descriptors as spec;
+ghost use Rattle.script_core.specs.Arguments.{FileNumber, DescriptorNumber, AnyNumber, ProcessNumber, AccessWord, KindWord, WhenceWord, OpWord, NbWord, PolicyWord, LimitsWord, IsBad};
+ghost use Rattle.script_core.specs.HeaderText.{policy_word, limits_word};
 ghost use Rattle.script_core.specs.RequestText.{access_word, kind_word, whence_word, op_word};
 ghost use Rattle.script_core.specs.ScriptText.{IsDescriptor, IsProcess};
 
 use crate::Cause;
 use crate::numbers::{integer_of, natural_of};
-use fd_table::{Access, FILES};
+use fd_table::{Access, FILES, Limits};
 use lock_manager::FlockOp;
 use range_core::{Kind, Whence};
+use wait_core::Policy;
 
-/// The number of processes.
-const PROCESSES: u64 = 16;
+/// How many processes a script of these limits has (this project's choice).
+pub fn process_limit(limits: Limits) -> u8
+    ensures { result ≡ spec.process_limit limits }
+{
+    match limits {
+        Limits::Small => 16,
+        Limits::Wide => 64,
+    }
+}
 
-/// The number of a process.
+/// The number of a process, of which there are as many as the limits say.
 #[tactic(auto, using(crate::proofs::NumberLemmas::one_number))]
-pub fn read_process(word: &str) -> Result<u8, Cause>
-    ensures { MatchResult result (λ p. IsProcess Small p × (word.now ≡ decimal p)) (IsBad Small ProcessNumber word.now) }
+pub fn read_process(limits: Limits, word: &str) -> Result<u8, Cause>
+    ensures { MatchResult result (λ p. IsProcess limits p × (word.now ≡ decimal p)) (IsBad (ProcessNumber limits) word.now) }
 {
     match natural_of(word) {
-        Some(p) if 1 <= p && p <= PROCESSES => Ok(p as u8),
+        Some(p) if 1 <= p && p <= u64::from(process_limit(limits)) => Ok(p as u8),
         _ => Err(Cause::Process),
     }
 }
@@ -28,7 +37,7 @@ pub fn read_process(word: &str) -> Result<u8, Cause>
 /// The number of a file.
 #[tactic(auto, using(crate::proofs::NumberLemmas::one_number))]
 pub fn read_file(word: &str) -> Result<u8, Cause>
-    ensures { MatchResult result (λ file. (file < FILES) × (word.now ≡ decimal file)) (IsBad Small FileNumber word.now) }
+    ensures { MatchResult result (λ file. (file < FILES) × (word.now ≡ decimal file)) (IsBad FileNumber word.now) }
 {
     match natural_of(word) {
         Some(file) if file < u64::from(FILES) => Ok(file as u8),
@@ -39,7 +48,7 @@ pub fn read_file(word: &str) -> Result<u8, Cause>
 /// The number of a descriptor: any of 32 bits, since the manager is to judge it.
 #[tactic(auto, using(crate::proofs::NumberLemmas::one_number))]
 pub fn read_descriptor(word: &str) -> Result<u32, Cause>
-    ensures { MatchResult result (λ fd. word.now ≡ decimal fd) (IsBad Small DescriptorNumber word.now) }
+    ensures { MatchResult result (λ fd. word.now ≡ decimal fd) (IsBad DescriptorNumber word.now) }
 {
     match natural_of(word) {
         Some(fd) if fd <= u64::from(u32::MAX) => Ok(fd as u32),
@@ -49,14 +58,14 @@ pub fn read_descriptor(word: &str) -> Result<u32, Cause>
 
 /// A number of 64 bits, with a minus sign where it is negative.
 pub fn read_number(word: &str) -> Result<i64, Cause>
-    ensures { MatchResult result (λ z. word.now ≡ signed_decimal z) (IsBad Small AnyNumber word.now) }
+    ensures { MatchResult result (λ z. word.now ≡ signed_decimal z) (IsBad AnyNumber word.now) }
 {
     integer_of(word).ok_or(Cause::Number)
 }
 
 /// An access mode.
 pub fn read_access(word: &str) -> Result<Access, Cause>
-    ensures { MatchResult result (λ access. word.now ≡ access_word access) (IsBad Small AccessWord word.now) }
+    ensures { MatchResult result (λ access. word.now ≡ access_word access) (IsBad AccessWord word.now) }
 {
     match word {
         "r" => Ok(Access::R),
@@ -68,7 +77,7 @@ pub fn read_access(word: &str) -> Result<Access, Cause>
 
 /// What a lock description asks for.
 pub fn read_kind(word: &str) -> Result<Kind, Cause>
-    ensures { MatchResult result (λ kind. word.now ≡ kind_word kind) (IsBad Small KindWord word.now) }
+    ensures { MatchResult result (λ kind. word.now ≡ kind_word kind) (IsBad KindWord word.now) }
 {
     match word {
         "r" => Ok(Kind::Read),
@@ -80,7 +89,7 @@ pub fn read_kind(word: &str) -> Result<Kind, Cause>
 
 /// What the start of a range is counted from.
 pub fn read_whence(word: &str) -> Result<Whence, Cause>
-    ensures { MatchResult result (λ whence. word.now ≡ whence_word whence) (IsBad Small WhenceWord word.now) }
+    ensures { MatchResult result (λ whence. word.now ≡ whence_word whence) (IsBad WhenceWord word.now) }
 {
     match word {
         "set" => Ok(Whence::Set),
@@ -92,7 +101,7 @@ pub fn read_whence(word: &str) -> Result<Whence, Cause>
 
 /// An operation of flock.
 pub fn read_op(word: &str) -> Result<FlockOp, Cause>
-    ensures { MatchResult result (λ op. word.now ≡ op_word op) (IsBad Small OpWord word.now) }
+    ensures { MatchResult result (λ op. word.now ≡ op_word op) (IsBad OpWord word.now) }
 {
     match word {
         "sh" => Ok(FlockOp::Sh),
@@ -104,10 +113,32 @@ pub fn read_op(word: &str) -> Result<FlockOp, Cause>
 
 /// The word of `LOCK_NB`.
 pub fn read_nb(word: &str) -> Result<(), Cause>
-    ensures { MatchResult result (λ unit. word.now ≡ codes "nb") (IsBad Small NbWord word.now) }
+    ensures { MatchResult result (λ unit. word.now ≡ codes "nb") (IsBad NbWord word.now) }
 {
     match word {
         "nb" => Ok(()),
+        _ => Err(Cause::Word),
+    }
+}
+
+/// The word of a policy.
+pub fn read_policy(word: &str) -> Result<Policy, Cause>
+    ensures { MatchResult result (λ policy. word.now ≡ policy_word policy) (IsBad PolicyWord word.now) }
+{
+    match word {
+        "held" => Ok(Policy::Held),
+        "queue" => Ok(Policy::Queue),
+        _ => Err(Cause::Word),
+    }
+}
+
+/// The word of limits.
+pub fn read_limits(word: &str) -> Result<Limits, Cause>
+    ensures { MatchResult result (λ limits. word.now ≡ limits_word limits) (IsBad LimitsWord word.now) }
+{
+    match word {
+        "small" => Ok(Limits::Small),
+        "wide" => Ok(Limits::Wide),
         _ => Err(Cause::Word),
     }
 }

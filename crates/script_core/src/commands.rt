@@ -1,6 +1,6 @@
 ghost use Rattle.std.specs.Prelude.{◌≡◌, pos, [], ◌∷◌, MatchResult, codes, decimal};
 ghost use Rattle.std.specs.Fmt.{signed_decimal};
-ghost use Rattle.fd_table.specs.declared.Limits.TheVariants.{Small};
+ghost use Rattle.fd_table.specs.declared.Limits.{Limits};
 ghost use Rattle.script_core.specs.Words.{texts};
 ghost use Rattle.script_core.specs.RequestText.{lock_command_word, lock_words};
 ghost use Rattle.script_core.specs.Arguments.{DescriptorNumber, AnyNumber, ProcessNumber, IsFirstBad, AreRefused, open_command, dup_to_command, exit_command, flock_command, lock_arguments, lock_command};
@@ -12,11 +12,12 @@ use crate::arguments::{
     read_access, read_descriptor, read_file, read_kind, read_nb, read_number, read_op,
     read_process, read_whence,
 };
+use fd_table::Limits;
 use lock_manager::{LkCmd, Lock, Request};
 
-/// The request that a command of this name makes of its arguments.
-pub fn read_command(name: &str, arguments: &[&str]) -> Result<Request, Cause>
-    ensures { RequestGives Small (name.now ∷ texts arguments.now) result }
+/// The request that a command of this name makes of its arguments, where a script has these limits.
+pub fn read_command(limits: Limits, name: &str, arguments: &[&str]) -> Result<Request, Cause>
+    ensures { RequestGives limits (name.now ∷ texts arguments.now) result }
 {
     match name {
         "open" => read_open(arguments),
@@ -38,16 +39,16 @@ pub fn read_command(name: &str, arguments: &[&str]) -> Result<Request, Cause>
         "osetlk" => read_lock(LkCmd::OSetLk, arguments),
         "osetlkw" => read_lock(LkCmd::OSetLkW, arguments),
         "flock" => read_flock(arguments),
-        "fork" => read_process_alone(arguments).map(|child| Request::Fork { child }),
-        "signal" => read_process_alone(arguments).map(|target| Request::Signal { target }),
-        "kill" => read_process_alone(arguments).map(|target| Request::Kill { target }),
+        "fork" => read_process_alone(limits, arguments).map(|child| Request::Fork { child }),
+        "signal" => read_process_alone(limits, arguments).map(|target| Request::Signal { target }),
+        "kill" => read_process_alone(limits, arguments).map(|target| Request::Kill { target }),
         "exit" => read_exit(arguments),
         _ => Err(Cause::Word),
     }
 }
 
 fn read_open(arguments: &[&str]) -> Result<Request, Cause>
-    ensures { CommandGives Small (codes "open" ∷ texts arguments.now) open_command (texts arguments.now) result }
+    ensures { (limits : Limits) → CommandGives limits (codes "open" ∷ texts arguments.now) open_command (texts arguments.now) result }
 {
     let [file, access] = arguments else {
         return Err(Cause::Count);
@@ -60,7 +61,7 @@ fn read_open(arguments: &[&str]) -> Result<Request, Cause>
 /// The arguments of a command on a descriptor alone.
 fn read_descriptor_alone(arguments: &[&str]) -> Result<u32, Cause>
     ensures { MatchResult result (λ fd. texts arguments.now ≡ decimal fd ∷ [])
-        (AreRefused Small (DescriptorNumber ∷ []) (texts arguments.now)) }
+        (AreRefused (DescriptorNumber ∷ []) (texts arguments.now)) }
 {
     match arguments {
         [fd] => read_descriptor(fd),
@@ -71,7 +72,7 @@ fn read_descriptor_alone(arguments: &[&str]) -> Result<u32, Cause>
 /// The arguments of a command on a descriptor and a number.
 fn read_descriptor_and_number(arguments: &[&str]) -> Result<(u32, i64), Cause>
     ensures { MatchResult result (λ pair. texts arguments.now ≡ decimal pair.0 ∷ signed_decimal pair.1 ∷ [])
-        (AreRefused Small (DescriptorNumber ∷ AnyNumber ∷ []) (texts arguments.now)) }
+        (AreRefused (DescriptorNumber ∷ AnyNumber ∷ []) (texts arguments.now)) }
 {
     match arguments {
         [fd, number] => Ok((read_descriptor(fd)?, read_number(number)?)),
@@ -80,7 +81,7 @@ fn read_descriptor_and_number(arguments: &[&str]) -> Result<(u32, i64), Cause>
 }
 
 fn read_dup_to(arguments: &[&str]) -> Result<Request, Cause>
-    ensures { CommandGives Small (codes "dup2" ∷ texts arguments.now) dup_to_command (texts arguments.now) result }
+    ensures { (limits : Limits) → CommandGives limits (codes "dup2" ∷ texts arguments.now) dup_to_command (texts arguments.now) result }
 {
     let [fd, to] = arguments else {
         return Err(Cause::Count);
@@ -91,18 +92,18 @@ fn read_dup_to(arguments: &[&str]) -> Result<Request, Cause>
 }
 
 /// The arguments of a command on a process alone.
-fn read_process_alone(arguments: &[&str]) -> Result<u8, Cause>
-    ensures { MatchResult result (λ p. IsProcess Small p × (texts arguments.now ≡ decimal p ∷ []))
-        (AreRefused Small (ProcessNumber ∷ []) (texts arguments.now)) }
+fn read_process_alone(limits: Limits, arguments: &[&str]) -> Result<u8, Cause>
+    ensures { MatchResult result (λ p. IsProcess limits p × (texts arguments.now ≡ decimal p ∷ []))
+        (AreRefused (ProcessNumber limits ∷ []) (texts arguments.now)) }
 {
     match arguments {
-        [process] => read_process(process),
+        [process] => read_process(limits, process),
         _ => Err(Cause::Count),
     }
 }
 
 fn read_exit(arguments: &[&str]) -> Result<Request, Cause>
-    ensures { CommandGives Small (codes "exit" ∷ texts arguments.now) exit_command (texts arguments.now) result }
+    ensures { (limits : Limits) → CommandGives limits (codes "exit" ∷ texts arguments.now) exit_command (texts arguments.now) result }
 {
     match arguments {
         [] => Ok(Request::Exit),
@@ -112,7 +113,7 @@ fn read_exit(arguments: &[&str]) -> Result<Request, Cause>
 
 /// flock: its arguments, and then `nb` where it is written.
 fn read_flock(arguments: &[&str]) -> Result<Request, Cause>
-    ensures { CommandGives Small (codes "flock" ∷ texts arguments.now) flock_command (texts arguments.now) result }
+    ensures { (limits : Limits) → CommandGives limits (codes "flock" ∷ texts arguments.now) flock_command (texts arguments.now) result }
 {
     match arguments {
         [fd, op] => {
@@ -133,7 +134,7 @@ fn read_flock(arguments: &[&str]) -> Result<Request, Cause>
 /// A lock command: its arguments, and then the pid where it is written.
 fn read_lock(cmd: LkCmd, arguments: &[&str]) -> Result<Request, Cause>
     ensures { let name = lock_command_word cmd in
-        CommandGives Small (name ∷ texts arguments.now) (lock_command name) (texts arguments.now) result }
+        (limits : Limits) → CommandGives limits (name ∷ texts arguments.now) (lock_command name) (texts arguments.now) result }
 {
     match arguments {
         [fd, kind, whence, start, len] => {
@@ -160,7 +161,7 @@ fn read_described(
 ) -> Result<(u32, Lock), Cause>
     ensures { let words = fd.now ∷ kind.now ∷ whence.now ∷ start.now ∷ len.now ∷ [] in
         MatchResult result (λ described. (words ≡ lock_words described.0 described.1) × (described.1.pid ≡ pos 0))
-        (IsFirstBad Small lock_arguments words) }
+        (IsFirstBad lock_arguments words) }
 {
     let fd = read_descriptor(fd)?;
     let lock = Lock {

@@ -1,5 +1,6 @@
-//! Laws of the definition of an output. Each is the contract of a function that does nothing.
+//! Laws of the definitions of a script and its output. Each is the contract of a function that does nothing.
 ghost use Rattle.script_core.specs.Output.{ScriptsHaveOneOutput};
+ghost use Rattle.script_core.specs.WithoutHeaders.{HeadersChangeNothingElse};
 
 use lock_book::locks_have_one_report;
 use session_core::arrivals_have_one_drain;
@@ -11,3 +12,9 @@ pub fn scripts_have_one_output()
     locks_have_one_report();
     arrivals_have_one_drain();
 }
+
+/// A script of the language without header lines keeps its meaning, under the held policy and small limits; one that this
+/// language refuses keeps its fault, where no line begins as a header line does.
+pub fn headers_change_nothing_else()
+    ensures { HeadersChangeNothingElse }
+{}

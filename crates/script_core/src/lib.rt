@@ -6,6 +6,7 @@ mod commands;
 mod laws;
 mod line;
 mod numbers;
+mod reader;
 mod script;
 #[cfg(test)]
 mod tests;
@@ -13,7 +14,8 @@ mod text;
 mod words;
 mod write;
 
-pub use laws::scripts_have_one_output;
+pub use arguments::process_limit;
+pub use laws::{headers_change_nothing_else, scripts_have_one_output};
 pub use script::{Cause, Script, ScriptFault, parse};
 pub use write::{write_entry, write_report};
 

@@ -1,48 +1,66 @@
-ghost use Rattle.std.specs.Prelude.{◌≢◌, Err};
-ghost use Rattle.fd_table.specs.declared.Limits.TheVariants.{Small};
+ghost use Rattle.std.specs.Prelude.{◌≡◌, [], ◌∷◌, MatchResult};
 ghost use Rattle.script_core.specs.Words.{texts};
-ghost use Rattle.script_core.specs.Reading.{Reading, RequestGives, WordsGive, LineGives, reading_result};
+ghost use Rattle.script_core.specs.HeaderText.{policy_word, limits_word};
+ghost use Rattle.script_core.specs.Arguments.{PolicyWord, LimitsWord, AreRefused};
+ghost use Rattle.script_core.specs.Reading.{RequestGives, ProcessGives};
 
-use crate::arguments::read_process;
+use crate::Cause;
+use crate::arguments::{read_limits, read_policy, read_process};
 use crate::commands::read_command;
-use crate::words::{printable_text, words_of};
-use crate::{Cause, LINE_MAX};
+use fd_table::Limits;
 use lock_manager::Request;
-use std::alloc::Global;
+use wait_core::Policy;
 
-/// A process and its request, or nothing where the line is empty or a comment.
-pub fn read_line(alloc: Global, line: &[u8]) -> Result<Option<(u8, Request)>, Cause>
-    ensures { (reading : Reading) → result ≢ Err Cause.Memory → LineGives reading line.now (reading_result reading result) }
-{
-    if line.len() > LINE_MAX {
-        return Err(Cause::TooLong);
-    }
-    let text = printable_text(line).ok_or(Cause::Byte)?;
-    let words = words_of(alloc, text).map_err(|_| Cause::Memory)?;
-    read_words(&words)
+/// What a line of a script says.
+#[derive(Clone, Copy, Debug, PartialEq, Eq)]
+pub enum Line {
+    /// Nothing: it has no words, or is a comment.
+    Skipped,
+    /// The policy: a header line.
+    Policy(Policy),
+    /// The limits: a header line.
+    Limits(Limits),
+    /// A process and its request.
+    Arrival(u8, Request),
 }
 
-/// The words of a line: a process and its request, or nothing.
-fn read_words(words: &[&str]) -> Result<Option<(u8, Request)>, Cause>
-    ensures { (reading : Reading) → WordsGive reading (texts words.now) (reading_result reading result) }
+/// What stands behind the word `policy` of a header line.
+pub fn read_policy_line(words: &[&str]) -> Result<Policy, Cause>
+    ensures { MatchResult result (λ policy. texts words.now ≡ policy_word policy ∷ [])
+        (AreRefused (PolicyWord ∷ []) (texts words.now)) }
 {
-    let [first, rest @ ..] = words else {
-        return Ok(None);
-    };
-    if first.starts_with('#') {
-        return Ok(None);
+    match words {
+        [policy] => read_policy(policy),
+        _ => Err(Cause::Count),
     }
-    let p = read_process(first)?;
-    let request = read_request(rest)?;
-    Ok(Some((p, request)))
+}
+
+/// What stands behind the word `limits` of a header line.
+pub fn read_limits_line(words: &[&str]) -> Result<Limits, Cause>
+    ensures { MatchResult result (λ limits. texts words.now ≡ limits_word limits ∷ [])
+        (AreRefused (LimitsWord ∷ []) (texts words.now)) }
+{
+    match words {
+        [limits] => read_limits(limits),
+        _ => Err(Cause::Count),
+    }
+}
+
+/// A process, and its request behind it.
+pub fn read_arrival(limits: Limits, process: &str, words: &[&str]) -> Result<Line, Cause>
+    ensures { ProcessGives limits process.now (texts words.now) result }
+{
+    let p = read_process(limits, process)?;
+    let request = read_request(limits, words)?;
+    Ok(Line::Arrival(p, request))
 }
 
 /// What stands behind the process: a command and its arguments.
-fn read_request(words: &[&str]) -> Result<Request, Cause>
-    ensures { RequestGives Small (texts words.now) result }
+fn read_request(limits: Limits, words: &[&str]) -> Result<Request, Cause>
+    ensures { RequestGives limits (texts words.now) result }
 {
     let [name, arguments @ ..] = words else {
         return Err(Cause::Count);
     };
-    read_command(name, arguments)
+    read_command(limits, name, arguments)
 }

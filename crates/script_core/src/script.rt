@@ -1,12 +1,11 @@
-ghost use Rattle.std.specs.Prelude.{◌≡◌, ◌≢◌, ◌⊎◌, ◌==◌, ℕ, List, [], ◌∷◌, ◌++◌, All, Ok, Err, IfOk, IfErr, OnOk};
+ghost use Rattle.std.specs.Prelude.{◌≡◌, ◌≢◌, ◌⊎◌, ◌==◌, ℕ, List, [], ◌∷◌, ◌++◌, All, Ok, Err, IfOk, IfErr};
 ghost use Rattle.std.specs.List.{slice_split};
-ghost use Rattle.script_core.specs.Reading.{Reads, HasOneReading, LinesGive, LineGives, start, reading_of};
-ghost use Rattle.fd_table.specs.declared.Limits.TheVariants.{Small};
+ghost use Rattle.script_core.specs.Reading.{Reads, HasOneReading, LinesGive, start};
 ghost use Rattle.script_core.specs.ScriptText.{IsProcess};
 
 use crate::SCRIPT_MAX;
-use crate::line::read_line;
-use lock_manager::Request;
+use crate::reader::Reader;
+use lock_manager::{Request, Rules};
 use std::alloc::Global;
 use std::marker::Model;
 use thiserror::Error;
@@ -50,6 +49,8 @@ pub struct ScriptFault {
 /// What a script says.
 #[derive(Debug, Drop)]
 pub struct Script {
+    /// What its header lines say: the policy is held and the limits are small where none says otherwise.
+    pub rules: Rules,
     /// The requests with their processes, in order.
     pub arrivals: Vec<(u8, Request)>,
 }
@@ -59,7 +60,7 @@ impl Model for Script {
 
     ghost Value = { Meaning };
 
-    ghost view = { λ script. record { arrivals = script.arrivals.items } };
+    ghost view = { λ script. record { rules = script.rules; arrivals = script.arrivals.items } };
 }
 
 /// The meaning of a script of bytes, or its first faulty line and what is wrong with it.
@@ -72,8 +73,8 @@ pub fn parse(alloc: Global, bytes: &[u8]) -> Result<Script, ScriptFault>
     ensures accepted { IfOk result (λ script. Reads bytes.now (Ok script)) }
     ensures refused { IfErr result (λ fault. fault.cause ≢ Cause.Memory → Reads bytes.now (Err fault)) }
 
-    // Each arrival is of a process.
-    ensures processes { IfOk result (λ script. All (λ arrival. IsProcess Small arrival.0) script.arrivals) }
+    // Each arrival is of a process that the script's limits have.
+    ensures processes { IfOk result (λ script. All (λ arrival. IsProcess script.rules.limits arrival.0) script.arrivals) }
 
     // The bytes have no other reading.
     ensures determined { HasOneReading bytes.now }
@@ -92,26 +93,14 @@ fn read_lines(alloc: Global, bytes: &[u8]) -> Result<Script, ScriptFault>
     ensures accepted { IfOk result (λ script. LinesGive 1 start (slice_split (λ byte. byte == 10) bytes.now) (Ok script)) }
     ensures refused { IfErr result (λ fault. fault.cause ≢ Cause.Memory → LinesGive 1 start (slice_split (λ byte. byte == 10) bytes.now) (Err fault)) }
 {
-    let mut arrivals = Vec::new(alloc);
+    let mut reader = Reader::new(alloc);
     for (index, line) in bytes.split(|byte| *byte == b'\n').enumerate() {
-        if let Err(cause) = append_line(&mut arrivals, line) {
+        if let Err(cause) = reader.read_line(line) {
             let line = index as u64 + 1;
             return Err(ScriptFault { line, cause });
         }
     }
-    Ok(Script { arrivals })
-}
-
-/// Appends the arrival of a line, where the line is one.
-fn append_line(arrivals: &mut Vec<(u8, Request)>, line: &[u8]) -> Result<(), Cause>
-    ensures read { OnOk result (LineGives (reading_of arrivals.old.items) line.now (Ok (reading_of arrivals.new.items))) }
-    ensures refused { IfErr result (λ cause. cause ≢ Cause.Memory → LineGives (reading_of arrivals.old.items) line.now (Err cause)) }
-{
-    let found = read_line(*arrivals.allocator(), line)?;
-    match found {
-        Some(arrival) => arrivals.push(arrival).map_err(|_| Cause::Memory),
-        None => Ok(()),
-    }
+    Ok(reader.into_script())
 }
 
 /// The bytes without the line feed that ends them, where one does.

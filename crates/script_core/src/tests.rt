@@ -1,12 +1,13 @@
-use crate::{Cause, ScriptFault, parse, write_entry, write_report};
-use fd_table::{Access, Limits};
-use lock_manager::{Errno, FlockOp, LkCmd, Lock, Note, Reply, Request, Rules};
+mod header_lines;
+
+use crate::{Cause, ScriptFault, parse, process_limit, write_entry, write_report};
+use fd_table::Access;
+use lock_manager::{Errno, FlockOp, LkCmd, Lock, Note, Reply, Request};
 use range_core::{Kind, Mode, Whence};
 use session_core::{Entry, run_all};
 use std::alloc::Global;
 use std::process::Abort;
 use std::test::Fail;
-use wait_core::Policy;
 
 const CONVERSION: &[u8] = b"1 open 0 rw\n1 setlk 0 w set 0 100\n1 setlk 0 r set 40 20\n";
 
@@ -458,12 +459,9 @@ fn whole_output(rt: HostRuntime) -> Result<(), Fail> {
 }
 
 fn output_of(alloc: Global, script: &[u8]) -> Result<Vec<u8>, Fail> {
-    let rules = Rules {
-        policy: Policy::Held,
-        limits: Limits::Small,
-    };
     let script = parse(alloc, script).map_err(|_| "refused")?;
-    let session = run_all(alloc, 16, rules, &script.arrivals).map_err(|_| "not run")?;
+    let processes = process_limit(script.rules.limits);
+    let session = run_all(alloc, processes, script.rules, &script.arrivals).map_err(|_| "not run")?;
     let mut sent = Vec::new(alloc);
     for index in 0..session.manager().processes() {
         sent.push(session.sent(index + 1))?;

@@ -2,8 +2,6 @@ ghost use Rattle.std.specs.Prelude.{◌≡◌, ℕ, ◌≤◌, List, ◌++◌, I
 ghost use Rattle.lock_manager.specs.State.{State};
 ghost use Rattle.lock_manager.specs.ManagerView.{StandsFor, processes_of, state_at};
 ghost use Rattle.session_core.specs.SessionView.{manager_of, events_in};
-ghost use Rattle.fd_table.specs.declared.Limits.TheVariants.{Small};
-ghost use Rattle.script_core.specs.ScriptText.{IsProcess, IsWritable};
 ghost use Rattle.script_core.specs.Reading.{IsReadBack};
 ghost use Rattle.script_core.specs.EntryText.{entry_line};
 ghost use Rattle.script_core.specs.ReportText.{held_line, wait_line, reported_line, process_lines, AreCounts, IsReportOf};
@@ -24,8 +22,9 @@ pub fn write_entry(entry: &Entry, out: &mut Vec<u8>) -> Result<(), Memory>
     ensures ok { OnOk result (out.new.items ≡ out.old.items ++ entry_line entry.now) }
     ensures err { OnErr result (AppendsPartOf out.old.items out.new.items (entry_line entry.now)) }
 
-    // What is written of a request is what a script writes: behind its process it is a line that is read as this arrival.
-    ensures read_back { IsProcess Small entry.now.p → IsWritable Small entry.now.request → IsReadBack entry.now.p entry.now.request }
+    // What is written of a request is what a script writes: behind its process it is a line that is read as this arrival,
+    // in each script whose limits have its numbers.
+    ensures read_back { IsReadBack entry.now.p entry.now.request }
 {
     let mut text = String::new(*out.allocator());
     push_entry(&mut text, entry).map_err(|_| Memory)?;

@@ -10,36 +10,36 @@ nothing = record { ref_ptr = (0, 0); now = [] }
 
 pub returns-in_err-fd-in-len5 : goal.returns-in_err-fd-in-len5
 unfolding nothing
-returns-in_err-fd-in-len5 c =
+returns-in_err-fd-in-len5 c limits =
     let failed = err_from_is_err_and c.from_residual.result c.from_residual.ensures.1 in
     let xs = c.args.arguments.now in
     rw (failed.1, failed.2, five_texts xs nothing c.in-len5.len_at_least c.in-len5.len_below)
-    (bad_bare_lock (lock_command_word c.args.cmd) (get_or xs 0 nothing).now (get_or xs 1 nothing).now (get_or xs 2 nothing).now (get_or xs 3 nothing).now (get_or xs 4 nothing).now _ c.in_err-fd-in-len5.ensures)
+    (bad_bare_lock limits (lock_command_word c.args.cmd) (get_or xs 0 nothing).now (get_or xs 1 nothing).now (get_or xs 2 nothing).now (get_or xs 3 nothing).now (get_or xs 4 nothing).now _ c.in_err-fd-in-len5.ensures)
 
 pub returns-in_err-fd-in-len6 : goal.returns-in_err-fd-in-len6
 unfolding nothing
-returns-in_err-fd-in-len6 c =
+returns-in_err-fd-in-len6 c limits =
     let failed = err_from_is_err_and c.from_residual-in_err-fd-in-len6.result c.from_residual-in_err-fd-in-len6.ensures.1 in
     let xs = c.args.arguments.now in
     rw (failed.1, failed.2, six_texts xs nothing c.in-len6.len_at_least c.in-len6.len_below)
-    (bad_lock (lock_command_word c.args.cmd) (get_or xs 0 nothing).now (get_or xs 1 nothing).now (get_or xs 2 nothing).now (get_or xs 3 nothing).now (get_or xs 4 nothing).now (get_or xs 5 nothing).now _ c.in_err-fd-in-len6.ensures)
+    (bad_lock limits (lock_command_word c.args.cmd) (get_or xs 0 nothing).now (get_or xs 1 nothing).now (get_or xs 2 nothing).now (get_or xs 3 nothing).now (get_or xs 4 nothing).now (get_or xs 5 nothing).now _ c.in_err-fd-in-len6.ensures)
 
 pub returns-in_err-pid-in-len6 : goal.returns-in_err-pid-in-len6
 unfolding nothing
-returns-in_err-pid-in-len6 c =
+returns-in_err-pid-in-len6 c limits =
     let failed = err_from_is_err_and c.from_residual-in_err-pid-in-len6.result c.from_residual-in_err-pid-in-len6.ensures.1 in
     let xs = c.args.arguments.now in
     let lock = c.in_ok-fd-in-len6.lock in
     rw (failed.1, failed.2, six_texts xs nothing c.in-len6.len_at_least c.in-len6.len_below)
-    (bad_pid (lock_command_word c.args.cmd) _ (get_or xs 5 nothing).now c.in_ok-fd-in-len6.fd lock _ c.in_ok-fd-in-len6.ensures.0 (omega arith) (search rules) (search rules) c.in_err-pid-in-len6.ensures)
+    (bad_pid limits (lock_command_word c.args.cmd) _ (get_or xs 5 nothing).now c.in_ok-fd-in-len6.fd lock _ c.in_ok-fd-in-len6.ensures.0 (omega arith) (search rules) (search rules) c.in_err-pid-in-len6.ensures)
 
 pub returns-in_ok-pid-in-len6 : goal.returns-in_ok-pid-in-len6
 unfolding nothing
-returns-in_ok-pid-in-len6 c =
+returns-in_ok-pid-in-len6 c limits =
     let xs = c.args.arguments.now in
     let lock = c.in_ok-fd-in-len6.lock in
     let start : FitsSigned w64 lock.start = search rules in
     let len : FitsSigned w64 lock.len = search rules in
     let pid : FitsSigned w64 c.in_ok-pid-in-len6.pid = search rules in
     rw (six_texts xs nothing c.in-len6.len_at_least c.in-len6.len_below, to_z-of_z w64 _ start, to_z-of_z w64 _ len, to_z-of_z w64 _ pid)
-    (good_lock c.args.cmd _ (get_or xs 5 nothing).now c.in_ok-fd-in-len6.fd lock _ c.in_ok-fd-in-len6.ensures.0 c.in_ok-pid-in-len6.ensures (omega arith) start len pid)
+    (good_lock limits c.args.cmd _ (get_or xs 5 nothing).now c.in_ok-fd-in-len6.fd lock _ c.in_ok-fd-in-len6.ensures.0 c.in_ok-pid-in-len6.ensures (omega arith) start len pid)

@@ -26,7 +26,8 @@ loop-index-preserved c =
     (YieldsList-from_slice_split _ (λ (byte : ℕ). byte == 10) c.args.bytes.now c.split.ensures.rest c.split.ensures.done c.split.ensures.closure (λ x b q k. search (rules, tests)))) c.enumerate-index-items.ensures.count)) in
     let cut = cut_at lines (length c.loop-index.yielded) c.in-Some.index c.in-Some.line.now turn in
     rw (length_push c.loop-index.yielded (c.in-Some.index, c.in-Some.line))
-    (IsReadUpTo-more lines (length c.loop-index.yielded) c.in-Some.line.now c.loop-index.arrivals.items c.append_line.new.arrivals.items c.loop-index.invariant cut.1 c.in_default.ensures.read)
+    (IsReadUpTo-more lines (length c.loop-index.yielded) c.in-Some.line.now c.loop-index.reader c.read_line.new.self c.in_default.ensures.read.0 c.loop-index.invariant cut.1 c.in_default.ensures.read.1
+    c.in_default.ensures.read.2)
 
 pub returns-clause-accepted : goal.returns-clause-accepted
 returns-clause-accepted c =
@@ -35,7 +36,7 @@ returns-clause-accepted c =
     (YieldsList-at c.into_iter-index-iterator.ensures.into_iter_gives
     (YieldsList-from_enumerate (YieldsList-at c.enumerate-index-items.ensures.source
     (YieldsList-from_slice_split _ (λ (byte : ℕ). byte == 10) c.args.bytes.now c.split.ensures.rest c.split.ensures.done c.split.ensures.closure (λ x b q k. search (rules, tests)))) c.enumerate-index-items.ensures.count)) in
-    read_all lines (length c.loop-index.yielded) c.loop-index.arrivals.items c.loop-index.invariant (all ∙ length-enumerate_from 0 lines)
+    rw c.into_script.ensures (read_all lines (length c.loop-index.yielded) c.loop-index.reader c.loop-index.invariant (all ∙ length-enumerate_from 0 lines))
 
 pub returns-in-Err-clause-refused : goal.returns-in-Err-clause-refused
 returns-in-Err-clause-refused c = λ other.
@@ -45,4 +46,4 @@ returns-in-Err-clause-refused c = λ other.
     (YieldsList-from_enumerate (YieldsList-at c.enumerate-index-items.ensures.source
     (YieldsList-from_slice_split _ (λ (byte : ℕ). byte == 10) c.args.bytes.now c.split.ensures.rest c.split.ensures.done c.split.ensures.closure (λ x b q k. search (rules, tests)))) c.enumerate-index-items.ensures.count)) in
     let cut = cut_at lines (length c.loop-index.yielded) c.in-Some.index c.in-Some.line.now turn in
-    rw cut.0 (fault_at lines (length c.loop-index.yielded) c.in-Some.line.now c.loop-index.arrivals.items c.in-Err.cause c.loop-index.invariant cut.1 (c.in-Err.ensures.refused other))
+    rw cut.0 (fault_at lines (length c.loop-index.yielded) c.in-Some.line.now c.loop-index.reader c.in-Err.cause c.loop-index.invariant cut.1 (c.in-Err.ensures.refused other))

@@ -1,0 +1,156 @@
+-- No process is spelled as the word of a header line, and header lines change nothing else.
+use Rattle.std.proofs.Common.{◌≡◌, ℕ, ◌+◌, ◌<◌, ◌^◌, ◌⊎◌, ◌||◌, Bool, true, false, List, [], ◌∷◌, ◌++◌, length, get_or, codes, decimal, None, Result, Ok, Err, is_ok, MatchBool, All, inl, inr, refl, sym, ap, subst, arith, lit<, nat_lt}
+use Rattle.std.specs.Bool.{IsFalse}
+use Rattle.std.specs.Str.{bytes_eq}
+use Rattle.std.proofs.lemmas.List.Elements.{All-head, All-tail}
+use Rattle.fd_table.specs.declared.Limits.{Limits}
+use Rattle.fd_table.specs.declared.Limits.TheVariants.{Small}
+use Rattle.lock_manager.specs.declared.request.Request.{Request}
+use Rattle.script_core.specs.declared.TheConstants.{LINE_MAX, SCRIPT_MAX}
+use Rattle.script_core.specs.declared.line.Line.{Line}
+use Rattle.script_core.specs.declared.line.Line.TheVariants as lines
+use Rattle.script_core.specs.declared.script.Cause.{Cause}
+use Rattle.script_core.specs.declared.script.Cause.TheVariants.{Byte, Process, TooLong}
+use Rattle.script_core.specs.declared.script.ScriptFault.{ScriptFault}
+use Rattle.script_core.specs.Words.{lines_of, words_of, is_printable}
+use Rattle.script_core.specs.ScriptText.{Meaning}
+use Rattle.script_core.specs.Reading.{Reading, Reads, LinesGive, LineGives, WordsGive, ProcessGives, ArrivalGives, is_comment}
+use Rattle.script_core.specs.WithoutHeaders.{PlainReads, PlainLinesGive, PlainLineGives, PlainWordsGive, HeadersChangeNothingElse, is_header, plain_rules}
+use Rattle.script_core.proofs.NumberLemmas.{BeginsPlainly-decimal}
+use Rattle.script_core.proofs.ArgumentLemmas.{not_named}
+use Rattle.script_core.proofs.ReadingLemmas.{small_process}
+
+-- a number isn't spelled with a letter
+pub not_spelled : (p : ℕ) (word : List ℕ) → p < 2 ^ 64 → 57 < get_or word 0 0 → bytes_eq (decimal p) word ≡ false
+not_spelled p word small letter = not_named (decimal p) word (λ e.
+    let plain = BeginsPlainly-decimal p small in
+    let first : get_or word 0 0 ≡ get_or (decimal p) 0 0 = ap (λ bytes. get_or bytes 0 0) e in
+    omega (arith, first, plain.at_most, letter))
+
+-- header lines begin with other words
+abbrev IsNoHeaderWord : List ℕ → Type 0
+IsNoHeaderWord word = (bytes_eq word (codes "policy") ≡ false) × (bytes_eq word (codes "limits") ≡ false)
+
+pub IsNoHeaderWord-decimal : (p : ℕ) → p < 2 ^ 64 → (bytes_eq (decimal p) (codes "policy") ≡ false) × (bytes_eq (decimal p) (codes "limits") ≡ false)
+IsNoHeaderWord-decimal p small = (not_spelled p (codes "policy") small (lit< tt), not_spelled p (codes "limits") small (lit< tt))
+
+-- nothing but these arrivals was read
+abbrev reading_of : List (ℕ × Request) → Reading
+reading_of arrivals = record { policy = None; limits = None; arrivals = arrivals }
+
+-- the meaning of these arrivals, or the fault
+told : Result (List (ℕ × Request)) ScriptFault → Result Meaning ScriptFault
+told (Ok arrivals) = Ok (record { rules = plain_rules; arrivals = arrivals })
+told (Err fault) = Err fault
+
+-- no header line
+IsPlain : Result Line Cause → Type 0
+IsPlain (Ok lines.Skipped) = Unit {0}
+IsPlain (Ok (lines.Policy policy)) = ⊥
+IsPlain (Ok (lines.Limits limits)) = ⊥
+IsPlain (Ok (lines.Arrival p request)) = Unit {0}
+IsPlain (Err cause) = Unit {0}
+
+-- a choice by a test, each side passed on
+MatchBool-map : (test : Bool) (P Q R S : Type 0) → (P → R) → (Q → S) → MatchBool test P Q → MatchBool test R S
+MatchBool-map true P Q R S f g h = f h
+MatchBool-map false P Q R S f g h = g h
+
+MatchBool-join : (test : Bool) (P Q R : Type 0) → (P → R) → (Q → R) → MatchBool test P Q → R
+MatchBool-join true P Q R f g h = f h
+MatchBool-join false P Q R f g h = g h
+
+plain_by : (expected result : Result Line Cause) → IsPlain expected → result ≡ expected → IsPlain result
+plain_by expected result is e = subst IsPlain (sym e) is
+
+plain_arrival : (p : ℕ) (next : Result Request Cause) (result : Result Line Cause) → ArrivalGives p next result → IsPlain result
+unfolding IsPlain
+plain_arrival p (Ok request) result is = plain_by (Ok (lines.Arrival p request)) result tt is
+plain_arrival p (Err cause) result is = plain_by (Err cause) result tt is
+
+plain_process : (limits : Limits) (first : List ℕ) (rest : List (List ℕ)) (result : Result Line Cause) → ProcessGives limits first rest result → IsPlain result
+unfolding IsPlain
+plain_process limits first rest result (inl arrival) = plain_arrival arrival.0 arrival.3 result arrival.5
+plain_process limits first rest result (inr fault) = plain_by (Err Process) result tt fault.1
+
+plain_words : (words : List (List ℕ)) (result : Result Line Cause) → PlainWordsGive words result → IsPlain result
+unfolding IsPlain
+plain_words [] result gives = plain_by (Ok lines.Skipped) result tt gives
+plain_words (first ∷ rest) result gives =
+    MatchBool-join (is_comment first) _ _ (IsPlain result) (plain_by (Ok lines.Skipped) result tt) (plain_process Small first rest result) gives
+
+plain_line : (line : List ℕ) (result : Result Line Cause) → PlainLineGives line result → IsPlain result
+unfolding IsPlain
+plain_line line result gives =
+    MatchBool-join (nat_lt LINE_MAX (length line)) _ _ (IsPlain result) (plain_by (Err TooLong) result tt)
+    (MatchBool-join (is_printable line) _ _ (IsPlain result) (plain_words (words_of line) result) (plain_by (Err Byte) result tt)) gives
+
+-- the line is accepted, or doesn't begin as a header line does
+abbrev IsSame : List (List ℕ) → Result Line Cause → Type 0
+IsSame words result = (is_ok result ≡ true) ⊎ IsFalse (is_header words)
+
+neither : (a b : Bool) → (a || b) ≡ false → (a ≡ false) × (b ≡ false)
+neither true b e = absurd (cc)
+neither false b e = (refl, e)
+
+accepted_word : (limits : Limits) (first : List ℕ) (rest : List (List ℕ)) (result : Result Line Cause) → is_ok result ≡ true → ProcessGives limits first rest result → IsNoHeaderWord first
+accepted_word limits first rest result ok (inl arrival) =
+    subst IsNoHeaderWord (sym arrival.2) (IsNoHeaderWord-decimal arrival.0 (small_process limits arrival.0 arrival.1))
+accepted_word limits first rest result ok (inr fault) = absurd (let refused : is_ok result ≡ false = ap is_ok fault.1 in cc)
+
+no_header_word : (first : List ℕ) (rest : List (List ℕ)) (result : Result Line Cause) → IsSame (first ∷ rest) result → ProcessGives Small first rest result → IsNoHeaderWord first
+no_header_word first rest result (inl ok) gives = accepted_word Small first rest result ok gives
+no_header_word first rest result (inr none) gives = neither (bytes_eq first (codes "policy")) (bytes_eq first (codes "limits")) none
+
+words_same : (arrivals : List (ℕ × Request)) (words : List (List ℕ)) (result : Result Line Cause) → IsSame words result → PlainWordsGive words result → WordsGive (reading_of arrivals) words result
+words_same arrivals [] result same gives = gives
+words_same arrivals (first ∷ rest) result same gives =
+    MatchBool-map (is_comment first) _ _ _ _ (λ skipped. skipped)
+    (λ process. let none = no_header_word first rest result same process in rw (none.0, none.1) process) gives
+
+line_same : (arrivals : List (ℕ × Request)) (line : List ℕ) (result : Result Line Cause) → IsSame (words_of line) result → PlainLineGives line result → LineGives (reading_of arrivals) line result
+line_same arrivals line result same gives =
+    MatchBool-map (nat_lt LINE_MAX (length line)) _ _ _ _ (λ long. long)
+    (MatchBool-map (is_printable line) _ _ _ _ (words_same arrivals (words_of line) result same) (λ byte. byte)) gives
+
+-- the script is accepted, or no line begins as a header line does
+abbrev AreSame : List (List ℕ) → Result (List (ℕ × Request)) ScriptFault → Type 0
+AreSame lines result = (is_ok result ≡ true) ⊎ All (λ line. IsFalse (is_header (words_of line))) lines
+
+same_rest : (line : List ℕ) (rest : List (List ℕ)) (result : Result (List (ℕ × Request)) ScriptFault) → AreSame (line ∷ rest) result → AreSame rest result
+same_rest line rest result (inl ok) = inl ok
+same_rest line rest result (inr none) = inr (All-tail (λ line. IsFalse (is_header (words_of line))) line rest none)
+
+same_fault : (line : List ℕ) (rest : List (List ℕ)) (result : Result (List (ℕ × Request)) ScriptFault) (cause : Cause) (fault : ScriptFault)
+    → AreSame (line ∷ rest) result → result ≡ Err fault → IsSame (words_of line) (Err cause)
+same_fault line rest result cause fault (inl ok) is = absurd (let refused : is_ok result ≡ false = ap is_ok is in cc)
+same_fault line rest result cause fault (inr none) is = inr (All-head (λ line. IsFalse (is_header (words_of line))) line rest none)
+
+lines_same : (number : ℕ) (arrivals : List (ℕ × Request)) (lines : List (List ℕ)) (result : Result (List (ℕ × Request)) ScriptFault)
+    → AreSame lines result → PlainLinesGive number arrivals lines result → LinesGive number (reading_of arrivals) lines (told result)
+unfolding told IsPlain
+lines_same number arrivals [] result same gives = ap told gives
+lines_same number arrivals (line ∷ rest) result same (Ok lines.Skipped, gives, more) =
+    (Ok lines.Skipped, line_same arrivals line (Ok lines.Skipped) (inl refl) gives, lines_same (number + 1) arrivals rest result (same_rest line rest result same) more)
+lines_same number arrivals (line ∷ rest) result same (Ok (lines.Policy policy), gives, more) = absurd (plain_line line (Ok (lines.Policy policy)) gives)
+lines_same number arrivals (line ∷ rest) result same (Ok (lines.Limits limits), gives, more) = absurd (plain_line line (Ok (lines.Limits limits)) gives)
+lines_same number arrivals (line ∷ rest) result same (Ok (lines.Arrival p request), gives, more) = (
+  Ok (lines.Arrival p request),
+  line_same arrivals line (Ok (lines.Arrival p request)) (inl refl) gives,
+  lines_same (number + 1) (arrivals ++ (p, request) ∷ []) rest result (same_rest line rest result same) more,
+)
+lines_same number arrivals (line ∷ rest) result same (Err cause, gives, more) =
+    (Err cause, line_same arrivals line (Err cause) (same_fault line rest result cause (record { line = number; cause = cause }) same more) gives, ap told more)
+
+reads_same : (bytes : List ℕ) (result : Result (List (ℕ × Request)) ScriptFault) → AreSame (lines_of bytes) result → PlainReads bytes result → Reads bytes (told result)
+unfolding told
+reads_same bytes result same reads =
+    MatchBool-map (nat_lt SCRIPT_MAX (length bytes)) _ _ _ _ (λ long. ap told long) (lines_same 1 [] (lines_of bytes) result same) reads
+
+-- header lines change nothing else
+pub headers_only : HeadersChangeNothingElse
+unfolding told
+headers_only = record {
+  accepted = λ bytes arrivals reads. reads_same bytes (Ok arrivals) (inl refl) reads;
+  refused = λ bytes fault none reads. reads_same bytes (Err fault) (inr none) reads;
+}

@@ -1,0 +1,66 @@
+-- How a script is read in the language without header lines, and that header lines change nothing else (this project's choice).
+use Rattle.std.specs.Prelude.{◌≡◌, ℕ, ◌+◌, ◌||◌, Bool, false, IsFalse, nat_lt, MatchBool, MatchResult, Result, Ok, Err, List, [], ◌∷◌, ◌++◌, All, length, codes, bytes_eq}
+use Rattle.fd_table.specs.declared.Limits.TheVariants.{Small}
+use Rattle.wait_core.specs.declared.Policy.TheVariants.{Held}
+use Rattle.lock_manager.specs.declared.request.Rules.{Rules}
+use Rattle.lock_manager.specs.declared.request.Request.{Request}
+use Rattle.script_core.specs.declared.TheConstants.{LINE_MAX, SCRIPT_MAX}
+use Rattle.script_core.specs.declared.line.Line.{Line}
+use Rattle.script_core.specs.declared.line.Line.TheVariants as lines
+use Rattle.script_core.specs.declared.script.Cause.{Cause}
+use Rattle.script_core.specs.declared.script.Cause.TheVariants.{Byte, TooLong}
+use Rattle.script_core.specs.declared.script.ScriptFault.{ScriptFault}
+use Rattle.script_core.specs.Words.{lines_of, words_of, is_printable}
+use Rattle.script_core.specs.Reading.{Reads, ProcessGives, is_comment}
+
+-- the rules of a script without header lines
+abbrev pub plain_rules : Rules
+plain_rules = record { policy = Held; limits = Small }
+
+-- the words of a line: none or a comment, which is skipped; else one of the 16 processes and a request
+abbrev pub PlainWordsGive : List (List ℕ) → Result Line Cause → Type 0
+PlainWordsGive [] result = result ≡ Ok lines.Skipped
+PlainWordsGive (first ∷ rest) result = MatchBool (is_comment first) (result ≡ Ok lines.Skipped) (ProcessGives Small first rest result)
+
+-- a line: too long, with a byte that isn't printable, or words
+abbrev pub PlainLineGives : List ℕ → Result Line Cause → Type 0
+PlainLineGives line result =
+    MatchBool (nat_lt LINE_MAX (length line)) (result ≡ Err TooLong)
+    (MatchBool (is_printable line) (PlainWordsGive (words_of line) result) (result ≡ Err Byte))
+
+-- the arrivals after a line that says this
+abbrev pub arrivals_after : List (ℕ × Request) → Line → List (ℕ × Request)
+arrivals_after arrivals lines.Skipped = arrivals
+arrivals_after arrivals (lines.Policy policy) = arrivals
+arrivals_after arrivals (lines.Limits limits) = arrivals
+arrivals_after arrivals (lines.Arrival p request) = arrivals ++ (p, request) ∷ []
+
+-- the lines from this number on, behind these arrivals: the first fault is told with its line
+abbrev pub PlainLinesGive : ℕ → List (ℕ × Request) → List (List ℕ) → Result (List (ℕ × Request)) ScriptFault → Type 0
+PlainLinesGive number arrivals [] result = result ≡ Ok arrivals
+PlainLinesGive number arrivals (line ∷ lines) result =
+    (next : Result Line Cause) × PlainLineGives line next
+    × MatchResult next (λ said. PlainLinesGive (number + 1) (arrivals_after arrivals said) lines result)
+    (λ cause. result ≡ Err (record { line = number; cause = cause }))
+
+-- a script of the language without header lines: its arrivals, or the first fault of its first faulty line
+abbrev pub PlainReads : List ℕ → Result (List (ℕ × Request)) ScriptFault → Type 0
+PlainReads bytes result =
+    MatchBool (nat_lt SCRIPT_MAX (length bytes)) (result ≡ Err (record { line = 0; cause = TooLong }))
+    (PlainLinesGive 1 [] (lines_of bytes) result)
+
+-- whether the first of the words is one of those that header lines begin with
+abbrev pub is_header : List (List ℕ) → Bool
+is_header [] = false
+is_header (first ∷ rest) = bytes_eq first (codes "policy") || bytes_eq first (codes "limits")
+
+-- no line begins as a header line does
+abbrev pub HasNoHeader : List ℕ → Type 0
+HasNoHeader bytes = All (λ line. IsFalse (is_header (words_of line))) (lines_of bytes)
+
+-- what the language without header lines accepts is read with the policy held, small limits and the same arrivals; and what
+-- it refuses has the same fault, where no line begins as a header line does
+pub record HeadersChangeNothingElse : Type 0 where
+  pub accepted : (bytes : List ℕ) (arrivals : List (ℕ × Request)) → PlainReads bytes (Ok arrivals)
+      → Reads bytes (Ok (record { rules = plain_rules; arrivals = arrivals }))
+  pub refused : (bytes : List ℕ) (fault : ScriptFault) → HasNoHeader bytes → PlainReads bytes (Err fault) → Reads bytes (Err fault)
