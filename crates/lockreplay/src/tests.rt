@@ -1,9 +1,13 @@
 mod devices;
+mod limits_rows;
+mod policy_rows;
 mod rows;
 mod waiting_rows;
 
 use crate::devices::{FromReader, ToWriter};
 use crate::replay::replay;
+use limits_rows::LIMITS_ROWS;
+use policy_rows::POLICY_ROWS;
 use rows::{ROWS, Row};
 use std::alloc::Global;
 use std::process::Abort;
@@ -20,6 +24,16 @@ fn prints_what_waits_lead_to(rt: HostRuntime) -> Result<(), Fail> {
     check_all(&rt, rt.alloc(), &WAITING_ROWS)
 }
 
+#[test]
+fn prints_what_policies_lead_to(rt: HostRuntime) -> Result<(), Fail> {
+    check_all(&rt, rt.alloc(), &POLICY_ROWS)
+}
+
+#[test]
+fn prints_what_limits_lead_to(rt: HostRuntime) -> Result<(), Fail> {
+    check_all(&rt, rt.alloc(), &LIMITS_ROWS)
+}
+
 /// Bytes behind the last line feed are a line too.
 #[test]
 fn reads_a_last_line_without_a_feed(rt: HostRuntime) -> Result<(), Fail> {
@@ -30,6 +44,18 @@ fn reads_a_last_line_without_a_feed(rt: HostRuntime) -> Result<(), Fail> {
 #[test]
 fn reads_a_last_wait_without_a_feed(rt: HostRuntime) -> Result<(), Fail> {
     check_all_without_the_last_feed(&rt, rt.alloc(), &WAITING_ROWS)
+}
+
+/// So are those of a script with a policy, also where they are its header line.
+#[test]
+fn reads_a_last_line_under_a_policy_without_a_feed(rt: HostRuntime) -> Result<(), Fail> {
+    check_all_without_the_last_feed(&rt, rt.alloc(), &POLICY_ROWS)
+}
+
+/// And those of a script with limits.
+#[test]
+fn reads_a_last_line_under_limits_without_a_feed(rt: HostRuntime) -> Result<(), Fail> {
+    check_all_without_the_last_feed(&rt, rt.alloc(), &LIMITS_ROWS)
 }
 
 /// Each script gives what its row says.
