@@ -2,16 +2,18 @@
  * calls to the file COUNT. */
 #define _GNU_SOURCE
 #include <dlfcn.h>
+#include <stdatomic.h>
 #include <stddef.h>
 #include <stdio.h>
 #include <stdlib.h>
+#include <unistd.h>
 
-static long growths;
+static atomic_long growths;
 
 static int is_refused(void)
 {
     const char *number = getenv("REFUSE");
-    return ++growths == (number ? atol(number) : 0);
+    return atomic_fetch_add(&growths, 1) + 1 == (number ? atol(number) : 0);
 }
 
 void *malloc(size_t size)
@@ -39,4 +41,13 @@ __attribute__((destructor)) static void tell_count(void)
         fprintf(file, "%ld\n", count);
         fclose(file);
     }
+}
+
+/* A program with threads ends so, and no destructor is run then. */
+void _exit(int status)
+{
+    void (*next)(int) = (void (*)(int))dlsym(RTLD_NEXT, "_exit");
+    tell_count();
+    next(status);
+    __builtin_unreachable();
 }

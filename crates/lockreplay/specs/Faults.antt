@@ -3,6 +3,8 @@ use Rattle.std.specs.Prelude.{ℕ, Bool, IsTrue, ⊤, List, Err}
 use Rattle.script_core.specs.Reading.{Reads}
 use Rattle.lockreplay.specs.declared.replay.RunFault.{RunFault}
 use Rattle.lockreplay.specs.declared.replay.RunFault.TheVariants as faults
+use Rattle.lockreplay.specs.declared.faults.Fault.{Fault}
+use Rattle.lockreplay.specs.declared.faults.Fault.TheVariants.{CommandLine, Run}
 
 -- a faulty script ends with 2, and all else that goes wrong with 1 (this project's choice)
 abbrev pub status_of : RunFault → ℕ
@@ -10,6 +12,11 @@ status_of faults.Read = 1
 status_of faults.Write = 1
 status_of faults.Memory = 1
 status_of (faults.Script fault) = 2
+
+-- a command line that is refused, or asks for help, ends with 2 as well (this project's choice)
+abbrev pub exit_status : Fault → ℕ
+exit_status (CommandLine error) = 2
+exit_status (Run fault) = status_of fault
 
 -- reading ends so: the source failed, or a growth was refused
 abbrev pub IsReadFault : Bool → RunFault → Type 0

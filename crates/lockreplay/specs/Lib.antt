@@ -1,3 +1,4 @@
+pub mod CommandLine
 pub mod Devices
 pub mod Faults
 pub mod Replays

@@ -1,32 +1,52 @@
 //! Replays a script of requests to the lock manager: prints each event, and then what is held.
 #![tactic(auto)]
 
+mod command_line;
 mod devices;
+mod faults;
+mod options;
 mod replay;
 #[cfg(test)]
 mod tests;
 
 use devices::{FromReader, ToWriter};
+use faults::Fault;
 use replay::{RunFault, replay};
-use std::io;
-use std::io::BufReader;
+use std::env::Env;
+use std::fs::Files;
+use std::io::{BufReader, Read};
 use std::process::ExitCode;
+use std::{env, fs, io};
 
-/// A fault is told in one line on standard error, and its status is the program's.
+/// A fault is told on standard error, and its status is the program's.
 fn main(rt: HostRuntime) -> ExitCode {
     match run(&rt) {
         Ok(()) => ExitCode::SUCCESS,
         Err(fault) => {
-            let _ = eprintln!(rt; "lockreplay: {fault}");
+            let _ = eprint!(rt; "{fault}");
             ExitCode::from(fault.status())
         }
     }
 }
 
-/// Replays standard input to standard output.
-fn run(rt: &(impl AllocGlobal + Input + Print)) -> Result<(), RunFault> {
-    let reader = BufReader::new(rt.alloc(), rt.reader()).map_err(|_| RunFault::Memory)?;
+/// Judges the command line, and then replays its file, or standard input where it has none, to standard output.
+fn run(rt: &(impl AllocGlobal + Env + Files + Input + Print)) -> Result<(), Fault> {
+    let words: Vec<String> = env::args(rt)
+        .map_err(Fault::of_input)?
+        .collect(rt.alloc())
+        .map_err(|_| RunFault::Memory)?;
+    let options = command_line::options(rt.alloc(), &words).map_err(Fault::of_command_line)?;
+    match options.file {
+        Some(path) => replay_from(rt, fs::open(rt, path).map_err(Fault::of_input)?),
+        None => replay_from(rt, rt.reader()),
+    }
+}
+
+/// Replays what the reader gives to standard output.
+fn replay_from(rt: &(impl AllocGlobal + Print), reader: impl Read + Drop) -> Result<(), Fault> {
+    let reader = BufReader::new(rt.alloc(), reader).map_err(Fault::of_input)?;
     let mut source = FromReader::new(reader);
     let mut sink = ToWriter::new(io::writer(rt));
-    replay(rt.alloc(), &mut source, &mut sink)
+    replay(rt.alloc(), &mut source, &mut sink)?;
+    Ok(())
 }

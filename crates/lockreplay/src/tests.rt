@@ -1,3 +1,4 @@
+mod command_line;
 mod devices;
 mod limits_rows;
 mod policy_rows;

@@ -1,0 +1,38 @@
+use Rattle.std.proofs.Common.{rules, ◌≡◌, ◌∙◌, ap, map, string_bytes, Ok, Err}
+use Rattle.clap.specs.Words.{App, app_of, takes}
+use Rattle.lockreplay.specs.CommandLine.{command_line}
+use Rattle.lockreplay.proofs.CommandLineLemmas.{file_found, fails_as_stated, follows_usage}
+use Rattle.lockreplay.proofs.command_line.options.Goals as goal
+
+pub returns-clause-file : goal.returns-clause-file
+returns-clause-file c =
+    let app = app_of c.in_ok-command.field-0 in
+    let is : app ≡ command_line = search rules in
+    c.get_str.ensures ∙ file_found app (map string_bytes c.args.words.now) c.in_ok-matches.matches is c.in_ok-matches.ensures.matches
+
+pub returns-clause-kind : goal.returns-clause-kind
+returns-clause-kind c =
+    let app = app_of c.in_ok-command.field-0 in
+    let is : app ≡ command_line = search rules in
+    fails_as_stated app (map string_bytes c.args.words.now) (Ok c.in_ok-matches.matches) is c.in_ok-matches.ensures.kinds
+
+pub returns-in_err-matches-clause-kind : goal.returns-in_err-matches-clause-kind
+returns-in_err-matches-clause-kind c =
+    let app = app_of c.in_ok-command.field-0 in
+    let is : app ≡ command_line = search rules in
+    let refused : c.from_residual-in_err-matches.result ≡ Err c.in_err-matches.field-0.0 = search rules in
+    rw refused (fails_as_stated app (map string_bytes c.args.words.now) (Err c.in_err-matches.field-0.0) is c.in_err-matches.ensures.kinds)
+
+pub returns-in_err-matches-clause-taken : goal.returns-in_err-matches-clause-taken
+returns-in_err-matches-clause-taken c =
+    let is : app_of c.in_ok-command.field-0 ≡ command_line = search rules in
+    let refused : c.from_residual-in_err-matches.result ≡ Err c.in_err-matches.field-0.0 = search rules in
+    rw refused (λ taken. c.in_err-matches.ensures.passes (ap (λ (a : App). takes a (map string_bytes c.args.words.now)) is ∙ taken))
+
+pub returns-clause-usage : goal.returns-clause-usage
+returns-clause-usage c = follows_usage (map string_bytes c.args.words.now) (Ok (record { file = c.get_str.result })) (returns-clause-file c) (returns-clause-kind c)
+
+pub returns-in_err-matches-clause-usage : goal.returns-in_err-matches-clause-usage
+returns-in_err-matches-clause-usage c =
+    let refused : c.from_residual-in_err-matches.result ≡ Err c.in_err-matches.field-0.0 = search rules in
+    follows_usage (map string_bytes c.args.words.now) c.from_residual-in_err-matches.result (rw refused tt) (returns-in_err-matches-clause-kind c)

@@ -1,0 +1,56 @@
+//! What the program tells on standard error, and the exit status that goes with it.
+ghost use Rattle.std.specs.Prelude.{◌≡◌, ◌≢◌};
+ghost use Rattle.std.specs.IoError.{error_kind};
+ghost use Rattle.clap.specs.Words.{kind_of};
+ghost use Rattle.lockreplay.specs.Faults.{exit_status};
+
+use crate::replay::RunFault;
+use clap::error::ErrorKind;
+use std::io;
+use std::io::ErrorKind as InputErrorKind;
+use thiserror::Error;
+
+/// Why the program ends with another status than 0. Its text is what goes to standard error.
+#[derive(Debug, Drop, Error)]
+pub enum Fault {
+    /// The command line is refused, or asks for help. The text is clap's.
+    #[error("{0}")]
+    CommandLine(clap::Error),
+    /// The run has no output, or only a front of it.
+    #[error("lockreplay: {0}\n")]
+    Run(#[from] RunFault),
+}
+
+impl Fault {
+    /// The fault where clap gives this error: want of memory is told as the program tells it elsewhere.
+    pub fn of_command_line(error: clap::Error) -> Fault
+        ensures memory { kind_of error ≡ ErrorKind.OutOfMemory → result ≡ Fault.Run RunFault.Memory }
+        ensures text { kind_of error ≢ ErrorKind.OutOfMemory → result ≡ Fault.CommandLine error }
+    {
+        match error.kind() {
+            ErrorKind::OutOfMemory => Fault::Run(RunFault::Memory),
+            _ => Fault::CommandLine(error),
+        }
+    }
+
+    /// The fault where a call for input gives this error: want of memory, or else that reading failed.
+    pub fn of_input(error: io::Error) -> Fault
+        ensures memory { error_kind error ≡ InputErrorKind.OutOfMemory → result ≡ Fault.Run RunFault.Memory }
+        ensures read { error_kind error ≢ InputErrorKind.OutOfMemory → result ≡ Fault.Run RunFault.Read }
+    {
+        match error.kind() {
+            InputErrorKind::OutOfMemory => Fault::Run(RunFault::Memory),
+            _ => Fault::Run(RunFault::Read),
+        }
+    }
+
+    /// The exit status of the program: 2 for the command line and for a faulty script, and else 1.
+    pub fn status(&self) -> u8
+        ensures { result ≡ exit_status self.now }
+    {
+        match self {
+            Fault::CommandLine(_) => 2,
+            Fault::Run(fault) => fault.status(),
+        }
+    }
+}

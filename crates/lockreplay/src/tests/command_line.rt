@@ -1,0 +1,80 @@
+//! What command lines ask for, and which are refused. Their texts are tested on the program.
+use crate::command_line::options;
+use crate::options::Options;
+use clap::error::ErrorKind;
+use std::alloc::Global;
+use std::process::Abort;
+use std::test::Fail;
+
+/// The words of a command line.
+fn words(alloc: Global, words: &[&str]) -> Result<Vec<String>, Fail> {
+    let mut owned = Vec::new(alloc);
+    for word in words {
+        owned.push(String::from_str(alloc, word)?)?;
+    }
+    Ok(owned)
+}
+
+/// The words ask for this file.
+fn asks(rt: &impl Abort, alloc: Global, given: &[&str], file: Option<&str>) -> Result<(), Fail> {
+    let given = words(alloc, given)?;
+    assert_eq!(rt; options(alloc, &given)?, Options { file });
+    Ok(())
+}
+
+/// The words are refused, by this kind.
+fn refuses(rt: &impl Abort, alloc: Global, given: &[&str], kind: ErrorKind) -> Result<(), Fail> {
+    let given = words(alloc, given)?;
+    match options(alloc, &given) {
+        Ok(options) => assert!(rt; false, "{options:?}"),
+        Err(error) => assert_eq!(rt; error.kind(), kind),
+    }
+    Ok(())
+}
+
+#[test]
+fn takes_one_file_or_none(rt: HostRuntime) -> Result<(), Fail> {
+    let alloc = rt.alloc();
+    asks(&rt, alloc, &["lockreplay"], None)?;
+    asks(&rt, alloc, &["lockreplay", "script"], Some("script"))?;
+    asks(&rt, alloc, &["lockreplay", "--"], None)?;
+    asks(&rt, alloc, &["lockreplay", "--", "--help"], Some("--help"))?;
+    asks(&rt, alloc, &["lockreplay", "-"], Some("-"))?;
+    asks(&rt, alloc, &["lockreplay", ""], Some(""))?;
+    asks(&rt, alloc, &[], None)
+}
+
+#[test]
+fn refuses_other_words(rt: HostRuntime) -> Result<(), Fail> {
+    let alloc = rt.alloc();
+    refuses(
+        &rt,
+        alloc,
+        &["lockreplay", "--help"],
+        ErrorKind::DisplayHelp,
+    )?;
+    refuses(
+        &rt,
+        alloc,
+        &["lockreplay", "script", "-h"],
+        ErrorKind::DisplayHelp,
+    )?;
+    refuses(
+        &rt,
+        alloc,
+        &["lockreplay", "script", "other"],
+        ErrorKind::UnknownArgument,
+    )?;
+    refuses(
+        &rt,
+        alloc,
+        &["lockreplay", "--other"],
+        ErrorKind::UnknownArgument,
+    )?;
+    refuses(
+        &rt,
+        alloc,
+        &["lockreplay", "-o", "script"],
+        ErrorKind::UnknownArgument,
+    )
+}
