@@ -1,0 +1,6 @@
+//! A lock manager that threads share.
+#![tactic(auto)]
+
+mod bench;
+
+pub use bench::Bench;
