@@ -1,5 +1,5 @@
 -- The modes that a list of changes leaves: a set replaces the mode on each byte of its range.
-use Rattle.std.specs.Prelude.{◌≡◌, ℕ, ◌-◌, nat_le, Bool, ◌&&◌, if◌then◌else◌, Option, None, List, [], ◌∷◌, vec_len, vec_capacity}
+use Rattle.std.specs.Prelude.{◌≡◌, ℕ, nat_le, Bool, ◌&&◌, if◌then◌else◌, Option, None, List, [], ◌∷◌}
 use Rattle.range_core.specs.declared.Mode.{Mode}
 use Rattle.range_core.specs.declared.Span.{Span}
 use Rattle.range_core.specs.declared.list.RangeList.{RangeList}
@@ -30,7 +30,7 @@ modes_of list byte = mode_after None list.changes.items byte
 
 -- for how many further sets a `RangeList` holds room (this project's choice)
 unfoldable pub room_of : RangeList → ℕ
-room_of list = vec_capacity list.changes - vec_len list.changes
+room_of list = list.room
 
 -- the two have the same mode on each byte, and the same room (this project's choice)
 pub record SameList (old new : RangeList) : Type 0 where

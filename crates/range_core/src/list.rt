@@ -1,4 +1,4 @@
-ghost use Rattle.std.specs.Prelude.{ℕ, ◌≡◌, ◌≢◌, ◌+◌, ◌≤◌, ◌<◌, ◌↔◌, All, None, Some, IfSome, IfNone, IsOk, IsTrue, OnOk, OnErr};
+ghost use Rattle.std.specs.Prelude.{ℕ, ◌≡◌, ◌≢◌, ◌+◌, ◌≤◌, ◌<◌, ◌↔◌, All, None, Some, IfSome, IfNone, IsOk, IsTrue, OnOk, OnErr, vec_len, vec_capacity};
 ghost use Rattle.range_core.specs.declared.TheConstants.{OFFMAX};
 
 use crate::sides::one_side;
@@ -11,7 +11,10 @@ use std::alloc::Global;
 #[derive(Drop)]
 pub struct RangeList {
     changes: Vec<(Span, Option<Mode>)>,
+    /// For how many further sets room is held, however much more there is.
+    room: usize,
     ghost within: { All (λ change. change.0.last ≤ OFFMAX) changes.items },
+    ghost held: { vec_len changes + room ≤ vec_capacity changes },
 }
 
 #[tactic(auto, unfolding(crate::specs::Changes::modes_of, crate::specs::Changes::room_of))]
@@ -25,6 +28,7 @@ impl RangeList {
     {
         RangeList {
             changes: Vec::new(alloc),
+            room: 0,
         }
     }
 
@@ -53,14 +57,18 @@ impl RangeList {
         ensures there { sets ≤ room_of self.old → IsOk result }
         ensures err { OnErr result (SameList self.old self.new) }
     {
-        self.changes.reserve(sets).map_err(|_| Memory)
+        if self.room < sets {
+            self.changes.reserve(sets).map_err(|_| Memory)?;
+            self.room = sets;
+        }
+        Ok(())
     }
 
     /// For how many further sets there is room.
     pub fn room(&self) -> usize
         ensures { result ≡ room_of self.now }
     {
-        self.changes.capacity() - self.changes.len()
+        self.room
     }
 
     /// Sets the mode as [`RangeList::set`] does, in room that was held: it takes no memory and uses at most one place up.
@@ -71,6 +79,7 @@ impl RangeList {
         ensures room { room_of self.old ≤ room_of self.new + 1 }
     {
         self.changes.push((span, mode)).unwrap();
+        self.room -= 1;
     }
 
     /// The mode of one byte.

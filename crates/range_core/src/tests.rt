@@ -85,3 +85,16 @@ fn holds_room(rt: HostRuntime) -> Result<(), Fail> {
     assert_eq!(rt; list.run_at(5), Some((Mode::Read, bytes(5, 5))));
     Ok(())
 }
+
+/// Each set takes a place for itself, and the room that is held stays as it is.
+#[test]
+fn many_sets_take_a_place_each(rt: HostRuntime) -> Result<(), Fail> {
+    let mut list = RangeList::new(rt.alloc());
+    list.reserve(2)?;
+    for index in 0..1000 {
+        list.set(bytes(2 * index, 2 * index), Some(Mode::Write))?;
+    }
+    assert_eq!(rt; list.room(), 2);
+    assert_eq!(rt; list.run_at(1998), Some((Mode::Write, bytes(1998, 1998))));
+    Ok(())
+}
