@@ -38,6 +38,31 @@ pub enum Limits {
     Wide,
 }
 
+impl Limits {
+    ghost use Rattle.std.specs.Prelude.{◌≡◌};
+    ghost use Rattle.fd_table.specs.Descriptors.{process_limit, descriptor_limit};
+
+    /// How many processes there may be.
+    pub fn processes(self) -> u8
+        ensures { result ≡ process_limit self }
+    {
+        match self {
+            Limits::Small => 16,
+            Limits::Wide => 64,
+        }
+    }
+
+    /// How many descriptors a process may have.
+    pub fn descriptors(self) -> u32
+        ensures { result ≡ descriptor_limit self }
+    {
+        match self {
+            Limits::Small => 32,
+            Limits::Wide => 256,
+        }
+    }
+}
+
 /// Why a call on descriptors is refused. A refused call changes nothing.
 #[derive(Clone, Copy, Debug, PartialEq, Eq, Error)]
 pub enum FdFault {

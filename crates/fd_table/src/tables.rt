@@ -3,7 +3,6 @@ ghost use Rattle.fd_table.specs.declared.TheConstants.{DESCRIPTIONS};
 ghost use Rattle.fd_table.specs.declared.tables.Opened.{Opened};
 ghost use Rattle.slab.specs.Slab.{get};
 ghost use Rattle.fd_table.specs.Rows.{users_in};
-ghost use Rattle.fd_table.specs.Descriptors.{descriptor_limit};
 ghost use Rattle.fd_table.specs.Soundness.{AreRows, AreEntries, AreSizes, IsBytes, with_users};
 
 use crate::releases::{Closed, Releases};
@@ -73,7 +72,7 @@ impl Tables {
         ensures processes { IfOk result (λ tables. processes_of tables ≡ processes) }
         ensures limits { IfOk result (λ tables. limits_of tables ≡ limits) }
     {
-        let Ok(rows) = opening_rows(alloc, processes, row_len(limits)) else {
+        let Ok(rows) = opening_rows(alloc, processes, limits.descriptors() as usize) else {
             return Err(Memory);
         };
         Ok(Tables {
@@ -164,7 +163,7 @@ impl Tables {
         ensures refused { OnErr result ((D : Descriptors) → StandFor self.old D → StandFor self.new D) }
         ensures kept { SameTables self.old self.new }
     {
-        if self.key_at(p, fd).is_none() || to as usize >= row_len(self.limits) {
+        if self.key_at(p, fd).is_none() || to >= self.limits.descriptors() {
             return Err(FdFault::BadFd);
         }
         if to == fd {
@@ -227,7 +226,7 @@ impl Tables {
     {
         let mut released = Releases::none();
         let mut files = no_marks();
-        for fd in 0..row_len(self.limits) as u32 {
+        for fd in 0..self.limits.descriptors() {
             if let Some(closed) = self.close_one(p, fd) {
                 files[usize::from(closed.file)] = true;
                 if let Some(number) = closed.last {
@@ -357,16 +356,6 @@ impl Tables {
         }
         self.opened[key].users -= 1;
         Some(Closed { file, last: None })
-    }
-}
-
-/// How many descriptors a process has.
-fn row_len(limits: Limits) -> usize
-    ensures { result ≡ descriptor_limit limits }
-{
-    match limits {
-        Limits::Small => 32,
-        Limits::Wide => 256,
     }
 }
 

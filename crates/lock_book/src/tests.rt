@@ -190,6 +190,15 @@ fn held_again(book: &Book) -> Result<Vec<Held>, Memory> {
     book.held(3).or_else(|_| book.held(3))
 }
 
+/// How many changes more the byte locks of process 1 and of description 1 have room for, and whether the flock locks of the
+/// descriptions have a place.
+fn rooms_of(book: &Book) -> ([usize; 2], [bool; 2]) {
+    (
+        [Owner::Process(1), Owner::Description(1)].map(|owner| book.room(owner)),
+        [1, 2].map(|description| book.flock_room(description)),
+    )
+}
+
 /// Where a growth is refused, as by a test run with one allocation failing, the book is as before and the next try goes
 /// through.
 #[test]
@@ -205,25 +214,14 @@ fn refused_growth_changes_nothing(rt: HostRuntime) -> Result<(), Fail> {
         Growth::FlockSet(2),
     ] {
         let before = held_again(&book)?;
-        let rooms = [
-            book.room(Owner::Process(1)),
-            book.room(Owner::Description(1)),
-        ];
-        let places = [book.flock_room(1), book.flock_room(2)];
+        let rooms = rooms_of(&book);
         if growth.apply(&mut book).is_err() {
             assert_eq!(rt;
                 held_again(&book)?.as_slice(),
                 before.as_slice(),
                 "{growth:?}"
             );
-            assert_eq!(rt;
-                [
-                    book.room(Owner::Process(1)),
-                    book.room(Owner::Description(1))
-                ],
-                rooms
-            );
-            assert_eq!(rt; [book.flock_room(1), book.flock_room(2)], places);
+            assert!(rt; rooms_of(&book) == rooms);
             growth.apply(&mut book)?;
         }
     }

@@ -162,45 +162,75 @@ fn answers_in_turn(rt: HostRuntime) -> Result<(), Fail> {
     Ok(())
 }
 
-/// A descriptor that dup made, and the child's copies, share the offset, and the size is the file's; the child has no
-/// lock of its parent, and its number can be had once.
+const OPEN_FILE_2: Request = Request::OpenFile {
+    file: 2,
+    access: Access::Rw,
+};
+
+fn seek(fd: u32, offset: i64) -> Request {
+    Request::Seek { fd, offset }
+}
+
+fn resize(fd: u32, size: i64) -> Request {
+    Request::Resize { fd, size }
+}
+
+/// `F_SETLK` of ten bytes.
+fn set_ten(fd: u32, kind: Kind, whence: Whence, start: i64) -> Request {
+    command(fd, LkCmd::SetLk, kind, (whence, start, 10))
+}
+
+/// A descriptor that dup made shares the offset, and the size is the file's.
 #[test]
-fn descriptors_share_their_description(rt: HostRuntime) -> Result<(), Fail> {
-    let seek = |fd, offset| Request::Seek { fd, offset };
-    let resize = |fd, size| Request::Resize { fd, size };
-    let lock = |fd, kind, whence, start| { command(fd, LkCmd::SetLk, kind, (whence, start, 10)) };
-    let open = Request::OpenFile {
-        file: 2,
-        access: Access::Rw,
-    };
-    let fork = |child| Request::Fork { child };
+fn dup_shares_the_description(rt: HostRuntime) -> Result<(), Fail> {
     let turns = [
-        (1, open, Reply::Fd(0)),
+        (1, OPEN_FILE_2, Reply::Fd(0)),
         (1, Request::Dup { fd: 0 }, Reply::Fd(1)),
         (1, seek(1, 50), Reply::Ok),
-        (1, lock(0, Kind::Write, Whence::Cur, 0), Reply::Ok),
+        (1, set_ten(0, Kind::Write, Whence::Cur, 0), Reply::Ok),
         (1, resize(0, 200), Reply::Ok),
-        (1, lock(1, Kind::Read, Whence::End, -10), Reply::Ok),
+        (1, set_ten(1, Kind::Read, Whence::End, -10), Reply::Ok),
         (1, seek(0, -1), Reply::Err(Errno::EINVAL)),
         (1, seek(2, 0), Reply::Err(Errno::EBADF)),
         (1, resize(0, -1), Reply::Err(Errno::EINVAL)),
         (1, resize(2, 0), Reply::Err(Errno::EBADF)),
         (1, Request::Dup { fd: 2 }, Reply::Err(Errno::EBADF)),
+        (1, set_ten(1, Kind::Write, Whence::Cur, 20), Reply::Ok),
+    ];
+    let manager = replies_in_turn(&rt, rt.alloc(), &turns)?;
+    let report = all_held(&manager)?;
+    let wanted = [
+        held(2, Mode::Write, 50, 59),
+        held(2, Mode::Write, 70, 79),
+        held(2, Mode::Read, 190, 199),
+    ];
+    assert_eq!(rt; report.as_slice(), wanted.as_slice());
+    Ok(())
+}
+
+/// The child's descriptors share their descriptions with the parent's, it has no lock of its parent, and its number can be
+/// had once.
+#[test]
+fn fork_shares_descriptions_and_no_locks(rt: HostRuntime) -> Result<(), Fail> {
+    let again = Reply::Err(Errno::EAGAIN);
+    let fork = |child| Request::Fork { child };
+    let turns = [
+        (1, OPEN_FILE_2, Reply::Fd(0)),
+        (1, seek(0, 50), Reply::Ok),
+        (1, resize(0, 200), Reply::Ok),
+        (1, set_ten(0, Kind::Write, Whence::Cur, 0), Reply::Ok),
+        (1, set_ten(0, Kind::Read, Whence::End, -10), Reply::Ok),
         (1, fork(2), Reply::Ok),
-        (1, fork(2), Reply::Err(Errno::EAGAIN)),
-        (1, fork(0), Reply::Err(Errno::EAGAIN)),
-        (1, fork(17), Reply::Err(Errno::EAGAIN)),
-        (
-            2,
-            lock(0, Kind::Read, Whence::Set, 50),
-            Reply::Err(Errno::EAGAIN),
-        ),
-        (2, lock(0, Kind::Read, Whence::End, -10), Reply::Ok),
+        (1, fork(2), again),
+        (1, fork(0), again),
+        (1, fork(17), again),
+        (2, set_ten(0, Kind::Read, Whence::Set, 50), again),
+        (2, set_ten(0, Kind::Read, Whence::End, -10), Reply::Ok),
         (2, seek(0, 70), Reply::Ok),
-        (1, lock(1, Kind::Write, Whence::Cur, 0), Reply::Ok),
-        (2, fork(1), Reply::Err(Errno::EAGAIN)),
+        (1, set_ten(0, Kind::Write, Whence::Cur, 0), Reply::Ok),
+        (2, fork(1), again),
         (2, fork(16), Reply::Ok),
-        (16, Request::Dup { fd: 1 }, Reply::Fd(2)),
+        (16, Request::Dup { fd: 0 }, Reply::Fd(1)),
     ];
     let manager = replies_in_turn(&rt, rt.alloc(), &turns)?;
     let states = all_states(&rt, &manager);
@@ -301,22 +331,24 @@ fn the_first_blocker_is_reported(rt: HostRuntime) -> Result<(), Fail> {
     Ok(())
 }
 
+/// A command on one byte whose lock carries a process number.
+fn with_pid(fd: u32, cmd: LkCmd, start: i64, pid: i64) -> Request {
+    let lock = Lock {
+        kind: Kind::Write,
+        whence: Whence::Set,
+        start,
+        len: 1,
+        pid,
+    };
+    Request::Lk { fd, cmd, lock }
+}
+
 /// The refusals of the get and OFD commands in their order, and that a get needs no access mode.
 #[test]
 fn commands_are_refused_in_order(rt: HostRuntime) -> Result<(), Fail> {
     let open = Request::OpenFile {
         file: 0,
         access: Access::R,
-    };
-    let with_pid = |fd, cmd, start, pid| {
-        let lock = Lock {
-            kind: Kind::Write,
-            whence: Whence::Set,
-            start,
-            len: 1,
-            pid,
-        };
-        Request::Lk { fd, cmd, lock }
     };
     let whole = OFFMAX as i64;
     let past = |cmd| ofd(cmd, Kind::Write, whole, 2);

@@ -1,6 +1,5 @@
 ghost use Rattle.std.specs.Prelude.{◌≡◌, ◌<◌, ◌^◌, MatchResult, codes, decimal};
 ghost use Rattle.std.specs.Fmt.{signed_decimal};
-ghost use Rattle.fd_table.specs.Descriptors as spec;
 ghost use Rattle.script_core.specs.Arguments.{FileNumber, DescriptorNumber, AnyNumber, ProcessNumber, AccessWord, KindWord, WhenceWord, OpWord, NbWord, PolicyWord, LimitsWord, IsBad};
 ghost use Rattle.script_core.specs.HeaderText.{policy_word, limits_word};
 ghost use Rattle.script_core.specs.RequestText.{access_word, kind_word, whence_word, op_word};
@@ -13,23 +12,13 @@ use lock_manager::FlockOp;
 use range_core::{Kind, Whence};
 use wait_core::Policy;
 
-/// How many processes a script of these limits has (this project's choice).
-pub fn process_limit(limits: Limits) -> u8
-    ensures { result ≡ spec.process_limit limits }
-{
-    match limits {
-        Limits::Small => 16,
-        Limits::Wide => 64,
-    }
-}
-
 /// The number of a process, of which there are as many as the limits say.
 #[tactic(auto, using(crate::proofs::NumberLemmas::one_number))]
 pub fn read_process(limits: Limits, word: &str) -> Result<u8, Cause>
     ensures { MatchResult result (λ p. IsProcess limits p × (word.now ≡ decimal p)) (IsBad (ProcessNumber limits) word.now) }
 {
     match natural_of(word) {
-        Some(p) if 1 <= p && p <= u64::from(process_limit(limits)) => Ok(p as u8),
+        Some(p) if 1 <= p && p <= u64::from(limits.processes()) => Ok(p as u8),
         _ => Err(Cause::Process),
     }
 }

@@ -14,7 +14,6 @@ mod text;
 mod words;
 mod write;
 
-pub use arguments::process_limit;
 pub use laws::{headers_change_nothing_else, scripts_have_one_output};
 pub use script::{Cause, Script, ScriptFault, parse};
 pub use write::{write_entry, write_report};

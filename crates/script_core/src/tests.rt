@@ -1,6 +1,6 @@
 mod header_lines;
 
-use crate::{Cause, ScriptFault, parse, process_limit, write_entry, write_report};
+use crate::{Cause, ScriptFault, parse, write_entry, write_report};
 use fd_table::Access;
 use lock_manager::{Errno, FlockOp, LkCmd, Lock, Note, Reply, Request};
 use range_core::{Kind, Mode, Whence};
@@ -78,74 +78,112 @@ fn set_lock(kind: Kind, start: i64, len: i64, pid: i64) -> Request {
     }
 }
 
-/// One line with each fault, with and without the line feed that ends it.
-#[test]
-fn one_line_scripts(rt: HostRuntime) {
-    for (line, cause) in [
-        (b"17 exit\n".as_slice(), Some(Cause::Process)),
-        (b"01 exit\n", Some(Cause::Process)),
-        (b"1\n", Some(Cause::Count)),
-        (b"1 lock 0\n", Some(Cause::Word)),
-        (b"1 open 64 r\n", Some(Cause::Number)),
-        (b"1 open 0 x\n", Some(Cause::Word)),
-        (b"1 setlk 0 r set -0 1\n", Some(Cause::Number)),
-        (
-            b"1 setlk 0 r set 9223372036854775808 1\n",
-            Some(Cause::Number),
-        ),
-        (b"1 setlk 0 r set 0 +1\n", Some(Cause::Number)),
-        (b"1 setlk 0 r set 0 01\n", Some(Cause::Number)),
-        (b"1 setlk 4294967296 x set 0 1\n", Some(Cause::Number)),
-        (b"1 setlk 0 x set -0 1\n", Some(Cause::Word)),
-        (b"1 setlk 0 w set\n", Some(Cause::Count)),
-        (b"1 setlk 0 w set 0 1 2 3\n", Some(Cause::Count)),
-        (b"1 seek 0 -0\n", Some(Cause::Number)),
-        (b"1 seek 0 9223372036854775808\n", Some(Cause::Number)),
-        (b"1 seek 4294967296 -0 0\n", Some(Cause::Count)),
-        (b"1 resize 0 -9223372036854775808\n", None),
-        (b"1 resize -1 x\n", Some(Cause::Number)),
-        (b"1 fork 0\n", Some(Cause::Process)),
-        (b"1 fork 17\n", Some(Cause::Process)),
-        (b"1 fork 16\n", None),
-        (b"1 dup\n", Some(Cause::Count)),
-        (b"1 dup 4294967296\n", Some(Cause::Number)),
-        (b"1 Dup 0\n", Some(Cause::Word)),
-        (b"1 dup2 0\n", Some(Cause::Count)),
-        (b"1 dup2 0 -1\n", Some(Cause::Number)),
-        (b"1 close 0 0\n", Some(Cause::Count)),
-        (b"1 exit 0\n", Some(Cause::Count)),
-        (b"1 getlk 0 w set 0\n", Some(Cause::Count)),
-        (b"1 ogetlk 0 x set -0 1\n", Some(Cause::Word)),
-        (b"1 osetlk 0 w set 0 1 -7\n", None),
-        (b"1 setlkw 0 w set 0\n", Some(Cause::Count)),
-        (b"1 osetlkw 0 x set -0 1\n", Some(Cause::Word)),
-        (b"1 osetlkw 0 w set 0 1 -7\n", None),
-        (b"1 signal\n", Some(Cause::Count)),
-        (b"1 signal 17\n", Some(Cause::Process)),
-        (b"1 kill 0\n", Some(Cause::Process)),
-        (b"1 kill 1 1\n", Some(Cause::Count)),
-        (b"1 kill 16\n", None),
-        (b"1 Kill 2\n", Some(Cause::Word)),
-        (b"1 flock 0\n", Some(Cause::Count)),
-        (b"1 flock 0 sh nb nb\n", Some(Cause::Count)),
-        (b"1 flock 4294967296 no\n", Some(Cause::Number)),
-        (b"1 flock 0 no no\n", Some(Cause::Word)),
-        (b"1 flock 0 SH\n", Some(Cause::Word)),
-        (b"1 flock 0 sh no\n", Some(Cause::Word)),
-        (b"1 flock 0 un nb\n", None),
-        (b"1\texit\n", Some(Cause::Byte)),
-        (b"# 17 exit\n", None),
-        (b"  \n", None),
-        (
-            b" 16  setlk 4294967295 u end -9223372036854775808 9223372036854775807 0 \n",
-            None,
-        ),
-    ] {
-        let fault = cause.map(|cause| ScriptFault { line: 1, cause });
-        assert_eq!(rt; fault_of(rt.alloc(), line), fault);
+/// Looks that each of these scripts of one line has this fault, or none, with the line feed that ends it and without.
+fn assert_faults(rt: &impl Abort, alloc: Global, cause: Option<Cause>, lines: &[&[u8]]) {
+    let wanted = cause.map(|cause| ScriptFault { line: 1, cause });
+    for line in lines {
+        assert_eq!(rt; fault_of(alloc, line), wanted, "{line:?}");
         let without_feed = line.strip_suffix(b"\n").unwrap_or(line);
-        assert_eq!(rt; fault_of(rt.alloc(), without_feed), fault);
+        assert_eq!(rt; fault_of(alloc, without_feed), wanted, "{line:?}");
     }
+}
+
+/// The first word, or the process that the command names, isn't the number of a process.
+#[test]
+fn lines_with_a_bad_process(rt: HostRuntime) {
+    let lines = [
+        b"17 exit\n".as_slice(),
+        b"01 exit\n",
+        b"1 fork 0\n",
+        b"1 fork 17\n",
+        b"1 signal 17\n",
+        b"1 kill 0\n",
+    ];
+    assert_faults(&rt, rt.alloc(), Some(Cause::Process), &lines);
+}
+
+/// A command with too few words or too many, whatever they are.
+#[test]
+fn lines_with_a_bad_count(rt: HostRuntime) {
+    let lines = [
+        b"1\n".as_slice(),
+        b"1 setlk 0 w set\n",
+        b"1 setlk 0 w set 0 1 2 3\n",
+        b"1 seek 4294967296 -0 0\n",
+        b"1 dup\n",
+        b"1 dup2 0\n",
+        b"1 close 0 0\n",
+        b"1 exit 0\n",
+        b"1 getlk 0 w set 0\n",
+        b"1 setlkw 0 w set 0\n",
+        b"1 signal\n",
+        b"1 kill 1 1\n",
+        b"1 flock 0\n",
+        b"1 flock 0 sh nb nb\n",
+    ];
+    assert_faults(&rt, rt.alloc(), Some(Cause::Count), &lines);
+}
+
+/// From the left, the first wrong word isn't one of those that may stand there.
+#[test]
+fn lines_with_a_bad_word(rt: HostRuntime) {
+    let lines = [
+        b"1 lock 0\n".as_slice(),
+        b"1 open 0 x\n",
+        b"1 setlk 0 x set -0 1\n",
+        b"1 Dup 0\n",
+        b"1 ogetlk 0 x set -0 1\n",
+        b"1 osetlkw 0 x set -0 1\n",
+        b"1 Kill 2\n",
+        b"1 flock 0 no no\n",
+        b"1 flock 0 SH\n",
+        b"1 flock 0 sh no\n",
+    ];
+    assert_faults(&rt, rt.alloc(), Some(Cause::Word), &lines);
+}
+
+/// From the left, the first wrong word is a number out of its range, or spelled otherwise than it is printed.
+#[test]
+fn lines_with_a_bad_number(rt: HostRuntime) {
+    let lines = [
+        b"1 open 64 r\n".as_slice(),
+        b"1 setlk 0 r set -0 1\n",
+        b"1 setlk 0 r set 9223372036854775808 1\n",
+        b"1 setlk 0 r set 0 +1\n",
+        b"1 setlk 0 r set 0 01\n",
+        b"1 setlk 4294967296 x set 0 1\n",
+        b"1 seek 0 -0\n",
+        b"1 seek 0 9223372036854775808\n",
+        b"1 resize -1 x\n",
+        b"1 dup 4294967296\n",
+        b"1 dup2 0 -1\n",
+        b"1 flock 4294967296 no\n",
+    ];
+    assert_faults(&rt, rt.alloc(), Some(Cause::Number), &lines);
+}
+
+/// The least and the greatest numbers are accepted, and so are spaces in any number and lines that say nothing.
+#[test]
+fn lines_without_a_fault(rt: HostRuntime) {
+    let lines = [
+        b"1 resize 0 -9223372036854775808\n".as_slice(),
+        b"1 fork 16\n",
+        b"1 osetlk 0 w set 0 1 -7\n",
+        b"1 osetlkw 0 w set 0 1 -7\n",
+        b"1 kill 16\n",
+        b"1 flock 0 un nb\n",
+        b"# 17 exit\n",
+        b"  \n",
+        b" 16  setlk 4294967295 u end -9223372036854775808 9223372036854775807 0 \n",
+    ];
+    assert_faults(&rt, rt.alloc(), None, &lines);
+}
+
+/// A tab is no space: bytes that aren't printable ASCII are refused wherever they stand.
+#[test]
+fn lines_with_a_bad_byte(rt: HostRuntime) {
+    let lines = [b"1\texit\n".as_slice(), b"# \x7f\n", b"1 exit\r\n"];
+    assert_faults(&rt, rt.alloc(), Some(Cause::Byte), &lines);
 }
 
 /// A line of 120 bytes is accepted, and one of 121 isn't.
@@ -460,7 +498,7 @@ fn whole_output(rt: HostRuntime) -> Result<(), Fail> {
 
 fn output_of(alloc: Global, script: &[u8]) -> Result<Vec<u8>, Fail> {
     let script = parse(alloc, script).map_err(|_| "refused")?;
-    let processes = process_limit(script.rules.limits);
+    let processes = script.rules.limits.processes();
     let session = run_all(alloc, processes, script.rules, &script.arrivals).map_err(|_| "not run")?;
     let mut sent = Vec::new(alloc);
     for index in 0..session.manager().processes() {

@@ -146,6 +146,13 @@ fn all_held(session: &Session) -> Result<Vec<Held>, Memory> {
     }
 }
 
+/// Looks that just these locks are held.
+fn assert_held(rt: &impl Abort, session: &Session, wanted: &[Held]) -> Result<(), Fail> {
+    let locks = all_held(session)?;
+    assert_eq!(rt; locks.as_slice(), wanted);
+    Ok(())
+}
+
 /// What the two processes sent, what was taken and what answered, and how many entries there are.
 fn counts(session: &Session) -> [u64; 7] {
     [
@@ -278,13 +285,12 @@ fn arrivals_are_run(rt: HostRuntime) -> Result<(), Fail> {
             [Note::Answer { p: 1, n, reply }].as_slice()
         );
     }
-    let locks = all_held(&session)?;
-    let expected = [
+    let wanted = [
         held(Mode::Write, 0, 39),
         held(Mode::Read, 40, 59),
         held(Mode::Write, 60, 99),
     ];
-    assert_eq!(rt; locks.as_slice(), expected.as_slice());
+    assert_held(&rt, &session, &wanted)?;
     assert!(rt; session.manager().processes() == 2);
     assert_eq!(rt; session.manager().state_of(2), ProcState::Unborn);
     Ok(())
@@ -310,7 +316,7 @@ fn processes_begin_and_end(rt: HostRuntime) -> Result<(), Fail> {
             .last()
             .is_some_and(|entry| entry.p == 1 && entry.notes.is_empty())
     );
-    assert_eq!(rt; all_held(&session)?.len(), 0);
+    assert_held(&rt, &session, &[])?;
     assert_eq!(rt; take_next(&rt, &mut session)?, Some(5));
     assert_eq!(rt; take_next(&rt, &mut session)?, None);
     assert_eq!(rt; counts(&session), [5, 4, 3, 1, 1, 1, 5]);
@@ -357,9 +363,7 @@ fn mail_of_the_unborn_waits_for_the_fork(rt: HostRuntime) -> Result<(), Fail> {
     assert_eq!(rt; counts(&session), [4, 4, 4, 3, 2, 1, 6]);
     assert_eq!(rt; session.answer_of(2, 1), Some(Reply::Err(Errno::EAGAIN)));
     assert_eq!(rt; session.answer_of(2, 2), None);
-    let locks = all_held(&session)?;
-    assert_eq!(rt; locks.as_slice(), [held(Mode::Write, 0, 49)].as_slice());
-    Ok(())
+    assert_held(&rt, &session, &[held(Mode::Write, 0, 49)])
 }
 
 /// While a process waits its mail stays, also where it is the only mail; with the answer it is taken.
@@ -393,12 +397,7 @@ fn mail_of_a_waiting_process_stays(rt: HostRuntime) -> Result<(), Fail> {
     assert_eq!(rt; take_next(&rt, &mut session)?, None);
     assert_eq!(rt; counts(&session), [4, 4, 4, 2, 2, 2, 6]);
     assert_eq!(rt; session.answer_of(2, 2), Some(Reply::Fd(1)));
-    let locks = all_held(&session)?;
-    assert_eq!(rt;
-        locks.as_slice(),
-        [held_by(2, Mode::Write, 0, 0)].as_slice()
-    );
-    Ok(())
+    assert_held(&rt, &session, &[held_by(2, Mode::Write, 0, 0)])
 }
 
 /// Who waits is granted in another's event, and a wait that would close a cycle is refused.
@@ -430,9 +429,7 @@ fn a_wait_is_granted_by_another(rt: HostRuntime) -> Result<(), Fail> {
         &[answer(2, 3, Reply::Ok), answer(1, 4, Reply::Ok)],
     );
     assert_eq!(rt; session.answer_of(1, 4), Some(Reply::Ok));
-    let locks = all_held(&session)?;
-    assert_eq!(rt; locks.as_slice(), [held(Mode::Write, 0, 1)].as_slice());
-    Ok(())
+    assert_held(&rt, &session, &[held(Mode::Write, 0, 1)])
 }
 
 /// One event grants several waits, one of them only after another one's lock was set.
@@ -457,10 +454,8 @@ fn one_event_grants_several_waits(rt: HostRuntime) -> Result<(), Fail> {
         answer(1, 4, Reply::Ok),
     ];
     assert_told(&rt, &session, 8, &notes);
-    let locks = all_held(&session)?;
-    let expected = [held(Mode::Read, 0, 9), held_by(2, Mode::Read, 0, 99)];
-    assert_eq!(rt; locks.as_slice(), expected.as_slice());
-    Ok(())
+    let wanted = [held(Mode::Read, 0, 9), held_by(2, Mode::Read, 0, 99)];
+    assert_held(&rt, &session, &wanted)
 }
 
 /// A signal ends a wait with EINTR, and then the mail goes on; of oneself it does nothing.
@@ -517,8 +512,7 @@ fn a_kill_ends_a_wait(rt: HostRuntime) -> Result<(), Fail> {
     assert_eq!(rt; session.answer_of(2, 1), None);
     assert!(rt; session.manager().processes() == 2);
     assert_eq!(rt; session.manager().state_of(2), ProcState::Ended);
-    assert_eq!(rt; all_held(&session)?.len(), 0);
-    Ok(())
+    assert_held(&rt, &session, &[])
 }
 
 /// The end of who holds a lock grants it to who waits for it, and a kill of oneself is told nothing.
@@ -550,9 +544,7 @@ fn kills_release_locks(rt: HostRuntime) -> Result<(), Fail> {
     assert_eq!(rt; session.manager().state_of(1), ProcState::Ended);
     assert_eq!(rt; session.manager().state_of(2), ProcState::Ended);
     assert_eq!(rt; session.manager().state_of(3), ProcState::Live);
-    let locks = all_held(&session)?;
-    assert_eq!(rt; locks.as_slice(), [held_by(3, Mode::Read, 0, 9)].as_slice());
-    Ok(())
+    assert_held(&rt, &session, &[held_by(3, Mode::Read, 0, 9)])
 }
 
 /// A conversion that is refused has lost its lock, and its entry tells the refusal before the grant.
@@ -579,14 +571,12 @@ fn a_refused_conversion_grants_a_wait(rt: HostRuntime) -> Result<(), Fail> {
     );
     assert_eq!(rt; session.answer_of(1, 4), Some(refused));
     assert_eq!(rt; session.answer_of(2, 2), Some(Reply::Ok));
-    let locks = all_held(&session)?;
-    assert_eq!(rt; locks.as_slice(), [flock_held(2, Mode::Write)].as_slice());
-    Ok(())
+    assert_held(&rt, &session, &[flock_held(2, Mode::Write)])
 }
 
-/// A conversion that waits has lost its lock, its entry tells the wait before the grant, and its mail stays until its own grant.
-#[test]
-fn a_waiting_conversion_grants_a_wait(rt: HostRuntime) -> Result<(), Fail> {
+/// Both processes hold the file for reading, 1 converts to writing and waits, then 2 likewise, which grants 1, and 2 has one
+/// request more in its mailbox.
+fn two_waiting_conversions(rt: &impl Abort, alloc: Global) -> Result<Session, Fail> {
     let arrivals = [
         (1, OPEN),
         (1, FORK),
@@ -597,37 +587,39 @@ fn a_waiting_conversion_grants_a_wait(rt: HostRuntime) -> Result<(), Fail> {
         (2, flock(1, FlockOp::Ex, false)),
         (2, Request::Dup { fd: 1 }),
     ];
-    let mut session = two_processes(rt.alloc())?;
-    deliver(&rt, &mut session, &arrivals)?;
+    let mut session = two_processes(alloc)?;
+    deliver(rt, &mut session, &arrivals)?;
+    Ok(session)
+}
+
+/// A conversion that waits has lost its lock, and its entry tells the wait before the grant.
+#[test]
+fn a_waiting_conversion_grants_a_wait(rt: HostRuntime) -> Result<(), Fail> {
+    let session = two_waiting_conversions(&rt, rt.alloc())?;
     assert_eq!(rt; counts(&session), [4, 4, 4, 4, 3, 2, 7]);
     assert_told(&rt, &session, 6, &[Note::Waits { p: 1, n: 4 }]);
-    assert_told(
-        &rt,
-        &session,
-        7,
-        &[Note::Waits { p: 2, n: 3 }, answer(1, 4, Reply::Ok)],
-    );
+    let notes = [Note::Waits { p: 2, n: 3 }, answer(1, 4, Reply::Ok)];
+    assert_told(&rt, &session, 7, &notes);
     assert_eq!(rt; session.answer_of(1, 4), Some(Reply::Ok));
     assert_eq!(rt; session.answer_of(2, 3), None);
     assert!(rt; session.manager().processes() == 2);
     assert_eq!(rt; session.manager().state_of(1), ProcState::Live);
     assert_eq!(rt; session.manager().state_of(2), ProcState::Waiting);
-    let locks = all_held(&session)?;
-    assert_eq!(rt; locks.as_slice(), [flock_held(1, Mode::Write)].as_slice());
+    assert_held(&rt, &session, &[flock_held(1, Mode::Write)])
+}
+
+/// The mail of a process whose conversion waits stays until its own grant.
+#[test]
+fn mail_of_a_waiting_conversion_stays(rt: HostRuntime) -> Result<(), Fail> {
+    let mut session = two_waiting_conversions(&rt, rt.alloc())?;
     deliver(&rt, &mut session, &[(1, flock(0, FlockOp::Un, false))])?;
-    assert_told(
-        &rt,
-        &session,
-        8,
-        &[answer(1, 5, Reply::Ok), answer(2, 3, Reply::Ok)],
-    );
+    let notes = [answer(1, 5, Reply::Ok), answer(2, 3, Reply::Ok)];
+    assert_told(&rt, &session, 8, &notes);
     assert_eq!(rt; take_next(&rt, &mut session)?, Some(9));
     assert_eq!(rt; take_next(&rt, &mut session)?, None);
     assert_eq!(rt; counts(&session), [5, 5, 5, 4, 4, 4, 9]);
     assert_eq!(rt; session.answer_of(2, 4), Some(Reply::Fd(2)));
-    let locks = all_held(&session)?;
-    assert_eq!(rt; locks.as_slice(), [flock_held(2, Mode::Write)].as_slice());
-    Ok(())
+    assert_held(&rt, &session, &[flock_held(2, Mode::Write)])
 }
 
 /// A conversion that succeeds tells so before each of its grants.
@@ -653,14 +645,12 @@ fn a_conversion_grants_several_waits(rt: HostRuntime) -> Result<(), Fail> {
         answer(2, 2, Reply::Ok),
     ];
     assert_told(&rt, &session, 9, &notes);
-    let locks = all_held(&session)?;
-    let expected = [
+    let wanted = [
         flock_held(1, Mode::Read),
         flock_held(2, Mode::Read),
         flock_held(3, Mode::Read),
     ];
-    assert_eq!(rt; locks.as_slice(), expected.as_slice());
-    Ok(())
+    assert_held(&rt, &session, &wanted)
 }
 
 /// Under the held policy a reader passes a writer that waits, for held locks alone block.
@@ -671,9 +661,7 @@ fn a_reader_passes_a_waiting_writer(rt: HostRuntime) -> Result<(), Fail> {
     deliver(&rt, &mut session, &[(1, set(0, Kind::Unlock, 0, 10))])?;
     assert_told(&rt, &session, 7, &[answer(1, 5, Reply::Ok)]);
     assert_eq!(rt; session.answer_of(2, 1), None);
-    let locks = all_held(&session)?;
-    assert_eq!(rt; locks.as_slice(), [held_by(3, Mode::Read, 0, 9)].as_slice());
-    Ok(())
+    assert_held(&rt, &session, &[held_by(3, Mode::Read, 0, 9)])
 }
 
 /// Under the queue policy it waits behind the writer, and is granted after it.
@@ -685,11 +673,7 @@ fn a_reader_queues_behind_a_waiting_writer(rt: HostRuntime) -> Result<(), Fail> 
     let notes = [answer(1, 5, Reply::Ok), answer(2, 1, Reply::Ok)];
     assert_told(&rt, &session, 7, &notes);
     assert_eq!(rt; session.answer_of(3, 1), None);
-    let locks = all_held(&session)?;
-    assert_eq!(rt;
-        locks.as_slice(),
-        [held_by(2, Mode::Write, 0, 9)].as_slice()
-    );
+    assert_held(&rt, &session, &[held_by(2, Mode::Write, 0, 9)])?;
     deliver(&rt, &mut session, &[(2, set(0, Kind::Unlock, 0, 10))])?;
     let notes = [answer(2, 2, Reply::Ok), answer(3, 1, Reply::Ok)];
     assert_told(&rt, &session, 8, &notes);
@@ -707,10 +691,8 @@ fn an_interrupted_wait_lets_the_next_by(rt: HostRuntime) -> Result<(), Fail> {
         answer(3, 1, Reply::Ok),
     ];
     assert_told(&rt, &session, 7, &notes);
-    let locks = all_held(&session)?;
-    let expected = [held(Mode::Read, 0, 9), held_by(3, Mode::Read, 0, 9)];
-    assert_eq!(rt; locks.as_slice(), expected.as_slice());
-    Ok(())
+    let wanted = [held(Mode::Read, 0, 9), held_by(3, Mode::Read, 0, 9)];
+    assert_held(&rt, &session, &wanted)
 }
 
 /// And as soon as the writer is killed, of which nobody is told but the killer.
@@ -748,10 +730,5 @@ fn a_set_passes_the_queue(rt: HostRuntime) -> Result<(), Fail> {
     assert_told(&rt, &session, 6, &[answer(1, 5, Reply::Ok)]);
     let notes = [answer(1, 6, Reply::Ok), answer(2, 1, Reply::Ok)];
     assert_told(&rt, &session, 7, &notes);
-    let locks = all_held(&session)?;
-    assert_eq!(rt;
-        locks.as_slice(),
-        [held_by(2, Mode::Write, 0, 0)].as_slice()
-    );
-    Ok(())
+    assert_held(&rt, &session, &[held_by(2, Mode::Write, 0, 0)])
 }

@@ -1,6 +1,6 @@
 //! Header lines: what they say, where they may stand, and their faults.
 use super::fault_of;
-use crate::{Cause, ScriptFault, parse, process_limit};
+use crate::{Cause, ScriptFault, parse};
 use fd_table::Limits;
 use lock_manager::{Request, Rules};
 use std::test::Fail;
@@ -25,8 +25,6 @@ fn rules_of_scripts(rt: HostRuntime) -> Result<(), Fail> {
         let rules = parse(rt.alloc(), script).map_err(|_| "refused")?.rules;
         assert_eq!(rt; rules, Rules { policy, limits });
     }
-    assert_eq!(rt; process_limit(Limits::Small), 16);
-    assert_eq!(rt; process_limit(Limits::Wide), 64);
     Ok(())
 }
 

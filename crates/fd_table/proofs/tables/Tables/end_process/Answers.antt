@@ -90,7 +90,7 @@ returns-clause-step c = λ D h.
     let i = c.loop-fd.invariant in
     let numbers = c.loop-fd.released.descriptions in
     let listed : c.list_files.new.self.descriptions ≡ numbers = c.list_files.ensures.descriptions in
-    let over : descriptor_limit t.limits ≤ c.loop-fd.fd = omega (arith, c.row_len-fd-end.ensures) in
+    let over : descriptor_limit t.limits ≤ c.loop-fd.fd = omega (arith, c.descriptors-fd-end.ensures) in
     let none = λ (k : ℕ) (past : c.loop-fd.fd ≤ k). key_of_open t.rows.items t.opened p k (view_of t) D (λ q j. refl) h (key_past t.processes t.limits t.rows.items t.rowed p k (omega (arith, over, past))) in (
       without_descriptors D p (λ k. true),
       gathered_all D p c.loop-fd.fd c.loop-fd.files numbers c.sort_descriptions.new.self none (i.gathered D h)
