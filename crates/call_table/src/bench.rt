@@ -27,8 +27,8 @@ pub struct Bench {
 impl Bench {
     ghost use Rattle.call_table.specs.BenchView.{processes_of, IsSent, IsFull, IsFound};
 
-    /// A session at its opening, under these rules. There are `processes` processes, numbered from 1: at most 16, or 64 where the
-    /// limits are wide.
+    /// A session at its opening, under these rules. There are `processes` processes, numbered from 1, at most
+    /// [`fd_table::Limits::processes`].
     pub fn new(alloc: Global, processes: u8, rules: Rules) -> Result<Bench, Memory>
         requires { (1 ≤ processes) × (processes ≤ process_limit rules.limits) }
         ensures { IfOk result (λ bench. processes_of bench ≡ processes) }
@@ -50,6 +50,8 @@ impl Bench {
 
     /// The request comes to the mailbox of its process, and gets its number among those of the process, from 1. It is taken
     /// in a call of [`Bench::wait_for`]. May wait.
+    ///
+    /// `Full` only where the process has sent [`session_core::N_MAX`] requests; `Memory` where a growth was refused.
     pub fn send<R: Wait>(&self, rt: &R, p: u8, request: Request) -> Result<u64, ArriveFault>
         requires { (1 ≤ p) × (p ≤ processes_of self.now) }
         ensures ok { IfOk result (λ n. IsSent p request n) }
@@ -89,12 +91,10 @@ impl Bench {
 
 /// What there is to wait for: the answer to request number `n` of the process, or `None` where it has ended without one.
 fn find(session: &Session, p: u8, n: u64) -> Option<Option<Reply>>
-    requires { 1 ≤ p }
     ensures reply { IfSome result (λ reply. reply ≡ reply_to p n (events_in session.now)) }
     ensures ended { IfSome result (λ reply. IfNone reply (state_at (manager_of session.now) p ≡ ProcState.Ended)) }
 {
     let reply = session.answer_of(p, n);
-    let manager = session.manager();
-    let has_ended = p <= manager.processes() && manager.state_of(p) == ProcState::Ended;
+    let has_ended = session.manager().state_of(p) == ProcState::Ended;
     (reply.is_some() || has_ended).then_some(reply)
 }

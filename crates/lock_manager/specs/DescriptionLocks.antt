@@ -36,7 +36,8 @@ MayWaitAs descriptors wait (Description d) = HasOpenOn descriptors wait.p wait.f
 abbrev pub AreOfHolders : Descriptors → List Wait → Type 0
 AreOfHolders descriptors waits = All (λ wait. MayWaitAs descriptors wait wait.owner) waits
 
--- so are the locks and the waits for descriptors that the tables stand for, and then for all of those
+-- for some descriptors that the tables stand for, the locks of descriptions are of open ones, and each wait is for a lock of its
+-- process or of a description that this process has open
 abbrev pub AreOwned : Tables → Locks → List Wait → Type 0
 AreOwned tables locks waits =
     ∥ ((descriptors : Descriptors) × StandFor tables descriptors × AreOfOpenDescriptions descriptors locks × AreOfHolders descriptors waits) ∥₁

@@ -17,7 +17,7 @@ abbrev pub is_released : ℕ → List ℕ → Owner → Bool
 is_released p descriptions (Process q) = p == q
 is_released p descriptions (Description d) = is_one_of descriptions d
 
--- the process has no traditional lock in the book, and the descriptions no lock at all, nor have they room; all else stays
+-- in the book the process has no traditional lock and the descriptions no lock at all, and neither has room; all else stays
 -- (POSIX.1-2017 close; fcntl_locking(2); flock(2))
 pub record ReleasesInBook (old new : Book) (p : ℕ) (descriptions : List ℕ) : Type 0 where
   pub bytes : (owner : Owner) (byte : ℕ) → byte_modes_of new owner byte
@@ -28,14 +28,14 @@ pub record ReleasesInBook (old new : Book) (p : ℕ) (descriptions : List ℕ) :
   pub places : (description : ℕ) → has_flock_place new description
       ≡ (if is_one_of descriptions description then false else has_flock_place old description)
 
--- and so on each of these files; all locks on other files stay (POSIX.1-2017 close; fcntl_locking(2); flock(2))
+-- on each of these files the process has no traditional lock and the descriptions no lock at all; all else stays (POSIX.1-2017 close; fcntl_locking(2); flock(2))
 pub record ReleasesLocks (old new : Locks) (p : ℕ) (files descriptions : List ℕ) : Type 0 where
   pub bytes : (file : ℕ) (owner : Owner) (byte : ℕ) → new.bytes file owner byte
       ≡ (if is_one_of files file && is_released p descriptions owner then None else old.bytes file owner byte)
   pub flocks : (file description : ℕ) → new.flocks file description
       ≡ (if is_one_of files file && is_one_of descriptions description then None else old.flocks file description)
 
--- nor have they room on any of these files; all other room stays (this project's choice)
+-- on each of these files the process and the descriptions have no room; all other room stays (this project's choice)
 pub record ReleasesRoom (old new : List Book) (p : ℕ) (files descriptions : List ℕ) : Type 0 where
   pub rooms : (file : ℕ) (owner : Owner) → room_at (slice_get new file) owner
       ≡ (if is_one_of files file && is_released p descriptions owner then 0 else room_at (slice_get old file) owner)

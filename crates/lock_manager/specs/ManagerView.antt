@@ -46,6 +46,6 @@ pub record SameManager (old new : Manager) : Type 0 where
   pub rules : rules_of new ≡ rules_of old
   pub processes : processes_of new ≡ processes_of old
 
--- no owners conflict, each wait is blocked, and no traditional wait closes a cycle
+-- no owners conflict, each wait is blocked, and no traditional waits close a cycle
 abbrev pub IsSafeManager : Manager → Type 0
 IsSafeManager manager = ∥ IsSafe (rules_of manager).policy (locks_in_books manager) (waits_of manager) ∥₁

@@ -126,7 +126,8 @@ impl Machine {
 
     /// Where the process stands: unborn where there is no such number.
     pub fn state_of(&self, p: u8) -> ProcState
-        ensures { result ≡ machine_state self.now p }
+        ensures state { result ≡ machine_state self.now p }
+        ensures born { result ≢ ProcState.Unborn → (1 ≤ p) × (p ≤ machine_processes self.now) }
     {
         match usize::from(p).checked_sub(1) {
             Some(place) => self.states.get(place).copied().unwrap_or(ProcState::Unborn),

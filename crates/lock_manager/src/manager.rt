@@ -1,4 +1,4 @@
-ghost use Rattle.std.specs.Prelude.{ℕ, ◌≡◌, ◌≤◌, ◌↔◌, List, [], IfOk, OnErr, IsTrue};
+ghost use Rattle.std.specs.Prelude.{ℕ, ◌≡◌, ◌≢◌, ◌≤◌, ◌↔◌, List, [], IfOk, OnErr, IsTrue};
 ghost use Rattle.lock_manager.specs.Safety.{IsSafe};
 ghost use Rattle.lock_manager.specs.MachineView.{machine_rules, machine_locks, machine_waits};
 
@@ -25,8 +25,8 @@ impl Manager {
     ghost use Rattle.lock_manager.specs.Step.{Step};
     ghost use Rattle.lock_manager.specs.ManagerView.{StandsFor, SameManager, IsSafeManager, rules_of, processes_of, state_at};
 
-    /// Process 1 lives, and there is nothing else (this project's choice). There are `processes` processes, numbered from 1:
-    /// at most 16, or 64 where the limits are wide.
+    /// Process 1 lives, and there is nothing else (this project's choice). There are `processes` processes, numbered from 1,
+    /// at most [`fd_table::Limits::processes`].
     pub fn new(alloc: Global, processes: u8, rules: Rules) -> Result<Manager, Memory>
         requires { (1 ≤ processes) × (processes ≤ process_limit rules.limits) }
         ensures opening { IfOk result (λ manager. StandsFor manager opening_state) }
@@ -87,18 +87,18 @@ impl Manager {
         self.machine.processes()
     }
 
-    /// Where the process stands.
+    /// Where the process stands: unborn where there is no such number.
     pub fn state_of(&self, p: u8) -> ProcState
-        requires { (1 ≤ p) × (p ≤ processes_of self.now) }
-        ensures { result ≡ state_at self.now p }
+        ensures state { result ≡ state_at self.now p }
+        ensures born { result ≢ ProcState.Unborn → (1 ≤ p) × (p ≤ processes_of self.now) }
     {
         self.machine.state_of(p)
     }
 
-    /// Whether a request of the process may be taken.
+    /// Whether a request of the process may be taken: there is such a process, and it lives.
     pub fn able(&self, p: u8) -> bool
-        requires { (1 ≤ p) × (p ≤ processes_of self.now) }
-        ensures { IsTrue result ↔ (state_at self.now p ≡ ProcState.Live) }
+        ensures able { IsTrue result ↔ (state_at self.now p ≡ ProcState.Live) }
+        ensures born { IsTrue result → (1 ≤ p) × (p ≤ processes_of self.now) }
     {
         self.state_of(p) == ProcState::Live
     }

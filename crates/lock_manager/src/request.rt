@@ -2,7 +2,7 @@ use fd_table::{Access, Limits};
 use range_core::{Kind, Mode, Whence};
 use wait_core::Policy;
 
-/// The rules of a run.
+/// The rules of a run (this project's choice).
 #[derive(Clone, Copy, Debug, PartialEq, Eq)]
 pub struct Rules {
     /// What a request that would wait is tested against.
@@ -57,7 +57,8 @@ pub enum FlockOp {
 /// What a process asks for.
 #[derive(Clone, Copy, Debug, PartialEq, Eq)]
 pub enum Request {
-    /// open: a new open file description of the file, from 0 to 63, under the lowest free descriptor.
+    /// open: a new open file description of the file, under the lowest free descriptor (POSIX.1-2017 open; that files are
+    /// named by numbers, 0 to 63, is this project's choice).
     OpenFile { file: u8, access: Access },
     /// dup: the lowest free descriptor refers to the same description (POSIX.1-2017 dup).
     Dup { fd: u32 },
@@ -69,9 +70,10 @@ pub enum Request {
     Seek { fd: u32, offset: i64 },
     /// ftruncate to a size in bytes (POSIX.1-2017 ftruncate).
     Resize { fd: u32, size: i64 },
-    /// fcntl with a lock command on a descriptor.
+    /// fcntl with a lock command on a descriptor (POSIX.1-2017 fcntl; fcntl_locking(2)).
     Lk { fd: u32, cmd: LkCmd, lock: Lock },
-    /// flock on a descriptor; `nb` is `LOCK_NB`, by which it is refused where it would wait (flock(2)).
+    /// flock on a descriptor; `nb` is `LOCK_NB`, by which it never waits: it is refused where a held lock is in the way
+    /// (flock(2)).
     Flock { fd: u32, op: FlockOp, nb: bool },
     /// fork, in which the caller names the child (POSIX.1-2017 fork; the name is this project's choice).
     Fork { child: u8 },
@@ -83,7 +85,7 @@ pub enum Request {
     Kill { target: u8 },
 }
 
-/// The errors of the answers, by their names in `<errno.h>`.
+/// The errors of the answers, by their names in `<errno.h>`; the numbers are this project's choice.
 #[derive(Clone, Copy, Debug, PartialEq, Eq)]
 pub enum Errno {
     /// The descriptor isn't open, or isn't open for such a lock.
@@ -122,20 +124,22 @@ pub enum Reply {
         len: u64,
         pid: i64,
     },
-    /// The request was refused, and changed nothing.
+    /// The request was refused, or a signal ended its wait: it set nothing. A conversion by flock has lost its old lock all
+    /// the same, and others may have been granted theirs; nothing else has changed (flock(2), "converting a lock").
     Err(Errno),
 }
 
-/// One part of what an event tells.
+/// One part of what an event tells (this project's choice).
 #[derive(Clone, Copy, Debug, PartialEq, Eq)]
 pub enum Note {
     /// Process `p` is answered its request number `n`.
     Answer { p: u8, n: u64, reply: Reply },
-    /// Process `p` waits with its request number `n`, and is told later what became of it.
+    /// Process `p` waits with its request number `n`. If the wait is granted or a signal ends it, a later note is the answer; a
+    /// kill of the process ends it without one.
     Waits { p: u8, n: u64 },
 }
 
-/// Where a process stands.
+/// Where a process stands (this project's choice).
 #[derive(Clone, Copy, Debug, PartialEq, Eq)]
 pub enum ProcState {
     /// It was never alive.

@@ -65,8 +65,7 @@ fn all_waits(manager: &Manager) -> Result<Vec<Wait>, Memory> {
 }
 
 /// Where each of the 16 processes stands.
-fn all_states(rt: &impl Abort, manager: &Manager) -> [ProcState; 16] {
-    assert!(rt; manager.processes() == 16);
+fn all_states(manager: &Manager) -> [ProcState; 16] {
     let mut states = [ProcState::Unborn; 16];
     for p in 1..=16 {
         states[usize::from(p) - 1] = manager.state_of(p);
@@ -85,8 +84,7 @@ fn answer(
 ) -> Result<Vec<Note>, Fail> {
     let before = all_held(manager)?;
     let waits = all_waits(manager)?;
-    let states = all_states(rt, manager);
-    assert!(rt; 1 <= p && p <= manager.processes());
+    let states = all_states(manager);
     assert!(rt; manager.able(p));
     match manager.take(p, n, request) {
         Ok(notes) => Ok(notes),
@@ -98,8 +96,7 @@ fn answer(
                 "held after a refusal of {n}"
             );
             assert_eq!(rt; all_waits(manager)?.as_slice(), waits.as_slice());
-            assert_eq!(rt; all_states(rt, manager), states);
-            assert!(rt; p <= manager.processes());
+            assert_eq!(rt; all_states(manager), states);
             assert!(rt; manager.able(p));
             Ok(manager.take(p, n, request)?)
         }
@@ -233,10 +230,11 @@ fn fork_shares_descriptions_and_no_locks(rt: HostRuntime) -> Result<(), Fail> {
         (16, Request::Dup { fd: 0 }, Reply::Fd(1)),
     ];
     let manager = replies_in_turn(&rt, rt.alloc(), &turns)?;
-    let states = all_states(&rt, &manager);
-    assert_eq!(rt; states[1], ProcState::Live);
-    assert_eq!(rt; states[2], ProcState::Unborn);
-    assert_eq!(rt; states[15], ProcState::Live);
+    assert_eq!(rt; manager.state_of(2), ProcState::Live);
+    assert_eq!(rt; manager.state_of(3), ProcState::Unborn);
+    assert_eq!(rt; manager.state_of(16), ProcState::Live);
+    assert_eq!(rt; manager.state_of(17), ProcState::Unborn);
+    assert!(rt; !manager.able(0));
     let report = all_held(&manager)?;
     let wanted = [
         held(2, Mode::Write, 50, 59),
@@ -435,7 +433,7 @@ fn ofd_locks_go_with_the_last_descriptor(rt: HostRuntime) -> Result<(), Fail> {
     let mut manager = replies_in_turn(&rt, rt.alloc(), &turns)?;
     let ended = answer(&rt, &mut manager, 1, 6, Request::Exit)?;
     assert!(rt; ended.is_empty());
-    assert_eq!(rt; all_states(&rt, &manager)[0], ProcState::Ended);
+    assert_eq!(rt; manager.state_of(1), ProcState::Ended);
     let unlock = command(1, LkCmd::OSetLk, Kind::Unlock, (Whence::Set, 0, 10));
     answer(&rt, &mut manager, 2, 1, unlock)?;
     let rest = Held {

@@ -18,7 +18,7 @@ pub trait Source {
     /// How many calls were made, where the source counts them; no call counts for more than one.
     ghost calls: { Self → ℕ };
 
-    /// The next byte, and `None` at the end.
+    /// The next byte, and `None` at the end. A fault moves no byte.
     fn read_byte(&mut self) -> Result<Option<u8>, DeviceFault>
         ensures byte { IfOk result (GivesByte (remaining self.old) (remaining self.new)) }
         ensures sound { OnOk result (failed self.new ≡ failed self.old) }
@@ -34,7 +34,7 @@ pub trait Sink {
     /// Whether a call has failed.
     ghost failed: { Self → Bool };
 
-    /// Writes the front of the text, at least one byte of a text that isn't empty, and says how many bytes.
+    /// Writes the front of the text, at least one byte of a text that isn't empty, and says how many bytes. A fault writes none.
     fn write_some(&mut self, text: &[u8]) -> Result<usize, DeviceFault>
         ensures some { IfOk result (TakesSome (written self.old) (written self.new) text.now) }
         ensures sound { OnOk result (failed self.new ≡ failed self.old) }

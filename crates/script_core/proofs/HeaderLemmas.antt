@@ -152,5 +152,15 @@ pub headers_only : HeadersChangeNothingElse
 unfolding told
 headers_only = record {
   accepted = λ bytes arrivals reads. reads_same bytes (Ok arrivals) (inl refl) reads;
+  same_output = λ bytes text plain. record {
+    script = record { rules = plain_rules; arrivals = plain.arrivals };
+    accepted = reads_same bytes (Ok plain.arrivals) (inl refl) plain.accepted;
+    journal = plain.journal;
+    state = plain.state;
+    drained = plain.drained;
+    report = plain.report;
+    is_report = plain.is_report;
+    is = plain.is;
+  };
   refused = λ bytes fault none reads. reads_same bytes (Err fault) (inr none) reads;
 }

@@ -1,9 +1,14 @@
--- How a script is read in the language without header lines, and that header lines change nothing else (this project's choice).
-use Rattle.std.specs.Prelude.{◌≡◌, ℕ, ◌+◌, ◌||◌, Bool, false, IsFalse, nat_lt, MatchBool, MatchResult, Result, Ok, Err, List, [], ◌∷◌, ◌++◌, All, length, codes, bytes_eq}
+-- How a script is read and run in the language without header lines, and that header lines change nothing else (this project's
+-- choice).
+use Rattle.std.specs.Prelude.{◌≡◌, ℕ, ◌+◌, ◌||◌, Bool, false, IsFalse, nat_lt, MatchBool, MatchResult, Result, Ok, Err, List, [], ◌∷◌, ◌++◌, All, length, flat_map, codes, bytes_eq}
 use Rattle.fd_table.specs.declared.Limits.TheVariants.{Small}
 use Rattle.wait_core.specs.declared.Policy.TheVariants.{Held}
 use Rattle.lock_manager.specs.declared.request.Rules.{Rules}
 use Rattle.lock_manager.specs.declared.request.Request.{Request}
+use Rattle.lock_manager.specs.State.{State}
+use Rattle.session_core.specs.Event.{Event}
+use Rattle.session_core.specs.Mail.{requests_sent}
+use Rattle.session_core.specs.Draining.{IsDrain}
 use Rattle.script_core.specs.declared.TheConstants.{LINE_MAX, SCRIPT_MAX}
 use Rattle.script_core.specs.declared.line.Line.{Line}
 use Rattle.script_core.specs.declared.line.Line.TheVariants as lines
@@ -12,6 +17,9 @@ use Rattle.script_core.specs.declared.script.Cause.TheVariants.{Byte, TooLong}
 use Rattle.script_core.specs.declared.script.ScriptFault.{ScriptFault}
 use Rattle.script_core.specs.Words.{lines_of, words_of, is_printable}
 use Rattle.script_core.specs.Reading.{Reads, ProcessGives, is_comment}
+use Rattle.script_core.specs.EntryText.{entry_line}
+use Rattle.script_core.specs.ReportText.{IsReport}
+use Rattle.script_core.specs.Output.{IsOutput}
 
 -- the rules of a script without header lines
 abbrev pub plain_rules : Rules
@@ -54,13 +62,26 @@ abbrev pub is_header : List (List ℕ) → Bool
 is_header [] = false
 is_header (first ∷ rest) = bytes_eq first (codes "policy") || bytes_eq first (codes "limits")
 
--- no line begins as a header line does
+-- no line's first word is that of a header line
 abbrev pub HasNoHeader : List ℕ → Type 0
 HasNoHeader bytes = All (λ line. IsFalse (is_header (words_of line))) (lines_of bytes)
 
--- what the language without header lines accepts is read with the policy held, small limits and the same arrivals; and what
--- it refuses has the same fault, where no line begins as a header line does
+-- the output in the language without header lines: the lines of the journal that the arrivals make under the held policy and
+-- small limits, with 16 processes, and then the report
+pub record IsPlainOutput (bytes text : List ℕ) : Type 0 where
+  pub arrivals : List (ℕ × Request)
+  pub accepted : PlainReads bytes (Ok arrivals)
+  pub journal : List Event
+  pub state : State
+  pub drained : IsDrain plain_rules 16 arrivals journal state
+  pub report : List ℕ
+  pub is_report : IsReport 16 state journal (λ p. length (requests_sent p arrivals)) report
+  pub is : text ≡ flat_map entry_line journal ++ report
+
+-- what the language without header lines accepts is read with the policy held, small limits and the same arrivals, and has the
+-- same output; and what it refuses has the same fault, where no line's first word is that of a header line
 pub record HeadersChangeNothingElse : Type 0 where
   pub accepted : (bytes : List ℕ) (arrivals : List (ℕ × Request)) → PlainReads bytes (Ok arrivals)
       → Reads bytes (Ok (record { rules = plain_rules; arrivals = arrivals }))
+  pub same_output : (bytes text : List ℕ) → IsPlainOutput bytes text → IsOutput bytes text
   pub refused : (bytes : List ℕ) (fault : ScriptFault) → HasNoHeader bytes → PlainReads bytes (Err fault) → Reads bytes (Err fault)

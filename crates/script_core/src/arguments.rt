@@ -3,7 +3,7 @@ ghost use Rattle.std.specs.Fmt.{signed_decimal};
 ghost use Rattle.script_core.specs.Arguments.{FileNumber, DescriptorNumber, AnyNumber, ProcessNumber, AccessWord, KindWord, WhenceWord, OpWord, NbWord, PolicyWord, LimitsWord, IsBad};
 ghost use Rattle.script_core.specs.HeaderText.{policy_word, limits_word};
 ghost use Rattle.script_core.specs.RequestText.{access_word, kind_word, whence_word, op_word};
-ghost use Rattle.script_core.specs.ScriptText.{IsDescriptor, IsProcess};
+ghost use Rattle.script_core.specs.ScriptText.{IsProcess};
 
 use crate::Cause;
 use crate::numbers::{integer_of, natural_of};

@@ -13,8 +13,8 @@ pub fn scripts_have_one_output()
     arrivals_have_one_drain();
 }
 
-/// A script of the language without header lines keeps its meaning, under the held policy and small limits; one that this
-/// language refuses keeps its fault, where no line begins as a header line does.
+/// A script of the language without header lines keeps its meaning and its output, under the held policy and small limits; one
+/// that this language refuses keeps its fault, where no line's first word is that of a header line.
 pub fn headers_change_nothing_else()
     ensures { HeadersChangeNothingElse }
 {}

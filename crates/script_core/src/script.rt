@@ -46,7 +46,7 @@ pub struct ScriptFault {
     pub cause: Cause,
 }
 
-/// What a script says.
+/// What a script says (this project's choice).
 #[derive(Debug, Drop)]
 pub struct Script {
     /// What its header lines say: the policy is held and the limits are small where none says otherwise.

@@ -32,8 +32,8 @@ pub fn write_entry(entry: &Entry, out: &mut Vec<u8>) -> Result<(), Memory>
 }
 
 /// Appends the report of a session: the locks that are held, then the requests that wait, and then each process that was
-/// ever alive or has sent something, with the count in `sent` of what it sent. After `Memory` the vector has its old bytes
-/// and a front of the text.
+/// ever alive or has sent something, with what it sent by the counts in `sent`, one for each process from process 1 on. After
+/// `Memory` the vector has its old bytes and a front of the text.
 pub fn write_report(session: &Session, sent: &[u64], out: &mut Vec<u8>) -> Result<(), Memory>
     requires { length sent.now ≡ processes_of (manager_of session.now) }
 

@@ -74,8 +74,8 @@ AreToldInRange processes events =
     All (λ event. All (λ note. (1 ≤ told_process note) × (told_process note ≤ processes)) event.notes) events
 
 -- of each process a prefix of what it sent was taken, each once and in order; each request is answered once at most, in turn;
--- there is nothing of a process before it lives, and nothing after its end; no owners conflict, each wait is blocked and closes
--- no cycle; and the manager's state is the replay of the journal, which is a run
+-- there is nothing of a process that was never alive, and nothing after the end of one; no owners conflict, each wait is blocked
+-- and no traditional waits close a cycle; and the manager's state is the replay of the journal, which is a run
 pub record Holds (manager : Manager) (sent : ℕ → List Request) (journal : List Event) : Type 0 where
   pub taken_in_order : (p : ℕ) → IsPrefixOf (requests_taken p journal) (sent p)
   pub answered_once : (p : ℕ) → IsStrictlyIncreasing (map (λ answer. answer.0) (answers_to p journal))

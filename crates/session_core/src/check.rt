@@ -9,7 +9,8 @@ use lock_manager::{Manager, Note, Rules, step_has_one_outcome};
 use range_core::Memory;
 use std::alloc::Global;
 
-/// Whether the entries are a run of `processes` processes, numbered from 1, from the opening state, numbers and notes included.
+/// Whether the entries are a run from the opening state, numbers and notes included, of `processes` processes, numbered from 1
+/// and at most [`fd_table::Limits::processes`] (this project's choice).
 ///
 /// They may be anything: in no run is an entry of a process that isn't there or isn't able, one with another number than the next
 /// of its process, or one with other notes than its step tells. It makes the steps again, which is enough, since a step has one
@@ -42,7 +43,7 @@ struct Replay {
 }
 
 impl Replay {
-    ghost use Rattle.session_core.specs.Replaying.{HasMade, IsAble, IsNextOf, Repeats};
+    ghost use Rattle.session_core.specs.Replaying.{HasMade, IsNextOf, Repeats};
 
     /// At the opening.
     fn new(alloc: Global, processes: u8, rules: Rules) -> Result<Replay, Memory>
@@ -58,6 +59,7 @@ impl Replay {
     fn repeats(&mut self, entry: &Entry) -> Result<bool, Memory>
         ensures { IfOk result (Repeats self.old self.new entry.now) }
     {
+        // A law, and nothing to run.
         step_has_one_outcome();
         if !self.is_next(entry) {
             return Ok(false);
@@ -71,15 +73,8 @@ impl Replay {
     fn is_next(&self, entry: &Entry) -> bool
         ensures { IsTrue result ↔ IsNextOf self.now entry.now }
     {
-        self.is_able(entry.p)
+        self.manager.able(entry.p)
             && entry.n.checked_sub(1) == Some(self.taken[usize::from(entry.p) - 1])
-    }
-
-    /// Whether there is such a process, and it is able.
-    fn is_able(&self, p: u8) -> bool
-        ensures { IsTrue result ↔ IsAble self.now p }
-    {
-        1 <= p && p <= self.manager.processes() && self.manager.able(p)
     }
 }
 

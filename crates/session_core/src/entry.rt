@@ -4,7 +4,7 @@ ghost use Rattle.session_core.specs.Mail.{answers_in, is_answer_to, reply_of as 
 use lock_manager::{Note, Reply, Request};
 use std::marker::Model;
 
-/// One event: request number `n` of process `p`, and what it told.
+/// One event: request number `n` of process `p`, and what it told (this project's choice).
 #[derive(Debug, Drop)]
 pub struct Entry {
     /// The process that the request was taken from.

@@ -21,7 +21,10 @@ pub enum RunAllFault {
     Memory = 2,
 }
 
-/// Runs the arrivals in turn: after each, all that can be taken is taken.
+/// Runs the arrivals in turn: after each, all that can be taken is taken. There are `processes` processes, numbered from 1,
+/// at most [`fd_table::Limits::processes`], and each arrival is of one of them (this project's choice).
+///
+/// `Full` only where some process sends more than [`N_MAX`] requests. `Memory` may come in place of any answer.
 pub fn run_all(
     alloc: Global,
     processes: u8,

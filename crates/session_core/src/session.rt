@@ -22,7 +22,7 @@ pub enum ArriveFault {
     Memory = 2,
 }
 
-/// A lock manager with the mail of its processes, and the journal of what was taken.
+/// A lock manager with the mail of its processes, and the journal of what was taken (this project's choice).
 #[derive(Drop)]
 pub struct Session {
     processes: u8,
@@ -39,7 +39,7 @@ pub struct Session {
 impl Session {
     ghost use Rattle.session_core.specs.SessionView.{manager_of, events_in, sent_of, IsEmptySession, SameSession, Arrives, TakesOne, TakesNext, SessionHolds};
 
-    /// No mail and no entry, with `processes` processes numbered from 1.
+    /// No mail and no entry, with `processes` processes numbered from 1, at most [`fd_table::Limits::processes`].
     pub fn new(alloc: Global, processes: u8, rules: Rules) -> Result<Session, Memory>
         requires { (1 ≤ processes) × (processes ≤ process_limit rules.limits) }
         ensures empty { IfOk result (λ session. IsEmptySession rules processes session) }
@@ -56,6 +56,8 @@ impl Session {
     }
 
     /// The request comes to the mailbox of its process, and gets its number among those of the process, from 1.
+    ///
+    /// `Full` where the process has sent [`N_MAX`] requests, or `Memory`; either leaves everything as it was.
     pub fn arrive(&mut self, p: u8, request: Request) -> Result<u64, ArriveFault>
         requires { (1 ≤ p) × (p ≤ processes_of (manager_of self.old)) }
         ensures ok { IfOk result (λ n. Arrives self.old self.new p request n) }
@@ -96,7 +98,7 @@ impl Session {
         &self.manager
     }
 
-    /// How many requests the process has sent.
+    /// How many requests the process has sent: 0 where there is no such process.
     pub fn sent(&self, p: u8) -> u64
         ensures { result ≡ length (sent_of self.now p) }
     {
@@ -106,7 +108,7 @@ impl Session {
         }
     }
 
-    /// How many requests of the process were taken.
+    /// How many requests of the process were taken: 0 where there is no such process.
     pub fn taken(&self, p: u8) -> u64
         ensures { result ≡ length (events_of p (events_in self.now)) }
     {
@@ -116,7 +118,7 @@ impl Session {
         }
     }
 
-    /// How many requests of the process were answered.
+    /// How many requests of the process were answered: 0 where there is no such process.
     pub fn answered(&self, p: u8) -> u64
         ensures { result ≡ length (answers_to p (events_in self.now)) }
     {
@@ -127,7 +129,7 @@ impl Session {
         answered
     }
 
-    /// The answer to request number `n` of the process, if it was answered.
+    /// The answer to request number `n` of the process, if there is such a process and it was answered.
     pub fn answer_of(&self, p: u8, n: u64) -> Option<Reply>
         ensures { result ≡ reply_to p n (events_in self.now) }
     {

@@ -22,18 +22,18 @@ FreeWhenOneJoins = (policy : Policy) (locks : Locks) (waits : List Wait) (wait :
     → IsFreeOfCycles policy locks waits → (IsTraditional wait → ¬ ClosesCycle policy locks waits wait)
     → IsFreeOfCycles policy locks (waits ++ wait ∷ [])
 
--- when a process leaves
+-- a list free of cycles stays so when the waits of a process leave
 abbrev pub FreeWhenOneLeaves : Type 0
 FreeWhenOneLeaves = (policy : Policy) (locks : Locks) (waits : List Wait) (p : ℕ)
     → IsFreeOfCycles policy locks waits → IsFreeOfCycles policy locks (without_wait_of waits p)
 
--- when the locks of an owner change that has no wait
+-- a list free of cycles stays so when the locks of an owner change that has no wait
 abbrev pub FreeWhenLocksChange : Type 0
 FreeWhenLocksChange = (policy : Policy) (old new : Locks) (waits : List Wait) (owner : Owner)
     → IsFreeOfCycles policy old waits → AgreeButOwner owner old new → All (λ wait. wait.owner ≢ owner) waits
     → IsFreeOfCycles policy new waits
 
--- and when only locks of descriptions change
+-- a list free of cycles stays so when only locks of descriptions change
 abbrev pub FreeWhenDescriptionLocksChange : Type 0
 FreeWhenDescriptionLocksChange = (policy : Policy) (old new : Locks) (waits : List Wait)
     → IsFreeOfCycles policy old waits → AgreeOnProcesses old new → IsFreeOfCycles policy new waits

@@ -102,11 +102,7 @@ const ORDERS: [Order; 3] = [
 ];
 
 fn bench_of(rt: &impl Abort, alloc: Global, processes: u8, rules: Rules) -> Result<Bench, Memory> {
-    let most = match rules.limits {
-        Limits::Small => 16,
-        Limits::Wide => 64,
-    };
-    assert!(rt; 1 <= processes && processes <= most);
+    assert!(rt; 1 <= processes && processes <= rules.limits.processes());
     match Bench::new(alloc, processes, rules) {
         Ok(bench) => Ok(bench),
         Err(Memory) => Bench::new(alloc, processes, rules),
@@ -198,14 +194,13 @@ fn wait_for_all<R: Wait + Abort>(
     Ok(())
 }
 
-/// Waits until so many requests of the process were taken, for so many turns at most.
+/// Waits until so many requests of the process were taken.
 fn until_taken<R: Wait>(rt: &R, bench: &Bench, p: u8, taken: u64) {
-    for _ in 0..1_000_000 {
-        if bench.session.lock(rt).taken(p) >= taken {
-            return;
-        }
-        thread::yield_now();
-    }
+    bench.changed.wait_while(
+        rt,
+        bench.session.lock(rt),
+        |session| session.taken(p) < taken,
+    );
 }
 
 /// Two processes, of which process 1 has a lock.
@@ -361,6 +356,24 @@ fn the_rules_are_those_of_the_bench(rt: HostRuntime) -> Result<(), Fail> {
         send(&rt, &bench, 2, wait())?;
         wait_for(&rt, &bench, 1, 3)?;
         assert_eq!(rt; ask(&rt, &bench, 1, wait())?, Some(reply), "{policy:?}");
+    }
+    Ok(())
+}
+
+/// Under small limits a process has descriptors 0 to 31, and under wide ones 0 to 255.
+#[test]
+fn the_limits_are_those_of_the_bench(rt: HostRuntime) -> Result<(), Fail> {
+    let bad = Reply::Err(Errno::EBADF);
+    for (limits, last) in [(Limits::Small, 31), (Limits::Wide, 255)] {
+        let policy = Policy::Held;
+        let bench = bench_of(&rt, rt.alloc(), 1, Rules { policy, limits })?;
+        let past = last + 1;
+        let requests = [
+            (OPEN, Reply::Fd(0)),
+            (Request::DupTo { fd: 0, to: last }, Reply::Fd(last)),
+            (Request::DupTo { fd: 0, to: past }, bad),
+        ];
+        ask_all(&rt, &bench, &requests)?;
     }
     Ok(())
 }

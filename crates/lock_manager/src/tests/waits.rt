@@ -1,5 +1,5 @@
 //! Waits, grants, deadlocks, signals and kills: the notes of each event, and what is held and who waits at the end.
-use super::{RULES, all_held, all_states, all_waits, answer, command, set};
+use super::{RULES, all_held, all_waits, answer, command, set};
 use crate::{Errno, LkCmd, Manager, Note, ProcState, Reply, Request};
 use fd_table::Access;
 use lock_book::{Held, Owner};
@@ -228,9 +228,8 @@ fn signal_and_kill_end_a_wait(rt: HostRuntime) -> Result<(), Fail> {
     let wanted = [lock(Owner::Process(1), Mode::Write, 0, 0)];
     assert_eq!(rt; all_held(&manager)?.as_slice(), wanted.as_slice());
     assert!(rt; all_waits(&manager)?.is_empty());
-    let states = all_states(&rt, &manager);
-    assert_eq!(rt; states[0], ProcState::Live);
-    assert_eq!(rt; states[1], ProcState::Ended);
+    assert_eq!(rt; manager.state_of(1), ProcState::Live);
+    assert_eq!(rt; manager.state_of(2), ProcState::Ended);
     Ok(())
 }
 
@@ -250,7 +249,7 @@ fn kill_of_the_holder_grants(rt: HostRuntime) -> Result<(), Fail> {
     let manager = events_in_turn(&rt, rt.alloc(), &events)?;
     let wanted = [lock(Owner::Process(3), Mode::Write, 0, 0)];
     assert_eq!(rt; all_held(&manager)?.as_slice(), wanted.as_slice());
-    assert_eq!(rt; all_states(&rt, &manager)[0], ProcState::Ended);
+    assert_eq!(rt; manager.state_of(1), ProcState::Ended);
     Ok(())
 }
 

@@ -36,19 +36,19 @@ returns-clause-told c =
           rw w.self-is
           (subst (tells old) (sym (told ∙ ap answer w.reply-is))
           (elim w.in-Unborn.is [
-            | inl unborn ↦ kills_other old old p n target Unborn (answer (replies.Err ESRCH)) c.if-target-p.false (sym c.state_of.ensures ∙ unborn) (λ S h. (S, refl, h))
-            | inr ended ↦ kills_other old old p n target Ended (answer (replies.Err ESRCH)) c.if-target-p.false (sym c.state_of.ensures ∙ ended) (λ S h. (S, refl, h))
+            | inl unborn ↦ kills_other old old p n target Unborn (answer (replies.Err ESRCH)) c.if-target-p.false (sym c.state_of.ensures.state ∙ unborn) (λ S h. (S, refl, h))
+            | inr ended ↦ kills_other old old p n target Ended (answer (replies.Err ESRCH)) c.if-target-p.false (sym c.state_of.ensures.state ∙ ended) (λ S h. (S, refl, h))
           ]))
       | in-Live w ↦
           rw w.self-is
           (subst (tells w.end-in-Live.new.self) (sym (told ∙ ap answer w.reply-is))
-          (kills_other old w.end-in-Live.new.self p n target Live (answer replies.Ok) c.if-target-p.false (sym c.state_of.ensures ∙ w.in-Live.is)
+          (kills_other old w.end-in-Live.new.self p n target Live (answer replies.Ok) c.if-target-p.false (sym c.state_of.ensures.state ∙ w.in-Live.is)
           (w.end-in-Live.ensures.ends (answer replies.Ok))))
       | in-Waiting w ↦
           let new = w.end-in-Waiting.new.self in
           rw w.self-is
           (subst (tells new) (sym (told ∙ ap answer w.reply-is))
-          (kills_other old new p n target Waiting (answer replies.Ok) c.if-target-p.false (sym c.state_of.ensures ∙ w.in-Waiting.is)
+          (kills_other old new p n target Waiting (answer replies.Ok) c.if-target-p.false (sym c.state_of.ensures.state ∙ w.in-Waiting.is)
           (λ S h. ends_waiting new S target (answer replies.Ok)
           (w.end-in-Waiting.ensures.ends (answer replies.Ok) (with_process (without_wait S target) target Live) (w.interrupt.ensures.shows S h)))))
     ]

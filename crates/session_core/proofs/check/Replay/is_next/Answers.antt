@@ -4,6 +4,7 @@ use Rattle.std.specs.Option.{SomeIff, option_eq}
 use Rattle.std.proofs.Math.Dec.{eqb}
 use Rattle.std.proofs.lemmas.Bool.{eqb-true, eq-eqb}
 use Rattle.std.proofs.lemmas.Grind.{get_or_default_zero}
+use Rattle.lock_manager.specs.ManagerView.{processes_of}
 use Rattle.session_core.specs.Replaying.{IsAble, count_of}
 use Rattle.session_core.proofs.check.Replay.is_next.Goals as goal
 
@@ -25,13 +26,14 @@ count_read counts place p q count at same low high read =
     let here : count ≡ count_of counts (suc place) = read ∙ get_or_default_zero counts place count within in
     subst (λ r. count ≡ count_of counts r) next here
 
-pub returns-then-is_able : goal.returns-then-is_able
-returns-then-is_able c =
+pub returns-then-able : goal.returns-then-able
+returns-then-able c =
     let replay = c.args.self.now in
     let event = c.args.entry.now in
     let same_p : c.entry.inside.p ≡ event.p = ap (λ e. e.p) c.entry.view_is in
     let same_n : c.entry.inside.n ≡ event.n = ap (λ e. e.n) c.entry.view_is in
-    let able = c.if-is_able.ensures.0 refl in
+    let there : (1 ≤ c.entry.inside.p) × (c.entry.inside.p ≤ processes_of replay.manager) = c.if-able.ensures.born refl in
+    let able : IsAble replay c.entry.inside.p = record { low = there.0; high = there.1; live = c.if-able.ensures.able.0 refl } in
     let counted : c.index.result.now ≡ count_of replay.taken.items event.p =
     count_read replay.taken.items (c.from.result - 1) c.entry.inside.p event.p c.index.result.now (ap (λ k. k - 1) c.from.ensures) same_p able.low (rw replay.one_each able.high) c.index.ensures in
     let decided = number_decides c.checked_sub.result c.eq.result c.entry.inside.n c.index.result.now c.checked_sub.ensures c.eq.ensures in (
