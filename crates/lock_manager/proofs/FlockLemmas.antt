@@ -1,5 +1,5 @@
 -- What holds of the machine after a change of one flock lock.
-use Rattle.std.proofs.Common.{ℕ, ◌≡◌, ◌≢◌, ◌<◌, ◌≤◌, ◌+◌, refl, sym, ◌∙◌, ap, subst, List, [], ◌∷◌, ◌++◌, length, Some, None, Option, Bool, true, false, inl, inr, arith, Result, Ok, Err, OnOk, OnErr, IsOk, IsTrue}
+use Rattle.std.proofs.Common.{ℕ, ◌≡◌, ◌≢◌, ◌<◌, ◌≤◌, ◌+◌, refl, sym, ◌∙◌, ap, subst, List, [], ◌∷◌, ◌++◌, length, Some, None, Option, Bool, true, false, inl, inr, arith, Result, Ok, Err, OnOk, OnErr}
 use Rattle.std.proofs.Math.Logic.{∥∥₁_map, ∥∥₁_elim}
 use Rattle.std.proofs.lemmas.Bool.{eqb-true, eq-eqb}
 use Rattle.std.proofs.lemmas.Bool.Decides.{eqb_tells}
@@ -231,16 +231,6 @@ with_flock_change old new S file book changed description mode books tables stat
       waits = waits ∙ h.waits;
       states = λ p. rw states (h.states p);
     }
-
--- a set succeeds in a place that is kept, and a removal always
-pub was_done : (entry : Option Book) (old : Book) {new : Book} (description : ℕ) (mode : Option Mode) (result : Result (Unit {0}) Memory) → entry ≡ Some old
-    → ((m : Mode) → mode ≡ Some m → has_place_at entry description ≡ true)
-    → (IsTrue (has_flock_place old description) → IsOk result) → (mode ≡ None → IsOk result)
-    → OnOk result (SetsFlock old new description mode) → SetsFlock old new description mode
-was_done entry old description mode (Ok done) was place there removal sets = sets
-was_done entry old description None (Err memory) was place there removal sets = absurd (let no : false ≡ true = removal refl in cc)
-was_done entry old description (Some m) (Err memory) was place there removal sets =
-    absurd (let no : false ≡ true = there (subst (λ e. has_place_at e description ≡ true) was (place m refl)) in cc)
 
 -- who lives lives on where another one begins to
 pub live_still : (states : List ProcState) (p place : ℕ) → p ≡ place + 1 → place < length states → (q : ℕ) → state_numbered states q ≡ Live

@@ -103,11 +103,7 @@ impl Machine {
     pub fn waits(&self, alloc: Global) -> Result<Vec<Wait>, Memory>
         ensures { IfOk result (λ waits. waits.items ≡ machine_waits self.now) }
     {
-        let mut waits = Vec::new(alloc);
-        waits
-            .extend_from_slice(self.waits.list())
-            .map_err(|_| Memory)?;
-        Ok(waits)
+        Vec::from_slice(alloc, self.waits.list()).map_err(|_| Memory)
     }
 
     /// How many processes there are, numbered from 1.

@@ -152,7 +152,7 @@ mail_left-takes old new place takes =
     let event = takes.event in
     let range = mail_within old.mailboxes.items event.p (length (events_of event.p (events_in old))) event.request takes.is_next.request in
     let within = slice_get_within (sent_of old event.p) (length (events_of event.p (events_in old))) event.request takes.is_next.request in
-    let less = mail_left-push (sent_of old) (events_in old) event (processes_of (manager_of old)) range.0 (rw (← old.all, ← old.mail.one_each) range.1) within in
+    let less = mail_left-push (sent_of old) (events_in old) event (processes_of (manager_of old)) range.0 (rw (← old.mail.one_each) range.1) within in
     let sent : sent_of new ≡ sent_of old = λ i p. takes.sent p i in
     let same : mail_left (sent_of new) (events_in new) (processes_of (manager_of new)) ≡ mail_left (sent_of old) (events_in old ++ event ∷ []) (processes_of (manager_of old)) =
     ap (λ f. mail_left f (events_in new) (processes_of (manager_of new))) sent

@@ -25,13 +25,11 @@ pub enum ArriveFault {
 /// A lock manager with the mail of its processes, and the journal of what was taken (this project's choice).
 #[derive(Drop)]
 pub struct Session {
-    processes: u8,
     manager: Manager,
     /// By process, from process 1 on.
     mailboxes: Vec<Mailbox>,
     journal: Vec<Entry>,
-    ghost all: { processes ≡ processes_of manager },
-    ghost mail: { IsMailKept processes mailboxes.items journal.items },
+    ghost mail: { IsMailKept (processes_of manager) mailboxes.items journal.items },
     ghost holds: { ∥ Holds manager (mail_sent mailboxes.items) journal.items ∥₁ },
 }
 
@@ -48,7 +46,6 @@ impl Session {
         let manager = Manager::new(alloc, processes, rules)?;
         let mailboxes = empty_mailboxes(alloc, processes)?;
         Ok(Session {
-            processes,
             manager,
             mailboxes,
             journal: Vec::new(alloc),
@@ -102,20 +99,14 @@ impl Session {
     pub fn sent(&self, p: u8) -> u64
         ensures { result ≡ length (sent_of self.now p) }
     {
-        match self.mailbox(p) {
-            Some(mailbox) => mailbox.sent(),
-            None => 0,
-        }
+        self.mailbox(p).map_or(0, |mailbox| mailbox.sent())
     }
 
     /// How many requests of the process were taken: 0 where there is no such process.
     pub fn taken(&self, p: u8) -> u64
         ensures { result ≡ length (events_of p (events_in self.now)) }
     {
-        match self.mailbox(p) {
-            Some(mailbox) => mailbox.taken(),
-            None => 0,
-        }
+        self.mailbox(p).map_or(0, |mailbox| mailbox.taken())
     }
 
     /// How many requests of the process were answered: 0 where there is no such process.
@@ -149,7 +140,7 @@ impl Session {
         ensures least { IfSome result (λ mail. HasNoMailBelow (state_at (manager_of self.now)) (sent_of self.now) (events_in self.now) mail.0) }
         ensures none { IfNone result (IsDrained (state_at (manager_of self.now)) (sent_of self.now) (events_in self.now)) }
     {
-        for index in 0..self.processes {
+        for index in 0..self.manager.processes() {
             let p = index + 1;
             if let Some(request) = self.untaken(p)
                 && self.manager.able(p)

@@ -66,9 +66,9 @@ impl Book {
         self.flocks.contains_key(&description)
     }
 
-    /// Sets the flock mode as [`Book::flock_set`] does, in the place that is kept: it takes no memory.
+    /// Sets the flock mode in the place that is kept, or removes it, as [`Book::flock_set`] does. It takes no memory.
     pub fn flock_set_reserved(&mut self, description: u64, mode: Option<Mode>)
-        requires { IsTrue (has_flock_place self.old description) }
+        requires { IsSome mode → IsTrue (has_flock_place self.old description) }
         ensures { SetsFlock self.old self.new description mode }
     {
         self.flock_set(description, mode).unwrap();

@@ -196,8 +196,7 @@ impl Machine {
     {
         // A law, and nothing to run.
         stay_free_of_cycles();
-        let done = self.books[usize::from(file)].flock_set(description, mode);
-        done.unwrap();
+        self.books[usize::from(file)].flock_set_reserved(description, mode);
         self.waits.refresh(file, &self.books);
     }
 }

@@ -6,7 +6,7 @@ use Rattle.wait_core.specs.WaitsView.{waits_of, AreTold, AgreeBut}
 use Rattle.lock_manager.specs.WaitsKept.{IsSuspended, has_place_at}
 use Rattle.lock_manager.specs.MachineView.{machine_locks, machine_state}
 use Rattle.lock_manager.proofs.BookLemmas.{book_at}
-use Rattle.lock_manager.proofs.FlockLemmas.{kept_by_flock, flock_place_kept, places_kept, with_flock_change, was_done}
+use Rattle.lock_manager.proofs.FlockLemmas.{kept_by_flock, flock_place_kept, places_kept, with_flock_change}
 use Rattle.lock_manager.proofs.WaitLemmas.{awaited_in}
 use Rattle.lock_manager.proofs.machine.Machine.change_flock.Goals as goal
 
@@ -18,11 +18,10 @@ invariant_of-self c =
     let within : c.args.file < length books = omega arith in
     let laws = c.stay_free_of_cycles.ensures in
     let was = book_at books c.from.result c.args.file c.index_mut.result.now c.from.ensures within c.index_mut.ensures.value in
-    let sets : SetsFlock c.index_mut.result.now c.flock_set-done.new.self c.args.description c.args.mode =
-    was_done _ c.index_mut.result.now c.args.description c.args.mode c.flock_set-done.result was c.requires.place c.flock_set-done.ensures.there c.flock_set-done.ensures.removal c.flock_set-done.ensures.ok in
-    let kept = kept_by_flock laws.description_locks_change machine (slice_set books c.from.result c.flock_set-done.new.self) c.refresh.new.self
-    c.args.file c.index_mut.result.now c.flock_set-done.new.self c.args.description c.args.mode
-    (ap (λ i. slice_set books i c.flock_set-done.new.self) c.from.ensures) within was c.requires.owner c.requires.free sets
+    let sets : SetsFlock c.index_mut.result.now c.flock_set_reserved.new.self c.args.description c.args.mode = c.flock_set_reserved.ensures in
+    let kept = kept_by_flock laws.description_locks_change machine (slice_set books c.from.result c.flock_set_reserved.new.self) c.refresh.new.self
+    c.args.file c.index_mut.result.now c.flock_set_reserved.new.self c.args.description c.args.mode
+    (ap (λ i. slice_set books i c.flock_set_reserved.new.self) c.from.ensures) within was c.requires.owner c.requires.free sets
     (record { waits = c.refresh.ensures.waits; policy = c.refresh.ensures.policy; processes = c.refresh.ensures.processes })
     (λ told agree.
     subst (λ bs. AreTold c.refresh.new.self (locks_of bs)) c.deref.ensures.value
@@ -52,10 +51,9 @@ returns-clause-shows c S h =
     let books = machine.books.items in
     let within : c.args.file < length books = omega arith in
     let was = book_at books c.from.result c.args.file c.index_mut.result.now c.from.ensures within c.index_mut.ensures.value in
-    let sets : SetsFlock c.index_mut.result.now c.flock_set-done.new.self c.args.description c.args.mode =
-    was_done _ c.index_mut.result.now c.args.description c.args.mode c.flock_set-done.result was c.requires.place c.flock_set-done.ensures.there c.flock_set-done.ensures.removal c.flock_set-done.ensures.ok in
-    with_flock_change machine _ S c.args.file c.index_mut.result.now c.flock_set-done.new.self c.args.description c.args.mode
-    (ap (λ i. slice_set books i c.flock_set-done.new.self) c.from.ensures) refl refl within was sets c.refresh.ensures.waits h
+    let sets : SetsFlock c.index_mut.result.now c.flock_set_reserved.new.self c.args.description c.args.mode = c.flock_set_reserved.ensures in
+    with_flock_change machine _ S c.args.file c.index_mut.result.now c.flock_set_reserved.new.self c.args.description c.args.mode
+    (ap (λ i. slice_set books i c.flock_set_reserved.new.self) c.from.ensures) refl refl within was sets c.refresh.ensures.waits h
 
 pub returns-clause-places : goal.returns-clause-places
 returns-clause-places c f d there =
@@ -63,8 +61,7 @@ returns-clause-places c f d there =
     let books = machine.books.items in
     let within : c.args.file < length books = omega arith in
     let was = book_at books c.from.result c.args.file c.index_mut.result.now c.from.ensures within c.index_mut.ensures.value in
-    let sets : SetsFlock c.index_mut.result.now c.flock_set-done.new.self c.args.description c.args.mode =
-    was_done _ c.index_mut.result.now c.args.description c.args.mode c.flock_set-done.result was c.requires.place c.flock_set-done.ensures.there c.flock_set-done.ensures.removal c.flock_set-done.ensures.ok in
-    subst (λ i. has_place_at (slice_get (slice_set books i c.flock_set-done.new.self) f) d ≡ true) (sym c.from.ensures)
-    (places_kept books c.args.file c.index_mut.result.now c.flock_set-done.new.self within was
-    (flock_place_kept c.index_mut.result.now c.flock_set-done.new.self c.args.description c.args.mode sets) f d there)
+    let sets : SetsFlock c.index_mut.result.now c.flock_set_reserved.new.self c.args.description c.args.mode = c.flock_set_reserved.ensures in
+    subst (λ i. has_place_at (slice_get (slice_set books i c.flock_set_reserved.new.self) f) d ≡ true) (sym c.from.ensures)
+    (places_kept books c.args.file c.index_mut.result.now c.flock_set_reserved.new.self within was
+    (flock_place_kept c.index_mut.result.now c.flock_set_reserved.new.self c.args.description c.args.mode sets) f d there)

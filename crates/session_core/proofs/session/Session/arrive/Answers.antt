@@ -13,10 +13,9 @@ invariant_of-self c =
     let mailboxes = self.mailboxes.items in
     let old = c.index_mut.result.now in
     let new = c.push.new.self in
-    let at = StandsAt-index mailboxes _ c.args.p c.from.result old self.mail.one_each c.requires.0 (rw self.all c.requires.1) c.from.ensures c.index_mut.ensures.value in
+    let at = StandsAt-index mailboxes _ c.args.p c.from.result old self.mail.one_each c.requires.0 c.requires.1 c.from.ensures c.index_mut.ensures.value in
     let grown = IsPrefixOf-pushed c.push.result old.sent.items new.sent.items c.args.request c.push.ensures.ok c.push.ensures.err in
     record {
-      all = self.all;
       mail = record {
         some = self.mail.some;
         one_each = rw length-set self.mail.one_each;
@@ -32,7 +31,7 @@ returns-clause-ok c =
     let mailboxes = self.mailboxes.items in
     let old = c.index_mut.result.now in
     let new = c.push.new.self in
-    let at = StandsAt-index mailboxes _ c.args.p c.from.result old self.mail.one_each c.requires.0 (rw self.all c.requires.1) c.from.ensures c.index_mut.ensures.value in
+    let at = StandsAt-index mailboxes _ c.args.p c.from.result old self.mail.one_each c.requires.0 c.requires.1 c.from.ensures c.index_mut.ensures.value in
     IfOk-both c.push.result (λ n. new.sent.items ≡ old.sent.items ++ c.args.request ∷ []) (λ n. n ≡ length new.sent.items) _
     (λ n pushed number.
     record {
@@ -49,7 +48,7 @@ unfolding manager_of sent_of
 returns-clause-full c =
     let self = c.args.self.now in
     let old = c.index_mut.result.now in
-    let at = StandsAt-index self.mailboxes.items _ c.args.p c.from.result old self.mail.one_each c.requires.0 (rw self.all c.requires.1) c.from.ensures c.index_mut.ensures.value in
+    let at = StandsAt-index self.mailboxes.items _ c.args.p c.from.result old self.mail.one_each c.requires.0 c.requires.1 c.from.ensures c.index_mut.ensures.value in
     rw (mailbox_of-there self.mailboxes.items _ c.args.p old at) c.push.ensures.full
 
 pub returns-clause-err : goal.returns-clause-err
@@ -59,7 +58,7 @@ returns-clause-err c =
     let mailboxes = self.mailboxes.items in
     let old = c.index_mut.result.now in
     let new = c.push.new.self in
-    let at = StandsAt-index mailboxes _ c.args.p c.from.result old self.mail.one_each c.requires.0 (rw self.all c.requires.1) c.from.ensures c.index_mut.ensures.value in
+    let at = StandsAt-index mailboxes _ c.args.p c.from.result old self.mail.one_each c.requires.0 c.requires.1 c.from.ensures c.index_mut.ensures.value in
     IfErr-weaker c.push.result (λ fault. new.sent.items ≡ old.sent.items) _
     (λ fault same.
     record {

@@ -1,4 +1,4 @@
-use Rattle.std.proofs.Common.{sym}
+use Rattle.std.proofs.Common.{◌∙◌, sym}
 use Rattle.session_core.specs.SessionView.{manager_of, events_in, sent_of}
 use Rattle.std.proofs.lemmas.Grind.{merely}
 use Rattle.session_core.proofs.JournalLemmas.{Holds-opening, nothing_sent}
@@ -9,8 +9,7 @@ invariant_of-result c =
     let manager = c.in_ok-manager.manager in
     let mailboxes = c.in_ok-mailboxes.mailboxes.items in
     record {
-      all = sym c.in_ok-manager.ensures.processes;
-      mail = record { some = c.requires.0; one_each = c.in_ok-mailboxes.ensures.each; taken = λ q. rw c.new-2.ensures.items (nothing_sent mailboxes c.in_ok-mailboxes.ensures.empty q).1 };
+      mail = record { some = rw c.in_ok-manager.ensures.processes c.requires.0; one_each = c.in_ok-mailboxes.ensures.each ∙ sym c.in_ok-manager.ensures.processes; taken = λ q. rw c.new-2.ensures.items (nothing_sent mailboxes c.in_ok-mailboxes.ensures.empty q).1 };
       holds = merely (Holds-opening manager _ _ (rw c.in_ok-manager.ensures.processes c.requires.0) c.new-2.ensures.items c.in_ok-manager.ensures.safe c.in_ok-manager.ensures.opening);
     }
 

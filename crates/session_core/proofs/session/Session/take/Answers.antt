@@ -1,8 +1,9 @@
-use Rattle.std.proofs.Common.{◌≡◌, ◌∙◌, ap, sym, refl, arith, ◌+◌, length, [], ◌∷◌, ◌++◌}
+use Rattle.std.proofs.Common.{◌≡◌, ◌∙◌, ap, sym, subst, refl, arith, ◌+◌, length, [], ◌∷◌, ◌++◌}
 use Rattle.std.proofs.Math.Logic.{∥∥₁_map}
 use Rattle.session_core.specs.Event.{Event}
 use Rattle.session_core.specs.Runs.{events_of}
 use Rattle.session_core.specs.SessionView.{manager_of, events_in, sent_of}
+use Rattle.session_core.specs.Mailboxes.{IsMailKept}
 use Rattle.session_core.proofs.MailLemmas.{StandsAt-index, mail_sent-kept}
 use Rattle.session_core.proofs.JournalLemmas.{Holds-same, Holds-taken, next_within, IsMailKept-push}
 use Rattle.session_core.proofs.session.Session.take.Goals as goal
@@ -13,20 +14,19 @@ invariant_of-self-in-Break-branch-2 c =
     let self = c.args.self.now in
     let items = c.reserve.ensures.items in
     record {
-      all = self.all ∙ sym c.take.ensures.processes;
       mail = record {
-        some = self.mail.some;
-        one_each = self.mail.one_each;
+        some = rw c.take.ensures.processes self.mail.some;
+        one_each = self.mail.one_each ∙ sym c.take.ensures.processes;
         taken = λ q. self.mail.taken q ∙ ap (λ l. length (events_of q l)) (sym items);
       };
-      holds = ∥∥₁_map self.holds (Holds-same self.manager c.take.new.self _ self.journal.items _ (rw (← self.all) self.mail.some) items c.in_err-notes.ensures.memory c.take.ensures.safe);
+      holds = ∥∥₁_map self.holds (Holds-same self.manager c.take.new.self _ self.journal.items _ self.mail.some items c.in_err-notes.ensures.memory c.take.ensures.safe);
     }
 
 pub advance-requires : goal.advance-requires
 unfolding manager_of events_in sent_of
 advance-requires c =
     let self = c.args.self.now in
-    let at = StandsAt-index self.mailboxes.items _ c.args.p c.from.result c.index_mut.result.now self.mail.one_each c.requires.process.0 (rw self.all c.requires.process.1) c.from.ensures c.index_mut.ensures.value in
+    let at = StandsAt-index self.mailboxes.items _ c.args.p c.from.result c.index_mut.result.now self.mail.one_each c.requires.process.0 c.requires.process.1 c.from.ensures c.index_mut.ensures.value in
     next_within self.mailboxes.items _ c.args.p c.index_mut.result.now self.journal.items c.args.request at (self.mail.taken c.args.p) c.requires.next
 
 pub invariant_of-self-2 : goal.invariant_of-self-2
@@ -36,15 +36,14 @@ invariant_of-self-2 c =
     let mailboxes = self.mailboxes.items in
     let before = c.index_mut.result.now in
     let after = c.advance.new.self in
-    let at = StandsAt-index mailboxes _ c.args.p c.from.result before self.mail.one_each c.requires.process.0 (rw self.all c.requires.process.1) c.from.ensures c.index_mut.ensures.value in
+    let at = StandsAt-index mailboxes _ c.args.p c.from.result before self.mail.one_each c.requires.process.0 c.requires.process.1 c.from.ensures c.index_mut.ensures.value in
     let event : Event = record { p = c.args.p; n = c.taken-n.result + 1; request = c.args.request; notes = c.in_ok-notes.notes.items } in
     let journal : c.push.new.self.items ≡ self.journal.items ++ event ∷ [] = rw (c.push.ensures.items, c.unwrap.ensures, c.reserve.ensures.items) refl in
     record {
-      all = self.all ∙ sym c.take.ensures.processes;
-      mail = IsMailKept-push self.processes mailboxes _ c.args.p before after self.journal.items _ event at c.advance.ensures.taken refl journal self.mail;
+      mail = IsMailKept-push _ mailboxes _ c.args.p before after self.journal.items _ event at c.advance.ensures.taken refl journal (subst (λ n. IsMailKept n mailboxes self.journal.items) (sym c.take.ensures.processes) self.mail);
       holds =
           ∥∥₁_map self.holds
-          (Holds-taken self.manager c.take.new.self mailboxes _ c.args.p before after self.journal.items _ event (rw (← self.all) self.mail.some) at
+          (Holds-taken self.manager c.take.new.self mailboxes _ c.args.p before after self.journal.items _ event self.mail.some at
           c.advance.ensures.sent journal c.requires.next (ap (λ n. n + 1) c.taken-n.ensures) c.take.ensures.rules c.take.ensures.processes
           c.in_ok-notes.ensures.step c.take.ensures.safe);
     }
@@ -56,7 +55,7 @@ returns-clause-taken c =
     let mailboxes = self.mailboxes.items in
     let before = c.index_mut.result.now in
     let after = c.advance.new.self in
-    let at = StandsAt-index mailboxes _ c.args.p c.from.result before self.mail.one_each c.requires.process.0 (rw self.all c.requires.process.1) c.from.ensures c.index_mut.ensures.value in
+    let at = StandsAt-index mailboxes _ c.args.p c.from.result before self.mail.one_each c.requires.process.0 c.requires.process.1 c.from.ensures c.index_mut.ensures.value in
     let event : Event = record { p = c.args.p; n = c.taken-n.result + 1; request = c.args.request; notes = c.in_ok-notes.notes.items } in
     record {
       event = event;
