@@ -46,6 +46,11 @@ pub record Shows (machine : Machine) (S : State) : Type 0 where
   pub waits : machine_waits machine ≡ S.waits
   pub states : (p : ℕ) → machine_state machine p ≡ S.states p
 
+-- the rules and the number of processes stay
+pub record SameRules (old new : Machine) : Type 0 where
+  pub rules : machine_rules new ≡ machine_rules old
+  pub processes : machine_processes new ≡ machine_processes old
+
 -- new shows each state that old shows, with the same locks and waits, under the same rules
 pub record SameMachine (old new : Machine) : Type 0 where
   pub shows : (S : State) → Shows old S → Shows new S

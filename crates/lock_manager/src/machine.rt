@@ -62,7 +62,7 @@ impl Machine {
     ghost use Rattle.lock_book.specs.Reports.{IsHeldReport};
     ghost use Rattle.lock_manager.specs.Notes.{notes_told};
     ghost use Rattle.lock_manager.specs.State.{State, opening_state};
-    ghost use Rattle.lock_manager.specs.MachineView.{Shows, SameMachine, Tells, machine_rules, machine_processes, machine_waits, machine_state};
+    ghost use Rattle.lock_manager.specs.MachineView.{Shows, SameMachine, SameRules, Tells, machine_rules, machine_processes, machine_waits, machine_state};
 
     /// Process 1 lives, and there is nothing else.
     pub fn new(alloc: Global, processes: u8, rules: Rules) -> Result<Machine, Memory>
@@ -147,8 +147,7 @@ impl Machine {
         ensures told { OnOk result (Tells self.old self.new p n request notes.new.items) }
         ensures few { OnOk result (length notes.new.items + length (machine_waits self.new) ≤ vec_capacity notes.new) }
         ensures memory { OnErr result (SameMachine self.old self.new) }
-        ensures rules { machine_rules self.new ≡ machine_rules self.old }
-        ensures processes { machine_processes self.new ≡ machine_processes self.old }
+        ensures same_rules { SameRules self.old self.new }
     {
         if let Request::Flock { fd, op, nb } = request {
             return self.flock(p, n, fd, op, nb, notes);
@@ -168,8 +167,7 @@ impl Machine {
         // Each wait may be granted a note later, and there is room for two more.
         ensures few { IfOk result (λ told. length (notes_told told) + length (machine_waits self.new) ≤ length (machine_waits self.old) + 2) }
         ensures memory { OnErr result (SameMachine self.old self.new) }
-        ensures rules { machine_rules self.new ≡ machine_rules self.old }
-        ensures processes { machine_processes self.new ≡ machine_processes self.old }
+        ensures same_rules { SameRules self.old self.new }
     {
         match request {
             Request::OpenFile { file, access } => answer(p, n, self.open_file(p, file, access)),

@@ -1,6 +1,6 @@
 //! The calls on descriptors.
 ghost use Rattle.std.specs.Prelude.{◌≡◌, IfOk, OnErr};
-ghost use Rattle.lock_manager.specs.MachineView.{SameMachine, Answers, machine_rules, machine_processes, machine_waits, machine_state};
+ghost use Rattle.lock_manager.specs.MachineView.{SameMachine, SameRules, Answers, machine_waits, machine_state};
 
 use super::Machine;
 use crate::answers::refusal;
@@ -15,8 +15,7 @@ impl Machine {
         requires { machine_state self.old p ≡ ProcState.Live }
         ensures answers { IfOk result (Answers self.old self.new p (Request.OpenFile file access)) }
         ensures memory { OnErr result (SameMachine self.old self.new) }
-        ensures rules { machine_rules self.new ≡ machine_rules self.old }
-        ensures processes { machine_processes self.new ≡ machine_processes self.old }
+        ensures same_rules { SameRules self.old self.new }
         ensures waits { machine_waits self.new ≡ machine_waits self.old }
     {
         match self.tables.open_file(p, file, access) {
@@ -29,8 +28,7 @@ impl Machine {
     pub(super) fn dup(&mut self, p: u8, fd: u32) -> Result<Reply, Memory>
         ensures answers { IfOk result (Answers self.old self.new p (Request.Dup fd)) }
         ensures memory { OnErr result (SameMachine self.old self.new) }
-        ensures rules { machine_rules self.new ≡ machine_rules self.old }
-        ensures processes { machine_processes self.new ≡ machine_processes self.old }
+        ensures same_rules { SameRules self.old self.new }
         ensures waits { machine_waits self.new ≡ machine_waits self.old }
     {
         match self.tables.dup(p, fd) {
@@ -45,8 +43,7 @@ impl Machine {
         ensures answers { IfOk result (Answers self.old self.new p (Request.DupTo fd to)) }
         ensures memory { OnErr result (SameMachine self.old self.new) }
         ensures sure { OnErr result ⊥ }
-        ensures rules { machine_rules self.new ≡ machine_rules self.old }
-        ensures processes { machine_processes self.new ≡ machine_processes self.old }
+        ensures same_rules { SameRules self.old self.new }
         ensures waits { machine_waits self.new ≡ machine_waits self.old }
     {
         match self.tables.dup2(p, fd, to) {
@@ -64,8 +61,7 @@ impl Machine {
         ensures answers { IfOk result (Answers self.old self.new p (Request.CloseFd fd)) }
         ensures memory { OnErr result (SameMachine self.old self.new) }
         ensures sure { OnErr result ⊥ }
-        ensures rules { machine_rules self.new ≡ machine_rules self.old }
-        ensures processes { machine_processes self.new ≡ machine_processes self.old }
+        ensures same_rules { SameRules self.old self.new }
         ensures waits { machine_waits self.new ≡ machine_waits self.old }
     {
         match self.tables.close_fd(p, fd) {
@@ -81,8 +77,7 @@ impl Machine {
     pub(super) fn seek(&mut self, p: u8, fd: u32, offset: i64) -> Result<Reply, Memory>
         ensures answers { IfOk result (Answers self.old self.new p (Request.Seek fd offset)) }
         ensures memory { OnErr result (SameMachine self.old self.new) }
-        ensures rules { machine_rules self.new ≡ machine_rules self.old }
-        ensures processes { machine_processes self.new ≡ machine_processes self.old }
+        ensures same_rules { SameRules self.old self.new }
         ensures waits { machine_waits self.new ≡ machine_waits self.old }
     {
         match self.tables.seek(p, fd, offset) {
@@ -95,8 +90,7 @@ impl Machine {
     pub(super) fn resize(&mut self, p: u8, fd: u32, size: i64) -> Result<Reply, Memory>
         ensures answers { IfOk result (Answers self.old self.new p (Request.Resize fd size)) }
         ensures memory { OnErr result (SameMachine self.old self.new) }
-        ensures rules { machine_rules self.new ≡ machine_rules self.old }
-        ensures processes { machine_processes self.new ≡ machine_processes self.old }
+        ensures same_rules { SameRules self.old self.new }
         ensures waits { machine_waits self.new ≡ machine_waits self.old }
     {
         match self.tables.resize(p, fd, size) {

@@ -9,7 +9,7 @@ ghost use Rattle.lock_manager.specs.DescriptionLocks.{MayLock, MayWait};
 ghost use Rattle.lock_manager.specs.WaitsKept.{has_place_at};
 ghost use Rattle.lock_manager.specs.State.{State, with_flock_mode, with_process};
 ghost use Rattle.lock_manager.specs.FlockCalls.{flock_wanted_mode, wanted_flock as wanted_flock_of, FlockTestComesTo, FlockModeComesTo, ConversionComesTo};
-ghost use Rattle.lock_manager.specs.MachineView.{Shows, SameMachine, KeepPlaces, Tells, machine_rules, machine_processes, machine_waits, machine_state, machine_locks};
+ghost use Rattle.lock_manager.specs.MachineView.{Shows, SameMachine, SameRules, KeepPlaces, Tells, machine_rules, machine_waits, machine_state, machine_locks};
 
 use super::Machine;
 use crate::answers::{answered, refused};
@@ -37,8 +37,7 @@ impl Machine {
         ensures told { OnOk result (Tells self.old self.new p n (Request.Flock fd op nb) notes.new.items) }
         ensures few { OnOk result (length notes.new.items + length (machine_waits self.new) ≤ vec_capacity notes.new) }
         ensures memory { OnErr result (SameMachine self.old self.new) }
-        ensures rules { machine_rules self.new ≡ machine_rules self.old }
-        ensures processes { machine_processes self.new ≡ machine_processes self.old }
+        ensures same_rules { SameRules self.old self.new }
     {
         let Some(look) = self.tables.look(p, fd) else {
             notes.push_reserved(refused(p, n, Errno::EBADF));
@@ -72,8 +71,7 @@ impl Machine {
             (T : State) × FlockModeComesTo (machine_rules self.old) S look nb wanted (flock_mode_in S.flock_changes look.file look.desc) (record { told = notes.new.items; after = T }) × Shows self.new T) }
         ensures few { OnOk result (length notes.new.items + length (machine_waits self.new) ≤ vec_capacity notes.new) }
         ensures memory { OnErr result (SameMachine self.old self.new) }
-        ensures rules { machine_rules self.new ≡ machine_rules self.old }
-        ensures processes { machine_processes self.new ≡ machine_processes self.old }
+        ensures same_rules { SameRules self.old self.new }
     {
         let Some(held) = self.books[usize::from(look.file)].flock_mode(look.desc) else {
             self.place_flock(look.file, look.desc)?;
@@ -101,8 +99,7 @@ impl Machine {
         ensures told { (S : State) → Shows self.old S →
             (T : State) × ConversionComesTo (machine_rules self.old) S look nb wanted (record { told = notes.new.items; after = T }) × Shows self.new T }
         ensures few { length notes.new.items + length (machine_waits self.new) ≤ vec_capacity notes.new }
-        ensures rules { machine_rules self.new ≡ machine_rules self.old }
-        ensures processes { machine_processes self.new ≡ machine_processes self.old }
+        ensures same_rules { SameRules self.old self.new }
     {
         let Wait { p, n, .. } = wanted;
 
@@ -124,8 +121,7 @@ impl Machine {
         ensures told { (grants : List Note) (S : State) → Shows self.old S →
             (T : State) × FlockTestComesTo (machine_rules self.old) S nb wanted grants (record { told = result ∷ grants; after = T }) × Shows self.new T }
         ensures few { length (machine_waits self.new) ≤ length (machine_waits self.old) + 1 }
-        ensures rules { machine_rules self.new ≡ machine_rules self.old }
-        ensures processes { machine_processes self.new ≡ machine_processes self.old }
+        ensures same_rules { SameRules self.old self.new }
     {
         let Wait { p, n, .. } = wanted;
         if !self.is_flock_blocked(look, nb, &wanted) {
@@ -160,8 +156,7 @@ impl Machine {
         ensures shows { (S : State) → Shows self.old S →
             Shows self.new (with_process (record S { waits = S.waits ++ wanted ∷ [] }) wanted.p ProcState.Waiting) }
         ensures one { machine_waits self.new ≡ machine_waits self.old ++ wanted ∷ [] }
-        ensures rules { machine_rules self.new ≡ machine_rules self.old }
-        ensures processes { machine_processes self.new ≡ machine_processes self.old }
+        ensures same_rules { SameRules self.old self.new }
     {
         // A law, and nothing to run.
         stay_free_of_cycles();
@@ -191,8 +186,7 @@ impl Machine {
         ensures states { self.new.states ≡ self.old.states }
         ensures tables { self.new.tables ≡ self.old.tables }
         ensures waits { machine_waits self.new ≡ machine_waits self.old }
-        ensures rules { machine_rules self.new ≡ machine_rules self.old }
-        ensures processes { machine_processes self.new ≡ machine_processes self.old }
+        ensures same_rules { SameRules self.old self.new }
     {
         // A law, and nothing to run.
         stay_free_of_cycles();

@@ -12,7 +12,7 @@ ghost use Rattle.lock_manager.specs.WaitsKept.{is_byte_wait};
 ghost use Rattle.lock_manager.specs.State.{State, with_byte_mode, with_process};
 ghost use Rattle.lock_manager.specs.LockWords.{lock_owner, is_get, is_ofd, may_wait};
 ghost use Rattle.lock_manager.specs.LockCommands.{GetTells, RangeComesTo, CommandComesTo};
-ghost use Rattle.lock_manager.specs.MachineView.{Shows, SameMachine, Tells, machine_rules, machine_processes, machine_waits, machine_state, machine_locks};
+ghost use Rattle.lock_manager.specs.MachineView.{Shows, SameMachine, SameRules, Tells, machine_rules, machine_processes, machine_waits, machine_state, machine_locks};
 
 use super::Machine;
 use crate::answers::{answered, held_reply, permits, range_error, refused, wanted_mode};
@@ -38,8 +38,7 @@ impl Machine {
         ensures told { IfOk result (λ note. Tells self.old self.new p n (Request.Lk fd cmd lock) (note ∷ [])) }
         ensures few { IfOk result (λ note. length (machine_waits self.new) ≤ length (machine_waits self.old) + 1) }
         ensures memory { OnErr result (SameMachine self.old self.new) }
-        ensures rules { machine_rules self.new ≡ machine_rules self.old }
-        ensures processes { machine_processes self.new ≡ machine_processes self.old }
+        ensures same_rules { SameRules self.old self.new }
     {
         let Some(look) = self.tables.look(p, fd) else {
             return Ok(refused(p, n, Errno::EBADF));
@@ -73,8 +72,7 @@ impl Machine {
             (T : State) × RangeComesTo (machine_rules self.old) S p n cmd kind look span (record { told = note ∷ []; after = T }) × Shows self.new T) }
         ensures few { IfOk result (λ note. length (machine_waits self.new) ≤ length (machine_waits self.old) + 1) }
         ensures memory { OnErr result (SameMachine self.old self.new) }
-        ensures rules { machine_rules self.new ≡ machine_rules self.old }
-        ensures processes { machine_processes self.new ≡ machine_processes self.old }
+        ensures same_rules { SameRules self.old self.new }
     {
         let owner = cmd.owner(p, look);
         let Some(mode) = wanted_mode(kind) else {
@@ -112,8 +110,7 @@ impl Machine {
             (T : State) × CommandComesTo (machine_rules self.old) S cmd wanted (record { told = note ∷ []; after = T }) × Shows self.new T) }
         ensures few { IfOk result (λ note. length (machine_waits self.new) ≤ length (machine_waits self.old) + 1) }
         ensures memory { OnErr result (SameMachine self.old self.new) }
-        ensures rules { machine_rules self.new ≡ machine_rules self.old }
-        ensures processes { machine_processes self.new ≡ machine_processes self.old }
+        ensures same_rules { SameRules self.old self.new }
     {
         let Wait { p, n, .. } = wanted;
         if !self.is_blocked(cmd, &wanted) {
@@ -178,8 +175,7 @@ impl Machine {
         requires free { (m : Mode) → mode ≡ Some m → ¬ ByteConflict ((machine_locks self.old).bytes file) owner span m }
         ensures ok { OnOk result ((S : State) → Shows self.old S → Shows self.new (with_byte_mode S file owner span mode)) }
         ensures memory { OnErr result (SameMachine self.old self.new) }
-        ensures rules { machine_rules self.new ≡ machine_rules self.old }
-        ensures processes { machine_processes self.new ≡ machine_processes self.old }
+        ensures same_rules { SameRules self.old self.new }
         ensures waits { machine_waits self.new ≡ machine_waits self.old }
     {
         // A law, and nothing to run.
@@ -201,8 +197,7 @@ impl Machine {
             Shows self.new (with_process (record S { waits = S.waits ++ wanted ∷ [] }) wanted.p ProcState.Waiting)) }
         ensures one { OnOk result (machine_waits self.new ≡ machine_waits self.old ++ wanted ∷ []) }
         ensures memory { OnErr result (SameMachine self.old self.new) }
-        ensures rules { machine_rules self.new ≡ machine_rules self.old }
-        ensures processes { machine_processes self.new ≡ machine_processes self.old }
+        ensures same_rules { SameRules self.old self.new }
     {
         // A law, and nothing to run.
         stay_free_of_cycles();

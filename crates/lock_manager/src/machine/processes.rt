@@ -6,7 +6,7 @@ ghost use Rattle.lock_manager.specs.State.{State, with_process};
 ghost use Rattle.lock_manager.specs.ProcessCalls.{EndComesTo, without_wait};
 ghost use Rattle.lock_manager.specs.declared.request.Note.{Note};
 ghost use Rattle.lock_manager.specs.Notes.{notes_told};
-ghost use Rattle.lock_manager.specs.MachineView.{Shows, SameMachine, Answers, Tells, machine_rules, machine_processes, machine_waits, machine_state};
+ghost use Rattle.lock_manager.specs.MachineView.{Shows, SameMachine, SameRules, Answers, Tells, machine_processes, machine_waits, machine_state};
 
 use super::Machine;
 use crate::answers::{Told, answered, refusal, refused};
@@ -21,8 +21,7 @@ impl Machine {
         requires { machine_state self.old p ≡ ProcState.Live }
         ensures answers { IfOk result (Answers self.old self.new p (Request.Fork child)) }
         ensures memory { OnErr result (SameMachine self.old self.new) }
-        ensures rules { machine_rules self.new ≡ machine_rules self.old }
-        ensures processes { machine_processes self.new ≡ machine_processes self.old }
+        ensures same_rules { SameRules self.old self.new }
         ensures waits { machine_waits self.new ≡ machine_waits self.old }
     {
         match self.tables.fork(p, child) {
@@ -40,8 +39,7 @@ impl Machine {
         requires { machine_state self.old p ≡ ProcState.Live }
         ensures ends { (told : List Note) (S : State) → Shows self.old S →
             (T : State) × EndComesTo S p told (record { told = told; after = T }) × Shows self.new T }
-        ensures rules { machine_rules self.new ≡ machine_rules self.old }
-        ensures processes { machine_processes self.new ≡ machine_processes self.old }
+        ensures same_rules { SameRules self.old self.new }
         ensures waits { machine_waits self.new ≡ machine_waits self.old }
     {
         let released = self.tables.end_process(p);
@@ -61,8 +59,7 @@ impl Machine {
         ensures tables { self.new.tables ≡ self.old.tables }
         ensures live { machine_state self.new p ≡ ProcState.Live }
         ensures others { (q : ℕ) → machine_state self.old q ≡ ProcState.Live → machine_state self.new q ≡ ProcState.Live }
-        ensures rules { machine_rules self.new ≡ machine_rules self.old }
-        ensures processes { machine_processes self.new ≡ machine_processes self.old }
+        ensures same_rules { SameRules self.old self.new }
     {
         // A law, and nothing to run.
         stay_free_of_cycles();
@@ -77,8 +74,7 @@ impl Machine {
         requires { machine_state self.old p ≡ ProcState.Live }
         ensures told { Tells self.old self.new p n (Request.Signal target) (notes_told result) }
         ensures few { length (notes_told result) + length (machine_waits self.new) ≤ length (machine_waits self.old) + 2 }
-        ensures rules { machine_rules self.new ≡ machine_rules self.old }
-        ensures processes { machine_processes self.new ≡ machine_processes self.old }
+        ensures same_rules { SameRules self.old self.new }
     {
         match self.state_of(target) {
             ProcState::Unborn | ProcState::Ended => Told::caller(refused(p, n, Errno::ESRCH)),
@@ -99,8 +95,7 @@ impl Machine {
         requires { machine_state self.old p ≡ ProcState.Live }
         ensures told { Tells self.old self.new p n (Request.Kill target) (notes_told result) }
         ensures few { length (notes_told result) + length (machine_waits self.new) ≤ length (machine_waits self.old) + 2 }
-        ensures rules { machine_rules self.new ≡ machine_rules self.old }
-        ensures processes { machine_processes self.new ≡ machine_processes self.old }
+        ensures same_rules { SameRules self.old self.new }
     {
         if target == p {
             self.end(p);

@@ -5,7 +5,7 @@ ghost use Rattle.wait_core.specs.WaitsView.{wait_of};
 ghost use Rattle.wait_core.specs.WellFormed.{IsWellFormed};
 ghost use Rattle.lock_manager.specs.Settling.{Settles, granted};
 ghost use Rattle.lock_manager.specs.State.{State};
-ghost use Rattle.lock_manager.specs.MachineView.{Shows, StayLive, KeepPlaces, machine_rules, machine_processes, machine_waits, machine_locks};
+ghost use Rattle.lock_manager.specs.MachineView.{Shows, SameRules, StayLive, KeepPlaces, machine_rules, machine_processes, machine_waits, machine_locks};
 
 use super::Machine;
 use crate::answers::answered;
@@ -26,8 +26,7 @@ impl Machine {
         ensures lives { StayLive self.old self.new }
         ensures places { KeepPlaces self.old self.new }
         ensures tables { self.new.tables ≡ self.old.tables }
-        ensures rules { machine_rules self.new ≡ machine_rules self.old }
-        ensures processes { machine_processes self.new ≡ machine_processes self.old }
+        ensures same_rules { SameRules self.old self.new }
     {
         while let Some(wait) = self.next_ready() {
             self.grant(wait);
@@ -56,8 +55,7 @@ impl Machine {
         ensures lives { StayLive self.old self.new }
         ensures places { KeepPlaces self.old self.new }
         ensures tables { self.new.tables ≡ self.old.tables }
-        ensures rules { machine_rules self.new ≡ machine_rules self.old }
-        ensures processes { machine_processes self.new ≡ machine_processes self.old }
+        ensures same_rules { SameRules self.old self.new }
     {
         match (wait.family, wait.owner) {
             (Family::Bytes, _) => self.grant_bytes(wait),
@@ -79,8 +77,7 @@ impl Machine {
         ensures lives { StayLive self.old self.new }
         ensures places { KeepPlaces self.old self.new }
         ensures tables { self.new.tables ≡ self.old.tables }
-        ensures rules { machine_rules self.new ≡ machine_rules self.old }
-        ensures processes { machine_processes self.new ≡ machine_processes self.old }
+        ensures same_rules { SameRules self.old self.new }
     {
         // A law, and nothing to run.
         stay_free_of_cycles();
@@ -102,8 +99,7 @@ impl Machine {
         ensures lives { StayLive self.old self.new }
         ensures places { KeepPlaces self.old self.new }
         ensures tables { self.new.tables ≡ self.old.tables }
-        ensures rules { machine_rules self.new ≡ machine_rules self.old }
-        ensures processes { machine_processes self.new ≡ machine_processes self.old }
+        ensures same_rules { SameRules self.old self.new }
     {
         self.interrupt(wait.p);
         self.change_flock(wait.file, description, Some(wait.mode));

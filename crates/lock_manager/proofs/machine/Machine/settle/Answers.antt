@@ -40,8 +40,8 @@ loop-wait-preserved c =
     record {
       room = (let room = before.room in let fewer = c.grant.ensures.fewer in let longer = ap length items ∙ length-append c.loop-wait.notes.items (note ∷ []) in
           let same = c.push_reserved.ensures.capacity in omega arith);
-      rules = c.grant.ensures.rules ∙ before.rules;
-      processes = c.grant.ensures.processes ∙ before.processes;
+      rules = c.grant.ensures.same_rules.rules ∙ before.rules;
+      processes = c.grant.ensures.same_rules.processes ∙ before.processes;
       few = (let few = before.few in let fewer = c.grant.ensures.fewer in let longer = ap length items ∙ length-append c.loop-wait.notes.items (note ∷ []) in omega arith);
       capacity = c.push_reserved.ensures.capacity ∙ before.capacity;
       lives = λ p live. c.grant.ensures.lives p (before.lives p live);

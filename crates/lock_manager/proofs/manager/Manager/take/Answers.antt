@@ -8,4 +8,4 @@ pub returns-clause-step : goal.returns-clause-step
 returns-clause-step c =
     let settled = c.settle.ensures.settles in
     one_step c.args.self.now _ c.serve.new.self c.args.p c.args.n c.args.request c.serve.new.notes.items settled.0 c.settle.new.notes.items
-    c.requires c.in_ok-serve.ensures.told c.serve.ensures.rules settled.2 settled.1
+    c.requires c.in_ok-serve.ensures.told c.serve.ensures.same_rules.rules settled.2 settled.1
