@@ -4,6 +4,7 @@ use Rattle.std.proofs.lemmas.Bool.{cases_eq, cases_lt, eq-eqb, ne_eqb, lt-ltb}
 use Rattle.std.proofs.lemmas.List.{get_or_past, get_or-replicate, length-replicate}
 use Rattle.std.proofs.lemmas.Option.{none-some}
 use Rattle.slab.specs.Slab.{Slab, get}
+use Rattle.fd_table.specs.declared.TheConstants.{FILES}
 use Rattle.fd_table.specs.declared.Limits.{Limits}
 use Rattle.fd_table.proofs.LimitsLemmas.{descriptor_limit-positive}
 use Rattle.fd_table.specs.declared.tables.Opened.{Opened}
@@ -99,12 +100,12 @@ opening_are_entries rows opened closed empty =
     }
 
 -- the size of an empty file
-pub opening_size : (sizes : List ℕ) (file : ℕ) → sizes ≡ replicate 64 0 → get_or sizes file 0 ≡ 0
+pub opening_size : (sizes : List ℕ) (file : ℕ) → sizes ≡ replicate FILES 0 → get_or sizes file 0 ≡ 0
 opening_size sizes file is =
     ap (λ xs. get_or xs file 0) is
-    ∙ elim (cases_lt file 64) [
-      | inl inside ↦ get_or-replicate 64 file 0 0 inside
-      | inr past ↦ get_or_past (replicate 64 0) file 0 (omega (arith, length-replicate {A = ℕ} 64 0))
+    ∙ elim (cases_lt file FILES) [
+      | inl inside ↦ get_or-replicate FILES file 0 0 inside
+      | inr past ↦ get_or_past (replicate FILES 0) file 0 (omega (arith, length-replicate {A = ℕ} FILES 0))
     ]
 
 -- the view of new tables stands for the descriptors at the opening

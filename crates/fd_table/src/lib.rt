@@ -14,6 +14,12 @@ use thiserror::Error;
 /// The number of files, which are numbered from 0 (this project's choice).
 pub const FILES: u8 = 64;
 
+/// The same number, as the length of an array.
+const FILE_COUNT: usize = FILES as usize;
+
+/// The most descriptors that a process may have under any limits.
+const MOST_DESCRIPTORS: u32 = 256;
+
 /// The number of open file descriptions that may ever be made (this project's choice).
 pub const DESCRIPTIONS: u64 = 4611686018427387904;
 
@@ -58,7 +64,7 @@ impl Limits {
     {
         match self {
             Limits::Small => 32,
-            Limits::Wide => 256,
+            Limits::Wide => MOST_DESCRIPTORS,
         }
     }
 }

@@ -1,5 +1,9 @@
-use crate::FILES;
+use crate::{FILE_COUNT, FILES, MOST_DESCRIPTORS};
+use arrayvec::ArrayVec;
 use std::marker::Model;
+
+/// The most descriptions that one call closes for good, since a process has no more descriptors.
+const MOST_RELEASED: usize = MOST_DESCRIPTORS as usize;
 
 /// A descriptor that was closed: its file, and the number of its description if no other descriptor refers to it.
 #[derive(Clone, Copy)]
@@ -11,22 +15,21 @@ pub(crate) struct Closed {
 /// The files of the descriptors that a call closed, and the descriptions that it closed for good.
 #[derive(Debug, Drop)]
 pub struct Releases {
-    files: [u8; 64],
-    file_count: usize,
-    descriptions: [u64; 256],
-    description_count: usize,
+    // Neither takes memory from an allocator, so no close is refused for want of it.
+    files: ArrayVec<u8, FILE_COUNT>,
+    descriptions: ArrayVec<u64, MOST_RELEASED>,
 }
 
 impl Model for Releases {
-    ghost use Rattle.std.specs.Prelude.{◌<◌, ◌≤◌, take, All};
+    ghost use Rattle.std.specs.Prelude.{◌<◌, All};
     ghost use Rattle.fd_table.specs.declared.TheConstants.{FILES};
     ghost use Rattle.fd_table.specs.Released.{Released};
 
     ghost Value = { Released };
 
-    ghost view = { λ r. record { files = take r.file_count r.files; descriptions = take r.description_count r.descriptions } };
+    ghost view = { λ r. record { files = r.files.items; descriptions = r.descriptions.items } };
 
-    ghost invariant = { λ r. (r.file_count ≤ 64) × (r.description_count ≤ 256) × All (λ file. file < FILES) (take r.file_count r.files) };
+    ghost invariant = { λ r. All (λ file. file < FILES) r.files.items };
 }
 
 impl Releases {
@@ -42,10 +45,8 @@ impl Releases {
         ensures { result ≡ nothing }
     {
         Releases {
-            files: [0; 64],
-            file_count: 0,
-            descriptions: [0; 256],
-            description_count: 0,
+            files: ArrayVec::new(),
+            descriptions: ArrayVec::new(),
         }
     }
 
@@ -66,25 +67,23 @@ impl Releases {
 
     /// Adds a file past the last.
     fn push_file(&mut self, file: u8)
-        requires room { length self.old.files < 64 }
+        requires room { length self.old.files < FILES }
         requires file { file < FILES }
         ensures { self.new ≡ record self.old { files = self.old.files ++ file ∷ [] } }
     {
-        self.files[self.file_count] = file;
-        self.file_count += 1;
+        self.files.push(file);
     }
 
     /// Adds a description past the last.
     pub(crate) fn push_description(&mut self, number: u64)
-        requires { length self.old.descriptions < 256 }
+        requires { length self.old.descriptions < MOST_DESCRIPTORS }
         ensures { self.new ≡ record self.old { descriptions = self.old.descriptions ++ number ∷ [] } }
     {
-        self.descriptions[self.description_count] = number;
-        self.description_count += 1;
+        self.descriptions.push(number);
     }
 
     /// Adds the files that are marked, by rising number.
-    pub(crate) fn list_files(&mut self, marks: &[bool; 64])
+    pub(crate) fn list_files(&mut self, marks: &[bool; FILE_COUNT])
         requires { self.old.files ≡ [] }
         ensures files { AreExactly self.new.files (IsMarked marks.now) }
         ensures descriptions { self.new.descriptions ≡ self.old.descriptions }
@@ -102,7 +101,7 @@ impl Releases {
         ensures same { (x : ℕ) → Contains self.new.descriptions x ↔ Contains self.old.descriptions x }
         ensures files { self.new.files ≡ self.old.files }
     {
-        self.descriptions[..self.description_count].sort_unstable();
+        self.descriptions.sort_unstable();
     }
 
     /// The files, by rising number and each once.
@@ -110,13 +109,13 @@ impl Releases {
         ensures value { result.now ≡ self.now.files }
         ensures in_range { All (λ file. file < FILES) result.now }
     {
-        &self.files[..self.file_count]
+        &self.files
     }
 
     /// The numbers of the descriptions, rising and each once.
     pub fn descriptions(&self) -> &[u64]
         ensures { result.now ≡ self.now.descriptions }
     {
-        &self.descriptions[..self.description_count]
+        &self.descriptions
     }
 }

@@ -7,7 +7,7 @@ ghost use Rattle.fd_table.specs.Soundness.{AreRows, AreEntries, AreSizes, IsByte
 
 use crate::releases::{Closed, Releases};
 use crate::rows::{Row, opening_rows, set_key};
-use crate::{Access, DESCRIPTIONS, FILES, FdFault, Limits};
+use crate::{Access, DESCRIPTIONS, FILE_COUNT, FILES, FdFault, Limits};
 use range_core::Memory;
 use slab::Slab;
 use std::alloc::Global;
@@ -44,7 +44,7 @@ pub struct Tables {
     // One for each process, by its number: process numbers begin at 1, so the first is never used.
     rows: Vec<Row>,
     opened: Slab<Opened>,
-    sizes: [u64; 64],
+    sizes: [u64; FILE_COUNT],
     // How many descriptions were ever made.
     made: u64,
     processes: u8,
@@ -374,17 +374,17 @@ fn add_users(opened: &mut Slab<Opened>, row: &Row)
 }
 
 /// No file is marked.
-fn no_marks() -> [bool; 64]
-    ensures { result ≡ replicate 64 false }
+fn no_marks() -> [bool; FILE_COUNT]
+    ensures { result ≡ replicate FILES false }
 {
-    [false; 64]
+    [false; FILE_COUNT]
 }
 
 /// The sizes of empty files.
-fn empty_files() -> [u64; 64]
-    ensures { result ≡ replicate 64 0 }
+fn empty_files() -> [u64; FILE_COUNT]
+    ensures { result ≡ replicate FILES 0 }
 {
-    [0; 64]
+    [0; FILE_COUNT]
 }
 
 /// An offset or a size, if it isn't below 0.

@@ -1,5 +1,6 @@
 use Rattle.std.proofs.Common.{◌≡◌, ◌<◌, ◌≤◌, ◌+◌, ◌∷◌, ◌++◌, [], ℕ, Bool, List, true, length, refl, sym, ap, subst, ◌∙◌, arith}
 use Rattle.std.proofs.lemmas.List.{length_push, length-set}
+use Rattle.fd_table.specs.declared.TheConstants.{FILES}
 use Rattle.fd_table.specs.Released.{Released}
 use Rattle.fd_table.specs.Descriptors.{Descriptors, without_descriptors, descriptor_limit}
 use Rattle.fd_table.specs.Closing.{without_one}
@@ -15,7 +16,7 @@ pub loop-fd-init : goal.loop-fd-init
 loop-fd-init c =
     record {
       stands = λ D h. stands_for_same (view_of c.args.self.now) D (closed_below D c.args.p 0) (first_closed D c.args.p) h;
-      gathered = λ D h. rw c.none-released.ensures (gathered_none D c.args.p 64 c.no_marks-files.result c.no_marks-files.ensures);
+      gathered = λ D h. rw c.none-released.ensures (gathered_none D c.args.p FILES c.no_marks-files.result c.no_marks-files.ensures);
       few = rw c.none-released.ensures (omega arith);
       no_files = rw c.none-released.ensures refl;
       marks = rw c.no_marks-files.ensures refl;

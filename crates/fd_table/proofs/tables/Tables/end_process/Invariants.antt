@@ -1,4 +1,5 @@
 use Rattle.std.proofs.Common.{◌≡◌, ◌≤◌, [], length}
+use Rattle.fd_table.specs.declared.TheConstants.{FILES}
 use Rattle.fd_table.specs.Descriptors.{Descriptors, without_descriptors}
 use Rattle.fd_table.specs.TablesView.{StandFor, SameTables}
 use Rattle.fd_table.proofs.GatherLemmas.{IsGathered, below}
@@ -11,6 +12,6 @@ invariant-loop-fd l = record {
   gathered : (D : Descriptors) → StandFor l.initial.self D → IsGathered D l.p l.fd l.files l.released.descriptions;
   few : length l.released.descriptions ≤ l.fd;
   no_files : l.released.files ≡ [];
-  marks : length l.files ≡ 64;
+  marks : length l.files ≡ FILES;
   kept : SameTables l.initial.self l.self;
 }
