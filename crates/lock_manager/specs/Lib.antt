@@ -13,6 +13,7 @@ pub mod DescriptionLocks
 pub mod WaitsKept
 pub mod LockReleases
 pub mod MachineView
+pub mod Granting
 pub mod ManagerView
 pub mod Opening
 pub mod OneOutcome

@@ -1,9 +1,10 @@
 //! Settling: the earliest wait that nothing blocks is granted, again and again.
-ghost use Rattle.std.specs.Prelude.{ℕ, ◌≡◌, ◌+◌, ◌≤◌, ◌++◌, Some, List, [], ◌∷◌, length, vec_capacity, IfSome, IfNone};
-ghost use Rattle.wait_core.specs.Blocking.{AllBlocked, IsBlockedByLock, IsNextReady};
+ghost use Rattle.std.specs.Prelude.{◌≡◌, ◌+◌, ◌≤◌, ◌++◌, Some, List, [], length, vec_capacity, IfSome, IfNone};
+ghost use Rattle.wait_core.specs.Blocking.{AllBlocked, IsNextReady};
 ghost use Rattle.wait_core.specs.WaitsView.{wait_of};
 ghost use Rattle.wait_core.specs.WellFormed.{IsWellFormed};
-ghost use Rattle.lock_manager.specs.Settling.{Settles, granted};
+ghost use Rattle.lock_manager.specs.Granting.{IsGrantable, Grants};
+ghost use Rattle.lock_manager.specs.Settling.{Settles};
 ghost use Rattle.lock_manager.specs.State.{State};
 ghost use Rattle.lock_manager.specs.MachineView.{Shows, SameRules, StayLive, KeepPlaces, machine_rules, machine_processes, machine_waits, machine_locks};
 
@@ -47,15 +48,8 @@ impl Machine {
     /// The wait leaves the list, its process lives and has the lock. It takes no memory (POSIX.1-2017 fcntl, `F_SETLKW`;
     /// flock(2)).
     fn grant(&mut self, wait: Wait)
-        requires waits { wait_of (machine_waits self.old) wait.p ≡ Some wait }
-        requires well_formed { IsWellFormed (machine_processes self.old) wait }
-        requires free { ¬ IsBlockedByLock (machine_locks self.old) wait }
-        ensures shows { (S : State) (before after : List Wait) → Shows self.old S → S.waits ≡ before ++ wait ∷ after → Shows self.new (granted S before wait after) }
-        ensures fewer { length (machine_waits self.new) + 1 ≤ length (machine_waits self.old) }
-        ensures lives { StayLive self.old self.new }
-        ensures places { KeepPlaces self.old self.new }
-        ensures tables { self.new.tables ≡ self.old.tables }
-        ensures same_rules { SameRules self.old self.new }
+        requires { IsGrantable self.old wait }
+        ensures { Grants self.old self.new wait }
     {
         match (wait.family, wait.owner) {
             (Family::Bytes, _) => self.grant_bytes(wait),
@@ -69,15 +63,8 @@ impl Machine {
     /// The same, of a wait for a byte lock.
     fn grant_bytes(&mut self, wait: Wait)
         requires family { wait.family ≡ Family.Bytes }
-        requires waits { wait_of (machine_waits self.old) wait.p ≡ Some wait }
-        requires well_formed { IsWellFormed (machine_processes self.old) wait }
-        requires free { ¬ IsBlockedByLock (machine_locks self.old) wait }
-        ensures shows { (S : State) (before after : List Wait) → Shows self.old S → S.waits ≡ before ++ wait ∷ after → Shows self.new (granted S before wait after) }
-        ensures fewer { length (machine_waits self.new) + 1 ≤ length (machine_waits self.old) }
-        ensures lives { StayLive self.old self.new }
-        ensures places { KeepPlaces self.old self.new }
-        ensures tables { self.new.tables ≡ self.old.tables }
-        ensures same_rules { SameRules self.old self.new }
+        requires grantable { IsGrantable self.old wait }
+        ensures { Grants self.old self.new wait }
     {
         // A law, and nothing to run.
         stay_free_of_cycles();
@@ -91,15 +78,8 @@ impl Machine {
     fn grant_flock(&mut self, wait: Wait, description: u64)
         requires family { wait.family ≡ Family.Whole }
         requires owner { wait.owner ≡ Owner.Description description }
-        requires waits { wait_of (machine_waits self.old) wait.p ≡ Some wait }
-        requires well_formed { IsWellFormed (machine_processes self.old) wait }
-        requires free { ¬ IsBlockedByLock (machine_locks self.old) wait }
-        ensures shows { (S : State) (before after : List Wait) → Shows self.old S → S.waits ≡ before ++ wait ∷ after → Shows self.new (granted S before wait after) }
-        ensures fewer { length (machine_waits self.new) + 1 ≤ length (machine_waits self.old) }
-        ensures lives { StayLive self.old self.new }
-        ensures places { KeepPlaces self.old self.new }
-        ensures tables { self.new.tables ≡ self.old.tables }
-        ensures same_rules { SameRules self.old self.new }
+        requires grantable { IsGrantable self.old wait }
+        ensures { Grants self.old self.new wait }
     {
         self.interrupt(wait.p);
         self.change_flock(wait.file, description, Some(wait.mode));

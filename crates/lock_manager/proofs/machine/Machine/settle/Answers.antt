@@ -18,8 +18,12 @@ loop-wait-init c = record {
   grants = ([], sym (append-nil _), leads_nowhere c.args.self.now);
 }
 
-pub grant-requires-clause-free : goal.grant-requires-clause-free
-grant-requires-clause-free c = next_is_free _ _ _ _ c.in-Some.ensures.ready
+pub grant-requires : goal.grant-requires
+grant-requires c = record {
+  waits = c.in-Some.ensures.found;
+  well_formed = c.in-Some.ensures.well_formed;
+  free = next_is_free _ _ _ _ c.in-Some.ensures.ready;
+}
 
 pub push_reserved-requires : goal.push_reserved-requires
 push_reserved-requires c =
