@@ -1,7 +1,10 @@
 -- Which states a `Machine` shows (the words are this project's choice).
-use Rattle.std.specs.Prelude.{◌≡◌, ℕ, List, true, slice_get}
+use Rattle.std.specs.Prelude.{◌≡◌, ◌<◌, ℕ, List, true, slice_get}
 use Rattle.lock_book.specs.declared.Owner.{Owner}
+use Rattle.lock_book.specs.declared.Owner.TheVariants.{Description}
 use Rattle.lock_book.specs.Changes.{mode_in, flock_mode_in}
+use Rattle.fd_table.specs.declared.TheConstants.{FILES}
+use Rattle.fd_table.specs.declared.tables.Look.{Look}
 use Rattle.fd_table.specs.TablesView.{StandFor}
 use Rattle.wait_core.specs.declared.Wait.{Wait}
 use Rattle.wait_core.specs.Locks.{Locks, locks_of}
@@ -16,6 +19,8 @@ use Rattle.lock_manager.specs.State.{State, state_numbered}
 use Rattle.lock_manager.specs.Outcomes.{answered}
 use Rattle.lock_manager.specs.Step.{ComesTo}
 use Rattle.lock_manager.specs.WaitsKept.{has_place_at}
+use Rattle.lock_manager.specs.FlockCalls.{wanted_flock}
+use Rattle.lock_manager.specs.DescriptionLocks.{MayWait}
 use Rattle.lock_manager.specs.declared.request.ProcState.TheVariants.{Live}
 
 -- the rules of the machine
@@ -80,3 +85,10 @@ StayLive old new = (p : ℕ) → machine_state old p ≡ Live → machine_state 
 abbrev pub KeepPlaces : Machine → Machine → Type 0
 KeepPlaces old new = (file description : ℕ) → has_place_at (slice_get old.books.items file) description ≡ true
     → has_place_at (slice_get new.books.items file) description ≡ true
+
+-- the process of the request lives, and asks by flock for this lock of a description that it has open (flock(2))
+pub record IsFlockAsked (machine : Machine) (look : Look) (wanted : Wait) : Type 0 where
+  pub is : wanted ≡ wanted_flock wanted.p wanted.n look wanted.mode
+  pub file : look.file < FILES
+  pub may_wait : MayWait machine.tables wanted.p look.file (Description look.desc)
+  pub live : machine_state machine wanted.p ≡ Live

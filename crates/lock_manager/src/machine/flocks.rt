@@ -5,11 +5,11 @@ ghost use Rattle.range_core.specs.declared.Mode.{Mode};
 ghost use Rattle.lock_book.specs.Changes.{flock_mode_in};
 ghost use Rattle.lock_book.specs.Conflicts.{FlockConflict};
 ghost use Rattle.wait_core.specs.Blocking.{IsBlockedByLock, IsQueued};
-ghost use Rattle.lock_manager.specs.DescriptionLocks.{MayLock, MayWait};
+ghost use Rattle.lock_manager.specs.DescriptionLocks.{MayLock};
 ghost use Rattle.lock_manager.specs.WaitsKept.{has_place_at};
 ghost use Rattle.lock_manager.specs.State.{State, with_flock_mode, with_process};
 ghost use Rattle.lock_manager.specs.FlockCalls.{flock_wanted_mode, wanted_flock as wanted_flock_of, FlockTestComesTo, FlockModeComesTo, ConversionComesTo};
-ghost use Rattle.lock_manager.specs.MachineView.{Shows, SameMachine, SameRules, KeepPlaces, Tells, machine_rules, machine_waits, machine_state, machine_locks};
+ghost use Rattle.lock_manager.specs.MachineView.{Shows, SameMachine, SameRules, IsFlockAsked, KeepPlaces, Tells, machine_rules, machine_waits, machine_state, machine_locks};
 
 use super::Machine;
 use crate::answers::{answered, refused};
@@ -61,10 +61,7 @@ impl Machine {
         wanted: Wait,
         notes: &mut Vec<Note>,
     ) -> Result<(), Memory>
-        requires is { wanted ≡ wanted_flock_of wanted.p wanted.n look wanted.mode }
-        requires file { look.file < FILES }
-        requires may_wait { MayWait self.old.tables wanted.p look.file (Owner.Description look.desc) }
-        requires live { machine_state self.old wanted.p ≡ ProcState.Live }
+        requires asked { IsFlockAsked self.old look wanted }
         requires empty { notes.old.items ≡ [] }
         requires room { length (machine_waits self.old) + 2 ≤ vec_capacity notes.old }
         ensures told { OnOk result ((S : State) → Shows self.old S →
@@ -89,10 +86,7 @@ impl Machine {
     /// A conversion: the old lock is removed, the waits are settled, and then the request is tested (flock(2), "converting
     /// a lock"; the order is this project's choice). The place of the old lock stays, so it takes no memory.
     fn convert_flock(&mut self, look: Look, nb: bool, wanted: Wait, notes: &mut Vec<Note>)
-        requires is { wanted ≡ wanted_flock_of wanted.p wanted.n look wanted.mode }
-        requires file { look.file < FILES }
-        requires may_wait { MayWait self.old.tables wanted.p look.file (Owner.Description look.desc) }
-        requires live { machine_state self.old wanted.p ≡ ProcState.Live }
+        requires asked { IsFlockAsked self.old look wanted }
         requires place { has_place_at (slice_get self.old.books.items look.file) look.desc ≡ true }
         requires empty { notes.old.items ≡ [] }
         requires room { length (machine_waits self.old) + 2 ≤ vec_capacity notes.old }
@@ -113,10 +107,7 @@ impl Machine {
     /// The test of a request for whose lock a place is kept: with `LOCK_NB` it is refused where a lock is in the way, and
     /// without it waits (flock(2), `EWOULDBLOCK`). It takes no memory.
     fn test_flock(&mut self, look: Look, nb: bool, wanted: Wait) -> Note
-        requires is { wanted ≡ wanted_flock_of wanted.p wanted.n look wanted.mode }
-        requires file { look.file < FILES }
-        requires may_wait { MayWait self.old.tables wanted.p look.file (Owner.Description look.desc) }
-        requires live { machine_state self.old wanted.p ≡ ProcState.Live }
+        requires asked { IsFlockAsked self.old look wanted }
         requires place { has_place_at (slice_get self.old.books.items look.file) look.desc ≡ true }
         ensures told { (grants : List Note) (S : State) → Shows self.old S →
             (T : State) × FlockTestComesTo (machine_rules self.old) S nb wanted grants (record { told = result ∷ grants; after = T }) × Shows self.new T }
@@ -148,10 +139,7 @@ impl Machine {
 
     /// The process waits, last in order of arrival, for a flock lock for which a place is kept. It takes no memory (flock(2)).
     fn await_flock(&mut self, look: Look, wanted: Wait)
-        requires is { wanted ≡ wanted_flock_of wanted.p wanted.n look wanted.mode }
-        requires file { look.file < FILES }
-        requires may_wait { MayWait self.old.tables wanted.p look.file (Owner.Description look.desc) }
-        requires live { machine_state self.old wanted.p ≡ ProcState.Live }
+        requires asked { IsFlockAsked self.old look wanted }
         requires place { has_place_at (slice_get self.old.books.items look.file) look.desc ≡ true }
         ensures shows { (S : State) → Shows self.old S →
             Shows self.new (with_process (record S { waits = S.waits ++ wanted ∷ [] }) wanted.p ProcState.Waiting) }

@@ -18,19 +18,19 @@ unfolding machine_state
 join-requires-clause-none c =
     let machine = c.args.self.now in
     let list = waits_of machine.waits in
-    no_wait list c.args.wanted.p (waits_of_others machine.tables machine.states.items list c.args.wanted.p machine.suspended c.requires.live)
+    no_wait list c.args.wanted.p (waits_of_others machine.tables machine.states.items list c.args.wanted.p machine.suspended c.requires.asked.live)
 
 pub join-requires-clause-well_formed : goal.join-requires-clause-well_formed
 unfolding machine_state
 join-requires-clause-well_formed c =
     let machine = c.args.self.now in
-    let there : (1 ≤ c.args.wanted.p) × (c.args.wanted.p ≤ length machine.states.items) = place_of_live machine.states.items c.args.wanted.p c.requires.live in
-    well_formed_flock c.args.wanted c.args.look c.requires.is there.0 (omega arith) c.requires.file
+    let there : (1 ≤ c.args.wanted.p) × (c.args.wanted.p ≤ length machine.states.items) = place_of_live machine.states.items c.args.wanted.p c.requires.asked.live in
+    well_formed_flock c.args.wanted c.args.look c.requires.asked.is there.0 (omega arith) c.requires.asked.file
 
 pub index_mut-requires : goal.index_mut-requires
 unfolding machine_state
 index_mut-requires c =
-    let there : (1 ≤ c.args.wanted.p) × (c.args.wanted.p ≤ length c.args.self.now.states.items) = place_of_live c.args.self.now.states.items c.args.wanted.p c.requires.live in
+    let there : (1 ≤ c.args.wanted.p) × (c.args.wanted.p ≤ length c.args.self.now.states.items) = place_of_live c.args.self.now.states.items c.args.wanted.p c.requires.asked.live in
     omega arith
 
 pub invariant_of-self : goal.invariant_of-self
@@ -41,15 +41,15 @@ invariant_of-self c =
     let wanted = c.args.wanted in
     let look = c.args.look in
     let list = waits_of machine.waits in
-    let there : (1 ≤ wanted.p) × (wanted.p ≤ length states) = place_of_live states wanted.p c.requires.live in
+    let there : (1 ≤ wanted.p) × (wanted.p ≤ length states) = place_of_live states wanted.p c.requires.asked.live in
     let place : wanted.p ≡ c.from.result - 1 + 1 = omega arith in
     let inside : c.from.result - 1 < length states = omega arith in
     let kept = kept_by_wait c.stay_free_of_cycles.ensures.one_joins machine c.join.new.self wanted look.desc
-    (ap (λ (w : Wait). w.family) c.requires.is) (ap (λ (w : Wait). w.owner) c.requires.is)
-    (subst (λ f. has_place_at (slice_get machine.books.items f) look.desc ≡ true) (sym (ap (λ (w : Wait). w.file) c.requires.is)) c.requires.place)
-    (subst (λ f. MayWait machine.tables wanted.p f wanted.owner) (sym (ap (λ (w : Wait). w.file) c.requires.is))
-    (subst (MayWait machine.tables wanted.p look.file) (sym (ap (λ (w : Wait). w.owner) c.requires.is)) c.requires.may_wait))
-    c.requires.live c.join.ensures.last c.join.ensures.policy c.join.ensures.processes
+    (ap (λ (w : Wait). w.family) c.requires.asked.is) (ap (λ (w : Wait). w.owner) c.requires.asked.is)
+    (subst (λ f. has_place_at (slice_get machine.books.items f) look.desc ≡ true) (sym (ap (λ (w : Wait). w.file) c.requires.asked.is)) c.requires.place)
+    (subst (λ f. MayWait machine.tables wanted.p f wanted.owner) (sym (ap (λ (w : Wait). w.file) c.requires.asked.is))
+    (subst (MayWait machine.tables wanted.p look.file) (sym (ap (λ (w : Wait). w.owner) c.requires.asked.is)) c.requires.asked.may_wait))
+    c.requires.asked.live c.join.ensures.last c.join.ensures.policy c.join.ensures.processes
     (subst (λ bs. AreTold c.join.new.self (locks_of bs)) c.deref.ensures.value c.join.ensures.told) in
     record {
       files = machine.files;
@@ -65,7 +65,7 @@ invariant_of-self c =
       told = kept.told;
       apart = kept.apart;
       suspended = subst (All (IsSuspended machine.tables (slice_set states (c.from.result - 1) Waiting))) (sym c.join.ensures.last)
-          (suspended_joined machine.tables states list wanted (c.from.result - 1) place inside c.requires.live machine.alive machine.suspended);
+          (suspended_joined machine.tables states list wanted (c.from.result - 1) place inside c.requires.asked.live machine.alive machine.suspended);
       awaited = subst (AreAwaited (slice_set states (c.from.result - 1) Waiting)) (sym c.join.ensures.last)
           (awaited_joined states list wanted (c.from.result - 1) place inside machine.awaited);
       room = kept.room;
@@ -78,7 +78,7 @@ returns-clause-shows c S h =
     let machine = c.args.self.now in
     let states = machine.states.items in
     let wanted = c.args.wanted in
-    let there : (1 ≤ wanted.p) × (wanted.p ≤ length states) = place_of_live states wanted.p c.requires.live in
+    let there : (1 ≤ wanted.p) × (wanted.p ≤ length states) = place_of_live states wanted.p c.requires.asked.live in
     let place : wanted.p ≡ c.from.result - 1 + 1 = omega arith in
     let inside : c.from.result - 1 < length states = omega arith in
     with_flock_wait machine _ S wanted (c.from.result - 1) refl refl c.join.ensures.last refl place inside h

@@ -3,7 +3,7 @@ use Rattle.lock_manager.proofs.machine.Machine.test_flock.Goals as goal
 
 pub returns-then-not-is_flock_blocked-clause-told : goal.returns-then-not-is_flock_blocked-clause-told
 returns-then-not-is_flock_blocked-clause-told c =
-    flock_locked c.args.self.now c.change_flock.new.self c.args.nb c.args.look c.args.wanted c.answered.result c.requires.is c.answered.ensures
+    flock_locked c.args.self.now c.change_flock.new.self c.args.nb c.args.look c.args.wanted c.answered.result c.requires.asked.is c.answered.ensures
     (λ blocked. let is = c.is_flock_blocked.ensures.1 blocked in cc) c.change_flock.ensures.shows
 
 pub returns-then-nb-clause-told : goal.returns-then-nb-clause-told
