@@ -66,6 +66,6 @@ pub enum RangeFault {
 }
 
 /// Want of memory: a growth was refused (this project's choice: every call that may grow answers it, and is then as if
-/// it had not been made).
+/// it had not been made, where its documentation doesn't say otherwise).
 #[derive(Clone, Copy, Debug, PartialEq, Eq)]
 pub struct Memory;
