@@ -1,10 +1,8 @@
 -- What the table of pairs tells, and what a change of the list or of the locks leaves of it.
-use Rattle.std.proofs.Common.{ℕ, ◌≡◌, ◌≢◌, ◌+◌, ◌*◌, ◌/◌, ◌%◌, ◌<◌, ◌≤◌, ◌↔◌, ◌∙◌, ◌⊎◌, inl, inr, sym, ap, subst, arith, Bool, true, false, not, Some, suc, List, [], Any, length, get_or, set, get_or-set_same, get_or-set_other, take, drop}
+use Rattle.std.proofs.Common.{ℕ, ◌≡◌, ◌≢◌, ◌+◌, ◌<◌, ◌≤◌, ◌↔◌, ◌∙◌, ◌⊎◌, inl, inr, sym, ap, subst, arith, Bool, true, false, not, Some, suc, List, [], Any, length, get_or, set, get_or-set_same, get_or-set_other, replicate, take, drop}
 use Rattle.std.specs.Prelude.{IsTrue, ◌==◌, slice_get}
 use Rattle.std.proofs.lemmas.Bool.Decides.{nat_tests}
-use Rattle.std.specs.Vec.{vec_len, with_items}
-use Rattle.std.specs.Prelude.{Vec}
-use Rattle.std.proofs.lemmas.List.{with_items_is}
+use Rattle.std.proofs.lemmas.List.{length-replicate, get_or-replicate, get_or_past}
 use Rattle.std.proofs.lemmas.Bool.{cases_eq}
 use Rattle.std.proofs.lemmas.Option.{slice_get-get_or, slice_get_within, slice_get_cases, get_or_from_slice_get}
 use Rattle.range_core.specs.declared.Mode.{Mode}
@@ -18,9 +16,9 @@ use Rattle.wait_core.specs.declared.Wait.{Wait}
 use Rattle.wait_core.specs.declared.waits.Waits.{Waits}
 use Rattle.wait_core.specs.Locks.{Locks}
 use Rattle.wait_core.specs.Cycles.{WaitsFor}
-use Rattle.wait_core.specs.Pairs.{pair_in, is_in, IsBehind, IsBlockedWait, WaitsBehind}
+use Rattle.wait_core.specs.Pairs.{is_in, IsBehind, IsBlockedWait, WaitsBehind}
 use Rattle.wait_core.specs.WaitsView.{waits_of, has_pair, without_wait_of, AreTold, AgreeBut}
-use Rattle.wait_core.proofs.AnyLemmas.{Any-nil, Any-weaker, Any-filter, Any-unfilter, split_at, split_within, split_is, split_take}
+use Rattle.wait_core.proofs.AnyLemmas.{Any-weaker, Any-filter, Any-unfilter, split_at, split_within, split_is, split_take}
 
 -- p waits for q by a lock where the list has a wait of p that a lock of q blocks
 pub blocked_wait : (locks : Locks) (waits : List Wait) (p q : ℕ) → WaitsFor Held locks waits p q → Any (IsBlockedWait locks p q) waits
@@ -59,17 +57,6 @@ tells waits locks told p q p_few q_few = (
   λ any. (told.pairs p q p_few q_few).1 (waits_by_lock locks (waits_of waits) p q any),
 )
 
--- a table in its `Vec`, after a write of all of it
-pub in_vec : {Z : Type 0} (v : Vec Bool Z) (pairs : List Bool) → length pairs ≡ vec_len v → (p q : ℕ) → pair_in (with_items v pairs).items p q ≡ pair_in pairs p q
-in_vec v pairs same p q = ap (λ (l : List Bool). pair_in l p q) (with_items_is v pairs same)
-
--- a table without a pair tells those of no wait
-pub told-empty : (waits : Waits) (locks : Locks) → waits_of waits ≡ [] → ((p q : ℕ) → p ≤ 64 → q ≤ 64 → has_pair waits p q ≡ false) → AreTold waits locks
-told-empty waits locks empty none = told waits locks (λ p q p_few q_few. (
-  λ has. absurd (let no = none p q p_few q_few in let yes : has_pair waits p q ≡ true = has in cc),
-  λ any. absurd (Any-nil (IsBlockedWait locks p q) (rw empty at any)),
-))
-
 keeps_other : (w : Wait) (p : ℕ) → w.p ≢ p → not (w.p == p) ≡ true
 keeps_other w p other = grind (arith, nat_tests)
 
@@ -81,19 +68,19 @@ none_of_it : (locks : Locks) (p q process : ℕ) (waits : List Wait) → p ≡ p
 none_of_it locks p q process waits same (k, w, within, is, holds) = other_kept w process holds.1 (holds.0.of_p ∙ same)
 
 -- one wait less, and its process' row forgotten
-pub told-leave : (old new : Waits) (locks : Locks) (process : ℕ) → waits_of new ≡ without_wait_of (waits_of old) process → ((q : ℕ) → q ≤ 64 → ¬ IsTrue (has_pair new process q)) → ((p q : ℕ) → p ≢ process → q ≤ 64 → has_pair new p q ≡ has_pair old p q) → AreTold old locks → AreTold new locks
+pub told-leave : (old new : Waits) (locks : Locks) (process : ℕ) → waits_of new ≡ without_wait_of (waits_of old) process → ((q : ℕ) → ¬ IsTrue (has_pair new process q)) → ((p q : ℕ) → p ≢ process → has_pair new p q ≡ has_pair old p q) → AreTold old locks → AreTold new locks
 told-leave old new locks process rest forgotten others was = told new locks (λ p q p_few q_few.
     let Blocked : Wait → Type 0 = IsBlockedWait locks p q in
     elim (cases_eq p process) [
       | inl same ↦ (
-        λ has. absurd (forgotten q q_few (subst (λ (n : ℕ). IsTrue (has_pair new n q)) same has)),
+        λ has. absurd (forgotten q (subst (λ (n : ℕ). IsTrue (has_pair new n q)) same has)),
         λ any. absurd (none_of_it locks p q process (waits_of old) same
             (Any-unfilter Blocked (λ w. not (w.p == process)) (waits_of old) (rw rest at any))),
       )
       | inr other ↦ (
         λ has. rw rest (Any-filter Blocked (λ w. not (w.p == process)) (λ w h. keeps_other w process (λ e. other (sym h.of_p ∙ e))) (waits_of old)
-            ((tells old locks was p q p_few q_few).0 (subst (λ (b : Bool). IsTrue b) (others p q other q_few) has))),
-        λ any. subst (λ (b : Bool). IsTrue b) (sym (others p q other q_few)) ((tells old locks was p q p_few q_few).1
+            ((tells old locks was p q p_few q_few).0 (subst (λ (b : Bool). IsTrue b) (others p q other) has))),
+        λ any. subst (λ (b : Bool). IsTrue b) (sym (others p q other)) ((tells old locks was p q p_few q_few).1
             (Any-weaker (λ w. Blocked w × (not (w.p == process) ≡ true)) Blocked (λ w h. h.0) (waits_of old)
             (Any-unfilter Blocked (λ w. not (w.p == process)) (waits_of old) (rw rest at any)))),
       )
@@ -221,12 +208,24 @@ set_told P xs i b within before here q few = elim (cases_eq q i) [
       rw at (before q (omega arith))
 ]
 
--- one more cell of the table, in the order of its rows
-pub table_step : (P : ℕ → ℕ → Type 0) (i : ℕ) → ((p q : ℕ) → q ≤ 64 → p * 65 + q < i → P p q) → P (i / 65) (i % 65) → (p q : ℕ) → q ≤ 64 → p * 65 + q < i + 1 → P p q
-table_step P i before here p q few below = elim (cases_eq (p * 65 + q) i) [
-  | inl same ↦
-      let row : i / 65 ≡ p = omega arith in
-      let column : i % 65 ≡ q = omega arith in
-      subst (λ (n : ℕ). P n q) row (subst (λ (n : ℕ). P (i / 65) n) column here)
-  | inr other ↦ before p q few (omega arith)
+-- a set that tells `false` of each number has none
+pub none_in : (count q : ℕ) → ¬ IsTrue (is_in (replicate count false) q)
+none_in count q has = elim (slice_get_cases (replicate count false) q).1 [
+  | inl (b, within, some, same) ↦
+      let no : is_in (replicate count false) q ≡ false = get_or-replicate count q false false (rw length-replicate at within) in cc
+  | inr (past, none) ↦ let no : is_in (replicate count false) q ≡ false = get_or_past (replicate count false) q false past in cc
 ]
+
+-- where each row is such a set, there is no pair
+pub none_in_rows : (rows count p q : ℕ) → ¬ IsTrue (is_in (get_or (replicate rows (replicate count false)) p []) q)
+none_in_rows rows count p q has = elim (slice_get_cases (replicate rows (replicate count false)) p).1 [
+  | inl (row, within, some, same) ↦
+      let is = get_or-replicate rows p (replicate count false) [] (rw length-replicate at within) in none_in count q (rw is at has)
+  | inr (past, none) ↦
+      let is = get_or_past (replicate rows (replicate count false)) p [] past in none_in 0 q (rw is at has)
+]
+
+-- a row is put at p: a number that isn't in it isn't in row p then
+pub put_row : (rows : List (List Bool)) (row : List Bool) (i p q : ℕ) → i ≡ p → i < length rows → ¬ IsTrue (is_in row q) → ¬ IsTrue (is_in (get_or (set rows i row) p []) q)
+put_row rows row i p q same within missing has =
+    let is : get_or (set rows i row) p [] ≡ row = rw (← same) (get_or-set_same rows i row [] within) in missing (rw is at has)

@@ -1,14 +1,11 @@
--- A table of pairs of processes, and what is told of them (the words are this project's choice).
-use Rattle.std.specs.Prelude.{◌≡◌, ℕ, ◌+◌, ◌*◌, ◌≤◌, Bool, false, List, Some, slice_get, slice_index_or, take, Any, IsTrue, IsFalse}
+-- What is told of pairs of processes (the words are this project's choice).
+use Rattle.std.specs.Prelude.{◌≡◌, ℕ, ◌≤◌, Bool, false, List, Some, slice_get, slice_index_or, take, Any, IsTrue, IsFalse}
 use Rattle.lock_book.specs.Conflicts.{ProcessBlocks}
+use Rattle.wait_core.specs.declared.pairs.TheConstants.{PROCESSES}
 use Rattle.wait_core.specs.declared.Wait.{Wait}
 use Rattle.wait_core.specs.Locks.{Locks}
 use Rattle.wait_core.specs.Blocking.{WaitsConflict}
 use Rattle.wait_core.specs.Cycles.{IsTraditional}
-
--- whether the table has the pair: it has a row of 65 for each number
-abbrev pub pair_in : List Bool → ℕ → ℕ → Bool
-pair_in pairs p q = slice_index_or pairs (p * 65 + q) false
 
 -- whether the set has the number
 abbrev pub is_in : List Bool → ℕ → Bool
@@ -40,13 +37,23 @@ pub record WaitsBehind (waits : List Wait) (p q : ℕ) : Type 0 where
 
 -- the number isn't in the set, and some number in it leads to it
 pub record IsNewlyReached (Leads : ℕ → ℕ → Type 0) (reached : List Bool) (q : ℕ) : Type 0 where
-  pub few : q ≤ 64
+  pub few : q ≤ PROCESSES
   pub missing : IsFalse (is_in reached q)
   pub p : ℕ
-  pub p_few : p ≤ 64
+  pub p_few : p ≤ PROCESSES
   pub known : IsTrue (is_in reached p)
   pub leads : Leads p q
 
 -- each number that one in the set leads to is in the set
 abbrev pub IsClosed : (ℕ → ℕ → Type 0) → List Bool → Type 0
-IsClosed Leads reached = (p q : ℕ) → p ≤ 64 → q ≤ 64 → IsTrue (is_in reached p) → Leads p q → IsTrue (is_in reached q)
+IsClosed Leads reached = (p q : ℕ) → p ≤ PROCESSES → q ≤ PROCESSES → IsTrue (is_in reached p) → Leads p q → IsTrue (is_in reached q)
+
+-- the number p leads to q, which isn't in the set
+pub record LeadsOutside (Leads : ℕ → ℕ → Type 0) (reached : List Bool) (p q : ℕ) : Type 0 where
+  pub few : q ≤ PROCESSES
+  pub missing : IsFalse (is_in reached q)
+  pub leads : Leads p q
+
+-- each number that p leads to is in the set
+abbrev pub LeadsInside : (ℕ → ℕ → Type 0) → List Bool → ℕ → Type 0
+LeadsInside Leads reached p = (q : ℕ) → q ≤ PROCESSES → Leads p q → IsTrue (is_in reached q)

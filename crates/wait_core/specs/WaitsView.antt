@@ -7,7 +7,7 @@ use Rattle.wait_core.specs.declared.Wait.{Wait}
 use Rattle.wait_core.specs.declared.waits.Waits.{Waits}
 use Rattle.wait_core.specs.Locks.{Locks}
 use Rattle.wait_core.specs.Cycles.{WaitsFor}
-use Rattle.wait_core.specs.Pairs.{pair_in}
+use Rattle.wait_core.specs.PairsView.{pair_in}
 
 -- the waits in order of arrival
 unfoldable pub waits_of : Waits → List Wait
@@ -23,7 +23,7 @@ processes_of waits = waits.processes
 
 -- whether the first process is told to wait for the second by a lock
 unfoldable pub has_pair : Waits → ℕ → ℕ → Bool
-has_pair waits p q = pair_in waits.pairs.items p q
+has_pair waits p q = pair_in waits.pairs p q
 
 -- the wait of a process, of which it has one at most
 abbrev pub wait_of : List Wait → ℕ → Option Wait

@@ -1,9 +1,10 @@
-ghost use Rattle.std.specs.Prelude.{ℕ, ◌≡◌, ◌≢◌, ◌<◌, ◌≤◌, ◌*◌, ◌↔◌, List, [], ◌∷◌, ◌++◌, length, vec_len, vec_capacity, IfOk, IfSome, IfNone, IsTrue, All, AllPairs, Any, slice_get, None, Some, take};
+ghost use Rattle.std.specs.Prelude.{ℕ, ◌≡◌, ◌≢◌, ◌<◌, ◌≤◌, ◌↔◌, List, [], ◌∷◌, ◌++◌, length, vec_capacity, IfOk, IfSome, IfNone, IsTrue, All, AllPairs, Any, slice_get, None, Some, take};
+ghost use Rattle.wait_core.specs.declared.pairs.TheConstants.{PROCESSES};
 ghost use Rattle.wait_core.specs.WellFormed.{IsWellFormed};
 
 mod cycles;
 
-use crate::pairs::{NUMBERS, forget, tell};
+use crate::pairs::Pairs;
 use crate::{Policy, Wait};
 use lock_book::Book;
 use range_core::Memory;
@@ -16,12 +17,11 @@ use std::alloc::Global;
 #[derive(Drop)]
 pub struct Waits {
     waits: Vec<Wait>,
-    pairs: Vec<bool>,
+    pairs: Pairs,
     policy: Policy,
     processes: u8,
-    ghost few: { processes ≤ 64 },
+    ghost few: { processes ≤ PROCESSES },
     ghost room: { processes ≤ vec_capacity waits },
-    ghost table: { vec_len pairs ≡ 65 * 65 },
     ghost well_formed: { All (IsWellFormed processes) waits.items },
     ghost apart: { AllPairs (λ v w. v.p ≢ w.p) waits.items },
 }
@@ -44,12 +44,9 @@ impl Waits {
         let Ok(waits) = Vec::with_capacity(alloc, usize::from(processes)) else {
             return Err(Memory);
         };
-        let Ok(pairs) = Vec::from_elem(alloc, false, NUMBERS * NUMBERS) else {
-            return Err(Memory);
-        };
         Ok(Waits {
             waits,
-            pairs,
+            pairs: Pairs::new(alloc)?,
             policy,
             processes,
         })
@@ -67,7 +64,7 @@ impl Waits {
         ensures told { AreTold self.new (locks_of books.now) }
     {
         self.waits.push_reserved(wait);
-        tell(&mut self.pairs, &self.waits, books);
+        self.pairs.tell(&self.waits, books);
     }
 
     /// Takes the wait of the process out of the list, where it has one.
@@ -81,7 +78,7 @@ impl Waits {
     {
         let wait = self.of(p);
         self.waits.retain(|wait| wait.p != p);
-        forget(&mut self.pairs, p);
+        self.pairs.forget(p);
         wait
     }
 
@@ -94,7 +91,7 @@ impl Waits {
         ensures told { (locks : Locks) → AreTold self.old locks → AgreeBut file locks (locks_of books.now) → AreTold self.new (locks_of books.now) }
     {
         if self.waits_on(file) {
-            tell(&mut self.pairs, &self.waits, books);
+            self.pairs.tell(&self.waits, books);
         }
     }
 

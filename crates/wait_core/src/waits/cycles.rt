@@ -1,12 +1,12 @@
 ghost use Rattle.std.specs.Prelude.{ℕ, ◌≡◌, ◌<◌, ◌≤◌, ◌↔◌, Some, length, slice_get, IfSome, IfNone, IsTrue};
 ghost use Rattle.wait_core.specs.Locks.{Locks, locks_of};
 ghost use Rattle.wait_core.specs.Cycles.{ClosesCycle, IsBlockedByProcess, IsTraditional, WaitsFor};
-ghost use Rattle.wait_core.specs.Pairs.{is_in, IsClosed, IsBehind, IsNewlyReached, WaitsBehind};
+ghost use Rattle.wait_core.specs.Pairs.{is_in, IsClosed, IsBehind, IsNewlyReached, LeadsInside, LeadsOutside, WaitsBehind};
 ghost use Rattle.wait_core.specs.WellFormed.{IsWellFormed};
 ghost use Rattle.wait_core.specs.WaitsView.{waits_of, policy_of, processes_of, AreTold};
 
 use super::Waits;
-use crate::pairs::{NUMBERS, has};
+use crate::pairs::{NUMBERS, PROCESSES};
 use crate::{Policy, Wait};
 use lock_book::Book;
 
@@ -35,11 +35,11 @@ impl Waits {
     fn blockers(&self, wait: &Wait, books: &[Book]) -> [bool; NUMBERS]
         requires well_formed { IsWellFormed (processes_of self.now) wait.now }
         requires books { length books.now ≡ 64 }
-        ensures { (q : ℕ) → q ≤ 64 → IsTrue (is_in result q) ↔ IsBlockedByProcess (policy_of self.now) (locks_of books.now) (waits_of self.now) wait.now q }
+        ensures { (q : ℕ) → q ≤ PROCESSES → IsTrue (is_in result q) ↔ IsBlockedByProcess (policy_of self.now) (locks_of books.now) (waits_of self.now) wait.now q }
     {
         let mut blockers = [false; NUMBERS];
-        for q in 0..NUMBERS {
-            blockers[q] = self.is_blocked_by(q as u8, wait, books);
+        for q in 0..=PROCESSES {
+            blockers[usize::from(q)] = self.is_blocked_by(q, wait, books);
         }
         blockers
     }
@@ -56,14 +56,30 @@ impl Waits {
 
     /// A process that isn't reached yet, for which one that is reached waits; `None` where there is no more.
     fn newly_reached(&self, reached: &[bool]) -> Option<usize>
-        requires { length reached.now ≡ 65 }
+        requires { length reached.now ≡ NUMBERS }
         ensures next { IfSome result (λ q. (locks : Locks) → AreTold self.now locks → IsNewlyReached (WaitsFor (policy_of self.now) locks (waits_of self.now)) reached.now q) }
         ensures closed { IfNone result ((locks : Locks) → AreTold self.now locks → IsClosed (WaitsFor (policy_of self.now) locks (waits_of self.now)) reached.now) }
     {
-        for i in 0..NUMBERS * NUMBERS {
-            let (p, q) = (i / NUMBERS, i % NUMBERS);
-            if reached[p] && !reached[q] && self.waits_for(p as u8, q as u8) {
+        for p in 0..=PROCESSES {
+            if reached[usize::from(p)]
+                && let Some(q) = self.newly_reached_from(p, reached)
+            {
                 return Some(q);
+            }
+        }
+        None
+    }
+
+    /// A process that isn't reached yet, for which process `p` waits; `None` where there is none.
+    fn newly_reached_from(&self, p: u8, reached: &[bool]) -> Option<usize>
+        requires process { p ≤ PROCESSES }
+        requires set { length reached.now ≡ NUMBERS }
+        ensures next { IfSome result (λ q. (locks : Locks) → AreTold self.now locks → LeadsOutside (WaitsFor (policy_of self.now) locks (waits_of self.now)) reached.now p q) }
+        ensures closed { IfNone result ((locks : Locks) → AreTold self.now locks → LeadsInside (WaitsFor (policy_of self.now) locks (waits_of self.now)) reached.now p) }
+    {
+        for q in 0..=PROCESSES {
+            if !reached[usize::from(q)] && self.waits_for(p, q) {
+                return Some(usize::from(q));
             }
         }
         None
@@ -71,11 +87,11 @@ impl Waits {
 
     /// Whether process `p` waits for process `q`.
     fn waits_for(&self, p: u8, q: u8) -> bool
-        requires first { p ≤ 64 }
-        requires second { q ≤ 64 }
+        requires first { p ≤ PROCESSES }
+        requires second { q ≤ PROCESSES }
         ensures { (locks : Locks) → AreTold self.now locks → IsTrue result ↔ WaitsFor (policy_of self.now) locks (waits_of self.now) p q }
     {
-        has(&self.pairs, p, q) || self.policy == Policy::Queue && self.waits_behind(p, q)
+        self.pairs.has(p, q) || self.policy == Policy::Queue && self.waits_behind(p, q)
     }
 
     /// Whether process `p` has a traditional wait behind one of process `q` that conflicts with it.

@@ -6,7 +6,7 @@ use Rattle.wait_core.specs.declared.Wait.{Wait}
 use Rattle.wait_core.specs.WellFormed.{IsWellFormed}
 use Rattle.wait_core.specs.WaitsView.{waits_of, processes_of, has_pair}
 use Rattle.wait_core.proofs.ListLemmas.{none_of, room_for}
-use Rattle.wait_core.proofs.PairLemmas.{told, in_vec}
+use Rattle.wait_core.proofs.PairLemmas.{told}
 use Rattle.wait_core.proofs.waits.Waits.join.Goals as goal
 
 pub push_reserved-requires : goal.push_reserved-requires
@@ -25,7 +25,6 @@ invariant_of-self c =
     let self = c.args.self.now in record {
       few = self.few;
       room = (let room : self.processes ≤ vec_capacity c.push_reserved.new.self = rw c.push_reserved.ensures.capacity self.room in room);
-      table = self.table;
       well_formed = (λ k d within. let items = c.push_reserved.ensures.items in
           let all = All-push (IsWellFormed self.processes) self.waits.items c.args.wait self.well_formed c.requires.well_formed in
           rw items (all k d (rw items at within)));
@@ -37,9 +36,4 @@ invariant_of-self c =
 
 pub returns-clause-told : goal.returns-clause-told
 unfolding waits_of has_pair
-returns-clause-told c =
-    let len : length c.tell.new.pairs ≡ vec_len c.args.self.now.pairs = omega (arith, c.deref_mut.ensures.len, c.tell.auto.pairs) in
-    told _ _ (λ p q p_few q_few.
-    let tells = c.tell.ensures p q p_few q_few in
-    let same = in_vec c.args.self.now.pairs c.tell.new.pairs len p q in
-    rw same (rw c.deref.ensures.value at tells))
+returns-clause-told c = told _ _ (λ p q p_few q_few. rw c.deref.ensures.value at (c.tell.ensures p q p_few q_few))

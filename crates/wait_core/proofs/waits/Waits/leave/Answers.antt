@@ -1,14 +1,14 @@
-use Rattle.std.proofs.Common.{◌≡◌, ◌≢◌, ◌≤◌, arith, rules, not, length}
+use Rattle.std.proofs.Common.{◌≡◌, ◌≢◌, ◌≤◌, rules, not}
 use Rattle.std.specs.Prelude.{◌==◌}
 use Rattle.std.specs.List.{filter}
-use Rattle.std.specs.Vec.{vec_len, vec_capacity}
+use Rattle.std.specs.Vec.{vec_capacity}
 use Rattle.std.proofs.lemmas.Fn.{filter_same}
 use Rattle.std.proofs.lemmas.List.Elements.{All-filter}
 use Rattle.std.proofs.lemmas.List.Kept.{AllPairs-filter}
 use Rattle.wait_core.specs.declared.Wait.{Wait}
 use Rattle.wait_core.specs.WellFormed.{IsWellFormed}
 use Rattle.wait_core.specs.WaitsView.{waits_of, has_pair}
-use Rattle.wait_core.proofs.PairLemmas.{told-leave, in_vec}
+use Rattle.wait_core.proofs.PairLemmas.{told-leave}
 use Rattle.wait_core.proofs.waits.Waits.leave.Goals as goal
 
 pub invariant_of-self : goal.invariant_of-self
@@ -19,7 +19,6 @@ invariant_of-self c =
     record {
       few = self.few;
       room = (let room : self.processes ≤ vec_capacity c.retain.new.self = rw c.retain.ensures.capacity self.room in room);
-      table = self.table;
       well_formed = (λ k d within. rw rest (All-filter (λ (wait : Wait). not (wait.p == c.args.p)) (IsWellFormed self.processes) self.waits.items self.well_formed k d (rw rest at within)));
       apart = (λ i j d before within. rw rest (AllPairs-filter (λ (v w : Wait). v.p ≢ w.p) (λ (wait : Wait). not (wait.p == c.args.p)) self.waits.items self.apart i j d before (rw rest at within)));
     }
@@ -31,9 +30,4 @@ returns-clause-rest c = filter_same _ _ _ (λ x b f' k. search rules) _ _ c.reta
 pub returns-clause-told : goal.returns-clause-told
 unfolding waits_of has_pair
 returns-clause-told c locks was =
-    let len : length c.forget.new.pairs ≡ vec_len c.args.self.now.pairs = omega (arith, c.deref_mut.ensures.len, c.forget.auto.pairs) in
-    let same = in_vec c.args.self.now.pairs c.forget.new.pairs len in
-    told-leave c.args.self.now _ locks c.args.p (returns-clause-rest c)
-    (λ q few. rw (same c.args.p q) (c.forget.ensures.forgotten q few))
-    (λ p q other few. rw (same p q) (rw c.deref_mut.ensures.value at (c.forget.ensures.others p q other few)))
-    was
+    told-leave c.args.self.now _ locks c.args.p (returns-clause-rest c) c.forget.ensures.forgotten c.forget.ensures.others was

@@ -1,18 +1,12 @@
-use Rattle.std.proofs.Common.{◌≡◌, arith, length}
-use Rattle.std.specs.Vec.{vec_len}
 use Rattle.wait_core.specs.Locks.{locks_of}
 use Rattle.wait_core.specs.WaitsView.{waits_of, has_pair}
-use Rattle.wait_core.proofs.PairLemmas.{told, told-elsewhere, in_vec}
+use Rattle.wait_core.proofs.PairLemmas.{told, told-elsewhere}
 use Rattle.wait_core.proofs.waits.Waits.refresh.Goals as goal
 
 pub returns-then-waits_on-clause-told : goal.returns-then-waits_on-clause-told
 unfolding waits_of has_pair
 returns-then-waits_on-clause-told c locks was agree =
-    let len : length c.tell.new.pairs ≡ vec_len c.args.self.now.pairs = omega (arith, c.deref_mut.ensures.len, c.tell.auto.pairs) in
-    told _ _ (λ p q p_few q_few.
-    let tells = c.tell.ensures p q p_few q_few in
-    let same = in_vec c.args.self.now.pairs c.tell.new.pairs len p q in
-    rw same (rw c.deref.ensures.value at tells))
+    told _ _ (λ p q p_few q_few. rw c.deref.ensures.value at (c.tell.ensures p q p_few q_few))
 
 pub returns-else-waits_on-clause-told : goal.returns-else-waits_on-clause-told
 unfolding waits_of

@@ -10,5 +10,5 @@ pub returns-then-eq : goal.returns-then-eq
 unfolding waits_of policy_of has_pair
 returns-then-eq c locks told =
     let queue : c.args.self.now.policy ≡ Queue = same_true the_type (search rules) _ _ (sym c.if-eq.ensures) in
-    let none : has_pair c.args.self.now c.args.p c.args.q ≡ false = sym (rw c.deref.ensures.value at c.has.ensures) ∙ c.if-has.false in
+    let none : has_pair c.args.self.now c.args.p c.args.q ≡ false = sym c.has.ensures ∙ c.if-has.false in
     waits_behind_alone _ c.args.self.now locks c.args.p c.args.q c.waits_behind.result c.requires.first c.requires.second queue none c.waits_behind.ensures told
