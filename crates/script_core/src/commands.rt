@@ -47,6 +47,7 @@ pub fn read_command(limits: Limits, name: &str, arguments: &[&str]) -> Result<Re
     }
 }
 
+/// The arguments of open: FILE ACCESS.
 fn read_open(arguments: &[&str]) -> Result<Request, Cause>
     ensures { (limits : Limits) → CommandGives limits (codes "open" ∷ texts arguments.now) open_command (texts arguments.now) result }
 {
@@ -80,6 +81,7 @@ fn read_descriptor_and_number(arguments: &[&str]) -> Result<(u32, i64), Cause>
     }
 }
 
+/// The arguments of dup2: FD FD.
 fn read_dup_to(arguments: &[&str]) -> Result<Request, Cause>
     ensures { (limits : Limits) → CommandGives limits (codes "dup2" ∷ texts arguments.now) dup_to_command (texts arguments.now) result }
 {
@@ -102,6 +104,7 @@ fn read_process_alone(limits: Limits, arguments: &[&str]) -> Result<u8, Cause>
     }
 }
 
+/// The arguments of exit: none.
 fn read_exit(arguments: &[&str]) -> Result<Request, Cause>
     ensures { (limits : Limits) → CommandGives limits (codes "exit" ∷ texts arguments.now) exit_command (texts arguments.now) result }
 {

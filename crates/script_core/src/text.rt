@@ -35,9 +35,10 @@ pub fn push_held(text: &mut String, held: &Held) -> Result<(), AllocError>
     ensures { OnOk result (string_bytes text.new ≡ string_bytes text.old ++ held_line held.now) }
 {
     push_held_text(text, held)?;
-    text.push_str("\n")
+    text.push('\n')
 }
 
+/// Appends what is held, without the end of the line.
 fn push_held_text(text: &mut String, held: &Held) -> Result<(), AllocError>
     ensures { OnOk result (string_bytes text.new ≡ string_bytes text.old ++ held_text held.now) }
 {
@@ -58,7 +59,7 @@ pub fn push_wait(text: &mut String, wait: &Wait) -> Result<(), AllocError>
     let (p, n) = (wait.p, wait.n);
     write!(text, "wait {p}#{n} ")?;
     push_wanted(text, wait)?;
-    text.push_str("\n")
+    text.push('\n')
 }
 
 /// The lock that a wait is for.
@@ -126,6 +127,7 @@ pub fn push_process(text: &mut String, line: &ProcessLine) -> Result<(), AllocEr
     writeln!(text, " {state}")
 }
 
+/// Appends how many requests of the process were sent, taken and answered.
 fn push_counts(text: &mut String, line: &ProcessLine) -> Result<(), AllocError>
     ensures { OnOk result (string_bytes text.new ≡ string_bytes text.old ++ counts_text line.now) }
 {
@@ -133,6 +135,7 @@ fn push_counts(text: &mut String, line: &ProcessLine) -> Result<(), AllocError>
     write!(text, "sent {sent} taken {taken} answered {answered}")
 }
 
+/// Appends a request: its command and its arguments, with one space between words.
 fn push_request(text: &mut String, request: &Request) -> Result<(), AllocError>
     ensures { OnOk result (string_bytes text.new ≡ string_bytes text.old ++ request_text request.now) }
 {
@@ -195,6 +198,7 @@ fn push_nb(text: &mut String, nb: bool) -> Result<(), AllocError>
     if nb { text.push_str(" nb") } else { Ok(()) }
 }
 
+/// Appends a note: the request that it is about, and what it tells of it.
 fn push_note(text: &mut String, note: &Note) -> Result<(), AllocError>
     ensures { OnOk result (string_bytes text.new ≡ string_bytes text.old ++ note_text note.now) }
 {
@@ -207,6 +211,7 @@ fn push_note(text: &mut String, note: &Note) -> Result<(), AllocError>
     }
 }
 
+/// Appends a reply.
 fn push_reply(text: &mut String, reply: Reply) -> Result<(), AllocError>
     ensures { OnOk result (string_bytes text.new ≡ string_bytes text.old ++ reply_text reply) }
 {
@@ -227,6 +232,7 @@ fn push_reply(text: &mut String, reply: Reply) -> Result<(), AllocError>
     }
 }
 
+/// Appends an owner: a process or an open file description, with its number.
 fn push_owner(text: &mut String, owner: Owner) -> Result<(), AllocError>
     ensures { OnOk result (string_bytes text.new ≡ string_bytes text.old ++ owner_text owner) }
 {
@@ -236,6 +242,7 @@ fn push_owner(text: &mut String, owner: Owner) -> Result<(), AllocError>
     }
 }
 
+/// The word of a lock command.
 fn command_word(cmd: LkCmd) -> &'static str
     ensures { result.now ≡ spec.lock_command_word cmd }
 {
@@ -249,6 +256,7 @@ fn command_word(cmd: LkCmd) -> &'static str
     }
 }
 
+/// The word of an access mode.
 fn access_word(access: Access) -> &'static str
     ensures { result.now ≡ spec.access_word access }
 {
@@ -259,6 +267,7 @@ fn access_word(access: Access) -> &'static str
     }
 }
 
+/// The word of what a lock description asks for.
 fn kind_word(kind: Kind) -> &'static str
     ensures { result.now ≡ spec.kind_word kind }
 {
@@ -269,6 +278,7 @@ fn kind_word(kind: Kind) -> &'static str
     }
 }
 
+/// The word of what the start of a range is counted from.
 fn whence_word(whence: Whence) -> &'static str
     ensures { result.now ≡ spec.whence_word whence }
 {
@@ -279,6 +289,7 @@ fn whence_word(whence: Whence) -> &'static str
     }
 }
 
+/// The word of an operation of flock.
 fn op_word(op: FlockOp) -> &'static str
     ensures { result.now ≡ spec.op_word op }
 {
@@ -289,6 +300,7 @@ fn op_word(op: FlockOp) -> &'static str
     }
 }
 
+/// The word of the mode of a byte lock.
 fn mode_word(mode: Mode) -> &'static str
     ensures { result.now ≡ spec.mode_word mode }
 {
@@ -298,6 +310,7 @@ fn mode_word(mode: Mode) -> &'static str
     }
 }
 
+/// The word of the mode of a flock lock.
 fn flock_word(mode: Mode) -> &'static str
     ensures { result.now ≡ report_spec.flock_word mode }
 {
@@ -307,6 +320,7 @@ fn flock_word(mode: Mode) -> &'static str
     }
 }
 
+/// The error's name in `<errno.h>`.
 fn error_name(error: Errno) -> &'static str
     ensures { result.now ≡ entry_spec.error_name error }
 {
@@ -322,6 +336,7 @@ fn error_name(error: Errno) -> &'static str
     }
 }
 
+/// The word of where a process stands.
 fn state_word(state: ProcState) -> &'static str
     ensures { result.now ≡ report_spec.state_word state }
 {
