@@ -1,5 +1,5 @@
--- The arrivals of a script are of its processes.
-use Rattle.std.proofs.Common.{ℕ, ◌≡◌, refl, sym, subst, Bool, true, false, List, [], ◌∷◌, inl, inr, Result, Ok, Err, All}
+-- The arrivals of a script: they are of its processes, and no more than its lines.
+use Rattle.std.proofs.Common.{ℕ, ◌≡◌, ◌≤◌, ap, arith, length-append, refl, sym, subst, Bool, true, false, List, [], ◌∷◌, inl, inr, Result, Ok, Err, All}
 use Rattle.std.proofs.lemmas.List.Elements.{All-push, All-nil}
 use Rattle.fd_table.specs.declared.Limits.{Limits}
 use Rattle.fd_table.specs.declared.Limits.TheVariants.{Small}
@@ -11,9 +11,13 @@ use Rattle.script_core.specs.declared.script.Cause.TheVariants.{Byte, Process, T
 use Rattle.script_core.specs.declared.script.ScriptFault.{ScriptFault}
 use Rattle.script_core.specs.ScriptText.{Meaning, IsProcess}
 use Rattle.script_core.specs.Reading.{Reading, start, limits_of, meaning_of, reading_after, is_comment, is_empty, says_policy, says_limits, ArrivalGives, PolicyGives, LimitsGive, ProcessGives, WordsGive, LineGives, LinesGive, Reads}
-use Rattle.script_core.specs.Words.{words_of, is_printable, lines_of}
+use Rattle.script_core.specs.Words.{words_of, is_printable, lines_of, without_empty_end}
 use Rattle.script_core.specs.declared.TheConstants.{LINE_MAX, SCRIPT_MAX}
-use Rattle.std.specs.Prelude.{nat_lt, length, MatchBool, ◌+◌, ◌&&◌, codes, bytes_eq, is_none}
+use Rattle.std.specs.List.{slice_split}
+use Rattle.std.proofs.lemmas.Bool.{ltb-false}
+use Rattle.std.proofs.lemmas.List.Sums.{count_by-le-length}
+use Rattle.std.proofs.lemmas.List.Splits.{length-slice_split}
+use Rattle.std.specs.Prelude.{nat_lt, length, MatchBool, ◌+◌, ◌==◌, ◌&&◌, codes, bytes_eq, is_none}
 
 -- each arrival is of a process that the limits have
 abbrev AreOfProcesses : Reading → Type 0
@@ -115,3 +119,42 @@ pub processes_read : (bytes : List ℕ) (meaning : Meaning) → Reads bytes (Ok 
 processes_read bytes meaning reads =
     join_by (nat_lt SCRIPT_MAX (length bytes)) _ _ (All (λ arrival. IsProcess meaning.rules.limits arrival.0) meaning.arrivals)
     (λ e long. absurd (cc)) (of_lines 1 start (lines_of bytes) meaning (All-nil (λ arrival. IsProcess Small arrival.0))) reads
+
+-- a line is one arrival at most
+grows : (reading : Reading) (said : Line) → length (reading_after reading said).arrivals ≤ length reading.arrivals + 1
+grows reading lines.Skipped = omega arith
+grows reading (lines.Policy policy) = omega arith
+grows reading (lines.Limits limits) = omega arith
+grows reading (lines.Arrival p request) = omega (arith, length-append reading.arrivals ((p, request) ∷ []))
+
+few_in : (number : ℕ) (reading : Reading) (lines : List (List ℕ)) (meaning : Meaning) → LinesGive number reading lines (Ok meaning)
+    → length meaning.arrivals ≤ length reading.arrivals + length lines
+few_in number reading [] meaning gives =
+    let same : length meaning.arrivals ≡ length reading.arrivals = ap (λ (m : Meaning). length m.arrivals) (success meaning (meaning_of reading) gives) in omega (arith, same)
+few_in number reading (line ∷ rest) meaning (Ok said, gives, more) =
+    let later = few_in (number + 1) (reading_after reading said) rest meaning more in
+    let one = grows reading said in omega (arith, later, one)
+few_in number reading (line ∷ rest) meaning (Err cause, gives, refused) = absurd (cc)
+
+fewer_lines : (pieces : List (List ℕ)) → length (without_empty_end pieces) ≤ length pieces
+fewer_lines [] = omega arith
+fewer_lines ([] ∷ []) = omega arith
+fewer_lines ((byte ∷ bytes) ∷ []) = omega arith
+fewer_lines ([] ∷ next ∷ pieces) = let rest = fewer_lines (next ∷ pieces) in omega (arith, rest)
+fewer_lines ((byte ∷ bytes) ∷ next ∷ pieces) = let rest = fewer_lines (next ∷ pieces) in omega (arith, rest)
+
+few_by_length : (bytes : List ℕ) (meaning : Meaning) (long : Bool) → nat_lt SCRIPT_MAX (length bytes) ≡ long
+    → MatchBool long (accepted meaning ≡ Err (record { line = 0; cause = TooLong })) (LinesGive 1 start (lines_of bytes) (Ok meaning))
+    → length meaning.arrivals ≤ SCRIPT_MAX + 1
+few_by_length bytes meaning true is refused = absurd (cc)
+few_by_length bytes meaning false is given =
+    let short : length bytes ≤ SCRIPT_MAX = ltb-false SCRIPT_MAX (length bytes) is in
+    let lines = few_in 1 start (lines_of bytes) meaning given in
+    let pieces = fewer_lines (slice_split (λ byte. byte == 10) bytes) in
+    let feeds = count_by-le-length (λ byte. byte == 10) bytes in
+    let split = length-slice_split (λ byte. byte == 10) bytes in
+    omega (arith, short, lines, pieces, feeds, split)
+
+-- the arrivals of an accepted script are no more than its lines, and those no more than its bytes and one
+pub few_read : (bytes : List ℕ) (meaning : Meaning) → Reads bytes (Ok meaning) → length meaning.arrivals ≤ SCRIPT_MAX + 1
+few_read bytes meaning reads = few_by_length bytes meaning (nat_lt SCRIPT_MAX (length bytes)) refl reads

@@ -1,4 +1,5 @@
-ghost use Rattle.std.specs.Prelude.{◌≡◌, ◌≢◌, ◌⊎◌, ◌==◌, ℕ, List, [], ◌∷◌, ◌++◌, All, Ok, Err, IfOk, IfErr};
+ghost use Rattle.std.specs.Prelude.{◌≡◌, ◌≢◌, ◌≤◌, ◌+◌, ◌⊎◌, ◌==◌, ℕ, List, [], ◌∷◌, ◌++◌, All, Ok, Err, IfOk, IfErr, length};
+ghost use Rattle.script_core.specs.declared.TheConstants.{SCRIPT_MAX};
 ghost use Rattle.std.specs.List.{slice_split};
 ghost use Rattle.script_core.specs.Reading.{Reads, HasOneReading, LinesGive, start};
 ghost use Rattle.script_core.specs.ScriptText.{IsProcess};
@@ -75,6 +76,9 @@ pub fn parse(alloc: Global, bytes: &[u8]) -> Result<Script, ScriptFault>
 
     // Each arrival is of a process that the script's limits have.
     ensures processes { IfOk result (λ script. All (λ arrival. IsProcess script.rules.limits arrival.0) script.arrivals) }
+
+    // There are no more arrivals than a script has lines.
+    ensures few { IfOk result (λ script. length script.arrivals ≤ SCRIPT_MAX + 1) }
 
     // The bytes have no other reading.
     ensures determined { HasOneReading bytes.now }

@@ -1,5 +1,5 @@
 use Rattle.std.proofs.lemmas.Result.{IfOk-weaker, IfErr-weaker}
-use Rattle.script_core.proofs.ProcessLemmas.{processes_read}
+use Rattle.script_core.proofs.ProcessLemmas.{processes_read, few_read}
 use Rattle.script_core.proofs.ScriptLemmas.{reads_from_pieces}
 use Rattle.script_core.proofs.script.parse.Goals as goal
 
@@ -15,4 +15,10 @@ pub returns-clause-processes : goal.returns-clause-processes
 returns-clause-processes c =
     IfOk-weaker c.read_lines.result _ _
     (λ script given. processes_read c.args.bytes.now script (reads_from_pieces c.args.bytes.now c.without_last_feed.result.now _ c.if-bytes-gt-SCRIPT_MAX.false c.without_last_feed.ensures given))
+    c.read_lines.ensures.accepted
+
+pub returns-clause-few : goal.returns-clause-few
+returns-clause-few c =
+    IfOk-weaker c.read_lines.result _ _
+    (λ script given. few_read c.args.bytes.now script (reads_from_pieces c.args.bytes.now c.without_last_feed.result.now _ c.if-bytes-gt-SCRIPT_MAX.false c.without_last_feed.ensures given))
     c.read_lines.ensures.accepted
