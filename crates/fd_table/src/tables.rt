@@ -34,18 +34,18 @@ struct Opened {
     file: u8,
     access: Access,
     offset: u64,
-    // How many descriptors of all processes refer to it.
+    /// How many descriptors of all processes refer to it.
     users: u64,
 }
 
 /// The descriptors of all processes.
 #[derive(Drop)]
 pub struct Tables {
-    // One for each process, by its number: process numbers begin at 1, so the first is never used.
+    /// One for each process, by its number: process numbers begin at 1, so the first is never used.
     rows: Vec<Row>,
     opened: Slab<Opened>,
     sizes: [u64; FILE_COUNT],
-    // How many descriptions were ever made.
+    /// How many descriptions were ever made.
     made: u64,
     processes: u8,
     limits: Limits,
@@ -294,21 +294,21 @@ impl Tables {
         Ok(())
     }
 
-    // The key of the description that the descriptor refers to, if it is open.
+    /// The key of the description that the descriptor refers to, if it is open.
     fn key_at(&self, p: u8, fd: u32) -> Option<usize>
         ensures { result ≡ key_at self.now.rows.items p fd }
     {
         self.rows.get(usize::from(p))?.get(fd as usize)
     }
 
-    // The description that the descriptor refers to, if it is open.
+    /// The description that the descriptor refers to, if it is open.
     fn opened_at(&self, p: u8, fd: u32) -> Option<Opened>
         ensures { result ≡ opened_in self.now.rows.items self.now.opened p fd }
     {
         self.opened.get(self.key_at(p, fd)?).copied()
     }
 
-    // The lowest closed descriptor of the process, if there is one.
+    /// The lowest closed descriptor of the process, if there is one.
     fn lowest_free(&self, p: u8) -> Option<u32>
         ensures some { IfSome result (IsLowestClosed (row_at self.now.rows.items p)) }
         ensures none { IfNone result (AreAllOpen (row_at self.now.rows.items p)) }
@@ -317,7 +317,7 @@ impl Tables {
         Some(fd as u32)
     }
 
-    // Makes a closed descriptor refer to what an open one refers to.
+    /// Makes a closed descriptor refer to what an open one refers to.
     fn share(&mut self, p: u8, from: u32, to: u32)
         requires open { IsSome (key_at self.old.rows.items p from) }
         requires closed { key_at self.old.rows.items p to ≡ None }
@@ -332,7 +332,7 @@ impl Tables {
         }
     }
 
-    // Closes the descriptor, if it is open.
+    /// Closes the descriptor, if it is open.
     fn close_one(&mut self, p: u8, fd: u32) -> Option<Closed>
         ensures step { (D : Descriptors) → StandFor self.old D → IsClosing D p fd result × StandFor self.new (without_one D p fd) }
         ensures rows { WithKey self.old.rows.items self.new.rows.items p fd None }
