@@ -74,10 +74,10 @@ reached_closes policy locks waits wait own reached = record {
 
 -- a closed set has the end of each chain from one of its numbers
 pub closed_chain : (R : ℕ → ℕ → Type 0) (set : List Bool) → ((p q : ℕ) → R p q → p ≤ 64) → IsClosed R set → (p : ℕ) (through : List ℕ) (q : ℕ) → q ≤ 64 → IsTrue (is_in set p) → IsChain R p through q → IsTrue (is_in set q)
-closed_chain R set few closed p [] q q_few known chain = closed p q (few p q chain) q_few known chain
+closed_chain R set few closed p [] q q_few known chain = closed p (few p q chain) known q q_few chain
 closed_chain R set few closed p (next ∷ through) q q_few known chain =
     closed_chain R set few closed next through q q_few
-    (closed p next (few p next chain.0) (chain_start R (λ n. n ≤ 64) few next through q chain.1) known chain.0) chain.1
+    (closed p (few p next chain.0) known next (chain_start R (λ n. n ≤ 64) few next through q chain.1) chain.0) chain.1
 
 -- so a wait that closes a cycle has its process in the set
 pub closes_reached : (policy : Policy) (locks : Locks) (waits : List Wait) (wait : Wait) (reached : List Bool) (processes : ℕ) → processes ≤ 64 → All (IsWellFormed processes) waits → wait.p ≤ processes → ((q : ℕ) → q ≤ 64 → IsBlockedByProcess policy locks waits wait q → IsTrue (is_in reached q)) → IsClosed (WaitsFor policy locks waits) reached → ClosesCycle policy locks waits wait → IsTrue (is_in reached wait.p)

@@ -35,19 +35,6 @@ pub record WaitsBehind (waits : List Wait) (p q : ℕ) : Type 0 where
   pub there : slice_get waits place ≡ Some wait
   pub is : IsBehind waits p q place wait
 
--- the number isn't in the set, and some number in it leads to it
-pub record IsNewlyReached (Leads : ℕ → ℕ → Type 0) (reached : List Bool) (q : ℕ) : Type 0 where
-  pub few : q ≤ PROCESSES
-  pub missing : IsFalse (is_in reached q)
-  pub p : ℕ
-  pub p_few : p ≤ PROCESSES
-  pub known : IsTrue (is_in reached p)
-  pub leads : Leads p q
-
--- each number that one in the set leads to is in the set
-abbrev pub IsClosed : (ℕ → ℕ → Type 0) → List Bool → Type 0
-IsClosed Leads reached = (p q : ℕ) → p ≤ PROCESSES → q ≤ PROCESSES → IsTrue (is_in reached p) → Leads p q → IsTrue (is_in reached q)
-
 -- the number p leads to q, which isn't in the set
 pub record LeadsOutside (Leads : ℕ → ℕ → Type 0) (reached : List Bool) (p q : ℕ) : Type 0 where
   pub few : q ≤ PROCESSES
@@ -57,3 +44,14 @@ pub record LeadsOutside (Leads : ℕ → ℕ → Type 0) (reached : List Bool) (
 -- each number that p leads to is in the set
 abbrev pub LeadsInside : (ℕ → ℕ → Type 0) → List Bool → ℕ → Type 0
 LeadsInside Leads reached p = (q : ℕ) → q ≤ PROCESSES → Leads p q → IsTrue (is_in reached q)
+
+-- some number in the set leads to q, which isn't in it
+pub record IsNewlyReached (Leads : ℕ → ℕ → Type 0) (reached : List Bool) (q : ℕ) : Type 0 where
+  pub p : ℕ
+  pub p_few : p ≤ PROCESSES
+  pub known : IsTrue (is_in reached p)
+  pub outside : LeadsOutside Leads reached p q
+
+-- each number that one in the set leads to is in the set
+abbrev pub IsClosed : (ℕ → ℕ → Type 0) → List Bool → Type 0
+IsClosed Leads reached = (p : ℕ) → p ≤ PROCESSES → IsTrue (is_in reached p) → LeadsInside Leads reached p

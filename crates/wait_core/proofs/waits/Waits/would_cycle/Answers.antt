@@ -12,13 +12,13 @@ loop-next-preserved c =
     let set = c.loop-next.reached in
     let next = c.in-Some.ensures.next locks (told_known self locks c.requires.told) in
     let count = c.loop-next.invariant.count in
-    let within : c.in-Some.next < length set = (let few = next.few in omega arith) in record {
+    let within : c.in-Some.next < length set = (let few = next.outside.few in omega arith) in record {
       count = length-set _ _ _ ∙ count;
       blockers = λ q few blocked. in_set set c.in-Some.next q within (c.loop-next.invariant.blockers q few blocked);
       reached = λ q few known. elim (from_set set c.in-Some.next q known) [
         | inl same ↦ subst (λ (n : ℕ). IsReached (policy_of self) locks (waits_of self) c.args.wait.now n) (sym same)
             (reach_step (policy_of self) locks (waits_of self) c.args.wait.now next.p c.in-Some.next
-            (c.loop-next.invariant.reached next.p next.p_few next.known) next.leads)
+            (c.loop-next.invariant.reached next.p next.p_few next.known) next.outside.leads)
         | inr old ↦ c.loop-next.invariant.reached q few old
       ];
     }
@@ -29,7 +29,7 @@ loop-next-smaller c =
     let locks = locks_of c.args.books.now in
     let next = c.in-Some.ensures.next locks (told_known self locks c.requires.told) in
     let count = c.loop-next.invariant.count in
-    fewer_missing c.loop-next.reached c.in-Some.next (let few = next.few in omega arith) next.missing
+    fewer_missing c.loop-next.reached c.in-Some.next (let few = next.outside.few in omega arith) next.outside.missing
 
 pub returns : goal.returns
 unfolding waits_of processes_of
