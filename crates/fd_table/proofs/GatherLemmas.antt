@@ -13,7 +13,7 @@ use Rattle.fd_table.specs.Released.{Released}
 use Rattle.fd_table.specs.Descriptors.{Descriptors, IsOpen, SameDescriptors, description_numbered, without_descriptors}
 use Rattle.fd_table.specs.Releasing.{AreExactly, ClosesFile, ClosesDescription}
 use Rattle.fd_table.specs.Calls.{EndGives}
-use Rattle.fd_table.specs.Closing.{without_one, IsLastClose, ClosesOne, IsClosing, IsMarked}
+use Rattle.fd_table.specs.Closing.{without_one, TellsLastClose, ClosesOne, IsClosing, IsMarked}
 use Rattle.fd_table.proofs.CallLemmas.{same as same_descriptors}
 use Rattle.fd_table.proofs.ListLemmas.{distinct_push}
 use Rattle.fd_table.proofs.ReleasedLemmas.{open_before, open_after, contains_none}
@@ -223,7 +223,7 @@ pub gathered_shared : (D : Descriptors) (p n : ℕ) (marks : List Bool) (numbers
 gathered_shared D p n marks numbers place closed is inside one last h =
     let before = closed_below D p n in
     let after = closed_below D p (n + 1) in
-    let still_open = subst (IsLastClose (without_one before p n) one.description) last one.last in
+    let still_open = subst (TellsLastClose (without_one before p n) one.description) last one.last in
     record {
       marked = marks_more D p n marks place closed.file one.description is inside (sym (next_open D p n) ∙ one.refers) one.of_file h.marked;
       listed = λ x. (
@@ -247,7 +247,7 @@ pub gathered_last : (D : Descriptors) (p n : ℕ) (marks : List Bool) (numbers :
 gathered_last D p n marks numbers place number closed is inside one last h =
     let before = closed_below D p n in
     let after = closed_below D p (n + 1) in
-    let told = subst (IsLastClose (without_one before p n) one.description) last one.last in
+    let told = subst (TellsLastClose (without_one before p n) one.description) last one.last in
     let refers : D.description_of p n ≡ Some one.description = sym (next_open D p n) ∙ one.refers in
     let was_open : IsOpen before one.description = record { process = p; fd = n; refers = one.refers } in
     record {

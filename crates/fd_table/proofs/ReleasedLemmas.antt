@@ -10,7 +10,7 @@ use Rattle.fd_table.specs.Released.{Released}
 use Rattle.fd_table.specs.Descriptors.{Descriptors, IsOpen, SameDescriptors, description_numbered, with_descriptor}
 use Rattle.fd_table.specs.Releasing.{AreExactly, ClosesFile, ClosesDescription, AreReleased}
 use Rattle.fd_table.specs.Calls.{nothing, MovesTo}
-use Rattle.fd_table.specs.Closing.{without_one, IsLastClose, ClosesOne, IsClosing, released_by}
+use Rattle.fd_table.specs.Closing.{without_one, TellsLastClose, ClosesOne, IsClosing, released_by}
 use Rattle.fd_table.proofs.RowsLemmas.{place_cases}
 use Rattle.fd_table.proofs.CallLemmas.{same as same_descriptors}
 
@@ -51,7 +51,7 @@ open_after D p fd d x refers differs h =
     ]
 
 -- what is closed for good is told as the last
-last_told : (D E : Descriptors) (d : ℕ) (last : Option ℕ) → IsOpen D d → ((x : ℕ) → x ≢ d → IsOpen D x → IsOpen E x) → IsLastClose E d last → AreExactly (option_to_list last) (ClosesDescription D E)
+last_told : (D E : Descriptors) (d : ℕ) (last : Option ℕ) → IsOpen D d → ((x : ℕ) → x ≢ d → IsOpen D x → IsOpen E x) → TellsLastClose E d last → AreExactly (option_to_list last) (ClosesDescription D E)
 last_told D E d None was others h =
     record {
       rising = rising_short [] (omega arith);
@@ -100,7 +100,7 @@ released_one D E p fd closed h same =
           (λ x differs was. (same x).0 (open_after D p fd h.description x h.refers differs was)) (told closed.last h.last);
     }
   where
-    told : (last : Option ℕ) → IsLastClose (without_one D p fd) h.description last → IsLastClose E h.description last
+    told : (last : Option ℕ) → TellsLastClose (without_one D p fd) h.description last → TellsLastClose E h.description last
     told None open_still = (same h.description).0 open_still
     told (Some number) closed_now = (closed_now.0, λ still. closed_now.1 ((same h.description).1 still))
 

@@ -10,16 +10,16 @@ abbrev pub without_one : Descriptors → ℕ → ℕ → Descriptors
 without_one descriptors p fd = without_descriptors descriptors p (λ k. k == fd)
 
 -- it was the last to refer to the description, whose number is told; else another one does
-abbrev pub IsLastClose : Descriptors → ℕ → Option ℕ → Type 0
-IsLastClose after description None = IsOpen after description
-IsLastClose after description (Some number) = (number ≡ description) × ¬ IsOpen after description
+abbrev pub TellsLastClose : Descriptors → ℕ → Option ℕ → Type 0
+TellsLastClose after description None = IsOpen after description
+TellsLastClose after description (Some number) = (number ≡ description) × ¬ IsOpen after description
 
 -- the descriptor was open, with this file, and whether it was the last to refer to its description is told
 pub record ClosesOne (before : Descriptors) (p fd : ℕ) (closed : Closed) : Type 0 where
   pub description : ℕ
   pub refers : before.description_of p fd ≡ Some description
   pub of_file : option_map (λ opened. opened.file) (description_numbered before.descriptions description) ≡ Some closed.file
-  pub last : IsLastClose (without_one before p fd) description closed.last
+  pub last : TellsLastClose (without_one before p fd) description closed.last
 
 -- the descriptor wasn't open, or this is told of it
 abbrev pub IsClosing : Descriptors → ℕ → ℕ → Option Closed → Type 0

@@ -88,7 +88,7 @@ pub record SameLimits (old new : Tables) : Type 0 where
   pub limits : limits_of new ≡ limits_of old
 
 -- the number of processes, the limits, and who was ever alive stay
-pub record SameTables (old new : Tables) : Type 0 where
+pub record SameProcesses (old new : Tables) : Type 0 where
   pub processes : processes_of new ≡ processes_of old
   pub limits : limits_of new ≡ limits_of old
   pub alive : (p : ℕ) → ever_alive new p ≡ ever_alive old p

@@ -62,7 +62,7 @@ impl Tables {
     ghost use Rattle.fd_table.specs.Calls.{OpenGives, OnlyLacksMemory, IsFreeProcess, DupGives, DupToGives, CloseGives, EndGives, ForkGives, SeekGives, ResizeGives};
     ghost use Rattle.fd_table.specs.Closing.{IsClosing, without_one};
     ghost use Rattle.fd_table.specs.Rows.{row_at, key_at, IsLowestClosed, AreAllOpen, WithKey};
-    ghost use Rattle.fd_table.specs.TablesView.{SameLimits, StandFor, processes_of, limits_of, ever_alive, SameTables, IsInRange, opened_in};
+    ghost use Rattle.fd_table.specs.TablesView.{SameLimits, StandFor, processes_of, limits_of, ever_alive, SameProcesses, IsInRange, opened_in};
 
     /// Process 1 alone lives, no descriptor is open and each file is empty. The room for the descriptors of process 1 is
     /// made here (this project's choice).
@@ -107,7 +107,7 @@ impl Tables {
         ensures memory { result ≡ Err FdFault.Memory → (D : Descriptors) → StandFor self.old D →
             OnlyLacksMemory (limits_of self.old) D p file × StandFor self.new D }
         ensures refused { OnErr result ((D : Descriptors) → StandFor self.old D → StandFor self.new D) }
-        ensures kept { SameTables self.old self.new }
+        ensures kept { SameProcesses self.old self.new }
     {
         if file >= FILES {
             return Err(FdFault::Invalid);
@@ -141,7 +141,7 @@ impl Tables {
         ensures step { (D : Descriptors) → StandFor self.old D →
             (E : Descriptors) × DupGives (limits_of self.old) D p fd result E × StandFor self.new E }
         ensures refused { OnErr result ((D : Descriptors) → StandFor self.old D → StandFor self.new D) }
-        ensures kept { SameTables self.old self.new }
+        ensures kept { SameProcesses self.old self.new }
     {
         if self.key_at(p, fd).is_none() {
             return Err(FdFault::BadFd);
@@ -161,7 +161,7 @@ impl Tables {
         ensures step { (D : Descriptors) → StandFor self.old D →
             (E : Descriptors) × DupToGives (limits_of self.old) D p fd to result E × StandFor self.new E }
         ensures refused { OnErr result ((D : Descriptors) → StandFor self.old D → StandFor self.new D) }
-        ensures kept { SameTables self.old self.new }
+        ensures kept { SameProcesses self.old self.new }
     {
         if self.key_at(p, fd).is_none() || to >= self.limits.descriptors() {
             return Err(FdFault::BadFd);
@@ -181,7 +181,7 @@ impl Tables {
         ensures step { (D : Descriptors) → StandFor self.old D →
             (E : Descriptors) × CloseGives D p fd result E × StandFor self.new E }
         ensures refused { OnErr result ((D : Descriptors) → StandFor self.old D → StandFor self.new D) }
-        ensures kept { SameTables self.old self.new }
+        ensures kept { SameProcesses self.old self.new }
     {
         match self.close_one(p, fd) {
             Some(closed) => Ok(Releases::of(Some(closed))),
@@ -222,7 +222,7 @@ impl Tables {
     pub fn end_process(&mut self, p: u8) -> Releases
         ensures step { (D : Descriptors) → StandFor self.old D →
             (E : Descriptors) × EndGives D p result E × StandFor self.new E }
-        ensures kept { SameTables self.old self.new }
+        ensures kept { SameProcesses self.old self.new }
     {
         let mut released = Releases::none();
         let mut files = no_marks();
@@ -262,7 +262,7 @@ impl Tables {
         ensures step { (D : Descriptors) → StandFor self.old D →
             (E : Descriptors) × SeekGives D p fd offset result E × StandFor self.new E }
         ensures refused { OnErr result ((D : Descriptors) → StandFor self.old D → StandFor self.new D) }
-        ensures kept { SameTables self.old self.new }
+        ensures kept { SameProcesses self.old self.new }
     {
         let Some(key) = self.key_at(p, fd) else {
             return Err(FdFault::BadFd);
@@ -282,7 +282,7 @@ impl Tables {
         ensures step { (D : Descriptors) → StandFor self.old D →
             (E : Descriptors) × ResizeGives D p fd size result E × StandFor self.new E }
         ensures refused { OnErr result ((D : Descriptors) → StandFor self.old D → StandFor self.new D) }
-        ensures kept { SameTables self.old self.new }
+        ensures kept { SameProcesses self.old self.new }
     {
         let Some(opened) = self.opened_at(p, fd) else {
             return Err(FdFault::BadFd);
@@ -324,7 +324,7 @@ impl Tables {
         requires within { to < length (row_at self.old.rows.items p) }
         ensures step { (D : Descriptors) (description : ℕ) → StandFor self.old D → D.description_of p from ≡ Some description →
             StandFor self.new (with_descriptor D p to description) }
-        ensures kept { SameTables self.old self.new }
+        ensures kept { SameProcesses self.old self.new }
     {
         if let Some(key) = self.key_at(p, from) {
             self.opened[key].users += 1;
@@ -337,7 +337,7 @@ impl Tables {
         ensures step { (D : Descriptors) → StandFor self.old D → IsClosing D p fd result × StandFor self.new (without_one D p fd) }
         ensures rows { WithKey self.old.rows.items self.new.rows.items p fd None }
         ensures file { IfSome result (λ closed. closed.file < FILES) }
-        ensures kept { SameTables self.old self.new }
+        ensures kept { SameProcesses self.old self.new }
     {
         let key = self.key_at(p, fd)?;
         let Opened {

@@ -4,7 +4,7 @@ use Rattle.fd_table.specs.declared.TheConstants.{FILES}
 use Rattle.fd_table.specs.Released.{Released}
 use Rattle.fd_table.specs.Descriptors.{Descriptors, without_descriptors, descriptor_limit}
 use Rattle.fd_table.specs.Closing.{without_one}
-use Rattle.fd_table.specs.TablesView.{StandFor, SameTables, view_of}
+use Rattle.fd_table.specs.TablesView.{StandFor, SameProcesses, view_of}
 use Rattle.fd_table.proofs.RowsLemmas.{key_past}
 use Rattle.fd_table.proofs.ViewLemmas.{stands_for_same}
 use Rattle.fd_table.proofs.CallLemmas.{key_of_open}
@@ -29,7 +29,7 @@ loop-fd-preserved c =
     let fd = c.loop-fd.fd in
     let p = c.args.p in
     let numbers = c.loop-fd.released.descriptions in
-    let kept : SameTables c.args.self.now c.close_one.new.self =
+    let kept : SameProcesses c.args.self.now c.close_one.new.self =
     record {
       processes = c.close_one.ensures.kept.processes ∙ i.kept.processes;
       limits = c.close_one.ensures.kept.limits ∙ i.kept.limits;

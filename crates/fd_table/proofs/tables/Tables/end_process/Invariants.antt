@@ -1,7 +1,7 @@
 use Rattle.std.proofs.Common.{◌≡◌, ◌≤◌, [], length}
 use Rattle.fd_table.specs.declared.TheConstants.{FILES}
 use Rattle.fd_table.specs.Descriptors.{Descriptors, without_descriptors}
-use Rattle.fd_table.specs.TablesView.{StandFor, SameTables}
+use Rattle.fd_table.specs.TablesView.{StandFor, SameProcesses}
 use Rattle.fd_table.proofs.GatherLemmas.{IsGathered, below}
 use Rattle.fd_table.proofs.tables.Tables.end_process.Given as goal
 
@@ -13,5 +13,5 @@ invariant-loop-fd l = record {
   few : length l.released.descriptions ≤ l.fd;
   no_files : l.released.files ≡ [];
   marks : length l.files ≡ FILES;
-  kept : SameTables l.initial.self l.self;
+  kept : SameProcesses l.initial.self l.self;
 }
