@@ -45,36 +45,38 @@ distinct_push xs y distinct absent =
           ∙ ne_eqb (get_or xs i d) y (λ same. absent (i, omega (arith, len), get_or_default xs i y d (omega (arith, len)) ∙ same))
     ])
 
--- the numbers that are marked below the next one, which is marked
-pub marked_more : (files : List ℕ) (marks : List Bool) (file : ℕ) → AreExactly files (λ x. (x < file) × IsMarked marks x) → IsMarked marks file → AreExactly (files ++ file ∷ []) (λ x. (x < file + 1) × IsMarked marks x)
-marked_more files marks file h marked =
+-- the numbers below the next one of which the fact holds, where it holds of this one
+pub AreExactly-more : (numbers : List ℕ) (Fact : ℕ → Type 0) (n : ℕ) → AreExactly numbers (λ x. (x < n) × Fact x) → Fact n
+    → AreExactly (numbers ++ n ∷ []) (λ x. (x < n + 1) × Fact x)
+AreExactly-more numbers Fact n h holds =
     record {
-      rising = rising_push files file h.rising (λ x there. ((h.each x).0 there).0);
+      rising = rising_push numbers n h.rising (λ x there. ((h.each x).0 there).0);
       each = λ x. (
         λ there.
-            elim (Contains-push_cases files file x there) [
+            elim (Contains-push_cases numbers n x there) [
               | inl before ↦ let at = (h.each x).0 before in (omega (arith, at.0), at.1)
-              | inr same ↦ (omega (arith, same), subst (IsMarked marks) same marked)
+              | inr same ↦ (omega (arith, same), subst Fact same holds)
             ],
         λ fact.
-            elim (cases_lt x file) [
-              | inl below ↦ Contains-append_left files (file ∷ []) x ((h.each x).1 (below, fact.1))
-              | inr last ↦ let same : file ≡ x = omega (arith, fact.0) in subst (Contains (files ++ file ∷ [])) same (Contains-push files file)
+            elim (cases_lt x n) [
+              | inl below ↦ Contains-append_left numbers (n ∷ []) x ((h.each x).1 (below, fact.1))
+              | inr last ↦ let same : n ≡ x = omega (arith, fact.0) in subst (Contains (numbers ++ n ∷ [])) same (Contains-push numbers n)
             ],
       );
     }
 
--- the numbers that are marked below the next one, which isn't marked
-pub marked_skip : (files : List ℕ) (marks : List Bool) (file : ℕ) → AreExactly files (λ x. (x < file) × IsMarked marks x) → get_or marks file false ≡ false → AreExactly files (λ x. (x < file + 1) × IsMarked marks x)
-marked_skip files marks file h unmarked =
+-- and where it doesn't hold of this one
+pub AreExactly-skip : (numbers : List ℕ) (Fact : ℕ → Type 0) (n : ℕ) → AreExactly numbers (λ x. (x < n) × Fact x) → ¬ Fact n
+    → AreExactly numbers (λ x. (x < n + 1) × Fact x)
+AreExactly-skip numbers Fact n h fails =
     record {
       rising = h.rising;
       each = λ x. (
         λ there. let at = (h.each x).0 there in (omega (arith, at.0), at.1),
         λ fact.
-            elim (cases_lt x file) [
+            elim (cases_lt x n) [
               | inl below ↦ (h.each x).1 (below, fact.1)
-              | inr last ↦ let same : x ≡ file = omega (arith, fact.0) in absurd (false≢true (sym unmarked ∙ ap (λ k. get_or marks k false) (sym same) ∙ fact.1))
+              | inr last ↦ let same : x ≡ n = omega (arith, fact.0) in absurd (fails (subst Fact same fact.1))
             ],
       );
     }

@@ -66,6 +66,10 @@ pub record ViewStandsFor (view : View) (descriptors : Descriptors) : Type 0 wher
 abbrev pub StandFor : Tables → Descriptors → Type 0
 StandFor tables descriptors = ViewStandsFor (view_of tables) descriptors
 
+-- any tables stand for some descriptors
+abbrev pub TablesStandForSome : Type 0
+TablesStandForSome = (tables : Tables) → (descriptors : Descriptors) × StandFor tables descriptors
+
 -- the process was ever alive
 abbrev pub ever_alive : Tables → ℕ → Bool
 ever_alive tables p = (view_of tables).born p

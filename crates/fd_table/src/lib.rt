@@ -1,12 +1,14 @@
 //! The file descriptors of all processes, the open file descriptions that they refer to, and what a close releases.
 #![tactic(auto)]
 
+mod laws;
 mod releases;
 mod rows;
 mod tables;
 #[cfg(test)]
 mod tests;
 
+pub use laws::tables_stand_for_some;
 pub use releases::Releases;
 pub use tables::{Look, Tables};
 use thiserror::Error;

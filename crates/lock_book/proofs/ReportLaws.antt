@@ -11,7 +11,7 @@ use Rattle.lock_book.specs.declared.Held.{Held}
 use Rattle.lock_book.specs.Owners.{IsBefore}
 use Rattle.lock_book.specs.Conflicts.{ByteModes, FlockModes}
 use Rattle.lock_book.specs.Reports.{AreByteLocks, AreFlockLocks, IsFlockLine, IsFileReport, AreFileReports, IsHeldReport}
-use Rattle.lock_book.specs.OneReport.{LocksHaveOneReport}
+use Rattle.lock_book.specs.OneReport.{LocksHaveOneFileReport, LocksHaveOneReport}
 use Rattle.lock_book.proofs.OwnerLemmas.{IsBefore-asymmetric, IsBefore-same}
 use Rattle.lock_book.proofs.HeldLemmas.{ComesBefore, IsRunLine}
 
@@ -146,7 +146,7 @@ AreFlockLocks-unique file modes xs ys first second =
     (flock_lock_in file modes xs ys first second) (flock_lock_in file modes ys xs second first)
 
 -- there is one report of a file at most
-IsFileReport-unique : (file : ℕ) (bytes : ByteModes) (flocks : FlockModes) (one other : List Held) → IsFileReport file bytes flocks one → IsFileReport file bytes flocks other → one ≡ other
+pub IsFileReport-unique : LocksHaveOneFileReport
 IsFileReport-unique file bytes flocks one other first second =
     first.is
     ∙ ap (λ (l : List Held). l ++ first.flock_locks) (AreByteLocks-unique file bytes first.byte_locks second.byte_locks first.are_bytes second.are_bytes)
