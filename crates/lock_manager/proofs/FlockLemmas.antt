@@ -297,6 +297,7 @@ same_by_place old new file book after books tables states rules processes waits 
         waits = waits ∙ h.waits;
         states = λ p. rw states (h.states p);
       };
+      states = λ p. rw states refl;
       rules = rules;
       processes = processes;
     }

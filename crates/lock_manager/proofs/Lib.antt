@@ -1,5 +1,6 @@
 pub mod AfterCloseLemmas
 pub mod AfterReleaseLemmas
+pub mod AtLeastOneLemmas
 pub mod AtMostOneLemmas
 pub mod BlockerLaws
 pub mod BookLemmas
@@ -23,6 +24,9 @@ pub mod ReleaseLemmas
 pub mod ReportLemmas
 pub mod SafetyLemmas
 pub mod SettleLemmas
+pub mod SomeBlockerLaws
+pub mod SomeCallLaws
+pub mod SomeOutcomeLaws
 pub mod SettlingLaws
 pub mod StandsLemmas
 pub mod StayOpenLemmas
@@ -30,3 +34,4 @@ pub mod SetLemmas
 pub mod SuspendLemmas
 pub mod WaitCloseLemmas
 pub mod WaitLemmas
+pub mod WholeLemmas

@@ -26,9 +26,14 @@ shows manager S h = record { bytes = h.bytes; flocks = h.flocks; descriptors = h
 
 -- where the machine shows what it showed the manager stands for what it stood for
 pub same_manager : (old new : Manager) → SameMachine old.machine new.machine → SameManager old new
-unfolding rules_of processes_of
+unfolding rules_of processes_of state_at
 same_manager old new same =
-    record { stands = λ S h. stands_for new S (same.shows S (shows old S h)); rules = same.rules; processes = same.processes }
+    record {
+      stands = λ S h. stands_for new S (same.shows S (shows old S h));
+      states = same.states;
+      rules = same.rules;
+      processes = same.processes;
+    }
 
 -- where each wait is blocked the machine is safe
 pub safe_machine : (machine : Machine) → AllBlocked (machine_rules machine).policy (machine_locks machine) [] (machine_waits machine)

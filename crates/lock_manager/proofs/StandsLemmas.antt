@@ -87,6 +87,7 @@ without_change old new file book same books tables states rules processes within
     waits = waits ∙ h.waits;
     states = λ p. rw states (h.states p);
   };
+  states = λ p. rw states refl;
   rules = rules;
   processes = processes;
 }

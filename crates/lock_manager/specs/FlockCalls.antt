@@ -51,13 +51,24 @@ FlockTestComesTo rules S false wanted grants outcome =
     (outcome ≡ waits_then S wanted grants)
     (outcome ≡ answered_then (with_lock S wanted) wanted.p wanted.n replies.Ok grants)
 
+-- the first half of a conversion: the description's old lock is removed, and the waits are settled, which makes these grants and
+-- leaves this state (flock(2), "the existing lock is first removed"; that the waits are settled then is this project's choice)
+abbrev pub RemovesOldLock : Rules → State → ℕ → ℕ → List Note → State → Type 0
+RemovesOldLock rules S file description grants settled = Settles rules.policy (with_flock_mode S file description None) grants settled
+
 -- a conversion: the old lock is removed, the waits are settled, and then the request is tested
 -- (flock(2), "converting a lock ... is not guaranteed to be atomic"; the whole order is this project's choice)
 abbrev pub ConversionComesTo : Rules → State → Look → Bool → Wait → Outcome → Type 0
 ConversionComesTo rules S look nb wanted outcome =
     (grants : List Note) × (settled : State)
-    × Settles rules.policy (with_flock_mode S look.file look.desc None) grants settled
-    × FlockTestComesTo rules settled nb wanted grants outcome
+    × RemovesOldLock rules S look.file look.desc grants settled × FlockTestComesTo rules settled nb wanted grants outcome
+
+-- the state in which a request for another flock mode of the description is tested, behind these grants: where it has a lock,
+-- what the first half of the conversion leaves; else the state itself (flock(2); the order is this project's choice)
+abbrev pub IsFlockTested : Rules → State → ℕ → ℕ → List Note → State → Type 0
+IsFlockTested rules S file description grants tested =
+    MatchOption (flock_mode_in S.flock_changes file description) ((grants ≡ []) × (tested ≡ S))
+    (λ held. RemovesOldLock rules S file description grants tested)
 
 -- LOCK_SH and LOCK_EX of a description with this mode, if any: the mode that is held already changes nothing; another
 -- one is converted (flock(2))

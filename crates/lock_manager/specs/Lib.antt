@@ -17,3 +17,4 @@ pub mod Granting
 pub mod ManagerView
 pub mod Opening
 pub mod OneOutcome
+pub mod SomeOutcome

@@ -56,12 +56,13 @@ pub record SameRules (old new : Machine) : Type 0 where
   pub rules : machine_rules new ≡ machine_rules old
   pub processes : machine_processes new ≡ machine_processes old
 
--- new shows each state that old shows, with the same locks and waits, under the same rules
+-- new shows each state that old shows, with the same locks, waits and process states, under the same rules
 pub record SameMachine (old new : Machine) : Type 0 where
   pub shows : (S : State) → Shows old S → Shows new S
   pub bytes : (file : ℕ) (owner : Owner) (byte : ℕ) → (machine_locks new).bytes file owner byte ≡ (machine_locks old).bytes file owner byte
   pub flocks : (file description : ℕ) → (machine_locks new).flocks file description ≡ (machine_locks old).flocks file description
   pub waits : machine_waits new ≡ machine_waits old
+  pub states : (p : ℕ) → machine_state new p ≡ machine_state old p
   pub rules : machine_rules new ≡ machine_rules old
   pub processes : machine_processes new ≡ machine_processes old
 

@@ -40,9 +40,10 @@ pub record StandsFor (manager : Manager) (S : State) : Type 0 where
   pub waits : waits_of manager ≡ S.waits
   pub states : (p : ℕ) → state_at manager p ≡ S.states p
 
--- new stands for each state that old stands for, under the same rules
+-- new stands for each state that old stands for, each process stands where it stood, and the rules are the same
 pub record SameManager (old new : Manager) : Type 0 where
   pub stands : (S : State) → StandsFor old S → StandsFor new S
+  pub states : (p : ℕ) → state_at new p ≡ state_at old p
   pub rules : rules_of new ≡ rules_of old
   pub processes : processes_of new ≡ processes_of old
 

@@ -1,9 +1,16 @@
 //! Laws of the definition of a step. Each is the contract of a function that does nothing.
 ghost use Rattle.lock_manager.specs.OneOutcome.{StepHasOneOutcome};
+ghost use Rattle.lock_manager.specs.SomeOutcome.{StepHasSomeOutcome};
 
 /// A step has one outcome: two steps under the same rules, from the same state, by the same request with the same number
 /// of the same process, tell the same notes and leave the same state, with the same changes of locks, descriptors, waits
 /// and process states. So a run can be checked by making its steps again.
 pub fn step_has_one_outcome()
     ensures { StepHasOneOutcome }
+{}
+
+/// A step has some outcome: from each state that a manager stands for, by whatever request of a live process, it can't be that there
+/// is no step. With [`step_has_one_outcome`] there is exactly one: the definition is a function of the state and the request.
+pub fn step_has_some_outcome()
+    ensures { StepHasSomeOutcome }
 {}

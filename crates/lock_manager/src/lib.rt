@@ -16,6 +16,6 @@ mod request;
 #[cfg(test)]
 mod tests;
 
-pub use laws::step_has_one_outcome;
+pub use laws::{step_has_one_outcome, step_has_some_outcome};
 pub use manager::Manager;
 pub use request::{Errno, FlockOp, LkCmd, Lock, Note, ProcState, Reply, Request, Rules};
