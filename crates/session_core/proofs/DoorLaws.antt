@@ -2,7 +2,7 @@
 use Rattle.std.proofs.Common.{ℕ, ◌≡◌, ◌≢◌, ◌≤◌, ◌⊎◌, inl, inr, refl, sym, ◌∙◌, ap, subst, Bool, true, false, List, [], ◌∷◌, ◌++◌, ⊎_elim, Any, Option, Some, None, MatchBool, MatchOption, MatchResult}
 use Rattle.std.specs.Prelude.{IsTrue, IsFalse, ◌||◌}
 use Rattle.std.specs.List.{Contains, AllByRecursion as Each}
-use Rattle.std.proofs.lemmas.List.Elements.{All-contains, All-from_recursion, Contains-append_left}
+use Rattle.std.proofs.lemmas.List.Elements.{All-contains, All-from_recursion, Contains-append_left, Contains-append_right}
 use Rattle.range_core.specs.declared.Mode.{Mode}
 use Rattle.range_core.specs.declared.Mode.TheVariants.{Read, Write}
 use Rattle.lock_book.specs.Changes.{flock_mode_in}
@@ -33,14 +33,14 @@ use Rattle.lock_manager.specs.Step.{ComesTo}
 use Rattle.lock_manager.specs.OneOutcome.{StepHasOneOutcome}
 use Rattle.session_core.specs.Event.{Event}
 use Rattle.session_core.specs.Runs.{IsStep, Leads, IsRun}
-use Rattle.session_core.specs.QueuePolicy.{AsksForBytes, AsksForWhole, WouldWaitAs, HasFlock, IsLetBy, SetsAtOnce, IsOver, notes_told, PassesNoneTold, NotesAreOfWaits, RequestsJoinTheQueue}
+use Rattle.session_core.specs.QueuePolicy.{AsksForBytes, AsksForWhole, WouldWaitAs, HasFlock, SetsAtOnce, IsTested, IsOver, notes_told, PassesNoneTold, NotesAreOfWaits, RequestsJoinTheQueue}
 use Rattle.session_core.proofs.Tally.{Each-append, Each-map}
 use Rattle.session_core.proofs.OutcomeLaws.{cases_fact, cases_bool}
 use Rattle.session_core.proofs.AnyLemmas.{Any-here, Any-there}
 use Rattle.session_core.proofs.WaitPlaces.{Anything, StandsIn, StandsIn-each, Passes}
 use Rattle.session_core.proofs.WaitMoves.{Joins, ready_apart, Settles-passes, Step-moves}
 use Rattle.session_core.proofs.TurnLemmas.{Contains-here, Contains-there, Passes-answers, Waits-join}
-use Rattle.session_core.proofs.TurnLaws.{Leads-one, has_waited}
+use Rattle.session_core.proofs.TurnLaws.{Leads-one, has_waited, WouldWaitAs-of}
 
 -- what some has none has
 none_each : {X : Type 0} (P : X → Type 0) (xs : List X) → ¬ Any P xs → Each (λ x. ¬ P x) xs
@@ -77,38 +77,55 @@ Ok≢waits S wait p n made outcome grants notes others is are told =
     let first : Answer p n replies.Ok ∷ others ≡ Waits wait.p wait.n ∷ (made ++ grants) = sym told ∙ are ∙ ap (λ (o : Outcome). o.told ++ grants) is in
     cc
 
--- each wait of the state conflicts with the lock only where it was let by
-abbrev IsTurnKept : State → Event → Wait → Type 0
-IsTurnKept S event wanted = Each (λ v. WaitsConflict v wanted → IsLetBy S event wanted v) S.waits
+-- no wait in the list conflicts with the lock where it is tested; and who left the list before that was granted
+record IsTurnKept (rules : Rules) (S : State) (event : Event) (wanted : Wait) : Type 0 where
+  grants : List Note
+  tested : State
+  is_tested : IsTested rules S wanted grants tested
+  others : List Note
+  told : event.notes ≡ Answer wanted.p wanted.n replies.Ok ∷ (grants ++ others)
+  passes : Passes S.waits grants tested.waits
+  none : Each (λ v. ¬ WaitsConflict v wanted) tested.waits
 
 -- no wait conflicts with what nothing blocks
-ready_kept : (rules : Rules) (S : State) (event : Event) (wanted : Wait) → rules.policy ≡ Queue
-    → ¬ IsBlocked rules.policy (locks_held S) S.waits wanted → IsTurnKept S event wanted
-ready_kept rules S event wanted queue ready =
-    Each-map (λ v. ¬ WaitsConflict v wanted) (λ v. WaitsConflict v wanted → IsLetBy S event wanted v) S.waits
-    (λ v no conflict. absurd (no conflict))
-    (none_each (λ v. WaitsConflict v wanted) S.waits (ready_apart rules.policy (locks_held S) S.waits wanted queue ready))
+tested_kept : (rules : Rules) (S tested : State) (event : Event) (wanted : Wait) (made others : List Note) → rules.policy ≡ Queue
+    → IsTested rules S wanted made tested → Passes S.waits made tested.waits
+    → event.notes ≡ Answer wanted.p wanted.n replies.Ok ∷ (made ++ others)
+    → ¬ IsBlocked rules.policy (locks_held tested) tested.waits wanted → IsTurnKept rules S event wanted
+tested_kept rules S tested event wanted made others queue is_tested passes told ready =
+    record {
+      grants = made;
+      tested = tested;
+      is_tested = is_tested;
+      others = others;
+      told = told;
+      passes = passes;
+      none = none_each (λ v. WaitsConflict v wanted) tested.waits
+          (ready_apart rules.policy (locks_held tested) tested.waits wanted queue ready);
+    }
 
 -- a lock command that would wait
 command_kept : (rules : Rules) (S : State) (event : Event) (cmd : LkCmd) (wanted : Wait) (outcome : Outcome) (grants others : List Note)
-    → rules.policy ≡ Queue → IsTrue (may_wait cmd) → CommandComesTo rules S cmd wanted outcome → event.notes ≡ outcome.told ++ grants
-    → event.notes ≡ Answer wanted.p wanted.n replies.Ok ∷ others → IsTurnKept S event wanted
-command_kept rules S event GetLk wanted outcome grants others queue may is are told = cc
-command_kept rules S event OGetLk wanted outcome grants others queue may is are told = cc
-command_kept rules S event SetLk wanted outcome grants others queue may is are told = cc
-command_kept rules S event OSetLk wanted outcome grants others queue may is are told = cc
-command_kept rules S event SetLkW wanted outcome grants others queue may (inl blocked) are told =
+    → rules.policy ≡ Queue → IsTrue (may_wait cmd) → IsTested rules S wanted [] S → CommandComesTo rules S cmd wanted outcome
+    → event.notes ≡ outcome.told ++ grants → event.notes ≡ Answer wanted.p wanted.n replies.Ok ∷ others → IsTurnKept rules S event wanted
+command_kept rules S event GetLk wanted outcome grants others queue may tested is are told = cc
+command_kept rules S event OGetLk wanted outcome grants others queue may tested is are told = cc
+command_kept rules S event SetLk wanted outcome grants others queue may tested is are told = cc
+command_kept rules S event OSetLk wanted outcome grants others queue may tested is are told = cc
+command_kept rules S event SetLkW wanted outcome grants others queue may tested (inl blocked) are told =
     ⊎_elim (λ no. absurd (Ok≢refused S wanted.p wanted.n _ outcome grants event.notes others no are told))
     (λ waits. absurd (Ok≢waits S wanted wanted.p wanted.n [] outcome grants event.notes others waits are told)) (cases_fact blocked.1)
-command_kept rules S event SetLkW wanted outcome grants others queue may (inr free) are told = ready_kept rules S event wanted queue free.0
-command_kept rules S event OSetLkW wanted outcome grants others queue may (inl blocked) are told =
+command_kept rules S event SetLkW wanted outcome grants others queue may tested (inr free) are told =
+    tested_kept rules S S event wanted [] others queue tested refl told free.0
+command_kept rules S event OSetLkW wanted outcome grants others queue may tested (inl blocked) are told =
     absurd (Ok≢waits S wanted wanted.p wanted.n [] outcome grants event.notes others blocked.1 are told)
-command_kept rules S event OSetLkW wanted outcome grants others queue may (inr free) are told = ready_kept rules S event wanted queue free.0
+command_kept rules S event OSetLkW wanted outcome grants others queue may tested (inr free) are told =
+    tested_kept rules S S event wanted [] others queue tested refl told free.0
 
 lock_kept : (rules : Rules) (S : State) (event : Event) (p n fd : ℕ) (cmd : LkCmd) (lock : Lock) (wanted : Wait) (outcome : Outcome)
     (grants others : List Note) → rules.policy ≡ Queue → IsTrue (may_wait cmd) → AsksForBytes S p n fd cmd lock wanted
     → LockComesTo rules S p n fd cmd lock outcome → event.notes ≡ outcome.told ++ grants → event.notes ≡ Answer p n replies.Ok ∷ others
-    → IsTurnKept S event wanted
+    → IsTurnKept rules S event wanted
 lock_kept rules S event p n fd cmd lock wanted outcome grants others queue may asks is are told =
     let look = asks.look in
     let span = asks.span in
@@ -131,8 +148,8 @@ lock_kept rules S event p n fd cmd lock wanted outcome grants others queue may a
     asks.of_kind ranged in
     ⊎_elim
     (λ yes.
-    subst (IsTurnKept S event) (sym asks.is)
-    (command_kept rules S event cmd (wanted_lock cmd p n look span mode) outcome grants others queue may yes are told))
+    subst (IsTurnKept rules S event) (sym asks.is)
+    (command_kept rules S event cmd (wanted_lock cmd p n look span mode) outcome grants others queue may (refl, refl) yes are told))
     (λ no. absurd (Ok≢refused S p n _ outcome grants event.notes others no are told))
     (cases_bool (is_get cmd || permits look.access mode) moded))
     (cases_bool (is_bad_argument cmd lock) described)
@@ -157,41 +174,28 @@ known_bool : {Yes No : Type 0} (b : Bool) → MatchBool b Yes No → ((b ≡ tru
 known_bool true h = inl (refl, h)
 known_bool false h = inr h
 
--- the conversion lets by the waits that conflict
-conversion_kept : (rules : Rules) (S settled : State) (event : Event) (look : Look) (wanted : Wait) (held : Mode) (made : List Note)
-    (outcome : Outcome) (grants others : List Note) → rules.policy ≡ Queue → HasFlock S wanted held
-    → Settles rules.policy (with_flock_mode S look.file look.desc None) made settled
-    → FlockTestComesTo rules settled false wanted made outcome → event.notes ≡ outcome.told ++ grants
-    → event.notes ≡ Answer wanted.p wanted.n replies.Ok ∷ others → IsTurnKept S event wanted
-conversion_kept rules S settled event look wanted held made outcome grants others queue has settles test are told =
-    let (ready, is) = test_ready rules settled event wanted made outcome grants others test are told in
-    let caller : Note = Answer wanted.p wanted.n replies.Ok in
-    let notes : event.notes ≡ caller ∷ (made ++ grants) = are ∙ ap (λ (o : Outcome). o.told ++ grants) is in
-    let passes = Settles-passes rules.policy (with_flock_mode S look.file look.desc None) made settled queue settles in
-    Each-map (λ v. Contains made (Answer v.p v.n replies.Ok) ⊎ (¬ WaitsConflict v wanted)) (λ v. WaitsConflict v wanted → IsLetBy S event wanted v)
-    S.waits
-    (λ v one conflict.
-    ⊎_elim
-    (λ granted. (
-      (held, has),
-      subst (λ l. Contains l (Answer v.p v.n replies.Ok)) (sym notes)
-          (Contains-there caller (Answer v.p v.n replies.Ok) (made ++ grants) (Contains-append_left made grants (Answer v.p v.n replies.Ok) granted)),
-    ))
-    (λ no. absurd (no conflict)) one)
-    (Passes-each (λ v. ¬ WaitsConflict v wanted) S.waits made settled.waits passes
-    (none_each (λ v. WaitsConflict v wanted) settled.waits (ready_apart rules.policy (locks_held settled) settled.waits wanted queue ready)))
+-- a flock request that would wait, where it is tested behind these grants
+flock_test_kept : (rules : Rules) (S tested : State) (event : Event) (wanted : Wait) (made : List Note) (outcome : Outcome) (grants others : List Note)
+    → rules.policy ≡ Queue → IsTested rules S wanted made tested → Passes S.waits made tested.waits
+    → FlockTestComesTo rules tested false wanted made outcome → event.notes ≡ outcome.told ++ grants
+    → event.notes ≡ Answer wanted.p wanted.n replies.Ok ∷ others → IsTurnKept rules S event wanted
+flock_test_kept rules S tested event wanted made outcome grants others queue is_tested passes test are told =
+    let (ready, is) = test_ready rules tested event wanted made outcome grants others test are told in
+    tested_kept rules S tested event wanted made grants queue is_tested passes (are ∙ ap (λ (o : Outcome). o.told ++ grants) is) ready
 
 flock_mode_kept : (rules : Rules) (S : State) (event : Event) (p n : ℕ) (look : Look) (mode : Mode) (outcome : Outcome) (grants others : List Note)
     → rules.policy ≡ Queue → ¬ HasFlock S (wanted_flock p n look mode) mode
     → FlockModeComesTo rules S look false (wanted_flock p n look mode) (flock_mode_in S.flock_changes look.file look.desc) outcome
-    → event.notes ≡ outcome.told ++ grants → event.notes ≡ Answer p n replies.Ok ∷ others → IsTurnKept S event (wanted_flock p n look mode)
+    → event.notes ≡ outcome.told ++ grants → event.notes ≡ Answer p n replies.Ok ∷ others
+    → IsTurnKept rules S event (wanted_flock p n look mode)
 flock_mode_kept rules S event p n look mode outcome grants others queue sets is are told =
     let wanted : Wait = wanted_flock p n look mode in
     elim (known_mode (flock_mode_in S.flock_changes look.file look.desc)) [
       | inl nothing ↦
           let test : FlockTestComesTo rules S false wanted [] outcome =
           subst (λ o. FlockModeComesTo rules S look false wanted o outcome) nothing is in
-          ready_kept rules S event wanted queue (test_ready rules S event wanted [] outcome grants others test are told).0
+          let tested : IsTested rules S wanted [] S = rw nothing (refl, refl) in
+          flock_test_kept rules S S event wanted [] outcome grants others queue tested refl test are told
       | inr some ↦
           let held : Mode = some.0 in
           let has : HasFlock S wanted held = (refl, look.desc, refl, some.1) in
@@ -199,7 +203,9 @@ flock_mode_kept rules S event p n look mode outcome grants others queue sets is 
           ⊎_elim
           (λ already. absurd (sets (subst (HasFlock S wanted) (same_mode held mode already.0) has)))
           (λ converted.
-          conversion_kept rules S converted.1 event look wanted held converted.0 outcome grants others queue has converted.2 converted.3 are told)
+          let tested : IsTested rules S wanted converted.0 converted.1 = rw some.1 converted.2 in
+          let passes = Settles-passes rules.policy (with_flock_mode S look.file look.desc None) converted.0 converted.1 queue converted.2 in
+          flock_test_kept rules S converted.1 event wanted converted.0 outcome grants others queue tested passes converted.3 are told)
           (known_bool (is_same_mode held mode) converts)
     ]
   where
@@ -210,7 +216,7 @@ flock_mode_kept rules S event p n look mode outcome grants others queue sets is 
 flock_op_kept : (rules : Rules) (S : State) (event : Event) (p n : ℕ) (look : Look) (op : FlockOp) (mode : Mode) (outcome : Outcome)
     (grants others : List Note) → rules.policy ≡ Queue → Some mode ≡ flock_wanted_mode op → ¬ HasFlock S (wanted_flock p n look mode) mode
     → FlockOpComesTo rules S p n look op false outcome → event.notes ≡ outcome.told ++ grants → event.notes ≡ Answer p n replies.Ok ∷ others
-    → IsTurnKept S event (wanted_flock p n look mode)
+    → IsTurnKept rules S event (wanted_flock p n look mode)
 flock_op_kept rules S event p n look Un mode outcome grants others queue of_op sets is are told = cc
 flock_op_kept rules S event p n look Sh mode outcome grants others queue of_op sets is are told =
     let e : Read ≡ mode = cc in
@@ -224,13 +230,13 @@ flock_op_kept rules S event p n look Ex mode outcome grants others queue of_op s
 flock_kept : (rules : Rules) (S : State) (event : Event) (p n fd : ℕ) (op : FlockOp) (nb : Bool) (wanted : Wait) (outcome : Outcome)
     (grants others : List Note) → rules.policy ≡ Queue → IsFalse nb → AsksForWhole S p n fd op wanted → ¬ HasFlock S wanted wanted.mode
     → FlockComesTo rules S p n fd op nb outcome → event.notes ≡ outcome.told ++ grants → event.notes ≡ Answer p n replies.Ok ∷ others
-    → IsTurnKept S event wanted
+    → IsTurnKept rules S event wanted
 flock_kept rules S event p n fd op nb wanted outcome grants others queue waits asks sets is are told =
     let look = asks.look in
     let waiting : FlockComesTo rules S p n fd op false outcome = subst (λ b. FlockComesTo rules S p n fd op b outcome) waits is in
     let opened : FlockOpComesTo rules S p n look op false outcome =
     subst (λ o. MatchOption o (outcome ≡ refused S p n EBADF) (λ look. FlockOpComesTo rules S p n look op false outcome)) asks.of_open waiting in
-    subst (IsTurnKept S event) (sym asks.is)
+    subst (IsTurnKept rules S event) (sym asks.is)
     (flock_op_kept rules S event p n look op asks.mode outcome grants others queue (sym asks.of_op)
     (subst (λ (x : Wait). ¬ HasFlock S x x.mode) asks.is sets) opened are told)
 
@@ -238,7 +244,7 @@ flock_kept rules S event p n fd op nb wanted outcome grants others queue waits a
 request_kept : (rules : Rules) (processes : ℕ) (S : State) (event : Event) (p n : ℕ) (request : Request) (wanted : Wait) (outcome : Outcome)
     (grants others : List Note) → rules.policy ≡ Queue → WouldWaitAs S p n request wanted → ¬ HasFlock S wanted wanted.mode
     → ComesTo rules processes S p n request outcome → event.notes ≡ outcome.told ++ grants → event.notes ≡ Answer p n replies.Ok ∷ others
-    → IsTurnKept S event wanted
+    → IsTurnKept rules S event wanted
 request_kept rules processes S event p n (Lk fd cmd lock) wanted outcome grants others queue asks sets is are told =
     lock_kept rules S event p n fd cmd lock wanted outcome grants others queue asks.0 asks.1 is are told
 request_kept rules processes S event p n (Flock fd op nb) wanted outcome grants others queue asks sets is are told =
@@ -265,7 +271,7 @@ Leads-split rules processes S (event ∷ before) later T leads =
 event_kept : StepHasOneOutcome → (rules : Rules) (processes : ℕ) (before : List Event) (event : Event) (after : List Event) (S T : State)
     (wanted : Wait) → rules.policy ≡ Queue → IsRun rules processes (before ++ event ∷ after) T
     → Leads rules processes opening_state before S → WouldWaitAs S event.p event.n event.request wanted → SetsAtOnce S event wanted
-    → IsTurnKept S event wanted
+    → IsTurnKept rules S event wanted
 event_kept one rules processes before event after S T wanted queue run leads asks sets =
     let (U, led, rest) = Leads-split rules processes opening_state before (event ∷ after) T run.leads in
     let same : U ≡ S = Leads-one one rules processes opening_state before U S led leads in
@@ -273,10 +279,11 @@ event_kept one rules processes before event after S T wanted queue run leads ask
     request_kept rules processes S event event.p event.n event.request wanted step.outcome step.grants sets.others queue asks sets.sets
     step.comes_to step.are_notes sets.told
 
--- who was told to wait, and isn't over, stands in the list
+-- who was told to wait, and isn't over, stands in the list; where it leaves the list before the test it was granted
 none_told_passed : StepHasOneOutcome → (rules : Rules) (processes : ℕ) (before : List Event) (event : Event) (after : List Event) (S T : State)
     (wanted : Wait) → rules.policy ≡ Queue → 1 ≤ processes → IsRun rules processes (before ++ event ∷ after) T
-    → Leads rules processes opening_state before S → IsTurnKept S event wanted → PassesNoneTold rules processes before S event wanted
+    → Leads rules processes opening_state before S → (kept : IsTurnKept rules S event wanted)
+    → PassesNoneTold rules processes before kept.grants wanted
 none_told_passed one rules processes before event after S T wanted queue some run leads kept early first between v place waits conflict =
     let front : List Event = early ++ first ∷ between in
     let waited =
@@ -285,19 +292,32 @@ none_told_passed one rules processes before event after S T wanted queue some ru
     let same : waited.reached.state ≡ S =
     Leads-one one rules processes opening_state front waited.reached.state S waited.reached.led
     (subst (λ l. Leads rules processes opening_state l S) place leads) in
-    ⊎_elim (λ over. inl (subst (λ l. IsOver l (notes_told l) v) (sym place) over))
+    ⊎_elim (λ over. over_told before kept.grants v (subst (λ l. IsOver l (notes_told l) v) (sym place) over))
     (λ stands.
-    inr
-    (StandsIn-each Anything Anything v (λ x. WaitsConflict x wanted → IsLetBy S event wanted x) S.waits kept
-    (subst (λ (X : State). StandsIn Anything Anything v X.waits) same stands) conflict))
+    ⊎_elim (λ granted. inl (replies.Ok, Contains-append_right (notes_told before) kept.grants (Answer v.p v.n replies.Ok) granted))
+    (λ apart. absurd (apart conflict))
+    (StandsIn-each Anything Anything v (λ x. Contains kept.grants (Answer x.p x.n replies.Ok) ⊎ (¬ WaitsConflict x wanted)) S.waits
+    (Passes-each (λ x. ¬ WaitsConflict x wanted) S.waits kept.grants kept.tested.waits kept.passes kept.none)
+    (subst (λ (X : State). StandsIn Anything Anything v X.waits) same stands)))
     waited.first
+  where
+    over_told : (events : List Event) (more : List Note) (v : Wait) → IsOver events (notes_told events) v → IsOver events (notes_told events ++ more) v
+    over_told events more v (inl told) = inl (told.0, Contains-append_left (notes_told events) more (Answer v.p v.n told.0) told.1)
+    over_told events more v (inr ended) = inr ended
 
 pub joins_the_queue : StepHasOneOutcome → RequestsJoinTheQueue
 joins_the_queue one rules processes before event after S T wanted queue some run leads asks sets =
-    let kept = event_kept one rules processes before event after S T wanted queue run leads asks sets in (
-      All-from_recursion (λ v. WaitsConflict v wanted → IsLetBy S event wanted v) S.waits kept,
-      none_told_passed one rules processes before event after S T wanted queue some run leads kept,
-    )
+    let kept = event_kept one rules processes before event after S T wanted queue run leads asks sets in
+    let (same_p, same_n) = WouldWaitAs-of S event.p event.n event.request wanted asks in
+    record {
+      grants = kept.grants;
+      tested = kept.tested;
+      is_tested = kept.is_tested;
+      others = kept.others;
+      told = kept.told ∙ (λ i. Answer (same_p i) (same_n i) replies.Ok ∷ (kept.grants ++ kept.others));
+      none_listed = All-from_recursion (λ v. ¬ WaitsConflict v wanted) kept.tested.waits kept.none;
+      none_told = none_told_passed one rules processes before event after S T wanted queue some run leads kept;
+    }
 
 -- a note that a request waits is none of the grants behind it
 own_waits : (p n : ℕ) (S : State) (event : Event) (left : List Wait) → (h : Joins S event.p event.n event.request event.notes left)

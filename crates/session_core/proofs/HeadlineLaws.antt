@@ -15,7 +15,7 @@ use Rattle.session_core.specs.Event.{Event}
 use Rattle.session_core.specs.Runs.{Leads, events_of}
 use Rattle.session_core.specs.Mail.{IsPrefixOf, requests_taken, answers_to, reply_to}
 use Rattle.session_core.specs.Draining.{IsReplayed}
-use Rattle.session_core.specs.Headline.{IsWaiting, IsEnded, told_process, LeavesAlone, IsQuietBeforeBirth, IsQuietAfterEnd, IsAnsweredInTurn, Holds}
+use Rattle.session_core.specs.Headline.{IsWaiting, IsEnded, told_process, LeavesAlone, IsQuietBeforeBirth, IsQuietAfterEnd, IsAnsweredInTurn, AreWithinLimits, Holds}
 use Rattle.session_core.proofs.Tally.{AreCountedFrom, TallyAt, Each-map}
 use Rattle.session_core.proofs.RunLaws.{numbers_of, AreNext, AreNext-numbered, IsTallied, Leads-tallied, Leads-quiet_after, opening_tallies, answers_from-numbers, IsStrictlyIncreasing-counted, counted_answers, found_answer}
 
@@ -114,11 +114,12 @@ quiet manager journal some r p before event after is ends =
     (subst (λ l. Leads (rules_of manager) (processes_of manager) opening_state l r.state) is r.run.leads) p ends)
 
 -- the headline holds where the journal is a run that leaves the manager's state, its requests are those that were sent,
--- and the manager is safe
-pub Holds-from : (manager : Manager) (sent : ℕ → List Request) (journal : List Event) → 1 ≤ processes_of manager
+-- the manager is safe, and there are no more processes and requests than there may be
+pub Holds-from : (manager : Manager) (sent : ℕ → List Request) (journal : List Event) → AreWithinLimits manager sent
     → ((p : ℕ) → IsPrefixOf (requests_taken p journal) (sent p)) → IsSafeManager manager → IsReplayed manager journal
     → Holds manager sent journal
-Holds-from manager sent journal some in_order safe r =
+Holds-from manager sent journal within in_order safe r =
+    let some = within.some in
     let t = replayed_tallied manager journal some r in
     record {
       taken_in_order = in_order;
@@ -129,6 +130,7 @@ Holds-from manager sent journal some in_order safe r =
           (λ answer e. omega arith);
       answered_taken = λ p. at_most_taken (r.state.states p) _ _ (tally_of (processes_of manager) journal r.state t p);
       answered_in_turn = in_turn manager journal some r;
+      within_limits = within;
       told_in_range =
           All-from_recursion (λ event. All (λ note. (1 ≤ told_process note) × (told_process note ≤ processes_of manager)) event.notes) journal
           (Each-map (λ event. Each (λ note. (1 ≤ told_process note) × (told_process note ≤ processes_of manager)) event.notes)

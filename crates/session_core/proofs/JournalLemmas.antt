@@ -11,13 +11,14 @@ use Rattle.lock_manager.specs.declared.request.Request.{Request}
 use Rattle.lock_manager.specs.declared.manager.Manager.{Manager}
 use Rattle.lock_manager.specs.State.{State, opening_state}
 use Rattle.lock_manager.specs.ManagerView.{StandsFor, SameManager, IsSafeManager, rules_of, processes_of}
+use Rattle.session_core.specs.declared.TheConstants.{N_MAX}
 use Rattle.session_core.specs.declared.mailbox.Mailbox.{Mailbox}
 use Rattle.session_core.specs.Event.{Event}
-use Rattle.session_core.specs.Mailboxes.{mail_sent, mail_taken, requests_in, taken_in, IsMailKept, IsEmptyMailbox}
+use Rattle.session_core.specs.Mailboxes.{mailbox_of, mail_sent, mail_taken, requests_in, taken_in, IsMailKept, IsEmptyMailbox}
 use Rattle.session_core.specs.Runs.{IsStep, Leads, IsRun, AreNumbered, events_of}
 use Rattle.session_core.specs.Mail.{IsPrefixOf, requests_taken}
 use Rattle.session_core.specs.Draining.{IsReplayed, next_untaken}
-use Rattle.session_core.specs.Headline.{Holds}
+use Rattle.session_core.specs.Headline.{AreWithinLimits, Holds}
 use Rattle.session_core.proofs.HeadlineLaws.{Holds-from}
 use Rattle.session_core.proofs.MailLemmas.{StandsAt, mailbox_of-there, mail_taken-set, mail_sent-kept, Holds-grown}
 
@@ -142,6 +143,12 @@ taken_in_order-push sent journal event next h p =
     ((h p).0, (h p).1 ∙ ap (λ l. l ++ (h p).0) (sym same)))
     (cases_eq event.p p)
 
+-- under the same rules, with as many processes, all is within the limits still
+within_limits_still : (old new : Manager) (sent : ℕ → List Request) → rules_of new ≡ rules_of old → processes_of new ≡ processes_of old
+    → AreWithinLimits old sent → AreWithinLimits new sent
+within_limits_still old new sent same_rules same_processes h =
+    record { some = rw same_processes h.some; few = rw (same_processes, same_rules) h.few; requests = h.requests }
+
 -- the headline holds after one more event, which the manager took
 pub Holds-push : (old new : Manager) (sent : ℕ → List Request) (journal : List Event) (event : Event) → 1 ≤ processes_of old
     → next_untaken sent journal event.p ≡ Some event.request → event.n ≡ length (events_of event.p journal) + 1
@@ -149,7 +156,7 @@ pub Holds-push : (old new : Manager) (sent : ℕ → List Request) (journal : Li
     → ((S : State) → StandsFor old S → (T : State) × IsStep (rules_of old) (processes_of old) S event T × StandsFor new T)
     → IsSafeManager new → Holds old sent journal → Holds new sent (journal ++ event ∷ [])
 Holds-push old new sent journal event some next number same_rules same_processes steps safe h =
-    Holds-from new sent (journal ++ event ∷ []) (rw same_processes some)
+    Holds-from new sent (journal ++ event ∷ []) (within_limits_still old new sent same_rules same_processes h.within_limits)
     (taken_in_order-push sent journal event next h.taken_in_order) safe
     (IsReplayed-push old new journal event number same_rules same_processes steps h.replayed)
 
@@ -162,8 +169,16 @@ Holds-same old new sent journal journal' some same_journal same safe h =
     subst (λ rules. IsRun rules (processes_of new) journal r.state) (sym same.rules)
     (subst (λ processes. IsRun (rules_of old) processes journal r.state) (sym same.processes) r.run) in
     subst (λ l. Holds new sent l) (sym same_journal)
-    (Holds-from new sent journal (rw same.processes some) h.taken_in_order safe
+    (Holds-from new sent journal (within_limits_still old new sent same.rules same.processes h.within_limits) h.taken_in_order safe
     (record { state = r.state; run = run; stands = same.stands r.state r.stands }))
+
+-- no process has sent more than it may
+pub mail_sent-few : (mailboxes : List Mailbox) (p : ℕ) → length (mail_sent mailboxes p) ≤ N_MAX
+mail_sent-few mailboxes p = few (mailbox_of mailboxes p)
+  where
+    few : (mailbox : Option Mailbox) → length (requests_in mailbox) ≤ N_MAX
+    few None = omega arith
+    few (Some mailbox) = mailbox.limited
 
 -- where the next request of a process is there, its mailbox has more than was taken
 pub next_within : (mailboxes : List Mailbox) (place p : ℕ) (mailbox : Mailbox) (journal : List Event) (request : Request)
@@ -212,15 +227,16 @@ pub Holds-taken : (old new : Manager) (mailboxes : List Mailbox) (place p : ℕ)
 Holds-taken old new mailboxes place p before after journal journal' event some at sent same next number same_rules same_processes steps safe h =
     Holds-grown new (mail_sent mailboxes) (mail_sent (set mailboxes place after)) journal'
     (λ q. ([], mail_sent-kept mailboxes place p before after at sent q ∙ sym (append-nil (mail_sent mailboxes q))))
+    (mail_sent-few (set mailboxes place after))
     (subst (λ l. Holds new (mail_sent mailboxes) l) (sym same)
     (Holds-push old new (mail_sent mailboxes) journal event some next number same_rules same_processes steps safe h))
 
 -- the headline holds at the opening
-pub Holds-opening : (manager : Manager) (sent : ℕ → List Request) (journal : List Event) → 1 ≤ processes_of manager → journal ≡ []
+pub Holds-opening : (manager : Manager) (sent : ℕ → List Request) (journal : List Event) → AreWithinLimits manager sent → journal ≡ []
     → IsSafeManager manager → StandsFor manager opening_state → Holds manager sent journal
-Holds-opening manager sent journal some empty safe stands =
+Holds-opening manager sent journal within empty safe stands =
     subst (λ l. Holds manager sent l) (sym empty)
-    (Holds-from manager sent [] some (λ p. (sent p, refl)) safe
+    (Holds-from manager sent [] within (λ p. (sent p, refl)) safe
     (record { state = opening_state; run = record { leads = refl; numbered = λ q place. tt }; stands = stands }))
 
 -- where nothing was sent, no process sent or was taken anything

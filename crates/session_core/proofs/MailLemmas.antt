@@ -12,6 +12,7 @@ use Rattle.session_core.specs.Mailboxes.{mailbox_of, requests_in, taken_in, mail
 use Rattle.session_core.specs.Event.{Event}
 use Rattle.session_core.specs.Mail.{IsPrefixOf, requests_taken}
 use Rattle.session_core.specs.Headline.{Holds}
+use Rattle.session_core.specs.declared.TheConstants.{N_MAX}
 
 -- the place that is written has the new value
 pub slice_get-set_same : {X : Type 0} (xs : List X) (i : ℕ) (x : X) → i < length xs → slice_get (set xs i x) i ≡ Some x
@@ -129,14 +130,16 @@ IsPrefixOf-longer xs ys zs first second =
 
 -- what holds of a session holds where more was sent
 pub Holds-grown : (manager : Manager) (sent sent' : ℕ → List Request) (journal : List Event)
-    → ((q : ℕ) → IsPrefixOf (sent q) (sent' q)) → Holds manager sent journal → Holds manager sent' journal
-Holds-grown manager sent sent' journal grown holds =
+    → ((q : ℕ) → IsPrefixOf (sent q) (sent' q)) → ((q : ℕ) → length (sent' q) ≤ N_MAX) → Holds manager sent journal
+    → Holds manager sent' journal
+Holds-grown manager sent sent' journal grown few holds =
     record {
       taken_in_order = λ p. IsPrefixOf-longer (requests_taken p journal) (sent p) (sent' p) (holds.taken_in_order p) (grown p);
       answered_once = holds.answered_once;
       answers_numbered = holds.answers_numbered;
       answered_taken = holds.answered_taken;
       answered_in_turn = holds.answered_in_turn;
+      within_limits = record { some = holds.within_limits.some; few = holds.within_limits.few; requests = few };
       told_in_range = holds.told_in_range;
       quiet_before_birth = holds.quiet_before_birth;
       quiet_after_end = holds.quiet_after_end;
@@ -164,7 +167,7 @@ length-mail_sent-set mailboxes place p n old new at is =
 
 -- a manager stands for what it stands for
 pub SameManager-refl : (manager : Manager) → SameManager manager manager
-SameManager-refl manager = record { stands = λ S stands. stands; rules = refl; processes = refl }
+SameManager-refl manager = record { stands = λ S stands. stands; states = λ p. refl; rules = refl; processes = refl }
 
 -- two facts of an answer as one
 pub IfOk-both : {T E : Type 0} (result : Result T E) (P Q R : T → Type 0) → ((x : T) → P x → Q x → R x) → IfOk result P

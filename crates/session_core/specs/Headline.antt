@@ -1,15 +1,17 @@
 -- What holds of a session at every moment between two events (the words are this project's choice).
 use Rattle.std.specs.Prelude.{◌≡◌, ◌≢◌, ℕ, ◌+◌, ◌≤◌, ◌⊎◌, Some, IfSome, IfNone, List, [], ◌∷◌, ◌++◌, map, length, All, Contains, slice_get}
 use Rattle.std.specs.List.Sorted.{IsStrictlyIncreasing}
+use Rattle.fd_table.specs.Descriptors.{process_limit}
 use Rattle.lock_manager.specs.declared.request.Note.{Note}
 use Rattle.lock_manager.specs.declared.request.Note.TheVariants.{Answer, Waits}
 use Rattle.lock_manager.specs.declared.request.Reply.TheVariants as replies
 use Rattle.lock_manager.specs.declared.request.ProcState.{ProcState}
 use Rattle.lock_manager.specs.declared.request.ProcState.TheVariants.{Unborn, Live, Waiting, Ended}
 use Rattle.lock_manager.specs.declared.manager.Manager.{Manager}
-use Rattle.lock_manager.specs.ManagerView.{IsSafeManager, processes_of, state_at}
+use Rattle.lock_manager.specs.ManagerView.{IsSafeManager, rules_of, processes_of, state_at}
 use Rattle.lock_manager.specs.declared.request.Request.{Request}
 use Rattle.lock_manager.specs.declared.request.Request.TheVariants.{Exit, Kill}
+use Rattle.session_core.specs.declared.TheConstants.{N_MAX}
 use Rattle.session_core.specs.Event.{Event}
 use Rattle.session_core.specs.Runs.{events_of}
 use Rattle.session_core.specs.Mail.{IsPrefixOf, requests_taken, answers_to, reply_to}
@@ -73,15 +75,23 @@ abbrev pub AreToldInRange : ℕ → List Event → Type 0
 AreToldInRange processes events =
     All (λ event. All (λ note. (1 ≤ told_process note) × (told_process note ≤ processes)) event.notes) events
 
+-- there are 1 to so many processes as the limits allow, and none has sent more requests than it may (this project's choice)
+pub record AreWithinLimits (manager : Manager) (sent : ℕ → List Request) : Type 0 where
+  pub some : 1 ≤ processes_of manager
+  pub few : processes_of manager ≤ process_limit (rules_of manager).limits
+  pub requests : (p : ℕ) → length (sent p) ≤ N_MAX
+
 -- of each process a prefix of what it sent was taken, each once and in order; each request is answered once at most, in turn;
 -- there is nothing of a process that was never alive, and nothing after the end of one; no owners conflict, each wait is blocked
--- and no traditional waits close a cycle; and the manager's state is the replay of the journal, which is a run
+-- and no traditional waits close a cycle; the manager's state is the replay of the journal, which is a run; and there are no more
+-- processes and requests than there may be
 pub record Holds (manager : Manager) (sent : ℕ → List Request) (journal : List Event) : Type 0 where
   pub taken_in_order : (p : ℕ) → IsPrefixOf (requests_taken p journal) (sent p)
   pub answered_once : (p : ℕ) → IsStrictlyIncreasing (map (λ answer. answer.0) (answers_to p journal))
   pub answers_numbered : (p : ℕ) → AreAnswersNumbered journal p
   pub answered_taken : (p : ℕ) → length (answers_to p journal) ≤ length (events_of p journal)
   pub answered_in_turn : (p : ℕ) → IsAnsweredInTurn manager journal p
+  pub within_limits : AreWithinLimits manager sent
   pub told_in_range : AreToldInRange (processes_of manager) journal
   pub quiet_before_birth : (p : ℕ) → IsQuietBeforeBirth manager journal p
   pub quiet_after_end : IsQuietAfterEnd journal

@@ -3,10 +3,12 @@ use Rattle.std.specs.Prelude.{◌≡◌, ℕ, ◌≤◌, ◌⊎◌, Some, Ok, Is
 use Rattle.range_core.specs.declared.Mode.{Mode}
 use Rattle.range_core.specs.declared.Span.{Span}
 use Rattle.range_core.specs.Resolving.{resolution}
-use Rattle.lock_book.specs.declared.Owner.TheVariants.{Description}
+use Rattle.lock_book.specs.declared.Owner.{Owner}
+use Rattle.lock_book.specs.declared.Owner.TheVariants.{Process, Description}
 use Rattle.fd_table.specs.declared.tables.Look.{Look}
 use Rattle.fd_table.specs.Descriptors.{look_at}
-use Rattle.wait_core.specs.declared.Family.TheVariants.{Whole}
+use Rattle.wait_core.specs.declared.Family.{Family}
+use Rattle.wait_core.specs.declared.Family.TheVariants.{Bytes, Whole}
 use Rattle.wait_core.specs.declared.Policy.TheVariants.{Queue}
 use Rattle.wait_core.specs.declared.Wait.{Wait}
 use Rattle.wait_core.specs.Blocking.{WaitsConflict}
@@ -22,7 +24,7 @@ use Rattle.lock_manager.specs.declared.request.Reply.{Reply}
 use Rattle.lock_manager.specs.declared.request.Reply.TheVariants as replies
 use Rattle.lock_manager.specs.State.{State, opening_state, locks_held}
 use Rattle.lock_manager.specs.LockWords.{may_wait, wanted_mode, wanted_lock}
-use Rattle.lock_manager.specs.FlockCalls.{flock_wanted_mode, wanted_flock}
+use Rattle.lock_manager.specs.FlockCalls.{flock_wanted_mode, wanted_flock, IsFlockTested}
 use Rattle.session_core.specs.Event.{Event}
 use Rattle.session_core.specs.Runs.{Leads, IsRun}
 use Rattle.session_core.specs.Headline.{EndsProcess}
@@ -119,28 +121,39 @@ pub record SetsAtOnce (S : State) (event : Event) (wanted : Wait) : Type 0 where
   pub told : event.notes ≡ Answer event.p event.n replies.Ok ∷ others
   pub sets : ¬ HasFlock S wanted wanted.mode
 
--- the wait left the list in the first half of a conversion, as the event tells: the old flock lock was removed, and the wait granted,
--- before the request was tested (flock(2), "converting a lock")
-abbrev pub IsLetBy : State → Event → Wait → Wait → Type 0
-IsLetBy S event wanted v = ((held : Mode) × HasFlock S wanted held) × Contains event.notes (Answer v.p v.n replies.Ok)
+-- the state in which a request for this lock is tested, behind these grants: a lock command finds it so; a flock request is tested
+-- behind the first half of its conversion, if it makes one (flock(2), "converting a lock"; the order is this project's choice)
+abbrev pub IsTestedOf : Family → Owner → Rules → State → Wait → List Note → State → Type 0
+IsTestedOf Bytes owner rules S wanted grants tested = (grants ≡ []) × (tested ≡ S)
+IsTestedOf Whole (Description d) rules S wanted grants tested = IsFlockTested rules S wanted.file d grants tested
+IsTestedOf Whole (Process p) rules S wanted grants tested = (grants ≡ []) × (tested ≡ S)
 
--- no wait of these conflicts with the lock, but for those that were let by
-abbrev pub PassesNoneOf : List Wait → State → Event → Wait → Type 0
-PassesNoneOf waits S event wanted = All (λ v. WaitsConflict v wanted → IsLetBy S event wanted v) waits
+-- the same, by the family and the owner of the lock
+abbrev pub IsTested : Rules → State → Wait → List Note → State → Type 0
+IsTested rules S wanted grants tested = IsTestedOf wanted.family wanted.owner rules S wanted grants tested
 
--- none that an event before this one told to wait conflicts with the lock, but for those that are over before it or were let by
-abbrev pub PassesNoneTold : Rules → ℕ → List Event → State → Event → Wait → Type 0
-PassesNoneTold rules processes before S event wanted =
+-- none that one of these events told to wait conflicts with the lock, but for those that are over by these events and these grants
+abbrev pub PassesNoneTold : Rules → ℕ → List Event → List Note → Wait → Type 0
+PassesNoneTold rules processes before grants wanted =
     (early : List Event) (first : Event) (between : List Event) (v : Wait) → before ≡ early ++ first ∷ between
-    → WaitsAs rules processes early first v → WaitsConflict v wanted
-    → IsOver before (notes_told before) v ⊎ IsLetBy S event wanted v
+    → WaitsAs rules processes early first v → WaitsConflict v wanted → IsOver before (notes_told before ++ grants) v
 
--- under the queue policy a request that would wait were it blocked sets its lock at once only where no wait in the list then
--- conflicts with it, which is to say none that was told to wait and isn't over; those that left the list in the first half of its
--- conversion stand in it no more
+-- the request of the event was tested in a state, behind grants that the event tells right after the caller's Ok, and it passed none:
+-- no wait in the list of that state conflicts with the lock, nor does any that was told to wait before and wasn't over at the test
+pub record PassesNone (rules : Rules) (processes : ℕ) (before : List Event) (S : State) (event : Event) (wanted : Wait) : Type 0 where
+  pub grants : List Note
+  pub tested : State
+  pub is_tested : IsTested rules S wanted grants tested
+  pub others : List Note
+  pub told : event.notes ≡ Answer event.p event.n replies.Ok ∷ (grants ++ others)
+  pub none_listed : All (λ v. ¬ WaitsConflict v wanted) tested.waits
+  pub none_told : PassesNoneTold rules processes before grants wanted
+
+-- under the queue policy a request that would wait were it blocked, and sets its lock at once, passes none: where it is tested, no wait
+-- in the list conflicts with it
 abbrev pub RequestsJoinTheQueue : Type 0
 RequestsJoinTheQueue =
     (rules : Rules) (processes : ℕ) (before : List Event) (event : Event) (after : List Event) (S T : State) (wanted : Wait)
     → rules.policy ≡ Queue → 1 ≤ processes → IsRun rules processes (before ++ event ∷ after) T
     → Leads rules processes opening_state before S → WouldWaitAs S event.p event.n event.request wanted → SetsAtOnce S event wanted
-    → PassesNoneOf S.waits S event wanted × PassesNoneTold rules processes before S event wanted
+    → PassesNone rules processes before S event wanted

@@ -4,6 +4,7 @@ use Rattle.std.proofs.Math.Logic.{∥∥₁_map}
 use Rattle.std.proofs.lemmas.List.{length-set}
 use Rattle.session_core.specs.SessionView.{manager_of, events_in, sent_of}
 use Rattle.session_core.proofs.MailLemmas.{StandsAt-index, mailbox_of-there, mail_taken-kept, mail_sent-grown, mail_sent-kept, mail_sent-pushed, length-mail_sent-set, IsPrefixOf-pushed, Holds-grown, SameManager-refl, IfOk-both}
+use Rattle.session_core.proofs.JournalLemmas.{mail_sent-few}
 use Rattle.session_core.proofs.session.Session.arrive.Goals as goal
 
 pub invariant_of-self : goal.invariant_of-self
@@ -21,7 +22,7 @@ invariant_of-self c =
         one_each = rw length-set self.mail.one_each;
         taken = λ q. mail_taken-kept mailboxes _ c.args.p old new at c.push.ensures.taken q ∙ self.mail.taken q;
       };
-      holds = ∥∥₁_map self.holds (Holds-grown _ _ _ _ (mail_sent-grown mailboxes _ c.args.p old new at grown));
+      holds = ∥∥₁_map self.holds (Holds-grown _ _ _ _ (mail_sent-grown mailboxes _ c.args.p old new at grown) (mail_sent-few _));
     }
 
 pub returns-clause-ok : goal.returns-clause-ok
