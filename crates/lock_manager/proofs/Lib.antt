@@ -30,6 +30,7 @@ pub mod SomeOutcomeLaws
 pub mod SettlingLaws
 pub mod StandsLemmas
 pub mod StayOpenLemmas
+pub mod StaysWholeLemmas
 pub mod SetLemmas
 pub mod SuspendLemmas
 pub mod WaitCloseLemmas

@@ -13,11 +13,8 @@ use Rattle.fd_table.specs.Releasing.{AreExactly, AreReleased, ClosesFile, Closes
 use Rattle.fd_table.specs.Calls.{OpenGives, DupGives, DupToGives, MovesTo, CloseGives, EndGives, IsFreeProcess, ForkGives, Refers, SeekGives, ResizeGives, nothing}
 use Rattle.fd_table.proofs.CallLemmas.{same}
 use Rattle.fd_table.proofs.ListLemmas.{AreExactly-more, AreExactly-skip}
+use Rattle.lock_manager.specs.SomeOutcome.{AreMade}
 use Rattle.lock_manager.proofs.AtLeastOneLemmas.{AtLeastOne, SomePair, by_cases}
-
--- each descriptor that is open refers to a description that was made
-abbrev pub AreMade : Descriptors → Type 0
-AreMade D = (p fd number : ℕ) → D.description_of p fd ≡ Some number → IsSome (description_numbered D.descriptions number)
 
 -- the numbers below the bound of which the fact holds are some list
 numbers_below : (Fact : ℕ → Type 0) (bound : ℕ) → AtLeastOne (λ numbers. AreExactly numbers (λ x. (x < bound) × Fact x))

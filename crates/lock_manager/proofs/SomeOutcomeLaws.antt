@@ -43,14 +43,10 @@ use Rattle.lock_manager.specs.LockCommands.{GetComesTo, SetComesTo, SetOrWaitCom
 use Rattle.lock_manager.specs.FlockCalls.{FlockTestComesTo, FlockModeComesTo, FlockOpComesTo, FlockComesTo, RemovesOldLock, is_same_mode, wanted_flock}
 use Rattle.lock_manager.specs.ProcessCalls.{ForkComesTo, EndComesTo, SignalComesTo, KillOtherComesTo, KillComesTo}
 use Rattle.lock_manager.specs.Step.{ComesTo, Step}
+use Rattle.lock_manager.specs.SomeOutcome.{IsWhole}
 use Rattle.lock_manager.proofs.AtLeastOneLemmas.{AtLeastOne, SomePair, this_value, by_cases, MatchBool-some, MatchOption-some, MatchResult-some, MatchFact-some, some_by_one, some_by_two}
 use Rattle.lock_manager.proofs.SomeBlockerLaws.{bytes_below, AreBelow-changes, FirstBlocker-some}
-use Rattle.lock_manager.proofs.SomeCallLaws.{AreMade, some_or_none, OpenGives-some, DupGives-some, DupToGives-some, CloseGives-some, EndGives-some, ForkGives-some, SeekGives-some, ResizeGives-some}
-
--- what a step needs of the state: open descriptors refer to descriptions that were made, and who waits has a wait in the list
-pub record IsWhole (S : State) : Type 0 where
-  pub made : AreMade S.descriptors
-  pub awaited : (p : ℕ) → S.states p ≡ Waiting → wait_of S.waits p ≢ None
+use Rattle.lock_manager.proofs.SomeCallLaws.{some_or_none, OpenGives-some, DupGives-some, DupToGives-some, CloseGives-some, EndGives-some, ForkGives-some, SeekGives-some, ResizeGives-some}
 
 -- a call on descriptors that memory doesn't refuse is answered, or refused
 answer_some : {R : Type 0} (S : State) (p n : ℕ) (done : R → Outcome) (result : Result R FdFault) → result ≢ Err Memory

@@ -6,15 +6,13 @@ use Rattle.fd_table.specs.Descriptors.{Descriptors, description_numbered}
 use Rattle.fd_table.specs.TablesView.{Numbered, IsSeen, StandFor, view_of}
 use Rattle.wait_core.specs.WaitsView.{wait_of}
 use Rattle.lock_manager.specs.declared.manager.Manager.{Manager}
-use Rattle.lock_manager.specs.declared.request.Request.{Request}
-use Rattle.lock_manager.specs.declared.request.Note.{Note}
-use Rattle.lock_manager.specs.declared.request.ProcState.TheVariants.{Live, Waiting}
+use Rattle.lock_manager.specs.declared.request.ProcState.TheVariants.{Waiting}
 use Rattle.lock_manager.specs.State.{State}
 use Rattle.lock_manager.specs.MachineView.{machine_state, machine_waits}
-use Rattle.lock_manager.specs.ManagerView.{StandsFor, rules_of, processes_of, state_at, waits_of}
-use Rattle.lock_manager.specs.SomeOutcome.{StepHasSomeOutcome}
-use Rattle.lock_manager.proofs.SomeCallLaws.{AreMade}
-use Rattle.lock_manager.proofs.SomeOutcomeLaws.{IsWhole, Step-some}
+use Rattle.lock_manager.specs.ManagerView.{StandsFor, state_at, waits_of}
+use Rattle.lock_manager.specs.SomeOutcome.{AreMade, IsWhole, StepHasSomeOutcome}
+use Rattle.lock_manager.proofs.SomeOutcomeLaws.{Step-some}
+use Rattle.lock_manager.proofs.StaysWholeLemmas.{whole_opening, step_whole}
 
 -- what is seen was made
 seen_made : (D : Descriptors) (p fd number : ℕ) (seen : Option Numbered) → IsSeen seen D p fd → D.description_of p fd ≡ Some number
@@ -35,7 +33,12 @@ whole manager S h =
       awaited = λ p waits. subst (λ ws. wait_of ws p ≢ None) h.waits (manager.machine.awaited p (h.states p ∙ waits));
     }
 
--- so there is a step
+-- so is each state that steps from the opening lead to, and from each there is a step
 pub some_step : StepHasSomeOutcome
-some_step manager S p n request stands live =
-    Step-some (rules_of manager) (processes_of manager) S p n request (whole manager S stands) live
+some_step =
+    record {
+      opening = whole_opening;
+      kept = step_whole;
+      managers = whole;
+      some = Step-some;
+    }

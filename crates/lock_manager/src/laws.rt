@@ -9,8 +9,9 @@ pub fn step_has_one_outcome()
     ensures { StepHasOneOutcome }
 {}
 
-/// A step has some outcome: from each state that a manager stands for, by whatever request of a live process, it can't be that there
-/// is no step. With [`step_has_one_outcome`] there is exactly one: the definition is a function of the state and the request.
+/// A step has some outcome: from each state that steps lead to from the opening, and from each that a manager stands for, by whatever
+/// request of a live process, it can't be that there is no step. With [`step_has_one_outcome`] there is exactly one: the definition is
+/// a function of the state and the request.
 pub fn step_has_some_outcome()
     ensures { StepHasSomeOutcome }
 {}

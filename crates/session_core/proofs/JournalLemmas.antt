@@ -63,7 +63,7 @@ IfSome-push P (y ∷ ys) x first h here (suc place) =
     (subst (λ n. P x n) last here) place)
 
 -- the numbers by process, with one more event that has the next number of its process
-AreNumbered-push : (journal : List Event) (event : Event) → event.n ≡ length (events_of event.p journal) + 1 → AreNumbered journal
+pub AreNumbered-push : (journal : List Event) (event : Event) → event.n ≡ length (events_of event.p journal) + 1 → AreNumbered journal
     → AreNumbered (journal ++ event ∷ [])
 AreNumbered-push journal event number numbered q place =
     ⊎_elim

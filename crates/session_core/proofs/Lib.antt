@@ -10,6 +10,7 @@ pub mod MailLemmas
 pub mod RunLaws
 pub mod HeadlineLaws
 pub mod JournalLemmas
+pub mod GoingOnLaws
 pub mod AnswerLemmas
 pub mod DrainLemmas
 pub mod DrainLaws

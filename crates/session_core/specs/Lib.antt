@@ -1,5 +1,6 @@
 pub mod Event
 pub mod Runs
+pub mod GoingOn
 pub mod Mail
 pub mod Mailboxes
 pub mod Draining
