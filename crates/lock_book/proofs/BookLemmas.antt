@@ -1,10 +1,10 @@
 use Rattle.std.proofs.Common.{ℕ, ◌≡◌, ◌≢◌, ◌==◌, ◌∙◌, sym, ap, refl, subst, true, false, cond, Option, Some, None, Result, Ok, Err, inl, inr}
-use Rattle.std.specs.Prelude.{if◌then◌else◌, is_some, is_ok, OnOk, OnErr, IsTrue}
+use Rattle.std.specs.Prelude.{if◌then◌else◌, ◌||◌, is_some, is_ok, OnOk, OnErr, IsTrue}
 use Rattle.std.specs.Ordering.{nat_cmp}
 use Rattle.std.specs.Option.{option_copied, option_copied_mut, IsSome}
 use Rattle.std.specs.BTreeMap.{BTreeMap, UpdatesBy, WritesThrough, get}
 use Rattle.std.specs.Borrow.{Bor, MutBor}
-use Rattle.std.proofs.lemmas.Bool.{cases_Bool, eqb-true, ne_eqb, eq-eqb}
+use Rattle.std.proofs.lemmas.Bool.{cases_Bool, eqb-true}
 use Rattle.range_core.specs.declared.Mode.{Mode}
 use Rattle.range_core.specs.declared.Span.{Span}
 use Rattle.range_core.specs.declared.list.RangeList.{RangeList}
@@ -221,20 +221,23 @@ ReleasesOwner-puts old new owner puts = record {
   places = λ description. ap is_some (puts.places description);
 }
 
--- a place put for the description with a mode sets it in the book
-pub SetsFlock-puts : (old new : Book) (description : ℕ) (mode : Option Mode) → PutsPlace old new description (Some mode) → SetsFlock old new description mode
+-- a place put for the description with a mode sets it in the book, where there is a mode or the place was there
+pub SetsFlock-puts : (old new : Book) (description : ℕ) (mode : Option Mode) → (is_some mode || has_flock_place old description) ≡ true → PutsPlace old new description (Some mode) → SetsFlock old new description mode
 unfolding byte_modes_of room_in flock_modes_of has_flock_place
-SetsFlock-puts old new description mode puts = record {
+SetsFlock-puts old new description mode asked puts = record {
   bytes = λ owner byte. ap (λ list. modes_in_list list byte) (puts.lists owner);
   rooms = λ owner. ap room_in_list (puts.lists owner);
   flocks = λ other. elim (cases_Bool (description == other)) [
     | inl same ↦ rw (puts.places other, same) refl
     | inr apart ↦ rw (puts.places other, apart) refl
   ];
-  places = λ other different.
-      let apart : (description == other) ≡ false = ne_eqb description other (λ e. different (sym e)) in
-      rw (puts.places other, apart) refl;
-  kept = λ had. rw (puts.places description, eq-eqb description description refl) refl;
+  places = λ other. elim (cases_Bool (description == other)) [
+    | inl same ↦
+        let there : (is_some mode || is_some (place_of old other)) ≡ true =
+        subst (λ d. (is_some mode || is_some (place_of old d)) ≡ true) (eqb-true description other same) asked in
+        rw (puts.places other, same) (sym there)
+    | inr apart ↦ rw (puts.places other, apart) refl
+  ];
 }
 
 -- an empty place put for a description without one reserves it

@@ -1,5 +1,5 @@
 -- What a `Book` stands for, and what its calls change (the words are this project's choice).
-use Rattle.std.specs.Prelude.{◌≡◌, ◌≢◌, ℕ, ◌==◌, ◌&&◌, ◌||◌, if◌then◌else◌, Bool, false, Option, Some, None, is_some, IsTrue}
+use Rattle.std.specs.Prelude.{◌≡◌, ◌≢◌, ℕ, ◌==◌, ◌&&◌, ◌||◌, if◌then◌else◌, Bool, false, Option, Some, None, is_some}
 use Rattle.std.specs.Map.{lookup}
 use Rattle.range_core.specs.declared.Mode.{Mode}
 use Rattle.range_core.specs.declared.Span.{Span}
@@ -81,13 +81,13 @@ pub record ReleasesOwner (old new : Book) (owner : Owner) : Type 0 where
   pub flocks : (description : ℕ) → flock_modes_of new description ≡ flock_modes_of old description
   pub places : (description : ℕ) → has_flock_place new description ≡ has_flock_place old description
 
--- the description has this flock mode and keeps its place, if it had one, and all else stays (flock(2))
+-- the description has this flock mode, and all else stays; a description has a place where it had one, or is the one that
+-- was set to a mode (flock(2))
 pub record SetsFlock (old new : Book) (description : ℕ) (mode : Option Mode) : Type 0 where
   pub bytes : (owner : Owner) (byte : ℕ) → byte_modes_of new owner byte ≡ byte_modes_of old owner byte
   pub rooms : (owner : Owner) → room_in new owner ≡ room_in old owner
   pub flocks : (other : ℕ) → flock_modes_of new other ≡ (if description == other then mode else flock_modes_of old other)
-  pub places : (other : ℕ) → other ≢ description → has_flock_place new other ≡ has_flock_place old other
-  pub kept : IsTrue (has_flock_place old description) → IsTrue (has_flock_place new description)
+  pub places : (other : ℕ) → has_flock_place new other ≡ (description == other && is_some mode || has_flock_place old other)
 
 -- the description has a place, and all else stays
 pub record ReservesFlock (old new : Book) (description : ℕ) : Type 0 where
