@@ -10,6 +10,7 @@ use Rattle.lock_book.specs.declared.Owner.{Owner}
 use Rattle.lock_book.specs.declared.book.Book.{Book}
 use Rattle.lock_book.specs.Owners.{is_same_owner}
 use Rattle.lock_book.specs.Conflicts.{ByteModes, FlockModes}
+use Rattle.lock_book.specs.Holders.{place_among, mode_in_place}
 
 -- the list of modes that a book keeps for the owner
 unfoldable pub list_of : Book → Owner → Option RangeList
@@ -35,12 +36,7 @@ room_in book owner = room_in_list (list_of book owner)
 
 -- the place that a book keeps for the flock lock of the description, with the mode that stands there
 unfoldable pub place_of : Book → ℕ → Option (Option Mode)
-place_of book description = lookup (λ other. description == other) book.flocks.entries
-
--- the mode that stands in a place, and none without one
-abbrev pub mode_in_place : Option (Option Mode) → Option Mode
-mode_in_place None = None
-mode_in_place (Some mode) = mode
+place_of book description = place_among book.flocks.places.entries description
 
 -- the flock locks that a book stands for
 unfoldable pub flock_modes_of : Book → FlockModes
