@@ -63,6 +63,20 @@ module _ (modes : ByteModes) (owner : Owner) (span : Span) (wanted : Mode) where
   pub never_itself : (other : Owner) → other ≡ owner → NeverBlocks other
   never_itself other same byte covered blocks = blocks.another same
 
+  pub never_without_hit : (other : Owner) (hit : Option ℕ) → is_some hit ≡ false → IfNone hit ((byte : ℕ) → Covers span byte → ¬ HeldConflicts (modes other byte) wanted) → NeverBlocks other
+  never_without_hit other None without none = never_from_none other none
+  never_without_hit other (Some byte) without none = absurd (let h : true ≡ false = without in cc)
+
+  -- another owner whose list has a hit is in the way
+  pub conflict_from_hit : (other : Owner) (hit : Option ℕ) → other ≢ owner → is_some hit ≡ true → IfSome hit (IsFirstHit (modes other) span wanted) → ByteConflict modes owner span wanted
+  conflict_from_hit other None different has some = absurd (let h : false ≡ true = has in cc)
+  conflict_from_hit other (Some byte) different has some = record {
+    byte = byte;
+    covered = some.covered;
+    other = other;
+    blocks = record { another = different; conflicts = some.hit };
+  }
+
   -- one more entry that blocks nothing
   pub least_skip : (items : List Item) (found : Option (ℕ × Owner)) (x : Item) → IsLeastSoFar items found → NeverBlocks x.0.now → IsLeastSoFar (items ++ x ∷ []) found
   least_skip items None x least never = All-push (λ y. NeverBlocks y.0.now) items x least never
@@ -171,7 +185,7 @@ blocked_in book items P whole all owner other wanted byte b =
     owner_in book items P whole all other list.0 list.1
 
 -- where no entry blocks nothing does
-least_none : (book : Book) (items : List Item) (owner : Owner) (span : Span) (wanted : Mode) → map deref_pair items ≡ book.owners.entries → IsLeastSoFar (byte_modes_of book) owner span wanted items None → ¬ ByteConflict (byte_modes_of book) owner span wanted
+pub least_none : (book : Book) (items : List Item) (owner : Owner) (span : Span) (wanted : Mode) → map deref_pair items ≡ book.owners.entries → IsLeastSoFar (byte_modes_of book) owner span wanted items None → ¬ ByteConflict (byte_modes_of book) owner span wanted
 least_none book items owner span wanted whole never conflict =
     blocked_in book items (NeverBlocks (byte_modes_of book) owner span wanted) whole never owner conflict.other wanted conflict.byte conflict.blocks
     conflict.byte conflict.covered conflict.blocks

@@ -1,10 +1,10 @@
 use Rattle.std.proofs.Common.{ℕ, ◌≡◌, ◌≢◌, ◌==◌, ◌∙◌, sym, ap, refl, subst, true, false, cond, Option, Some, None, Result, Ok, Err, inl, inr}
-use Rattle.std.specs.Prelude.{if◌then◌else◌, is_some, is_ok, OnOk, OnErr, IsTrue}
+use Rattle.std.specs.Prelude.{if◌then◌else◌, ◌||◌, is_some, is_ok, OnOk, OnErr, IsTrue}
 use Rattle.std.specs.Ordering.{nat_cmp}
 use Rattle.std.specs.Option.{option_copied, option_copied_mut, IsSome}
 use Rattle.std.specs.BTreeMap.{BTreeMap, UpdatesBy, WritesThrough, get}
 use Rattle.std.specs.Borrow.{Bor, MutBor}
-use Rattle.std.proofs.lemmas.Bool.{cases_Bool, eqb-true, ne_eqb, eq-eqb}
+use Rattle.std.proofs.lemmas.Bool.{cases_Bool, eqb-true}
 use Rattle.range_core.specs.declared.Mode.{Mode}
 use Rattle.range_core.specs.declared.Span.{Span}
 use Rattle.range_core.specs.declared.list.RangeList.{RangeList}
@@ -12,8 +12,10 @@ use Rattle.range_core.specs.Changes.{modes_of, room_of, is_covered, SetsMode}
 use Rattle.lock_book.specs.declared.Owner.{Owner}
 use Rattle.lock_book.specs.declared.book.Book.{Book}
 use Rattle.lock_book.specs.Owners.{is_same_owner}
-use Rattle.lock_book.specs.Books.{list_of, place_of, byte_modes_of, room_in, flock_modes_of, has_flock_place, modes_in_list, room_in_list, mode_in_place, SameBook, SameButRoom, SetsOwnerMode, ReleasesOwner, SetsFlock, ReservesFlock, ReleasesFlock}
-use Rattle.lock_book.proofs.OwnerLemmas.{owner_cmp, is_eq-owner_cmp, is_eq-nat_cmp, lookup-owner_cmp, lookup-nat_cmp, same_owner, is_same_owner-self}
+use Rattle.lock_book.specs.Books.{list_of, place_of, byte_modes_of, room_in, flock_modes_of, has_flock_place, modes_in_list, room_in_list, SameBook, SameButRoom, SetsOwnerMode, ReleasesOwner, SetsFlock, ReservesFlock, ReleasesFlock}
+use Rattle.lock_book.specs.Holders.{place_among, mode_in_place, PutsAmong}
+use Rattle.std.specs.Map.{lookup}
+use Rattle.lock_book.proofs.OwnerLemmas.{owner_cmp, is_eq-owner_cmp, lookup-owner_cmp, lookup-nat_cmp, same_owner, is_same_owner-self}
 
 -- what holds on success holds where there was success
 pub OnOk-at_ok : {T E P : Type 0} (r : Result T E) → is_ok r ≡ true → OnOk r P → P
@@ -29,9 +31,9 @@ pub list_of-get : (book : Book) (owner : Owner) → list_of book owner ≡ get o
 unfolding list_of
 list_of-get book owner = sym (lookup-owner_cmp owner book.owners.entries)
 
-pub place_of-get : (book : Book) (description : ℕ) → place_of book description ≡ get nat_cmp book.flocks description
+pub place_of-get : (book : Book) (description : ℕ) → place_of book description ≡ get nat_cmp book.flocks.places description
 unfolding place_of
-place_of-get book description = sym (lookup-nat_cmp description book.flocks.entries)
+place_of-get book description = sym (lookup-nat_cmp description book.flocks.places.entries)
 
 -- the mode that stands in a description's place is its flock mode
 pub flock_modes_of-place : (book : Book) (description : ℕ) (mode : Option Mode) → place_of book description ≡ Some mode → flock_modes_of book description ≡ mode
@@ -39,10 +41,10 @@ unfolding flock_modes_of
 flock_modes_of-place book description mode there = ap mode_in_place there
 
 -- a description that no map has has no place
-pub no_place : (book : Book) (description : ℕ) → get nat_cmp book.flocks description ≡ None → IsTrue (has_flock_place book description) → ⊥
-unfolding has_flock_place
+pub no_place : (book : Book) (description : ℕ) → place_among book.flocks.places.entries description ≡ None → IsTrue (has_flock_place book description) → ⊥
+unfolding has_flock_place place_of
 no_place book description none there =
-    let e : place_of book description ≡ None = place_of-get book description ∙ none in
+    let e : place_of book description ≡ None = none in
     let h : false ≡ true = rw e at there in cc
 
 pub none_from_test : {A : Type 0} (o : Option A) → is_some o ≡ false → o ≡ None
@@ -111,14 +113,12 @@ PutsList-writes old owners owner before list writes was =
     let there : IsSome (get owner_cmp old.owners owner) = rw (sym (list_of-get old owner) ∙ was) refl in
     PutsList-updates old owners owner (Some list) (writes.3 there)
 
-pub PutsPlace-updates : (old : Book) (flocks : BTreeMap ℕ (Option Mode)) (description : ℕ) (place : Option (Option Mode)) → UpdatesBy nat_cmp (nat_cmp description) old.flocks flocks place → PutsPlace old (record old { flocks = flocks }) description place
-unfolding list_of
-PutsPlace-updates old flocks description place updates = record {
-  lists = λ owner. refl;
-  places = λ other.
-      place_of-get (record old { flocks = flocks }) other ∙ updates.0 other
-      ∙ ap (λ b. cond b place (get nat_cmp old.flocks other)) (is_eq-nat_cmp description other)
-      ∙ ap (λ o. cond (description == other) place o) (sym (place_of-get old other));
+-- so is one of the places of flock locks
+pub PutsPlace-puts : (old new : Book) (description : ℕ) (place : Option (Option Mode)) → new.owners ≡ old.owners → PutsAmong old.flocks.places.entries new.flocks.places.entries description place → PutsPlace old new description place
+unfolding list_of place_of
+PutsPlace-puts old new description place same puts = record {
+  lists = λ owner. ap (λ (m : BTreeMap Owner RangeList). lookup (is_same_owner owner) m.entries) same;
+  places = puts;
 }
 
 -- every other owner's list stays
@@ -221,20 +221,23 @@ ReleasesOwner-puts old new owner puts = record {
   places = λ description. ap is_some (puts.places description);
 }
 
--- a place put for the description with a mode sets it in the book
-pub SetsFlock-puts : (old new : Book) (description : ℕ) (mode : Option Mode) → PutsPlace old new description (Some mode) → SetsFlock old new description mode
+-- a place put for the description with a mode sets it in the book, where there is a mode or the place was there
+pub SetsFlock-puts : (old new : Book) (description : ℕ) (mode : Option Mode) → (is_some mode || has_flock_place old description) ≡ true → PutsPlace old new description (Some mode) → SetsFlock old new description mode
 unfolding byte_modes_of room_in flock_modes_of has_flock_place
-SetsFlock-puts old new description mode puts = record {
+SetsFlock-puts old new description mode asked puts = record {
   bytes = λ owner byte. ap (λ list. modes_in_list list byte) (puts.lists owner);
   rooms = λ owner. ap room_in_list (puts.lists owner);
   flocks = λ other. elim (cases_Bool (description == other)) [
     | inl same ↦ rw (puts.places other, same) refl
     | inr apart ↦ rw (puts.places other, apart) refl
   ];
-  places = λ other different.
-      let apart : (description == other) ≡ false = ne_eqb description other (λ e. different (sym e)) in
-      rw (puts.places other, apart) refl;
-  kept = λ had. rw (puts.places description, eq-eqb description description refl) refl;
+  places = λ other. elim (cases_Bool (description == other)) [
+    | inl same ↦
+        let there : (is_some mode || is_some (place_of old other)) ≡ true =
+        subst (λ d. (is_some mode || is_some (place_of old d)) ≡ true) (eqb-true description other same) asked in
+        rw (puts.places other, same) (sym there)
+    | inr apart ↦ rw (puts.places other, apart) refl
+  ];
 }
 
 -- an empty place put for a description without one reserves it
@@ -275,5 +278,5 @@ ReleasesFlock-puts old new description puts = record {
 pub owner_released : (old : Book) (owners : BTreeMap Owner RangeList) (owner : Owner) → UpdatesBy owner_cmp (owner_cmp owner) old.owners owners None → ReleasesOwner old (record old { owners = owners }) owner
 owner_released old owners owner updates = ReleasesOwner-puts _ _ _ (PutsList-updates old owners owner None updates)
 
-pub flock_released : (old : Book) (flocks : BTreeMap ℕ (Option Mode)) (description : ℕ) → UpdatesBy nat_cmp (nat_cmp description) old.flocks flocks None → ReleasesFlock old (record old { flocks = flocks }) description
-flock_released old flocks description updates = ReleasesFlock-puts _ _ _ (PutsPlace-updates old flocks description None updates)
+pub flock_released : (old new : Book) (description : ℕ) → new.owners ≡ old.owners → PutsAmong old.flocks.places.entries new.flocks.places.entries description None → ReleasesFlock old new description
+flock_released old new description same puts = ReleasesFlock-puts _ _ _ (PutsPlace-puts old new description None same puts)

@@ -1,16 +1,14 @@
-use Rattle.std.proofs.Common.{ℕ, ◌≡◌, ◌≢◌, ◌<◌, ◌==◌, ◌∙◌, sym, ap, refl, subst, Option, Some, None, List, All, map}
+use Rattle.std.proofs.Common.{ℕ, ◌≡◌, ◌<◌, ◌==◌, ◌∙◌, sym, ap, subst, Option, Some, None, List, All, map}
 use Rattle.std.specs.Borrow.{Bor}
 use Rattle.std.specs.Iterator.{Yields}
 use Rattle.std.specs.Ordering.{nat_cmp}
-use Rattle.std.specs.BTreeMap.{IsOrdered, get}
+use Rattle.std.specs.BTreeMap.{BTreeMap, IsOrdered, get}
 use Rattle.std.specs.Map.Iter.{TakesFirst, deref_pair}
 use Rattle.std.proofs.lemmas.Bool.{eqb-true}
 use Rattle.range_core.specs.declared.Mode.{Mode}
-use Rattle.range_core.specs.Ranges.{HeldConflicts}
-use Rattle.lock_book.specs.declared.Owner.TheVariants.{Description}
 use Rattle.lock_book.specs.declared.book.Book.{Book}
-use Rattle.lock_book.specs.Conflicts.{FlockConflict}
-use Rattle.lock_book.specs.Books.{place_of, flock_modes_of, mode_in_place}
+use Rattle.lock_book.specs.Books.{place_of, flock_modes_of}
+use Rattle.lock_book.specs.Holders.{mode_in_place}
 use Rattle.lock_book.proofs.BookLemmas.{place_of-get, flock_modes_of-place}
 use Rattle.lock_book.proofs.LoopLemmas.{next_in_loop, earlier_in_loop, found_in_loop}
 use Rattle.lock_book.proofs.OwnerLemmas.{less_from_nat}
@@ -22,16 +20,17 @@ abbrev pub Place : Type 0
 Place = Bor ℕ × Bor (Option Mode)
 
 -- the next place of a loop has its description's flock mode
-pub flock_mode_in_loop : (book : Book) (items : List Place) (s t u : List (ℕ × Option Mode)) (r : Option Place) (x : Place) → s ≡ book.flocks.entries → Yields (TakesFirst deref_pair) s items t → r ≡ Some x → TakesFirst deref_pair t r u → All (λ e. get nat_cmp book.flocks e.0 ≡ Some e.1) book.flocks.entries → flock_modes_of book x.0.now ≡ x.1.now
-flock_mode_in_loop book items s t u r x start yields is step all =
+pub flock_mode_in_loop : (book : Book) (places : BTreeMap ℕ (Option Mode)) (items : List Place) (s t u : List (ℕ × Option Mode)) (r : Option Place) (x : Place) → places ≡ book.flocks.places → s ≡ places.entries → Yields (TakesFirst deref_pair) s items t → r ≡ Some x → TakesFirst deref_pair t r u → All (λ e. get nat_cmp places e.0 ≡ Some e.1) places.entries → flock_modes_of book x.0.now ≡ x.1.now
+flock_mode_in_loop book places items s t u r x same start yields is step all =
     flock_modes_of-place book x.0.now x.1.now
-    (place_of-get book x.0.now ∙ next_in_loop (λ e. get nat_cmp book.flocks e.0 ≡ Some e.1) book.flocks.entries items s t u r x start yields is step all)
+    (place_of-get book x.0.now ∙ ap (λ (m : BTreeMap ℕ (Option Mode)). get nat_cmp m x.0.now) (sym same)
+    ∙ next_in_loop (λ e. get nat_cmp places e.0 ≡ Some e.1) places.entries items s t u r x start yields is step all)
 
 -- and a greater number than the places so far
-pub earlier_flocks : (book : Book) (items : List Place) (s t u : List (ℕ × Option Mode)) (r : Option Place) (x : Place) → s ≡ book.flocks.entries → Yields (TakesFirst deref_pair) s items t → r ≡ Some x → TakesFirst deref_pair t r u → IsOrdered nat_cmp book.flocks → All (λ y. y.0.now < x.0.now) items
-earlier_flocks book items s t u r x start yields is step ordered =
+pub earlier_flocks : (places : BTreeMap ℕ (Option Mode)) (items : List Place) (s t u : List (ℕ × Option Mode)) (r : Option Place) (x : Place) → s ≡ places.entries → Yields (TakesFirst deref_pair) s items t → r ≡ Some x → TakesFirst deref_pair t r u → IsOrdered nat_cmp places → All (λ y. y.0.now < x.0.now) items
+earlier_flocks places items s t u r x start yields is step ordered =
     All-weaker (λ y. nat_cmp y.0.now x.0.now ≡ Less) (λ y. y.0.now < x.0.now) (λ y less. less_from_nat y.0.now x.0.now less) items
-    (earlier_in_loop nat_cmp book.flocks.entries items s t u r x start yields is step ordered)
+    (earlier_in_loop nat_cmp places.entries items s t u r x start yields is step ordered)
 
 -- a flock mode stands in a place
 place_in : (place : Option (Option Mode)) (mode : Mode) → mode_in_place place ≡ Some mode → place ≡ Some (Some mode)
@@ -39,28 +38,9 @@ place_in None mode held = absurd (let h : None ≡ Some mode = held in cc)
 place_in (Some held) mode is = ap (λ m. Some m) is
 
 -- what holds of each place holds of each description with a flock mode
-pub flock_in : (book : Book) (items : List Place) (P : ℕ → Option Mode → Type 0) → map deref_pair items ≡ book.flocks.entries → All (λ x. P x.0.now x.1.now) items → (description : ℕ) (mode : Mode) → flock_modes_of book description ≡ Some mode → P description (Some mode)
+pub flock_in : (book : Book) (items : List Place) (P : ℕ → Option Mode → Type 0) → map deref_pair items ≡ book.flocks.places.entries → All (λ x. P x.0.now x.1.now) items → (description : ℕ) (mode : Mode) → flock_modes_of book description ≡ Some mode → P description (Some mode)
 unfolding place_of flock_modes_of
 flock_in book items P whole all description mode held =
-    let entry = found_in_loop (λ e. P e.0 e.1) book.flocks.entries items whole all (λ other. description == other) (Some mode)
+    let entry = found_in_loop (λ e. P e.0 e.1) book.flocks.places.entries items whole all (λ other. description == other) (Some mode)
     (place_in (place_of book description) mode held) in
     subst (λ (d : ℕ). P d (Some mode)) (sym (eqb-true description entry.0 entry.1)) entry.2
-
--- of a flock mode that conflicts
-conflicting_mode : (held : Option Mode) (wanted : Mode) → HeldConflicts held wanted → (mode : Mode) × (held ≡ Some mode)
-conflicting_mode None wanted conflicts = absurd conflicts
-conflicting_mode (Some mode) wanted conflicts = (mode, refl)
-
--- descriptions with two numbers are two owners
-pub other_flock : (one other : ℕ) → one ≢ other → Description one ≢ Description other
-other_flock one other different same = different (same_description same) where
-  same_description : Description one ≡ Description other → one ≡ other
-  same_description e = cc
-
--- where no other place conflicts nothing does
-pub no_flock_conflict : (book : Book) (items : List Place) (description : ℕ) (wanted : Mode) → map deref_pair items ≡ book.flocks.entries → All (λ x. x.0.now ≢ description → ¬ HeldConflicts x.1.now wanted) items → ¬ FlockConflict (flock_modes_of book) (Description description) wanted
-no_flock_conflict book items description wanted whole none conflict =
-    let mode = conflicting_mode (flock_modes_of book conflict.description) wanted conflict.conflicts in
-    flock_in book items (λ d held. d ≢ description → ¬ HeldConflicts held wanted) whole none conflict.description mode.0 mode.1
-    (λ same. conflict.another (ap (λ d. Description d) same))
-    (subst (λ (held : Option Mode). HeldConflicts held wanted) mode.1 conflict.conflicts)

@@ -166,7 +166,7 @@ flocks_of_more file modes items x mode locks line are same has earlier is =
     }
 
 -- the lines of all places are the flock locks
-pub all_flock_locks : (book : Book) (file : ℕ) (items : List Place) (locks : List Held) → map deref_pair items ≡ book.flocks.entries → AreFlocksOf file (flock_modes_of book) items locks → AreFlockLocks file (flock_modes_of book) locks
+pub all_flock_locks : (book : Book) (file : ℕ) (items : List Place) (locks : List Held) → map deref_pair items ≡ book.flocks.places.entries → AreFlocksOf file (flock_modes_of book) items locks → AreFlockLocks file (flock_modes_of book) locks
 all_flock_locks book file items locks whole are = record {
   in_order = are.in_order;
   each = are.each;

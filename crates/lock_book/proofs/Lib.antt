@@ -3,6 +3,7 @@ pub mod BookLaws
 pub mod BookLemmas
 pub mod FlockLemmas
 pub mod HeldLemmas
+pub mod HolderLemmas
 pub mod ListLemmas
 pub mod LoopLemmas
 pub mod OwnerLemmas

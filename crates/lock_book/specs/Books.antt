@@ -1,5 +1,5 @@
 -- What a `Book` stands for, and what its calls change (the words are this project's choice).
-use Rattle.std.specs.Prelude.{◌≡◌, ◌≢◌, ℕ, ◌==◌, ◌&&◌, ◌||◌, if◌then◌else◌, Bool, false, Option, Some, None, is_some, IsTrue}
+use Rattle.std.specs.Prelude.{◌≡◌, ◌≢◌, ℕ, ◌==◌, ◌&&◌, ◌||◌, if◌then◌else◌, Bool, false, Option, Some, None, is_some}
 use Rattle.std.specs.Map.{lookup}
 use Rattle.range_core.specs.declared.Mode.{Mode}
 use Rattle.range_core.specs.declared.Span.{Span}
@@ -10,6 +10,7 @@ use Rattle.lock_book.specs.declared.Owner.{Owner}
 use Rattle.lock_book.specs.declared.book.Book.{Book}
 use Rattle.lock_book.specs.Owners.{is_same_owner}
 use Rattle.lock_book.specs.Conflicts.{ByteModes, FlockModes}
+use Rattle.lock_book.specs.Holders.{place_among, mode_in_place}
 
 -- the list of modes that a book keeps for the owner
 unfoldable pub list_of : Book → Owner → Option RangeList
@@ -35,12 +36,7 @@ room_in book owner = room_in_list (list_of book owner)
 
 -- the place that a book keeps for the flock lock of the description, with the mode that stands there
 unfoldable pub place_of : Book → ℕ → Option (Option Mode)
-place_of book description = lookup (λ other. description == other) book.flocks.entries
-
--- the mode that stands in a place, and none without one
-abbrev pub mode_in_place : Option (Option Mode) → Option Mode
-mode_in_place None = None
-mode_in_place (Some mode) = mode
+place_of book description = place_among book.flocks.places.entries description
 
 -- the flock locks that a book stands for
 unfoldable pub flock_modes_of : Book → FlockModes
@@ -81,13 +77,13 @@ pub record ReleasesOwner (old new : Book) (owner : Owner) : Type 0 where
   pub flocks : (description : ℕ) → flock_modes_of new description ≡ flock_modes_of old description
   pub places : (description : ℕ) → has_flock_place new description ≡ has_flock_place old description
 
--- the description has this flock mode and keeps its place, if it had one, and all else stays (flock(2))
+-- the description has this flock mode, and all else stays; a description has a place where it had one, or is the one that
+-- was set to a mode (flock(2))
 pub record SetsFlock (old new : Book) (description : ℕ) (mode : Option Mode) : Type 0 where
   pub bytes : (owner : Owner) (byte : ℕ) → byte_modes_of new owner byte ≡ byte_modes_of old owner byte
   pub rooms : (owner : Owner) → room_in new owner ≡ room_in old owner
   pub flocks : (other : ℕ) → flock_modes_of new other ≡ (if description == other then mode else flock_modes_of old other)
-  pub places : (other : ℕ) → other ≢ description → has_flock_place new other ≡ has_flock_place old other
-  pub kept : IsTrue (has_flock_place old description) → IsTrue (has_flock_place new description)
+  pub places : (other : ℕ) → has_flock_place new other ≡ (description == other && is_some mode || has_flock_place old other)
 
 -- the description has a place, and all else stays
 pub record ReservesFlock (old new : Book) (description : ℕ) : Type 0 where

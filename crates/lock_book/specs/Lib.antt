@@ -1,6 +1,7 @@
 pub mod Books
 pub mod Changes
 pub mod Conflicts
+pub mod Holders
 pub mod Owners
 pub mod Reports
 pub mod OneReport

@@ -4,10 +4,12 @@ ghost use Rattle.lock_book.specs.Books.{byte_modes_of, room_in, flock_modes_of, 
 mod blocking;
 mod bytes;
 mod flocks;
+mod holders;
 mod reports;
 
+use self::holders::FlockHolders;
 use crate::Owner;
-use range_core::{Mode, RangeList};
+use range_core::RangeList;
 use std::alloc::Global;
 use std::collections::BTreeMap;
 
@@ -18,7 +20,7 @@ use std::collections::BTreeMap;
 #[derive(Drop)]
 pub struct Book {
     owners: BTreeMap<Owner, RangeList>,
-    flocks: BTreeMap<u64, Option<Mode>>,
+    flocks: FlockHolders,
     alloc: Global,
 }
 
@@ -32,7 +34,7 @@ impl Book {
     {
         Book {
             owners: BTreeMap::new(alloc),
-            flocks: BTreeMap::new(alloc),
+            flocks: FlockHolders::new(alloc),
             alloc,
         }
     }

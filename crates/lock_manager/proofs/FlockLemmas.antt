@@ -1,8 +1,7 @@
 -- What holds of the machine after a change of one flock lock.
-use Rattle.std.proofs.Common.{ℕ, ◌≡◌, ◌≢◌, ◌<◌, ◌≤◌, ◌+◌, refl, sym, ◌∙◌, ap, subst, List, [], ◌∷◌, ◌++◌, length, Some, None, Option, Bool, true, false, inl, inr, arith, Result, Ok, Err, OnOk, OnErr}
+use Rattle.std.proofs.Common.{ℕ, ◌≡◌, ◌≢◌, ◌<◌, ◌≤◌, ◌+◌, refl, sym, ◌∙◌, ap, subst, List, [], ◌∷◌, ◌++◌, length, Some, None, Option, Bool, true, false, arith, Result, Ok, Err, OnOk, OnErr}
 use Rattle.std.proofs.Math.Logic.{∥∥₁_map, ∥∥₁_elim}
-use Rattle.std.proofs.lemmas.Bool.{eqb-true, eq-eqb}
-use Rattle.std.proofs.lemmas.Bool.Decides.{eqb_tells}
+use Rattle.std.proofs.lemmas.Bool.{eqb-true, eq-eqb, or_right}
 use Rattle.std.specs.Prelude.{slice_get, slice_set, ◌==◌, ◌&&◌, ◌||◌, if◌then◌else◌, filter}
 use Rattle.range_core.specs.declared.Memory.{Memory}
 use Rattle.range_core.specs.declared.Mode.{Mode}
@@ -148,10 +147,7 @@ owned_flock tables waits old new file description mode may bytes flocks owned =
 -- a place that is kept is kept on
 pub flock_place_kept : (old new : Book) (description : ℕ) (mode : Option Mode) → SetsFlock old new description mode → (d : ℕ)
     → has_flock_place old d ≡ true → has_flock_place new d ≡ true
-flock_place_kept old new description mode sets d there = elim (eqb_tells d description) [
-  | inl same ↦ subst (λ k. has_flock_place new k ≡ true) (sym same.1) (sets.kept (subst (λ k. has_flock_place old k ≡ true) same.1 there))
-  | inr other ↦ sets.places d other.1 ∙ there
-]
+flock_place_kept old new description mode sets d there = sets.places d ∙ or_right _ (has_flock_place old d) there
 
 place_at : (is_it : Bool) (entry : Option Book) (old new : Book) (d : ℕ) → (is_it ≡ true → entry ≡ Some old) → (has_flock_place old d ≡ true → has_flock_place new d ≡ true)
     → has_place_at entry d ≡ true → has_place_at (if is_it then Some new else entry) d ≡ true

@@ -14,7 +14,12 @@ impl Book {
         requires { IsByteRange span }
         ensures { IsTrue result ↔ ByteConflict (byte_modes_of self.now) owner span mode }
     {
-        self.first_blocker(owner, span, mode).is_some()
+        for (other, list) in &self.owners {
+            if *other != owner && list.first_hit(span, mode).is_some() {
+                return true;
+            }
+        }
+        false
     }
 
     /// Whether a traditional lock of the process, if that isn't the owner, conflicts on some byte of the span

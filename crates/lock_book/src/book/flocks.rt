@@ -1,5 +1,4 @@
-ghost use Rattle.std.specs.Prelude.{◌≡◌, ◌↔◌, IsTrue, IsSome, IsOk, OnOk, OnErr, None, Some};
-ghost use Rattle.range_core.specs.Ranges.{HeldConflicts};
+ghost use Rattle.std.specs.Prelude.{◌≡◌, ◌↔◌, IsTrue, IsSome, IsOk, OnOk, OnErr};
 ghost use Rattle.lock_book.specs.Conflicts.{FlockConflict};
 ghost use Rattle.lock_book.specs.Books.{flock_modes_of, has_flock_place, ReleasesFlock, ReservesFlock, SameBook, SetsFlock};
 
@@ -14,19 +13,14 @@ impl Book {
         ensures mode { result ≡ flock_modes_of self.now description }
         ensures place { IsSome result → IsTrue (has_flock_place self.now description) }
     {
-        *self.flocks.get(&description)?
+        self.flocks.place(description)?
     }
 
     /// Whether another description's flock lock conflicts with one of this mode (flock(2)). It takes no memory.
     pub fn flock_blocked(&self, description: u64, mode: Mode) -> bool
         ensures { IsTrue result ↔ FlockConflict (flock_modes_of self.now) (Owner.Description description) mode }
     {
-        for (other, held) in &self.flocks {
-            if *other != description && held_conflicts(*held, mode) {
-                return true;
-            }
-        }
-        false
+        self.flocks.blocked(description, mode)
     }
 
     /// Sets the flock mode of the description, or removes it where `mode` is `None`; a place that is kept for it stays
@@ -40,7 +34,7 @@ impl Book {
         ensures err { OnErr result (SameBook self.old self.new) }
     {
         if mode.is_some() || self.flock_room(description) {
-            self.flocks.insert(description, mode).map_err(|_| Memory)?;
+            self.flocks.put(description, mode)?;
         }
         Ok(())
     }
@@ -54,7 +48,7 @@ impl Book {
         ensures err { OnErr result (SameBook self.old self.new) }
     {
         if !self.flock_room(description) {
-            self.flocks.insert(description, None).map_err(|_| Memory)?;
+            self.flocks.put(description, None)?;
         }
         Ok(())
     }
@@ -63,7 +57,7 @@ impl Book {
     pub fn flock_room(&self, description: u64) -> bool
         ensures { result ≡ has_flock_place self.now description }
     {
-        self.flocks.contains_key(&description)
+        self.flocks.place(description).is_some()
     }
 
     /// Sets the flock mode in the place that is kept, or removes it, as [`Book::flock_set`] does. It takes no memory.
@@ -80,16 +74,6 @@ impl Book {
     pub fn release_flock(&mut self, description: u64)
         ensures { ReleasesFlock self.old self.new description }
     {
-        self.flocks.remove(&description);
-    }
-}
-
-/// Whether what is held, if anything, conflicts with a lock of the wanted mode of another description.
-fn held_conflicts(held: Option<Mode>, wanted: Mode) -> bool
-    ensures { IsTrue result ↔ HeldConflicts held wanted }
-{
-    match held {
-        Some(held) => held.conflicts_with(wanted),
-        None => false,
+        self.flocks.remove(description);
     }
 }

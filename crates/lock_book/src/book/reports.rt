@@ -40,7 +40,7 @@ impl Book {
         ensures { IfOk result (λ locks. AreFlockLocks file (flock_modes_of self.now) locks.items) }
     {
         let mut locks = Vec::new(self.alloc);
-        for (description, place) in &self.flocks {
+        for (description, place) in self.flocks.places() {
             let Some(mode) = *place else { continue };
             locks
                 .push(flock_line(file, *description, mode))

@@ -1,6 +1,8 @@
-use Rattle.std.proofs.Common.{sym}
+use Rattle.std.proofs.Common.{ℕ, ◌∙◌, ap, sym, Option}
 use Rattle.std.specs.Map.Iter.{deref_pair}
 use Rattle.std.proofs.lemmas.Map.Iter.{iter_end}
+use Rattle.std.specs.BTreeMap.{BTreeMap}
+use Rattle.range_core.specs.declared.Mode.{Mode}
 use Rattle.lock_book.proofs.FlockLemmas.{flock_mode_in_loop, earlier_flocks}
 use Rattle.lock_book.proofs.HeldLemmas.{flocks_of_more, flocks_of_empty, all_flock_locks}
 use Rattle.lock_book.proofs.book.Book.held_flocks.Goals as goal
@@ -8,9 +10,9 @@ use Rattle.lock_book.proofs.book.Book.held_flocks.Goals as goal
 pub loop-description-preserved : goal.loop-description-preserved
 loop-description-preserved c =
     let gives = c.into_iter-description-iterator.ensures.into_iter_gives in
-    let mode = flock_mode_in_loop c.args.self.now c.loop-description.yielded _ _ _ _ (c.in-Some.description, c.in-Some.place)
-    gives.0 c.loop-description.yielded_by c.in-Some.is c.next.ensures.steps gives.6 in
-    let earlier = earlier_flocks c.args.self.now c.loop-description.yielded _ _ _ _ (c.in-Some.description, c.in-Some.place)
+    let mode = flock_mode_in_loop c.args.self.now c.places-description-items.result.now c.loop-description.yielded _ _ _ _ (c.in-Some.description, c.in-Some.place)
+    c.places-description-items.ensures gives.0 c.loop-description.yielded_by c.in-Some.is c.next.ensures.steps gives.6 in
+    let earlier = earlier_flocks c.places-description-items.result.now c.loop-description.yielded _ _ _ _ (c.in-Some.description, c.in-Some.place)
     gives.0 c.loop-description.yielded_by c.in-Some.is c.next.ensures.steps gives.5 in
     let items = c.push.ensures.items in (
       tt,
@@ -27,5 +29,5 @@ loop-description-preserved-in_default c =
 pub returns : goal.returns
 returns c =
     let gives = c.into_iter-description-iterator.ensures.into_iter_gives in
-    let whole = (iter_end deref_pair c.args.self.now.flocks.entries c.loop-description.yielded _ _ _ _ gives.0 c.loop-description.yielded_by c.in-None.is c.next.ensures.steps).0 in
-    all_flock_locks c.args.self.now _ c.loop-description.yielded _ whole c.loop-description.invariant.2
+    let whole = (iter_end deref_pair c.places-description-items.result.now.entries c.loop-description.yielded _ _ _ _ gives.0 c.loop-description.yielded_by c.in-None.is c.next.ensures.steps).0 in
+    all_flock_locks c.args.self.now _ c.loop-description.yielded _ (whole ∙ ap (λ (m : BTreeMap ℕ (Option Mode)). m.entries) c.places-description-items.ensures) c.loop-description.invariant.2

@@ -1,0 +1,231 @@
+-- What the counts of locks by mode say of the places that they count.
+use Rattle.std.proofs.Common.{ℕ, ◌≡◌, ◌≢◌, ◌+◌, ◌^◌, ◌<◌, ◌≤◌, ◌↔◌, ◌∙◌, sym, ap, refl, subst, arith, true, false, cond, ◌==◌, Option, Some, None, [], ◌∷◌, All, Any, length, inl, inr}
+use Rattle.std.specs.Prelude.{◌⊎◌, unwrap_or}
+use Rattle.std.specs.List.{AllByRecursion}
+use Rattle.std.specs.List.Sorted.{IsStrictlySortedBy}
+use Rattle.std.specs.Map.{keys_of, values_of, lookup, remove_entry}
+use Rattle.std.specs.BTreeMap.{BTreeMap, UpdatesBy, is_at, insert_entry}
+use Rattle.std.specs.Option.{option_map}
+use Rattle.std.specs.Ordering.{nat_cmp, is_eq}
+use Rattle.std.specs.Cmp.{nat_cmp_total, eq_by_cmp_equiv}
+use Rattle.std.specs.declared.cmp.Ordering.TheVariants.{Less}
+use Rattle.std.proofs.lemmas.Bool.{cases_Bool, cases_lt, eqb-true, eq-eqb, ne_eqb}
+use Rattle.std.proofs.lemmas.List.Elements.{All-nil, All-cons, All-head, All-tail}
+use Rattle.std.proofs.lemmas.List.Sums.{sum_by-cons, sum_by-le}
+use Rattle.std.proofs.lemmas.Option.{slice_get-get_or}
+use Rattle.std.proofs.lemmas.Map.{lookup-remove_entry}
+use Rattle.std.proofs.lemmas.Map.Entries.{length-values_of, lookup_from_place, sum_by-insert_entry, sum_by-remove_entry}
+use Rattle.std.proofs.lemmas.Map.Keys.{IsDistinct-from_sorted, sorted_head, sorted_tail}
+use Rattle.range_core.specs.declared.Mode.{Mode}
+use Rattle.range_core.specs.declared.Mode.TheVariants.{Read, Write}
+use Rattle.range_core.specs.Ranges.{Conflict, HeldConflicts}
+use Rattle.lock_book.specs.declared.Owner.TheVariants.{Description}
+use Rattle.lock_book.specs.Conflicts.{FlockConflict}
+use Rattle.lock_book.specs.Holders.{Places, place_among, mode_in_place, flock_modes_among, locks_in, locks_among, conflicting, PutsAmong}
+use Rattle.lock_book.specs.declared.book.holders.LockCount.{LockCount}
+use Rattle.lock_book.proofs.ListLemmas.{Any-append_right, All-at_Any}
+use Rattle.lock_book.proofs.OwnerLemmas.{is_eq-nat_cmp, less_from_nat, lookup-nat_cmp}
+
+-- one lock at most stands in a place
+locks_in-le : (mode : Mode) (lock : Option Mode) → locks_in mode lock ≤ 1
+locks_in-le mode None = omega arith
+locks_in-le Read (Some Read) = omega arith
+locks_in-le Read (Some Write) = omega arith
+locks_in-le Write (Some Read) = omega arith
+locks_in-le Write (Some Write) = omega arith
+
+-- so there are no more locks of a mode than places
+pub locks_among-le : (mode : Mode) (places : Places) → locks_among mode places ≤ length places
+locks_among-le mode places =
+    let most = sum_by-le (locks_in mode) 1 (values_of places) (λ k d within. locks_in-le mode _) in
+    let same = length-values_of places in
+    omega arith
+
+-- the places of the other descriptions
+abbrev pub others : ℕ → Places → Places
+others description places = remove_entry (is_at (nat_cmp description)) places
+
+-- how many locks of a mode stand in a place that may be there
+locks_in_place : (mode : Mode) (place : Option (Option Mode)) → unwrap_or (option_map (locks_in mode) place) 0 ≡ locks_in mode (mode_in_place place)
+locks_in_place mode None = refl
+locks_in_place mode (Some lock) = refl
+
+own_locks : (mode : Mode) (description : ℕ) (places : Places) → unwrap_or (option_map (locks_in mode) (lookup (is_at (nat_cmp description)) places)) 0 ≡ locks_in mode (flock_modes_among places description)
+own_locks mode description places =
+    ap (λ (place : Option (Option Mode)). unwrap_or (option_map (locks_in mode) place) 0) (lookup-nat_cmp description places)
+    ∙ locks_in_place mode (place_among places description)
+
+-- the locks are a description's own and the others
+pub count_apart : (mode : Mode) (description : ℕ) (places : Places) → locks_among mode (others description places) + locks_in mode (flock_modes_among places description) ≡ locks_among mode places
+count_apart mode description places =
+    let own = own_locks mode description places in
+    let all = sum_by-remove_entry (locks_in mode) (is_at (nat_cmp description)) places in
+    omega arith
+
+-- with what is put into its place in the place of what stood there
+pub count_put : (mode : Mode) (description : ℕ) (lock : Option Mode) (places : Places) → IsStrictlySortedBy nat_cmp (keys_of places) → locks_among mode (insert_entry nat_cmp places description lock) + locks_in mode (flock_modes_among places description) ≡ locks_among mode places + locks_in mode lock
+count_put mode description lock places sorted =
+    let own = own_locks mode description places in
+    let all = sum_by-insert_entry (locks_in mode) nat_cmp_total places description lock sorted in
+    omega arith
+
+-- of a count of all that may take off what stands there
+pub own_counted : (mode : Mode) (description : ℕ) (own : Option Mode) (places : Places) (all : ℕ) → own ≡ flock_modes_among places description → all ≡ locks_among mode places → locks_in mode own ≤ all
+own_counted mode description own places all is counted =
+    let same : locks_in mode own ≡ locks_in mode (flock_modes_among places description) = ap (locks_in mode) is in
+    let apart = count_apart mode description places in
+    omega arith
+
+-- what is left is the count of the others
+pub counted_others : (mode : Mode) (description : ℕ) (own : Option Mode) (places : Places) (all rest : ℕ) → own ≡ flock_modes_among places description → all ≡ locks_among mode places → rest + locks_in mode own ≡ all → rest ≡ locks_among mode (others description places)
+counted_others mode description own places all rest is counted left =
+    let same : locks_in mode own ≡ locks_in mode (flock_modes_among places description) = ap (locks_in mode) is in
+    let apart = count_apart mode description places in
+    omega arith
+
+-- and with what is put there that of the new places
+pub counted_put : (mode : Mode) (description : ℕ) (own lock : Option Mode) (old new : Places) (all rest : ℕ) → IsStrictlySortedBy nat_cmp (keys_of old) → new ≡ insert_entry nat_cmp old description lock → own ≡ flock_modes_among old description → all ≡ locks_among mode old → rest + locks_in mode own ≡ all → rest + locks_in mode lock ≡ locks_among mode new
+counted_put mode description own lock old new all rest sorted put is counted left =
+    let same : locks_in mode own ≡ locks_in mode (flock_modes_among old description) = ap (locks_in mode) is in
+    let after : locks_among mode new ≡ locks_among mode (insert_entry nat_cmp old description lock) = ap (locks_among mode) put in
+    let sum = count_put mode description lock old sorted in
+    omega arith
+
+-- which is at most their number
+pub counted_fits : (mode : Mode) (count : ℕ) (places : Places) (number : ℕ) → count ≡ locks_among mode places → number ≡ length places → number < 2 ^ 63 → count < 2 ^ 64
+counted_fits mode count places number is numbered few = let most = locks_among-le mode places in omega arith
+
+-- the place that a map has is the one that is looked up
+pub own_lock : (description : ℕ) (places : Places) (place : Option (Option Mode)) (lock : Option Mode) → place ≡ lookup (is_at (nat_cmp description)) places → lock ≡ mode_in_place place → lock ≡ flock_modes_among places description
+own_lock description places place lock looked is = is ∙ ap mode_in_place (looked ∙ lookup-nat_cmp description places)
+
+-- an update of a map puts a place
+pub PutsAmong-updates : (old new : BTreeMap ℕ (Option Mode)) (description : ℕ) (place : Option (Option Mode)) → UpdatesBy nat_cmp (nat_cmp description) old new place → PutsAmong old.entries new.entries description place
+PutsAmong-updates old new description place updates other =
+    sym (lookup-nat_cmp other new.entries) ∙ updates.0 other
+    ∙ ap (λ b. cond b place (lookup (is_at (nat_cmp other)) old.entries)) (is_eq-nat_cmp description other)
+    ∙ ap (λ o. cond (description == other) place o) (lookup-nat_cmp other old.entries)
+
+-- a lock that is counted stands in some place
+is_or_none : (mode : Mode) (lock : Option Mode) → (lock ≡ Some mode) ⊎ (locks_in mode lock ≡ 0)
+is_or_none mode None = inr refl
+is_or_none Read (Some Read) = inl refl
+is_or_none Read (Some Write) = inr refl
+is_or_none Write (Some Read) = inr refl
+is_or_none Write (Some Write) = inl refl
+
+some_lock : (mode : Mode) (places : Places) → 0 < locks_among mode places → Any (λ e. e.1 ≡ Some mode) places
+some_lock mode [] some = absurd (let none : 0 < 0 = some in omega arith)
+some_lock mode (e ∷ places) some = elim (is_or_none mode e.1) [
+  | inl here ↦ (0, e, omega arith, refl, here)
+  | inr none ↦
+      (let sum = sum_by-cons (locks_in mode) e.1 (values_of places) in
+      Any-append_right (λ (x : ℕ × Option Mode). x.1 ≡ Some mode) (e ∷ []) places (some_lock mode places (omega arith)))
+]
+
+-- what holds of each place holds of each of the others
+others_all : (P : ℕ × Option Mode → Type 0) (description : ℕ) (places : Places) → All P places → All P (others description places)
+others_all P description [] all = all
+others_all P description (e ∷ places) all = elim (cases_Bool (is_at (nat_cmp description) e.0)) [
+  | inl own ↦ rw own (All-tail P e places all)
+  | inr apart ↦ rw apart (All-cons P e (others description places) (All-head P e places all) (others_all P description places (All-tail P e places all)))
+]
+
+-- and these are of other descriptions
+later_apart : (description first : ℕ) (places : Places) → first ≡ description → AllByRecursion (λ y. nat_cmp first y ≡ Less) (keys_of places) → All (λ e. e.0 ≢ description) places
+later_apart description first [] same later = All-nil (λ e. e.0 ≢ description)
+later_apart description first (e ∷ places) same later =
+    All-cons (λ x. x.0 ≢ description) e places
+    (λ is. let less = less_from_nat first e.0 later.0 in omega arith) (later_apart description first places same later.1)
+
+others_apart : (description : ℕ) (places : Places) → IsStrictlySortedBy nat_cmp (keys_of places) → All (λ e. e.0 ≢ description) (others description places)
+others_apart description [] sorted = All-nil (λ e. e.0 ≢ description)
+others_apart description (e ∷ places) sorted = elim (cases_Bool (is_at (nat_cmp description) e.0)) [
+  | inl own ↦
+      rw own (later_apart description e.0 places (sym (eqb-true description e.0 (sym (is_eq-nat_cmp description e.0) ∙ own))) (sorted_head nat_cmp e.0 (keys_of places) sorted))
+  | inr apart ↦
+      rw apart (All-cons (λ x. x.0 ≢ description) e (others description places)
+      (λ is. let own : is_at (nat_cmp description) e.0 ≡ true = is_eq-nat_cmp description e.0 ∙ eq-eqb description e.0 (sym is) in let h : true ≡ false = sym own ∙ apart in cc)
+      (others_apart description places (sorted_tail nat_cmp e.0 (keys_of places) sorted)))
+]
+
+-- each place is the one that is looked up
+places_found : (places : Places) → IsStrictlySortedBy nat_cmp (keys_of places) → All (λ e. place_among places e.0 ≡ Some e.1) places
+places_found places sorted k d within =
+    sym (lookup-nat_cmp _ places)
+    ∙ lookup_from_place (eq_by_cmp_equiv nat_cmp_total) places k _ _ (IsDistinct-from_sorted nat_cmp (keys_of places) sorted) (slice_get-get_or places k d within)
+
+-- a lock that is counted among the others is of another description
+other_lock : (mode : Mode) (description : ℕ) (places : Places) → IsStrictlySortedBy nat_cmp (keys_of places) → 0 < locks_among mode (others description places)
+    → (other : ℕ) × (other ≢ description) × (flock_modes_among places other ≡ Some mode)
+other_lock mode description places sorted some =
+    let found = others_all (λ e. place_among places e.0 ≡ Some e.1) description places (places_found places sorted) in
+    let apart = others_apart description places sorted in
+    let held = All-at_Any (λ e. (e.0 ≢ description) × (place_among places e.0 ≡ Some e.1)) (λ e. e.1 ≡ Some mode) (others description places)
+    (λ k d within. (apart k d within, found k d within)) (some_lock mode (others description places) some) in
+    (held.0.0, held.1.0, ap mode_in_place held.1.1 ∙ held.2)
+
+locks_in-itself : (mode : Mode) → locks_in mode (Some mode) ≡ 1
+locks_in-itself Read = refl
+locks_in-itself Write = refl
+
+-- and another description's lock is counted there
+lock_counted : (mode : Mode) (description other : ℕ) (places : Places) → IsStrictlySortedBy nat_cmp (keys_of places) → other ≢ description → flock_modes_among places other ≡ Some mode → 0 < locks_among mode (others description places)
+lock_counted mode description other places sorted different held =
+    let distinct = IsDistinct-from_sorted nat_cmp (keys_of places) sorted in
+    let apart : is_at (nat_cmp description) other ≡ false = is_eq-nat_cmp description other ∙ ne_eqb description other (λ e. different (sym e)) in
+    let looked = lookup-remove_entry (eq_by_cmp_equiv nat_cmp_total) (is_at (nat_cmp description))
+    (λ x y own. ap (λ (n : ℕ). is_eq (nat_cmp n y)) (eqb-true description x (sym (is_eq-nat_cmp description x) ∙ own)))
+    other places distinct in
+    let same : place_among (others description places) other ≡ place_among places other =
+    sym (lookup-nat_cmp other (others description places)) ∙ rw apart at looked ∙ lookup-nat_cmp other places in
+    let one : locks_in mode (flock_modes_among (others description places) other) ≡ 1 =
+    ap (λ (place : Option (Option Mode)). locks_in mode (mode_in_place place)) same ∙ ap (locks_in mode) held ∙ locks_in-itself mode in
+    let sum = count_apart mode other (others description places) in
+    omega arith
+
+-- of a flock mode that conflicts
+conflicting_mode : (held : Option Mode) (wanted : Mode) → HeldConflicts held wanted → (mode : Mode) × (held ≡ Some mode)
+conflicting_mode None wanted conflicts = absurd conflicts
+conflicting_mode (Some mode) wanted conflicts = (mode, refl)
+
+-- descriptions with two numbers are two owners
+other_flock : (one other : ℕ) → one ≢ other → Description one ≢ Description other
+other_flock one other different same = different (same_description same) where
+  same_description : Description one ≡ Description other → one ≡ other
+  same_description e = cc
+
+-- where some of the counted locks conflicts some mode does that is counted
+module _ (count : LockCount) (places : Places) (shared : count.shared ≡ locks_among Read places) (exclusive : count.exclusive ≡ locks_among Write places) where
+  some_mode : (wanted : Mode) → 0 < conflicting count wanted → (mode : Mode) × Conflict mode wanted × (0 < locks_among mode places)
+  some_mode Read some = (Write, tt, omega arith)
+  some_mode Write some = elim (cases_lt 0 count.exclusive) [
+    | inl held ↦ (Write, tt, omega arith)
+    | inr none ↦ (Read, tt, omega arith)
+  ]
+
+  mode_counts : (mode wanted : Mode) → Conflict mode wanted → 0 < locks_among mode places → 0 < conflicting count wanted
+  mode_counts Read Read conflict some = absurd conflict
+  mode_counts Read Write conflict some = omega arith
+  mode_counts Write Read conflict some = omega arith
+  mode_counts Write Write conflict some = omega arith
+
+-- so a lock of another description conflicts where one of the others that are counted does
+pub conflict_counted : (count : LockCount) (description : ℕ) (wanted : Mode) (places : Places) → IsStrictlySortedBy nat_cmp (keys_of places)
+    → count.shared ≡ locks_among Read (others description places) → count.exclusive ≡ locks_among Write (others description places)
+    → (0 < conflicting count wanted) ↔ FlockConflict (flock_modes_among places) (Description description) wanted
+conflict_counted count description wanted places sorted shared exclusive = (
+  λ some.
+      let mode = some_mode count (others description places) shared exclusive wanted some in
+      let held = other_lock mode.0 description places sorted mode.2 in
+      record {
+        description = held.0;
+        another = other_flock held.0 description held.1;
+        conflicts = rw held.2 mode.1;
+      },
+  λ conflict.
+      let mode = conflicting_mode (flock_modes_among places conflict.description) wanted conflict.conflicts in
+      mode_counts count (others description places) shared exclusive mode.0 wanted
+      (subst (λ (held : Option Mode). HeldConflicts held wanted) mode.1 conflict.conflicts)
+      (lock_counted mode.0 description conflict.description places sorted (λ e. conflict.another (ap (λ (n : ℕ). Description n) e)) mode.1),
+)

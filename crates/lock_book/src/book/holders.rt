@@ -1,0 +1,138 @@
+ghost use Rattle.std.specs.Prelude.{ℕ, ◌≡◌, ◌+◌, ◌^◌, ◌<◌, ◌≤◌, ◌↔◌, IsTrue, None, Some, OnOk, OnErr};
+ghost use Rattle.std.specs.BTreeMap.{IsOrdered};
+ghost use Rattle.std.specs.Ordering.{nat_cmp};
+ghost use Rattle.std.proofs.Props.{props};
+ghost use Rattle.range_core.specs.declared.Mode.TheVariants.{Read, Write};
+ghost use Rattle.lock_book.specs.Conflicts.{FlockConflict};
+ghost use Rattle.lock_book.specs.Holders.{PutsAmong, conflicting, flock_modes_among, locks_among, locks_in, place_among};
+
+use crate::Owner;
+use range_core::{Memory, Mode};
+use std::alloc::Global;
+use std::collections::BTreeMap;
+
+/// How many flock locks there are of each mode.
+#[derive(Clone, Copy)]
+pub struct LockCount {
+    shared: usize,
+    exclusive: usize,
+}
+
+impl LockCount {
+    /// The count with one lock more, if that is one.
+    fn with(self, lock: Option<Mode>) -> LockCount
+        requires shared_fits { self.shared + locks_in Mode.Read lock < 2 ^ 64 }
+        requires exclusive_fits { self.exclusive + locks_in Mode.Write lock < 2 ^ 64 }
+        ensures shared { result.shared ≡ self.shared + locks_in Mode.Read lock }
+        ensures exclusive { result.exclusive ≡ self.exclusive + locks_in Mode.Write lock }
+    {
+        let mut count = self;
+        match lock {
+            Some(Mode::Read) => count.shared += 1,
+            Some(Mode::Write) => count.exclusive += 1,
+            None => {}
+        }
+        count
+    }
+
+    /// The count with one lock less, if that is one.
+    fn without(self, lock: Option<Mode>) -> LockCount
+        requires shared_counted { locks_in Mode.Read lock ≤ self.shared }
+        requires exclusive_counted { locks_in Mode.Write lock ≤ self.exclusive }
+        ensures shared { result.shared + locks_in Mode.Read lock ≡ self.shared }
+        ensures exclusive { result.exclusive + locks_in Mode.Write lock ≡ self.exclusive }
+    {
+        let mut count = self;
+        match lock {
+            Some(Mode::Read) => count.shared -= 1,
+            Some(Mode::Write) => count.exclusive -= 1,
+            None => {}
+        }
+        count
+    }
+
+    /// Whether one of these locks conflicts with one of the wanted mode.
+    fn conflicts_with(self, wanted: Mode) -> bool
+        ensures { IsTrue result ↔ (0 < conflicting self wanted) }
+    {
+        match wanted {
+            Mode::Read => self.exclusive > 0,
+            Mode::Write => self.exclusive > 0 || self.shared > 0,
+        }
+    }
+}
+
+/// The places that are kept for the flock locks on one file, by description, with the mode that stands in each, and how
+/// many locks of each mode that makes.
+#[derive(Drop)]
+pub struct FlockHolders {
+    places: BTreeMap<u64, Option<Mode>>,
+    locks: LockCount,
+    ghost ordered: { IsOrdered nat_cmp places } by { Prim.hlevel props },
+    ghost shared: { locks.shared ≡ locks_among Read places.entries },
+    ghost exclusive: { locks.exclusive ≡ locks_among Write places.entries },
+}
+
+impl FlockHolders {
+    /// No place. It takes no memory.
+    pub fn new(alloc: Global) -> FlockHolders
+        ensures { (description : ℕ) → place_among result.places.entries description ≡ None }
+    {
+        FlockHolders {
+            places: BTreeMap::new(alloc),
+            locks: LockCount {
+                shared: 0,
+                exclusive: 0,
+            },
+        }
+    }
+
+    /// The place of the description.
+    pub fn place(&self, description: u64) -> Option<Option<Mode>>
+        ensures { result ≡ place_among self.now.places.entries description }
+    {
+        self.places.get(&description).copied()
+    }
+
+    /// All places, by description.
+    pub fn places(&self) -> &BTreeMap<u64, Option<Mode>>
+        ensures { result.now ≡ self.now.places }
+    {
+        &self.places
+    }
+
+    /// Puts the mode into the place of the description, which is made if there is none.
+    ///
+    /// `Memory`, which never comes where the place is there, leaves the places as they were.
+    pub fn put(&mut self, description: u64, mode: Option<Mode>) -> Result<(), Memory>
+        ensures ok { OnOk result (PutsAmong self.old.places.entries self.new.places.entries description (Some mode)) }
+        ensures absent { OnErr result (place_among self.old.places.entries description ≡ None) }
+        ensures err { OnErr result (self.new.places.entries ≡ self.old.places.entries) }
+    {
+        let Ok(old) = self.places.insert(description, mode) else {
+            return Err(Memory);
+        };
+        // A count is at most the number of places.
+        prove!(self.places.len() < usize::MAX);
+        self.locks = self.locks.without(old.flatten()).with(mode);
+        Ok(())
+    }
+
+    /// Removes the place of the description, with the mode that stands there. It takes no memory.
+    pub fn remove(&mut self, description: u64)
+        ensures { PutsAmong self.old.places.entries self.new.places.entries description None }
+    {
+        let old = self.places.remove(&description);
+        self.locks = self.locks.without(old.flatten());
+    }
+
+    /// Whether a lock of another description conflicts with one of the wanted mode. It looks at no place but the
+    /// description's own.
+    pub fn blocked(&self, description: u64, wanted: Mode) -> bool
+        ensures { IsTrue result
+            ↔ FlockConflict (flock_modes_among self.now.places.entries) (Owner.Description description) wanted }
+    {
+        let own = self.place(description).flatten();
+        self.locks.without(own).conflicts_with(wanted)
+    }
+}
