@@ -343,7 +343,7 @@ pub kept_by_wait : FreeWhenOneJoins → (m : Machine) (waits : Waits) (wait : Wa
     → wait.family ≡ Whole → wait.owner ≡ Description description → has_place_at (slice_get m.books.items wait.file) description ≡ true
     → MayWait m.tables wait.p wait.file wait.owner → state_numbered m.states.items wait.p ≡ Live
     → waits_of waits ≡ waits_of m.waits ++ wait ∷ [] → policy_of waits ≡ policy_of m.waits → processes_of waits ≡ processes_of m.waits
-    → AreTold waits (locks_of m.books.items) → AreKept m.rules m.processes m.tables m.books.items waits
+    → (AreTold m.waits (locks_of m.books.items) → AreTold waits (locks_of m.books.items)) → AreKept m.rules m.processes m.tables m.books.items waits
 kept_by_wait joins m waits wait description family owner there may live list policy processes told =
     let books = m.books.items in
     record {
@@ -352,7 +352,7 @@ kept_by_wait joins m waits wait description family owner there may live list pol
       within = m.within;
       policy = policy ∙ m.policy;
       counted = processes ∙ m.counted;
-      told = ∣ told ∣₁;
+      told = ∥∥₁_map m.told told;
       apart = subst AreApart (sym list)
           (all_pairs_push (λ (v w : Wait). v.p ≢ w.p) (waits_of m.waits) wait m.apart (waits_of_others m.tables m.states.items (waits_of m.waits) wait.p m.suspended live));
       room = subst (HaveRoom books) (sym list) (room_joined_flock books (waits_of m.waits) wait description family owner there m.room);

@@ -230,7 +230,7 @@ pub kept_by_join : FreeWhenOneJoins → (m : Machine) (books : List Book) (waits
     → SameButRoom old new wait.owner → room_in old wait.owner ≤ room_in new wait.owner
     → length (filter (is_byte_wait wait.file wait.owner) (waits_of m.waits)) + 1 ≤ room_in new wait.owner
     → waits_of waits ≡ waits_of m.waits ++ wait ∷ [] → policy_of waits ≡ policy_of m.waits → processes_of waits ≡ processes_of m.waits
-    → AreTold waits (locks_of books) → AreKept m.rules m.processes m.tables books waits
+    → (AreTold m.waits (locks_of books) → AreTold waits (locks_of books)) → AreKept m.rules m.processes m.tables books waits
 kept_by_join joins m books waits old new wait is within was family may live free same kept more list policy processes told =
     let before = m.books.items in
     let longer = waits_of m.waits ++ wait ∷ [] in
@@ -242,7 +242,7 @@ kept_by_join joins m books waits old new wait is within was family may live free
       within = subst AreWithinFiles (sym locks) m.within;
       policy = policy ∙ m.policy;
       counted = processes ∙ m.counted;
-      told = ∣ told ∣₁;
+      told = ∥∥₁_map (subst (λ ls. ∥ AreTold m.waits ls ∥₁) (sym locks) m.told) told;
       apart = subst AreApart (sym list)
           (all_pairs_push (λ (v w : Wait). v.p ≢ w.p) (waits_of m.waits) wait m.apart (waits_of_others m.tables m.states.items (waits_of m.waits) wait.p m.suspended live));
       room = subst (λ bs. HaveRoom bs (waits_of waits)) (sym is)

@@ -91,7 +91,7 @@ fn join(rt: &impl Abort, waits: &mut Waits, wait: Wait, books: &[Book])
     requires well_formed { IsWellFormed 4 wait }
     requires books { length books.now ≡ 64 }
     ensures processes { processes_of waits.new ≡ 4 }
-    ensures told { AreTold waits.new (locks_of books.now) }
+    ensures told { AreTold waits.old (locks_of books.now) → AreTold waits.new (locks_of books.now) }
 {
     let none = waits.of(wait.p).is_none();
     assert!(rt; none);

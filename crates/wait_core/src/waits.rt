@@ -61,7 +61,7 @@ impl Waits {
         ensures last { waits_of self.new ≡ waits_of self.old ++ wait ∷ [] }
         ensures policy { policy_of self.new ≡ policy_of self.old }
         ensures processes { processes_of self.new ≡ processes_of self.old }
-        ensures told { AreTold self.new (locks_of books.now) }
+        ensures told { AreTold self.old (locks_of books.now) → AreTold self.new (locks_of books.now) }
     {
         self.waits.push_reserved(wait);
         self.pairs.tell(&self.waits, books);

@@ -50,7 +50,7 @@ invariant_of-self c =
     (subst (λ f. MayWait machine.tables wanted.p f wanted.owner) (sym (ap (λ (w : Wait). w.file) c.requires.asked.is))
     (subst (MayWait machine.tables wanted.p look.file) (sym (ap (λ (w : Wait). w.owner) c.requires.asked.is)) c.requires.asked.may_wait))
     c.requires.asked.live c.join.ensures.last c.join.ensures.policy c.join.ensures.processes
-    (subst (λ bs. AreTold c.join.new.self (locks_of bs)) c.deref.ensures.value c.join.ensures.told) in
+    (subst (λ bs. AreTold machine.waits (locks_of bs) → AreTold c.join.new.self (locks_of bs)) c.deref.ensures.value c.join.ensures.told) in
     record {
       files = machine.files;
       numbered = machine.numbered;

@@ -83,7 +83,7 @@ invariant_of-self-2 c =
     c.requires.family c.requires.may_wait c.requires.live c.requires.free_of_cycles
     c.in_ok-reserve.ensures.ok c.in_ok-reserve.ensures.kept more_is
     c.join.ensures.last c.join.ensures.policy c.join.ensures.processes
-    (subst (λ bs. AreTold c.join.new.self (locks_of bs)) c.deref.ensures.value c.join.ensures.told) in
+    (subst (λ bs. AreTold machine.waits (locks_of bs) → AreTold c.join.new.self (locks_of bs)) c.deref.ensures.value c.join.ensures.told) in
     record {
       files = machine.files;
       numbered = machine.numbered;

@@ -36,4 +36,4 @@ invariant_of-self c =
 
 pub returns-clause-told : goal.returns-clause-told
 unfolding waits_of has_pair
-returns-clause-told c = told _ _ (λ p q p_few q_few. rw c.deref.ensures.value at (c.tell.ensures p q p_few q_few))
+returns-clause-told c was = told _ _ (λ p q p_few q_few. rw c.deref.ensures.value at (c.tell.ensures p q p_few q_few))
