@@ -2,7 +2,7 @@
 FILE ?= crates/lockreplay/stdin
 PROGRAM := crates/lockreplay/out/lockreplay
 
-.PHONY: run test build memory
+.PHONY: run test build memory edits
 
 run: build
 	@$(PROGRAM) $(if $(FILE),'$(FILE)')
@@ -19,6 +19,11 @@ test:
 	rt ci
 	sh tests/command-line.sh $(PROGRAM)
 	sh tests/command-line.sh $(PROGRAM).by-rattle
+
+# Says of each must-fail edit what refuses it, and fails where that is a name alone; `make edits EDITS='CRATE EDIT'` tries some.
+edits:
+	rt all check
+	tests/edit-reasons $(EDITS)
 
 # Refuses each growth of runs on the sample in turn, and of the tests that look what a refusal leaves, on what was built.
 TESTED := lock_book fd_table lock_manager session_core call_table
