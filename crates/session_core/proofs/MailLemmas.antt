@@ -1,12 +1,16 @@
 -- Mailboxes by process: what is written to one of them, and what stays.
-use Rattle.std.proofs.Common.{ℕ, zero, suc, ◌≡◌, ◌≢◌, ◌+◌, ◌-◌, ◌<◌, ◌≤◌, refl, sym, ◌∙◌, ap, arith, length, slice_get, set, get_or, List, [], ◌∷◌, ◌++◌, Some, Option, Result, Ok, Err, IfOk, OnOk, OnErr, eq-eqb, ne_eqb, ⊎_elim}
+use Rattle.std.proofs.Common.{ℕ, zero, suc, ◌≡◌, ◌≢◌, ◌+◌, ◌-◌, ◌<◌, ◌≤◌, refl, sym, ◌∙◌, ap, subst, arith, length, take, slice_get, set, get_or, List, [], ◌∷◌, ◌++◌, Some, Option, Result, Ok, Err, is_ok, IfOk, OnOk, OnErr, eq-eqb, ne_eqb, ⊎_elim}
 use Rattle.std.specs.Prelude.{◌==◌, if◌then◌else◌}
 use Rattle.std.proofs.lemmas.List.{get_or-set_same, length-set, append-nil, append_assoc}
 use Rattle.std.proofs.lemmas.Option.{slice_get-get_or}
 use Rattle.std.proofs.lemmas.Bool.{cases_eq}
 use Rattle.lock_manager.specs.declared.request.Request.{Request}
 use Rattle.lock_manager.specs.declared.manager.Manager.{Manager}
-use Rattle.lock_manager.specs.ManagerView.{SameManager}
+use Rattle.lock_manager.specs.State.{State}
+use Rattle.lock_manager.specs.ManagerView.{SameManager, StandsFor, rules_of, processes_of}
+use Rattle.session_core.specs.declared.session.Session.{Session}
+use Rattle.session_core.specs.Runs.{IsStep, events_of}
+use Rattle.session_core.specs.SessionView.{manager_of, events_in, sent_of, Arrives, TakesRequest, sent_with}
 use Rattle.session_core.specs.declared.mailbox.Mailbox.{Mailbox}
 use Rattle.session_core.specs.Mailboxes.{mailbox_of, requests_in, taken_in, mail_sent, mail_taken}
 use Rattle.session_core.specs.Event.{Event}
@@ -128,13 +132,13 @@ pub IsPrefixOf-longer : {X : Type 0} (xs ys zs : List X) → IsPrefixOf xs ys �
 IsPrefixOf-longer xs ys zs first second =
     (first.0 ++ second.0, second.1 ∙ ap (λ l. l ++ second.0) first.1 ∙ append_assoc xs first.0 second.0)
 
--- what holds of a session holds where more was sent
-pub Holds-grown : (manager : Manager) (sent sent' : ℕ → List Request) (journal : List Event)
-    → ((q : ℕ) → IsPrefixOf (sent q) (sent' q)) → ((q : ℕ) → length (sent' q) ≤ N_MAX) → Holds manager sent journal
+-- what holds of a session holds where something else was sent, if what was taken is a prefix of that and it isn't too much
+pub Holds-sent : (manager : Manager) (sent sent' : ℕ → List Request) (journal : List Event)
+    → ((q : ℕ) → IsPrefixOf (requests_taken q journal) (sent' q)) → ((q : ℕ) → length (sent' q) ≤ N_MAX) → Holds manager sent journal
     → Holds manager sent' journal
-Holds-grown manager sent sent' journal grown few holds =
+Holds-sent manager sent sent' journal in_order few holds =
     record {
-      taken_in_order = λ p. IsPrefixOf-longer (requests_taken p journal) (sent p) (sent' p) (holds.taken_in_order p) (grown p);
+      taken_in_order = in_order;
       answered_once = holds.answered_once;
       answers_numbered = holds.answers_numbered;
       answered_taken = holds.answered_taken;
@@ -146,6 +150,66 @@ Holds-grown manager sent sent' journal grown few holds =
       safe = holds.safe;
       replayed = holds.replayed;
     }
+
+-- what holds of a session holds where more was sent
+pub Holds-grown : (manager : Manager) (sent sent' : ℕ → List Request) (journal : List Event)
+    → ((q : ℕ) → IsPrefixOf (sent q) (sent' q)) → ((q : ℕ) → length (sent' q) ≤ N_MAX) → Holds manager sent journal
+    → Holds manager sent' journal
+Holds-grown manager sent sent' journal grown few holds =
+    Holds-sent manager sent sent' journal
+    (λ p. IsPrefixOf-longer (requests_taken p journal) (sent p) (sent' p) (holds.taken_in_order p) (grown p))
+    few
+    holds
+
+-- a list that begins with a shorter one still does where its last item is taken off
+pub IsPrefixOf-shorter : {X : Type 0} (xs ys : List X) → IsPrefixOf xs ys → length xs < length ys
+    → IsPrefixOf xs (take (length ys - 1) ys)
+IsPrefixOf-shorter [] ys begins shorter = (take (length ys - 1) ys, refl)
+IsPrefixOf-shorter (x ∷ xs) [] begins shorter = absurd (omega arith)
+IsPrefixOf-shorter (x ∷ xs) (y ∷ ys) begins shorter =
+    let rest : ys ≡ xs ++ begins.0 = cc in
+    let same : y ≡ x = cc in
+    let less : length xs < length ys = omega arith in
+    let tail = IsPrefixOf-shorter xs ys (begins.0, rest) less in
+    let count : suc (length ys) - 1 ≡ suc (length ys - 1) = omega arith in
+    (tail.0, ap (λ n. take n (y ∷ ys)) count ∙ ap (λ z. z ∷ take (length ys - 1) ys) same ∙ ap (λ l. x ∷ l) tail.1)
+
+-- what a process sent, where the last request was taken out of its mailbox
+pub mail_sent-withdrawn : (mailboxes : List Mailbox) (place p : ℕ) (old new : Mailbox) → StandsAt mailboxes place p old
+    → new.sent.items ≡ take (length old.sent.items - 1) old.sent.items → (q : ℕ)
+    → mail_sent (set mailboxes place new) q
+    ≡ (if q == p then take (length (mail_sent mailboxes q) - 1) (mail_sent mailboxes q) else mail_sent mailboxes q)
+mail_sent-withdrawn mailboxes place p old new at shorter q =
+    mail_sent-set mailboxes place p old new at q
+    ∙ ⊎_elim
+    (λ same.
+    rw (eq-eqb q p same, same)
+    (shorter ∙ ap (λ mailbox. take (length (requests_in mailbox) - 1) (requests_in mailbox)) (sym (mailbox_of-there mailboxes place p old at))))
+    (λ other. rw (ne_eqb q p other) refl)
+    (cases_eq q p)
+
+-- what was taken stays a prefix of what was sent, where a request is taken out that wasn't taken
+pub taken_in_order-withdrawn : (mailboxes : List Mailbox) (place p : ℕ) (old new : Mailbox) (journal : List Event)
+    → StandsAt mailboxes place p old → new.sent.items ≡ take (length old.sent.items - 1) old.sent.items
+    → length (requests_taken p journal) < length (mail_sent mailboxes p)
+    → ((q : ℕ) → IsPrefixOf (requests_taken q journal) (mail_sent mailboxes q)) → (q : ℕ)
+    → IsPrefixOf (requests_taken q journal) (mail_sent (set mailboxes place new) q)
+taken_in_order-withdrawn mailboxes place p old new journal at shorter untaken in_order q =
+    let sent = mail_sent-withdrawn mailboxes place p old new at shorter q in
+    subst (λ l. IsPrefixOf (requests_taken q journal) l) (sym sent)
+    (⊎_elim
+    (λ same.
+    let less : length (requests_taken q journal) < length (mail_sent mailboxes q) = rw same untaken in
+    rw (eq-eqb q p same) (IsPrefixOf-shorter (requests_taken q journal) (mail_sent mailboxes q) (in_order q) less))
+    (λ other. rw (ne_eqb q p other) (in_order q))
+    (cases_eq q p))
+
+-- one success follows another
+pub IfOk-found : {T E F : Type 0} (first : Result T E) (second : Result T F) (P : T → Type 0) (x : T) → is_ok second ≡ is_ok first
+    → second ≡ Ok x → IfOk first P → (y : T) × P y
+IfOk-found (Ok y) second P x alike is h = (y, h)
+IfOk-found (Err fault) (Ok y) P x alike is h = cc
+IfOk-found (Err fault) (Err other) P x alike is h = cc
 
 -- what a process sent, where its mailbox got one more request
 pub mail_sent-pushed : (mailboxes : List Mailbox) (place p : ℕ) (old new : Mailbox) (request : Request)
@@ -174,3 +238,26 @@ pub IfOk-both : {T E : Type 0} (result : Result T E) (P Q R : T → Type 0) → 
     → IfOk result Q → IfOk result R
 IfOk-both (Ok x) P Q R both p q = both x p q
 IfOk-both (Err fault) P Q R both p q = tt
+
+-- a request that arrived and was taken then is taken as one
+pub TakesRequest-arrived : (old between new : Session) (p : ℕ) (request : Request) (n place : ℕ) → Arrives old between p request n
+    → TakesRequest between new p request (sent_of between) place → TakesRequest old new p request (sent_with old p request) place
+TakesRequest-arrived old between new p request n place arrived took =
+    let same = arrived.manager in
+    record {
+      event = took.event;
+      process = took.process;
+      request_is = took.request_is;
+      number = took.number ∙ ap (λ l. length (events_of p l) + 1) arrived.journal;
+      journal = took.journal ∙ ap (λ l. l ++ took.event ∷ []) arrived.journal;
+      at_place = took.at_place;
+      step = λ S stands.
+          let moved = took.step S (same.stands S stands) in (
+            moved.0,
+            subst (λ rules. IsStep rules (processes_of (manager_of old)) S took.event moved.0) same.rules
+                (subst (λ k. IsStep (rules_of (manager_of between)) k S took.event moved.0) same.processes moved.1),
+            moved.2,
+          );
+      sent_is = λ q. took.sent_is q ∙ arrived.sent q;
+      same_rules = record { rules = took.same_rules.rules ∙ same.rules; processes = took.same_rules.processes ∙ same.processes };
+    }

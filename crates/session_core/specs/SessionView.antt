@@ -1,5 +1,5 @@
 -- What a `Session` shows (the words are this project's choice).
-use Rattle.std.specs.Prelude.{◌≡◌, ℕ, ◌==◌, if◌then◌else◌, Option, Some, None, List, [], ◌∷◌, ◌++◌, length}
+use Rattle.std.specs.Prelude.{◌≡◌, ℕ, ◌+◌, ◌==◌, if◌then◌else◌, Option, Some, None, List, [], ◌∷◌, ◌++◌, length}
 use Rattle.lock_manager.specs.declared.request.Rules.{Rules}
 use Rattle.lock_manager.specs.declared.request.Request.{Request}
 use Rattle.lock_manager.specs.declared.manager.Manager.{Manager}
@@ -7,7 +7,7 @@ use Rattle.lock_manager.specs.State.{State, opening_state}
 use Rattle.lock_manager.specs.ManagerView.{StandsFor, SameManager, rules_of, processes_of, state_at}
 use Rattle.session_core.specs.declared.session.Session.{Session}
 use Rattle.session_core.specs.Event.{Event}
-use Rattle.session_core.specs.Runs.{IsStep}
+use Rattle.session_core.specs.Runs.{IsStep, events_of}
 use Rattle.session_core.specs.Mailboxes.{mail_sent}
 use Rattle.session_core.specs.Draining.{IsNext, IsDrained}
 use Rattle.session_core.specs.Headline.{Holds}
@@ -59,6 +59,23 @@ pub record TakesOne (old new : Session) (place : ℕ) : Type 0 where
   pub step : (S : State) → StandsFor (manager_of old) S
       → (T : State) × IsStep (rules_of (manager_of old)) (processes_of (manager_of old)) S event T × StandsFor (manager_of new) T
   pub sent : (p : ℕ) → sent_of new p ≡ sent_of old p
+  pub same_rules : SameRules old new
+
+-- what each process sent, and then one more request of this one
+abbrev pub sent_with : Session → ℕ → Request → ℕ → List Request
+sent_with session p request q = if q == p then sent_of session q ++ request ∷ [] else sent_of session q
+
+-- one event was taken, the next request of this process, which is this; and so much was sent by each process
+pub record TakesRequest (old new : Session) (p : ℕ) (request : Request) (sent : ℕ → List Request) (place : ℕ) : Type 0 where
+  pub event : Event
+  pub process : event.p ≡ p
+  pub request_is : event.request ≡ request
+  pub number : event.n ≡ length (events_of p (events_in old)) + 1
+  pub journal : events_in new ≡ events_in old ++ event ∷ []
+  pub at_place : place ≡ length (events_in new)
+  pub step : (S : State) → StandsFor (manager_of old) S
+      → (T : State) × IsStep (rules_of (manager_of old)) (processes_of (manager_of old)) S event T × StandsFor (manager_of new) T
+  pub sent_is : (q : ℕ) → sent_of new q ≡ sent q
   pub same_rules : SameRules old new
 
 -- one event was taken, or no live process has mail

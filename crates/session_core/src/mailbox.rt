@@ -1,4 +1,4 @@
-ghost use Rattle.std.specs.Prelude.{ℕ, ◌≡◌, ◌+◌, ◌<◌, ◌≤◌, ◌↔◌, [], ◌∷◌, ◌++◌, Err, IfOk, OnOk, OnErr, length, slice_get};
+ghost use Rattle.std.specs.Prelude.{ℕ, ◌≡◌, ◌+◌, ◌-◌, ◌<◌, ◌≤◌, ◌↔◌, [], ◌∷◌, ◌++◌, Err, IfOk, OnOk, OnErr, length, slice_get, take};
 ghost use Rattle.session_core.specs.declared.TheConstants.{N_MAX};
 
 use crate::{ArriveFault, N_MAX};
@@ -71,5 +71,14 @@ impl Mailbox {
         ensures sent { self.new.sent.items ≡ self.old.sent.items }
     {
         self.taken += 1;
+    }
+
+    /// Takes back the last request, which wasn't taken: it is as if it hadn't come.
+    pub fn withdraw(&mut self)
+        requires { self.old.taken < length self.old.sent.items }
+        ensures sent { self.new.sent.items ≡ take (length self.old.sent.items - 1) self.old.sent.items }
+        ensures taken { self.new.taken ≡ self.old.taken }
+    {
+        self.sent.pop();
     }
 }

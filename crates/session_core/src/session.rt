@@ -1,4 +1,4 @@
-ghost use Rattle.std.specs.Prelude.{ℕ, ◌≡◌, ◌+◌, ◌<◌, ◌≤◌, ◌↔◌, All, IfOk, OnErr, IfSome, IfNone, Err, Some, length, option_copied};
+ghost use Rattle.std.specs.Prelude.{ℕ, ◌≡◌, ◌+◌, ◌-◌, ◌<◌, ◌≤◌, ◌==◌, ◌↔◌, All, IfOk, OnErr, IfSome, IfNone, Err, Some, if◌then◌else◌, length, option_copied, take};
 ghost use Rattle.fd_table.specs.Descriptors.{process_limit};
 ghost use Rattle.lock_manager.specs.ManagerView.{processes_of, state_at};
 ghost use Rattle.session_core.specs.Mail.{events_of, answers_to, reply_to};
@@ -35,7 +35,7 @@ pub struct Session {
 
 #[tactic(auto, unfolding(crate::specs::SessionView::manager_of, crate::specs::SessionView::events_in, crate::specs::SessionView::sent_of))]
 impl Session {
-    ghost use Rattle.session_core.specs.SessionView.{manager_of, events_in, sent_of, IsEmptySession, SameSession, Arrives, TakesOne, TakesNext, SessionHolds};
+    ghost use Rattle.session_core.specs.SessionView.{manager_of, events_in, sent_of, IsEmptySession, SameSession, Arrives, TakesRequest, TakesNext, SessionHolds, sent_with};
 
     /// No mail and no entry, with `processes` processes numbered from 1, at most [`fd_table::Limits::processes`].
     pub fn new(alloc: Global, processes: u8, rules: Rules) -> Result<Session, Memory>
@@ -78,6 +78,26 @@ impl Session {
             Some((p, request)) => self.take(p, request).map(Some),
             None => Ok(None),
         }
+    }
+
+    /// The request comes to the mailbox of its process, which is able and has no mail, and is taken at once: answers its place in
+    /// the journal, from 1. `Memory` leaves everything as it was.
+    pub fn take_one(&mut self, p: u8, request: Request) -> Result<u64, Memory>
+        requires process { (1 ≤ p) × (p ≤ processes_of (manager_of self.old)) }
+        requires able { state_at (manager_of self.old) p ≡ ProcState.Live }
+        requires empty { length (sent_of self.old p) ≡ length (events_of p (events_in self.old)) }
+        requires room { length (sent_of self.old p) < N_MAX }
+        ensures taken { IfOk result (TakesRequest self.old self.new p request (sent_with self.old p request)) }
+        ensures memory { OnErr result (SameSession self.old self.new) }
+        ensures holds { SessionHolds self.new }
+    {
+        // No mailbox is full that has sent fewer than it may.
+        self.arrive(p, request).map_err(|_| Memory)?;
+        let taken = self.take(p, request);
+        if taken.is_err() {
+            self.withdraw(p);
+        }
+        taken
     }
 
     /// All that was taken, in order.
@@ -163,8 +183,7 @@ impl Session {
         requires process { (1 ≤ p) × (p ≤ processes_of (manager_of self.old)) }
         requires able { state_at (manager_of self.old) p ≡ ProcState.Live }
         requires next { next_untaken (sent_of self.old) (events_in self.old) p ≡ Some request }
-        requires least { HasNoMailBelow (state_at (manager_of self.old)) (sent_of self.old) (events_in self.old) p }
-        ensures taken { IfOk result (TakesOne self.old self.new) }
+        ensures taken { IfOk result (TakesRequest self.old self.new p request (sent_of self.old)) }
         ensures memory { OnErr result (SameSession self.old self.new) }
     {
         let n = self.taken(p) + 1;
@@ -180,6 +199,18 @@ impl Session {
         self.journal.push(entry).unwrap();
         self.mailboxes[usize::from(p) - 1].advance();
         Ok(self.journal.len() as u64)
+    }
+
+    /// Takes back the last request of the process, which wasn't taken: it is as if it hadn't come.
+    fn withdraw(&mut self, p: u8)
+        requires process { (1 ≤ p) × (p ≤ processes_of (manager_of self.old)) }
+        requires untaken { length (events_of p (events_in self.old)) < length (sent_of self.old p) }
+        ensures sent { (q : ℕ) → sent_of self.new q ≡
+            (if q == p then take (length (sent_of self.old q) - 1) (sent_of self.old q) else sent_of self.old q) }
+        ensures journal { events_in self.new ≡ events_in self.old }
+        ensures manager { manager_of self.new ≡ manager_of self.old }
+    {
+        self.mailboxes[usize::from(p) - 1].withdraw();
     }
 
     /// The mailbox of the process.

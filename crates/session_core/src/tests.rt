@@ -2,7 +2,7 @@ mod check;
 
 ghost use Rattle.std.specs.Prelude.{◌≤◌, All};
 
-use crate::{ArriveFault, RunAllFault, Session, run_all};
+use crate::{ArriveFault, N_MAX, RunAllFault, Session, run_all};
 use fd_table::{Access, Limits};
 use lock_book::{Held, Owner};
 use lock_manager::{Errno, FlockOp, LkCmd, Lock, Note, ProcState, Reply, Request, Rules};
@@ -199,6 +199,27 @@ fn take_next(rt: &impl Abort, session: &mut Session) -> Result<Option<u64>, Memo
     }
 }
 
+/// `take_one`, likewise: one that is refused leaves what was sent and what was taken.
+fn take_one(
+    rt: &impl Abort,
+    session: &mut Session,
+    p: u8,
+    request: Request,
+) -> Result<u64, Memory> {
+    assert!(rt; 1 <= p && p <= session.manager().processes() && session.manager().able(p));
+    assert!(rt; session.sent(p) == session.taken(p) && session.sent(p) < N_MAX);
+    let before = counts(session);
+    match session.take_one(p, request) {
+        Err(Memory) => {
+            assert_eq!(rt; counts(session), before);
+            assert!(rt; 1 <= p && p <= session.manager().processes() && session.manager().able(p));
+            assert!(rt; session.sent(p) == session.taken(p) && session.sent(p) < N_MAX);
+            session.take_one(p, request)
+        }
+        first => first,
+    }
+}
+
 fn run(alloc: Global, arrivals: &[(u8, Request)]) -> Result<Session, RunAllFault>
     requires { All (λ arrival. (1 ≤ arrival.0) × (arrival.0 ≤ 2)) arrivals.now }
 {
@@ -257,6 +278,24 @@ fn mail_is_taken_in_turn(rt: HostRuntime) -> Result<(), Fail> {
     assert_eq!(rt; session.answer_of(1, 3), Some(Reply::Err(Errno::EBADF)));
     assert_eq!(rt; session.answer_of(1, 4), None);
     assert_eq!(rt; session.answer_of(2, 1), None);
+    Ok(())
+}
+
+/// A request that comes and is taken at once is the last that its process sent, and has its place and its answer.
+#[test]
+fn a_request_is_taken_as_it_comes(rt: HostRuntime) -> Result<(), Fail> {
+    let mut session = two_processes(rt.alloc())?;
+    assert_eq!(rt; take_one(&rt, &mut session, 1, OPEN)?, 1);
+    assert_eq!(rt; take_one(&rt, &mut session, 1, FORK)?, 2);
+    assert_eq!(rt;
+        take_one(&rt, &mut session, 2, set(0, Kind::Write, 0, 1))?,
+        3
+    );
+    assert_eq!(rt; (session.sent(1), session.taken(1)), (2, 2));
+    assert_eq!(rt; (session.sent(2), session.taken(2)), (1, 1));
+    assert_eq!(rt; session.answer_of(1, 1), Some(Reply::Fd(0)));
+    assert_eq!(rt; session.answer_of(2, 1), Some(Reply::Ok));
+    assert_eq!(rt; take_next(&rt, &mut session)?, None);
     Ok(())
 }
 

@@ -59,15 +59,12 @@ returns-clause-taken c =
     let event : Event = record { p = c.args.p; n = c.taken-n.result + 1; request = c.args.request; notes = c.in_ok-notes.notes.items } in
     record {
       event = event;
-      is_next = record {
-        live = c.requires.able;
-        request = c.requires.next;
-        least = c.requires.least;
-        number = ap (λ n. n + 1) c.taken-n.ensures;
-      };
+      process = refl;
+      request_is = refl;
+      number = ap (λ n. n + 1) c.taken-n.ensures;
       journal = rw (c.push.ensures.items, c.unwrap.ensures, c.reserve.ensures.items) refl;
       at_place = omega (arith, c.len.ensures, c.push.new.self.ok.0);
       step = c.in_ok-notes.ensures.step;
-      sent = mail_sent-kept mailboxes _ c.args.p before after at c.advance.ensures.sent;
+      sent_is = mail_sent-kept mailboxes _ c.args.p before after at c.advance.ensures.sent;
       same_rules = record { rules = c.take.ensures.rules; processes = c.take.ensures.processes };
     }
