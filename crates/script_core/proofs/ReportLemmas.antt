@@ -1,6 +1,7 @@
 -- The text of the report.
-use Rattle.std.proofs.Common.{◌≡◌, ℕ, zero, suc, ◌+◌, ◌-◌, ◌<◌, List, ◌++◌, length, flat_map, sym, ap, ◌∙◌, arith, append_assoc, append-nil, add-one}
+use Rattle.std.proofs.Common.{◌≡◌, ℕ, zero, suc, ◌+◌, ◌-◌, ◌<◌, List, ◌++◌, length, flat_map, refl, sym, ap, ◌∙◌, arith, append_assoc, append-nil, add-one}
 use Rattle.std.specs.Prelude.{slice_index}
+use Rattle.std.proofs.lemmas.List.{append_cancel_left}
 use Rattle.lock_book.specs.declared.Held.{Held}
 use Rattle.lock_book.specs.Changes.{mode_in, flock_mode_in}
 use Rattle.lock_book.specs.Reports.{IsHeldReport}
@@ -73,3 +74,29 @@ IsReport-unique one processes S events sent text other h k =
     ∙ ap (λ locks. flat_map held_line locks ++ flat_map wait_line S.waits ++ process_lines S.states events sent 1 processes)
     (one (mode_in S.changes) (flock_mode_in S.flock_changes) h.held k.held h.is_held k.is_held)
     ∙ sym k.is
+
+-- the texts of all counts that the list may have
+abbrev pub Writes : Manager → ℕ → List Event → List ℕ → List Held → List Wait → List ℕ → List ℕ → Type 0
+Writes manager processes events sent locks waits old new =
+    (counts : ℕ → ℕ) → AreCounts sent counts
+    → new ≡ old ++ (flat_map held_line locks ++ flat_map wait_line waits ++ process_lines (state_at manager) events counts 1 processes)
+
+-- what is written of the locks, the waits and the processes is one text, which is the report of each state that the manager stands for
+pub report_written : (manager : Manager) (processes : ℕ) (events : List Event) (sent : List ℕ) (locks : List Held) (waits : List Wait) (old new : List ℕ)
+    → ((S : State) → StandsFor manager S → IsHeldReport (mode_in S.changes) (flock_mode_in S.flock_changes) locks)
+    → ((S : State) → StandsFor manager S → waits ≡ S.waits)
+    → Writes manager processes events sent locks waits old new
+    → (text : List ℕ)
+    × ((S : State) → StandsFor manager S → (counts : ℕ → ℕ) → AreCounts sent counts → IsReport processes S events counts text)
+    × (new ≡ old ++ text)
+report_written manager processes events sent locks waits old new held waiting writes =
+    let own : ℕ → ℕ = λ p. slice_index sent (p - 1) in
+    let text_of : (ℕ → ℕ) → List ℕ =
+    λ counts. flat_map held_line locks ++ flat_map wait_line waits ++ process_lines (state_at manager) events counts 1 processes in
+    let written : new ≡ old ++ text_of own = writes own (λ p first last. refl) in (
+      text_of own,
+      (λ S stands counts are.
+      report_in_state manager S processes events counts locks waits (text_of own) stands (held S stands) (waiting S stands)
+      (append_cancel_left old (text_of own) (text_of counts) (sym written ∙ writes counts are))),
+      written,
+    )

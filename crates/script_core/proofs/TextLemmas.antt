@@ -1,8 +1,40 @@
 -- Texts in pieces.
-use Rattle.std.proofs.Common.{◌≡◌, ℕ, List, [], ◌∷◌, ◌++◌, flat_map, sym, ap, append-nil}
+use Rattle.std.proofs.Common.{◌≡◌, ◌∙◌, ℕ, ◌+◌, ◌-◌, ◌≤◌, List, [], ◌∷◌, ◌++◌, length, take, drop, set, flat_map, Result, Ok, Err, MatchResult, refl, sym, ap, arith, append_assoc, append-nil, length-drop, take_all}
 use Rattle.std.specs.List.{join_with_byte}
+use Rattle.std.proofs.lemmas.List.{drop-set}
+use Rattle.std.proofs.Math.Seq.{take-append_seam}
+use Rattle.script_core.specs.Output.{Extends, AppendsPartOf}
 
 -- each further word stands behind its space
 pub join_words : (word : List ℕ) (words : List (List ℕ)) → join_with_byte 32 (word ∷ words) ≡ word ++ flat_map (λ w. 32 ∷ w) words
 join_words word [] = sym (append-nil word)
 join_words word (next ∷ words) = ap (λ rest. word ++ 32 ∷ rest) (join_words next words)
+
+-- what stays where a later piece is refused
+pub kept_behind : (old mid new front : List ℕ) → mid ≡ old ++ front → Extends mid new → Extends old new
+kept_behind old mid new front is kept =
+    record { more = front ++ kept.more; is = kept.is ∙ ap (λ l. l ++ kept.more) is ∙ append_assoc old front kept.more }
+
+-- one more piece behind a front that was appended
+pub then_pushed : {A E : Type 0} (r : Result A E) (old mid new front piece : List ℕ) → mid ≡ old ++ front
+    → MatchResult r (λ unit. new ≡ mid ++ piece) (λ error. Extends mid new)
+    → MatchResult r (λ unit. new ≡ old ++ (front ++ piece)) (λ error. Extends old new)
+then_pushed (Ok unit) old mid new front piece is pushed = pushed ∙ ap (λ l. l ++ piece) is ∙ append_assoc old front piece
+then_pushed (Err error) old mid new front piece is kept = kept_behind old mid new front is kept
+
+-- what is cut back to the old bytes has no more of the text
+pub cut_back : (old new cut text : List ℕ) (len : ℕ) → Extends old new → len ≡ length old → cut ≡ take len new → AppendsPartOf old cut text
+cut_back old new cut text len kept at is = record {
+  front = [];
+  rest = text;
+  is = refl;
+  appended = is ∙ ap (λ n. take n new) at ∙ ap (take (length old)) kept.is ∙ take-append_seam old kept.more ∙ sym (append-nil old);
+}
+
+-- a byte before the digits that end a buffer
+pub number_piece : (buffer digits : List ℕ) (size start at byte : ℕ) → length buffer ≡ size → start ≤ size → start ≡ at + 1 → drop start buffer ≡ digits
+    → take (size - at) (drop at (set buffer at byte)) ≡ byte ∷ digits
+number_piece buffer digits size start at byte long within next spelled =
+    let cut : drop at (set buffer at byte) ≡ byte ∷ digits =
+    drop-set buffer at byte (omega arith) ∙ ap (λ n. byte ∷ drop n buffer) (sym next) ∙ ap (λ l. byte ∷ l) spelled in
+    ap (take (size - at)) cut ∙ take_all (size - at) (byte ∷ digits) (omega (arith, ap length spelled, length-drop start buffer))

@@ -10,6 +10,11 @@ use Rattle.script_core.specs.Reading.{Reads}
 use Rattle.script_core.specs.EntryText.{entry_line}
 use Rattle.script_core.specs.ReportText.{IsReport}
 
+-- new is old and something behind it
+pub record Extends (old new : List ℕ) : Type 0 where
+  pub more : List ℕ
+  pub is : new ≡ old ++ more
+
 -- new is old and a front of the text
 pub record AppendsPartOf (old new text : List ℕ) : Type 0 where
   pub front : List ℕ

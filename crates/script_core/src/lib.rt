@@ -6,6 +6,7 @@ mod commands;
 mod laws;
 mod line;
 mod numbers;
+mod pieces;
 mod reader;
 mod script;
 #[cfg(test)]

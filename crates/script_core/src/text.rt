@@ -1,104 +1,244 @@
-ghost use Rattle.std.specs.Prelude.{◌≡◌, ◌∷◌, ◌++◌, OnOk, codes, decimal, string_bytes, flat_map};
+ghost use Rattle.std.specs.Prelude.{◌≡◌, ◌∷◌, ◌++◌, MatchResult, codes, decimal, flat_map};
 ghost use Rattle.std.specs.List.{join_with_byte};
 ghost use Rattle.lock_manager.specs.declared.request.Request.TheVariants.{Flock};
 ghost use Rattle.script_core.specs.RequestText.{request_text, lock_words, pid_words, nb_words};
 ghost use Rattle.script_core.specs.RequestText as spec;
-ghost use Rattle.script_core.specs.EntryText.{entry_line, note_text, reply_text};
+ghost use Rattle.script_core.specs.EntryText.{entry_line, note_text, reply_text, tag};
 ghost use Rattle.script_core.specs.EntryText as entry_spec;
 ghost use Rattle.script_core.specs.ReportText.{held_line, held_text, wait_line, wanted_text, byte_lock_text, flock_text, owner_text, counts_text, process_line};
 ghost use Rattle.script_core.specs.ReportText as report_spec;
+ghost use Rattle.script_core.specs.Output.{Extends};
 
+use crate::pieces::{push_first_number, push_integer, push_number, push_str, push_word};
 use fd_table::Access;
 use lock_book::{Held, Owner};
 use lock_manager::{Errno, FlockOp, LkCmd, Lock, Note, ProcState, Reply, Request};
 use range_core::{Kind, Mode, Span, Whence};
 use session_core::Entry;
 use std::alloc::AllocError;
-use std::fmt::Write;
 use wait_core::{Family, Wait};
 
 /// Appends the line of an entry: the request with its process and number, and then each note.
-pub fn push_entry(text: &mut String, entry: &Entry) -> Result<(), AllocError>
-    ensures { OnOk result (string_bytes text.new ≡ string_bytes text.old ++ entry_line entry.now) }
+pub fn push_entry(text: &mut Vec<u8>, entry: &Entry) -> Result<(), AllocError>
+    ensures { MatchResult result (λ unit. text.new.items ≡ text.old.items ++ entry_line entry.now) (λ error. Extends text.old.items text.new.items) }
 {
-    let (p, n) = (entry.p, entry.n);
-    write!(text, "{p}#{n} ")?;
+    push_first_number(text, u64::from(entry.p))?;
+    push_number(text, b'#', entry.n)?;
     push_request(text, &entry.request)?;
     for note in &entry.notes {
         push_note(text, note)?;
     }
-    text.push('\n')
+    push_str(text, "\n")
+}
+
+/// Appends a space, and a request: its command and its arguments, with one space between words.
+fn push_request(text: &mut Vec<u8>, request: &Request) -> Result<(), AllocError>
+    ensures { MatchResult result (λ unit. text.new.items ≡ text.old.items ++ 32 ∷ request_text request.now) (λ error. Extends text.old.items text.new.items) }
+{
+    match request {
+        Request::OpenFile { file, access } => {
+            push_numbered(text, " open", u64::from(*file))?;
+            push_word(text, access_word(*access))
+        }
+        Request::Dup { fd } => push_numbered(text, " dup", u64::from(*fd)),
+        Request::DupTo { fd, to } => {
+            push_numbered(text, " dup2", u64::from(*fd))?;
+            push_number(text, b' ', u64::from(*to))
+        }
+        Request::CloseFd { fd } => push_numbered(text, " close", u64::from(*fd)),
+        Request::Seek { fd, offset } => {
+            push_numbered(text, " seek", u64::from(*fd))?;
+            push_integer(text, *offset)
+        }
+        Request::Resize { fd, size } => {
+            push_numbered(text, " resize", u64::from(*fd))?;
+            push_integer(text, *size)
+        }
+        Request::Lk { fd, cmd, lock } => {
+            push_word(text, command_word(*cmd))?;
+            push_lock(text, *fd, lock)
+        }
+        Request::Flock { fd, op, nb } => push_flock_request(text, *fd, *op, *nb),
+        Request::Fork { child } => push_numbered(text, " fork", u64::from(*child)),
+        Request::Exit => push_str(text, " exit"),
+        Request::Signal { target } => push_numbered(text, " signal", u64::from(*target)),
+        Request::Kill { target } => push_numbered(text, " kill", u64::from(*target)),
+    }
+}
+
+/// Appends a piece, and a natural number behind a space.
+fn push_numbered(text: &mut Vec<u8>, piece: &str, n: u64) -> Result<(), AllocError>
+    ensures { MatchResult result (λ unit. text.new.items ≡ text.old.items ++ (piece.now ++ 32 ∷ decimal n)) (λ error. Extends text.old.items text.new.items) }
+{
+    push_str(text, piece)?;
+    push_number(text, b' ', n)
+}
+
+/// Appends the words of a lock command behind its name, each behind a space.
+fn push_lock(text: &mut Vec<u8>, fd: u32, lock: &Lock) -> Result<(), AllocError>
+    ensures { MatchResult result (λ unit. text.new.items ≡ text.old.items ++ 32 ∷ join_with_byte 32 (lock_words fd lock.now ++ pid_words lock.now.pid)) (λ error. Extends text.old.items text.new.items) }
+{
+    push_number(text, b' ', u64::from(fd))?;
+    push_word(text, kind_word(lock.kind))?;
+    push_word(text, whence_word(lock.whence))?;
+    push_integer(text, lock.start)?;
+    push_integer(text, lock.len)?;
+    push_pid(text, lock.pid)
+}
+
+/// The pid is written only where it isn't 0.
+fn push_pid(text: &mut Vec<u8>, pid: i64) -> Result<(), AllocError>
+    ensures { MatchResult result (λ unit. text.new.items ≡ text.old.items ++ flat_map (λ word. 32 ∷ word) (pid_words pid)) (λ error. Extends text.old.items text.new.items) }
+{
+    if pid == 0 {
+        return Ok(());
+    }
+    push_integer(text, pid)
+}
+
+/// Appends a space and a request of flock.
+fn push_flock_request(text: &mut Vec<u8>, fd: u32, op: FlockOp, nb: bool) -> Result<(), AllocError>
+    ensures { MatchResult result (λ unit. text.new.items ≡ text.old.items ++ 32 ∷ request_text (Flock fd op nb)) (λ error. Extends text.old.items text.new.items) }
+{
+    push_numbered(text, " flock", u64::from(fd))?;
+    push_word(text, op_word(op))?;
+    push_nb(text, nb)
+}
+
+/// `nb` is written only where it is set.
+fn push_nb(text: &mut Vec<u8>, nb: bool) -> Result<(), AllocError>
+    ensures { MatchResult result (λ unit. text.new.items ≡ text.old.items ++ flat_map (λ word. 32 ∷ word) (nb_words nb)) (λ error. Extends text.old.items text.new.items) }
+{
+    if nb { push_str(text, " nb") } else { Ok(()) }
+}
+
+/// Appends a note: the request that it is about, and what it tells of it.
+fn push_note(text: &mut Vec<u8>, note: &Note) -> Result<(), AllocError>
+    ensures { MatchResult result (λ unit. text.new.items ≡ text.old.items ++ note_text note.now) (λ error. Extends text.old.items text.new.items) }
+{
+    match note {
+        Note::Answer { p, n, reply } => {
+            push_noted(text, *p, *n)?;
+            push_reply(text, *reply)
+        }
+        Note::Waits { p, n } => {
+            push_noted(text, *p, *n)?;
+            push_str(text, " waits")
+        }
+    }
+}
+
+/// Appends the request that a note is about.
+fn push_noted(text: &mut Vec<u8>, p: u8, n: u64) -> Result<(), AllocError>
+    ensures { MatchResult result (λ unit. text.new.items ≡ text.old.items ++ (codes " | " ++ tag p n)) (λ error. Extends text.old.items text.new.items) }
+{
+    push_numbered(text, " |", u64::from(p))?;
+    push_number(text, b'#', n)
+}
+
+/// Appends a space and a reply.
+fn push_reply(text: &mut Vec<u8>, reply: Reply) -> Result<(), AllocError>
+    ensures { MatchResult result (λ unit. text.new.items ≡ text.old.items ++ 32 ∷ reply_text reply) (λ error. Extends text.old.items text.new.items) }
+{
+    match reply {
+        Reply::Ok => push_str(text, " ok"),
+        Reply::Fd(fd) => push_numbered(text, " fd", u64::from(fd)),
+        Reply::Free => push_str(text, " free"),
+        Reply::Held {
+            mode,
+            start,
+            len,
+            pid,
+        } => {
+            push_str(text, " held")?;
+            push_word(text, mode_word(mode))?;
+            push_number(text, b' ', start)?;
+            push_number(text, b' ', len)?;
+            push_integer(text, pid)
+        }
+        Reply::Err(error) => push_word(text, error_name(error)),
+    }
 }
 
 /// Appends the line of a lock that is held.
-pub fn push_held(text: &mut String, held: &Held) -> Result<(), AllocError>
-    ensures { OnOk result (string_bytes text.new ≡ string_bytes text.old ++ held_line held.now) }
+pub fn push_held(text: &mut Vec<u8>, held: &Held) -> Result<(), AllocError>
+    ensures { MatchResult result (λ unit. text.new.items ≡ text.old.items ++ held_line held.now) (λ error. Extends text.old.items text.new.items) }
 {
     push_held_text(text, held)?;
-    text.push('\n')
+    push_str(text, "\n")
 }
 
 /// Appends what is held, without the end of the line.
-fn push_held_text(text: &mut String, held: &Held) -> Result<(), AllocError>
-    ensures { OnOk result (string_bytes text.new ≡ string_bytes text.old ++ held_text held.now) }
+fn push_held_text(text: &mut Vec<u8>, held: &Held) -> Result<(), AllocError>
+    ensures { MatchResult result (λ unit. text.new.items ≡ text.old.items ++ held_text held.now) (λ error. Extends text.old.items text.new.items) }
 {
-    let file = held.file;
     if held.whole {
-        write!(text, "flock {file} ")?;
+        push_numbered(text, "flock", u64::from(held.file))?;
         push_flock(text, held.owner, held.mode)
     } else {
-        text.push_str("lock ")?;
-        push_byte_lock(text, file, held.owner, held.mode, held.span)
+        push_str(text, "lock")?;
+        push_byte_lock(text, held.file, held.owner, held.mode, held.span)
     }
 }
 
 /// Appends the line of a wait.
-pub fn push_wait(text: &mut String, wait: &Wait) -> Result<(), AllocError>
-    ensures { OnOk result (string_bytes text.new ≡ string_bytes text.old ++ wait_line wait.now) }
+pub fn push_wait(text: &mut Vec<u8>, wait: &Wait) -> Result<(), AllocError>
+    ensures { MatchResult result (λ unit. text.new.items ≡ text.old.items ++ wait_line wait.now) (λ error. Extends text.old.items text.new.items) }
 {
-    let (p, n) = (wait.p, wait.n);
-    write!(text, "wait {p}#{n} ")?;
+    push_numbered(text, "wait", u64::from(wait.p))?;
+    push_number(text, b'#', wait.n)?;
     push_wanted(text, wait)?;
-    text.push('\n')
+    push_str(text, "\n")
 }
 
-/// The lock that a wait is for.
-fn push_wanted(text: &mut String, wait: &Wait) -> Result<(), AllocError>
-    ensures { OnOk result (string_bytes text.new ≡ string_bytes text.old ++ wanted_text wait.now.family wait.now) }
+/// Appends a space and the lock that a wait is for.
+fn push_wanted(text: &mut Vec<u8>, wait: &Wait) -> Result<(), AllocError>
+    ensures { MatchResult result (λ unit. text.new.items ≡ text.old.items ++ 32 ∷ wanted_text wait.now.family wait.now) (λ error. Extends text.old.items text.new.items) }
 {
     let file = wait.file;
     match wait.family {
         Family::Bytes => push_byte_lock(text, file, wait.owner, wait.mode, wait.span),
         Family::Whole => {
-            write!(text, "{file} flock ")?;
+            push_number(text, b' ', u64::from(file))?;
+            push_str(text, " flock")?;
             push_flock(text, wait.owner, wait.mode)
         }
     }
 }
 
-/// A byte lock: file, owner, mode, first and last byte.
+/// Appends a space and a byte lock: file, owner, mode, first and last byte.
 fn push_byte_lock(
-    text: &mut String,
+    text: &mut Vec<u8>,
     file: u8,
     owner: Owner,
     mode: Mode,
     span: Span,
 ) -> Result<(), AllocError>
-    ensures { OnOk result (string_bytes text.new ≡ string_bytes text.old ++ byte_lock_text file owner mode span) }
+    ensures { MatchResult result (λ unit. text.new.items ≡ text.old.items ++ 32 ∷ byte_lock_text file owner mode span) (λ error. Extends text.old.items text.new.items) }
 {
-    write!(text, "{file} ")?;
+    push_number(text, b' ', u64::from(file))?;
     push_owner(text, owner)?;
-    let (mode, first, last) = (mode_word(mode), span.first, span.last);
-    write!(text, " {mode} {first} {last}")
+    push_word(text, mode_word(mode))?;
+    push_number(text, b' ', span.first)?;
+    push_number(text, b' ', span.last)
 }
 
-/// A flock lock: description and mode.
-fn push_flock(text: &mut String, owner: Owner, mode: Mode) -> Result<(), AllocError>
-    ensures { OnOk result (string_bytes text.new ≡ string_bytes text.old ++ flock_text owner mode) }
+/// Appends a space and a flock lock: description and mode.
+fn push_flock(text: &mut Vec<u8>, owner: Owner, mode: Mode) -> Result<(), AllocError>
+    ensures { MatchResult result (λ unit. text.new.items ≡ text.old.items ++ 32 ∷ flock_text owner mode) (λ error. Extends text.old.items text.new.items) }
 {
     push_owner(text, owner)?;
-    let mode = flock_word(mode);
-    write!(text, " {mode}")
+    push_word(text, flock_word(mode))
+}
+
+/// Appends a space and an owner: a process or an open file description, with its number.
+fn push_owner(text: &mut Vec<u8>, owner: Owner) -> Result<(), AllocError>
+    ensures { MatchResult result (λ unit. text.new.items ≡ text.old.items ++ 32 ∷ owner_text owner) (λ error. Extends text.old.items text.new.items) }
+{
+    match owner {
+        Owner::Process(p) => push_numbered(text, " process", u64::from(p)),
+        Owner::Description(description) => push_numbered(text, " description", description),
+    }
 }
 
 /// What the report tells of one process.
@@ -117,129 +257,22 @@ pub struct ProcessLine {
 }
 
 /// Appends the line of a process.
-pub fn push_process(text: &mut String, line: &ProcessLine) -> Result<(), AllocError>
-    ensures { OnOk result (string_bytes text.new ≡ string_bytes text.old ++ process_line line.now) }
+pub fn push_process(text: &mut Vec<u8>, line: &ProcessLine) -> Result<(), AllocError>
+    ensures { MatchResult result (λ unit. text.new.items ≡ text.old.items ++ process_line line.now) (λ error. Extends text.old.items text.new.items) }
 {
-    let p = line.p;
-    write!(text, "proc {p} ")?;
+    push_numbered(text, "proc", u64::from(line.p))?;
     push_counts(text, line)?;
-    let state = state_word(line.state);
-    writeln!(text, " {state}")
+    push_word(text, state_word(line.state))?;
+    push_str(text, "\n")
 }
 
-/// Appends how many requests of the process were sent, taken and answered.
-fn push_counts(text: &mut String, line: &ProcessLine) -> Result<(), AllocError>
-    ensures { OnOk result (string_bytes text.new ≡ string_bytes text.old ++ counts_text line.now) }
+/// Appends a space, and how many requests of the process were sent, taken and answered.
+fn push_counts(text: &mut Vec<u8>, line: &ProcessLine) -> Result<(), AllocError>
+    ensures { MatchResult result (λ unit. text.new.items ≡ text.old.items ++ 32 ∷ counts_text line.now) (λ error. Extends text.old.items text.new.items) }
 {
-    let (sent, taken, answered) = (line.sent, line.taken, line.answered);
-    write!(text, "sent {sent} taken {taken} answered {answered}")
-}
-
-/// Appends a request: its command and its arguments, with one space between words.
-fn push_request(text: &mut String, request: &Request) -> Result<(), AllocError>
-    ensures { OnOk result (string_bytes text.new ≡ string_bytes text.old ++ request_text request.now) }
-{
-    match request {
-        Request::OpenFile { file, access } => {
-            let access = access_word(*access);
-            write!(text, "open {file} {access}")
-        }
-        Request::Dup { fd } => write!(text, "dup {fd}"),
-        Request::DupTo { fd, to } => write!(text, "dup2 {fd} {to}"),
-        Request::CloseFd { fd } => write!(text, "close {fd}"),
-        Request::Seek { fd, offset } => write!(text, "seek {fd} {offset}"),
-        Request::Resize { fd, size } => write!(text, "resize {fd} {size}"),
-        Request::Lk { fd, cmd, lock } => {
-            let name = command_word(*cmd);
-            write!(text, "{name} ")?;
-            push_lock(text, *fd, lock)
-        }
-        Request::Flock { fd, op, nb } => push_flock_request(text, *fd, *op, *nb),
-        Request::Fork { child } => write!(text, "fork {child}"),
-        Request::Exit => text.push_str("exit"),
-        Request::Signal { target } => write!(text, "signal {target}"),
-        Request::Kill { target } => write!(text, "kill {target}"),
-    }
-}
-
-/// The words of a lock command behind its name.
-fn push_lock(text: &mut String, fd: u32, lock: &Lock) -> Result<(), AllocError>
-    ensures { OnOk result (string_bytes text.new ≡ string_bytes text.old ++ join_with_byte 32 (lock_words fd lock.now ++ pid_words lock.now.pid)) }
-{
-    let (kind, whence) = (kind_word(lock.kind), whence_word(lock.whence));
-    let (start, len) = (lock.start, lock.len);
-    write!(text, "{fd} {kind} {whence} {start} {len}")?;
-    push_pid(text, lock.pid)
-}
-
-/// The pid is written only where it isn't 0.
-fn push_pid(text: &mut String, pid: i64) -> Result<(), AllocError>
-    ensures { OnOk result (string_bytes text.new ≡ string_bytes text.old ++ flat_map (λ word. 32 ∷ word) (pid_words pid)) }
-{
-    if pid == 0 {
-        return Ok(());
-    }
-    write!(text, " {pid}")
-}
-
-/// A request of flock.
-fn push_flock_request(text: &mut String, fd: u32, op: FlockOp, nb: bool) -> Result<(), AllocError>
-    ensures { OnOk result (string_bytes text.new ≡ string_bytes text.old ++ request_text (Flock fd op nb)) }
-{
-    let op = op_word(op);
-    write!(text, "flock {fd} {op}")?;
-    push_nb(text, nb)
-}
-
-/// `nb` is written only where it is set.
-fn push_nb(text: &mut String, nb: bool) -> Result<(), AllocError>
-    ensures { OnOk result (string_bytes text.new ≡ string_bytes text.old ++ flat_map (λ word. 32 ∷ word) (nb_words nb)) }
-{
-    if nb { text.push_str(" nb") } else { Ok(()) }
-}
-
-/// Appends a note: the request that it is about, and what it tells of it.
-fn push_note(text: &mut String, note: &Note) -> Result<(), AllocError>
-    ensures { OnOk result (string_bytes text.new ≡ string_bytes text.old ++ note_text note.now) }
-{
-    match note {
-        Note::Answer { p, n, reply } => {
-            write!(text, " | {p}#{n} ")?;
-            push_reply(text, *reply)
-        }
-        Note::Waits { p, n } => write!(text, " | {p}#{n} waits"),
-    }
-}
-
-/// Appends a reply.
-fn push_reply(text: &mut String, reply: Reply) -> Result<(), AllocError>
-    ensures { OnOk result (string_bytes text.new ≡ string_bytes text.old ++ reply_text reply) }
-{
-    match reply {
-        Reply::Ok => text.push_str("ok"),
-        Reply::Fd(fd) => write!(text, "fd {fd}"),
-        Reply::Free => text.push_str("free"),
-        Reply::Held {
-            mode,
-            start,
-            len,
-            pid,
-        } => {
-            let mode = mode_word(mode);
-            write!(text, "held {mode} {start} {len} {pid}")
-        }
-        Reply::Err(error) => text.push_str(error_name(error)),
-    }
-}
-
-/// Appends an owner: a process or an open file description, with its number.
-fn push_owner(text: &mut String, owner: Owner) -> Result<(), AllocError>
-    ensures { OnOk result (string_bytes text.new ≡ string_bytes text.old ++ owner_text owner) }
-{
-    match owner {
-        Owner::Process(p) => write!(text, "process {p}"),
-        Owner::Description(description) => write!(text, "description {description}"),
-    }
+    push_numbered(text, " sent", line.sent)?;
+    push_numbered(text, " taken", line.taken)?;
+    push_numbered(text, " answered", line.answered)
 }
 
 /// The word of a lock command.

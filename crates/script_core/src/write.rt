@@ -1,4 +1,4 @@
-ghost use Rattle.std.specs.Prelude.{◌≡◌, ℕ, ◌≤◌, List, ◌++◌, IfOk, OnOk, OnErr, IsTrue, length, flat_map, string_bytes};
+ghost use Rattle.std.specs.Prelude.{◌≡◌, ℕ, ◌≤◌, List, ◌++◌, MatchResult, OnOk, OnErr, length, flat_map};
 ghost use Rattle.lock_manager.specs.State.{State};
 ghost use Rattle.lock_manager.specs.ManagerView.{StandsFor, processes_of, state_at};
 ghost use Rattle.session_core.specs.SessionView.{manager_of, events_in};
@@ -6,14 +6,14 @@ ghost use Rattle.script_core.specs.Reading.{IsReadBack};
 ghost use Rattle.script_core.specs.EntryText.{entry_line};
 ghost use Rattle.script_core.specs.ReportText.{held_line, wait_line, reported_line, process_lines, AreCounts, IsReportOf};
 ghost use Rattle.script_core.specs.ReportText as spec;
-ghost use Rattle.script_core.specs.Output.{AppendsPartOf};
+ghost use Rattle.script_core.specs.Output.{AppendsPartOf, Extends};
 
 use crate::text::{ProcessLine, push_entry, push_held, push_process, push_wait};
 use lock_book::Held;
 use lock_manager::ProcState;
 use range_core::Memory;
 use session_core::{Entry, Session};
-use std::alloc::{AllocError, Global};
+use std::alloc::AllocError;
 use wait_core::Wait;
 
 /// Appends the line of an entry. After `Memory` the vector has its old bytes and a front of the text.
@@ -26,9 +26,12 @@ pub fn write_entry(entry: &Entry, out: &mut Vec<u8>) -> Result<(), Memory>
     // in each script whose limits have its numbers.
     ensures read_back { IsReadBack entry.now.p entry.now.request }
 {
-    let mut text = String::new(*out.allocator());
-    push_entry(&mut text, entry).map_err(|_| Memory)?;
-    out.extend_from_slice(text.as_bytes()).map_err(|_| Memory)
+    let len = out.len();
+    if let Err(AllocError) = push_entry(out, entry) {
+        out.truncate(len);
+        return Err(Memory);
+    }
+    Ok(())
 }
 
 /// Appends the report of a session: the locks that are held, then the requests that wait, and then each process that was
@@ -43,27 +46,38 @@ pub fn write_report(session: &Session, sent: &[u64], out: &mut Vec<u8>) -> Resul
     ensures err { OnErr result ((S : State) → StandsFor (manager_of session.now) S → (text : List ℕ) → IsReportOf session.now sent.now S text
         → AppendsPartOf out.old.items out.new.items text) }
 {
-    let text = report_text(*out.allocator(), session, sent)?;
-    out.extend_from_slice(text.as_bytes()).map_err(|_| Memory)
-}
-
-/// The report of a session.
-fn report_text(alloc: Global, session: &Session, sent: &[u64]) -> Result<String, Memory>
-    requires { length sent.now ≡ processes_of (manager_of session.now) }
-    ensures { IfOk result (λ text. (S : State) → StandsFor (manager_of session.now) S → IsReportOf session.now sent.now S (string_bytes text)) }
-{
     let locks = session.manager().held()?;
     let waits = session.manager().waits()?;
-    let mut text = String::new(alloc);
-    push_locks(&mut text, &locks).map_err(|_| Memory)?;
-    push_waits(&mut text, &waits).map_err(|_| Memory)?;
-    push_processes(&mut text, session, sent).map_err(|_| Memory)?;
-    Ok(text)
+    let len = out.len();
+    if let Err(AllocError) = push_report(out, session, sent, &locks, &waits) {
+        out.truncate(len);
+        return Err(Memory);
+    }
+    Ok(())
+}
+
+/// Appends the lines of the locks that are held, of the requests that wait and of the processes.
+fn push_report(
+    text: &mut Vec<u8>,
+    session: &Session,
+    sent: &[u64],
+    locks: &[Held],
+    waits: &[Wait],
+) -> Result<(), AllocError>
+    requires { length sent.now ≡ processes_of (manager_of session.now) }
+    ensures { MatchResult result (λ unit. (counts : ℕ → ℕ) → AreCounts sent.now counts → text.new.items ≡ text.old.items
+        ++ (flat_map held_line locks.now ++ flat_map wait_line waits.now
+        ++ process_lines (state_at (manager_of session.now)) (events_in session.now) counts 1 (processes_of (manager_of session.now))))
+        (λ error. Extends text.old.items text.new.items) }
+{
+    push_locks(text, locks)?;
+    push_waits(text, waits)?;
+    push_processes(text, session, sent)
 }
 
 /// Appends a line for each lock that is held.
-fn push_locks(text: &mut String, locks: &[Held]) -> Result<(), AllocError>
-    ensures { OnOk result (string_bytes text.new ≡ string_bytes text.old ++ flat_map held_line locks.now) }
+fn push_locks(text: &mut Vec<u8>, locks: &[Held]) -> Result<(), AllocError>
+    ensures { MatchResult result (λ unit. text.new.items ≡ text.old.items ++ flat_map held_line locks.now) (λ error. Extends text.old.items text.new.items) }
 {
     for held in locks {
         push_held(text, held)?;
@@ -72,8 +86,8 @@ fn push_locks(text: &mut String, locks: &[Held]) -> Result<(), AllocError>
 }
 
 /// Appends a line for each request that waits.
-fn push_waits(text: &mut String, waits: &[Wait]) -> Result<(), AllocError>
-    ensures { OnOk result (string_bytes text.new ≡ string_bytes text.old ++ flat_map wait_line waits.now) }
+fn push_waits(text: &mut Vec<u8>, waits: &[Wait]) -> Result<(), AllocError>
+    ensures { MatchResult result (λ unit. text.new.items ≡ text.old.items ++ flat_map wait_line waits.now) (λ error. Extends text.old.items text.new.items) }
 {
     for wait in waits {
         push_wait(text, wait)?;
@@ -82,10 +96,11 @@ fn push_waits(text: &mut String, waits: &[Wait]) -> Result<(), AllocError>
 }
 
 /// Appends a line for each process that was ever alive or has sent something.
-fn push_processes(text: &mut String, session: &Session, sent: &[u64]) -> Result<(), AllocError>
+fn push_processes(text: &mut Vec<u8>, session: &Session, sent: &[u64]) -> Result<(), AllocError>
     requires { length sent.now ≡ processes_of (manager_of session.now) }
-    ensures { OnOk result ((counts : ℕ → ℕ) → AreCounts sent.now counts → string_bytes text.new ≡ string_bytes text.old
-        ++ process_lines (state_at (manager_of session.now)) (events_in session.now) counts 1 (processes_of (manager_of session.now))) }
+    ensures { MatchResult result (λ unit. (counts : ℕ → ℕ) → AreCounts sent.now counts → text.new.items ≡ text.old.items
+        ++ process_lines (state_at (manager_of session.now)) (events_in session.now) counts 1 (processes_of (manager_of session.now)))
+        (λ error. Extends text.old.items text.new.items) }
 {
     for index in 0..session.manager().processes() {
         let line = line_of(session, index + 1, sent[usize::from(index)]);
@@ -109,8 +124,8 @@ fn line_of(session: &Session, p: u8, sent: u64) -> ProcessLine
 }
 
 /// Appends the line of a process, where the report has one.
-fn push_reported(text: &mut String, line: &ProcessLine) -> Result<(), AllocError>
-    ensures { OnOk result (string_bytes text.new ≡ string_bytes text.old ++ reported_line line.now) }
+fn push_reported(text: &mut Vec<u8>, line: &ProcessLine) -> Result<(), AllocError>
+    ensures { MatchResult result (λ unit. text.new.items ≡ text.old.items ++ reported_line line.now) (λ error. Extends text.old.items text.new.items) }
 {
     if is_reported(line) {
         push_process(text, line)

@@ -1,6 +1,6 @@
-use Rattle.std.proofs.Common.{◌≡◌, ◌++◌, string_bytes, flat_map, take}
+use Rattle.std.proofs.Common.{◌≡◌, ◌++◌, flat_map, take}
 use Rattle.script_core.specs.ReportText.{held_line}
 use Rattle.script_core.proofs.write.push_locks.Given as goal
 
 abbrev pub invariant-loop-held : goal.invariant-loop-held
-invariant-loop-held l = string_bytes l.text ≡ string_bytes l.fn.text ++ flat_map held_line (take l.held-index l.locks)
+invariant-loop-held l = l.text.items ≡ l.fn.text.items ++ flat_map held_line (take l.held-index l.locks)
