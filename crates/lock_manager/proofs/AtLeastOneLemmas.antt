@@ -1,7 +1,7 @@
--- Predicates that some value meets, and the choices and the chains that are made of them. That some value does is said by a double
+-- Predicates that some value meets, and the choices by a fact and the chains that are made of them. That some value does is said by a double
 -- negation: it can't be that none does. So a fact may be asked of which no test is known.
-use Rattle.std.proofs.Common.{ℕ, zero, suc, ◌≡◌, ◌+◌, ◌<◌, ◌≤◌, ◌⊎◌, refl, subst, arith, Bool, true, false, Option, Some, None, Result, Ok, Err, inl, inr, MatchBool, MatchOption, MatchResult}
-use Rattle.std.proofs.lemmas.Bool.{cases_eq, cases_lt}
+use Rattle.std.proofs.Common.{ℕ, zero, suc, ◌≡◌, ◌<◌, ◌⊎◌, subst, arith, inl, inr}
+use Rattle.std.proofs.lemmas.Bool.{cases_lt}
 use Rattle.range_core.specs.Facts.{MatchFact}
 
 -- some value meets the predicate
@@ -20,19 +20,7 @@ this_value P x h none = none x h
 pub by_cases : (Fact : Type 0) → (Fact → ⊥) → (¬ Fact → ⊥) → ⊥
 by_cases Fact holds fails = fails holds
 
--- where each case has some value, so has the choice
-pub MatchBool-some : {A : Type 0} (b : Bool) (P Q : A → Type 0) → AtLeastOne P → AtLeastOne Q → AtLeastOne (λ x. MatchBool b (P x) (Q x))
-MatchBool-some true P Q p q = p
-MatchBool-some false P Q p q = q
-
-pub MatchOption-some : {A X : Type 0} (o : Option X) (P : A → Type 0) (Q : X → A → Type 0) → AtLeastOne P → ((v : X) → AtLeastOne (Q v)) → AtLeastOne (λ x. MatchOption o (P x) (λ v. Q v x))
-MatchOption-some None P Q p q = p
-MatchOption-some (Some v) P Q p q = q v
-
-pub MatchResult-some : {A X E : Type 0} (r : Result X E) (P : X → A → Type 0) (Q : E → A → Type 0) → ((v : X) → AtLeastOne (P v)) → ((e : E) → AtLeastOne (Q e)) → AtLeastOne (λ x. MatchResult r (λ v. P v x) (λ e. Q e x))
-MatchResult-some (Ok v) P Q p q = p v
-MatchResult-some (Err e) P Q p q = q e
-
+-- where each case has some value, so has the choice by a fact
 pub MatchFact-some : {A : Type 0} (Fact : Type 0) (P Q : A → Type 0) → (Fact → AtLeastOne P) → AtLeastOne Q → AtLeastOne (λ x. MatchFact Fact (P x) (Q x))
 MatchFact-some Fact P Q p q none =
     by_cases Fact (λ fact. p fact (λ x h. none x (inl (fact, h)))) (λ fails. q (λ x h. none x (inr (fails, h))))

@@ -1,5 +1,5 @@
--- Predicates that at most one value meets, and the choices and the chains that are made of them.
-use Rattle.std.proofs.Common.{◌≡◌, sym, ◌∙◌, subst, subst₂, Bool, true, false, Option, Some, None, Result, Ok, Err, inl, inr, MatchBool, MatchOption, MatchResult}
+-- Predicates that at most one value meets, and the choices by a fact and the chains that are made of them.
+use Rattle.std.proofs.Common.{◌≡◌, sym, ◌∙◌, subst, subst₂, inl, inr}
 use Rattle.range_core.specs.Facts.{MatchFact}
 
 -- at most one value meets the predicate
@@ -10,19 +10,7 @@ AtMostOne {A} P = (x y : A) → P x → P y → x ≡ y
 pub one_value : {A : Type 0} (a : A) → AtMostOne (λ x. x ≡ a)
 one_value a x y h k = h ∙ sym k
 
--- where each case has at most one value, so has the choice
-pub MatchBool-unique : {A : Type 0} (b : Bool) (P Q : A → Type 0) → AtMostOne P → AtMostOne Q → AtMostOne (λ x. MatchBool b (P x) (Q x))
-MatchBool-unique true P Q p q = p
-MatchBool-unique false P Q p q = q
-
-pub MatchOption-unique : {A X : Type 0} (o : Option X) (P : A → Type 0) (Q : X → A → Type 0) → AtMostOne P → ((v : X) → AtMostOne (Q v)) → AtMostOne (λ x. MatchOption o (P x) (λ v. Q v x))
-MatchOption-unique None P Q p q = p
-MatchOption-unique (Some v) P Q p q = q v
-
-pub MatchResult-unique : {A X E : Type 0} (r : Result X E) (P : X → A → Type 0) (Q : E → A → Type 0) → ((v : X) → AtMostOne (P v)) → ((e : E) → AtMostOne (Q e)) → AtMostOne (λ x. MatchResult r (λ v. P v x) (λ e. Q e x))
-MatchResult-unique (Ok v) P Q p q = p v
-MatchResult-unique (Err e) P Q p q = q e
-
+-- where each case has at most one value, so has the choice by a fact
 pub MatchFact-unique : {A : Type 0} (Fact : Type 0) (P Q : A → Type 0) → AtMostOne P → AtMostOne Q → AtMostOne (λ x. MatchFact Fact (P x) (Q x))
 MatchFact-unique Fact P Q p q x y (inl h) (inl k) = p x y h.1 k.1
 MatchFact-unique Fact P Q p q x y (inl h) (inr k) = absurd (k.0 h.0)

@@ -6,6 +6,7 @@ pub mod BlockerLaws
 pub mod BookLemmas
 pub mod CallLaws
 pub mod CallLemmas
+pub mod ChoiceLemmas
 pub mod ClosingLemmas
 pub mod CommandLemmas
 pub mod DescriptorLaws

@@ -41,7 +41,8 @@ use Rattle.lock_manager.specs.ProcessCalls.{ForkComesTo, EndComesTo, SignalComes
 use Rattle.lock_manager.specs.Settling.{Settles}
 use Rattle.lock_manager.specs.Step.{ComesTo}
 use Rattle.lock_manager.specs.OneOutcome.{StepHasOneOutcome}
-use Rattle.lock_manager.proofs.AtMostOneLemmas.{AtMostOne, one_value, MatchBool-unique, MatchOption-unique, MatchResult-unique, MatchFact-unique, by_one, by_two}
+use Rattle.lock_manager.proofs.AtMostOneLemmas.{AtMostOne, one_value, MatchFact-unique, by_one, by_two}
+use Rattle.lock_manager.proofs.ChoiceLemmas.{MatchBool-by, MatchResult-by, LockComesTo-by, FlockComesTo-by}
 use Rattle.lock_manager.proofs.BlockerLaws.{IsFirstBlocker-unique}
 use Rattle.lock_manager.proofs.CallLaws.{DupGives-unique, DupToGives-unique, CloseGives-unique, SeekGives-unique, ResizeGives-unique, ForkGives-unique, EndGives-unique}
 use Rattle.lock_manager.proofs.DescriptorLaws.{OpenGives-unique}
@@ -58,7 +59,7 @@ IsRefusal-unique S p n Memory = λ x y h k. absurd h
 -- the answer of a call on descriptors is one outcome, that of its result or the refusal
 answer-unique : {R : Type 0} (S : State) (p n : ℕ) (done : R → Outcome) (result : Result R FdFault)
     → AtMostOne (λ outcome. MatchResult result (λ r. outcome ≡ done r) (λ fault. IsRefusal S p n fault outcome))
-answer-unique S p n done result = MatchResult-unique result _ _ (λ r. one_value (done r)) (λ fault. IsRefusal-unique S p n fault)
+answer-unique S p n done result = MatchResult-by (λ P. AtMostOne P) result _ _ (λ r. one_value (done r)) (λ fault. IsRefusal-unique S p n fault)
 
 OpenComesTo-unique : (rules : Rules) (S : State) (p n file : ℕ) (access : Access) → AtMostOne (OpenComesTo rules S p n file access)
 OpenComesTo-unique rules S p n file access =
@@ -120,7 +121,7 @@ KillOtherComesTo-unique S p n target Waiting = EndComesTo-unique S target (Answe
 
 KillComesTo-unique : (S : State) (p n target : ℕ) → AtMostOne (KillComesTo S p n target)
 KillComesTo-unique S p n target =
-    MatchBool-unique (target == p) _ _ (EndComesTo-unique S p []) (KillOtherComesTo-unique S p n target (S.states target))
+    MatchBool-by (λ P. AtMostOne P) (target == p) _ _ (EndComesTo-unique S p []) (KillOtherComesTo-unique S p n target (S.states target))
 
 -- what a get command answers is one outcome
 GetComesTo-unique : (S : State) (wanted : Wait) → AtMostOne (GetComesTo S wanted)
@@ -146,24 +147,9 @@ CommandComesTo-unique rules S OSetLk wanted = SetComesTo-unique S wanted
 CommandComesTo-unique rules S SetLkW wanted = WaitOrDeadlockComesTo-unique rules S wanted
 CommandComesTo-unique rules S OSetLkW wanted = SetOrWaitComesTo-unique rules S wanted
 
-ModeComesTo-unique : (rules : Rules) (S : State) (p n : ℕ) (cmd : LkCmd) (look : Look) (span : Span) (mode : Mode) → AtMostOne (ModeComesTo rules S p n cmd look span mode)
-ModeComesTo-unique rules S p n cmd look span mode =
-    MatchBool-unique (is_get cmd || permits look.access mode) _ _
-    (CommandComesTo-unique rules S cmd (wanted_lock cmd p n look span mode)) (one_value _)
-
-RangeComesTo-unique : (rules : Rules) (S : State) (p n : ℕ) (cmd : LkCmd) (kind : Kind) (look : Look) (span : Span) → AtMostOne (RangeComesTo rules S p n cmd kind look span)
-RangeComesTo-unique rules S p n cmd kind look span =
-    MatchOption-unique (wanted_mode kind) _ _ (one_value _) (λ mode. ModeComesTo-unique rules S p n cmd look span mode)
-
-DescribedComesTo-unique : (rules : Rules) (S : State) (p n : ℕ) (cmd : LkCmd) (lock : Lock) (look : Look) → AtMostOne (DescribedComesTo rules S p n cmd lock look)
-DescribedComesTo-unique rules S p n cmd lock look =
-    MatchBool-unique (is_bad_argument cmd lock) _ _ (one_value _)
-    (MatchResult-unique (resolution lock.whence lock.start lock.len look.offset look.size) _ _
-    (λ span. RangeComesTo-unique rules S p n cmd lock.kind look span) (λ fault. one_value _))
-
 LockComesTo-unique : (rules : Rules) (S : State) (p n fd : ℕ) (cmd : LkCmd) (lock : Lock) → AtMostOne (LockComesTo rules S p n fd cmd lock)
 LockComesTo-unique rules S p n fd cmd lock =
-    MatchOption-unique (look_at S.descriptors p fd) _ _ (one_value _) (λ look. DescribedComesTo-unique rules S p n cmd lock look)
+    LockComesTo-by (λ P. AtMostOne P) (λ given. one_value given) rules S p n fd cmd lock (λ wanted. CommandComesTo-unique rules S cmd wanted)
 
 FlockTestComesTo-unique : (rules : Rules) (S : State) (nb : Bool) (wanted : Wait) (grants : List Note) → AtMostOne (FlockTestComesTo rules S nb wanted grants)
 FlockTestComesTo-unique rules S true wanted grants = MatchFact-unique (IsBlockedByLock (locks_held S) wanted) _ _ (one_value _) (one_value _)
@@ -172,21 +158,14 @@ FlockTestComesTo-unique rules S false wanted grants = MatchFact-unique (IsBlocke
 FlockModeComesTo-unique : (rules : Rules) (S : State) (look : Look) (nb : Bool) (wanted : Wait) (held : Option Mode) → AtMostOne (FlockModeComesTo rules S look nb wanted held)
 FlockModeComesTo-unique rules S look nb wanted None = FlockTestComesTo-unique rules S nb wanted []
 FlockModeComesTo-unique rules S look nb wanted (Some held) =
-    MatchBool-unique (is_same_mode held wanted.mode) _ _ (one_value _)
+    MatchBool-by (λ P. AtMostOne P) (is_same_mode held wanted.mode) _ _ (one_value _)
     (by_two (λ grants settled. Settles rules.policy (with_flock_mode S look.file look.desc None) grants settled) _
     (λ grants settled others other h k. Settles-unique rules.policy (with_flock_mode S look.file look.desc None) grants settled others other h k)
     (λ grants settled. FlockTestComesTo-unique rules settled nb wanted grants))
 
-FlockOpComesTo-unique : (rules : Rules) (S : State) (p n : ℕ) (look : Look) (op : FlockOp) (nb : Bool) → AtMostOne (FlockOpComesTo rules S p n look op nb)
-FlockOpComesTo-unique rules S p n look Un nb = one_value _
-FlockOpComesTo-unique rules S p n look Sh nb =
-    FlockModeComesTo-unique rules S look nb (wanted_flock p n look Read) (flock_mode_in S.flock_changes look.file look.desc)
-FlockOpComesTo-unique rules S p n look Ex nb =
-    FlockModeComesTo-unique rules S look nb (wanted_flock p n look Write) (flock_mode_in S.flock_changes look.file look.desc)
-
 FlockComesTo-unique : (rules : Rules) (S : State) (p n fd : ℕ) (op : FlockOp) (nb : Bool) → AtMostOne (FlockComesTo rules S p n fd op nb)
 FlockComesTo-unique rules S p n fd op nb =
-    MatchOption-unique (look_at S.descriptors p fd) _ _ (one_value _) (λ look. FlockOpComesTo-unique rules S p n look op nb)
+    FlockComesTo-by (λ P. AtMostOne P) (λ given. one_value given) rules S p n fd op nb (λ look wanted held. FlockModeComesTo-unique rules S look nb wanted held)
 
 -- a request comes to one outcome
 pub ComesTo-unique : (rules : Rules) (processes : ℕ) (S : State) (p n : ℕ) (request : Request) → AtMostOne (ComesTo rules processes S p n request)

@@ -1,5 +1,5 @@
 -- Each call on descriptors answers something and leaves some descriptors, where those that are open refer to descriptions that were made.
-use Rattle.std.proofs.Common.{◌≡◌, ℕ, zero, suc, ◌+◌, ◌<◌, ◌≤◌, ◌==◌, Bool, true, false, MatchBool, Option, Some, None, IsSome, Result, Ok, Err, ℤ, pos, negsuc, refl, sym, ◌∙◌, ap, subst, ◌⊎◌, inl, inr, arith, List, [], ◌∷◌, ◌++◌, length, option_map}
+use Rattle.std.proofs.Common.{◌≡◌, ℕ, zero, suc, ◌+◌, ◌<◌, ◌≤◌, ◌==◌, Bool, true, false, MatchBool, Option, Some, None, IsSome, Result, Ok, Err, ℤ, pos, negsuc, ◌<ℤ◌, refl, sym, ◌∙◌, ap, subst, ◌⊎◌, inl, inr, arith, List, [], ◌∷◌, ◌++◌, length, option_map}
 use Rattle.std.proofs.lemmas.Bool.{cases_lt}
 use Rattle.std.proofs.lemmas.Int.{ints}
 use Rattle.fd_table.specs.declared.TheConstants.{FILES, DESCRIPTIONS}
@@ -159,26 +159,26 @@ refers_some D p fd number made is = elim (some_or_none (description_numbered D.d
   | inr nothing_there ↦ absurd (let h : IsSome {T = OpenFileDescription} None = subst IsSome nothing_there (made p fd number is) in cc)
 ]
 
-pub SeekGives-some : (D : Descriptors) (p fd : ℕ) (offset : ℤ) → AreMade D → SomePair (SeekGives D p fd offset)
-SeekGives-some D p fd offset made none = elim (some_or_none (D.description_of p fd)) [
-  | inr closed ↦ none (Err BadFd) D (closed, same D)
-  | inl open_one ↦ signed offset open_one.0 open_one.1 none
+-- a call that takes an offset or a size: the descriptor isn't open, or the number is below 0, or something is done
+counted_some : (D : Descriptors) (p fd : ℕ) (count : ℤ) (Gives : Result (Unit {0}) FdFault → Descriptors → Type 0) → AreMade D
+    → (D.description_of p fd ≡ None → Gives (Err BadFd) D)
+    → (IsSome (D.description_of p fd) → count <ℤ pos 0 → Gives (Err Invalid) D)
+    → ((opened : OpenFileDescription) → Refers D p fd opened → (n : ℕ) → count ≡ pos n → SomePair Gives) → SomePair Gives
+counted_some D p fd count Gives made closed below done none = elim (some_or_none (D.description_of p fd)) [
+  | inr missing ↦ none (Err BadFd) D (closed missing)
+  | inl open_one ↦ signed count refl open_one.0 open_one.1
 ]
   where
-    signed : (offset : ℤ) (number : ℕ) → D.description_of p fd ≡ Some number → SomePair (SeekGives D p fd offset)
-    signed (pos n) number is none =
-        let refers = refers_some D p fd number made is in
-        none (Ok tt) (with_offset D refers.1.number refers.0 n) (refers.0, refers.1, n, refl, same _)
-    signed (negsuc n) number is none = none (Err Invalid) D (rw is refl, omega (arith, ints), same D)
+    signed : (is : ℤ) → count ≡ is → (number : ℕ) → D.description_of p fd ≡ Some number → ⊥
+    signed (pos n) same_count number is = let refers = refers_some D p fd number made is in done refers.0 refers.1 n same_count none
+    signed (negsuc n) same_count number is = none (Err Invalid) D (below (rw is refl) (omega (arith, ints, same_count)))
+
+pub SeekGives-some : (D : Descriptors) (p fd : ℕ) (offset : ℤ) → AreMade D → SomePair (SeekGives D p fd offset)
+SeekGives-some D p fd offset made =
+    counted_some D p fd offset (SeekGives D p fd offset) made (λ closed. (closed, same D)) (λ there below. (there, below, same D))
+    (λ opened refers n is none. none (Ok tt) (with_offset D refers.number opened n) (opened, refers, n, is, same _))
 
 pub ResizeGives-some : (D : Descriptors) (p fd : ℕ) (size : ℤ) → AreMade D → SomePair (ResizeGives D p fd size)
-ResizeGives-some D p fd size made none = elim (some_or_none (D.description_of p fd)) [
-  | inr closed ↦ none (Err BadFd) D (closed, same D)
-  | inl open_one ↦ signed size open_one.0 open_one.1 none
-]
-  where
-    signed : (size : ℤ) (number : ℕ) → D.description_of p fd ≡ Some number → SomePair (ResizeGives D p fd size)
-    signed (pos n) number is none =
-        let refers = refers_some D p fd number made is in
-        none (Ok tt) (with_size D refers.0.file n) (refers.0, refers.1, n, refl, same _)
-    signed (negsuc n) number is none = none (Err Invalid) D (rw is refl, omega (arith, ints), same D)
+ResizeGives-some D p fd size made =
+    counted_some D p fd size (ResizeGives D p fd size) made (λ closed. (closed, same D)) (λ there below. (there, below, same D))
+    (λ opened refers n is none. none (Ok tt) (with_size D opened.file n) (opened, refers, n, is, same _))

@@ -44,7 +44,8 @@ use Rattle.lock_manager.specs.FlockCalls.{FlockTestComesTo, FlockModeComesTo, Fl
 use Rattle.lock_manager.specs.ProcessCalls.{ForkComesTo, EndComesTo, SignalComesTo, KillOtherComesTo, KillComesTo}
 use Rattle.lock_manager.specs.Step.{ComesTo, Step}
 use Rattle.lock_manager.specs.SomeOutcome.{IsWhole}
-use Rattle.lock_manager.proofs.AtLeastOneLemmas.{AtLeastOne, SomePair, this_value, by_cases, MatchBool-some, MatchOption-some, MatchResult-some, MatchFact-some, some_by_one, some_by_two}
+use Rattle.lock_manager.proofs.AtLeastOneLemmas.{AtLeastOne, SomePair, this_value, by_cases, MatchFact-some, some_by_one, some_by_two}
+use Rattle.lock_manager.proofs.ChoiceLemmas.{MatchBool-by, LockComesTo-by, FlockComesTo-by}
 use Rattle.lock_manager.proofs.SomeBlockerLaws.{bytes_below, AreBelow-changes, FirstBlocker-some}
 use Rattle.lock_manager.proofs.SomeCallLaws.{some_or_none, OpenGives-some, DupGives-some, DupToGives-some, CloseGives-some, EndGives-some, ForkGives-some, SeekGives-some, ResizeGives-some}
 
@@ -130,7 +131,7 @@ KillOtherComesTo-some S p n target Waiting whole = EndComesTo-some S target (Ans
 
 KillComesTo-some : (S : State) (p n target : ℕ) → IsWhole S → AtLeastOne (KillComesTo S p n target)
 KillComesTo-some S p n target whole =
-    MatchBool-some (target == p) _ _ (EndComesTo-some S p [] whole) (KillOtherComesTo-some S p n target (S.states target) whole)
+    MatchBool-by (λ P. AtLeastOne P) (target == p) _ _ (EndComesTo-some S p [] whole) (KillOtherComesTo-some S p n target (S.states target) whole)
 
 GetComesTo-some : (S : State) (wanted : Wait) → AtLeastOne (GetComesTo S wanted)
 GetComesTo-some S wanted =
@@ -164,27 +165,9 @@ CommandComesTo-some rules S OSetLk wanted = SetComesTo-some S wanted
 CommandComesTo-some rules S SetLkW wanted = WaitOrDeadlockComesTo-some rules S wanted
 CommandComesTo-some rules S OSetLkW wanted = SetOrWaitComesTo-some rules S wanted
 
-ModeComesTo-some : (rules : Rules) (S : State) (p n : ℕ) (cmd : LkCmd) (look : Look) (span : Span) (mode : Mode)
-    → AtLeastOne (ModeComesTo rules S p n cmd look span mode)
-ModeComesTo-some rules S p n cmd look span mode =
-    MatchBool-some (is_get cmd || permits look.access mode) _ _ (CommandComesTo-some rules S cmd (wanted_lock cmd p n look span mode))
-    (this_value _ _ refl)
-
-RangeComesTo-some : (rules : Rules) (S : State) (p n : ℕ) (cmd : LkCmd) (kind : Kind) (look : Look) (span : Span)
-    → AtLeastOne (RangeComesTo rules S p n cmd kind look span)
-RangeComesTo-some rules S p n cmd kind look span =
-    MatchOption-some (wanted_mode kind) _ _ (this_value _ _ refl) (λ mode. ModeComesTo-some rules S p n cmd look span mode)
-
-DescribedComesTo-some : (rules : Rules) (S : State) (p n : ℕ) (cmd : LkCmd) (lock : Lock) (look : Look)
-    → AtLeastOne (DescribedComesTo rules S p n cmd lock look)
-DescribedComesTo-some rules S p n cmd lock look =
-    MatchBool-some (is_bad_argument cmd lock) _ _ (this_value _ _ refl)
-    (MatchResult-some (resolution lock.whence lock.start lock.len look.offset look.size) _ _
-    (λ span. RangeComesTo-some rules S p n cmd lock.kind look span) (λ fault. this_value _ _ refl))
-
 LockComesTo-some : (rules : Rules) (S : State) (p n fd : ℕ) (cmd : LkCmd) (lock : Lock) → AtLeastOne (LockComesTo rules S p n fd cmd lock)
 LockComesTo-some rules S p n fd cmd lock =
-    MatchOption-some (look_at S.descriptors p fd) _ _ (this_value _ _ refl) (λ look. DescribedComesTo-some rules S p n cmd lock look)
+    LockComesTo-by (λ P. AtLeastOne P) (λ given. this_value _ given refl) rules S p n fd cmd lock (λ wanted. CommandComesTo-some rules S cmd wanted)
 
 -- each of the waits is blocked, or one is next
 some_next : (policy : Policy) (locks : Locks) (waits earlier rest : List Wait) → waits ≡ earlier ++ rest → AllBlocked policy locks [] earlier
@@ -225,21 +208,14 @@ FlockModeComesTo-some : (rules : Rules) (S : State) (look : Look) (nb : Bool) (w
     → AtLeastOne (FlockModeComesTo rules S look nb wanted held)
 FlockModeComesTo-some rules S look nb wanted None = FlockTestComesTo-some rules S nb wanted []
 FlockModeComesTo-some rules S look nb wanted (Some held) =
-    MatchBool-some (is_same_mode held wanted.mode) _ _ (this_value _ _ refl)
+    MatchBool-by (λ P. AtLeastOne P) (is_same_mode held wanted.mode) _ _ (this_value _ _ refl)
     (some_by_two (λ grants settled. RemovesOldLock rules S look.file look.desc grants settled) _
     (settled_some rules.policy (with_flock_mode S look.file look.desc None))
     (λ grants settled h. FlockTestComesTo-some rules settled nb wanted grants))
 
-FlockOpComesTo-some : (rules : Rules) (S : State) (p n : ℕ) (look : Look) (op : FlockOp) (nb : Bool) → AtLeastOne (FlockOpComesTo rules S p n look op nb)
-FlockOpComesTo-some rules S p n look Un nb = this_value _ _ refl
-FlockOpComesTo-some rules S p n look Sh nb =
-    FlockModeComesTo-some rules S look nb (wanted_flock p n look Read) (flock_mode_in S.flock_changes look.file look.desc)
-FlockOpComesTo-some rules S p n look Ex nb =
-    FlockModeComesTo-some rules S look nb (wanted_flock p n look Write) (flock_mode_in S.flock_changes look.file look.desc)
-
 FlockComesTo-some : (rules : Rules) (S : State) (p n fd : ℕ) (op : FlockOp) (nb : Bool) → AtLeastOne (FlockComesTo rules S p n fd op nb)
 FlockComesTo-some rules S p n fd op nb =
-    MatchOption-some (look_at S.descriptors p fd) _ _ (this_value _ _ refl) (λ look. FlockOpComesTo-some rules S p n look op nb)
+    FlockComesTo-by (λ P. AtLeastOne P) (λ given. this_value _ given refl) rules S p n fd op nb (λ look wanted held. FlockModeComesTo-some rules S look nb wanted held)
 
 -- a request comes to some outcome
 ComesTo-some : (rules : Rules) (processes : ℕ) (S : State) (p n : ℕ) (request : Request) → IsWhole S → AtLeastOne (ComesTo rules processes S p n request)

@@ -1,8 +1,7 @@
 -- No process is spelled as the word of a header line, and header lines change nothing else.
-use Rattle.std.proofs.Common.{◌≡◌, ℕ, ◌+◌, ◌<◌, ◌^◌, ◌⊎◌, ◌||◌, Bool, true, false, List, [], ◌∷◌, ◌++◌, length, get_or, codes, decimal, None, Result, Ok, Err, is_ok, MatchBool, All, inl, inr, refl, sym, ap, subst, arith, lit<, nat_lt}
+use Rattle.std.proofs.Common.{◌≡◌, ℕ, ◌+◌, ◌<◌, ◌^◌, ◌⊎◌, ◌||◌, Bool, true, false, List, [], ◌∷◌, ◌++◌, length, get_or, codes, decimal, None, Result, Ok, Err, is_ok, MatchBool, IfSome, slice_get, zero, suc, inl, inr, refl, sym, ◌∙◌, ap, subst, arith, lit<, nat_lt}
 use Rattle.std.specs.Bool.{IsFalse}
 use Rattle.std.specs.Str.{bytes_eq}
-use Rattle.std.proofs.lemmas.List.Elements.{All-head, All-tail}
 use Rattle.fd_table.specs.declared.Limits.{Limits}
 use Rattle.fd_table.specs.declared.Limits.TheVariants.{Small}
 use Rattle.lock_manager.specs.declared.request.Request.{Request}
@@ -15,7 +14,7 @@ use Rattle.script_core.specs.declared.script.ScriptFault.{ScriptFault}
 use Rattle.script_core.specs.Words.{lines_of, words_of, is_printable}
 use Rattle.script_core.specs.ScriptText.{Meaning}
 use Rattle.script_core.specs.Reading.{Reading, Reads, LinesGive, LineGives, WordsGive, ProcessGives, ArrivalGives, is_comment}
-use Rattle.script_core.specs.WithoutHeaders.{PlainReads, PlainLinesGive, PlainLineGives, PlainWordsGive, HeadersChangeNothingElse, is_header, plain_rules}
+use Rattle.script_core.specs.WithoutHeaders.{PlainReads, PlainLinesGive, PlainLineGives, PlainWordsGive, HeadersChangeNothingElse, IsNoHeaderLine, is_header, plain_rules}
 use Rattle.script_core.proofs.NumberLemmas.{BeginsPlainly-decimal}
 use Rattle.script_core.proofs.ArgumentLemmas.{not_named}
 use Rattle.script_core.proofs.ReadingLemmas.{small_process}
@@ -113,36 +112,40 @@ line_same arrivals line result same gives =
     MatchBool-map (nat_lt LINE_MAX (length line)) _ _ _ _ (λ long. long)
     (MatchBool-map (is_printable line) _ _ _ _ (words_same arrivals (words_of line) result same) (λ byte. byte)) gives
 
--- the script is accepted, or no line begins as a header line does
-abbrev AreSame : List (List ℕ) → Result (List (ℕ × Request)) ScriptFault → Type 0
-AreSame lines result = (is_ok result ≡ true) ⊎ All (λ line. IsFalse (is_header (words_of line))) lines
+-- the lines from this number on are accepted, or the faulty one doesn't begin as a header line does
+abbrev AreSame : ℕ → List (List ℕ) → Result (List (ℕ × Request)) ScriptFault → Type 0
+AreSame number lines result =
+    (is_ok result ≡ true)
+    ⊎ ((fault : ScriptFault) (place : ℕ) → result ≡ Err fault → fault.line ≡ number + place
+    → IfSome (slice_get lines place) (λ line. IsFalse (is_header (words_of line))))
 
-same_rest : (line : List ℕ) (rest : List (List ℕ)) (result : Result (List (ℕ × Request)) ScriptFault) → AreSame (line ∷ rest) result → AreSame rest result
-same_rest line rest result (inl ok) = inl ok
-same_rest line rest result (inr none) = inr (All-tail (λ line. IsFalse (is_header (words_of line))) line rest none)
+same_rest : (number : ℕ) (line : List ℕ) (rest : List (List ℕ)) (result : Result (List (ℕ × Request)) ScriptFault)
+    → AreSame number (line ∷ rest) result → AreSame (number + 1) rest result
+same_rest number line rest result (inl ok) = inl ok
+same_rest number line rest result (inr none) = inr (λ fault place is at. none fault (suc place) is (omega arith))
 
-same_fault : (line : List ℕ) (rest : List (List ℕ)) (result : Result (List (ℕ × Request)) ScriptFault) (cause : Cause) (fault : ScriptFault)
-    → AreSame (line ∷ rest) result → result ≡ Err fault → IsSame (words_of line) (Err cause)
-same_fault line rest result cause fault (inl ok) is = absurd (let refused : is_ok result ≡ false = ap is_ok is in cc)
-same_fault line rest result cause fault (inr none) is = inr (All-head (λ line. IsFalse (is_header (words_of line))) line rest none)
+same_fault : (number : ℕ) (line : List ℕ) (rest : List (List ℕ)) (result : Result (List (ℕ × Request)) ScriptFault) (cause : Cause)
+    → AreSame number (line ∷ rest) result → result ≡ Err (record { line = number; cause = cause }) → IsSame (words_of line) (Err cause)
+same_fault number line rest result cause (inl ok) is = absurd (let refused : is_ok result ≡ false = ap is_ok is in cc)
+same_fault number line rest result cause (inr none) is = inr (none (record { line = number; cause = cause }) zero is (omega arith))
 
 lines_same : (number : ℕ) (arrivals : List (ℕ × Request)) (lines : List (List ℕ)) (result : Result (List (ℕ × Request)) ScriptFault)
-    → AreSame lines result → PlainLinesGive number arrivals lines result → LinesGive number (reading_of arrivals) lines (told result)
+    → AreSame number lines result → PlainLinesGive number arrivals lines result → LinesGive number (reading_of arrivals) lines (told result)
 unfolding told IsPlain
 lines_same number arrivals [] result same gives = ap told gives
 lines_same number arrivals (line ∷ rest) result same (Ok lines.Skipped, gives, more) =
-    (Ok lines.Skipped, line_same arrivals line (Ok lines.Skipped) (inl refl) gives, lines_same (number + 1) arrivals rest result (same_rest line rest result same) more)
+    (Ok lines.Skipped, line_same arrivals line (Ok lines.Skipped) (inl refl) gives, lines_same (number + 1) arrivals rest result (same_rest number line rest result same) more)
 lines_same number arrivals (line ∷ rest) result same (Ok (lines.Policy policy), gives, more) = absurd (plain_line line (Ok (lines.Policy policy)) gives)
 lines_same number arrivals (line ∷ rest) result same (Ok (lines.Limits limits), gives, more) = absurd (plain_line line (Ok (lines.Limits limits)) gives)
 lines_same number arrivals (line ∷ rest) result same (Ok (lines.Arrival p request), gives, more) = (
   Ok (lines.Arrival p request),
   line_same arrivals line (Ok (lines.Arrival p request)) (inl refl) gives,
-  lines_same (number + 1) (arrivals ++ (p, request) ∷ []) rest result (same_rest line rest result same) more,
+  lines_same (number + 1) (arrivals ++ (p, request) ∷ []) rest result (same_rest number line rest result same) more,
 )
 lines_same number arrivals (line ∷ rest) result same (Err cause, gives, more) =
-    (Err cause, line_same arrivals line (Err cause) (same_fault line rest result cause (record { line = number; cause = cause }) same more) gives, ap told more)
+    (Err cause, line_same arrivals line (Err cause) (same_fault number line rest result cause same more) gives, ap told more)
 
-reads_same : (bytes : List ℕ) (result : Result (List (ℕ × Request)) ScriptFault) → AreSame (lines_of bytes) result → PlainReads bytes result → Reads bytes (told result)
+reads_same : (bytes : List ℕ) (result : Result (List (ℕ × Request)) ScriptFault) → AreSame 1 (lines_of bytes) result → PlainReads bytes result → Reads bytes (told result)
 unfolding told
 reads_same bytes result same reads =
     MatchBool-map (nat_lt SCRIPT_MAX (length bytes)) _ _ _ _ (λ long. ap told long) (lines_same 1 [] (lines_of bytes) result same) reads
@@ -162,5 +165,11 @@ headers_only = record {
     is_report = plain.is_report;
     is = plain.is;
   };
-  refused = λ bytes fault none reads. reads_same bytes (Err fault) (inr none) reads;
+  refused = λ bytes fault none reads. reads_same bytes (Err fault) (inr (λ other place is at. let same : fault ≡ other = cc in faulty_line bytes fault other place none same at)) reads;
 }
+  where
+    faulty_line : (bytes : List ℕ) (fault other : ScriptFault) (place : ℕ) → IsNoHeaderLine bytes fault.line
+        → fault ≡ other → other.line ≡ 1 + place → IfSome (slice_get (lines_of bytes) place) (λ line. IsFalse (is_header (words_of line)))
+    faulty_line bytes fault other place none same at =
+        let number : fault.line ≡ suc place = ap (λ (f : ScriptFault). f.line) same ∙ at ∙ omega arith in
+        subst (IsNoHeaderLine bytes) number none

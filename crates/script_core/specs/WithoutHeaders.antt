@@ -1,6 +1,6 @@
 -- How a script is read and run in the language without header lines, and that header lines change nothing else (this project's
 -- choice).
-use Rattle.std.specs.Prelude.{◌≡◌, ℕ, ◌+◌, ◌||◌, Bool, false, IsFalse, nat_lt, MatchBool, MatchResult, Result, Ok, Err, List, [], ◌∷◌, ◌++◌, All, length, flat_map, codes, bytes_eq}
+use Rattle.std.specs.Prelude.{◌≡◌, ℕ, zero, suc, ◌+◌, ◌||◌, Bool, false, IsFalse, nat_lt, MatchBool, MatchResult, Option, None, IfSome, Result, Ok, Err, List, [], ◌∷◌, ◌++◌, length, slice_get, flat_map, codes, bytes_eq}
 use Rattle.fd_table.specs.declared.Limits.TheVariants.{Small}
 use Rattle.wait_core.specs.declared.Policy.TheVariants.{Held}
 use Rattle.lock_manager.specs.declared.request.Rules.{Rules}
@@ -62,9 +62,14 @@ abbrev pub is_header : List (List ℕ) → Bool
 is_header [] = false
 is_header (first ∷ rest) = bytes_eq first (codes "policy") || bytes_eq first (codes "limits")
 
--- no line's first word is that of a header line
-abbrev pub HasNoHeader : List ℕ → Type 0
-HasNoHeader bytes = All (λ line. IsFalse (is_header (words_of line))) (lines_of bytes)
+-- the line with this number, from 1 on
+abbrev pub line_numbered : List ℕ → ℕ → Option (List ℕ)
+line_numbered bytes zero = None
+line_numbered bytes (suc place) = slice_get (lines_of bytes) place
+
+-- the first word of the line with this number isn't that of a header line
+abbrev pub IsNoHeaderLine : List ℕ → ℕ → Type 0
+IsNoHeaderLine bytes number = IfSome (line_numbered bytes number) (λ line. IsFalse (is_header (words_of line)))
 
 -- the output in the language without header lines: the lines of the journal that the arrivals make under the held policy and
 -- small limits, with 16 processes, and then the report
@@ -79,9 +84,9 @@ pub record IsPlainOutput (bytes text : List ℕ) : Type 0 where
   pub is : text ≡ flat_map entry_line journal ++ report
 
 -- what the language without header lines accepts is read with the policy held, small limits and the same arrivals, and has the
--- same output; and what it refuses has the same fault, where no line's first word is that of a header line
+-- same output; and what it refuses has the same fault, where the first word of the faulty line isn't that of a header line
 pub record HeadersChangeNothingElse : Type 0 where
   pub accepted : (bytes : List ℕ) (arrivals : List (ℕ × Request)) → PlainReads bytes (Ok arrivals)
       → Reads bytes (Ok (record { rules = plain_rules; arrivals = arrivals }))
   pub same_output : (bytes text : List ℕ) → IsPlainOutput bytes text → IsOutput bytes text
-  pub refused : (bytes : List ℕ) (fault : ScriptFault) → HasNoHeader bytes → PlainReads bytes (Err fault) → Reads bytes (Err fault)
+  pub refused : (bytes : List ℕ) (fault : ScriptFault) → IsNoHeaderLine bytes fault.line → PlainReads bytes (Err fault) → Reads bytes (Err fault)

@@ -14,7 +14,7 @@ pub fn scripts_have_one_output()
 }
 
 /// A script of the language without header lines keeps its meaning and its output, under the held policy and small limits; one
-/// that this language refuses keeps its fault, where no line's first word is that of a header line.
+/// that this language refuses keeps its fault, where the first word of the faulty line isn't that of a header line.
 pub fn headers_change_nothing_else()
     ensures { HeadersChangeNothingElse }
 {}
