@@ -17,10 +17,12 @@ use Rattle.fd_table.specs.declared.tables.Tables.{Tables}
 use Rattle.fd_table.specs.Descriptors.{Descriptors}
 use Rattle.fd_table.specs.TablesView.{StandFor, ever_alive}
 use Rattle.wait_core.specs.declared.Policy.{Policy}
+use Rattle.wait_core.specs.declared.Policy.TheVariants.{Held}
 use Rattle.wait_core.specs.declared.Wait.{Wait}
 use Rattle.wait_core.specs.Locks.{Locks, locks_of, byte_modes_at}
-use Rattle.wait_core.specs.Cycles.{IsFreeOfCycles}
-use Rattle.wait_core.specs.WaitsView.{AgreeBut}
+use Rattle.wait_core.specs.declared.waits.Waits.{Waits}
+use Rattle.wait_core.specs.Cycles.{IsFreeOfCycles, WaitsFor}
+use Rattle.wait_core.specs.WaitsView.{waits_of, AreTold, AgreeBut}
 use Rattle.wait_core.specs.FreeOfCycles.{FreeWhenLocksChange, FreeWhenDescriptionLocksChange}
 use Rattle.lock_manager.specs.declared.request.ProcState.{ProcState}
 use Rattle.lock_manager.specs.declared.request.ProcState.TheVariants.{Live, Waiting}
@@ -73,6 +75,35 @@ never_alive tables locks waits child owned free e =
 -- the books but that of the file stay
 pub agree_but : (books : List Book) (file : ℕ) (new : Book) → AgreeBut file (locks_of books) (locks_of (slice_set books file new))
 agree_but books file new other owner byte distinct = ap (λ e. byte_modes_at e owner byte) (slice_get-set_other books file other new distinct)
+
+-- a step by a lock is one where the byte locks are the same
+step_by_bytes : (old new : Locks) (waits : List Wait) (p q : ℕ) → ((file : ℕ) (owner : Owner) (byte : ℕ) → new.bytes file owner byte ≡ old.bytes file owner byte)
+    → WaitsFor Held old waits p q → WaitsFor Held new waits p q
+step_by_bytes old new waits p q same step = record {
+  before = step.before;
+  wait = step.wait;
+  after = step.after;
+  place = step.place;
+  of_p = step.of_p;
+  traditional = step.traditional;
+  blocked = record {
+    byte = step.blocked.byte;
+    covered = step.blocked.covered;
+    blocks = record {
+      another = step.blocked.blocks.another;
+      conflicts = rw (same step.wait.file (Process q) step.blocked.byte) step.blocked.blocks.conflicts;
+    };
+  };
+}
+
+-- no pair rests on a flock lock: where the byte locks stay, what is told stays true
+pub told_by_bytes : (waits : Waits) (old new : Locks) → ((file : ℕ) (owner : Owner) (byte : ℕ) → new.bytes file owner byte ≡ old.bytes file owner byte) → AreTold waits old → AreTold waits new
+told_by_bytes waits old new same told = record {
+  pairs = λ p q p_few q_one q_few. (
+    λ has. step_by_bytes old new (waits_of waits) p q same ((told.pairs p q p_few q_one q_few).0 has),
+    λ step. (told.pairs p q p_few q_one q_few).1 (step_by_bytes new old (waits_of waits) p q (λ file owner byte. sym (same file owner byte)) step),
+  );
+}
 
 -- a change on a byte is of its owner alone
 changed_else : (locks : Locks) (file : ℕ) (owner : Owner) (span : Span) (mode : Option Mode) (f : ℕ) (o : Owner) (byte : ℕ) → o ≢ owner

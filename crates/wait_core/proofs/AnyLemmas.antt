@@ -34,6 +34,10 @@ module _ {X : Type 0} where
     | inr there ↦ elim (Any-append P xs ys there) [ inl a ↦ inl (Any-there P x xs a) | inr b ↦ inr b ]
   ]
 
+  -- of the one element of a list
+  pub Any-alone : (P : X → Type 0) (x : X) → Any P (x ∷ []) → P x
+  Any-alone P x any = elim (Any-cons P x [] any) [ inl here ↦ here | inr there ↦ absurd (Any-nil P there) ]
+
   pub Any-weaker : (P Q : X → Type 0) → ((x : X) → P x → Q x) → (xs : List X) → Any P xs → Any Q xs
   Any-weaker P Q weaker xs (k, x, within, is, holds) = (k, x, within, is, weaker x holds)
 

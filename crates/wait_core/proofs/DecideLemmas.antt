@@ -124,16 +124,16 @@ waits_or_not locks waits p q = elim (any_or_not (IsBlockedWait locks p q) (block
 -- so a table that is known to tell the pairs tells them
 pub told_known : (waits : Waits) (locks : Locks) → ∥ AreTold waits locks ∥₁ → AreTold waits locks
 told_known waits locks known = record {
-  pairs = λ p q p_few q_few. elim (waits_or_not locks (waits_of waits) p q) [
+  pairs = λ p q p_few q_one q_few. elim (waits_or_not locks (waits_of waits) p q) [
     | inl for ↦ (
       λ has. for,
       λ again. elim (cases_Bool (has_pair waits p q)) [
         | inl has ↦ has
-        | inr missing ↦ absurd (∥∥₁_elim known (λ x y. absurd x) (λ told. (let has = (told.pairs p q p_few q_few).1 for in cc)))
+        | inr missing ↦ absurd (∥∥₁_elim known (λ x y. absurd x) (λ told. (let has = (told.pairs p q p_few q_one q_few).1 for in cc)))
       ],
     )
     | inr none ↦ (
-      λ has. absurd (∥∥₁_elim known (λ x y. absurd x) (λ told. none ((told.pairs p q p_few q_few).0 has))),
+      λ has. absurd (∥∥₁_elim known (λ x y. absurd x) (λ told. none ((told.pairs p q p_few q_one q_few).0 has))),
       λ for. absurd (none for),
     )
   ];

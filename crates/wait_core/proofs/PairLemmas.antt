@@ -1,24 +1,30 @@
 -- What the table of pairs tells, and what a change of the list or of the locks leaves of it.
-use Rattle.std.proofs.Common.{ℕ, ◌≡◌, ◌≢◌, ◌+◌, ◌<◌, ◌≤◌, ◌↔◌, ◌∙◌, ◌⊎◌, inl, inr, sym, ap, subst, arith, Bool, true, false, not, Some, suc, List, [], Any, length, get_or, set, get_or-set_same, get_or-set_other, replicate, take, drop}
-use Rattle.std.specs.Prelude.{IsTrue, ◌==◌, slice_get}
+use Rattle.std.proofs.Common.{ℕ, ◌≡◌, ◌≢◌, ◌+◌, ◌<◌, ◌≤◌, ◌↔◌, ◌∙◌, ◌⊎◌, inl, inr, sym, ap, subst, arith, Bool, true, false, not, Some, suc, List, [], ◌∷◌, ◌++◌, All, Any, length, get_or, set, get_or-set_same, replicate, take, drop}
+use Rattle.std.specs.Prelude.{IsTrue, ◌==◌, ◌||◌, slice_get}
+use Rattle.std.specs.List.{AllPairs}
+use Rattle.std.proofs.lemmas.Bool.{cases_eq, cases_lt, or_left}
 use Rattle.std.proofs.lemmas.Bool.Decides.{nat_tests}
-use Rattle.std.proofs.lemmas.List.{length-replicate, get_or-replicate, get_or_past}
-use Rattle.std.proofs.lemmas.Bool.{cases_eq}
+use Rattle.std.proofs.lemmas.List.{length-replicate, get_or-replicate, get_or_default, get_or_past}
+use Rattle.std.proofs.lemmas.List.Elements.{All-nil, All-cons}
 use Rattle.std.proofs.lemmas.Option.{slice_get-get_or, slice_get_within, slice_get_cases, get_or_from_slice_get}
 use Rattle.range_core.specs.declared.Mode.{Mode}
 use Rattle.range_core.specs.declared.Span.{Span}
 use Rattle.lock_book.specs.declared.Owner.{Owner}
 use Rattle.lock_book.specs.declared.Owner.TheVariants.{Process}
 use Rattle.lock_book.specs.Conflicts.{ByteModes, ProcessBlocks}
-use Rattle.wait_core.specs.declared.Policy.{Policy}
 use Rattle.wait_core.specs.declared.Policy.TheVariants.{Held, Queue}
 use Rattle.wait_core.specs.declared.Wait.{Wait}
+use Rattle.wait_core.specs.declared.pairs.Pairs.{Pairs}
+use Rattle.wait_core.specs.declared.processes.ProcessSet.{ProcessSet}
 use Rattle.wait_core.specs.declared.waits.Waits.{Waits}
 use Rattle.wait_core.specs.Locks.{Locks}
 use Rattle.wait_core.specs.Cycles.{WaitsFor}
-use Rattle.wait_core.specs.Pairs.{is_in, IsBehind, IsBlockedWait, WaitsBehind}
+use Rattle.wait_core.specs.Pairs.{IsBehind, IsBlockedWait, IsElsewhere, WaitsBehind}
+use Rattle.wait_core.specs.PairsView.{pair_in, TellsWait}
+use Rattle.wait_core.specs.Processes.{is_member, no_process}
 use Rattle.wait_core.specs.WaitsView.{waits_of, has_pair, without_wait_of, AreTold, AgreeBut}
-use Rattle.wait_core.proofs.AnyLemmas.{Any-weaker, Any-filter, Any-unfilter, split_at, split_within, split_is, split_take}
+use Rattle.wait_core.proofs.AnyLemmas.{Any-nil, Any-here, Any-there, Any-cons, Any-append, Any-append_left, Any-append_right, Any-alone, Any-weaker, Any-filter, Any-unfilter, split_at, split_within, split_is, split_take}
+use Rattle.wait_core.proofs.ProcessLemmas.{none_in, or_cases, or_right}
 
 -- p waits for q by a lock where the list has a wait of p that a lock of q blocks
 pub blocked_wait : (locks : Locks) (waits : List Wait) (p q : ℕ) → WaitsFor Held locks waits p q → Any (IsBlockedWait locks p q) waits
@@ -42,19 +48,19 @@ waits_by_lock locks waits p q (k, wait, within, is, holds) = record {
 }
 
 -- a table that tells the pairs of the list and these locks
-pub told : (waits : Waits) (locks : Locks) → ((p q : ℕ) → p ≤ 64 → q ≤ 64 → IsTrue (has_pair waits p q) ↔ Any (IsBlockedWait locks p q) (waits_of waits)) → AreTold waits locks
+pub told : (waits : Waits) (locks : Locks) → ((p q : ℕ) → p ≤ 64 → 1 ≤ q → q ≤ 64 → IsTrue (has_pair waits p q) ↔ Any (IsBlockedWait locks p q) (waits_of waits)) → AreTold waits locks
 told waits locks pairs = record {
-  pairs = λ p q p_few q_few. (
-    λ has. waits_by_lock locks (waits_of waits) p q ((pairs p q p_few q_few).0 has),
-    λ for. (pairs p q p_few q_few).1 (blocked_wait locks (waits_of waits) p q for),
+  pairs = λ p q p_few q_one q_few. (
+    λ has. waits_by_lock locks (waits_of waits) p q ((pairs p q p_few q_one q_few).0 has),
+    λ for. (pairs p q p_few q_one q_few).1 (blocked_wait locks (waits_of waits) p q for),
   );
 }
 
 -- and the way back
-pub tells : (waits : Waits) (locks : Locks) → AreTold waits locks → (p q : ℕ) → p ≤ 64 → q ≤ 64 → IsTrue (has_pair waits p q) ↔ Any (IsBlockedWait locks p q) (waits_of waits)
-tells waits locks told p q p_few q_few = (
-  λ has. blocked_wait locks (waits_of waits) p q ((told.pairs p q p_few q_few).0 has),
-  λ any. (told.pairs p q p_few q_few).1 (waits_by_lock locks (waits_of waits) p q any),
+pub tells : (waits : Waits) (locks : Locks) → AreTold waits locks → (p q : ℕ) → p ≤ 64 → 1 ≤ q → q ≤ 64 → IsTrue (has_pair waits p q) ↔ Any (IsBlockedWait locks p q) (waits_of waits)
+tells waits locks told p q p_few q_one q_few = (
+  λ has. blocked_wait locks (waits_of waits) p q ((told.pairs p q p_few q_one q_few).0 has),
+  λ any. (told.pairs p q p_few q_one q_few).1 (waits_by_lock locks (waits_of waits) p q any),
 )
 
 keeps_other : (w : Wait) (p : ℕ) → w.p ≢ p → not (w.p == p) ≡ true
@@ -69,7 +75,7 @@ none_of_it locks p q process waits same (k, w, within, is, holds) = other_kept w
 
 -- one wait less, and its process' row forgotten
 pub told-leave : (old new : Waits) (locks : Locks) (process : ℕ) → waits_of new ≡ without_wait_of (waits_of old) process → ((q : ℕ) → ¬ IsTrue (has_pair new process q)) → ((p q : ℕ) → p ≢ process → has_pair new p q ≡ has_pair old p q) → AreTold old locks → AreTold new locks
-told-leave old new locks process rest forgotten others was = told new locks (λ p q p_few q_few.
+told-leave old new locks process rest forgotten others was = told new locks (λ p q p_few q_one q_few.
     let Blocked : Wait → Type 0 = IsBlockedWait locks p q in
     elim (cases_eq p process) [
       | inl same ↦ (
@@ -79,8 +85,8 @@ told-leave old new locks process rest forgotten others was = told new locks (λ 
       )
       | inr other ↦ (
         λ has. rw rest (Any-filter Blocked (λ w. not (w.p == process)) (λ w h. keeps_other w process (λ e. other (sym h.of_p ∙ e))) (waits_of old)
-            ((tells old locks was p q p_few q_few).0 (subst (λ (b : Bool). IsTrue b) (others p q other) has))),
-        λ any. subst (λ (b : Bool). IsTrue b) (sym (others p q other)) ((tells old locks was p q p_few q_few).1
+            ((tells old locks was p q p_few q_one q_few).0 (subst (λ (b : Bool). IsTrue b) (others p q other) has))),
+        λ any. subst (λ (b : Bool). IsTrue b) (sym (others p q other)) ((tells old locks was p q p_few q_one q_few).1
             (Any-weaker (λ w. Blocked w × (not (w.p == process) ≡ true)) Blocked (λ w h. h.0) (waits_of old)
             (Any-unfilter Blocked (λ w. not (w.p == process)) (waits_of old) (rw rest at any)))),
       )
@@ -97,37 +103,146 @@ blocks_same modes modes' q owner span mode agree blocks = record {
   };
 }
 
--- no wait is on the file whose locks changed
-pub told-elsewhere : (waits : Waits) (locks locks' : Locks) (file : ℕ) → ¬ Any (λ wait. wait.file ≡ file) (waits_of waits) → AgreeBut file locks locks' → AreTold waits locks → AreTold waits locks'
-told-elsewhere waits locks locks' file none agree was = told waits locks' (λ p q p_few q_few. (
-  λ has.
-      let (k, w, within, is, holds) = (tells waits locks was p q p_few q_few).0 has in (
-        k,
-        w,
-        within,
-        is,
-        record {
-          of_p = holds.of_p;
-          traditional = holds.traditional;
-          blocked = blocks_same (locks.bytes w.file) (locks'.bytes w.file) q w.owner w.span w.mode
-              (λ other byte. agree w.file other byte (λ e. none (k, w, within, is, e))) holds.blocked;
-        },
-      ),
+-- no process has two waits
+pub one_place : (waits : List Wait) → AllPairs (λ v w. v.p ≢ w.p) waits → (i j : ℕ) (v w : Wait) → i < length waits → j < length waits → get_or waits i v ≡ v → get_or waits j w ≡ w → v.p ≡ w.p → i ≡ j
+one_place waits apart i j v w i_within j_within v_is w_is same = elim (cases_eq i j) [
+  | inl here ↦ here
+  | inr differ ↦ elim (cases_lt i j) [
+    | inl before ↦ absurd (apart i j w before j_within
+        (ap (λ (x : Wait). x.p) (get_or_default waits i w v i_within ∙ v_is) ∙ same ∙ sym (ap (λ (x : Wait). x.p) w_is)))
+    | inr after ↦ absurd (apart j i v (omega arith) i_within
+        (ap (λ (x : Wait). x.p) (get_or_default waits j v w j_within ∙ w_is) ∙ sym same ∙ sym (ap (λ (x : Wait). x.p) v_is)))
+  ]
+]
+
+pub one_wait : (waits : List Wait) → AllPairs (λ v w. v.p ≢ w.p) waits → (i j : ℕ) (v w : Wait) → i < length waits → j < length waits → get_or waits i v ≡ v → get_or waits j w ≡ w → v.p ≡ w.p → v ≡ w
+one_wait waits apart i j v w i_within j_within v_is w_is same =
+    sym v_is ∙ get_or_default waits i v w i_within
+    ∙ ap (λ (n : ℕ). get_or waits n w) (one_place waits apart i j v w i_within j_within v_is w_is same) ∙ w_is
+
+-- a process has a wait, or each wait is another one's
+pub of_process_or_none : (waits : List Wait) (p : ℕ) → Any (λ w. w.p ≡ p) waits ⊎ All (λ w. w.p ≢ p) waits
+of_process_or_none [] p = inr (All-nil (λ w. w.p ≢ p))
+of_process_or_none (wait ∷ waits) p = elim (cases_eq wait.p p) [
+  | inl here ↦ inl (Any-here (λ w. w.p ≡ p) wait waits here)
+  | inr other ↦ elim (of_process_or_none waits p) [
+    | inl there ↦ inl (Any-there (λ w. w.p ≡ p) wait waits there)
+    | inr none ↦ inr (All-cons (λ w. w.p ≢ p) wait waits other none)
+  ]
+]
+
+-- what blocks the one wait of a process blocks a wait of it
+pub by_its_wait : (locks : Locks) (waits : List Wait) (k q : ℕ) (wait : Wait) (b : Bool) → AllPairs (λ v w. v.p ≢ w.p) waits → k < length waits → get_or waits k wait ≡ wait → IsTrue b ↔ IsBlockedWait locks wait.p q wait → IsTrue b ↔ Any (IsBlockedWait locks wait.p q) waits
+by_its_wait locks waits k q wait b apart within is blocks = (
+  λ yes. (k, wait, within, is, blocks.0 yes),
   λ any.
-      let (k, w, within, is, holds) = any in
-      (tells waits locks was p q p_few q_few).1 (
-        k,
-        w,
-        within,
-        is,
-        record {
-          of_p = holds.of_p;
-          traditional = holds.traditional;
-          blocked = blocks_same (locks'.bytes w.file) (locks.bytes w.file) q w.owner w.span w.mode
-              (λ other byte. sym (agree w.file other byte (λ e. none (k, w, within, is, e)))) holds.blocked;
-        },
-      ),
-))
+      let (j, v, inside, v_is, holds) = any in
+      let same : v ≡ wait = one_wait waits apart j k v wait inside within v_is is holds.of_p in
+      blocks.1 (subst (λ (w : Wait). IsBlockedWait locks wait.p q w) same holds),
+)
+
+-- of a process without a wait none is blocked
+pub none_blocked : (locks : Locks) (waits : List Wait) (p q : ℕ) → All (λ w. w.p ≢ p) waits → ¬ Any (IsBlockedWait locks p q) waits
+none_blocked locks waits p q none (k, w, within, is, holds) = subst (λ (v : Wait). v.p ≢ p) is (none k w within) holds.of_p
+
+-- a wait that is on another file than the one whose locks changed is blocked by the same locks
+kept_elsewhere : (old new : Locks) (file p q : ℕ) (wait : Wait) → AgreeBut file old new → wait.file ≢ file → IsBlockedWait old p q wait ↔ IsBlockedWait new p q wait
+kept_elsewhere old new file p q wait agree other = (
+  λ was. record {
+    of_p = was.of_p;
+    traditional = was.traditional;
+    blocked = blocks_same (old.bytes wait.file) (new.bytes wait.file) q wait.owner wait.span wait.mode (λ owner byte. agree wait.file owner byte other) was.blocked;
+  },
+  λ is. record {
+    of_p = is.of_p;
+    traditional = is.traditional;
+    blocked = blocks_same (new.bytes wait.file) (old.bytes wait.file) q wait.owner wait.span wait.mode (λ owner byte. sym (agree wait.file owner byte other)) is.blocked;
+  },
+)
+
+-- the pairs of the processes are told anew whose waits are on the file, and the others stay
+pub told-refresh : (old new : Waits) (before after : Locks) (file : ℕ) → waits_of new ≡ waits_of old → AllPairs (λ v w. v.p ≢ w.p) (waits_of old)
+    → All (λ wait. wait.file ≡ file → (q : ℕ) → 1 ≤ q → q ≤ 64 → IsTrue (has_pair new wait.p q) ↔ IsBlockedWait after wait.p q wait) (waits_of old)
+    → ((p q : ℕ) → All (IsElsewhere p file) (waits_of old) → has_pair new p q ≡ has_pair old p q)
+    → AgreeBut file before after → AreTold old before → AreTold new after
+told-refresh old new before after file list apart anew others agree was = told new after (λ p q p_few q_one q_few. rw list (elim (of_process_or_none (waits_of old) p) [
+  | inr none ↦
+      let kept : has_pair new p q ≡ has_pair old p q = others p q (λ k d within same. absurd (none k d within same)) in (
+        λ has. absurd (none_blocked before (waits_of old) p q none ((tells old before was p q p_few q_one q_few).0 (subst (λ (b : Bool). IsTrue b) kept has))),
+        λ any. absurd (none_blocked after (waits_of old) p q none any),
+      )
+  | inl (k, wait, within, is, of_p) ↦ subst (λ (n : ℕ). IsTrue (has_pair new n q) ↔ Any (IsBlockedWait after n q) (waits_of old)) of_p
+      (elim (cases_eq wait.file file) [
+        | inl here ↦ by_its_wait after (waits_of old) k q wait (has_pair new wait.p q) apart within is (subst (λ (w : Wait). w.file ≡ file → (r : ℕ) → 1 ≤ r → r ≤ 64 → IsTrue (has_pair new w.p r) ↔ IsBlockedWait after w.p r w) is (anew k wait within) here q q_one q_few)
+        | inr other ↦
+            let elsewhere : All (IsElsewhere wait.p file) (waits_of old) =
+            λ j d inside same. subst (λ (w : Wait). w.file ≢ file)
+            (one_wait (waits_of old) apart k j wait (get_or (waits_of old) j d) within inside is (get_or_default (waits_of old) j (get_or (waits_of old) j d) d inside) (sym same)) other in
+            let kept = others wait.p q elsewhere in
+            let told_old = tells old before was wait.p q (rw of_p p_few) q_one q_few in
+            let alike = kept_elsewhere before after file wait.p q wait agree other in
+            by_its_wait after (waits_of old) k q wait (has_pair new wait.p q) apart within is (
+              λ has.
+                  let any = told_old.0 (subst (λ (b : Bool). IsTrue b) kept has) in
+                  let (j, v, inside, v_is, holds) = any in
+                  let same : v ≡ wait = one_wait (waits_of old) apart j k v wait inside within v_is is holds.of_p in
+                  alike.0 (subst (λ (w : Wait). IsBlockedWait before wait.p q w) same holds),
+              λ blocked. subst (λ (b : Bool). IsTrue b) (sym kept) (told_old.1 (k, wait, within, is, alike.1 blocked)),
+            )
+      ])
+]))
+
+-- one wait more, of a process that had none, and its pairs
+pub told-join : (old new : Waits) (locks : Locks) (wait : Wait) → waits_of new ≡ waits_of old ++ wait ∷ [] → All (λ w. w.p ≢ wait.p) (waits_of old)
+    → ((q : ℕ) → 1 ≤ q → q ≤ 64 → IsTrue (has_pair new wait.p q) ↔ IsBlockedWait locks wait.p q wait)
+    → ((p q : ℕ) → p ≢ wait.p → has_pair new p q ≡ has_pair old p q) → AreTold old locks → AreTold new locks
+told-join old new locks wait list none own others was = told new locks (λ p q p_few q_one q_few. rw list (elim (cases_eq p wait.p) [
+  | inl same ↦ subst (λ (n : ℕ). IsTrue (has_pair new n q) ↔ Any (IsBlockedWait locks n q) (waits_of old ++ wait ∷ [])) (sym same) (
+    λ has. Any-append_right (IsBlockedWait locks wait.p q) (waits_of old) (wait ∷ []) (Any-here (IsBlockedWait locks wait.p q) wait [] ((own q q_one q_few).0 has)),
+    λ any. elim (Any-append (IsBlockedWait locks wait.p q) (waits_of old) (wait ∷ []) any) [
+      | inl earlier ↦ absurd (none_blocked locks (waits_of old) wait.p q none earlier)
+      | inr last ↦ (own q q_one q_few).1 (Any-alone (IsBlockedWait locks wait.p q) wait last)
+    ],
+  )
+  | inr other ↦ (
+    λ has. Any-append_left (IsBlockedWait locks p q) (waits_of old) (wait ∷ []) ((tells old locks was p q p_few q_one q_few).0 (subst (λ (b : Bool). IsTrue b) (others p q other) has)),
+    λ any. elim (Any-append (IsBlockedWait locks p q) (waits_of old) (wait ∷ []) any) [
+      | inl earlier ↦ subst (λ (b : Bool). IsTrue b) (sym (others p q other)) ((tells old locks was p q p_few q_one q_few).1 earlier)
+      | inr last ↦ absurd (let here = Any-alone (IsBlockedWait locks p q) wait last in other (sym here.of_p))
+    ],
+  )
+]))
+
+-- what is told of the waits on the file that stand before this place
+abbrev pub TellsBefore : Pairs → Locks → ℕ → List Wait → ℕ → Type 0
+TellsBefore pairs locks file waits i = (k : ℕ) (wait : Wait) → k < i → k < length waits → get_or waits k wait ≡ wait → wait.file ≡ file → TellsWait pairs locks wait
+
+-- and of one wait more that is on the file
+pub tells_more : (old new : Pairs) (locks : Locks) (file i : ℕ) (waits : List Wait) (d : Wait) → AllPairs (λ v w. v.p ≢ w.p) waits → i < length waits → TellsBefore old locks file waits i
+    → TellsWait new locks (get_or waits i d) → ((p q : ℕ) → p ≢ (get_or waits i d).p → pair_in new p q ≡ pair_in old p q) → TellsBefore new locks file waits (i + 1)
+tells_more old new locks file i waits d apart within before last others k w below inside at on = elim (cases_eq k i) [
+  | inl same ↦
+      let w_is : w ≡ get_or waits i d = sym at ∙ ap (λ (n : ℕ). get_or waits n w) same ∙ get_or_default waits i w d within in
+      subst (TellsWait new locks) (sym w_is) last
+  | inr other ↦
+      let differs : w.p ≢ (get_or waits i d).p =
+      λ same. apart k i d (omega arith) within (ap (λ (x : Wait). x.p) (get_or_default waits k d w inside ∙ at) ∙ same) in
+      λ q one few. subst (λ (b : Bool). IsTrue b ↔ IsBlockedWait locks w.p q w) (sym (others w.p q differs)) (before k w (omega arith) inside at on q one few)
+]
+
+-- and of one that isn't
+pub tells_skip : (pairs : Pairs) (locks : Locks) (file i : ℕ) (waits : List Wait) (d : Wait) → i < length waits → (get_or waits i d).file ≢ file → TellsBefore pairs locks file waits i → TellsBefore pairs locks file waits (i + 1)
+tells_skip pairs locks file i waits d within elsewhere before k w below inside at on = elim (cases_eq k i) [
+  | inl same ↦
+      let w_is : w ≡ get_or waits i d = sym at ∙ ap (λ (n : ℕ). get_or waits n w) same ∙ get_or_default waits i w d within in
+      absurd (elsewhere (sym (ap (λ (x : Wait). x.file) w_is) ∙ on))
+  | inr other ↦ before k w (omega arith) inside at on
+]
+
+-- and of all
+pub tells_all : (pairs : Pairs) (locks : Locks) (file : ℕ) (waits : List Wait) → TellsBefore pairs locks file waits (length waits) → All (λ wait. wait.file ≡ file → TellsWait pairs locks wait) waits
+tells_all pairs locks file waits before k d within on =
+    before k (get_or waits k d) within within (get_or_default waits k (get_or waits k d) d within) on
 
 -- under the queue policy a process waits by a lock or behind a wait
 pub waits_in_queue : (locks : Locks) (waits : List Wait) (p q : ℕ) → WaitsFor Held locks waits p q ⊎ WaitsBehind waits p q → WaitsFor Queue locks waits p q
@@ -176,56 +291,60 @@ queue_cases locks waits p q for = elim for.blocked [
       })
 ]
 
--- under the queue policy, where no lock makes it wait
-pub waits_behind_alone : (policy : Policy) (waits : Waits) (locks : Locks) (p q : ℕ) (behind : Bool) → p ≤ 64 → q ≤ 64 → policy ≡ Queue → has_pair waits p q ≡ false → IsTrue behind ↔ WaitsBehind (waits_of waits) p q → AreTold waits locks → IsTrue behind ↔ WaitsFor policy locks (waits_of waits) p q
-waits_behind_alone policy waits locks p q behind p_few q_few queue none list told = (
-  λ yes. subst (λ (r : Policy). WaitsFor r locks (waits_of waits) p q) (sym queue) (waits_in_queue locks (waits_of waits) p q (inr (list.0 yes))),
-  λ for. elim (queue_cases locks (waits_of waits) p q (subst (λ (r : Policy). WaitsFor r locks (waits_of waits) p q) queue for)) [
-    | inl by_lock ↦ absurd (let has : has_pair waits p q ≡ true = (told.pairs p q p_few q_few).1 by_lock in cc)
-    | inr waiting ↦ list.1 waiting
+-- the place of a wait that stands behind
+pub behind_at : (waits : List Wait) (p q i : ℕ) (wait : Wait) → AllPairs (λ v w. v.p ≢ w.p) waits → i < length waits → get_or waits i wait ≡ wait → wait.p ≡ p → WaitsBehind waits p q ↔ IsBehind waits wait.p q i wait
+behind_at waits p q i wait apart within is of_p = (
+  λ behind.
+      let inside = slice_get_within waits behind.place behind.wait behind.there in
+      let at = get_or_from_slice_get waits behind.place behind.wait behind.wait behind.there in
+      let place : behind.place ≡ i = one_place waits apart behind.place i behind.wait wait inside within at is (behind.is.of_p ∙ sym of_p) in
+      let same : behind.wait ≡ wait = one_wait waits apart behind.place i behind.wait wait inside within at is (behind.is.of_p ∙ sym of_p) in
+      subst (λ (n : ℕ). IsBehind waits n q i wait) (sym of_p)
+      (subst (λ (n : ℕ). IsBehind waits p q n wait) place (subst (λ (w : Wait). IsBehind waits p q behind.place w) same behind.is)),
+  λ behind. record {
+    place = i;
+    wait = wait;
+    there = slice_get-get_or waits i wait within ∙ ap (λ (w : Wait). Some w) is;
+    is = subst (λ (n : ℕ). IsBehind waits n q i wait) of_p behind;
+  },
+)
+
+-- where no wait is of the process, it stands behind none
+pub none_behind : (waits : List Wait) (p q : ℕ) → ((k : ℕ) (wait : Wait) → k < length waits → get_or waits k wait ≡ wait → wait.p ≢ p) → ¬ WaitsBehind waits p q
+none_behind waits p q none behind =
+    none behind.place behind.wait (slice_get_within waits behind.place behind.wait behind.there)
+    (get_or_from_slice_get waits behind.place behind.wait behind.wait behind.there) behind.is.of_p
+
+-- under the queue policy a process waits by a lock or behind a wait, as it is told
+pub told_in_queue : (waits : Waits) (locks : Locks) (p q : ℕ) (behind : Bool) → p ≤ 64 → 1 ≤ q → q ≤ 64 → IsTrue behind ↔ WaitsBehind (waits_of waits) p q → AreTold waits locks → IsTrue (has_pair waits p q || behind) ↔ WaitsFor Queue locks (waits_of waits) p q
+told_in_queue waits locks p q behind p_few q_one q_few list told = (
+  λ yes. elim (or_cases (has_pair waits p q) behind yes) [
+    | inl has ↦ waits_in_queue locks (waits_of waits) p q (inl ((told.pairs p q p_few q_one q_few).0 has))
+    | inr waiting ↦ waits_in_queue locks (waits_of waits) p q (inr (list.0 waiting))
+  ],
+  λ for. elim (queue_cases locks (waits_of waits) p q for) [
+    | inl by_lock ↦ or_left (has_pair waits p q) behind ((told.pairs p q p_few q_one q_few).1 by_lock)
+    | inr waiting ↦ or_right (has_pair waits p q) behind (list.1 waiting)
   ],
 )
 
--- the place of a wait that stands behind
-pub behind_at : (waits : List Wait) (p q i : ℕ) → i < length waits → ((wait : Wait) → slice_get waits i ≡ Some wait → IsBehind waits p q i wait) → WaitsBehind waits p q
-behind_at waits p q i within is = elim (slice_get_cases waits i).1 [
-  | inl (wait, inside, some, same) ↦ record { place = i; wait = wait; there = some; is = is wait some }
-  | inr (past, none) ↦ absurd (omega arith)
-]
-
-pub none_behind : (waits : List Wait) (p q : ℕ) → ((k : ℕ) (wait : Wait) → k < length waits → slice_get waits k ≡ Some wait → ¬ IsBehind waits p q k wait) → ¬ WaitsBehind waits p q
-none_behind waits p q none behind =
-    none behind.place behind.wait (slice_get_within waits behind.place behind.wait behind.there) behind.there behind.is
-
--- one more number of a set is told
-pub set_told : (P : ℕ → Type 0) (xs : List Bool) (i : ℕ) (b : Bool) → i < length xs → ((q : ℕ) → q < i → IsTrue (is_in xs q) ↔ P q) → IsTrue b ↔ P i → (q : ℕ) → q < i + 1 → IsTrue (is_in (set xs i b) q) ↔ P q
-set_told P xs i b within before here q few = elim (cases_eq q i) [
-  | inl same ↦
-      let at : get_or (set xs i b) q false ≡ b = rw same (get_or-set_same xs i b false within) in
-      rw at (subst (λ (n : ℕ). IsTrue b ↔ P n) (sym same) here)
-  | inr other ↦
-      let at : get_or (set xs i b) q false ≡ get_or xs q false = get_or-set_other xs i q b false other in
-      rw at (before q (omega arith))
-]
-
--- a set that tells `false` of each number has none
-pub none_in : (count q : ℕ) → ¬ IsTrue (is_in (replicate count false) q)
-none_in count q has = elim (slice_get_cases (replicate count false) q).1 [
-  | inl (b, within, some, same) ↦
-      let no : is_in (replicate count false) q ≡ false = get_or-replicate count q false false (rw length-replicate at within) in cc
-  | inr (past, none) ↦ let no : is_in (replicate count false) q ≡ false = get_or_past (replicate count false) q false past in cc
-]
-
--- where each row is such a set, there is no pair
-pub none_in_rows : (rows count p q : ℕ) → ¬ IsTrue (is_in (get_or (replicate rows (replicate count false)) p []) q)
-none_in_rows rows count p q has = elim (slice_get_cases (replicate rows (replicate count false)) p).1 [
+-- where each row is the set of no process, there is no pair
+pub none_in_rows : (rows p q : ℕ) → ¬ IsTrue (is_member (get_or (replicate rows no_process) p no_process) q)
+none_in_rows rows p q has = elim (slice_get_cases (replicate rows no_process) p).1 [
   | inl (row, within, some, same) ↦
-      let is = get_or-replicate rows p (replicate count false) [] (rw length-replicate at within) in none_in count q (rw is at has)
+      let is = get_or-replicate rows p no_process no_process (rw length-replicate at within) in
+      let no = none_in q in let yes = rw is at has in cc
   | inr (past, none) ↦
-      let is = get_or_past (replicate rows (replicate count false)) p [] past in none_in 0 q (rw is at has)
+      let is = get_or_past (replicate rows no_process) p no_process past in
+      let no = none_in q in let yes = rw is at has in cc
 ]
 
--- a row is put at p: a number that isn't in it isn't in row p then
-pub put_row : (rows : List (List Bool)) (row : List Bool) (i p q : ℕ) → i ≡ p → i < length rows → ¬ IsTrue (is_in row q) → ¬ IsTrue (is_in (get_or (set rows i row) p []) q)
-put_row rows row i p q same within missing has =
-    let is : get_or (set rows i row) p [] ≡ row = rw (← same) (get_or-set_same rows i row [] within) in missing (rw is at has)
+-- the row that is put at p is row p then
+pub put_row : (rows : List ProcessSet) (row : ProcessSet) (i p q : ℕ) → i ≡ p → i < length rows → is_member (get_or (set rows i row) p no_process) q ≡ is_member row q
+put_row rows row i p q same within =
+    let is : get_or (set rows i row) p no_process ≡ row = rw (← same) (get_or-set_same rows i row no_process within) in rw is
+
+-- past the last row there is no pair
+pub none_past : (rows : List ProcessSet) (p q : ℕ) → length rows ≤ p → ¬ IsTrue (is_member (get_or rows p no_process) q)
+none_past rows p q past has =
+    let is = get_or_past rows p no_process past in let no = none_in q in let yes = rw is at has in cc

@@ -1,15 +1,14 @@
 -- What a wait's blockers lead to: soundness and completeness of the search for a cycle.
-use Rattle.std.proofs.Common.{ℕ, ◌≡◌, ◌<◌, ◌≤◌, ◌∙◌, ◌⊎◌, inl, inr, sym, ap, subst, arith, Bool, true, false, cond, List, [], ◌∷◌, ◌++◌, All, length, get_or, set, get_or-set_same, get_or-set_other}
-use Rattle.std.specs.Prelude.{IsTrue, IsFalse, sum_by}
-use Rattle.std.proofs.lemmas.Bool.{cases_eq}
-use Rattle.std.proofs.lemmas.List.Sums.{sum_by-set}
+use Rattle.std.proofs.Common.{ℕ, ◌≡◌, ◌≤◌, ◌∙◌, ◌⊎◌, inl, inr, sym, ap, subst, refl, arith, List, [], ◌∷◌, ◌++◌, All, length}
+use Rattle.std.specs.Prelude.{IsTrue}
 use Rattle.lock_book.specs.declared.Owner.TheVariants.{Process}
 use Rattle.wait_core.specs.declared.Policy.{Policy}
 use Rattle.wait_core.specs.declared.Policy.TheVariants.{Held, Queue}
 use Rattle.wait_core.specs.declared.Wait.{Wait}
+use Rattle.wait_core.specs.declared.processes.ProcessSet.{ProcessSet}
 use Rattle.wait_core.specs.Locks.{Locks}
 use Rattle.wait_core.specs.Cycles.{IsTraditional, IsBlockedByProcess, WaitsFor, IsChain, LeadsTo, ClosesCycle}
-use Rattle.wait_core.specs.Pairs.{is_in, IsClosed}
+use Rattle.wait_core.specs.Processes.{is_member}
 use Rattle.wait_core.specs.WellFormed.{IsWellFormed}
 use Rattle.wait_core.proofs.AnyLemmas.{split_within, split_is}
 
@@ -35,13 +34,12 @@ chain_start R P start p [] q chain = start p q chain
 chain_start R P start p (next ∷ through) q chain = start p next chain.0
 
 -- a process that waits is one of the processes that there are
-pub waiting_known : (policy : Policy) (locks : Locks) (waits : List Wait) (processes p q : ℕ) → All (IsWellFormed processes) waits → WaitsFor policy locks waits p q → p ≤ processes
+pub waiting_known : (policy : Policy) (locks : Locks) (waits : List Wait) (processes p q : ℕ) → All (IsWellFormed processes) waits → WaitsFor policy locks waits p q → (1 ≤ p) × (p ≤ processes)
 waiting_known policy locks waits processes p q each for =
     let known : IsWellFormed processes for.wait =
     subst (IsWellFormed processes) (split_is waits for.before for.wait for.after for.place)
     (each (length for.before) for.wait (split_within waits for.before for.wait for.after for.place)) in
-    let few = known.process in
-    subst (λ (n : ℕ). n ≤ processes) for.of_p few
+    subst (λ (n : ℕ). (1 ≤ n) × (n ≤ processes)) for.of_p (known.from_one, known.process)
 
 -- no traditional wait is blocked by its own process
 pub not_own_blocker : (policy : Policy) (locks : Locks) (waits : List Wait) (wait : Wait) → IsTraditional wait → ¬ IsBlockedByProcess policy locks waits wait wait.p
@@ -49,6 +47,10 @@ not_own_blocker Held locks waits wait own blocked = blocked.blocks.another (sym 
 not_own_blocker Queue locks waits wait own (inl blocked) = blocked.blocks.another (sym own)
 not_own_blocker Queue locks waits wait own (inr (k, v, within, is, holds)) =
     holds.2.owners (holds.1 ∙ ap (λ (n : ℕ). Process n) holds.0 ∙ sym own)
+
+-- who blocks the wait is reached
+pub blocked_reached : (policy : Policy) (locks : Locks) (waits : List Wait) (wait : Wait) (q : ℕ) → IsBlockedByProcess policy locks waits wait q → IsReached policy locks waits wait q
+blocked_reached policy locks waits wait q blocked = record { blocker = q; blocked = blocked; led = inl refl }
 
 -- a number more that is reached
 pub reach_step : (policy : Policy) (locks : Locks) (waits : List Wait) (wait : Wait) (p q : ℕ) → IsReached policy locks waits wait p → WaitsFor policy locks waits p q → IsReached policy locks waits wait q
@@ -72,39 +74,29 @@ reached_closes policy locks waits wait own reached = record {
   ];
 }
 
--- a closed set has the end of each chain from one of its numbers
-pub closed_chain : (R : ℕ → ℕ → Type 0) (set : List Bool) → ((p q : ℕ) → R p q → p ≤ 64) → IsClosed R set → (p : ℕ) (through : List ℕ) (q : ℕ) → q ≤ 64 → IsTrue (is_in set p) → IsChain R p through q → IsTrue (is_in set q)
-closed_chain R set few closed p [] q q_few known chain = closed p (few p q chain) known q q_few chain
-closed_chain R set few closed p (next ∷ through) q q_few known chain =
-    closed_chain R set few closed next through q q_few
-    (closed p (few p next chain.0) known next (chain_start R (λ n. n ≤ 64) few next through q chain.1) chain.0) chain.1
+-- each process that p leads to is in the set
+abbrev pub LeadsInside : (ℕ → ℕ → Type 0) → ProcessSet → ℕ → Type 0
+LeadsInside Leads reached p = (q : ℕ) → 1 ≤ q → q ≤ 64 → Leads p q → IsTrue (is_member reached q)
+
+-- each process that one in the set leads to is in the set
+abbrev pub IsClosed : (ℕ → ℕ → Type 0) → ProcessSet → Type 0
+IsClosed Leads reached = (p : ℕ) → p ≤ 64 → IsTrue (is_member reached p) → LeadsInside Leads reached p
+
+-- a closed set has the end of each chain from one of its processes
+pub closed_chain : (R : ℕ → ℕ → Type 0) (set : ProcessSet) → ((p q : ℕ) → R p q → (1 ≤ p) × (p ≤ 64)) → IsClosed R set → (p : ℕ) (through : List ℕ) (q : ℕ) → 1 ≤ q → q ≤ 64 → IsTrue (is_member set p) → IsChain R p through q → IsTrue (is_member set q)
+closed_chain R set known closed p [] q q_one q_few member chain = closed p (known p q chain).1 member q q_one q_few chain
+closed_chain R set known closed p (next ∷ through) q q_one q_few member chain =
+    let there = chain_start R (λ n. (1 ≤ n) × (n ≤ 64)) known next through q chain.1 in
+    closed_chain R set known closed next through q q_one q_few
+    (closed p (known p next chain.0).1 member next there.0 there.1 chain.0) chain.1
 
 -- so a wait that closes a cycle has its process in the set
-pub closes_reached : (policy : Policy) (locks : Locks) (waits : List Wait) (wait : Wait) (reached : List Bool) (processes : ℕ) → processes ≤ 64 → All (IsWellFormed processes) waits → wait.p ≤ processes → ((q : ℕ) → q ≤ 64 → IsBlockedByProcess policy locks waits wait q → IsTrue (is_in reached q)) → IsClosed (WaitsFor policy locks waits) reached → ClosesCycle policy locks waits wait → IsTrue (is_in reached wait.p)
-closes_reached policy locks waits wait reached processes few each one blockers closed cycle =
-    let known = λ (p q : ℕ) (for : WaitsFor policy locks waits p q). (let small = waiting_known policy locks waits processes p q each for in
-    let h : p ≤ 64 = omega arith in h) in
-    let start : cycle.blocker ≤ 64 = chain_start (WaitsFor policy locks waits) (λ n. n ≤ 64) known cycle.blocker cycle.led.0 wait.p cycle.led.1 in
+pub closes_reached : (policy : Policy) (locks : Locks) (waits : List Wait) (wait : Wait) (reached : ProcessSet) (processes : ℕ) → processes ≤ 64 → All (IsWellFormed processes) waits → 1 ≤ wait.p → wait.p ≤ processes
+    → ((q : ℕ) → 1 ≤ q → q ≤ 64 → IsBlockedByProcess policy locks waits wait q → IsTrue (is_member reached q)) → IsClosed (WaitsFor policy locks waits) reached → ClosesCycle policy locks waits wait → IsTrue (is_member reached wait.p)
+closes_reached policy locks waits wait reached processes few each from_one one blockers closed cycle =
+    let known = λ (p q : ℕ) (for : WaitsFor policy locks waits p q). (let there = waiting_known policy locks waits processes p q each for in
+    let h : (1 ≤ p) × (p ≤ 64) = (there.0, omega (arith, there.1)) in h) in
+    let start : (1 ≤ cycle.blocker) × (cycle.blocker ≤ 64) =
+    chain_start (WaitsFor policy locks waits) (λ n. (1 ≤ n) × (n ≤ 64)) known cycle.blocker cycle.led.0 wait.p cycle.led.1 in
     closed_chain (WaitsFor policy locks waits) reached known closed
-    cycle.blocker cycle.led.0 wait.p (omega arith) (blockers cycle.blocker start cycle.blocked) cycle.led.1
-
--- a number more in the set leaves one less outside
-pub fewer_missing : (reached : List Bool) (q : ℕ) → q < length reached → IsFalse (is_in reached q) → sum_by (λ (b : Bool). cond b 0 1) (set reached q true) < sum_by (λ (b : Bool). cond b 0 1) reached
-fewer_missing reached q within missing =
-    let f : Bool → ℕ = λ (b : Bool). cond b 0 1 in
-    let sums = sum_by-set f reached q true false within in
-    let no : get_or reached q false ≡ false = missing in
-    let one : f (get_or reached q false) ≡ 1 = rw no in omega arith
-
--- the set with one number more
-pub in_set : (reached : List Bool) (q n : ℕ) → q < length reached → IsTrue (is_in reached n) → IsTrue (is_in (set reached q true) n)
-in_set reached q n within known = elim (cases_eq n q) [
-  | inl same ↦ (let at : get_or (set reached q true) n false ≡ true = rw same (get_or-set_same reached q true false within) in at)
-  | inr other ↦ (let at : get_or (set reached q true) n false ≡ get_or reached n false = get_or-set_other reached q n true false other in at ∙ known)
-]
-
-pub from_set : (reached : List Bool) (q n : ℕ) → IsTrue (is_in (set reached q true) n) → (n ≡ q) ⊎ IsTrue (is_in reached n)
-from_set reached q n known = elim (cases_eq n q) [
-  | inl same ↦ inl same
-  | inr other ↦ inr (let at : get_or (set reached q true) n false ≡ get_or reached n false = get_or-set_other reached q n true false other in sym at ∙ known)
-]
+    cycle.blocker cycle.led.0 wait.p from_one (omega arith) (blockers cycle.blocker start.0 start.1 cycle.blocked) cycle.led.1

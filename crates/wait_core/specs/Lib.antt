@@ -2,6 +2,7 @@ pub mod Locks
 pub mod Blocking
 pub mod Cycles
 pub mod WellFormed
+pub mod Processes
 pub mod Pairs
 pub mod PairsView
 pub mod WaitsView

@@ -36,7 +36,7 @@ without_wait_of waits p = filter (λ wait. not (wait.p == p)) waits
 -- the pairs that are told are those of these locks: a process is told to wait for another by a lock just where it does
 -- (what one waits for by an earlier wait, the list itself tells)
 pub record AreTold (waits : Waits) (locks : Locks) : Type 0 where
-  pub pairs : (p q : ℕ) → p ≤ 64 → q ≤ 64 → IsTrue (has_pair waits p q) ↔ WaitsFor Held locks (waits_of waits) p q
+  pub pairs : (p q : ℕ) → p ≤ 64 → 1 ≤ q → q ≤ 64 → IsTrue (has_pair waits p q) ↔ WaitsFor Held locks (waits_of waits) p q
 
 -- the two have the same byte locks on each file but this one
 abbrev pub AgreeBut : ℕ → Locks → Locks → Type 0

@@ -1,12 +1,14 @@
-ghost use Rattle.std.specs.Prelude.{◌≡◌, ◌<◌, ◌↔◌, IsTrue, Any, length};
+ghost use Rattle.std.specs.Prelude.{ℕ, ◌≡◌, ◌<◌, ◌≤◌, ◌↔◌, IsTrue, All, Any, length};
 ghost use Rattle.range_core.specs.Ranges.{IsByteRange};
 ghost use Rattle.lock_book.specs.Conflicts.{ProcessBlocks};
 ghost use Rattle.wait_core.specs.Locks.{locks_of};
 ghost use Rattle.wait_core.specs.Blocking.{IsBlockedByLock, Meet, WaitsConflict};
 ghost use Rattle.wait_core.specs.Cycles.{IsTraditional};
 ghost use Rattle.wait_core.specs.Pairs.{IsConflictOf};
-ghost use Rattle.wait_core.specs.WellFormed.{can_own};
+ghost use Rattle.wait_core.specs.Processes.{is_member};
+ghost use Rattle.wait_core.specs.WellFormed.{IsWellFormed, can_own};
 
+use crate::processes::{PROCESSES, ProcessSet};
 use crate::{Family, Wait};
 use lock_book::{Book, Owner};
 use range_core::Span;
@@ -47,8 +49,23 @@ impl Wait {
         }
     }
 
+    /// The processes of which a traditional lock blocks the wait.
+    pub(crate) fn blocking_by_lock(&self, books: &[Book]) -> ProcessSet
+        requires file { self.now.file < length books.now }
+        requires range { IsByteRange self.now.span }
+        ensures { let locks = locks_of books.now in (q : ℕ) → 1 ≤ q → q ≤ PROCESSES → IsTrue (is_member result q) ↔ ProcessBlocks (locks.bytes self.now.file) q self.now.owner self.now.span self.now.mode }
+    {
+        let mut blocking = ProcessSet::empty();
+        for q in 1..=PROCESSES {
+            if self.is_blocked_by_process(q, books) {
+                blocking = blocking.with(q);
+            }
+        }
+        blocking
+    }
+
     /// Whether a traditional lock of the process blocks the wait.
-    pub(crate) fn is_blocked_by_process(&self, process: u8, books: &[Book]) -> bool
+    fn is_blocked_by_process(&self, process: u8, books: &[Book]) -> bool
         requires file { self.now.file < length books.now }
         requires range { IsByteRange self.now.span }
         ensures { let locks = locks_of books.now in IsTrue result ↔ ProcessBlocks (locks.bytes self.now.file) process self.now.owner self.now.span self.now.mode }
@@ -63,20 +80,18 @@ impl Wait {
         earlier.iter().any(|other| other.conflicts_with(self))
     }
 
-    /// Whether a traditional wait of the process, one of these, conflicts with the wait.
-    pub(crate) fn conflicts_with_process(&self, process: u8, earlier: &[Wait]) -> bool
-        ensures { IsTrue result ↔ Any (IsConflictOf process self.now) earlier.now }
+    /// The processes of which a traditional wait, one of these, conflicts with the wait.
+    pub(crate) fn blocking_by_wait(&self, earlier: &[Wait]) -> ProcessSet
+        requires { All (IsWellFormed PROCESSES) earlier.now }
+        ensures { (q : ℕ) → IsTrue (is_member result q) ↔ Any (IsConflictOf q self.now) earlier.now }
     {
-        earlier
-            .iter()
-            .any(|other| other.is_conflict_of(process, self))
-    }
-
-    /// Whether this is a traditional wait of the process that conflicts with the wait.
-    fn is_conflict_of(&self, process: u8, wait: &Wait) -> bool
-        ensures { IsTrue result ↔ IsConflictOf process wait.now self.now }
-    {
-        self.p == process && self.is_traditional() && self.conflicts_with(wait)
+        let mut blocking = ProcessSet::empty();
+        for other in earlier {
+            if other.is_traditional() && other.conflicts_with(self) {
+                blocking = blocking.with(other.p);
+            }
+        }
+        blocking
     }
 }
 

@@ -4,6 +4,7 @@
 mod conflicts;
 mod laws;
 mod pairs;
+mod processes;
 #[cfg(test)]
 mod tests;
 mod waits;

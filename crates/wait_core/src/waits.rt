@@ -1,5 +1,5 @@
-ghost use Rattle.std.specs.Prelude.{ℕ, ◌≡◌, ◌≢◌, ◌<◌, ◌≤◌, ◌↔◌, List, [], ◌∷◌, ◌++◌, length, vec_capacity, IfOk, IfSome, IfNone, IsTrue, All, AllPairs, Any, slice_get, None, Some, take};
-ghost use Rattle.wait_core.specs.declared.pairs.TheConstants.{PROCESSES};
+ghost use Rattle.std.specs.Prelude.{ℕ, ◌≡◌, ◌≢◌, ◌<◌, ◌≤◌, ◌↔◌, List, [], ◌∷◌, ◌++◌, length, vec_capacity, IfOk, IfSome, IfNone, IsTrue, All, AllPairs, slice_get, None, Some, take};
+ghost use Rattle.wait_core.specs.declared.processes.TheConstants.{PROCESSES};
 ghost use Rattle.wait_core.specs.WellFormed.{IsWellFormed};
 
 mod cycles;
@@ -64,7 +64,7 @@ impl Waits {
         ensures told { AreTold self.old (locks_of books.now) → AreTold self.new (locks_of books.now) }
     {
         self.waits.push_reserved(wait);
-        self.pairs.tell(&self.waits, books);
+        self.pairs.tell(&wait, books);
     }
 
     /// Takes the wait of the process out of the list, where it has one.
@@ -90,9 +90,7 @@ impl Waits {
         ensures processes { processes_of self.new ≡ processes_of self.old }
         ensures told { (locks : Locks) → AreTold self.old locks → AgreeBut file locks (locks_of books.now) → AreTold self.new (locks_of books.now) }
     {
-        if self.waits_on(file) {
-            self.pairs.tell(&self.waits, books);
-        }
+        self.pairs.tell_of_file(file, &self.waits, books);
     }
 
     /// The earliest wait that nothing blocks, which stays in the list; `None` where each wait is blocked (POSIX leaves open
@@ -156,12 +154,5 @@ impl Waits {
         let wait = &self.waits[i];
         wait.is_blocked_by_lock(books)
             || self.policy == Policy::Queue && wait.conflicts_with_any(&self.waits[..i])
-    }
-
-    /// Whether some wait is on the file.
-    fn waits_on(&self, file: u8) -> bool
-        ensures { IsTrue result ↔ Any (λ wait. wait.file ≡ file) (waits_of self.now) }
-    {
-        self.waits.iter().any(|wait| wait.file == file)
     }
 }

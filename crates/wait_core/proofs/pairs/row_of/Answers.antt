@@ -1,12 +1,18 @@
-use Rattle.std.proofs.Common.{◌∙◌, arith, Any, length-set}
-use Rattle.wait_core.specs.Locks.{locks_of}
-use Rattle.wait_core.specs.Pairs.{IsBlockedWait}
-use Rattle.wait_core.proofs.PairLemmas.{set_told}
+use Rattle.std.proofs.Common.{◌≡◌, ◌∙◌, ap, sym, refl, true, false}
+use Rattle.wait_core.specs.declared.processes.ProcessSet.{ProcessSet}
+use Rattle.wait_core.specs.Processes.{is_member}
+use Rattle.wait_core.proofs.ProcessLemmas.{none_in}
 use Rattle.wait_core.proofs.pairs.row_of.Goals as goal
 
-pub loop-q-preserved : goal.loop-q-preserved
-loop-q-preserved c = (
-  length-set _ _ _ ∙ c.loop-q.invariant.0,
-  rw c.from.ensures (set_told (λ q. Any (IsBlockedWait (locks_of c.args.books.now) c.args.p q) c.args.waits.now)
-      c.loop-q.row c.loop-q.q c.waits_by_lock.result (let count = c.loop-q.invariant.0 in omega arith) c.loop-q.invariant.1 c.waits_by_lock.ensures),
+pub returns-then-is_traditional : goal.returns-then-is_traditional
+returns-then-is_traditional c q one few =
+    let own = c.is_traditional.ensures.0 c.if-is_traditional.true in (
+      λ has. record { of_p = refl; traditional = own; blocked = (c.blocking_by_lock.ensures q one few).0 has },
+      λ blocked. (c.blocking_by_lock.ensures q one few).1 blocked.blocked,
+    )
+
+pub returns-else-is_traditional : goal.returns-else-is_traditional
+returns-else-is_traditional c q one few = (
+  λ has. absurd (let none = ap (λ (set : ProcessSet). is_member set q) c.empty.ensures ∙ none_in q in let no : true ≡ false = sym has ∙ none in cc),
+  λ blocked. absurd (let yes = c.is_traditional.ensures.1 blocked.traditional in let no = c.if-is_traditional.false in cc),
 )

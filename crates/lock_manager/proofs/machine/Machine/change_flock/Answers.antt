@@ -1,13 +1,10 @@
-use Rattle.std.proofs.Common.{◌≡◌, ◌<◌, sym, ap, subst, refl, length, All, true, arith}
+use Rattle.std.proofs.Common.{◌≡◌, ◌<◌, sym, ap, subst, refl, length, true, arith}
 use Rattle.std.specs.Prelude.{slice_get, slice_set}
 use Rattle.lock_book.specs.Books.{SetsFlock}
-use Rattle.wait_core.specs.Locks.{locks_of}
-use Rattle.wait_core.specs.WaitsView.{waits_of, AreTold, AgreeBut}
-use Rattle.lock_manager.specs.WaitsKept.{IsSuspended, has_place_at}
+use Rattle.lock_manager.specs.WaitsKept.{has_place_at}
 use Rattle.lock_manager.specs.MachineView.{machine_locks, machine_state}
 use Rattle.lock_manager.proofs.BookLemmas.{book_at}
 use Rattle.lock_manager.proofs.FlockLemmas.{kept_by_flock, flock_place_kept, places_kept, with_flock_change}
-use Rattle.lock_manager.proofs.WaitLemmas.{awaited_in}
 use Rattle.lock_manager.proofs.machine.Machine.change_flock.Goals as goal
 
 pub invariant_of-self : goal.invariant_of-self
@@ -19,13 +16,9 @@ invariant_of-self c =
     let laws = c.stay_free_of_cycles.ensures in
     let was = book_at books c.from.result c.args.file c.index_mut.result.now c.from.ensures within c.index_mut.ensures.value in
     let sets : SetsFlock c.index_mut.result.now c.flock_set_reserved.new.self c.args.description c.args.mode = c.flock_set_reserved.ensures in
-    let kept = kept_by_flock laws.description_locks_change machine (slice_set books c.from.result c.flock_set_reserved.new.self) c.refresh.new.self
+    let kept = kept_by_flock laws.description_locks_change machine (slice_set books c.from.result c.flock_set_reserved.new.self)
     c.args.file c.index_mut.result.now c.flock_set_reserved.new.self c.args.description c.args.mode
-    (ap (λ i. slice_set books i c.flock_set_reserved.new.self) c.from.ensures) within was c.requires.owner c.requires.free sets
-    (record { waits = c.refresh.ensures.waits; policy = c.refresh.ensures.policy; processes = c.refresh.ensures.processes })
-    (λ told agree.
-    subst (λ bs. AreTold c.refresh.new.self (locks_of bs)) c.deref.ensures.value
-    (c.refresh.ensures.told (locks_of books) told (subst (λ bs. AgreeBut c.args.file (locks_of books) (locks_of bs)) (sym c.deref.ensures.value) agree))) in
+    (ap (λ i. slice_set books i c.flock_set_reserved.new.self) c.from.ensures) within was c.requires.owner c.requires.free sets in
     record {
       files = machine.files;
       numbered = machine.numbered;
@@ -39,8 +32,8 @@ invariant_of-self c =
       counted = kept.counted;
       told = kept.told;
       apart = kept.apart;
-      suspended = subst (All (IsSuspended machine.tables machine.states.items)) (sym c.refresh.ensures.waits) machine.suspended;
-      awaited = awaited_in machine.states.items (waits_of machine.waits) (waits_of c.refresh.new.self) c.refresh.ensures.waits machine.awaited;
+      suspended = machine.suspended;
+      awaited = machine.awaited;
       room = kept.room;
       free_of_cycles = kept.free_of_cycles;
     }
@@ -53,7 +46,7 @@ returns-clause-shows c S h =
     let was = book_at books c.from.result c.args.file c.index_mut.result.now c.from.ensures within c.index_mut.ensures.value in
     let sets : SetsFlock c.index_mut.result.now c.flock_set_reserved.new.self c.args.description c.args.mode = c.flock_set_reserved.ensures in
     with_flock_change machine _ S c.args.file c.index_mut.result.now c.flock_set_reserved.new.self c.args.description c.args.mode
-    (ap (λ i. slice_set books i c.flock_set_reserved.new.self) c.from.ensures) refl refl within was sets c.refresh.ensures.waits h
+    (ap (λ i. slice_set books i c.flock_set_reserved.new.self) c.from.ensures) refl refl within was sets refl h
 
 pub returns-clause-places : goal.returns-clause-places
 returns-clause-places c f d there =

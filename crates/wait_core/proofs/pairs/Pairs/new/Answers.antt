@@ -1,12 +1,14 @@
-use Rattle.std.proofs.Common.{◌≡◌, false, replicate}
-use Rattle.std.proofs.lemmas.List.Elements.{same_from_all_zip}
+use Rattle.std.proofs.Common.{◌≡◌, ◌∙◌, ap, sym, subst, get_or, replicate, List}
+use Rattle.std.specs.Prelude.{IsTrue}
+use Rattle.wait_core.specs.declared.processes.ProcessSet.{ProcessSet}
 use Rattle.wait_core.specs.PairsView.{pair_in}
+use Rattle.wait_core.specs.Processes.{is_member, no_process}
 use Rattle.wait_core.proofs.PairLemmas.{none_in_rows}
 use Rattle.wait_core.proofs.pairs.Pairs.new.Goals as goal
 
 pub returns : goal.returns
 unfolding pair_in
 returns c p q =
-    let rows : c.in-Ok.rows.items ≡ replicate 65 (replicate 65 false) =
-    c.in-Ok.ensures.items_if_clones_equal (λ row clone. same_from_all_zip _ _ _ clone.whole (λ x y same. same)) in
-    rw rows (none_in_rows 65 65 p q)
+    let rows : c.in-Ok.rows.items ≡ replicate 65 no_process =
+    c.in-Ok.ensures.items_if_clones_equal (λ row clone. clone) ∙ ap (λ (row : ProcessSet). replicate 65 row) c.empty.ensures in
+    subst (λ (items : List ProcessSet). ¬ IsTrue (is_member (get_or items p no_process) q)) (sym rows) (none_in_rows 65 p q)

@@ -3,10 +3,11 @@ use Rattle.std.specs.Vec.{vec_len, vec_capacity}
 use Rattle.std.proofs.lemmas.List.Elements.{All-push}
 use Rattle.std.proofs.lemmas.List.Quantifiers.{all_pairs_push}
 use Rattle.wait_core.specs.declared.Wait.{Wait}
+use Rattle.wait_core.specs.Locks.{locks_of}
 use Rattle.wait_core.specs.WellFormed.{IsWellFormed}
 use Rattle.wait_core.specs.WaitsView.{waits_of, processes_of, has_pair}
 use Rattle.wait_core.proofs.ListLemmas.{none_of, room_for}
-use Rattle.wait_core.proofs.PairLemmas.{told}
+use Rattle.wait_core.proofs.PairLemmas.{told-join}
 use Rattle.wait_core.proofs.waits.Waits.join.Goals as goal
 
 pub push_reserved-requires : goal.push_reserved-requires
@@ -36,4 +37,7 @@ invariant_of-self c =
 
 pub returns-clause-told : goal.returns-clause-told
 unfolding waits_of has_pair
-returns-clause-told c was = told _ _ (λ p q p_few q_few. rw c.deref.ensures.value at (c.tell.ensures p q p_few q_few))
+returns-clause-told c was =
+    let self = c.args.self.now in
+    told-join self _ (locks_of c.args.books.now) c.args.wait c.push_reserved.ensures.items
+    (none_of self.waits.items c.args.wait.p c.requires.none) c.tell.ensures.told c.tell.ensures.others was

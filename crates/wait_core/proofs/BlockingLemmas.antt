@@ -1,0 +1,70 @@
+-- Sets of processes that block a wait: what one process more, or one wait more, makes of them.
+use Rattle.std.proofs.Common.{ℕ, ◌≡◌, ◌≢◌, ◌+◌, ◌<◌, ◌≤◌, ◌↔◌, ◌∙◌, inl, inr, sym, subst, refl, arith, Bool, false, List, [], ◌∷◌, ◌++◌, Any, length, get_or, take}
+use Rattle.std.specs.Prelude.{IsTrue, IsFalse, ◌==◌, ◌||◌}
+use Rattle.std.proofs.lemmas.Bool.{cases_eq, eqb-true, eq-eqb, or_left}
+use Rattle.std.proofs.lemmas.Bool.Decides.{nat_tests}
+use Rattle.std.proofs.lemmas.List.{take_more}
+use Rattle.wait_core.specs.declared.Wait.{Wait}
+use Rattle.wait_core.specs.declared.processes.ProcessSet.{ProcessSet}
+use Rattle.wait_core.specs.Blocking.{WaitsConflict}
+use Rattle.wait_core.specs.Cycles.{IsTraditional}
+use Rattle.wait_core.specs.Pairs.{IsConflictOf}
+use Rattle.wait_core.specs.Processes.{is_member}
+use Rattle.wait_core.proofs.AnyLemmas.{Any-append, Any-append_left, Any-append_right, Any-here, Any-alone}
+use Rattle.wait_core.proofs.ProcessLemmas.{or_cases, or_right}
+
+-- the set has the process that was put in, and else what it had
+pub inserted_same : (old new : ProcessSet) (p : ℕ) → ((q : ℕ) → is_member new q ≡ (q == p || is_member old q)) → IsTrue (is_member new p)
+inserted_same old new p members = members p ∙ or_left (p == p) (is_member old p) (eq-eqb p p refl)
+
+pub inserted_other : (old new : ProcessSet) (p : ℕ) → ((q : ℕ) → is_member new q ≡ (q == p || is_member old q)) → (q : ℕ) → q ≢ p → is_member new q ≡ is_member old q
+inserted_other old new p members q other = let no : (q == p) ≡ false = grind (arith, nat_tests) in members q ∙ rw no refl
+
+-- one process more is told
+pub told_more : (P : ℕ → Type 0) (old new : ProcessSet) (i : ℕ) → ((q : ℕ) → q ≢ i → is_member new q ≡ is_member old q) → IsTrue (is_member new i) ↔ P i
+    → ((q : ℕ) → 1 ≤ q → q < i → IsTrue (is_member old q) ↔ P q) → (q : ℕ) → 1 ≤ q → q < i + 1 → IsTrue (is_member new q) ↔ P q
+told_more P old new i others here before q one few = elim (cases_eq q i) [
+  | inl same ↦ subst (λ (n : ℕ). IsTrue (is_member new n) ↔ P n) (sym same) here
+  | inr other ↦ subst (λ (b : Bool). IsTrue b ↔ P q) (sym (others q other)) (before q one (omega arith))
+]
+
+-- and those after it aren't in the set yet
+pub missing_more : (old new : ProcessSet) (i : ℕ) → ((q : ℕ) → q ≢ i → is_member new q ≡ is_member old q) → ((q : ℕ) → i ≤ q → IsFalse (is_member old q)) → (q : ℕ) → i + 1 ≤ q → IsFalse (is_member new q)
+missing_more old new i others after q past = others q (λ same. omega arith) ∙ after q (omega arith)
+
+module _ (wait : Wait) (waits : List Wait) (i : ℕ) (d : Wait) (within : i < length waits) where
+  -- one wait more, which is a traditional one in conflict with the wait
+  pub conflicts_more : (old new : ProcessSet) → IsTraditional (get_or waits i d) → WaitsConflict (get_or waits i d) wait → ((q : ℕ) → is_member new q ≡ (q == (get_or waits i d).p || is_member old q))
+      → ((q : ℕ) → IsTrue (is_member old q) ↔ Any (IsConflictOf q wait) (take i waits)) → (q : ℕ) → IsTrue (is_member new q) ↔ Any (IsConflictOf q wait) (take (i + 1) waits)
+  conflicts_more old new own conflict members before q =
+      let other = get_or waits i d in
+      rw (take_more waits i d within) (
+        λ has. elim (or_cases (q == other.p) (is_member old q) (sym (members q) ∙ has)) [
+          | inl here ↦ Any-append_right (IsConflictOf q wait) (take i waits) (other ∷ []) (Any-here (IsConflictOf q wait) other [] (sym (eqb-true q other.p here), own, conflict))
+          | inr earlier ↦ Any-append_left (IsConflictOf q wait) (take i waits) (other ∷ []) ((before q).0 earlier)
+        ],
+        λ any. members q ∙ elim (Any-append (IsConflictOf q wait) (take i waits) (other ∷ []) any) [
+          | inl earlier ↦ or_right (q == other.p) (is_member old q) ((before q).1 earlier)
+          | inr last ↦ or_left (q == other.p) (is_member old q) (eq-eqb q other.p (sym (Any-alone (IsConflictOf q wait) other last).0))
+        ],
+      )
+
+  skipped : (set : ProcessSet) → ¬ (IsTraditional (get_or waits i d) × WaitsConflict (get_or waits i d) wait)
+      → ((q : ℕ) → IsTrue (is_member set q) ↔ Any (IsConflictOf q wait) (take i waits)) → (q : ℕ) → IsTrue (is_member set q) ↔ Any (IsConflictOf q wait) (take (i + 1) waits)
+  skipped set neither before q = rw (take_more waits i d within) (
+    λ has. Any-append_left (IsConflictOf q wait) (take i waits) (get_or waits i d ∷ []) ((before q).0 has),
+    λ any. elim (Any-append (IsConflictOf q wait) (take i waits) (get_or waits i d ∷ []) any) [
+      | inl earlier ↦ (before q).1 earlier
+      | inr last ↦ (let here = Any-alone (IsConflictOf q wait) (get_or waits i d) last in absurd (neither (here.1, here.2)))
+    ],
+  )
+
+  -- and one that isn't traditional
+  pub description_skipped : (set : ProcessSet) (b : Bool) → IsTrue b ↔ IsTraditional (get_or waits i d) → b ≡ false
+      → ((q : ℕ) → IsTrue (is_member set q) ↔ Any (IsConflictOf q wait) (take i waits)) → (q : ℕ) → IsTrue (is_member set q) ↔ Any (IsConflictOf q wait) (take (i + 1) waits)
+  description_skipped set b test differs = skipped set (λ both. (let yes = test.1 both.0 in cc))
+
+  -- and one that doesn't conflict
+  pub compatible_skipped : (set : ProcessSet) (b : Bool) → IsTrue b ↔ WaitsConflict (get_or waits i d) wait → b ≡ false
+      → ((q : ℕ) → IsTrue (is_member set q) ↔ Any (IsConflictOf q wait) (take i waits)) → (q : ℕ) → IsTrue (is_member set q) ↔ Any (IsConflictOf q wait) (take (i + 1) waits)
+  compatible_skipped set b test differs = skipped set (λ both. (let yes = test.1 both.1 in cc))

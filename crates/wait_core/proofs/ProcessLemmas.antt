@@ -1,0 +1,99 @@
+-- Sets of processes, by their bits.
+use Rattle.std.proofs.Common.{ℕ, ◌≡◌, ◌≢◌, ◌<◌, ◌≤◌, ◌+◌, ◌-◌, ◌*◌, ◌/◌, ◌%◌, ◌^◌, ◌↔◌, ◌∙◌, ◌⊎◌, inl, inr, sym, ap, subst, refl, arith, Bool, true, false, zero, suc, w64}
+use Rattle.std.specs.Prelude.{◌==◌, ◌||◌, IsTrue, IsFalse, bit_and, bit_or}
+use Rattle.std.specs.Int.{bit_at, bit_not}
+use Rattle.std.proofs.lemmas.Bool.{cases_eq, eqb-true, eq-eqb}
+use Rattle.std.proofs.lemmas.Bool.Decides.{nat_tests}
+use Rattle.std.proofs.lemmas.Nat.{le_or_l}
+use Rattle.std.proofs.lemmas.Nat.Bits.{bit_at-lt, bit_at-zero, bit_at_and, bit_at_or, bit_at_not, bit_at_set_same, bit_at_set_other, shr_and_one}
+use Rattle.wait_core.specs.declared.processes.ProcessSet.{ProcessSet}
+use Rattle.wait_core.specs.Processes.{no_process, is_member, lacking, IsBeyond, IsWithin}
+
+-- the set of no process has none
+pub none_in : (q : ℕ) → is_member no_process q ≡ false
+unfolding is_member
+none_in zero = refl
+none_in (suc k) = let bit = bit_at-zero k in rw bit refl
+
+-- the members after one more bit is set
+pub member_inserted : (old new : ProcessSet) (p k : ℕ) → suc k ≡ p → k < 64 → new.bits ≡ bit_or old.bits (1 * 2 ^ k % 2 ^ 64) → (q : ℕ) → is_member new q ≡ (q == p || is_member old q)
+unfolding is_member
+member_inserted old new p k place few is zero = let no : (0 == p) ≡ false = grind (arith, nat_tests) in rw no refl
+member_inserted old new p k place few is (suc j) = elim (cases_eq j k) [
+  | inl same ↦
+      let bit : bit_at new.bits j ≡ 1 = rw (is, same) (bit_at_set_same w64 old.bits k few) in
+      let here : (suc j == p) ≡ true = eq-eqb (suc j) p (ap (λ (n : ℕ). suc n) same ∙ place) in
+      rw here (eq-eqb _ _ bit)
+  | inr other ↦
+      let bit : bit_at new.bits j ≡ bit_at old.bits j = rw is (bit_at_set_other w64 old.bits k few j other) in
+      let no : (suc j == p) ≡ false = grind (arith, nat_tests) in
+      rw no (ap (λ (b : ℕ). b == 1) bit)
+]
+
+-- a process more makes a larger word, which lacks less
+pub grown : (old new : ProcessSet) (p k : ℕ) → suc k ≡ p → k < 64 → new.bits ≡ bit_or old.bits (1 * 2 ^ k % 2 ^ 64) → old.bits < 2 ^ 64 → IsFalse (is_member old p) → lacking new < lacking old
+unfolding is_member lacking
+grown old new p k place few is fits missing =
+    let least : old.bits ≤ new.bits = rw is (le_or_l old.bits (1 * 2 ^ k % 2 ^ 64)) in
+    let set : bit_at new.bits k ≡ 1 = rw is (bit_at_set_same w64 old.bits k few) in
+    let clear : (bit_at old.bits k == 1) ≡ false = subst (λ (n : ℕ). is_member old n ≡ false) (sym place) missing in
+    elim (cases_eq old.bits new.bits) [
+      | inl same ↦ absurd (let there : (bit_at old.bits k == 1) ≡ true = eq-eqb _ _ (ap (λ (n : ℕ). bit_at n k) same ∙ set) in cc)
+      | inr differs ↦ omega (arith, least, differs, fits)
+    ]
+
+one_of_two : (a b : ℕ) → a < 2 → b < 2 → (Prim.Native.Nat.max a b == 1) ≡ (a == 1 || b == 1)
+one_of_two zero zero small few = refl
+one_of_two zero (suc zero) small few = refl
+one_of_two (suc zero) zero small few = refl
+one_of_two (suc zero) (suc zero) small few = refl
+one_of_two (suc (suc a)) b small few = absurd (omega (arith, small))
+one_of_two zero (suc (suc b)) small few = absurd (omega (arith, few))
+one_of_two (suc zero) (suc (suc b)) small few = absurd (omega (arith, few))
+
+-- the members of the one set and of the other
+pub member_union : (one other both : ProcessSet) → both.bits ≡ bit_or one.bits other.bits → (q : ℕ) → is_member both q ≡ (is_member one q || is_member other q)
+unfolding is_member
+member_union one other both is zero = refl
+member_union one other both is (suc k) =
+    rw (is, bit_at_or one.bits other.bits k) (one_of_two (bit_at one.bits k) (bit_at other.bits k) (bit_at-lt one.bits k) (bit_at-lt other.bits k))
+
+-- where no bit is left, each member of the one set is one of the other
+pub all_within : (set other : ProcessSet) → other.bits < 2 ^ 64 → bit_and set.bits (bit_not w64 other.bits) ≡ 0 → IsWithin set other
+unfolding is_member
+all_within set other fits none zero few known = known
+all_within set other fits none (suc k) few known =
+    let one : bit_at set.bits k ≡ 1 = eqb-true _ _ known in
+    let left : bit_at (bit_and set.bits (bit_not w64 other.bits)) k ≡ 0 = rw none (bit_at-zero k) in
+    let both = bit_at_and set.bits (bit_not w64 other.bits) k in
+    let inverse = bit_at_not w64 other.bits k fits (omega (arith, few)) in
+    let small = bit_at-lt other.bits k in
+    eq-eqb _ _ (omega (arith, one, left, both, inverse, small))
+
+-- a bit that is left is a member of the one set and not of the other
+pub beyond_at : (set other : ProcessSet) (p k : ℕ) → other.bits < 2 ^ 64 → suc k ≡ p → k < 64 → bit_at (bit_and set.bits (bit_not w64 other.bits)) k ≡ 1 → IsBeyond set other p
+unfolding is_member
+beyond_at set other p k fits place few left =
+    let both = bit_at_and set.bits (bit_not w64 other.bits) k in
+    let inverse = bit_at_not w64 other.bits k fits few in
+    let one : bit_at set.bits k ≡ 1 = (let small = bit_at-lt set.bits k in omega (arith, left, both, inverse, small)) in
+    let clear : bit_at other.bits k ≡ 0 = (let small = bit_at-lt other.bits k in omega (arith, left, both, inverse, small)) in record {
+      from_one = omega (arith, place);
+      few = omega (arith, place, few);
+      known = subst (λ (n : ℕ). is_member set n ≡ true) place (eq-eqb _ _ one);
+      beyond = subst (λ (n : ℕ). is_member other n ≡ false) place (rw clear refl);
+    }
+
+pub or_cases : (a b : Bool) → (a || b) ≡ true → (a ≡ true) ⊎ (b ≡ true)
+or_cases true b is = inl refl
+or_cases false b is = inr is
+
+pub or_right : (a b : Bool) → b ≡ true → (a || b) ≡ true
+or_right true b is = refl
+or_right false b is = is
+
+-- a member is one of the processes from 1 on
+pub member_from_one : (set : ProcessSet) (q : ℕ) → IsTrue (is_member set q) → 1 ≤ q
+unfolding is_member
+member_from_one set zero known = absurd (let no : false ≡ true = known in cc)
+member_from_one set (suc k) known = omega arith

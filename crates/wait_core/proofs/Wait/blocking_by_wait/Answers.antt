@@ -1,0 +1,42 @@
+use Rattle.std.proofs.Common.{◌≡◌, ◌↔◌, ◌∙◌, ap, sym, subst, true, false, Any, List, take}
+use Rattle.std.specs.Prelude.{IsTrue}
+use Rattle.std.proofs.lemmas.List.{take_all}
+use Rattle.wait_core.specs.declared.Wait.{Wait}
+use Rattle.wait_core.specs.declared.processes.ProcessSet.{ProcessSet}
+use Rattle.wait_core.specs.Processes.{is_member}
+use Rattle.wait_core.specs.Pairs.{IsConflictOf}
+use Rattle.wait_core.proofs.AnyLemmas.{Any-nil}
+use Rattle.wait_core.proofs.ProcessLemmas.{none_in}
+use Rattle.wait_core.proofs.BlockingLemmas.{conflicts_more, description_skipped, compatible_skipped}
+use Rattle.wait_core.proofs.Wait.blocking_by_wait.Goals as goal
+use Rattle.wait_core.proofs.Wait.blocking_by_wait.Goals.{then-is_traditional+then-conflicts_with, else-is_traditional, else-is_traditional-via-then-is_traditional+else-conflicts_with, else-is_traditional-via-else-is_traditional}
+
+pub loop-other-init : goal.loop-other-init
+loop-other-init c q = (
+  λ has. absurd (let none = ap (λ (set : ProcessSet). is_member set q) c.empty-blocking.ensures ∙ none_in q in let differ : true ≡ false = sym has ∙ none in cc),
+  λ any. absurd (Any-nil (IsConflictOf q c.args.self.now) any),
+)
+
+pub loop-other-preserved : goal.loop-other-preserved
+loop-other-preserved c =
+    let wait = c.args.self.now in
+    let waits = c.args.earlier.now in
+    let i = c.loop-other.other-index in
+    elim c.if-is_traditional.branch [
+      | then-is_traditional+then-conflicts_with w ↦
+          conflicts_more wait waits i _ c.loop-other-test.true c.loop-other.blocking c.if-is_traditional.blocking
+          (c.is_traditional.ensures.0 w.if-is_traditional.true) (w.conflicts_with.ensures.0 w.if-conflicts_with.true)
+          (λ q. ap (λ (set : ProcessSet). is_member set q) w.blocking-is ∙ w.with-blocking.ensures.members q) c.loop-other.invariant
+      | else-is_traditional w ↦ rw w.blocking-is (elim w.else-is_traditional.branch [
+        | else-is_traditional-via-then-is_traditional+else-conflicts_with v ↦
+            compatible_skipped wait waits i _ c.loop-other-test.true c.loop-other.blocking _ v.conflicts_with.ensures v.if-conflicts_with.false c.loop-other.invariant
+        | else-is_traditional-via-else-is_traditional v ↦
+            description_skipped wait waits i _ c.loop-other-test.true c.loop-other.blocking _ c.is_traditional.ensures v.if-is_traditional.false c.loop-other.invariant
+      ])
+    ]
+
+pub returns : goal.returns
+returns c q =
+    let whole : take c.loop-other.other-index c.args.earlier.now ≡ c.args.earlier.now =
+    take_all c.loop-other.other-index c.args.earlier.now c.loop-other-test.false in
+    subst (λ (waits : List Wait). IsTrue (is_member c.loop-other.blocking q) ↔ Any (IsConflictOf q c.args.self.now) waits) whole (c.loop-other.invariant q)
