@@ -1,5 +1,5 @@
--- The modes that a list of changes leaves: a set replaces the mode on each byte of its range.
-use Rattle.std.specs.Prelude.{◌≡◌, ℕ, nat_le, Bool, ◌&&◌, if◌then◌else◌, Option, None, List, [], ◌∷◌}
+-- What sets do to modes: a set replaces the mode on each byte of its range.
+use Rattle.std.specs.Prelude.{◌≡◌, ℕ, nat_le, Bool, ◌&&◌, if◌then◌else◌, Option, None, Some, List, [], ◌∷◌}
 use Rattle.range_core.specs.declared.Mode.{Mode}
 use Rattle.range_core.specs.declared.Span.{Span}
 use Rattle.range_core.specs.declared.list.RangeList.{RangeList}
@@ -18,15 +18,14 @@ modes_with modes span mode byte = if is_covered span byte then mode else modes b
 abbrev pub SetsMode : Modes → Modes → Span → Option Mode → Type 0
 SetsMode old new span mode = (byte : ℕ) → new byte ≡ modes_with old span mode byte
 
--- the mode of a byte after these changes, where it was this one before them: that of the last change that covers it
--- (POSIX.1-2017 fcntl, DESCRIPTION, F_SETLK)
-abbrev pub mode_after : Option Mode → List (Span × Option Mode) → ℕ → Option Mode
-mode_after before [] byte = before
-mode_after before (change ∷ changes) byte = mode_after (if is_covered change.0 byte then change.1 else before) changes byte
+-- the mode that one of these runs gives the byte, or none (this project's choice)
+abbrev pub mode_in : List (Mode × Span) → ℕ → Option Mode
+mode_in [] byte = None
+mode_in (run ∷ runs) byte = if is_covered run.1 byte then Some run.0 else mode_in runs byte
 
 -- the modes that a `RangeList` stands for (this project's choice)
 unfoldable pub modes_of : RangeList → Modes
-modes_of list byte = mode_after None list.changes.items byte
+modes_of list byte = mode_in list.runs.items byte
 
 -- for how many further sets a `RangeList` holds room (this project's choice)
 unfoldable pub room_of : RangeList → ℕ

@@ -1,4 +1,5 @@
 pub mod Changes
 pub mod Facts
 pub mod Ranges
+pub mod Replacing
 pub mod Resolving

@@ -1,5 +1,5 @@
 -- Bytes that a span covers, conflicts of modes, and runs of one mode.
-use Rattle.std.specs.Prelude.{◌≡◌, ℕ, ◌<◌, ◌≤◌, ⊤, Option, Some, None, List, All, Any, AllPairs}
+use Rattle.std.specs.Prelude.{◌≡◌, ◌≢◌, ℕ, ◌+◌, ◌<◌, ◌≤◌, ⊤, Option, Some, None, List, All, Any, AllPairs}
 use Rattle.range_core.specs.declared.TheConstants.{OFFMAX}
 use Rattle.range_core.specs.declared.Mode.{Mode}
 use Rattle.range_core.specs.declared.Mode.TheVariants.{Read, Write}
@@ -54,6 +54,7 @@ pub record AreRuns (modes : Modes) (runs : List (Mode × Span)) : Type 0 where
   pub each : All (λ r. IsRun modes r.1.first r.0 r.1) runs
   pub every : (byte : ℕ) (mode : Mode) → modes byte ≡ Some mode → Any (λ r. (r.0 ≡ mode) × Covers r.1 byte) runs
 
--- each byte of the range has the mode of this byte (this project's choice)
-abbrev pub IsStretch : Modes → ℕ → Span → Type 0
-IsStretch modes byte span = (other : ℕ) → Covers span other → modes other ≡ modes byte
+-- the one run lies before the other, and where they touch their modes differ
+-- (fcntl_locking(2), "Advisory record locking", "splitting, shrinking, or coalescing")
+abbrev pub IsApart : Mode × Span → Mode × Span → Type 0
+IsApart run other = (run.1.last < other.1.first) × (run.1.last + 1 ≡ other.1.first → run.0 ≢ other.0)

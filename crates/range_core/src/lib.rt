@@ -3,8 +3,9 @@
 
 mod conflicts;
 mod list;
+mod replacement;
 mod resolving;
-mod sides;
+mod splice;
 #[cfg(test)]
 mod tests;
 
@@ -16,9 +17,10 @@ pub const OFFMAX: u64 = 9223372036854775807;
 
 /// What a lock allows: others may hold read locks beside it, or it excludes every other owner
 /// (POSIX.1-2017 fcntl, `F_SETLK`; flock(2): `LOCK_SH` is `Read` and `LOCK_EX` is `Write`).
-#[derive(Clone, Copy, Debug, PartialEq, Eq)]
+#[derive(Clone, Copy, Debug, Default, PartialEq, Eq)]
 pub enum Mode {
-    /// A shared lock, `F_RDLCK`.
+    /// A shared lock, `F_RDLCK`; the default, for what wants a blank.
+    #[default]
     Read,
     /// An exclusive lock, `F_WRLCK`.
     Write,
@@ -48,7 +50,7 @@ pub enum Whence {
 
 /// A range of bytes of a file, both ends within it. Calls that take one ask that `first` is at most `last` and `last` at
 /// most [`OFFMAX`].
-#[derive(Clone, Copy, Debug, PartialEq, Eq)]
+#[derive(Clone, Copy, Debug, Default, PartialEq, Eq)]
 pub struct Span {
     /// The offset of the first byte.
     pub first: u64,

@@ -1,8 +1,12 @@
-ghost use Rattle.std.specs.Prelude.{ℕ, ◌≡◌, ◌≢◌, ◌+◌, ◌≤◌, ◌<◌, ◌↔◌, All, None, Some, IfSome, IfNone, IsOk, IsTrue, OnOk, OnErr, vec_len, vec_capacity};
-ghost use Rattle.range_core.specs.declared.TheConstants.{OFFMAX};
+ghost use Rattle.std.specs.Prelude.{ℕ, ◌≡◌, ◌+◌, ◌*◌, ◌^◌, ◌≤◌, ◌<◌, length, drop, All, AllPairs, None, Some, IfSome, IfNone, IsOk, OnOk, OnErr};
+ghost use Rattle.std.specs.List.Sorted.{IsPartitionPoint};
+ghost use Rattle.smallvec.specs.SmallVec.{small_vec_len};
+ghost use Rattle.range_core.specs.Ranges.{IsApart, IsByteRange};
 
-use crate::sides::one_side;
-use crate::{Memory, Mode, OFFMAX, Span};
+use crate::replacement::replacement;
+use crate::splice::splice;
+use crate::{Memory, Mode, Span};
+use smallvec::SmallVec;
 use std::alloc::Global;
 
 /// The modes of one lock owner on the bytes of one file, seen as a mode, or none, for each byte.
@@ -10,24 +14,29 @@ use std::alloc::Global;
 /// It may hold room for further sets, which then can't fail.
 #[derive(Drop)]
 pub struct RangeList {
-    changes: Vec<(Span, Option<Mode>)>,
+    /// The runs, by rising bytes: the largest ranges that have one mode throughout.
+    runs: SmallVec<(Mode, Span), 4>,
     /// For how many further sets room is held, however much more there is.
     room: usize,
-    ghost within: { All (λ change. change.0.last ≤ OFFMAX) changes.items },
-    ghost held: { vec_len changes + room ≤ vec_capacity changes },
+    ghost ranges: { All (λ run. IsByteRange run.1) runs.items },
+    ghost apart: { AllPairs IsApart runs.items },
+    ghost held: { small_vec_len runs + 2 * room ≤ runs.capacity },
+    ghost countable: { 2 * room < 2 ^ 64 },
 }
 
 #[tactic(auto, unfolding(crate::specs::Changes::modes_of, crate::specs::Changes::room_of))]
 impl RangeList {
-    ghost use Rattle.range_core.specs.Ranges.{Covers, HeldConflicts, IsByteRange, IsFirstHit, IsRun, IsStretch};
+    ghost use Rattle.range_core.specs.Ranges.{AreRuns, Covers, HeldConflicts, IsFirstHit, IsRun};
     ghost use Rattle.range_core.specs.Changes.{modes_of, room_of, SameList, SetsMode};
+    ghost use Rattle.range_core.specs.Replacing.{AreTouched};
 
-    /// No mode on any byte. It takes no memory.
+    /// No mode on any byte, and no room. It takes no memory.
     pub fn new(alloc: Global) -> RangeList
-        ensures { (byte : ℕ) → modes_of result byte ≡ None }
+        ensures modes { (byte : ℕ) → modes_of result byte ≡ None }
+        ensures room { room_of result ≡ 0 }
     {
         RangeList {
-            changes: Vec::new(alloc),
+            runs: SmallVec::new(alloc),
             room: 0,
         }
     }
@@ -58,7 +67,9 @@ impl RangeList {
         ensures err { OnErr result (SameList self.old self.new) }
     {
         if self.room < sets {
-            self.changes.reserve(sets).map_err(|_| Memory)?;
+            // A set adds two runs at most: a piece on either side of its own.
+            let places = sets.checked_mul(2).ok_or(Memory)?;
+            self.runs.reserve(places).map_err(|_| Memory)?;
             self.room = sets;
         }
         Ok(())
@@ -78,7 +89,9 @@ impl RangeList {
         ensures modes { SetsMode (modes_of self.old) (modes_of self.new) span mode }
         ensures room { room_of self.old ≤ room_of self.new + 1 }
     {
-        self.changes.push((span, mode)).unwrap();
+        let (start, end) = self.touched(span);
+        let put = replacement(&self.runs.as_slice()[start..end], span, mode);
+        splice(&mut self.runs, start, end, put.as_slice());
         self.room -= 1;
     }
 
@@ -86,13 +99,8 @@ impl RangeList {
     pub fn mode_at(&self, byte: u64) -> Option<Mode>
         ensures { result ≡ modes_of self.now byte }
     {
-        let mut found = None;
-        for change in &self.changes {
-            if change.0.first <= byte && byte <= change.0.last {
-                found = change.1;
-            }
-        }
-        found
+        let (mode, _) = self.run_at(byte)?;
+        Some(mode)
     }
 
     /// The least byte of the span whose mode conflicts with a lock of the mode `against` by another owner, and `None`
@@ -102,17 +110,16 @@ impl RangeList {
         ensures hit { IfSome result (IsFirstHit (modes_of self.now) span against) }
         ensures none { IfNone result ((byte : ℕ) → Covers span byte → ¬ HeldConflicts (modes_of self.now byte) against) }
     {
-        let mut byte = span.first;
-        loop {
-            if self.hits(byte, against) {
-                return Some(byte);
-            }
-            let same = self.stretch(byte);
-            if span.last <= same.last {
+        let place = self.ending_from(span.first);
+        for run in self.from(place) {
+            if span.last < run.1.first {
                 return None;
             }
-            byte = same.last + 1;
+            if run.0.conflicts_with(against) {
+                return Some(run.1.first.max(span.first));
+            }
         }
+        None
     }
 
     /// The mode of the byte, and the largest range round it on all of which there is this one mode; `None` where the byte
@@ -122,71 +129,52 @@ impl RangeList {
         ensures range { IfSome result (λ run. IsByteRange run.1) }
         ensures none { IfNone result (modes_of self.now byte ≡ None) }
     {
-        let mode = self.mode_at(byte)?;
-        let first = self.run_first(byte, mode);
-        let last = self.run_last(byte, mode);
-        Some((mode, Span { first, last }))
-    }
-
-    /// Whether the mode of the byte conflicts with a lock of the other mode by another owner.
-    fn hits(&self, byte: u64, against: Mode) -> bool
-        ensures { IsTrue result ↔ HeldConflicts (modes_of self.now byte) against }
-    {
-        match self.mode_at(byte) {
-            Some(held) => held.conflicts_with(against),
-            None => false,
+        match self.runs.get(self.ending_from(byte)) {
+            Some(run) if run.1.first <= byte => Some(*run),
+            _ => None,
         }
     }
 
-    /// Whether the byte has just this mode.
-    fn has_mode(&self, byte: u64, mode: Mode) -> bool
-        ensures { IsTrue result ↔ (modes_of self.now byte ≡ Some mode) }
+    /// All the runs, by rising bytes: each the largest range round its bytes on all of which there is one mode.
+    #[tactic(auto, using(crate::proofs::RunLemmas::AreRuns_in_order), unfolding(crate::specs::Changes::modes_of))]
+    pub fn runs(&self) -> &[(Mode, Span)]
+        ensures runs { AreRuns (modes_of self.now) result.now }
+        ensures ranges { All (λ run. IsByteRange run.1) result.now }
     {
-        self.mode_at(byte) == Some(mode)
+        self.runs.as_slice()
     }
 
-    /// A range round the byte on all of which the mode is the same.
-    fn stretch(&self, byte: u64) -> Span
-        ensures covered { Covers result byte }
-        ensures same { IsStretch (modes_of self.now) byte result }
+    /// From where to where in the list the runs stand that share a byte with the span or lie right beside it.
+    fn touched(&self, span: Span) -> (usize, usize)
+        requires { IsByteRange span }
+        ensures { AreTouched self.now.runs.items span result.0 result.1 }
     {
-        let mut stretch = Span {
-            first: 0,
-            last: u64::MAX,
-        };
-        for change in &self.changes {
-            stretch = one_side(stretch, change.0, byte);
-        }
-        stretch
+        let start = self.ending_from(span.first.saturating_sub(1));
+        let end = self.beginning_after(span.last + 1);
+        (start, end)
     }
 
-    /// The first byte of the run of this mode round the byte.
-    fn run_first(&self, byte: u64, mode: Mode) -> u64
-        requires { modes_of self.now byte ≡ Some mode }
-        ensures before { result ≤ byte }
-        ensures same { (other : ℕ) → result ≤ other → other ≤ byte → modes_of self.now other ≡ Some mode }
-        ensures first { (other : ℕ) → other + 1 ≡ result → modes_of self.now other ≢ Some mode }
+    /// The runs from a place on.
+    fn from(&self, place: usize) -> &[(Mode, Span)]
+        requires { place ≤ length self.now.runs.items }
+        ensures { result.now ≡ drop place self.now.runs.items }
     {
-        let mut first = self.stretch(byte).first;
-        while first > 0 && self.has_mode(first - 1, mode) {
-            first = self.stretch(first - 1).first;
-        }
-        first
+        &self.runs.as_slice()[place..]
     }
 
-    /// The last byte of the run of this mode round the byte.
-    #[tactic(auto, using(crate::proofs::ChangesLemmas::mode_within))]
-    fn run_last(&self, byte: u64, mode: Mode) -> u64
-        requires { modes_of self.now byte ≡ Some mode }
-        ensures after { byte ≤ result }
-        ensures same { (other : ℕ) → byte ≤ other → other ≤ result → modes_of self.now other ≡ Some mode }
-        ensures within { result ≤ OFFMAX }
-        ensures last { modes_of self.now (result + 1) ≢ Some mode }
+    /// How many runs end before the byte.
+    fn ending_from(&self, byte: u64) -> usize
+        ensures bound { result ≤ length self.now.runs.items }
+        ensures parts { IsPartitionPoint (λ run. run.1.last < byte) (λ run. byte ≤ run.1.last) self.now.runs.items result }
     {
-        let mut last = self.stretch(byte).last;
-        while self.has_mode(last + 1, mode) {
-            last = self.stretch(last + 1).last;
-        }
-        last
+        self.runs.as_slice().partition_point(|run| run.1.last < byte)
+    }
+
+    /// How many runs begin at the byte or before it.
+    fn beginning_after(&self, byte: u64) -> usize
+        ensures bound { result ≤ length self.now.runs.items }
+        ensures parts { IsPartitionPoint (λ run. run.1.first ≤ byte) (λ run. byte < run.1.first) self.now.runs.items result }
+    {
+        self.runs.as_slice().partition_point(|run| run.1.first <= byte)
     }
 }

@@ -1,6 +1,12 @@
-ghost use Rattle.std.specs.Prelude.{◌≡◌};
+ghost use Rattle.std.specs.Prelude.{◌≡◌, ◌≤◌};
+ghost use Rattle.range_core.specs.declared.TheConstants.{OFFMAX};
+ghost use Rattle.range_core.specs.Ranges.{IsByteRange};
+
+mod change_list;
 
 use crate::{Memory, Mode, OFFMAX, RangeFault, RangeList, Span, Whence, resolve};
+use change_list::ChangeList;
+use std::process::Abort;
 use std::test::Fail;
 
 /// The bytes of a range by its first and its last one.
@@ -86,9 +92,9 @@ fn holds_room(rt: HostRuntime) -> Result<(), Fail> {
     Ok(())
 }
 
-/// Each set takes a place for itself, and the room that is held stays as it is.
+/// A set uses room up and leaves as much as there was, however many there are.
 #[test]
-fn many_sets_take_a_place_each(rt: HostRuntime) -> Result<(), Fail> {
+fn many_sets_leave_the_room(rt: HostRuntime) -> Result<(), Fail> {
     let mut list = RangeList::new(rt.alloc());
     list.reserve(2)?;
     for index in 0..1000 {
@@ -96,5 +102,131 @@ fn many_sets_take_a_place_each(rt: HostRuntime) -> Result<(), Fail> {
     }
     assert_eq!(rt; list.room(), 2);
     assert_eq!(rt; list.run_at(1998), Some((Mode::Write, bytes(1998, 1998))));
+    Ok(())
+}
+
+/// The runs are those that touch in neither mode nor byte, by rising bytes.
+#[test]
+fn lists_the_runs(rt: HostRuntime) -> Result<(), Fail> {
+    let mut list = RangeList::new(rt.alloc());
+    assert_eq!(rt; list.runs(), [].as_slice());
+    list.set(bytes(20, 29), Some(Mode::Read))?;
+    list.set(bytes(0, 9), Some(Mode::Read))?;
+    list.set(bytes(30, OFFMAX), Some(Mode::Write))?;
+    let apart = [
+        (Mode::Read, bytes(0, 9)),
+        (Mode::Read, bytes(20, 29)),
+        (Mode::Write, bytes(30, OFFMAX)),
+    ];
+    assert_eq!(rt; list.runs(), apart.as_slice());
+    list.set(bytes(10, 19), Some(Mode::Read))?;
+    let joined = [
+        (Mode::Read, bytes(0, 29)),
+        (Mode::Write, bytes(30, OFFMAX)),
+    ];
+    assert_eq!(rt; list.runs(), joined.as_slice());
+    Ok(())
+}
+
+/// Thousands of runs apart from one another become one where the bytes between are set, and none where all are unlocked.
+#[test]
+fn joins_and_drops_thousands(rt: HostRuntime) -> Result<(), Fail> {
+    let mut list = RangeList::new(rt.alloc());
+    for index in 0..5000 {
+        list.set(bytes(10 * index, 10 * index + 4), Some(Mode::Read))?;
+    }
+    assert_eq!(rt; list.runs().len(), 5000);
+    list.set(bytes(7, 49_986), None)?;
+    let sides = [
+        (Mode::Read, bytes(0, 4)),
+        (Mode::Read, bytes(49_990, 49_994)),
+    ];
+    assert_eq!(rt; list.runs(), sides.as_slice());
+    for index in 1..5000 {
+        list.set(bytes(10 * index - 5, 10 * index + 4), Some(Mode::Read))?;
+    }
+    assert_eq!(rt; list.runs(), [(Mode::Read, bytes(0, 49_994))].as_slice());
+    for index in 0..5000 {
+        list.set(bytes(10 * index + 1, 10 * index + 1), Some(Mode::Write))?;
+    }
+    assert_eq!(rt; list.runs().len(), 10_001);
+    list.set(bytes(0, OFFMAX), None)?;
+    assert_eq!(rt; list.runs(), [].as_slice());
+    Ok(())
+}
+
+/// The mode of the set number `k` of the comparisons.
+fn mode_of_set(k: u64) -> Option<Mode> {
+    match k % 3 {
+        0 => Some(Mode::Read),
+        1 => Some(Mode::Write),
+        _ => None,
+    }
+}
+
+/// The range of the set number `k` of the comparisons: so far from byte 0.
+fn range_of_set(k: u64) -> Span
+    requires { k ≤ 2000 }
+    ensures { IsByteRange result }
+{
+    let first = (k * 37) % 101;
+    bytes(first, first + k % 11)
+}
+
+/// The range that lies as far from the largest offset as this one from byte 0.
+fn mirrored(span: Span) -> Span
+    requires { IsByteRange span }
+    ensures { IsByteRange result }
+{
+    bytes(OFFMAX - span.last, OFFMAX - span.first)
+}
+
+/// Both bodies answer the same of the bytes near this one.
+fn assert_same_near(rt: &impl Abort, list: &RangeList, changes: &ChangeList, end: u64)
+    requires { end ≤ OFFMAX }
+{
+    for byte in end.saturating_sub(2)..=(end + 2).min(OFFMAX) {
+        assert_eq!(rt; list.mode_at(byte), changes.mode_at(byte), "the mode at {byte}");
+        assert_eq!(rt; list.run_at(byte), changes.run_at(byte), "the run at {byte}");
+        for against in [Mode::Read, Mode::Write] {
+            let span = bytes(byte, (byte + 20).min(OFFMAX));
+            let hit = changes.first_hit(span, against);
+            assert_eq!(rt; list.first_hit(span, against), hit, "the first hit from {byte}");
+        }
+    }
+}
+
+/// The runs answer as the list of all changes does, near the ends of each set.
+#[test]
+fn answers_as_the_changes_do(rt: HostRuntime) -> Result<(), Fail> {
+    let mut list = RangeList::new(rt.alloc());
+    let mut changes = ChangeList::new(rt.alloc());
+    for k in 0..500 {
+        let span = range_of_set(k);
+        list.set(span, mode_of_set(k))?;
+        changes.set(span, mode_of_set(k))?;
+        assert_same_near(&rt, &list, &changes, span.first);
+        assert_same_near(&rt, &list, &changes, span.last);
+    }
+    Ok(())
+}
+
+/// The same with sets at both ends of the largest file; both begin anew where the list of all changes has grown long.
+#[test]
+fn answers_as_the_changes_do_at_both_ends(rt: HostRuntime) -> Result<(), Fail> {
+    let mut list = RangeList::new(rt.alloc());
+    let mut changes = ChangeList::new(rt.alloc());
+    for k in 0..2000 {
+        if k % 250 == 0 {
+            list = RangeList::new(rt.alloc());
+            changes = ChangeList::new(rt.alloc());
+        }
+        let low = range_of_set(k);
+        let span = if k % 2 == 0 { low } else { mirrored(low) };
+        list.set(span, mode_of_set(k))?;
+        changes.set(span, mode_of_set(k))?;
+        assert_same_near(&rt, &list, &changes, span.first);
+        assert_same_near(&rt, &list, &changes, span.last);
+    }
     Ok(())
 }

@@ -1,0 +1,155 @@
+-- What stands in the place of the touched runs after a set, and the whole list with it.
+use Rattle.std.proofs.Common.{ℕ, ◌≡◌, ◌≢◌, ◌+◌, ◌<◌, ◌≤◌, Bool, true, false, refl, ap, sym, ◌∙◌, Option, Some, None, List, [], ◌∷◌, ◌++◌, All, AllPairs, length, take, drop, get_or, subst, arith, inl, inr}
+use Rattle.std.specs.Prelude.{if◌then◌else◌}
+use Rattle.std.proofs.lemmas.Bool.{cases_lt, false≢true}
+use Rattle.std.proofs.lemmas.List.{length-append, get_or_append_left, get_or-append-add}
+use Rattle.std.specs.List.{between}
+use Rattle.std.proofs.lemmas.List.Edits.{split_between}
+use Rattle.std.proofs.lemmas.List.Elements.{All-append}
+use Rattle.range_core.specs.declared.Mode.{Mode}
+use Rattle.range_core.specs.declared.Span.{Span}
+use Rattle.range_core.specs.Ranges.{Covers, IsApart, IsByteRange}
+use Rattle.range_core.specs.Changes.{is_covered, mode_in, SetsMode}
+use Rattle.range_core.specs.Replacing.{AreInOrder, AreTouched, own_run, IsLeftEnd, IsReplacement, IsRightEnd}
+use Rattle.range_core.proofs.EndLemmas.{All-own_run}
+use Rattle.range_core.proofs.ListLemmas.{AllPairs-append, AllPairs-few, AreOrderedParts, ordered_parts}
+use Rattle.range_core.proofs.ModeLemmas.{cases_covers, is_covered-true, uncovered, mode_in-append, mode_in-none, mode_or, mode_or-None}
+
+-- the own run gives its mode to the bytes from its first to its last, and has two ends at most
+own_mode : (mode : Option Mode) (first last byte : ℕ) → first ≤ byte → byte ≤ last → mode_in (own_run mode first last) byte ≡ mode
+own_mode None first last byte from upto = refl
+own_mode (Some own) first last byte from upto = rw (is_covered-true (record { first = first; last = last }) byte (from, upto)) refl
+
+own_single : (mode : Option Mode) (first last : ℕ) → length (own_run mode first last) ≤ 1
+own_single None first last = omega arith
+own_single (Some own) first last = omega arith
+
+-- the modes of three lists in a row
+mode_in-three : (a b c : List (Mode × Span)) (byte : ℕ) → mode_in (a ++ (b ++ c)) byte ≡ mode_or (mode_in a byte) (mode_or (mode_in b byte) (mode_in c byte))
+mode_in-three a b c byte = mode_in-append a (b ++ c) byte ∙ ap (λ m. mode_or (mode_in a byte) m) (mode_in-append b c byte)
+
+-- the two ends, and the own run between them
+replaced_modes : (touched left right : List (Mode × Span)) (span : Span) (mode : Option Mode) (first last : ℕ) → span.first ≤ span.last → IsLeftEnd touched span mode first left → IsRightEnd touched span mode last right → SetsMode (mode_in touched) (mode_in (left ++ (own_run mode first last ++ right))) span mode
+replaced_modes touched left right span mode first last range l r byte =
+    let own = own_run mode first last in
+    let Uncovered = λ (run : Mode × Span). ¬ (Covers run.1 byte) in
+    mode_in-three left own right byte
+    ∙ elim (cases_lt byte first) [
+      | inl lower ↦
+          let no_own : mode_in own byte ≡ None = mode_in-none own byte (All-own_run Uncovered mode first last (λ m is covers. omega (arith, covers.0))) in
+          let no_right : mode_in right byte ≡ None = mode_in-none right byte (λ k d within covers. omega (arith, (r.beside k d within).0, covers.0)) in
+          let outside : is_covered span byte ≡ false = uncovered span byte (λ covers. omega (arith, covers.0)) in
+          rw (no_own, no_right, outside) (mode_or-None (mode_in left byte) ∙ sym (l.outside byte lower))
+      | inr from ↦
+          let no_left : mode_in left byte ≡ None = mode_in-none left byte (λ k d within covers. omega (arith, (l.beside k d within).1, covers.1)) in
+          elim (cases_lt last byte) [
+            | inl higher ↦
+                let no_own : mode_in own byte ≡ None = mode_in-none own byte (All-own_run Uncovered mode first last (λ m is covers. omega (arith, covers.1))) in
+                let outside : is_covered span byte ≡ false = uncovered span byte (λ covers. omega (arith, covers.1)) in
+                rw (no_left, no_own, outside) (sym (r.outside byte higher))
+            | inr upto ↦
+                let no_right : mode_in right byte ≡ None = mode_in-none right byte (λ k d within covers. omega (arith, (r.beside k d within).0, covers.0)) in
+                rw (no_left, own_mode mode first last byte from upto, no_right)
+                (mode_or-None mode ∙ elim (cases_covers span byte) [
+                  | inl covers ↦ rw (is_covered-true span byte covers) refl
+                  | inr outside ↦ rw outside (elim (cases_lt byte span.first) [
+                    | inl before ↦ sym (l.joined byte from before)
+                    | inr not_before ↦ elim (cases_lt span.last byte) [
+                      | inl behind ↦ sym (r.joined byte behind upto)
+                      | inr not_behind ↦ absurd (false≢true (sym outside ∙ is_covered-true span byte (not_before, not_behind)))
+                    ]
+                  ])
+                ])
+          ]
+    ]
+
+-- what a set leaves in the place of the touched runs, from the two ends of its own run
+pub replaced : (touched left right : List (Mode × Span)) (span : Span) (mode : Option Mode) (first last : ℕ) → IsByteRange span → IsLeftEnd touched span mode first left → IsRightEnd touched span mode last right → IsReplacement touched span mode (left ++ (own_run mode first last ++ right))
+replaced touched left right span mode first last range l r =
+    let own = own_run mode first last in
+    let InFile = λ (run : Mode × Span). IsByteRange run.1 in
+    let ends : first ≤ last = omega (arith, l.at_most, r.at_least, range.0) in
+    record {
+      modes = replaced_modes touched left right span mode first last range.0 l r;
+      in_order = record {
+        ranges = All-append InFile left (own ++ right)
+          (λ k d within. ((l.beside k d within).0, omega (arith, (l.beside k d within).1, r.within)))
+          (All-append InFile own right
+          (All-own_run InFile mode first last (λ m is. (ends, r.within)))
+          (λ k d within. (r.beside k d within).1));
+        apart = AllPairs-append IsApart left (own ++ right) (AllPairs-few IsApart left l.single)
+          (AllPairs-append IsApart own right (AllPairs-few IsApart own (own_single mode first last)) (AllPairs-few IsApart right r.single)
+          (All-own_run (λ x. All (IsApart x) right) mode first last (λ m is k d within.
+          (omega (arith, (r.beside k d within).0), λ touch same. (r.beside k d within).2 (is ∙ ap Some same)))))
+          (λ i e inside. let x = l.beside i e inside in All-append (IsApart (get_or left i e)) own right
+          (All-own_run (IsApart (get_or left i e)) mode first last (λ m is.
+          (omega (arith, x.1), λ touch same. x.2 (is ∙ ap Some (sym same)))))
+          (λ k d within. (omega (arith, x.1, (r.beside k d within).0), λ touch. absurd (omega (arith, x.1, (r.beside k d within).0)))));
+      };
+      few = omega (arith, length-append left (own ++ right), length-append own right, own_single mode first last, l.few, r.single);
+      before = λ run far all. let clear = l.apart run last far all in
+        All-append (IsApart run) left (own ++ right) clear.0 (All-append (IsApart run) own right clear.1
+        (λ k d within. (omega (arith, (r.beside k d within).0), λ touch. absurd (omega (arith, (r.beside k d within).0)))));
+      behind = λ run far all. let clear = r.apart run first far all in
+        All-append (λ x. IsApart x run) left (own ++ right)
+        (λ k d within. (omega (arith, (l.beside k d within).1), λ touch. absurd (omega (arith, (l.beside k d within).1))))
+        (All-append (λ x. IsApart x run) own right clear.1 clear.0);
+    }
+
+-- what holds of each element of two lists in a row
+All-first : (P : Mode × Span → Type 0) (xs ys : List (Mode × Span)) → All P (xs ++ ys) → All P xs
+All-first P xs ys all k d within =
+    let sum = length-append xs ys in
+    rw (← get_or_append_left xs ys d k within) (all k d (omega arith))
+
+All-second : (P : Mode × Span → Type 0) (xs ys : List (Mode × Span)) → All P (xs ++ ys) → All P ys
+All-second P xs ys all k d within =
+    let sum = length-append xs ys in
+    rw (← get_or-append-add xs ys k d) (all (length xs + k) d (omega arith))
+
+-- the whole list after a set
+pub record IsSet (old new : List (Mode × Span)) (span : Span) (mode : Option Mode) : Type 0 where
+  pub modes : SetsMode (mode_in old) (mode_in new) span mode
+  pub in_order : AreInOrder new
+
+-- the runs before those that a set touches stay, and those behind them
+pub set_between : (before touched behind put : List (Mode × Span)) (span : Span) (mode : Option Mode) → AreInOrder (before ++ (touched ++ behind)) → All (λ run. run.1.last + 1 < span.first) before → All (λ run. span.last + 1 < run.1.first) behind → IsReplacement touched span mode put → IsSet (before ++ (touched ++ behind)) (before ++ (put ++ behind)) span mode
+set_between before touched behind put span mode in_order lower higher replacement =
+    let InFile = λ (run : Mode × Span). IsByteRange run.1 in
+    let rest = ordered_parts IsApart before (touched ++ behind) in_order.apart in
+    let last = ordered_parts IsApart touched behind rest.second in
+    let rest_ranges = All-second InFile before (touched ++ behind) in_order.ranges in
+    record {
+      modes = λ byte.
+        mode_in-three before put behind byte
+        ∙ elim (cases_covers span byte) [
+          | inl covers ↦
+              let no_before : mode_in before byte ≡ None = mode_in-none before byte (λ k d within inside. omega (arith, lower k d within, inside.1, covers.0)) in
+              let no_behind : mode_in behind byte ≡ None = mode_in-none behind byte (λ k d within inside. omega (arith, higher k d within, inside.0, covers.1)) in
+              let put_mode = rw (is_covered-true span byte covers) at (replacement.modes byte) in
+              rw (no_before, no_behind, put_mode, is_covered-true span byte covers) (mode_or-None mode)
+          | inr outside ↦
+              let put_mode = rw outside at (replacement.modes byte) in
+              rw (put_mode, outside) (sym (mode_in-three before touched behind byte))
+        ];
+      in_order = record {
+        ranges = All-append InFile before (put ++ behind) (All-first InFile before (touched ++ behind) in_order.ranges)
+          (All-append InFile put behind replacement.in_order.ranges (All-second InFile touched behind rest_ranges));
+        apart = AllPairs-append IsApart before (put ++ behind) rest.first
+          (AllPairs-append IsApart put behind replacement.in_order.apart last.second
+          (λ i d inside j e within. replacement.behind (get_or behind j e) (higher j e within) (λ k f there. last.across k f there j e within) i d inside))
+          (λ i d inside. All-append (IsApart (get_or before i d)) put behind
+          (replacement.before (get_or before i d) (lower i d inside) (All-first (IsApart (get_or before i d)) touched behind (rest.across i d inside)))
+          (All-second (IsApart (get_or before i d)) touched behind (rest.across i d inside)));
+      };
+    }
+
+-- the same where the touched runs stand at these places, from what was lent of the two lists
+pub set_at : (runs lent put lent_put now : List (Mode × Span)) (span : Span) (mode : Option Mode) (start end : ℕ) → All (λ run. IsByteRange run.1) runs → AllPairs IsApart runs → lent ≡ runs → lent_put ≡ put → AreTouched runs span start end → IsReplacement (between start end lent) span mode put → now ≡ take start runs ++ (lent_put ++ drop end runs) → IsSet runs now span mode
+set_at runs lent put lent_put now span mode start end ranges apart lent_is put_is touched replacement now_is =
+    let parts = split_between runs start end touched.ordered in
+    let in_order : AreInOrder runs = record { ranges = ranges; apart = apart } in
+    let replaced_there = subst (λ l. IsReplacement (between start end l) span mode put) lent_is replacement in
+    let set = set_between (take start runs) (between start end runs) (drop end runs) put span mode (subst AreInOrder parts in_order) touched.before touched.behind replaced_there in
+    subst (λ new. IsSet runs new span mode) (sym (now_is ∙ ap (λ l. take start runs ++ (l ++ drop end runs)) put_is))
+    (subst (λ old. IsSet old (take start runs ++ (put ++ drop end runs)) span mode) (sym parts) set)
