@@ -10,7 +10,7 @@ use Rattle.lock_book.specs.declared.Owner.{Owner}
 use Rattle.lock_book.specs.declared.Held.{Held}
 use Rattle.lock_book.specs.Owners.{IsBefore}
 use Rattle.lock_book.specs.Conflicts.{ByteModes, FlockModes}
-use Rattle.lock_book.specs.Reports.{AreByteLocks, AreFlockLocks, IsFlockLine, IsFileReport, AreFileReports, IsHeldReport}
+use Rattle.lock_book.specs.Reports.{AreByteLocks, AreFlockLocks, IsFlockLine, AreFileReports, IsHeldReport}
 use Rattle.lock_book.specs.OneReport.{LocksHaveOneFileReport, LocksHaveOneReport}
 use Rattle.lock_book.proofs.OwnerLemmas.{IsBefore-asymmetric, IsBefore-same}
 use Rattle.lock_book.proofs.HeldLemmas.{ComesBefore, IsRunLine}

@@ -1,6 +1,6 @@
 -- Predicates that some value meets, and the choices by a fact and the chains that are made of them. That some value does is said by a double
 -- negation: it can't be that none does. So a fact may be asked of which no test is known.
-use Rattle.std.proofs.Common.{ℕ, zero, suc, ◌≡◌, ◌<◌, ◌⊎◌, subst, arith, inl, inr}
+use Rattle.std.proofs.Common.{ℕ, zero, suc, ◌≡◌, ◌<◌, subst, arith, inl, inr}
 use Rattle.std.proofs.lemmas.Bool.{cases_lt}
 use Rattle.range_core.specs.Facts.{MatchFact}
 
@@ -40,7 +40,7 @@ pub record IsLeast (P : ℕ → Type 0) (n : ℕ) : Type 0 where
   pub holds : P n
   pub least : (k : ℕ) → k < n → ¬ P k
 
--- below a number there is a least that meets the predicate, or none does
+-- where no number is the least that meets the predicate, none does
 least_below : (P : ℕ → Type 0) (n : ℕ) → ((m : ℕ) → ¬ IsLeast P m) → (k : ℕ) → k < n → ¬ P k
 least_below P zero none k below h = omega arith
 least_below P (suc n) none k below h =

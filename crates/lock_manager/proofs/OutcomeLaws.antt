@@ -1,16 +1,13 @@
 -- What a request comes to is determined, and so is the step.
-use Rattle.std.proofs.Common.{◌≡◌, ℕ, ℤ, List, [], ◌∷◌, ◌++◌, ◌==◌, ◌||◌, Bool, true, false, Option, None, sym, ◌∙◌, ap₂, subst, Some, Result}
+use Rattle.std.proofs.Common.{◌≡◌, ℕ, ℤ, List, [], ◌∷◌, ◌++◌, ◌==◌, Bool, true, false, Option, None, sym, ◌∙◌, ap₂, subst, Some, Result}
 use Rattle.std.proofs.lemmas.Option.{same_Some}
 use Rattle.std.specs.Prelude.{MatchResult}
-use Rattle.range_core.specs.declared.Kind.{Kind}
 use Rattle.range_core.specs.declared.Mode.{Mode}
-use Rattle.range_core.specs.declared.Span.{Span}
-use Rattle.range_core.specs.Resolving.{resolution}
 use Rattle.fd_table.specs.declared.Access.{Access}
 use Rattle.fd_table.specs.declared.FdFault.{FdFault}
 use Rattle.fd_table.specs.declared.FdFault.TheVariants.{BadFd, TooMany, Invalid, Taken, Memory}
 use Rattle.fd_table.specs.declared.tables.Look.{Look}
-use Rattle.fd_table.specs.Descriptors.{Descriptors, look_at}
+use Rattle.fd_table.specs.Descriptors.{Descriptors}
 use Rattle.fd_table.specs.Calls.{OpenGives, DupGives, DupToGives, CloseGives, SeekGives, ResizeGives, ForkGives, EndGives}
 use Rattle.wait_core.specs.declared.Wait.{Wait}
 use Rattle.wait_core.specs.Blocking.{IsBlockedByLock, IsBlocked}
@@ -30,13 +27,9 @@ use Rattle.lock_manager.specs.Outcomes.{Outcome, answered, IsRefusal}
 use Rattle.lock_manager.specs.declared.request.Note.{Note}
 use Rattle.lock_manager.specs.declared.request.Note.TheVariants.{Answer}
 use Rattle.lock_manager.specs.DescriptorCalls.{OpenComesTo, DupComesTo, DupToComesTo, CloseComesTo, SeekComesTo, ResizeComesTo, with_released}
-use Rattle.lock_manager.specs.LockWords.{is_get, is_bad_argument, wanted_mode, permits, wanted_lock}
-use Rattle.lock_manager.specs.LockCommands.{GetComesTo, SetComesTo, SetOrWaitComesTo, WaitOrDeadlockComesTo, CommandComesTo, ModeComesTo, RangeComesTo, DescribedComesTo, LockComesTo}
-use Rattle.lock_book.specs.Changes.{flock_mode_in}
+use Rattle.lock_manager.specs.LockCommands.{GetComesTo, SetComesTo, SetOrWaitComesTo, WaitOrDeadlockComesTo, CommandComesTo, LockComesTo}
 use Rattle.lock_manager.specs.declared.request.FlockOp.{FlockOp}
-use Rattle.lock_manager.specs.declared.request.FlockOp.TheVariants.{Sh, Ex, Un}
-use Rattle.range_core.specs.declared.Mode.TheVariants.{Read, Write}
-use Rattle.lock_manager.specs.FlockCalls.{FlockTestComesTo, FlockModeComesTo, FlockOpComesTo, FlockComesTo, is_same_mode, wanted_flock}
+use Rattle.lock_manager.specs.FlockCalls.{FlockTestComesTo, FlockModeComesTo, FlockComesTo, is_same_mode}
 use Rattle.lock_manager.specs.ProcessCalls.{ForkComesTo, EndComesTo, SignalComesTo, KillOtherComesTo, KillComesTo}
 use Rattle.lock_manager.specs.Settling.{Settles}
 use Rattle.lock_manager.specs.Step.{ComesTo}

@@ -5,7 +5,7 @@ use Rattle.range_core.specs.declared.Mode.{Mode}
 use Rattle.range_core.specs.declared.Mode.TheVariants.{Read, Write}
 use Rattle.range_core.specs.declared.Span.{Span}
 use Rattle.range_core.specs.Changes.{is_covered}
-use Rattle.range_core.specs.Ranges.{Modes, Covers, HeldConflicts, IsConstant, IsRun}
+use Rattle.range_core.specs.Ranges.{Modes, Covers, HeldConflicts, IsRun}
 use Rattle.lock_book.specs.declared.Owner.{Owner}
 use Rattle.lock_book.specs.declared.Owner.TheVariants.{Process, Description}
 use Rattle.lock_book.specs.Changes.{Change, sets_byte, mode_from, mode_in}

@@ -1,16 +1,15 @@
 -- Each call on descriptors answers something and leaves some descriptors, where those that are open refer to descriptions that were made.
-use Rattle.std.proofs.Common.{◌≡◌, ℕ, zero, suc, ◌+◌, ◌<◌, ◌≤◌, ◌==◌, Bool, true, false, MatchBool, Option, Some, None, IsSome, Result, Ok, Err, ℤ, pos, negsuc, ◌<ℤ◌, refl, sym, ◌∙◌, ap, subst, ◌⊎◌, inl, inr, arith, List, [], ◌∷◌, ◌++◌, length, option_map}
+use Rattle.std.proofs.Common.{◌≡◌, ℕ, zero, suc, ◌+◌, ◌<◌, ◌==◌, Bool, true, false, MatchBool, Option, Some, None, IsSome, Result, Ok, Err, ℤ, pos, negsuc, ◌<ℤ◌, refl, subst, ◌⊎◌, inl, inr, arith, List, [], ◌∷◌, ◌++◌, length, option_map}
 use Rattle.std.proofs.lemmas.Bool.{cases_lt}
 use Rattle.std.proofs.lemmas.Int.{ints}
 use Rattle.fd_table.specs.declared.TheConstants.{FILES, DESCRIPTIONS}
 use Rattle.fd_table.specs.declared.Access.{Access}
 use Rattle.fd_table.specs.declared.Limits.{Limits}
 use Rattle.fd_table.specs.declared.FdFault.{FdFault}
-use Rattle.fd_table.specs.declared.FdFault.TheVariants.{BadFd, TooMany, Invalid, Taken, Memory}
-use Rattle.fd_table.specs.Released.{Released}
-use Rattle.fd_table.specs.Descriptors.{Descriptors, OpenFileDescription, IsOpen, IsFull, IsLowestFree, SameDescriptors, descriptor_limit, description_numbered, with_description, with_descriptor, without_descriptors, with_child, with_offset, with_size}
+use Rattle.fd_table.specs.declared.FdFault.TheVariants.{BadFd, TooMany, Invalid, Taken}
+use Rattle.fd_table.specs.Descriptors.{Descriptors, OpenFileDescription, IsFull, IsLowestFree, SameDescriptors, descriptor_limit, description_numbered, with_description, with_descriptor, without_descriptors, with_child, with_offset, with_size}
 use Rattle.fd_table.specs.Releasing.{AreExactly, AreReleased, ClosesFile, ClosesDescription}
-use Rattle.fd_table.specs.Calls.{OpenGives, DupGives, DupToGives, MovesTo, CloseGives, EndGives, IsFreeProcess, ForkGives, Refers, SeekGives, ResizeGives, nothing}
+use Rattle.fd_table.specs.Calls.{OpenGives, DupGives, DupToGives, CloseGives, EndGives, IsFreeProcess, ForkGives, Refers, SeekGives, ResizeGives, nothing}
 use Rattle.fd_table.proofs.CallLemmas.{same}
 use Rattle.fd_table.proofs.ListLemmas.{AreExactly-more, AreExactly-skip}
 use Rattle.lock_manager.specs.SomeOutcome.{AreMade}
@@ -131,7 +130,7 @@ DupToGives-some limits D p fd to made none = elim (some_or_none (D.description_o
   | inl open_one ↦ elim (cases_lt to (descriptor_limit limits)) [
     | inr past ↦ none (Err BadFd) D (inr past, same D)
     | inl within ↦ moves_some D p to open_one.0 (to == fd) made
-      (λ released E h. none (Ok (to, released)) E (open_one.0, open_one.1, within, refl, h))
+        (λ released E h. none (Ok (to, released)) E (open_one.0, open_one.1, within, refl, h))
   ]
 ]
 

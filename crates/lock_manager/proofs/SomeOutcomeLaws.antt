@@ -1,17 +1,10 @@
 -- A request comes to some outcome, settling ends, and so there is a step.
-use Rattle.std.proofs.Common.{◌≡◌, ◌≢◌, ℕ, ℤ, zero, suc, ◌+◌, ◌<◌, ◌≤◌, List, [], ◌∷◌, ◌++◌, length, length-append, append-nil, append_assoc, ◌==◌, ◌||◌, Bool, true, false, Option, Some, None, Result, Ok, Err, inl, inr, refl, sym, ◌∙◌, ap, subst, arith, MatchResult}
-use Rattle.range_core.specs.declared.Kind.{Kind}
+use Rattle.std.proofs.Common.{◌≡◌, ◌≢◌, ℕ, ℤ, zero, suc, ◌<◌, List, [], ◌∷◌, ◌++◌, length, length-append, append-nil, append_assoc, ◌==◌, Bool, true, false, Option, Some, None, Result, Ok, Err, inl, inr, refl, sym, ◌∙◌, subst, arith, MatchResult}
 use Rattle.range_core.specs.declared.Mode.{Mode}
-use Rattle.range_core.specs.declared.Mode.TheVariants.{Read, Write}
-use Rattle.range_core.specs.declared.Span.{Span}
-use Rattle.range_core.specs.Resolving.{resolution}
-use Rattle.lock_book.specs.Changes.{flock_mode_in}
 use Rattle.fd_table.specs.declared.Access.{Access}
 use Rattle.fd_table.specs.declared.FdFault.{FdFault}
 use Rattle.fd_table.specs.declared.FdFault.TheVariants.{BadFd, TooMany, Invalid, Taken, Memory}
 use Rattle.fd_table.specs.declared.tables.Look.{Look}
-use Rattle.fd_table.specs.Released.{Released}
-use Rattle.fd_table.specs.Descriptors.{Descriptors, look_at}
 use Rattle.fd_table.specs.Calls.{OpenGives, DupGives, DupToGives, CloseGives, SeekGives, ResizeGives, ForkGives, EndGives}
 use Rattle.wait_core.specs.declared.Policy.{Policy}
 use Rattle.wait_core.specs.declared.Wait.{Wait}
@@ -25,7 +18,6 @@ use Rattle.lock_manager.specs.declared.request.Lock.{Lock}
 use Rattle.lock_manager.specs.declared.request.LkCmd.{LkCmd}
 use Rattle.lock_manager.specs.declared.request.LkCmd.TheVariants.{GetLk, SetLk, SetLkW, OGetLk, OSetLk, OSetLkW}
 use Rattle.lock_manager.specs.declared.request.FlockOp.{FlockOp}
-use Rattle.lock_manager.specs.declared.request.FlockOp.TheVariants.{Sh, Ex, Un}
 use Rattle.lock_manager.specs.declared.request.Errno.TheVariants.{EBADF, EMFILE, EINVAL, EAGAIN}
 use Rattle.lock_manager.specs.declared.request.Request.{Request}
 use Rattle.lock_manager.specs.declared.request.Request.TheVariants.{OpenFile, Dup, DupTo, CloseFd, Seek, Resize, Lk, Flock, Fork, Exit, Signal, Kill}
@@ -38,9 +30,8 @@ use Rattle.lock_manager.specs.State.{State, locks_held, with_flock_mode, with_pr
 use Rattle.lock_manager.specs.Settling.{Settles, granted}
 use Rattle.lock_manager.specs.Outcomes.{Outcome, answered, refused, IsRefusal}
 use Rattle.lock_manager.specs.DescriptorCalls.{OpenComesTo, DupComesTo, DupToComesTo, CloseComesTo, SeekComesTo, ResizeComesTo, with_released}
-use Rattle.lock_manager.specs.LockWords.{is_get, is_bad_argument, wanted_mode, permits, wanted_lock}
-use Rattle.lock_manager.specs.LockCommands.{GetComesTo, SetComesTo, SetOrWaitComesTo, WaitOrDeadlockComesTo, CommandComesTo, ModeComesTo, RangeComesTo, DescribedComesTo, LockComesTo}
-use Rattle.lock_manager.specs.FlockCalls.{FlockTestComesTo, FlockModeComesTo, FlockOpComesTo, FlockComesTo, RemovesOldLock, is_same_mode, wanted_flock}
+use Rattle.lock_manager.specs.LockCommands.{GetComesTo, SetComesTo, SetOrWaitComesTo, WaitOrDeadlockComesTo, CommandComesTo, LockComesTo}
+use Rattle.lock_manager.specs.FlockCalls.{FlockTestComesTo, FlockModeComesTo, FlockComesTo, RemovesOldLock, is_same_mode}
 use Rattle.lock_manager.specs.ProcessCalls.{ForkComesTo, EndComesTo, SignalComesTo, KillOtherComesTo, KillComesTo}
 use Rattle.lock_manager.specs.Step.{ComesTo, Step}
 use Rattle.lock_manager.specs.SomeOutcome.{IsWhole}

@@ -1,25 +1,22 @@
 -- A step keeps what a step needs: open descriptors refer to descriptions that were made, and who waits has a wait in the list.
-use Rattle.std.proofs.Common.{◌≡◌, ◌≢◌, ℕ, ℤ, zero, suc, ◌+◌, ◌<◌, ◌≤◌, ◌==◌, ◌&&◌, ◌||◌, Bool, true, false, Option, Some, None, IsSome, Result, Ok, Err, MatchBool, MatchOption, MatchResult, inl, inr, refl, sym, ◌∙◌, ap, subst, arith, List, [], ◌∷◌, ◌++◌, length, pred}
+use Rattle.std.proofs.Common.{◌≡◌, ◌≢◌, ℕ, ℤ, zero, suc, ◌+◌, ◌==◌, ◌&&◌, ◌||◌, Bool, true, false, Option, Some, None, IsSome, Result, Ok, Err, MatchBool, MatchOption, MatchResult, inl, inr, refl, sym, ◌∙◌, subst, arith, List, [], ◌∷◌, ◌++◌, length, pred}
 use Rattle.std.specs.Prelude.{if◌then◌else◌, slice_get, slice_set}
 use Rattle.std.proofs.lemmas.Bool.{cases_Bool, eq-eqb}
 use Rattle.std.proofs.lemmas.Bool.Decides.{eqb_tells}
 use Rattle.std.proofs.lemmas.Option.{same_Some}
 use Rattle.range_core.specs.Facts.{MatchFact}
-use Rattle.range_core.specs.declared.Kind.{Kind}
 use Rattle.range_core.specs.declared.Mode.{Mode}
 use Rattle.range_core.specs.declared.Mode.TheVariants.{Read, Write}
-use Rattle.range_core.specs.declared.Span.{Span}
 use Rattle.range_core.specs.Resolving.{resolution}
 use Rattle.lock_book.specs.declared.Owner.TheVariants.{Process, Description}
 use Rattle.lock_book.specs.Changes.{flock_mode_in}
 use Rattle.fd_table.specs.declared.Access.{Access}
-use Rattle.fd_table.specs.declared.Limits.{Limits}
 use Rattle.fd_table.specs.declared.FdFault.{FdFault}
 use Rattle.fd_table.specs.declared.FdFault.TheVariants.{BadFd, TooMany, Invalid, Taken, Memory}
 use Rattle.fd_table.specs.declared.tables.Look.{Look}
 use Rattle.fd_table.specs.Released.{Released}
-use Rattle.fd_table.specs.Descriptors.{Descriptors, OpenFileDescription, SameDescriptors, opening_descriptors, description_numbered, look_at, with_description, with_descriptor, without_descriptors, with_child, with_offset, with_size}
-use Rattle.fd_table.specs.Calls.{MovesTo, SeekGives, nothing}
+use Rattle.fd_table.specs.Descriptors.{Descriptors, OpenFileDescription, SameDescriptors, opening_descriptors, description_numbered, look_at, with_description, with_descriptor, without_descriptors, with_child, with_offset}
+use Rattle.fd_table.specs.Calls.{nothing}
 use Rattle.wait_core.specs.declared.Family.TheVariants.{Bytes, Whole}
 use Rattle.wait_core.specs.declared.Policy.{Policy}
 use Rattle.wait_core.specs.declared.Wait.{Wait}
@@ -40,9 +37,9 @@ use Rattle.lock_manager.specs.Settling.{Settles, granted}
 use Rattle.lock_manager.specs.Outcomes.{Outcome, IsRefusal}
 use Rattle.lock_manager.specs.DescriptorCalls.{OpenComesTo, DupComesTo, DupToComesTo, CloseComesTo, SeekComesTo, ResizeComesTo}
 use Rattle.lock_manager.specs.LockWords.{is_get, is_bad_argument, wanted_mode, permits, wanted_lock}
-use Rattle.lock_manager.specs.LockCommands.{CommandComesTo, ModeComesTo, RangeComesTo, DescribedComesTo, LockComesTo}
-use Rattle.lock_manager.specs.FlockCalls.{FlockTestComesTo, FlockModeComesTo, FlockOpComesTo, FlockComesTo, is_same_mode, wanted_flock}
-use Rattle.lock_manager.specs.ProcessCalls.{ForkComesTo, EndComesTo, SignalComesTo, KillOtherComesTo, KillComesTo}
+use Rattle.lock_manager.specs.LockCommands.{CommandComesTo, LockComesTo}
+use Rattle.lock_manager.specs.FlockCalls.{FlockTestComesTo, FlockModeComesTo, FlockOpComesTo, is_same_mode, wanted_flock}
+use Rattle.lock_manager.specs.ProcessCalls.{ForkComesTo, EndComesTo, SignalComesTo, KillOtherComesTo}
 use Rattle.lock_manager.specs.Step.{ComesTo, Step}
 use Rattle.lock_manager.specs.SomeOutcome.{AreMade, AreAwaitedIn, IsWhole}
 use Rattle.lock_manager.proofs.ProcessCallLemmas.{other_found}

@@ -1,12 +1,11 @@
 -- A state that a manager stands for has what a step needs.
-use Rattle.std.proofs.Common.{◌≡◌, ◌≢◌, ℕ, Option, Some, None, IsSome, refl, sym, ◌∙◌, ap, subst}
+use Rattle.std.proofs.Common.{◌≡◌, ◌≢◌, ℕ, Option, Some, None, IsSome, refl, sym, ◌∙◌, subst}
 use Rattle.std.proofs.lemmas.Option.{same_Some}
 use Rattle.fd_table.specs.declared.tables.Tables.{Tables}
 use Rattle.fd_table.specs.Descriptors.{Descriptors, description_numbered}
 use Rattle.fd_table.specs.TablesView.{Numbered, IsSeen, StandFor, view_of}
 use Rattle.wait_core.specs.WaitsView.{wait_of}
 use Rattle.lock_manager.specs.declared.manager.Manager.{Manager}
-use Rattle.lock_manager.specs.declared.request.ProcState.TheVariants.{Waiting}
 use Rattle.lock_manager.specs.State.{State}
 use Rattle.lock_manager.specs.MachineView.{machine_state, machine_waits}
 use Rattle.lock_manager.specs.ManagerView.{StandsFor, state_at, waits_of}

@@ -24,7 +24,6 @@ use Rattle.lock_manager.specs.declared.request.Note.{Note}
 use Rattle.lock_manager.specs.declared.request.Note.TheVariants.{Answer, Waits}
 use Rattle.lock_manager.specs.declared.request.Reply.TheVariants as replies
 use Rattle.lock_manager.specs.State.{State, opening_state, locks_held, with_lock, with_byte_mode, with_flock_mode}
-use Rattle.lock_manager.specs.Settling.{Settles}
 use Rattle.lock_manager.specs.Outcomes.{Outcome, answered, answered_then, refused, waits_then, range_error}
 use Rattle.lock_manager.specs.LockWords.{is_get, is_bad_argument, may_wait, permits, lock_owner, wanted_lock}
 use Rattle.lock_manager.specs.LockCommands.{LockComesTo, DescribedComesTo, RangeComesTo, ModeComesTo, CommandComesTo}

@@ -12,7 +12,9 @@ mod tests;
 
 pub use check::check_journal;
 pub use entry::Entry;
-pub use laws::{arrivals_have_one_drain, every_run_goes_on, requests_join_the_queue, waits_are_granted_in_turn};
+pub use laws::{
+    arrivals_have_one_drain, every_run_goes_on, requests_join_the_queue, waits_are_granted_in_turn,
+};
 pub use run::{RunAllFault, run_all};
 pub use session::{ArriveFault, Session};
 
