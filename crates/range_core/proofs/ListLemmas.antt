@@ -1,5 +1,5 @@
 -- `AllPairs` of two lists in a row, and of their parts; what a splice leaves.
-use Rattle.std.proofs.Common.{ℕ, zero, suc, ◌≡◌, ◌+◌, ◌-◌, ◌<◌, ◌≤◌, List, [], ◌∷◌, ◌++◌, All, AllPairs, length, take, drop, get_or, refl, ap, sym, ◌∙◌, subst, arith, inl, inr}
+use Rattle.std.proofs.Common.{ℕ, ◌≡◌, ◌+◌, ◌-◌, ◌<◌, ◌≤◌, List, ◌++◌, All, AllPairs, length, take, drop, get_or, refl, ap, sym, ◌∙◌, arith, inl, inr}
 use Rattle.std.proofs.lemmas.Bool.{cases_lt}
 use Rattle.std.specs.List.{AllWithin, between, copy_within, refill}
 use Rattle.std.proofs.lemmas.List.Edits.{take-paste, paste_all, length-between, get_or-between}
@@ -41,12 +41,12 @@ ordered_parts {X} R xs ys pairs =
     let sum = length-append xs ys in
     record {
       first = λ i j d before within.
-        rw (← get_or_append_left xs ys d i (omega arith), ← get_or_append_left xs ys d j within) (pairs i j d before (omega arith));
+          rw (← get_or_append_left xs ys d i (omega arith), ← get_or_append_left xs ys d j within) (pairs i j d before (omega arith));
       second = λ i j d before within.
-        rw (← get_or-append-add xs ys i d, ← get_or-append-add xs ys j d) (pairs (length xs + i) (length xs + j) d (omega arith) (omega arith));
+          rw (← get_or-append-add xs ys i d, ← get_or-append-add xs ys j d) (pairs (length xs + i) (length xs + j) d (omega arith) (omega arith));
       across = λ i d i_within j e j_within.
-        let pair = pairs i (length xs + j) d (omega arith) (omega arith) in
-        rw (get_or_default ys j e d j_within, ← get_or_append_left xs ys d i i_within, ← get_or-append-add xs ys j d) pair;
+          let pair = pairs i (length xs + j) d (omega arith) (omega arith) in
+          rw (get_or_default ys j e d j_within, ← get_or_append_left xs ys d i i_within, ← get_or-append-add xs ys j d) pair;
     }
 
 -- what holds of the elements within some places, of the parts of the list there
@@ -87,11 +87,11 @@ pub spliced : {X : Type 0} (old more put : List X) (start end behind : ℕ) → 
 spliced old more put start end behind behind_is ordered within room =
     let front = length-take-le behind (old ++ more) room in
     let before : take start (take behind (old ++ more) ++ drop end old) ≡ take start old =
-        take-append-le start (take behind (old ++ more)) (drop end old) (omega arith)
-        ∙ take-take start behind (old ++ more) (omega arith)
-        ∙ take-append-le start old more (omega arith) in
+    take-append-le start (take behind (old ++ more)) (drop end old) (omega arith)
+    ∙ take-take start behind (old ++ more) (omega arith)
+    ∙ take-append-le start old more (omega arith) in
     let after : drop (start + length put) (take behind (old ++ more) ++ drop end old) ≡ drop end old =
-        drop_at (take behind (old ++ more)) (drop end old) (start + length put) (front ∙ behind_is) in
+    drop_at (take behind (old ++ more)) (drop end old) (start + length put) (front ∙ behind_is) in
     paste_all (take behind (old ++ more) ++ drop end old) start put (length put) refl
     ∙ ap (λ rest. take start (take behind (old ++ more) ++ drop end old) ++ (put ++ rest)) after
     ∙ ap (λ first. first ++ (put ++ drop end old)) before
@@ -101,18 +101,18 @@ pub splice_steps : {X : Type 0} (old more put grown copied cut : List X) (start 
 splice_steps old more put grown copied cut start end behind new_len behind_is new_len_is ordered within room grown_is copied_is same_length cut_is =
     let room_there : behind ≤ length (old ++ more) = omega (arith, ap length grown_is) in
     let cut_now : cut ≡ take behind (old ++ more) ++ drop end old =
-        cut_is
-        ∙ ap (λ l. take new_len l) (written (length grown) grown copied (sym same_length) ∙ copied_is)
-        ∙ ap (λ n. take n (copy_within grown end (length old) behind)) new_len_is
-        ∙ ap (λ l. take (behind + (length old - end)) (copy_within l end (length old) behind)) grown_is
-        ∙ moved old more end behind within room_there in
+    cut_is
+    ∙ ap (λ l. take new_len l) (written (length grown) grown copied (sym same_length) ∙ copied_is)
+    ∙ ap (λ n. take n (copy_within grown end (length old) behind)) new_len_is
+    ∙ ap (λ l. take (behind + (length old - end)) (copy_within l end (length old) behind)) grown_is
+    ∙ moved old more end behind within room_there in
     let put_now : put_mid start (behind - start) cut put ≡ take start old ++ (put ++ drop end old) =
-        put_mid-paste start (behind - start) cut put put (length put) refl (omega arith) refl
-        ∙ ap (λ l. paste l start put (length put)) cut_now
-        ∙ spliced old more put start end behind behind_is ordered within room_there in
+    put_mid-paste start (behind - start) cut put put (length put) refl (omega arith) refl
+    ∙ ap (λ l. paste l start put (length put)) cut_now
+    ∙ spliced old more put start end behind behind_is ordered within room_there in
     let rest = length-drop end old in
     let cut_length = ap length cut_now ∙ length-append (take behind (old ++ more)) (drop end old) in
     let put_length = ap length put_now ∙ length-append (take start old) (put ++ drop end old) in
     let same : length cut ≡ length (put_mid start (behind - start) cut put) =
-        omega (arith, cut_length, put_length, length-append put (drop end old), length-take-le behind (old ++ more) room_there, length-take-le start old (omega arith)) in
+    omega (arith, cut_length, put_length, length-append put (drop end old), length-take-le behind (old ++ more) room_there, length-take-le start old (omega arith)) in
     written (length cut) cut (put_mid start (behind - start) cut put) same ∙ put_now

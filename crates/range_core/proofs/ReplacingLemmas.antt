@@ -1,6 +1,5 @@
 -- What stands in the place of the touched runs after a set, and the whole list with it.
-use Rattle.std.proofs.Common.{ℕ, ◌≡◌, ◌≢◌, ◌+◌, ◌<◌, ◌≤◌, Bool, true, false, refl, ap, sym, ◌∙◌, Option, Some, None, List, [], ◌∷◌, ◌++◌, All, AllPairs, length, take, drop, get_or, subst, arith, inl, inr}
-use Rattle.std.specs.Prelude.{if◌then◌else◌}
+use Rattle.std.proofs.Common.{ℕ, ◌≡◌, ◌+◌, ◌<◌, ◌≤◌, false, refl, ap, sym, ◌∙◌, Option, Some, None, List, ◌++◌, All, AllPairs, length, take, drop, get_or, subst, arith, inl, inr}
 use Rattle.std.proofs.lemmas.Bool.{cases_lt, false≢true}
 use Rattle.std.proofs.lemmas.List.{length-append, get_or_append_left, get_or-append-add}
 use Rattle.std.specs.List.{between}
@@ -12,7 +11,7 @@ use Rattle.range_core.specs.Ranges.{Covers, IsApart, IsByteRange}
 use Rattle.range_core.specs.Changes.{is_covered, mode_in, SetsMode}
 use Rattle.range_core.specs.Replacing.{AreInOrder, AreTouched, own_run, IsLeftEnd, IsReplacement, IsRightEnd}
 use Rattle.range_core.proofs.EndLemmas.{All-own_run}
-use Rattle.range_core.proofs.ListLemmas.{AllPairs-append, AllPairs-few, AreOrderedParts, ordered_parts}
+use Rattle.range_core.proofs.ListLemmas.{AllPairs-append, AllPairs-few, ordered_parts}
 use Rattle.range_core.proofs.ModeLemmas.{cases_covers, is_covered-true, uncovered, mode_in-append, mode_in-none, mode_or, mode_or-None}
 
 -- the own run gives its mode to the bytes from its first to its last, and has two ends at most
@@ -73,27 +72,27 @@ replaced touched left right span mode first last range l r =
       modes = replaced_modes touched left right span mode first last range.0 l r;
       in_order = record {
         ranges = All-append InFile left (own ++ right)
-          (λ k d within. ((l.beside k d within).0, omega (arith, (l.beside k d within).1, r.within)))
-          (All-append InFile own right
-          (All-own_run InFile mode first last (λ m is. (ends, r.within)))
-          (λ k d within. (r.beside k d within).1));
+            (λ k d within. ((l.beside k d within).0, omega (arith, (l.beside k d within).1, r.within)))
+            (All-append InFile own right
+            (All-own_run InFile mode first last (λ m is. (ends, r.within)))
+            (λ k d within. (r.beside k d within).1));
         apart = AllPairs-append IsApart left (own ++ right) (AllPairs-few IsApart left l.single)
-          (AllPairs-append IsApart own right (AllPairs-few IsApart own (own_single mode first last)) (AllPairs-few IsApart right r.single)
-          (All-own_run (λ x. All (IsApart x) right) mode first last (λ m is k d within.
-          (omega (arith, (r.beside k d within).0), λ touch same. (r.beside k d within).2 (is ∙ ap Some same)))))
-          (λ i e inside. let x = l.beside i e inside in All-append (IsApart (get_or left i e)) own right
-          (All-own_run (IsApart (get_or left i e)) mode first last (λ m is.
-          (omega (arith, x.1), λ touch same. x.2 (is ∙ ap Some (sym same)))))
-          (λ k d within. (omega (arith, x.1, (r.beside k d within).0), λ touch. absurd (omega (arith, x.1, (r.beside k d within).0)))));
+            (AllPairs-append IsApart own right (AllPairs-few IsApart own (own_single mode first last)) (AllPairs-few IsApart right r.single)
+            (All-own_run (λ x. All (IsApart x) right) mode first last (λ m is k d within.
+            (omega (arith, (r.beside k d within).0), λ touch same. (r.beside k d within).2 (is ∙ ap Some same)))))
+            (λ i e inside. let x = l.beside i e inside in All-append (IsApart (get_or left i e)) own right
+            (All-own_run (IsApart (get_or left i e)) mode first last (λ m is.
+            (omega (arith, x.1), λ touch same. x.2 (is ∙ ap Some (sym same)))))
+            (λ k d within. (omega (arith, x.1, (r.beside k d within).0), λ touch. absurd (omega (arith, x.1, (r.beside k d within).0)))));
       };
       few = omega (arith, length-append left (own ++ right), length-append own right, own_single mode first last, l.few, r.single);
       before = λ run far all. let clear = l.apart run last far all in
-        All-append (IsApart run) left (own ++ right) clear.0 (All-append (IsApart run) own right clear.1
-        (λ k d within. (omega (arith, (r.beside k d within).0), λ touch. absurd (omega (arith, (r.beside k d within).0)))));
+          All-append (IsApart run) left (own ++ right) clear.0 (All-append (IsApart run) own right clear.1
+          (λ k d within. (omega (arith, (r.beside k d within).0), λ touch. absurd (omega (arith, (r.beside k d within).0)))));
       behind = λ run far all. let clear = r.apart run first far all in
-        All-append (λ x. IsApart x run) left (own ++ right)
-        (λ k d within. (omega (arith, (l.beside k d within).1), λ touch. absurd (omega (arith, (l.beside k d within).1))))
-        (All-append (λ x. IsApart x run) own right clear.1 clear.0);
+          All-append (λ x. IsApart x run) left (own ++ right)
+          (λ k d within. (omega (arith, (l.beside k d within).1), λ touch. absurd (omega (arith, (l.beside k d within).1))))
+          (All-append (λ x. IsApart x run) own right clear.1 clear.0);
     }
 
 -- what holds of each element of two lists in a row
@@ -121,26 +120,26 @@ set_between before touched behind put span mode in_order lower higher replacemen
     let rest_ranges = All-second InFile before (touched ++ behind) in_order.ranges in
     record {
       modes = λ byte.
-        mode_in-three before put behind byte
-        ∙ elim (cases_covers span byte) [
-          | inl covers ↦
-              let no_before : mode_in before byte ≡ None = mode_in-none before byte (λ k d within inside. omega (arith, lower k d within, inside.1, covers.0)) in
-              let no_behind : mode_in behind byte ≡ None = mode_in-none behind byte (λ k d within inside. omega (arith, higher k d within, inside.0, covers.1)) in
-              let put_mode = rw (is_covered-true span byte covers) at (replacement.modes byte) in
-              rw (no_before, no_behind, put_mode, is_covered-true span byte covers) (mode_or-None mode)
-          | inr outside ↦
-              let put_mode = rw outside at (replacement.modes byte) in
-              rw (put_mode, outside) (sym (mode_in-three before touched behind byte))
-        ];
+          mode_in-three before put behind byte
+          ∙ elim (cases_covers span byte) [
+            | inl covers ↦
+                let no_before : mode_in before byte ≡ None = mode_in-none before byte (λ k d within inside. omega (arith, lower k d within, inside.1, covers.0)) in
+                let no_behind : mode_in behind byte ≡ None = mode_in-none behind byte (λ k d within inside. omega (arith, higher k d within, inside.0, covers.1)) in
+                let put_mode = rw (is_covered-true span byte covers) at (replacement.modes byte) in
+                rw (no_before, no_behind, put_mode, is_covered-true span byte covers) (mode_or-None mode)
+            | inr outside ↦
+                let put_mode = rw outside at (replacement.modes byte) in
+                rw (put_mode, outside) (sym (mode_in-three before touched behind byte))
+          ];
       in_order = record {
         ranges = All-append InFile before (put ++ behind) (All-first InFile before (touched ++ behind) in_order.ranges)
-          (All-append InFile put behind replacement.in_order.ranges (All-second InFile touched behind rest_ranges));
+            (All-append InFile put behind replacement.in_order.ranges (All-second InFile touched behind rest_ranges));
         apart = AllPairs-append IsApart before (put ++ behind) rest.first
-          (AllPairs-append IsApart put behind replacement.in_order.apart last.second
-          (λ i d inside j e within. replacement.behind (get_or behind j e) (higher j e within) (λ k f there. last.across k f there j e within) i d inside))
-          (λ i d inside. All-append (IsApart (get_or before i d)) put behind
-          (replacement.before (get_or before i d) (lower i d inside) (All-first (IsApart (get_or before i d)) touched behind (rest.across i d inside)))
-          (All-second (IsApart (get_or before i d)) touched behind (rest.across i d inside)));
+            (AllPairs-append IsApart put behind replacement.in_order.apart last.second
+            (λ i d inside j e within. replacement.behind (get_or behind j e) (higher j e within) (λ k f there. last.across k f there j e within) i d inside))
+            (λ i d inside. All-append (IsApart (get_or before i d)) put behind
+            (replacement.before (get_or before i d) (lower i d inside) (All-first (IsApart (get_or before i d)) touched behind (rest.across i d inside)))
+            (All-second (IsApart (get_or before i d)) touched behind (rest.across i d inside)));
       };
     }
 

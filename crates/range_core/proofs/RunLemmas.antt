@@ -1,5 +1,5 @@
 -- The runs in a list that is in order are the runs of the modes that it gives, and the least byte that conflicts is found in them.
-use Rattle.std.proofs.Common.{ℕ, suc, ◌≡◌, ◌≢◌, ◌+◌, ◌-◌, ◌<◌, ◌≤◌, max, sym, refl, ◌∙◌, Option, Some, None, List, All, AllPairs, length, drop, get_or, ap, arith, ◌⊎◌, inl, inr}
+use Rattle.std.proofs.Common.{ℕ, ◌≡◌, ◌≢◌, ◌+◌, ◌-◌, ◌<◌, ◌≤◌, max, sym, refl, Option, Some, None, List, All, AllPairs, length, drop, get_or, arith, ◌⊎◌, inl, inr}
 use Rattle.std.specs.List.{AllWithin, between}
 use Rattle.std.specs.List.Sorted.{IsNonDecreasingBy}
 use Rattle.std.proofs.lemmas.Bool.{cases_lt}
@@ -12,7 +12,7 @@ use Rattle.range_core.specs.declared.Span.{Span}
 use Rattle.range_core.specs.Ranges.{Modes, Covers, Conflict, HeldConflicts, IsApart, IsByteRange, IsConstant, IsFirstHit, IsRun, AreRuns}
 use Rattle.range_core.specs.Changes.{mode_in}
 use Rattle.range_core.specs.Replacing.{AreInOrder}
-use Rattle.range_core.proofs.ModeLemmas.{IsHeldAt, held_at, mode_in-at, mode_in-none}
+use Rattle.range_core.proofs.ModeLemmas.{held_at, mode_in-at, mode_in-none}
 
 -- a range of one mode round the byte is the largest where the bytes before it and after it have another mode or none
 pub IsRun_between : (modes : Modes) (byte : ℕ) (mode : Mode) (span : Span) → Covers span byte → IsConstant modes span mode → ((other : ℕ) → other + 1 ≡ span.first → modes other ≢ Some mode) → modes (span.last + 1) ≢ Some mode → IsRun modes byte mode span
@@ -77,9 +77,9 @@ AreRuns_in_order runs ranges apart = record {
   rising = λ i j d before within. (apart i j d before within).0;
   each = λ k d within. IsRun_at runs k d (get_or runs k d).1.first ranges apart within (omega arith, (ranges k d within).0);
   every = λ byte mode has.
-    let blank : Mode × Span = (mode, record { first = 0; last = 0 }) in
-    let (k, held) = held_at runs blank byte mode has in
-    (k, get_or runs k blank, held.within, get_or_default runs k (get_or runs k blank) blank held.within, (held.mode_is, held.covers));
+      let blank : Mode × Span = (mode, record { first = 0; last = 0 }) in
+      let (k, held) = held_at runs blank byte mode has in
+      (k, get_or runs k blank, held.within, get_or_default runs k (get_or runs k blank) blank held.within, (held.mode_is, held.covers));
 }
 
 -- what conflicts is a mode
@@ -143,8 +143,8 @@ IsFirstHit_at runs start k d span against ranges apart before between within rea
       covered = (omega arith, omega arith);
       hit = rw has conflict;
       least = λ byte from less.
-        let lower : byte < run.1.first = omega arith in
-        unhit runs start k span.first byte against before between (begins_from runs k d byte ranges apart within lower) from;
+          let lower : byte < run.1.first = omega arith in
+          unhit runs start k span.first byte against before between (begins_from runs k d byte ranges apart within lower) from;
     }
 
 -- no run covers a byte behind the runs before a place, where the run there, if there is one, begins behind it
@@ -176,6 +176,6 @@ in_order_between runs start end ranges apart within =
     record {
       ranges = All-take InFile (end - start) (drop start runs) (All-drop InFile start runs ranges);
       apart = λ i j d less inside.
-        rw (get_or-between runs start end i d (omega arith), get_or-between runs start end j d (omega arith))
-        (apart (start + i) (start + j) d (omega arith) (omega arith));
+          rw (get_or-between runs start end i d (omega arith), get_or-between runs start end j d (omega arith))
+          (apart (start + i) (start + j) d (omega arith) (omega arith));
     }

@@ -167,7 +167,9 @@ impl RangeList {
         ensures bound { result ≤ length self.now.runs.items }
         ensures parts { IsPartitionPoint (λ run. run.1.last < byte) (λ run. byte ≤ run.1.last) self.now.runs.items result }
     {
-        self.runs.as_slice().partition_point(|run| run.1.last < byte)
+        self.runs
+            .as_slice()
+            .partition_point(|run| run.1.last < byte)
     }
 
     /// How many runs begin at the byte or before it.
@@ -175,6 +177,8 @@ impl RangeList {
         ensures bound { result ≤ length self.now.runs.items }
         ensures parts { IsPartitionPoint (λ run. run.1.first ≤ byte) (λ run. byte < run.1.first) self.now.runs.items result }
     {
-        self.runs.as_slice().partition_point(|run| run.1.first <= byte)
+        self.runs
+            .as_slice()
+            .partition_point(|run| run.1.first <= byte)
     }
 }

@@ -44,11 +44,7 @@ fn joins(mode: Option<Mode>, held: Mode) -> bool
 }
 
 /// Where the set's own run begins, and the piece of the first touched run that stays before it.
-fn left_end(
-    touched: &[(Mode, Span)],
-    span: Span,
-    mode: Option<Mode>,
-) -> (u64, Option<(Mode, Span)>)
+fn left_end(touched: &[(Mode, Span)], span: Span, mode: Option<Mode>) -> (u64, Option<(Mode, Span)>)
     requires span { IsByteRange span }
     requires in_order { AreInOrder touched.now }
     requires touched { All (Touches span) touched.now }

@@ -5,12 +5,7 @@ use crate::{Mode, Span};
 use smallvec::SmallVec;
 
 /// Puts these runs in the place of those from `start` up to `end`, in room that is there. The runs behind them move once.
-pub fn splice(
-    runs: &mut SmallVec<(Mode, Span), 4>,
-    start: usize,
-    end: usize,
-    put: &[(Mode, Span)],
-)
+pub fn splice(runs: &mut SmallVec<(Mode, Span), 4>, start: usize, end: usize, put: &[(Mode, Span)])
     requires ordered { start ≤ end }
     requires within { end ≤ small_vec_len runs.old }
     requires room { small_vec_len runs.old + length put.now ≤ runs.old.capacity + (end - start) }

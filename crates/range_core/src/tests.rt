@@ -120,10 +120,7 @@ fn lists_the_runs(rt: HostRuntime) -> Result<(), Fail> {
     ];
     assert_eq!(rt; list.runs(), apart.as_slice());
     list.set(bytes(10, 19), Some(Mode::Read))?;
-    let joined = [
-        (Mode::Read, bytes(0, 29)),
-        (Mode::Write, bytes(30, OFFMAX)),
-    ];
+    let joined = [(Mode::Read, bytes(0, 29)), (Mode::Write, bytes(30, OFFMAX))];
     assert_eq!(rt; list.runs(), joined.as_slice());
     Ok(())
 }
@@ -186,12 +183,24 @@ fn assert_same_near(rt: &impl Abort, list: &RangeList, changes: &ChangeList, end
     requires { end ≤ OFFMAX }
 {
     for byte in end.saturating_sub(2)..=(end + 2).min(OFFMAX) {
-        assert_eq!(rt; list.mode_at(byte), changes.mode_at(byte), "the mode at {byte}");
-        assert_eq!(rt; list.run_at(byte), changes.run_at(byte), "the run at {byte}");
+        assert_eq!(rt;
+            list.mode_at(byte),
+            changes.mode_at(byte),
+            "the mode at {byte}"
+        );
+        assert_eq!(rt;
+            list.run_at(byte),
+            changes.run_at(byte),
+            "the run at {byte}"
+        );
         for against in [Mode::Read, Mode::Write] {
             let span = bytes(byte, (byte + 20).min(OFFMAX));
             let hit = changes.first_hit(span, against);
-            assert_eq!(rt; list.first_hit(span, against), hit, "the first hit from {byte}");
+            assert_eq!(rt;
+                list.first_hit(span, against),
+                hit,
+                "the first hit from {byte}"
+            );
         }
     }
 }

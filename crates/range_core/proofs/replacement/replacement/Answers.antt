@@ -12,8 +12,8 @@ returns c =
     let own = own_run c.args.mode c.left_end-first.result.0 c.right_end-last.result.0 in
     let all : c.loop-run.run-index ≡ 3 = omega arith in
     let items : c.loop-run.put.items ≡ left ++ (own ++ right) =
-        rw all at c.loop-run.invariant
-        ∙ ap (λ runs. left ++ (runs ++ (right ++ []))) c.own_run.ensures
-        ∙ ap (λ runs. left ++ (own ++ runs)) (append-nil right) in
+    rw all at c.loop-run.invariant
+    ∙ ap (λ runs. left ++ (runs ++ (right ++ []))) c.own_run.ensures
+    ∙ ap (λ runs. left ++ (own ++ runs)) (append-nil right) in
     subst (λ put. IsReplacement c.args.touched.now c.args.span c.args.mode put) (sym items)
     (replaced c.args.touched.now left right c.args.span c.args.mode c.left_end-first.result.0 c.right_end-last.result.0 c.requires.span c.left_end-first.ensures c.right_end-last.ensures)

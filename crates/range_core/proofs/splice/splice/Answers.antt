@@ -12,9 +12,9 @@ returns-clause-items c =
     let behind = c.args.start + length put in
     let grown_is : c.extend_from_slice.new.self.items ≡ old ++ more = rw c.unwrap.ensures at c.extend_from_slice.ensures.ok in
     let copied_is : c.copy_within.new.self ≡ copy_within c.extend_from_slice.new.self.items c.args.end (length old) behind =
-        c.copy_within.ensures.after
-        ∙ ap (λ n. copy_within c.as_mut_slice.result.now c.args.end n behind) c.len-old_len.ensures.value
-        ∙ ap (λ l. copy_within l c.args.end (length old) behind) c.as_mut_slice.ensures.value in
+    c.copy_within.ensures.after
+    ∙ ap (λ n. copy_within c.as_mut_slice.result.now c.args.end n behind) c.len-old_len.ensures.value
+    ∙ ap (λ l. copy_within l c.args.end (length old) behind) c.as_mut_slice.ensures.value in
     let added = length-append old more in
     let some = length-take-le c.saturating_sub-grown.result put (omega arith) in
     let grown_length = ap length grown_is in

@@ -1,5 +1,5 @@
 use Rattle.range_core.specs.Changes.{modes_of}
-use Rattle.range_core.proofs.ReplacingLemmas.{IsSet, set_at}
+use Rattle.range_core.proofs.ReplacingLemmas.{set_at}
 use Rattle.range_core.proofs.list.RangeList.set_reserved.Goals as goal
 
 pub returns-clause-modes : goal.returns-clause-modes

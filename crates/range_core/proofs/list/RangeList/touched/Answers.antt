@@ -1,4 +1,4 @@
-use Rattle.std.proofs.Common.{ℕ, ◌+◌, ◌<◌, arith}
+use Rattle.std.proofs.Common.{◌+◌, ◌<◌, arith}
 use Rattle.range_core.specs.declared.Mode.{Mode}
 use Rattle.range_core.specs.declared.Span.{Span}
 use Rattle.range_core.specs.Replacing.{Touches}
@@ -18,8 +18,8 @@ returns c =
       ordered = start_before_end runs c.ending_from-start.result c.beginning_after-end.result c.saturating_sub.result (span.last + 1) list.ranges c.ending_from-start.ensures.bound (omega (arith, c.requires.0)) ends.0 begins.1;
       within = c.beginning_after-end.ensures.bound;
       before = All-take_within (λ (run : Mode × Span). run.1.last + 1 < span.first) runs c.ending_from-start.result c.ending_from-start.ensures.bound
-        (λ k d from less. omega (arith, ends.0 k d from less));
+          (λ k d from less. omega (arith, ends.0 k d from less));
       between = All-between_within (Touches span) runs c.ending_from-start.result c.beginning_after-end.result c.beginning_after-end.ensures.bound
-        (λ k d from less. (omega (arith, ends.1 k d from (omega arith)), begins.0 k d (omega arith) less));
+          (λ k d from less. (omega (arith, ends.1 k d from (omega arith)), begins.0 k d (omega arith) less));
       behind = All-drop_within (λ (run : Mode × Span). span.last + 1 < run.1.first) runs c.beginning_after-end.result begins.1;
     }
