@@ -17,7 +17,8 @@ use Rattle.lock_book.specs.declared.Owner.TheVariants.{Process}
 use Rattle.lock_book.specs.declared.book.Book.{Book}
 use Rattle.lock_book.specs.Owners.{is_same_owner, IsBefore}
 use Rattle.lock_book.specs.Conflicts.{ByteModes, Blocks, ByteConflict, ProcessBlocks, IsFirstBlocked}
-use Rattle.lock_book.specs.Books.{list_of, byte_modes_of, modes_in_list}
+use Rattle.lock_book.specs.Books.{list_of, byte_modes_of}
+use Rattle.lock_book.specs.OwnerLists.{modes_in_list}
 use Rattle.range_core.specs.Changes.{modes_of}
 use Rattle.lock_book.proofs.BookLemmas.{list_of-get, byte_modes_of-list}
 use Rattle.lock_book.proofs.ListLemmas.{Any-append_left}

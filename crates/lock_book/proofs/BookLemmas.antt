@@ -1,18 +1,22 @@
-use Rattle.std.proofs.Common.{ℕ, ◌≡◌, ◌≢◌, ◌==◌, ◌∙◌, sym, ap, refl, subst, true, false, cond, Option, Some, None, Result, Ok, Err, inl, inr}
+use Rattle.std.proofs.Common.{ℕ, ◌≡◌, ◌≢◌, ◌==◌, ◌∙◌, sym, ap, refl, subst, true, false, cond, Bool, arith, ◌≤◌, ◌+◌, Option, Some, None, Result, Ok, Err, inl, inr, List}
 use Rattle.std.specs.Prelude.{if◌then◌else◌, ◌||◌, is_some, is_ok, OnOk, OnErr, IsTrue}
 use Rattle.std.specs.Ordering.{nat_cmp}
 use Rattle.std.specs.Option.{option_copied, option_copied_mut, IsSome}
 use Rattle.std.specs.BTreeMap.{BTreeMap, UpdatesBy, WritesThrough, get}
 use Rattle.std.specs.Borrow.{Bor, MutBor}
+use Rattle.std.proofs.lemmas.Bool.Decides.{nat_tests}
 use Rattle.std.proofs.lemmas.Bool.{cases_Bool, eqb-true}
 use Rattle.range_core.specs.declared.Mode.{Mode}
 use Rattle.range_core.specs.declared.Span.{Span}
 use Rattle.range_core.specs.declared.list.RangeList.{RangeList}
 use Rattle.range_core.specs.Changes.{modes_of, room_of, is_covered, SetsMode}
+use Rattle.range_core.specs.Ranges.{Modes, IsByteRange}
 use Rattle.lock_book.specs.declared.Owner.{Owner}
 use Rattle.lock_book.specs.declared.book.Book.{Book}
 use Rattle.lock_book.specs.Owners.{is_same_owner}
-use Rattle.lock_book.specs.Books.{list_of, place_of, byte_modes_of, room_in, flock_modes_of, has_flock_place, modes_in_list, room_in_list, SameBook, SameButRoom, SetsOwnerMode, ReleasesOwner, SetsFlock, ReservesFlock, ReleasesFlock}
+use Rattle.lock_book.specs.Books.{list_of, place_of, byte_modes_of, room_in, flock_modes_of, has_flock_place, SameBook, SameButRoom, SetsOwnerMode, ReleasesOwner, SetsFlock, ReservesFlock, ReleasesFlock}
+use Rattle.lock_book.specs.OwnerLists.{modes_in_list, room_in_list, IsIdle, AreInUse}
+use Rattle.lock_book.specs.declared.book.holders.FlockHolders.{FlockHolders}
 use Rattle.lock_book.specs.Holders.{place_among, mode_in_place, PutsAmong}
 use Rattle.std.specs.Map.{lookup}
 use Rattle.lock_book.proofs.OwnerLemmas.{owner_cmp, is_eq-owner_cmp, lookup-owner_cmp, lookup-nat_cmp, same_owner, is_same_owner-self}
@@ -25,6 +29,11 @@ OnOk-at_ok (Err e) ok holds = absurd (let h : false ≡ true = ok in cc)
 pub OnErr-at_err : {T E P : Type 0} (r : Result T E) → is_ok r ≡ false → OnErr r P → P
 OnErr-at_err (Ok x) err holds = absurd (let h : true ≡ false = err in cc)
 OnErr-at_err (Err e) err holds = holds
+
+-- what holds anyhow holds on a failure
+pub OnErr-anyhow : {T E P : Type 0} (r : Result T E) → P → OnErr r P
+OnErr-anyhow (Ok x) holds = tt
+OnErr-anyhow (Err e) holds = holds
 
 -- what a book keeps is what its maps have
 pub list_of-get : (book : Book) (owner : Owner) → list_of book owner ≡ get owner_cmp book.owners owner
@@ -73,21 +82,29 @@ pub record PutsPlace (old new : Book) (description : ℕ) (place : Option (Optio
   pub lists : (owner : Owner) → list_of new owner ≡ list_of old owner
   pub places : (other : ℕ) → place_of new other ≡ (if description == other then place else place_of old other)
 
--- an update of a map is one of the book
-pub PutsList-updates : (old : Book) (owners : BTreeMap Owner RangeList) (owner : Owner) (list : Option RangeList) → UpdatesBy owner_cmp (owner_cmp owner) old.owners owners list → PutsList old (record old { owners = owners }) owner list
-unfolding place_of
-PutsList-updates old owners owner list updates = record {
-  lists = λ other.
-      list_of-get (record old { owners = owners }) other ∙ updates.0 other
-      ∙ ap (λ b. cond b list (get owner_cmp old.owners other)) (is_eq-owner_cmp owner other)
-      ∙ ap (λ o. cond (is_same_owner owner other) list o) (sym (list_of-get old other));
-  places = λ description. refl;
-}
+-- these owners have this list in the place of the owner's in a book
+abbrev pub PutsAt : Book → BTreeMap Owner RangeList → Owner → Option RangeList → Type 0
+PutsAt old owners owner list = (other : Owner) → lookup (is_same_owner other) owners.entries ≡ (if is_same_owner owner other then list else list_of old other)
 
--- also of the map that is left where it lent nothing
-pub PutsList-adds : (old : Book) (was owners : BTreeMap Owner RangeList) (owner : Owner) (list : Option RangeList) → was ≡ old.owners → UpdatesBy owner_cmp (owner_cmp owner) was owners list → PutsList old (record old { owners = owners }) owner list
-PutsList-adds old was owners owner list same updates =
-    PutsList-updates old owners owner list (subst (λ (m : BTreeMap Owner RangeList). UpdatesBy owner_cmp (owner_cmp owner) m owners list) same updates)
+-- as an update of a book's owners makes them
+pub PutsAt-updates : (old : Book) (owners : BTreeMap Owner RangeList) (owner : Owner) (list : Option RangeList) → UpdatesBy owner_cmp (owner_cmp owner) old.owners owners list → PutsAt old owners owner list
+PutsAt-updates old owners owner list updates other =
+    sym (lookup-owner_cmp other owners.entries) ∙ updates.0 other
+    ∙ ap (λ b. cond b list (get owner_cmp old.owners other)) (is_eq-owner_cmp owner other)
+    ∙ ap (λ o. cond (is_same_owner owner other) list o) (sym (list_of-get old other))
+
+-- also of the owners that are left where they lent nothing
+pub PutsAt-adds : (old : Book) (was owners : BTreeMap Owner RangeList) (owner : Owner) (list : Option RangeList) → was ≡ old.owners → UpdatesBy owner_cmp (owner_cmp owner) was owners list → PutsAt old owners owner list
+PutsAt-adds old was owners owner list same updates =
+    PutsAt-updates old owners owner list (subst (λ (m : BTreeMap Owner RangeList). UpdatesBy owner_cmp (owner_cmp owner) m owners list) same updates)
+
+-- in a book with these owners
+pub PutsList-puts : (old new : Book) (owner : Owner) (list : Option RangeList) → new.flocks ≡ old.flocks → PutsAt old new.owners owner list → PutsList old new owner list
+unfolding list_of place_of
+PutsList-puts old new owner list same puts = record {
+  lists = puts;
+  places = λ description. ap (λ (f : FlockHolders). place_among f.places.entries description) same;
+}
 
 -- the list that a map lends is the owner's
 pub list_of-lent : (book : Book) (owner : Owner) (lent : Option (MutBor RangeList)) (list : MutBor RangeList) → option_copied_mut lent ≡ get owner_cmp book.owners owner → lent ≡ Some list → list_of book owner ≡ Some list.now
@@ -108,12 +125,75 @@ unfolding byte_modes_of
 byte_modes_of-list book owner list is = ap modes_in_list is
 
 -- and a write through it puts a list in its place
-pub PutsList-writes : (old : Book) (owners : BTreeMap Owner RangeList) (owner : Owner) (before list : RangeList) → WritesThrough owner_cmp (owner_cmp owner) old.owners list owners → list_of old owner ≡ Some before → PutsList old (record old { owners = owners }) owner (Some list)
-PutsList-writes old owners owner before list writes was =
+pub PutsAt-writes : (old : Book) (owners : BTreeMap Owner RangeList) (owner : Owner) (before list : RangeList) → WritesThrough owner_cmp (owner_cmp owner) old.owners list owners → list_of old owner ≡ Some before → PutsAt old owners owner (Some list)
+PutsAt-writes old owners owner before list writes was =
     let there : IsSome (get owner_cmp old.owners owner) = rw (sym (list_of-get old owner) ∙ was) refl in
-    PutsList-updates old owners owner (Some list) (writes.3 there)
+    PutsAt-updates old owners owner (Some list) (writes.3 there)
 
--- so is one of the places of flock locks
+-- which a removal takes away
+update_removed : (same : Bool) (list rest : Option RangeList) → cond same None (cond same list rest) ≡ cond same None rest
+update_removed true list rest = refl
+update_removed false list rest = refl
+
+pub PutsAt-removes : (old : Book) (owners removed : BTreeMap Owner RangeList) (owner : Owner) (list : Option RangeList) → PutsAt old owners owner list → UpdatesBy owner_cmp (owner_cmp owner) owners removed None → PutsAt old removed owner None
+PutsAt-removes old owners removed owner list puts updates other =
+    sym (lookup-owner_cmp other removed.entries) ∙ updates.0 other
+    ∙ ap (λ b. cond b None (get owner_cmp owners other)) (is_eq-owner_cmp owner other)
+    ∙ ap (λ o. cond (is_same_owner owner other) None o) (lookup-owner_cmp other owners.entries ∙ puts other)
+    ∙ update_removed (is_same_owner owner other) list (list_of old other)
+
+-- each owner with a list still uses it, where the one whose list was put does
+pub AreInUse-puts : (old : Book) (owners : BTreeMap Owner RangeList) (owner : Owner) (after : Option RangeList) → PutsAt old owners owner after → ((list : RangeList) → after ≡ Some list → ¬ IsIdle list) → AreInUse owners.entries
+unfolding list_of
+AreInUse-puts old owners owner after puts uses other list found = elim (cases_Bool (is_same_owner owner other)) [
+  | inl same ↦
+      (let there : after ≡ Some list = ap (λ b. cond b after (list_of old other)) (sym same) ∙ sym (puts other) ∙ found in
+      uses list there)
+  | inr apart ↦
+      (let there : list_of old other ≡ Some list = ap (λ b. cond b after (list_of old other)) (sym apart) ∙ sym (puts other) ∙ found in
+      old.in_use other list there)
+]
+
+same_list : (one other : RangeList) → Some one ≡ Some other → one ≡ other
+same_list one other e = cc
+
+pub AreInUse-list : (old : Book) (owners : BTreeMap Owner RangeList) (owner : Owner) (list : RangeList) → PutsAt old owners owner (Some list) → ¬ IsIdle list → AreInUse owners.entries
+AreInUse-list old owners owner list puts used = AreInUse-puts old owners owner (Some list) puts (λ other e. subst (λ (l : RangeList). ¬ IsIdle l) (same_list list other e) used)
+
+pub AreInUse-removed : (old : Book) (owners : BTreeMap Owner RangeList) (owner : Owner) → PutsAt old owners owner None → AreInUse owners.entries
+AreInUse-removed old owners owner puts = AreInUse-puts old owners owner None puts (λ list e. absurd (let h : None ≡ Some list = e in cc))
+
+-- also where an insertion may have been refused
+pub AreInUse-insert : {T E : Type 0} (old : Book) (was owners : BTreeMap Owner RangeList) (owner : Owner) (list : RangeList) (r : Result T E) → was ≡ old.owners → OnOk r (UpdatesBy owner_cmp (owner_cmp owner) was owners (Some list)) → OnErr r (owners.entries ≡ was.entries) → ¬ IsIdle list → AreInUse owners.entries
+AreInUse-insert old was owners owner list (Ok x) same updates kept used = AreInUse-list old owners owner list (PutsAt-adds old was owners owner (Some list) same updates) used
+AreInUse-insert old was owners owner list (Err e) same updates kept used =
+    let entries : owners.entries ≡ old.owners.entries = kept ∙ ap (λ (m : BTreeMap Owner RangeList). m.entries) same in
+    λ other there found. old.in_use other there (ap (λ (es : List (Owner × RangeList)). lookup (is_same_owner other) es) (sym entries) ∙ found)
+
+-- a list of a book is in use, and so is one with no fewer modes and no less room
+pub still_in_use : (book : Book) (owner : Owner) (before list : RangeList) → list_of book owner ≡ Some before → ((byte : ℕ) → modes_of list byte ≡ modes_of before byte) → room_of before ≤ room_of list → ¬ IsIdle list
+unfolding list_of
+still_in_use book owner before list was modes room idle =
+    let empty = idle.no_room in
+    book.in_use owner before was (record { free = λ byte. sym (modes byte) ∙ idle.free byte; no_room = omega arith })
+
+-- the first byte of a range is in it
+covers_first : (span : Span) → IsByteRange span → is_covered span span.first ≡ true
+covers_first span range = grind (arith, nat_tests)
+
+-- one with room, or with a mode on some range, is in use
+pub in_use_by_room : (list : RangeList) → 1 ≤ room_of list → ¬ IsIdle list
+in_use_by_room list room idle = let empty = idle.no_room in omega arith
+
+pub in_use_by_mode : (old : Modes) (list : RangeList) (span : Span) (mode : Option Mode) → IsByteRange span → is_some mode ≡ true → SetsMode old (modes_of list) span mode → ¬ IsIdle list
+in_use_by_mode old list span None range some sets idle = let h : false ≡ true = some in cc
+in_use_by_mode old list span (Some mode) range some sets idle =
+    let covered : is_covered span span.first ≡ true = covers_first span range in
+    let there : modes_of list span.first ≡ Some mode = sets span.first ∙ ap (λ b. cond b (Some mode) (old span.first)) covered in
+    let h : None ≡ Some mode = sym (idle.free span.first) ∙ there in
+    cc
+
+-- so is an update of the places of flock locks
 pub PutsPlace-puts : (old new : Book) (description : ℕ) (place : Option (Option Mode)) → new.owners ≡ old.owners → PutsAmong old.flocks.places.entries new.flocks.places.entries description place → PutsPlace old new description place
 unfolding list_of place_of
 PutsPlace-puts old new description place same puts = record {
@@ -136,17 +216,24 @@ pub room_in-list : (book : Book) (owner : Owner) (list : Option RangeList) → l
 unfolding room_in
 room_in-list book owner list is = ap room_in_list is
 
+-- the room that is left where a list was put
+pub room_left : (old new : Book) (owner : Owner) (before after : Option RangeList) (used : ℕ) → PutsList old new owner after → list_of old owner ≡ before → room_in_list before ≤ room_in_list after + used → room_in old owner ≤ room_in new owner + used
+room_left old new owner before after used puts was room =
+    let left = room_in-puts old new owner after puts in
+    let had = room_in-list old owner before was in
+    omega arith
+
 -- a list put for the owner that has the mode on just the range sets it in the book
-pub SetsOwnerMode-puts : (old new : Book) (owner : Owner) (before : Option RangeList) (list : RangeList) (span : Span) (mode : Option Mode) → PutsList old new owner (Some list) → list_of old owner ≡ before → SetsMode (modes_in_list before) (modes_of list) span mode → SetsOwnerMode old new owner span mode
+pub SetsOwnerMode-puts : (old new : Book) (owner : Owner) (before after : Option RangeList) (span : Span) (mode : Option Mode) → PutsList old new owner after → list_of old owner ≡ before → SetsMode (modes_in_list before) (modes_in_list after) span mode → SetsOwnerMode old new owner span mode
 unfolding byte_modes_of room_in flock_modes_of has_flock_place
-SetsOwnerMode-puts old new owner before list span mode puts was sets = record {
+SetsOwnerMode-puts old new owner before after span mode puts was sets = record {
   bytes = λ other byte. elim (cases_Bool (is_same_owner owner other)) [
     | inl same ↦
         let there : list_of old other ≡ before = ap (list_of old) (sym (same_owner owner other same)) ∙ was in
         rw (puts.lists other, same, there) (sets byte)
     | inr apart ↦ rw (puts.lists other, apart) refl
   ];
-  rooms = λ other different. ap room_in_list (list_apart old new owner other (Some list) puts different);
+  rooms = λ other different. ap room_in_list (list_apart old new owner other after puts different);
   flocks = λ description. ap mode_in_place (puts.places description);
   places = λ description. ap is_some (puts.places description);
 }
@@ -169,10 +256,16 @@ sets_nothing book owner span mode none unlock = record {
   places = λ description. refl;
 }
 
-pub SetsOwnerMode-nothing : (old : Book) (owners : BTreeMap Owner RangeList) (owner : Owner) (span : Span) (mode : Option Mode) → owners ≡ old.owners → list_of old owner ≡ None → mode ≡ None → SetsOwnerMode old (record old { owners = owners }) owner span mode
-SetsOwnerMode-nothing old owners owner span mode same none unlock =
-    subst (λ (m : BTreeMap Owner RangeList). SetsOwnerMode old (record old { owners = m }) owner span mode) (sym same)
-    (sets_nothing old owner span mode none unlock)
+-- a book with the same parts is the same for each definition
+pub SetsOwnerMode-nothing : (old new : Book) (owner : Owner) (span : Span) (mode : Option Mode) → new.owners ≡ old.owners → new.flocks ≡ old.flocks → list_of old owner ≡ None → mode ≡ None → SetsOwnerMode old new owner span mode
+unfolding byte_modes_of room_in flock_modes_of has_flock_place list_of place_of
+SetsOwnerMode-nothing old new owner span mode owners flocks none unlock =
+    let nothing = sets_nothing old owner span mode none unlock in record {
+      bytes = λ other byte. ap (λ (m : BTreeMap Owner RangeList). modes_in_list (lookup (is_same_owner other) m.entries) byte) owners ∙ nothing.bytes other byte;
+      rooms = λ other different. ap (λ (m : BTreeMap Owner RangeList). room_in_list (lookup (is_same_owner other) m.entries)) owners;
+      flocks = λ description. ap (λ (f : FlockHolders). mode_in_place (place_among f.places.entries description)) flocks;
+      places = λ description. ap (λ (f : FlockHolders). is_some (place_among f.places.entries description)) flocks;
+    }
 
 -- one with the same modes changes the owner's room alone
 pub SameButRoom-puts : (old new : Book) (owner : Owner) (before : Option RangeList) (list : RangeList) → PutsList old new owner (Some list) → list_of old owner ≡ before → ((byte : ℕ) → modes_of list byte ≡ modes_in_list before byte) → SameButRoom old new owner
@@ -275,8 +368,8 @@ ReleasesFlock-puts old new description puts = record {
 }
 
 -- what a map's removal leaves
-pub owner_released : (old : Book) (owners : BTreeMap Owner RangeList) (owner : Owner) → UpdatesBy owner_cmp (owner_cmp owner) old.owners owners None → ReleasesOwner old (record old { owners = owners }) owner
-owner_released old owners owner updates = ReleasesOwner-puts _ _ _ (PutsList-updates old owners owner None updates)
+pub owner_released : (old new : Book) (owner : Owner) → new.flocks ≡ old.flocks → UpdatesBy owner_cmp (owner_cmp owner) old.owners new.owners None → ReleasesOwner old new owner
+owner_released old new owner same updates = ReleasesOwner-puts _ _ _ (PutsList-puts old new owner None same (PutsAt-updates old new.owners owner None updates))
 
 pub flock_released : (old new : Book) (description : ℕ) → new.owners ≡ old.owners → PutsAmong old.flocks.places.entries new.flocks.places.entries description None → ReleasesFlock old new description
 flock_released old new description same puts = ReleasesFlock-puts _ _ _ (PutsPlace-puts old new description None same puts)

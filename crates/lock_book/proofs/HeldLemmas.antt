@@ -16,7 +16,8 @@ use Rattle.lock_book.specs.Owners.{IsBefore}
 use Rattle.lock_book.specs.Changes.{whole_file}
 use Rattle.lock_book.specs.Conflicts.{ByteModes, FlockModes}
 use Rattle.lock_book.specs.Reports.{AreByteLocks, AreFlockLocks, AddsOwnerLocks, IsFlockLine}
-use Rattle.lock_book.specs.Books.{list_of, byte_modes_of, flock_modes_of, modes_in_list}
+use Rattle.lock_book.specs.Books.{list_of, byte_modes_of, flock_modes_of}
+use Rattle.lock_book.specs.OwnerLists.{modes_in_list}
 use Rattle.lock_book.proofs.BlockLemmas.{Item, owner_in}
 use Rattle.lock_book.proofs.OwnerLemmas.{IsBefore-same}
 use Rattle.lock_book.proofs.FlockLemmas.{Place, flock_in}

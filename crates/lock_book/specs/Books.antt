@@ -1,30 +1,20 @@
 -- What a `Book` stands for, and what its calls change (the words are this project's choice).
-use Rattle.std.specs.Prelude.{◌≡◌, ◌≢◌, ℕ, ◌==◌, ◌&&◌, ◌||◌, if◌then◌else◌, Bool, false, Option, Some, None, is_some}
+use Rattle.std.specs.Prelude.{◌≡◌, ◌≢◌, ℕ, ◌==◌, ◌&&◌, ◌||◌, if◌then◌else◌, Bool, false, Option, None, is_some}
 use Rattle.std.specs.Map.{lookup}
 use Rattle.range_core.specs.declared.Mode.{Mode}
 use Rattle.range_core.specs.declared.Span.{Span}
 use Rattle.range_core.specs.declared.list.RangeList.{RangeList}
-use Rattle.range_core.specs.Ranges.{Modes}
-use Rattle.range_core.specs.Changes.{modes_of, room_of, is_covered}
+use Rattle.range_core.specs.Changes.{is_covered}
 use Rattle.lock_book.specs.declared.Owner.{Owner}
 use Rattle.lock_book.specs.declared.book.Book.{Book}
 use Rattle.lock_book.specs.Owners.{is_same_owner}
+use Rattle.lock_book.specs.OwnerLists.{modes_in_list, room_in_list}
 use Rattle.lock_book.specs.Conflicts.{ByteModes, FlockModes}
 use Rattle.lock_book.specs.Holders.{place_among, mode_in_place}
 
 -- the list of modes that a book keeps for the owner
 unfoldable pub list_of : Book → Owner → Option RangeList
 list_of book owner = lookup (is_same_owner owner) book.owners.entries
-
--- the modes of an owner's list, and none on any byte without one
-abbrev pub modes_in_list : Option RangeList → Modes
-modes_in_list None = λ byte. None
-modes_in_list (Some list) = modes_of list
-
--- the room of an owner's list, and none without one
-abbrev pub room_in_list : Option RangeList → ℕ
-room_in_list None = 0
-room_in_list (Some list) = room_of list
 
 -- the byte locks that a book stands for
 unfoldable pub byte_modes_of : Book → ByteModes

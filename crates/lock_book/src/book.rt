@@ -1,5 +1,5 @@
 ghost use Rattle.std.specs.Prelude.{ℕ, ◌≡◌, None, false};
-ghost use Rattle.lock_book.specs.Books.{byte_modes_of, room_in, flock_modes_of, has_flock_place};
+ghost use Rattle.lock_book.specs.OwnerLists.{AreInUse};
 
 mod blocking;
 mod bytes;
@@ -22,9 +22,12 @@ pub struct Book {
     owners: BTreeMap<Owner, RangeList>,
     flocks: FlockHolders,
     alloc: Global,
+    ghost in_use: { AreInUse owners.entries },
 }
 
 impl Book {
+    ghost use Rattle.lock_book.specs.Books.{byte_modes_of, room_in, flock_modes_of, has_flock_place};
+
     /// No lock, no room and no place. It takes no memory.
     pub fn new(alloc: Global) -> Book
         ensures bytes { (owner : Owner) (byte : ℕ) → byte_modes_of result owner byte ≡ None }

@@ -1,5 +1,6 @@
-ghost use Rattle.std.specs.Prelude.{◌≡◌, ◌≤◌, ◌+◌, IsOk, OnOk, OnErr};
+ghost use Rattle.std.specs.Prelude.{◌≡◌, ◌≤◌, ◌+◌, ◌↔◌, IsTrue, IsOk, OnOk, OnErr};
 ghost use Rattle.range_core.specs.Ranges.{IsByteRange};
+ghost use Rattle.lock_book.specs.OwnerLists.{IsIdle};
 ghost use Rattle.lock_book.specs.Books.{room_in, ReleasesOwner, SameBook, SameButRoom, SetsOwnerMode};
 
 use super::Book;
@@ -18,15 +19,21 @@ impl Book {
         ensures err { OnErr result (SameBook self.old self.new) }
     {
         match self.owners.get_mut(&owner) {
-            Some(list) => list.set(span, mode),
+            Some(list) => {
+                list.set(span, mode)?;
+                if is_idle(list) {
+                    self.owners.remove(&owner);
+                }
+                Ok(())
+            }
             None => {
                 // Without a list there is nothing to unlock.
                 if mode.is_none() {
                     return Ok(());
                 }
-                let mut list = RangeList::new(self.alloc);
-                list.set(span, mode)?;
-                self.owners.insert(owner, list).map_err(|_| Memory)?;
+                let mut added = RangeList::new(self.alloc);
+                added.set(span, mode)?;
+                self.owners.insert(owner, added).map_err(|_| Memory)?;
                 Ok(())
             }
         }
@@ -77,6 +84,9 @@ impl Book {
     {
         let list = self.owners.get_mut(&owner).unwrap();
         list.set_reserved(span, mode);
+        if is_idle(list) {
+            self.owners.remove(&owner);
+        }
     }
 
     /// Removes all byte locks of the owner, and its room (POSIX.1-2017 close: the process' locks on the file go). It takes
@@ -87,4 +97,11 @@ impl Book {
     {
         self.owners.remove(&owner);
     }
+}
+
+/// Whether the list holds neither a lock nor room.
+fn is_idle(list: &RangeList) -> bool
+    ensures { IsTrue result ↔ IsIdle list.now }
+{
+    list.room() == 0 && list.runs().is_empty()
 }

@@ -70,25 +70,16 @@ fn flock_line(file: u8, description: u64, mode: Mode) -> Held
 fn push_runs(locks: &mut Vec<Held>, file: u8, owner: Owner, list: &RangeList) -> Result<(), Memory>
     ensures { OnOk result (AddsOwnerLocks file owner (modes_of list.now) locks.old.items locks.new.items) }
 {
-    let mut rest = Span {
-        first: 0,
-        last: OFFMAX,
-    };
-    while let Some(byte) = list.first_hit(rest, Mode::Write) {
-        let (mode, span) = list.run_at(byte).unwrap();
+    for (mode, span) in list.runs() {
         locks
             .push(Held {
                 file,
                 whole: false,
                 owner,
-                mode,
-                span,
+                mode: *mode,
+                span: *span,
             })
             .map_err(|_| Memory)?;
-        if span.last == OFFMAX {
-            return Ok(());
-        }
-        rest.first = span.last + 1;
     }
     Ok(())
 }

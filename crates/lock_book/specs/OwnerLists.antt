@@ -1,0 +1,27 @@
+-- The lists that a book keeps for the owners of byte locks (the words are this project's choice).
+use Rattle.std.specs.Prelude.{◌≡◌, ℕ, Option, Some, None, List}
+use Rattle.std.specs.Map.{lookup}
+use Rattle.range_core.specs.declared.list.RangeList.{RangeList}
+use Rattle.range_core.specs.Ranges.{Modes}
+use Rattle.range_core.specs.Changes.{modes_of, room_of}
+use Rattle.lock_book.specs.declared.Owner.{Owner}
+use Rattle.lock_book.specs.Owners.{is_same_owner}
+
+-- the modes of an owner's list, and none on any byte without one
+abbrev pub modes_in_list : Option RangeList → Modes
+modes_in_list None = λ byte. None
+modes_in_list (Some list) = modes_of list
+
+-- the room of an owner's list, and none without one
+abbrev pub room_in_list : Option RangeList → ℕ
+room_in_list None = 0
+room_in_list (Some list) = room_of list
+
+-- the list has neither a mode on any byte nor room
+pub record IsIdle (list : RangeList) : Type 0 where
+  pub free : (byte : ℕ) → modes_of list byte ≡ None
+  pub no_room : room_of list ≡ 0
+
+-- each owner with a list has a mode on some byte, or room
+abbrev pub AreInUse : List (Owner × RangeList) → Type 0
+AreInUse lists = (owner : Owner) (list : RangeList) → lookup (is_same_owner owner) lists ≡ Some list → ¬ IsIdle list
