@@ -8,6 +8,12 @@ pub record GivesByte (old new : Option (List ℕ)) (byte : Option ℕ) : Type 0 
   pub consumed : Consumes old new (option_to_list byte)
   pub end : IfNone byte (IsAtEnd new)
 
+-- the source gave so many bytes at the front of the room, or it is at its end
+pub record GivesSome (old new : Option (List ℕ)) (room : List ℕ) (count : ℕ) : Type 0 where
+  pub within : count ≤ length room
+  pub consumed : Consumes old new (take count room)
+  pub end : count ≡ 0 → IsAtEnd new
+
 -- the sink took so many bytes of the text, at least one where there are any
 pub record TakesSome (old new : Option (List ℕ)) (text : List ℕ) (count : ℕ) : Type 0 where
   pub within : count ≤ length text

@@ -1,5 +1,5 @@
-ghost use Rattle.std.specs.Prelude.{ℕ, ◌≡◌, ◌≤◌, ◌+◌, Bool, false, Option, List, IfOk, OnOk, OnErr};
-ghost use Rattle.lockreplay.specs.Devices.{GivesByte, TakesSome, Fails};
+ghost use Rattle.std.specs.Prelude.{ℕ, ◌≡◌, ◌≤◌, ◌<◌, ◌+◌, Bool, false, Option, List, IfOk, OnOk, OnErr, length};
+ghost use Rattle.lockreplay.specs.Devices.{GivesByte, GivesSome, TakesSome, Fails};
 
 use std::io::{Read, Write};
 
@@ -7,7 +7,7 @@ use std::io::{Read, Write};
 #[derive(Clone, Copy, Debug, PartialEq, Eq)]
 pub struct DeviceFault;
 
-/// Where a script is read from, byte by byte.
+/// Where a script is read from: byte by byte, or several at once.
 pub trait Source {
     /// The bytes that it has left, where they are known.
     ghost remaining: { Self → Option (List ℕ) };
@@ -24,6 +24,24 @@ pub trait Source {
         ensures sound { OnOk result (failed self.new ≡ failed self.old) }
         ensures fault { OnErr result (Fails (remaining self.old) (remaining self.new) (failed self.new)) }
         ensures call { calls self.new ≤ calls self.old + 1 };
+
+    /// The next bytes, at least one unless the source is at its end, at the front of a room that isn't empty; says how many. A
+    /// fault moves no byte.
+    fn read_some(&mut self, room: &mut [u8]) -> Result<usize, DeviceFault>
+        requires { 0 < length room.old }
+        ensures some { IfOk result (GivesSome (remaining self.old) (remaining self.new) room.new) }
+        ensures sound { OnOk result (failed self.new ≡ failed self.old) }
+        ensures fault { OnErr result (Fails (remaining self.old) (remaining self.new) (failed self.new)) }
+        ensures call { calls self.new ≤ calls self.old + 1 }
+    {
+        match self.read_byte()? {
+            Some(byte) => {
+                room[0] = byte;
+                Ok(1)
+            }
+            None => Ok(0),
+        }
+    }
 }
 
 /// Where a text is written to.
@@ -74,6 +92,16 @@ impl<R: Read> Source for FromReader<R> {
         match self.reader.read(&mut byte) {
             Ok(0) => Ok(None),
             Ok(_) => Ok(Some(byte[0])),
+            Err(_) => {
+                self.failed = true;
+                Err(DeviceFault)
+            }
+        }
+    }
+
+    fn read_some(&mut self, room: &mut [u8]) -> Result<usize, DeviceFault> {
+        match self.reader.read(room) {
+            Ok(count) => Ok(count),
             Err(_) => {
                 self.failed = true;
                 Err(DeviceFault)

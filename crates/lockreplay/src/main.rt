@@ -14,7 +14,7 @@ use faults::Fault;
 use replay::{RunFault, replay};
 use std::env::Env;
 use std::fs::Files;
-use std::io::{BufReader, Read};
+use std::io::Read;
 use std::process::ExitCode;
 use std::{env, fs, io};
 
@@ -44,7 +44,6 @@ fn run(rt: &(impl AllocGlobal + Env + Files + Input + Print)) -> Result<(), Faul
 
 /// Replays what the reader gives to standard output.
 fn replay_from(rt: &(impl AllocGlobal + Print), reader: impl Read + Drop) -> Result<(), Fault> {
-    let reader = BufReader::new(rt.alloc(), reader).map_err(Fault::of_input)?;
     let mut source = FromReader::new(reader);
     let mut sink = ToWriter::new(io::writer(rt));
     replay(rt.alloc(), &mut source, &mut sink)?;

@@ -96,7 +96,7 @@ report_written manager processes events sent locks waits old new held waiting wr
     let written : new ≡ old ++ text_of own = writes own (λ p first last. refl) in (
       text_of own,
       (λ S stands counts are.
-      report_in_state manager S processes events counts locks waits (text_of own) stands (held S stands) (waiting S stands)
-      (append_cancel_left old (text_of own) (text_of counts) (sym written ∙ writes counts are))),
+          report_in_state manager S processes events counts locks waits (text_of own) stands (held S stands) (waiting S stands)
+          (append_cancel_left old (text_of own) (text_of counts) (sym written ∙ writes counts are))),
       written,
     )

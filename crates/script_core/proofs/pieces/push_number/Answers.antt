@@ -1,4 +1,4 @@
-use Rattle.std.proofs.Common.{◌≡◌, ◌≤◌, ◌∷◌, ◌-◌, length, take, drop, set, decimal, ◌∙◌, arith, lit<, append-nil, rules}
+use Rattle.std.proofs.Common.{◌≡◌, ◌-◌, drop, decimal, arith, lit<, append-nil, rules}
 use Rattle.std.proofs.lemmas.Fmt.{length-decimal-le}
 use Rattle.script_core.proofs.TextLemmas.{number_piece}
 use Rattle.script_core.proofs.pieces.push_number.Goals as goal
