@@ -18,6 +18,8 @@ mod served;
 mod setup;
 mod spelling;
 mod tally;
+#[cfg(test)]
+mod tests;
 mod view;
 
 pub use before::Before;
