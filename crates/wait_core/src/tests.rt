@@ -90,8 +90,9 @@ fn join(rt: &impl Abort, waits: &mut Waits, wait: Wait, books: &[Book])
     requires processes { processes_of waits.old ≡ 4 }
     requires well_formed { IsWellFormed 4 wait }
     requires books { length books.now ≡ 64 }
+    requires told { ∥ AreTold waits.old (locks_of books.now) ∥₁ }
     ensures processes { processes_of waits.new ≡ 4 }
-    ensures told { AreTold waits.old (locks_of books.now) → AreTold waits.new (locks_of books.now) }
+    ensures told { ∥ AreTold waits.new (locks_of books.now) ∥₁ }
 {
     let none = waits.of(wait.p).is_none();
     assert!(rt; none);
