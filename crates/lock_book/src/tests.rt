@@ -235,3 +235,79 @@ fn refused_growth_changes_nothing(rt: HostRuntime) -> Result<(), Fail> {
     assert!(rt; book.room(Owner::Process(1)) >= 100);
     Ok(())
 }
+
+/// Whether a walk over the modes of all descriptions finds one, of another, that conflicts.
+fn walk_finds(held: &[Option<Mode>], description: usize, wanted: Mode) -> bool {
+    for (other, place) in held.iter().enumerate() {
+        if let Some(mode) = *place {
+            if other != description && mode.conflicts_with(wanted) {
+                return true;
+            }
+        }
+    }
+    false
+}
+
+/// Flock locks of more descriptions than a small limit allows, each set, changed and removed: who is blocked is what a walk
+/// over all of them finds.
+#[test]
+fn counts_flock_locks_as_a_walk_does(rt: HostRuntime) -> Result<(), Fail> {
+    let mut book = Book::new(rt.alloc());
+    let mut held = [None; 700];
+    for turn in 0..1500usize {
+        let description = turn * 37 % 700;
+        let mode = [
+            Some(Mode::Read),
+            None,
+            Some(Mode::Write),
+            Some(Mode::Read),
+            None,
+        ][turn % 5];
+        book.flock_set(description as u64, mode)?;
+        held[description] = mode;
+    }
+    for description in 0..700usize {
+        for wanted in [Mode::Read, Mode::Write] {
+            assert!(rt;
+                book.flock_blocked(description as u64, wanted)
+                    == walk_finds(&held, description, wanted)
+            );
+        }
+        book.flock_set(description as u64, None)?;
+        held[description] = None;
+    }
+    assert!(rt; !book.flock_blocked(0, Mode::Write));
+    Ok(())
+}
+
+/// More owners than a small limit allows, each with a byte of its own, that come and go.
+#[test]
+fn many_owners_come_and_go(rt: HostRuntime) -> Result<(), Fail> {
+    let mut book = Book::new(rt.alloc());
+    let asker = Owner::Process(1);
+    for number in 0..700u64 {
+        book.set(
+            Owner::Description(number),
+            bytes(number, number),
+            Some(Mode::Read),
+        )?;
+    }
+    assert!(rt; book.held(3)?.len() == 700);
+    assert!(rt; !book.blocked(asker, bytes(0, OFFMAX), Mode::Read));
+    for number in 0..700u64 {
+        let blocker = Blocker {
+            owner: Owner::Description(number),
+            mode: Mode::Read,
+            span: bytes(number, number),
+        };
+        assert!(rt; book.blocked(asker, bytes(0, OFFMAX), Mode::Write));
+        assert_eq!(rt;
+            book.first_blocker(asker, bytes(0, OFFMAX), Mode::Write),
+            Some(blocker)
+        );
+        book.set(Owner::Description(number), bytes(0, OFFMAX), None)?;
+        assert!(rt; !book.blocked(asker, bytes(0, number), Mode::Write));
+    }
+    assert!(rt; book.held(3)?.is_empty());
+    Ok(())
+}
