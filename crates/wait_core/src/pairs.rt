@@ -11,7 +11,7 @@ use lock_book::Book;
 use range_core::Memory;
 use std::alloc::Global;
 
-/// How many rows there are: one for each process, and row 0, which stays empty.
+/// How many rows there are: one for each process, and a first one of no process, which stays empty.
 const ROWS: usize = PROCESSES as usize + 1;
 
 /// Which process waits for which by a lock.
