@@ -1,12 +1,12 @@
 -- `AllPairs` of two lists in a row, and of their parts; what a splice leaves.
 use Rattle.std.proofs.Common.{ℕ, ◌≡◌, ◌+◌, ◌-◌, ◌<◌, ◌≤◌, List, ◌++◌, All, AllPairs, length, take, drop, get_or, refl, ap, sym, ◌∙◌, arith, inl, inr}
 use Rattle.std.proofs.lemmas.Bool.{cases_lt}
-use Rattle.std.specs.List.{AllWithin, between, copy_within, refill}
-use Rattle.std.proofs.lemmas.List.Edits.{take-paste, paste_all, length-between, get_or-between}
+use Rattle.std.specs.List.{AllWithin, between, refill}
+use Rattle.std.proofs.lemmas.List.Edits.{paste_all, length-between, get_or-between}
 use Rattle.std.proofs.lemmas.Slice.{put_mid-paste}
 use borrow.Rule.Slice.PartMut.{put_mid}
-use lib.Seq.{paste}
-use Rattle.std.proofs.lemmas.List.{length-append, get_or_append_left, get_or-append_right, get_or-append-add, get_or-drop, get_or-take, get_or_default, length-take-le, length-drop, take_at, drop_at, take-append-le, drop-append-le, take-take}
+use Rattle.std.proofs.lemmas.List.{length-append, get_or_append_left, get_or-append_right, get_or-append-add, get_or-drop, get_or-take, get_or_default, length-take-le, length-drop, take_at, drop_at, append_assoc, drop-drop}
+use Rattle.std.proofs.Math.Seq.{drop-append-add}
 
 -- two lists in order, each element of the one before each of the other
 pub AllPairs-append : {X : Type 0} (R : X → X → Type 0) (xs ys : List X) → AllPairs R xs → AllPairs R ys → All (λ x. All (λ y. R x y) ys) xs → AllPairs R (xs ++ ys)
@@ -73,46 +73,33 @@ written n old new is = take_at new (drop (length new) old) n (sym is)
 pub rest_at : {X : Type 0} (xs rest : List X) (place i : ℕ) (d : X) → rest ≡ drop place xs → get_or rest i d ≡ get_or xs (place + i) d
 rest_at xs rest place i d is = ap (λ l. get_or l i d) is ∙ get_or-drop place xs i d
 
--- the elements behind the replaced ones have moved, and what lies further on is cut off
-pub moved : {X : Type 0} (old more : List X) (end behind : ℕ) → end ≤ length old → behind ≤ length (old ++ more) → take (behind + (length old - end)) (copy_within (old ++ more) end (length old) behind) ≡ take behind (old ++ more) ++ drop end old
-moved old more end behind within room =
-    let split = drop-append-le end old more within in
-    let tail : length (drop end (old ++ more)) ≡ length (old ++ more) - end = length-drop end (old ++ more) in
-    let sum = length-append old more in
-    take-paste (old ++ more) behind (drop end (old ++ more)) (length old - end) room (omega arith)
-    ∙ ap (λ rest. take behind (old ++ more) ++ rest) (rw split (take_at (drop end old) more (length old - end) (length-drop end old)))
-
--- the new elements stand between those before and those behind
-pub spliced : {X : Type 0} (old more put : List X) (start end behind : ℕ) → behind ≡ start + length put → start ≤ end → end ≤ length old → behind ≤ length (old ++ more) → paste (take behind (old ++ more) ++ drop end old) start put (length put) ≡ take start old ++ (put ++ drop end old)
-spliced old more put start end behind behind_is ordered within room =
-    let front = length-take-le behind (old ++ more) room in
-    let before : take start (take behind (old ++ more) ++ drop end old) ≡ take start old =
-    take-append-le start (take behind (old ++ more)) (drop end old) (omega arith)
-    ∙ take-take start behind (old ++ more) (omega arith)
-    ∙ take-append-le start old more (omega arith) in
-    let after : drop (start + length put) (take behind (old ++ more) ++ drop end old) ≡ drop end old =
-    drop_at (take behind (old ++ more)) (drop end old) (start + length put) (front ∙ behind_is) in
-    paste_all (take behind (old ++ more) ++ drop end old) start put (length put) refl
-    ∙ ap (λ rest. take start (take behind (old ++ more) ++ drop end old) ++ (put ++ rest)) after
-    ∙ ap (λ first. first ++ (put ++ drop end old)) before
-
--- what a splice leaves, by the lists that its steps leave: more at the end, the tail moved, the end cut off, and the new elements written
-pub splice_steps : {X : Type 0} (old more put grown copied cut : List X) (start end behind new_len : ℕ) → behind ≡ start + length put → new_len ≡ behind + (length old - end) → start ≤ end → end ≤ length old → behind ≤ length grown → grown ≡ old ++ more → copied ≡ copy_within grown end (length old) behind → length copied ≡ length grown → cut ≡ take new_len (refill (length grown) grown copied) → refill (length cut) cut (put_mid start (behind - start) cut put) ≡ take start old ++ (put ++ drop end old)
-splice_steps old more put grown copied cut start end behind new_len behind_is new_len_is ordered within room grown_is copied_is same_length cut_is =
-    let room_there : behind ≤ length (old ++ more) = omega (arith, ap length grown_is) in
-    let cut_now : cut ≡ take behind (old ++ more) ++ drop end old =
-    cut_is
-    ∙ ap (λ l. take new_len l) (written (length grown) grown copied (sym same_length) ∙ copied_is)
-    ∙ ap (λ n. take n (copy_within grown end (length old) behind)) new_len_is
-    ∙ ap (λ l. take (behind + (length old - end)) (copy_within l end (length old) behind)) grown_is
-    ∙ moved old more end behind within room_there in
-    let put_now : put_mid start (behind - start) cut put ≡ take start old ++ (put ++ drop end old) =
-    put_mid-paste start (behind - start) cut put put (length put) refl (omega arith) refl
-    ∙ ap (λ l. paste l start put (length put)) cut_now
-    ∙ spliced old more put start end behind behind_is ordered within room_there in
-    let rest = length-drop end old in
-    let cut_length = ap length cut_now ∙ length-append (take behind (old ++ more)) (drop end old) in
-    let put_length = ap length put_now ∙ length-append (take start old) (put ++ drop end old) in
-    let same : length cut ≡ length (put_mid start (behind - start) cut put) =
-    omega (arith, cut_length, put_length, length-append put (drop end old), length-take-le behind (old ++ more) room_there, length-take-le start old (omega arith)) in
-    written (length cut) cut (put_mid start (behind - start) cut put) same ∙ put_now
+-- the first of the new elements written over as many of the old ones, the rest of the replaced cut out, and the rest of the new put in
+pub spliced : {X : Type 0} (old over added laid cut : List X) (start end behind : ℕ) → behind ≡ start + length over → behind ≤ end → end ≤ length old → laid ≡ refill (length old) old (put_mid start (behind - start) old over) → cut ≡ take behind laid ++ drop end laid → take behind cut ++ (added ++ drop behind cut) ≡ take start old ++ (over ++ added ++ drop end old)
+spliced old over added laid cut start end behind behind_is ordered within laid_is cut_is =
+    let before = length-take-le start old (omega arith) in
+    let front = length-append (take start old) over in
+    let put : put_mid start (behind - start) old over ≡ take start old ++ (over ++ drop behind old) =
+    put_mid-paste start (behind - start) old over over (length over) refl (omega arith) refl
+    ∙ paste_all old start over (length over) refl
+    ∙ ap (λ n. take start old ++ (over ++ drop n old)) {x = start + length over} (sym behind_is) in
+    let put_length = ap length put ∙ length-append (take start old) (over ++ drop behind old) in
+    let over_length = length-append over (drop behind old) in
+    let rest_length = length-drop behind old in
+    let laid_now : laid ≡ take start old ++ over ++ drop behind old =
+    laid_is ∙ written (length old) old (put_mid start (behind - start) old over) (omega arith) ∙ put ∙ sym (append_assoc (take start old) over (drop behind old)) in
+    let first : take behind laid ≡ take start old ++ over =
+    ap (λ l. take behind l) laid_now ∙ take_at (take start old ++ over) (drop behind old) behind (omega arith) in
+    let last : drop end laid ≡ drop end old =
+    ap (λ l. drop end l) laid_now
+    ∙ ap (λ n. drop n (take start old ++ over ++ drop behind old)) {x = end} (omega arith)
+    ∙ drop-append-add (take start old ++ over) (drop behind old) (end - behind)
+    ∙ drop-drop (end - behind) behind old
+    ∙ ap (λ n. drop n old) {y = end} (omega arith) in
+    let cut_now : cut ≡ take start old ++ over ++ drop end old = rw (← first, ← last) cut_is in
+    rw (
+      cut_now,
+      take_at (take start old ++ over) (drop end old) behind (omega arith),
+      drop_at (take start old ++ over) (drop end old) behind (omega arith),
+      append_assoc (take start old) over (added ++ drop end old),
+      append_assoc over added (drop end old),
+    ) refl
