@@ -22,7 +22,7 @@ use Rattle.lock_book.specs.OwnerLists.{modes_in_list}
 use Rattle.range_core.specs.Changes.{modes_of}
 use Rattle.lock_book.proofs.BookLemmas.{list_of-get, byte_modes_of-list}
 use Rattle.lock_book.proofs.ListLemmas.{Any-append_left}
-use Rattle.lock_book.proofs.LoopLemmas.{next_in_loop, earlier_in_loop, found_in_loop}
+use Rattle.lock_book.proofs.LoopLemmas.{next_in_loop, earlier_in_loop, later_in_loop, found_in_loop, found_in_part}
 use Rattle.lock_book.proofs.OwnerLemmas.{owner_cmp, same_owner, IsBefore-asymmetric, IsBefore-from_less}
 
 -- a process other than the owner blocks where its list has a hit
@@ -212,3 +212,20 @@ none_from_least book items owner span wanted (Some hit) whole least = tt
 pub first_from_least : (book : Book) (items : List Item) (owner : Owner) (span : Span) (wanted : Mode) (found : Option (ℕ × Owner)) → map deref_pair items ≡ book.owners.entries → IsLeastSoFar (byte_modes_of book) owner span wanted items found → IfSome found (λ hit. IsFirstBlocked (byte_modes_of book) owner span wanted hit.0 hit.1)
 first_from_least book items owner span wanted None whole least = tt
 first_from_least book items owner span wanted (Some hit) whole least = least_some book items owner span wanted hit.0 hit.1 whole least
+
+-- the least of the entries so far at the first byte of the range is the first, since those that are left come later
+pub first_at_start : (book : Book) (items : List Item) (s t u : List (Owner × RangeList)) (r : Option Item) (x : Item) → s ≡ book.owners.entries → Yields (TakesFirst deref_pair) s items t → r ≡ Some x → TakesFirst deref_pair t r u → IsOrdered owner_cmp book.owners → (owner : Owner) (span : Span) (wanted : Mode) (byte : ℕ) → byte ≡ span.first → IsLeast (byte_modes_of book) owner span wanted (items ++ x ∷ []) byte x.0.now → IsFirstBlocked (byte_modes_of book) owner span wanted byte x.0.now
+unfolding byte_modes_of list_of
+first_at_start book items s t u r x start yields is step ordered owner span wanted byte at_start least = record {
+  covered = least.covered;
+  blocks = least.blocks;
+  least_byte = λ before any from below. absurd (omega arith);
+  least_owner = λ any earlier b.
+      let P : Owner → Type 0 = λ o. IsBefore o x.0.now → ¬ Blocks (byte_modes_of book) owner wanted byte o in
+      let later : All (λ e. P e.0) u =
+      All-weaker (λ e. owner_cmp x.0.now e.0 ≡ Less) (λ e. P e.0) (λ e less before. absurd (IsBefore-asymmetric x.0.now e.0 (IsBefore-from_less x.0.now e.0 less) before)) u
+      (later_in_loop owner_cmp book.owners.entries items s t u r x start yields is step ordered) in
+      let list = list_in (list_of book any) byte wanted b.conflicts in
+      let entry = found_in_part (λ e. P e.0) book.owners.entries items s t u r x start yields is step least.least_owner later (is_same_owner any) list.0 list.1 in
+      subst P (sym (same_owner any entry.0 entry.1)) entry.2 earlier b;
+}

@@ -7,10 +7,10 @@ use Rattle.std.specs.Map.{keys_of, lookup}
 use Rattle.std.specs.Map.Iter.{TakesFirst, deref_pair}
 use Rattle.std.specs.declared.cmp.Ordering.{Ordering}
 use Rattle.std.specs.declared.cmp.Ordering.TheVariants.{Less}
-use Rattle.std.proofs.lemmas.List.Elements.{All-nil, All-cons, All-get_or, All-map}
+use Rattle.std.proofs.lemmas.List.Elements.{All-nil, All-cons, All-append, All-get_or, All-map}
 use Rattle.std.proofs.lemmas.Map.Entries.{place_from_lookup}
 use Rattle.std.proofs.lemmas.Option.{get_or_from_slice_get, slice_get_within}
-use Rattle.std.proofs.lemmas.List.{length-append}
+use Rattle.std.proofs.lemmas.List.{append_assoc, length-append, map-append}
 use Rattle.std.proofs.Math.Seq.{get_or-append_seam}
 use Rattle.std.proofs.lemmas.Map.Keys.{sorted_head, sorted_tail}
 use Rattle.std.proofs.lemmas.Map.Iter.{rest_so_far, rest_more}
@@ -48,13 +48,40 @@ earlier_in_loop {K} {X} R entries items s t u r x start yields is step sorted =
     sorted_less R items x u
     (subst (λ (l : List (K × X)). IsStrictlySortedBy R (keys_of l)) (split_in_loop entries items s t u r x start yields is step) sorted)
 
+-- in order, the next entry comes before those that are left
+less_than_all : {K X : Type 0} (R : K → K → Ordering) (k : K) (rest : List (K × X)) → AllByRecursion (λ y. R k y ≡ Less) (keys_of rest) → All (λ e. R k e.0 ≡ Less) rest
+less_than_all R k [] all = All-nil (λ e. R k e.0 ≡ Less)
+less_than_all R k (e ∷ rest) all = All-cons (λ e. R k e.0 ≡ Less) e rest all.0 (less_than_all R k rest all.1)
+
+less_than_rest : {K X : Type 0} (R : K → K → Ordering) (items : List (Bor K × Bor X)) (x : Bor K × Bor X) (rest : List (K × X)) → IsStrictlySortedBy R (keys_of (map deref_pair items ++ deref_pair x ∷ rest)) → All (λ e. R x.0.now e.0 ≡ Less) rest
+less_than_rest R [] x rest sorted = less_than_all R x.0.now rest (sorted_head R _ _ sorted)
+less_than_rest R (y ∷ items) x rest sorted = less_than_rest R items x rest (sorted_tail R _ _ sorted)
+
+pub later_in_loop : {K X : Type 0} (R : K → K → Ordering) (entries : List (K × X)) (items : List (Bor K × Bor X)) (s t u : List (K × X)) (r : Option (Bor K × Bor X)) (x : Bor K × Bor X) → s ≡ entries → Yields (TakesFirst deref_pair) s items t → r ≡ Some x → TakesFirst deref_pair t r u → IsStrictlySortedBy R (keys_of entries) → All (λ e. R x.0.now e.0 ≡ Less) u
+later_in_loop {K} {X} R entries items s t u r x start yields is step sorted =
+    less_than_rest R items x u
+    (subst (λ (l : List (K × X)). IsStrictlySortedBy R (keys_of l)) (split_in_loop entries items s t u r x start yields is step) sorted)
+
 -- what holds of each entry holds of the one that a look-up finds
-pub found_in_loop : {K X : Type 0} (P : K × X → Type 0) (entries : List (K × X)) (items : List (Bor K × Bor X)) → map deref_pair items ≡ entries → All (λ y. P (y.0.now, y.1.now)) items → (test : K → Bool) (v : X) → lookup test entries ≡ Some v → (k : K) × (test k ≡ true) × P (k, v)
-found_in_loop {K} {X} P entries items whole all test v found =
-    let place = place_from_lookup test entries v found in
-    let each : All P entries = subst (λ (es : List (K × X)). All P es) whole (All-map P deref_pair items all) in (
+found_among : {K X : Type 0} (P : K × X → Type 0) (entries : List (K × X)) → All P entries → (test : K → Bool) (v : X) → lookup test entries ≡ Some v → (k : K) × (test k ≡ true) × P (k, v)
+found_among {K} {X} P entries each test v found =
+    let place = place_from_lookup test entries v found in (
       place.1,
       place.3,
       subst P (get_or_from_slice_get entries place.0 (place.1, v) (place.1, v) place.2)
           (All-get_or P entries place.0 (place.1, v) (slice_get_within entries place.0 (place.1, v) place.2) each),
     )
+
+pub found_in_loop : {K X : Type 0} (P : K × X → Type 0) (entries : List (K × X)) (items : List (Bor K × Bor X)) → map deref_pair items ≡ entries → All (λ y. P (y.0.now, y.1.now)) items → (test : K → Bool) (v : X) → lookup test entries ≡ Some v → (k : K) × (test k ≡ true) × P (k, v)
+found_in_loop {K} {X} P entries items whole all test v found =
+    found_among P entries (subst (λ (es : List (K × X)). All P es) whole (All-map P deref_pair items all)) test v found
+
+-- also where the loop ends early, if it holds of those that are left too
+pub found_in_part : {K X : Type 0} (P : K × X → Type 0) (entries : List (K × X)) (items : List (Bor K × Bor X)) (s t u : List (K × X)) (r : Option (Bor K × Bor X)) (x : Bor K × Bor X) → s ≡ entries → Yields (TakesFirst deref_pair) s items t → r ≡ Some x → TakesFirst deref_pair t r u → All (λ y. P (y.0.now, y.1.now)) (items ++ x ∷ []) → All P u → (test : K → Bool) (v : X) → lookup test entries ≡ Some v → (k : K) × (test k ≡ true) × P (k, v)
+found_in_part {K} {X} P entries items s t u r x start yields is step so_far rest test v found =
+    let joined : map deref_pair (items ++ x ∷ []) ++ u ≡ entries =
+    ap (λ (l : List (K × X)). l ++ u) (map-append deref_pair items (x ∷ []))
+    ∙ append_assoc (map deref_pair items) (deref_pair x ∷ []) u
+    ∙ sym (split_in_loop entries items s t u r x start yields is step) in
+    let all = All-append P (map deref_pair (items ++ x ∷ [])) u (All-map P deref_pair (items ++ x ∷ []) so_far) rest in
+    found_among P entries (subst (λ (es : List (K × X)). All P es) joined all) test v found

@@ -65,8 +65,11 @@ impl Book {
                 continue;
             }
             if let Some(byte) = list.first_hit(span, mode) {
-                // The owners come in order, so the first one at a byte is the least.
+                // The owners come in order, so the first one at a byte is the least, and at the first byte the very first.
                 if is_lower(byte, first) {
+                    if byte == span.first {
+                        return Some((byte, *other));
+                    }
                     first = Some((byte, *other));
                 }
             }

@@ -2,7 +2,7 @@ use Rattle.std.proofs.Common.{◌≡◌, sym, true, false}
 use Rattle.std.specs.Map.Iter.{deref_pair}
 use Rattle.std.proofs.lemmas.Map.Iter.{iter_end}
 use Rattle.lock_book.proofs.OwnerLemmas.{owner_eq, same_from_eq, different_from_eq}
-use Rattle.lock_book.proofs.BlockLemmas.{least_skip, least_replaces, least_stays, none_from_least, first_from_least, modes_in_loop, before_in_loop, never_itself, never_from_none}
+use Rattle.lock_book.proofs.BlockLemmas.{least_skip, least_replaces, least_stays, none_from_least, first_from_least, modes_in_loop, before_in_loop, never_itself, never_from_none, first_at_start}
 use Rattle.lock_book.proofs.book.Book.first_hit.Goals as goal
 
 pub loop-other-preserved-then-eq : goal.loop-other-preserved-then-eq
@@ -61,3 +61,14 @@ returns-clause-none c =
     let gives = c.into_iter-other-iterator.ensures.into_iter_gives in
     let whole = (iter_end deref_pair c.args.self.now.owners.entries c.loop-other.yielded _ _ _ _ gives.0 c.loop-other.yielded_by c.in-None.is c.next.ensures.steps).0 in
     none_from_least _ _ _ _ _ _ whole c.loop-other.invariant.2
+
+pub returns-then-byte-span-clause-hit : goal.returns-then-byte-span-clause-hit
+returns-then-byte-span-clause-hit c =
+    let gives = c.into_iter-other-iterator.ensures.into_iter_gives in
+    let test : false ≡ owner_eq c.in-Some.other.now c.args.owner = c.if-eq.ensures in
+    let modes = modes_in_loop c.args.self.now c.loop-other.yielded _ _ _ _ (c.in-Some.other, c.in-Some.list)
+    gives.0 c.loop-other.yielded_by c.in-Some.is c.next.ensures.steps gives.6 in
+    first_at_start c.args.self.now c.loop-other.yielded _ _ _ _ (c.in-Some.other, c.in-Some.list) gives.0 c.loop-other.yielded_by c.in-Some.is c.next.ensures.steps gives.5
+    c.args.owner c.args.span c.args.mode c.in-Some-first_hit.byte c.if-byte-span.true
+    (least_replaces _ _ _ _ c.loop-other.yielded c.loop-other.first (c.in-Some.other, c.in-Some.list) c.in-Some-first_hit.byte
+    c.loop-other.invariant.2 (different_from_eq _ _ (sym test)) (rw modes c.in-Some-first_hit.ensures.hit) c.if-is_lower.ensures)
