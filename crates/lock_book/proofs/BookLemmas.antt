@@ -15,7 +15,7 @@ use Rattle.lock_book.specs.declared.Owner.{Owner}
 use Rattle.lock_book.specs.declared.book.Book.{Book}
 use Rattle.lock_book.specs.Owners.{is_same_owner}
 use Rattle.lock_book.specs.Books.{list_of, place_of, byte_modes_of, room_in, flock_modes_of, has_flock_place, SameBook, SameButRoom, SetsOwnerMode, ReleasesOwner, SetsFlock, ReservesFlock, ReleasesFlock}
-use Rattle.lock_book.specs.OwnerLists.{modes_in_list, room_in_list, IsIdle, AreInUse}
+use Rattle.lock_book.specs.OwnerLists.{modes_in_list, room_in_list, EachList, IsIdle}
 use Rattle.lock_book.specs.declared.book.holders.FlockHolders.{FlockHolders}
 use Rattle.lock_book.specs.Holders.{place_among, mode_in_place, PutsAmong}
 use Rattle.std.specs.Map.{lookup}
@@ -142,33 +142,37 @@ PutsAt-removes old owners removed owner list puts updates other =
     ∙ ap (λ o. cond (is_same_owner owner other) None o) (lookup-owner_cmp other owners.entries ∙ puts other)
     ∙ update_removed (is_same_owner owner other) list (list_of old other)
 
--- each owner with a list still uses it, where the one whose list was put does
-pub AreInUse-puts : (old : Book) (owners : BTreeMap Owner RangeList) (owner : Owner) (after : Option RangeList) → PutsAt old owners owner after → ((list : RangeList) → after ≡ Some list → ¬ IsIdle list) → AreInUse owners.entries
+-- what holds of each list still does, where it holds of the one that was put
+pub EachList-puts : (P : RangeList → Type 0) (old : Book) (owners : BTreeMap Owner RangeList) (owner : Owner) (after : Option RangeList) → EachList P old.owners.entries → PutsAt old owners owner after → ((list : RangeList) → after ≡ Some list → P list) → EachList P owners.entries
 unfolding list_of
-AreInUse-puts old owners owner after puts uses other list found = elim (cases_Bool (is_same_owner owner other)) [
+EachList-puts P old owners owner after each puts holds other list found = elim (cases_Bool (is_same_owner owner other)) [
   | inl same ↦
       (let there : after ≡ Some list = ap (λ b. cond b after (list_of old other)) (sym same) ∙ sym (puts other) ∙ found in
-      uses list there)
+      holds list there)
   | inr apart ↦
       (let there : list_of old other ≡ Some list = ap (λ b. cond b after (list_of old other)) (sym apart) ∙ sym (puts other) ∙ found in
-      old.in_use other list there)
+      each other list there)
 ]
 
 same_list : (one other : RangeList) → Some one ≡ Some other → one ≡ other
 same_list one other e = cc
 
-pub AreInUse-list : (old : Book) (owners : BTreeMap Owner RangeList) (owner : Owner) (list : RangeList) → PutsAt old owners owner (Some list) → ¬ IsIdle list → AreInUse owners.entries
-AreInUse-list old owners owner list puts used = AreInUse-puts old owners owner (Some list) puts (λ other e. subst (λ (l : RangeList). ¬ IsIdle l) (same_list list other e) used)
+pub EachList-list : (P : RangeList → Type 0) (old : Book) (owners : BTreeMap Owner RangeList) (owner : Owner) (list : RangeList) → EachList P old.owners.entries → PutsAt old owners owner (Some list) → P list → EachList P owners.entries
+EachList-list P old owners owner list each puts holds = EachList-puts P old owners owner (Some list) each puts (λ other e. subst P (same_list list other e) holds)
 
-pub AreInUse-removed : (old : Book) (owners : BTreeMap Owner RangeList) (owner : Owner) → PutsAt old owners owner None → AreInUse owners.entries
-AreInUse-removed old owners owner puts = AreInUse-puts old owners owner None puts (λ list e. absurd (let h : None ≡ Some list = e in cc))
+pub EachList-removed : (P : RangeList → Type 0) (old : Book) (owners : BTreeMap Owner RangeList) (owner : Owner) → EachList P old.owners.entries → PutsAt old owners owner None → EachList P owners.entries
+EachList-removed P old owners owner each puts = EachList-puts P old owners owner None each puts (λ list e. absurd (let h : None ≡ Some list = e in cc))
+
+-- owners that lent nothing are the same
+pub EachList-left : (P : RangeList → Type 0) (was owners : BTreeMap Owner RangeList) → was ≡ owners → EachList P owners.entries → EachList P was.entries
+EachList-left P was owners same each = subst (λ (m : BTreeMap Owner RangeList). EachList P m.entries) (sym same) each
 
 -- also where an insertion may have been refused
-pub AreInUse-insert : {T E : Type 0} (old : Book) (was owners : BTreeMap Owner RangeList) (owner : Owner) (list : RangeList) (r : Result T E) → was ≡ old.owners → OnOk r (UpdatesBy owner_cmp (owner_cmp owner) was owners (Some list)) → OnErr r (owners.entries ≡ was.entries) → ¬ IsIdle list → AreInUse owners.entries
-AreInUse-insert old was owners owner list (Ok x) same updates kept used = AreInUse-list old owners owner list (PutsAt-adds old was owners owner (Some list) same updates) used
-AreInUse-insert old was owners owner list (Err e) same updates kept used =
+pub EachList-insert : {T E : Type 0} (P : RangeList → Type 0) (old : Book) (was owners : BTreeMap Owner RangeList) (owner : Owner) (list : RangeList) (r : Result T E) → EachList P old.owners.entries → was ≡ old.owners → OnOk r (UpdatesBy owner_cmp (owner_cmp owner) was owners (Some list)) → OnErr r (owners.entries ≡ was.entries) → P list → EachList P owners.entries
+EachList-insert P old was owners owner list (Ok x) each same updates kept holds = EachList-list P old owners owner list each (PutsAt-adds old was owners owner (Some list) same updates) holds
+EachList-insert P old was owners owner list (Err e) each same updates kept holds =
     let entries : owners.entries ≡ old.owners.entries = kept ∙ ap (λ (m : BTreeMap Owner RangeList). m.entries) same in
-    λ other there found. old.in_use other there (ap (λ (es : List (Owner × RangeList)). lookup (is_same_owner other) es) (sym entries) ∙ found)
+    λ other there found. each other there (ap (λ (es : List (Owner × RangeList)). lookup (is_same_owner other) es) (sym entries) ∙ found)
 
 -- a list of a book is in use, and so is one with no fewer modes and no less room
 pub still_in_use : (book : Book) (owner : Owner) (before list : RangeList) → list_of book owner ≡ Some before → ((byte : ℕ) → modes_of list byte ≡ modes_of before byte) → room_of before ≤ room_of list → ¬ IsIdle list

@@ -22,6 +22,10 @@ pub record IsIdle (list : RangeList) : Type 0 where
   pub free : (byte : ℕ) → modes_of list byte ≡ None
   pub no_room : room_of list ≡ 0
 
+-- each owner's list has this property
+abbrev pub EachList : (RangeList → Type 0) → List (Owner × RangeList) → Type 0
+EachList P lists = (owner : Owner) (list : RangeList) → lookup (is_same_owner owner) lists ≡ Some list → P list
+
 -- each owner with a list has a mode on some byte, or room
 abbrev pub AreInUse : List (Owner × RangeList) → Type 0
-AreInUse lists = (owner : Owner) (list : RangeList) → lookup (is_same_owner owner) lists ≡ Some list → ¬ IsIdle list
+AreInUse = EachList (λ list. ¬ IsIdle list)

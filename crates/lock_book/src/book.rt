@@ -1,12 +1,15 @@
 ghost use Rattle.std.specs.Prelude.{ℕ, ◌≡◌, None, false};
 ghost use Rattle.lock_book.specs.OwnerLists.{AreInUse};
+ghost use Rattle.lock_book.specs.Covering.{AreCovered, AreCovered-prop};
 
 mod blocking;
 mod bytes;
+mod cover;
 mod flocks;
 mod holders;
 mod reports;
 
+use self::cover::Cover;
 use self::holders::FlockHolders;
 use crate::Owner;
 use range_core::RangeList;
@@ -20,9 +23,11 @@ use std::collections::BTreeMap;
 #[derive(Drop)]
 pub struct Book {
     owners: BTreeMap<Owner, RangeList>,
+    cover: Cover,
     flocks: FlockHolders,
     alloc: Global,
     ghost in_use: { AreInUse owners.entries },
+    ghost covered: { AreCovered cover owners.entries } by { AreCovered-prop cover owners.entries },
 }
 
 impl Book {
@@ -37,6 +42,7 @@ impl Book {
     {
         Book {
             owners: BTreeMap::new(alloc),
+            cover: Cover::none(),
             flocks: FlockHolders::new(alloc),
             alloc,
         }

@@ -14,6 +14,9 @@ impl Book {
         requires { IsByteRange span }
         ensures { IsTrue result ↔ ByteConflict (byte_modes_of self.now) owner span mode }
     {
+        if self.cover.is_clear(span, mode) {
+            return false;
+        }
         for (other, list) in &self.owners {
             if *other != owner && list.first_hit(span, mode).is_some() {
                 return true;
@@ -59,6 +62,9 @@ impl Book {
         ensures hit { IfSome result (λ hit. IsFirstBlocked (byte_modes_of self.now) owner span mode hit.0 hit.1) }
         ensures none { IfNone result (¬ ByteConflict (byte_modes_of self.now) owner span mode) }
     {
+        if self.cover.is_clear(span, mode) {
+            return None;
+        }
         let mut first: Option<(u64, Owner)> = None;
         for (other, list) in &self.owners {
             if *other == owner {

@@ -18,6 +18,8 @@ impl Book {
         ensures room { OnOk result (room_in self.old owner ≤ room_in self.new owner) }
         ensures err { OnErr result (SameBook self.old self.new) }
     {
+        self.cover.prepare(self.alloc, &self.owners);
+        self.cover.raise(span, mode);
         match self.owners.get_mut(&owner) {
             Some(list) => {
                 list.set(span, mode)?;
@@ -82,6 +84,7 @@ impl Book {
         ensures sets { SetsOwnerMode self.old self.new owner span mode }
         ensures room { room_in self.old owner ≤ room_in self.new owner + 1 }
     {
+        self.cover.raise(span, mode);
         let list = self.owners.get_mut(&owner).unwrap();
         list.set_reserved(span, mode);
         if is_idle(list) {

@@ -6,8 +6,15 @@ use Rattle.std.proofs.lemmas.Map.Iter.{iter_end}
 use Rattle.lock_book.specs.Books.{byte_modes_of}
 use Rattle.lock_book.proofs.OwnerLemmas.{owner_eq, same_from_eq, different_from_eq}
 use Rattle.lock_book.proofs.BlockLemmas.{NeverBlocks, conflict_from_hit, least_none, modes_in_loop, never_itself, never_without_hit}
+use Rattle.lock_book.proofs.CoverLemmas.{clear_of_conflicts}
 use Rattle.lock_book.proofs.book.Book.blocked.Goals as goal
 use Rattle.lock_book.proofs.book.Book.blocked.Goals.{else-ne-via-then-ne+else-is_some, else-ne-via-else-ne}
+
+pub returns-then-is_clear : goal.returns-then-is_clear
+returns-then-is_clear c = (
+  λ h. absurd (let e : false ≡ true = h in cc),
+  λ conflict. absurd (clear_of_conflicts c.args.self.now c.args.owner c.args.span c.args.mode (c.is_clear.ensures c.if-is_clear.true) conflict),
+)
 
 pub returns-then-is_some : goal.returns-then-is_some
 returns-then-is_some c =

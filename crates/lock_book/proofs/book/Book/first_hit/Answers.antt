@@ -3,7 +3,11 @@ use Rattle.std.specs.Map.Iter.{deref_pair}
 use Rattle.std.proofs.lemmas.Map.Iter.{iter_end}
 use Rattle.lock_book.proofs.OwnerLemmas.{owner_eq, same_from_eq, different_from_eq}
 use Rattle.lock_book.proofs.BlockLemmas.{least_skip, least_replaces, least_stays, none_from_least, first_from_least, modes_in_loop, before_in_loop, never_itself, never_from_none, first_at_start}
+use Rattle.lock_book.proofs.CoverLemmas.{clear_of_conflicts}
 use Rattle.lock_book.proofs.book.Book.first_hit.Goals as goal
+
+pub returns-then-is_clear-clause-none : goal.returns-then-is_clear-clause-none
+returns-then-is_clear-clause-none c = clear_of_conflicts c.args.self.now c.args.owner c.args.span c.args.mode (c.is_clear.ensures c.if-is_clear.true)
 
 pub loop-other-preserved-then-eq : goal.loop-other-preserved-then-eq
 loop-other-preserved-then-eq c =

@@ -1,7 +1,11 @@
 use Rattle.std.proofs.Common.{◌≡◌, ◌∙◌, refl, sym, Some, None, arith}
 use Rattle.std.proofs.lemmas.Result.{on_ok_weaker, on_err_weaker}
+use Rattle.range_core.specs.Changes.{modes_of}
 use Rattle.lock_book.specs.Books.{list_of}
-use Rattle.lock_book.proofs.BookLemmas.{OnOk-at_ok, list_of-lent, list_of-not_lent, PutsAt-writes, PutsAt-adds, PutsList-puts, AreInUse-insert, AreInUse-list, still_in_use, in_use_by_room, SameButRoom-puts, SameBook-puts, room_in-list}
+use Rattle.lock_book.specs.OwnerLists.{IsIdle}
+use Rattle.lock_book.specs.Covering.{IsCovered}
+use Rattle.lock_book.proofs.BookLemmas.{OnOk-at_ok, list_of-lent, list_of-not_lent, PutsAt-writes, PutsAt-adds, PutsList-puts, EachList-insert, EachList-left, EachList-list, still_in_use, in_use_by_room, SameButRoom-puts, SameBook-puts, room_in-list}
+use Rattle.lock_book.proofs.CoverLemmas.{IsCovered-same, IsCovered-before}
 use Rattle.lock_book.proofs.book.Book.reserve.Goals as goal
 
 pub returns-in_err-reserve-in-None-clause-there : goal.returns-in_err-reserve-in-None-clause-there
@@ -51,17 +55,44 @@ returns-in_ok-map_err-in-None-clause-ok c =
 
 pub invariant_of-self : goal.invariant_of-self
 invariant_of-self c =
-    let was : list_of c.args.self.now c.args.owner ≡ Some c.in-Some.list.now =
+    let book = c.args.self.now in
+    let owners = c.get_mut.follows.lender c.reserve.new.self in
+    let was : list_of book c.args.owner ≡ Some c.in-Some.list.now =
     list_of-lent _ _ _ _ c.get_mut.ensures.value c.in-Some.is in
+    let puts = PutsAt-writes book owners c.args.owner c.in-Some.list.now c.reserve.new.self (c.get_mut.follows.holds c.reserve.new.self) was in
     record {
-      in_use = AreInUse-list c.args.self.now (c.get_mut.follows.lender c.reserve.new.self) c.args.owner c.reserve.new.self (PutsAt-writes c.args.self.now (c.get_mut.follows.lender c.reserve.new.self) c.args.owner c.in-Some.list.now c.reserve.new.self (c.get_mut.follows.holds c.reserve.new.self) was)
-          (still_in_use c.args.self.now c.args.owner c.in-Some.list.now c.reserve.new.self was c.reserve.ensures.modes c.reserve.ensures.kept);
+      in_use = EachList-list (λ list. ¬ IsIdle list) book owners c.args.owner c.reserve.new.self book.in_use puts
+          (still_in_use book c.args.owner c.in-Some.list.now c.reserve.new.self was c.reserve.ensures.modes c.reserve.ensures.kept);
+      covered = EachList-list (λ list. IsCovered book.cover (modes_of list)) book owners c.args.owner c.reserve.new.self book.covered puts
+          (IsCovered-same book.cover book.cover (λ byte wanted may. may) (modes_of c.in-Some.list.now) (modes_of c.reserve.new.self)
+          (IsCovered-before book book.cover c.args.owner (Some c.in-Some.list.now) book.covered was) c.reserve.ensures.modes);
     }
 
 pub invariant_of-self-in-None : goal.invariant_of-self-in-None
 invariant_of-self-in-None c =
+    let book = c.args.self.now in
+    let added = c.reserve-in-None.new.self in
     record {
-      in_use = AreInUse-insert c.args.self.now _ c.insert.new.self c.args.owner c.reserve-in-None.new.self c.insert.result c.get_mut.follows.holds-at-none
+      in_use = EachList-insert (λ list. ¬ IsIdle list) book _ c.insert.new.self c.args.owner added c.insert.result book.in_use c.get_mut.follows.holds-at-none
+          c.insert.ensures.updates c.insert.ensures.err (in_use_by_room added (let room = c.in_ok-reserve-in-None.ensures.ok in omega arith));
+      covered = EachList-insert (λ list. IsCovered book.cover (modes_of list)) book _ c.insert.new.self c.args.owner added c.insert.result book.covered c.get_mut.follows.holds-at-none
           c.insert.ensures.updates c.insert.ensures.err
-          (in_use_by_room c.reserve-in-None.new.self (let room = c.in_ok-reserve-in-None.ensures.ok in omega arith));
+          (IsCovered-same book.cover book.cover (λ byte wanted may. may) (λ byte. None) (modes_of added) (λ byte wanted conflict. absurd conflict)
+          (λ byte. c.reserve-in-None.ensures.modes byte ∙ c.new-list.ensures.modes byte));
+    }
+
+pub invariant_of-self-then-sets-eq0 : goal.invariant_of-self-then-sets-eq0
+invariant_of-self-then-sets-eq0 c =
+    let book = c.args.self.now in
+    record {
+      in_use = EachList-left (λ list. ¬ IsIdle list) _ book.owners c.get_mut.follows.holds-at-none book.in_use;
+      covered = EachList-left (λ list. IsCovered book.cover (modes_of list)) _ book.owners c.get_mut.follows.holds-at-none book.covered;
+    }
+
+pub invariant_of-self-in-Break-1 : goal.invariant_of-self-in-Break-1
+invariant_of-self-in-Break-1 c =
+    let book = c.args.self.now in
+    record {
+      in_use = EachList-left (λ list. ¬ IsIdle list) _ book.owners c.get_mut.follows.holds-at-none book.in_use;
+      covered = EachList-left (λ list. IsCovered book.cover (modes_of list)) _ book.owners c.get_mut.follows.holds-at-none book.covered;
     }
