@@ -1,7 +1,8 @@
 -- Each call on descriptors answers something and leaves some descriptors, where those that are open refer to descriptions that were made.
-use Rattle.std.proofs.Common.{◌≡◌, ℕ, zero, suc, ◌+◌, ◌<◌, ◌==◌, Bool, true, false, MatchBool, Option, Some, None, IsSome, Result, Ok, Err, ℤ, pos, negsuc, ◌<ℤ◌, refl, subst, ◌⊎◌, inl, inr, arith, List, [], ◌∷◌, ◌++◌, length, option_map}
+use Rattle.std.proofs.Common.{◌≡◌, ℕ, zero, suc, ◌+◌, ◌<◌, ◌≤◌, ◌==◌, Bool, true, false, MatchBool, Option, Some, None, IsSome, Result, Ok, Err, ℤ, pos, negsuc, ◌<ℤ◌, refl, subst, ◌⊎◌, inl, inr, arith, List, [], ◌∷◌, length, option_map, get_or, Contains}
 use Rattle.std.proofs.lemmas.Bool.{cases_lt}
 use Rattle.std.proofs.lemmas.Int.{ints}
+use Rattle.std.proofs.lemmas.List.Elements.{Contains-get_or, Contains-append_left, Contains-append_right, Contains-append_cases, Contains-push, Contains-push_cases}
 use Rattle.fd_table.specs.declared.TheConstants.{FILES, DESCRIPTIONS}
 use Rattle.fd_table.specs.declared.Access.{Access}
 use Rattle.fd_table.specs.declared.Limits.{Limits}
@@ -10,34 +11,80 @@ use Rattle.fd_table.specs.declared.FdFault.TheVariants.{BadFd, TooMany, Invalid,
 use Rattle.fd_table.specs.Descriptors.{Descriptors, OpenFileDescription, IsFull, IsLowestFree, SameDescriptors, descriptor_limit, description_numbered, with_description, with_descriptor, without_descriptors, with_child, with_offset, with_size}
 use Rattle.fd_table.specs.Releasing.{AreExactly, AreReleased, ClosesFile, ClosesDescription}
 use Rattle.fd_table.specs.Calls.{OpenGives, DupGives, DupToGives, CloseGives, EndGives, IsFreeProcess, ForkGives, Refers, SeekGives, ResizeGives, nothing}
-use Rattle.fd_table.proofs.CallLemmas.{same}
-use Rattle.fd_table.proofs.ListLemmas.{AreExactly-more, AreExactly-skip}
 use Rattle.lock_manager.specs.SomeOutcome.{AreMade}
 use Rattle.lock_manager.proofs.AtLeastOneLemmas.{AtLeastOne, SomePair, by_cases}
 
--- the numbers below the bound of which the fact holds are some list
-numbers_below : (Fact : ℕ → Type 0) (bound : ℕ) → AtLeastOne (λ numbers. AreExactly numbers (λ x. (x < bound) × Fact x))
-numbers_below Fact zero none =
+-- descriptors agree with themselves
+same : (D : Descriptors) → SameDescriptors D D
+same D = record { description_of = λ p fd. refl; descriptions = refl; sizes = λ file. refl; ever_alive = λ p. refl }
+
+-- these numbers are all in the range of which the fact holds
+abbrev AreBetween : (ℕ → Type 0) → ℕ → ℕ → List ℕ → Type 0
+AreBetween Fact low high numbers = AreExactly numbers (λ x. (low ≤ x) × (x < high) × Fact x)
+
+-- the range begins one lower, where the fact holds
+one_more : (Fact : ℕ → Type 0) (low high : ℕ) (numbers : List ℕ) → low < high → Fact low → AreBetween Fact (low + 1) high numbers
+    → AreBetween Fact low high (low ∷ numbers)
+one_more Fact low high numbers within holds h = record {
+  rising = elim [
+    | zero ↦ λ more.
+        let at = (h.each (get_or numbers 0 0)).0 (Contains-get_or numbers 0 0 (omega (arith, more))) in
+        let above : low < get_or numbers 0 0 = omega (arith, at.0) in above
+    | suc k ↦ λ more. let next : suc k + 1 ≡ suc (k + 1) = omega arith in rw next (h.rising k (omega (arith, more)))
+  ];
+  each = λ x. (
+    λ there. elim (Contains-append_cases (low ∷ []) numbers x there) [
+      | inl first ↦ elim (Contains-push_cases [] low x first) [
+        | inl none ↦ absurd (let inside = none.1 in omega arith)
+        | inr is ↦ (omega (arith, is), omega (arith, is, within), subst Fact is holds)
+      ]
+      | inr later ↦ let at = (h.each x).0 later in (omega (arith, at.0), at.1, at.2)
+    ],
+    λ fact. elim (cases_lt low x) [
+      | inl above ↦ Contains-append_right (low ∷ []) numbers x ((h.each x).1 (omega (arith, above), fact.1, fact.2))
+      | inr first ↦
+          let is : low ≡ x = omega (arith, fact.0) in
+          subst (Contains (low ∷ numbers)) is (Contains-append_left (low ∷ []) numbers low (Contains-push [] low))
+    ],
+  );
+}
+
+-- where it doesn't
+none_more : (Fact : ℕ → Type 0) (low high : ℕ) (numbers : List ℕ) → ¬ Fact low → AreBetween Fact (low + 1) high numbers
+    → AreBetween Fact low high numbers
+none_more Fact low high numbers fails h = record {
+  rising = h.rising;
+  each = λ x. (
+    λ there. let at = (h.each x).0 there in (omega (arith, at.0), at.1, at.2),
+    λ fact. elim (cases_lt low x) [
+      | inl above ↦ (h.each x).1 (omega (arith, above), fact.1, fact.2)
+      | inr first ↦ let is : x ≡ low = omega (arith, fact.0) in absurd (fails (subst Fact is fact.2))
+    ],
+  );
+}
+
+-- the numbers in a range of which a fact holds are some list
+numbers_between : (Fact : ℕ → Type 0) (low high count : ℕ) → low + count ≡ high → AtLeastOne (AreBetween Fact low high)
+numbers_between Fact low high zero is none =
     none []
     (record {
-      rising = λ k within. absurd (omega (arith, within));
-      each = λ x. ((λ there. absurd (let h = there.1 in omega arith)), (λ fact. absurd (let h = fact.0 in omega arith)));
+      rising = λ k more. absurd (omega (arith, more));
+      each = λ x. ((λ there. absurd (let inside = there.1 in omega arith)), (λ fact. absurd (let from = fact.0 in let to = fact.1 in omega arith)));
     })
-numbers_below Fact (suc bound) none =
-    let next : bound + 1 ≡ suc bound = omega arith in
-    numbers_below Fact bound
+numbers_between Fact low high (suc count) is none =
+    numbers_between Fact (low + 1) high count (omega (arith, is))
     (λ numbers h.
-    by_cases (Fact bound)
-    (λ holds. none (numbers ++ bound ∷ []) (subst (λ n. AreExactly (numbers ++ bound ∷ []) (λ x. (x < n) × Fact x)) next (AreExactly-more numbers Fact bound h holds)))
-    (λ fails. none numbers (subst (λ n. AreExactly numbers (λ x. (x < n) × Fact x)) next (AreExactly-skip numbers Fact bound h fails))))
+    by_cases (Fact low)
+    (λ holds. none (low ∷ numbers) (one_more Fact low high numbers (omega (arith, is)) holds h))
+    (λ fails. none numbers (none_more Fact low high numbers fails h)))
 
 -- so are all of which it holds, where they lie below the bound
 numbers_of : (Fact : ℕ → Type 0) (bound : ℕ) → ((x : ℕ) → Fact x → x < bound) → AtLeastOne (λ numbers. AreExactly numbers Fact)
 numbers_of Fact bound low none =
-    numbers_below Fact bound
+    numbers_between Fact 0 bound bound (omega arith)
     (λ numbers h.
     none numbers
-    (record { rising = h.rising; each = λ x. ((λ there. ((h.each x).0 there).1), (λ fact. (h.each x).1 (low x fact, fact))) }))
+    (record { rising = h.rising; each = λ x. ((λ there. ((h.each x).0 there).2), (λ fact. (h.each x).1 (omega arith, low x fact, fact))) }))
 
 -- a number above the files of all these descriptions
 files_below : List OpenFileDescription → ℕ

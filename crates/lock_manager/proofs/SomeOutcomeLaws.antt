@@ -12,7 +12,6 @@ use Rattle.wait_core.specs.Locks.{Locks}
 use Rattle.wait_core.specs.Blocking.{IsBlockedByLock, IsBlocked, AllBlocked, IsNextBetween}
 use Rattle.wait_core.specs.Cycles.{ClosesCycle}
 use Rattle.wait_core.specs.WaitsView.{wait_of}
-use Rattle.wait_core.proofs.ListLemmas.{AllBlocked-push}
 use Rattle.lock_manager.specs.declared.request.Rules.{Rules}
 use Rattle.lock_manager.specs.declared.request.Lock.{Lock}
 use Rattle.lock_manager.specs.declared.request.LkCmd.{LkCmd}
@@ -160,17 +159,20 @@ LockComesTo-some : (rules : Rules) (S : State) (p n fd : ℕ) (cmd : LkCmd) (loc
 LockComesTo-some rules S p n fd cmd lock =
     LockComesTo-by (λ P. AtLeastOne P) (λ given. this_value _ given refl) rules S p n fd cmd lock (λ wanted. CommandComesTo-some rules S cmd wanted)
 
--- each of the waits is blocked, or one is next
-some_next : (policy : Policy) (locks : Locks) (waits earlier rest : List Wait) → waits ≡ earlier ++ rest → AllBlocked policy locks [] earlier
+-- each of the waits is blocked, or one is next; those that were looked at are blocked, and so are all where the rest is
+some_next : (policy : Policy) (locks : Locks) (waits earlier rest : List Wait) → waits ≡ earlier ++ rest
+    → ((more : List Wait) → AllBlocked policy locks earlier more → AllBlocked policy locks [] (earlier ++ more))
     → ¬ AllBlocked policy locks [] waits → ¬ ((before : List Wait) (wait : Wait) (after : List Wait) → ¬ IsNextBetween policy locks waits before wait after)
-some_next policy locks waits earlier [] place all not_all none =
-    not_all (subst (AllBlocked policy locks []) (sym (place ∙ append-nil earlier)) all)
-some_next policy locks waits earlier (wait ∷ rest) place all not_all none =
+some_next policy locks waits earlier [] place looked not_all none =
+    not_all (subst (AllBlocked policy locks []) (sym place) (looked [] tt))
+some_next policy locks waits earlier (wait ∷ rest) place looked not_all none =
     by_cases (IsBlocked policy locks earlier wait)
     (λ blocked.
     some_next policy locks waits (earlier ++ wait ∷ []) rest (place ∙ sym (append_assoc earlier (wait ∷ []) rest))
-    (AllBlocked-push policy locks [] earlier wait all blocked) not_all none)
-    (λ ready. none earlier wait rest (record { place = place; ready = ready; earliest = all }))
+    (λ more all. subst (AllBlocked policy locks []) (sym (append_assoc earlier (wait ∷ []) more)) (looked (wait ∷ more) (blocked, all))) not_all none)
+    (λ ready.
+    none earlier wait rest
+    (record { place = place; ready = ready; earliest = subst (AllBlocked policy locks []) (append-nil earlier) (looked [] tt) }))
 
 -- each grant takes a wait out of the list
 fewer : (waits before : List Wait) (wait : Wait) (after : List Wait) → waits ≡ before ++ wait ∷ after → length (before ++ after) < length waits
@@ -180,7 +182,7 @@ fewer waits before wait after place = rw (place, length-append before (wait ∷ 
 Settles-some : (policy : Policy) (most : ℕ) (S : State) → length S.waits < most → SomePair (λ grants T. Settles policy S grants T)
 Settles-some policy zero S few none = absurd (omega arith)
 Settles-some policy (suc most) S few none =
-    some_next policy (locks_held S) S.waits [] S.waits refl tt (λ all. none [] S (all, refl))
+    some_next policy (locks_held S) S.waits [] S.waits refl (λ more all. all) (λ all. none [] S (all, refl))
     (λ before wait after next.
     let less = fewer S.waits before wait after next.place in
     Settles-some policy most (granted S before wait after) (omega arith)
