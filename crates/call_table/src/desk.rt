@@ -141,12 +141,6 @@ impl Desk {
         ensures session { result ≡ session_in self }
         ensures journal { events_in result ≡ (desk_view self).journal }
     {
-        let Desk {
-            setup: _,
-            closed: _,
-            session,
-            seat: _,
-        } = self;
-        session
+        self.session
     }
 }
