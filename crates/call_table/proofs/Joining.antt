@@ -1,7 +1,6 @@
 -- The opening, and the steps by which seats are split and joined, keep the rule.
-use Rattle.std.proofs.Common.{◌≡◌, ◌≢◌, ⊎_elim, ℕ, zero, suc, ◌+◌, ◌*◌, ◌<◌, ◌≤◌, Bool, true, true≢false, eqb, cond, eq-eqb, ne_eqb, List, [], ◌∷◌, length, get_or, set, refl, sym, ap, ◌∙◌, subst, arith, length-set, append-nil}
-use Rattle.std.specs.Prelude.{◌==◌, replicate}
-use Rattle.std.proofs.lemmas.Bool.{eqb-true}
+use Rattle.std.proofs.Common.{◌≡◌, ◌≢◌, ⊎_elim, ℕ, zero, suc, ◌+◌, ◌*◌, ◌<◌, ◌≤◌, Bool, true, true≢false, eqb, cond, eq-eqb, ne_eqb, List, [], ◌∷◌, length, get_or, set, refl, sym, ap, ◌∙◌, subst, arith, length-set}
+use Rattle.std.specs.Prelude.{replicate}
 use Rattle.std.proofs.lemmas.Grind.{merely}
 use native.Mathlib.Decide.{ℕ_discrete}
 use mathlib.Core.Logic.{dite}

@@ -67,7 +67,8 @@ impl Desk {
         ensures served { IfOk result (IsServed self.old self.new) }
         ensures closed { (result ≡ Ok Served.Closed) ↔ ((desk_view self.old).closed ≡ true) }
         ensures memory { OnErr result (IsUnserved self.old self.new) }
-        ensures looked { (p : ℕ) → (tally_at (desk_view self.old).tallies p).looked ≤ (tally_at (desk_view self.new).tallies p).looked }
+        ensures looked { (p : ℕ)
+            → (tally_at (desk_view self.old).tallies p).looked ≤ (tally_at (desk_view self.new).tallies p).looked }
         ensures same { SameDesk self.old self.new }
     {
         if self.closed {

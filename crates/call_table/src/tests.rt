@@ -69,7 +69,8 @@ fn open_table(
 ) -> Result<(Hub, Vec<Client>, Desk), Memory>
     requires processes { (1 ≤ processes) × (processes ≤ process_limit rules.limits) }
     requires depth { (1 ≤ depth) × (depth ≤ 32) }
-    ensures { IfOk result (λ made. IsOpened (record { processes = processes; depth = depth; rules = rules }) made.0 made.1.items made.2) }
+    ensures { IfOk result (λ made. IsOpened (record { processes = processes; depth = depth; rules = rules })
+        made.0 made.1.items made.2) }
 {
     match open_hub(alloc, processes, depth, rules) {
         Err(Memory) => open_hub(alloc, processes, depth, rules),
