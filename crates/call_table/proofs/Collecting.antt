@@ -1,7 +1,7 @@
 -- The steps by which a client collects keep the rule.
 use Rattle.std.proofs.lemmas.List.{set-get_or}
 use Rattle.std.proofs.lemmas.Bool.{eqb-true}
-use Rattle.std.proofs.Common.{◌≡◌, ◌⊎◌, ⊎_elim, inl, inr, ℕ, ◌+◌, ◌<◌, ◌≤◌, Bool, true, false, true≢false, eq-eqb, List, [], ◌∷◌, ◌++◌, length, get_or, set, refl, sym, ap, ◌∙◌, subst, arith, length-append, append_assoc, append-nil}
+use Rattle.std.proofs.Common.{◌≡◌, ◌⊎◌, ⊎_elim, inl, inr, ℕ, ◌+◌, ◌<◌, ◌≤◌, Bool, true, false, true≢false, eq-eqb, List, [], ◌∷◌, ◌++◌, length, get_or, set, refl, sym, ap, ◌∙◌, subst, arith, length-append, append_assoc}
 use Rattle.std.specs.Prelude.{◌||◌, ◌&&◌, ◌==◌}
 use mathlib.Core.Option.{some, some-injective}
 use lib.ListN.{get_elem?}
@@ -20,90 +20,78 @@ use Rattle.call_table.specs.declared.desk_view.DeskView.{DeskView}
 use Rattle.call_table.specs.Spelling.{answer_spelled, ReplyFits}
 use Rattle.call_table.specs.Places.{Place, answered, index_of, IsProcess, word_at}
 use Rattle.call_table.specs.Views.{tally_at}
-use Rattle.call_table.specs.Rule.{answer_cell, Agrees, mark_of, Kept}
+use Rattle.call_table.specs.Rule.{answer_cell, ClosingAgrees, Agrees, mark_of, Kept}
 use Rattle.call_table.specs.Steps.{Seated, HasClient, client_found, client_read, client_collected, client_marked, IsSeen, Finds, Gets, Collects, Marks}
 use Rattle.call_table.proofs.Pushing.{some_at, prefix_more, prefix_all}
-use Rattle.call_table.proofs.Frames.{answer_six}
+use Rattle.call_table.proofs.Frames.{answer_six, requests_same, answers_same, answers_found, closing_same}
 use Rattle.call_table.proofs.Moves.{client_moves}
 use Rattle.call_table.proofs.ClientSteps.{client_is}
 
 -- what a load of a client owes
-pub client_loads : (setup : Setup) (s : State (Unit {0}) View) (k : Kept setup s) (id : ℕ) (c now : ClientView) (word : ℕ) → get_elem? s.views id ≡ some (Client c)
+pub client_loads : (setup : Setup) (s : State (Unit {0}) View) (k : Kept setup s) (id : ℕ) (c now : ClientView) (word : ℕ)
+    → get_elem? s.views id ≡ some (Client c)
     → now.process ≡ c.process → now.setup ≡ c.setup
     → (IsProcess setup.processes c.process → Agrees setup.depth c.process (word_at setup.processes setup.depth s.words) k.desk c
     → Agrees setup.depth c.process (word_at setup.processes setup.depth s.words) k.desk now)
     → Kept setup record { words = set s.words word (get_or s.words word 0); homes = s.homes; views = set s.views id (Client now) }
 client_loads setup s k id c now word here process told mine =
     let stands = k.stands id (Client c) here in
-    subst (λ (words : List ℕ). Kept setup record { words = words; homes = s.homes; views = set s.views id (Client now) }) (sym (set-get_or s.words word 0))
-    (client_moves setup s k id c now s.words here process told refl (λ a t other. refl) (λ _ agrees. mine (stands.least, omega (arith, stands.most, k.made_most)) agrees))
+    subst (λ (words : List ℕ). Kept setup record { words = words; homes = s.homes; views = set s.views id (Client now) })
+    (sym (set-get_or s.words word 0))
+    (client_moves setup s k id c now s.words here process told refl (λ a t other. refl)
+    (λ _ agrees. mine (stands.least, omega (arith, stands.most, k.made_most)) agrees))
 
 -- what holds of the client's process, at the view of its seat
-pub mine_at : (setup : Setup) (s : State (Unit {0}) View) (k : Kept setup s) (id : ℕ) (c : ClientView) → get_elem? s.views id ≡ some (Client c)
+pub mine_at : (setup : Setup) (s : State (Unit {0}) View) (k : Kept setup s) (id : ℕ) (c : ClientView)
+    → get_elem? s.views id ≡ some (Client c)
     → Agrees setup.depth c.process (word_at setup.processes setup.depth s.words) k.desk c
 mine_at setup s k id c here =
     let stands = k.stands id (Client c) here in
-    subst (Agrees setup.depth c.process (word_at setup.processes setup.depth s.words) k.desk) (sym stands.view_is) (k.each c.process stands.least (omega (arith, stands.most, k.made_most)))
+    subst (Agrees setup.depth c.process (word_at setup.processes setup.depth s.words) k.desk) (sym stands.view_is)
+    (k.each c.process stands.least (omega (arith, stands.most, k.made_most)))
 
 -- the answers to a process in the front of a journal are the front of its answers
-pub answers_front : (p place : ℕ) (H rest : List Event) → (more : List (ℕ × Reply × ℕ)) × (answers_from p place (H ++ rest) ≡ answers_from p place H ++ more)
+pub answers_front : (p place : ℕ) (H rest : List Event)
+    → (more : List (ℕ × Reply × ℕ)) × (answers_from p place (H ++ rest) ≡ answers_from p place H ++ more)
 answers_front p place [] rest = (answers_from p place rest, refl)
 answers_front p place (x ∷ xs) rest =
-    let front = answers_front p (place + 1) xs rest in
-    (front.0, ap (λ (l : List (ℕ × Reply × ℕ)). answers_in p place x.notes ++ l) front.1 ∙ sym (append_assoc (answers_in p place x.notes) (answers_from p (place + 1) xs) front.0))
+    let front = answers_front p (place + 1) xs rest in (
+      front.0,
+      ap (λ (l : List (ℕ × Reply × ℕ)). answers_in p place x.notes ++ l) front.1
+          ∙ sym (append_assoc (answers_in p place x.notes) (answers_from p (place + 1) xs) front.0),
+    )
 
 pub drained_by : (a b e : Bool) → (a || (b && e)) ≡ true → (a ≡ true) ⊎ ((b ≡ true) × (e ≡ true))
 drained_by true b e h = inl refl
 drained_by false true e h = inr (refl, h)
 drained_by false false e h = absurd (true≢false (sym h))
 
--- the number of published answers, at the client
-finds_agree : (depth p : ℕ) (at : Place → ℕ) (d : DeskView) (c : ClientView) (found : ℕ) → found ≡ at (answered p) → Agrees depth p at d c → Agrees depth p at d (client_found c d.journal found)
-finds_agree depth p at d c found is g =
-    let q = g.requests in let t = g.answers in
-    let published : found ≡ (tally_at d.tallies p).published = is ∙ t.answered_word in
+-- a client that found the desk closed, and then all answers collected, is drained
+pub closing_found : {p : ℕ} {journal seen : List Event} {published found looks : ℕ} {closed : Bool} {c : ClientView}
+    → found ≡ published
+    → ClosingAgrees p journal published closed c
+    → ClosingAgrees p journal published closed
+    (record c { known = found; seen = seen; drained = c.drained || (c.over && (found == c.collected)); looks = looks })
+closing_found {found = found} {c = c} is e =
+    let drained = drained_by c.drained c.over (found == c.collected) in
     record {
-      requests = record {
-        posted_word = q.posted_word;
-        taken_word = q.taken_word;
-        in_order = q.in_order;
-        looked_least = q.looked_least;
-        looked_most = q.looked_most;
-        fit = q.fit;
-        cells = q.cells;
-        few = q.few;
-        room = q.room;
-        filled = q.filled;
-        filled_most = q.filled_most;
-        reads = q.reads;
-        reads_some = q.reads_some;
-      };
-      answers = record {
-        answered_word = t.answered_word;
-        collected_most = let x = t.collected_most in let y = t.known_most in omega arith;
-        known_most = omega arith;
-        published_most = t.published_most;
-        in_turn = t.in_turn;
-        fit = t.fit;
-        cells = t.cells;
-        seen = ([], sym (append-nil d.journal));
-        seen_known = let x = t.published_most in omega arith;
-        reads = t.reads;
-        reads_known = λ h. let x = t.reads_known h in let y = t.known_most in omega arith;
-        filled = t.filled;
-        fills = t.fills;
-        filled_most = t.filled_most;
-        fills_some = t.fills_some;
-      };
-      closing = record {
-        all_published = g.closing.all_published;
-        over_closed = g.closing.over_closed;
-        drained_over = λ h. ⊎_elim (λ (old : c.drained ≡ true). g.closing.drained_over old) (λ (new : (c.over ≡ true) × ((found == c.collected) ≡ true)). new.0)
-            (drained_by c.drained c.over (found == c.collected) h);
-        drained_all = λ h. ⊎_elim (λ (old : c.drained ≡ true). g.closing.drained_all old)
-            (λ (new : (c.over ≡ true) × ((found == c.collected) ≡ true)). sym (eqb-true found c.collected new.1) ∙ published ∙ g.closing.all_published (g.closing.over_closed new.0))
-            (drained_by c.drained c.over (found == c.collected) h);
-      };
+      all_published = e.all_published;
+      over_closed = e.over_closed;
+      drained_over = λ h. ⊎_elim e.drained_over (λ (now : (c.over ≡ true) × ((found == c.collected) ≡ true)). now.0) (drained h);
+      drained_all = λ h. ⊎_elim e.drained_all
+          (λ (now : (c.over ≡ true) × ((found == c.collected) ≡ true)).
+          sym (eqb-true found c.collected now.1) ∙ is ∙ e.all_published (e.over_closed now.0)) (drained h);
+    }
+
+-- the number of published answers, at the client
+finds_agree : (depth p : ℕ) (at : Place → ℕ) (d : DeskView) (c : ClientView) (found : ℕ) → found ≡ at (answered p)
+    → Agrees depth p at d c → Agrees depth p at d (client_found c d.journal found)
+finds_agree depth p at d c found is g =
+    let published : found ≡ (tally_at d.tallies p).published = is ∙ g.answers.answered_word in
+    record {
+      requests = requests_same g.requests;
+      answers = answers_found published g.answers;
+      closing = closing_found published g.closing;
     }
 
 pub may_find : (setup : Setup) (slots id : ℕ) (me : Seated) (c : ClientView) (word : ℕ) (told : Step (Unit {0})) → HasClient c me
@@ -126,8 +114,10 @@ may_find setup slots id me c word told is where_is =
       client_loads setup s k id c (client_found c k.desk.journal found) word here refl refl
           (λ l agrees. finds_agree setup.depth c.process at k.desk c found found_is agrees),
       λ u e. subst (λ (v : ClientView).
-          (journal : List Event) × HasClient (client_found v journal found) (Client (client_found c k.desk.journal found), []) × IsSeen v journal
-          × (v.known ≤ found) × (found ≤ length (answers_to v.process journal)) × (v.over ≡ true → found ≡ length (answers_to v.process journal)) × (v.collected ≤ v.known)) (client_is c u e) (
+          (journal : List Event) × HasClient (client_found v journal found) (Client (client_found c k.desk.journal found), [])
+          × IsSeen v journal
+          × (v.known ≤ found) × (found ≤ length (answers_to v.process journal)) × (v.over ≡ true
+          → found ≡ length (answers_to v.process journal)) × (v.collected ≤ v.known)) (client_is c u e) (
             k.desk.journal,
             refl,
             record {
@@ -144,46 +134,44 @@ may_find setup slots id me c word told is where_is =
     ))
 
 -- the next word of the next answer, which is published
-next_word : (depth p : ℕ) (at : Place → ℕ) (d : DeskView) (c : ClientView) → c.collected < c.known → length c.read < 6 → Agrees depth p at d c
-    → (a : ℕ × Reply × ℕ) × (get_elem? (answers_to p d.journal) c.collected ≡ some a) × (get_elem? (answers_to p c.seen) c.collected ≡ some a) × ReplyFits a.1
+next_word : (depth p : ℕ) (at : Place → ℕ) (d : DeskView) (c : ClientView) → c.collected < c.known
+    → length c.read < 6 → Agrees depth p at d c
+    → (a : ℕ × Reply × ℕ) × (get_elem? (answers_to p d.journal) c.collected ≡ some a)
+    × (get_elem? (answers_to p c.seen) c.collected ≡ some a) × ReplyFits a.1
     × IsPrefixOf (c.read ++ at (answer_cell depth p c.collected (length c.read)) ∷ []) (answer_spelled a.1 a.2)
 next_word depth p at d c more few g =
     let t = g.answers in
     let i : ℕ = length c.read in
     let known = t.known_most in
     let seen_known = t.seen_known in
-    let next : (a : ℕ × Reply × ℕ) × (get_elem? (answers_to p c.seen) c.collected ≡ some a) = some_at (answers_to p c.seen) c.collected (omega arith) in
+    let next : (a : ℕ × Reply × ℕ) × (get_elem? (answers_to p c.seen) c.collected ≡ some a) =
+    some_at (answers_to p c.seen) c.collected (omega arith) in
     let a : ℕ × Reply × ℕ = next.0 in
     let front = answers_front p 1 c.seen t.seen.0 in
     let all : answers_to p d.journal ≡ answers_to p c.seen ++ front.0 = ap (answers_to p) t.seen.1 ∙ front.1 in
     let there : get_elem? (answers_to p d.journal) c.collected ≡ some a =
-    subst (λ (l : List (ℕ × Reply × ℕ)). get_elem? l c.collected ≡ some a) (sym all) (at_longer (answers_to p c.seen) front.0 c.collected a next.1) in
-    let word : (x : ℕ) × (get_elem? (answer_spelled a.1 a.2) i ≡ some x) = some_at (answer_spelled a.1 a.2) i (omega (arith, answer_six a.1 a.2)) in
+    subst (λ (l : List (ℕ × Reply × ℕ)). get_elem? l c.collected ≡ some a) (sym all)
+    (at_longer (answers_to p c.seen) front.0 c.collected a next.1) in
+    let word : (x : ℕ) × (get_elem? (answer_spelled a.1 a.2) i ≡ some x) =
+    some_at (answer_spelled a.1 a.2) i (omega (arith, answer_six a.1 a.2)) in
     let low : c.collected ≤ c.collected = omega arith in
-    let is : at (answer_cell depth p c.collected i) ≡ word.0 = t.cells c.collected a low (omega arith) there i word.0 word.1 in
-    (a, there, next.1, t.fit c.collected a (omega arith) there, prefix_more c.read (answer_spelled a.1 a.2) (at (answer_cell depth p c.collected i)) (t.reads a there) (word.1 ∙ ap (λ (y : ℕ). some y) (sym is)))
+    let is : at (answer_cell depth p c.collected i) ≡ word.0 = t.cells c.collected a low (omega arith) there i word.0 word.1 in (
+      a,
+      there,
+      next.1,
+      t.fit c.collected a (omega arith) there,
+      prefix_more c.read (answer_spelled a.1 a.2)
+          (at (answer_cell depth p c.collected i)) (t.reads a there) (word.1 ∙ ap (λ (y : ℕ). some y) (sym is)),
+    )
 
 -- a word of the next answer, before the last
-gets_agree : (depth p : ℕ) (at : Place → ℕ) (d : DeskView) (c : ClientView) (a : ℕ × Reply × ℕ) (found : ℕ) → c.collected < c.known → get_elem? (answers_to p d.journal) c.collected ≡ some a
+gets_agree : (depth p : ℕ) (at : Place → ℕ) (d : DeskView) (c : ClientView) (a : ℕ × Reply × ℕ) (found : ℕ) → c.collected < c.known
+    → get_elem? (answers_to p d.journal) c.collected ≡ some a
     → IsPrefixOf (c.read ++ found ∷ []) (answer_spelled a.1 a.2) → Agrees depth p at d c → Agrees depth p at d (client_read c found)
 gets_agree depth p at d c a found more there begins g =
-    let q = g.requests in let t = g.answers in
+    let t = g.answers in
     record {
-      requests = record {
-        posted_word = q.posted_word;
-        taken_word = q.taken_word;
-        in_order = q.in_order;
-        looked_least = q.looked_least;
-        looked_most = q.looked_most;
-        fit = q.fit;
-        cells = q.cells;
-        few = q.few;
-        room = q.room;
-        filled = q.filled;
-        filled_most = q.filled_most;
-        reads = q.reads;
-        reads_some = q.reads_some;
-      };
+      requests = requests_same g.requests;
       answers = record {
         answered_word = t.answered_word;
         collected_most = t.collected_most;
@@ -194,18 +182,20 @@ gets_agree depth p at d c a found more there begins g =
         cells = t.cells;
         seen = t.seen;
         seen_known = t.seen_known;
-        reads = λ b e. subst (λ (y : ℕ × Reply × ℕ). IsPrefixOf (c.read ++ found ∷ []) (answer_spelled y.1 y.2)) (some-injective a b (sym there ∙ e)) begins;
+        reads = λ b e. subst (λ (y : ℕ × Reply × ℕ). IsPrefixOf (c.read ++ found ∷ []) (answer_spelled y.1 y.2))
+            (some-injective a b (sym there ∙ e)) begins;
         reads_known = λ _. more;
         filled = t.filled;
         fills = t.fills;
         filled_most = t.filled_most;
         fills_some = t.fills_some;
       };
-      closing = record { all_published = g.closing.all_published; over_closed = g.closing.over_closed; drained_over = g.closing.drained_over; drained_all = g.closing.drained_all };
+      closing = closing_same g.closing;
     }
 
 -- the last word of the next answer
-collects_agree : (depth p : ℕ) (at : Place → ℕ) (d : DeskView) (c : ClientView) → c.collected < c.known → Agrees depth p at d c → Agrees depth p at d (client_collected c)
+collects_agree : (depth p : ℕ) (at : Place → ℕ) (d : DeskView) (c : ClientView) → c.collected < c.known → Agrees depth p at d c
+    → Agrees depth p at d (client_collected c)
 collects_agree depth p at d c more g =
     let q = g.requests in let t = g.answers in
     let room = q.room in let known = t.known_most in let published = t.published_most in
@@ -250,7 +240,8 @@ collects_agree depth p at d c more g =
       };
     }
 
-pub may_get : (setup : Setup) (slots id : ℕ) (me : Seated) (c : ClientView) (word : ℕ) (told : Step (Unit {0})) → HasClient c me → c.collected < c.known → length c.read < 6
+pub may_get : (setup : Setup) (slots id : ℕ) (me : Seated) (c : ClientView) (word : ℕ) (told : Step (Unit {0})) → HasClient c me
+    → c.collected < c.known → length c.read < 6
     → word ≡ index_of setup.processes setup.depth (answer_cell setup.depth c.process c.collected (length c.read))
     → Allows (Kept setup) slots id me word (λ n. n) (Gets told me)
 may_get setup slots id me c word told is more few where_is =
@@ -259,7 +250,8 @@ may_get setup slots id me c word told is more few where_is =
     let found : ℕ = get_or s.words word 0 in
     let at : Place → ℕ = word_at setup.processes setup.depth s.words in
     let next = next_word setup.depth c.process at k.desk c more few (mine_at setup s k id c here) in
-    let begins = subst (λ (x : ℕ). IsPrefixOf (c.read ++ x ∷ []) (answer_spelled next.0.1 next.0.2)) (ap (λ (i : ℕ). get_or s.words i 0) (sym where_is)) next.4 in (
+    let begins = subst (λ (x : ℕ). IsPrefixOf (c.read ++ x ∷ []) (answer_spelled next.0.1 next.0.2))
+    (ap (λ (i : ℕ). get_or s.words i 0) (sym where_is)) next.4 in (
       Client (client_read c found),
       keeps,
       tt,
@@ -268,7 +260,8 @@ may_get setup slots id me c word told is more few where_is =
       λ u e. ap (λ (v : ClientView). (Client (client_read v found), [])) (client_is c u e),
     ))
 
-pub may_collect : (setup : Setup) (slots id : ℕ) (me : Seated) (c : ClientView) (word : ℕ) (told : Step (Unit {0})) → HasClient c me → c.collected < c.known → length c.read ≡ 5
+pub may_collect : (setup : Setup) (slots id : ℕ) (me : Seated) (c : ClientView) (word : ℕ) (told : Step (Unit {0})) → HasClient c me
+    → c.collected < c.known → length c.read ≡ 5
     → word ≡ index_of setup.processes setup.depth (answer_cell setup.depth c.process c.collected (length c.read))
     → Allows (Kept setup) slots id me word (λ n. n) (Collects told me)
 may_collect setup slots id me c word told is more five where_is =
@@ -278,11 +271,14 @@ may_collect setup slots id me c word told is more five where_is =
     let at : Place → ℕ = word_at setup.processes setup.depth s.words in
     let g = mine_at setup s k id c here in
     let next = next_word setup.depth c.process at k.desk c more (omega arith) g in
-    let begins = subst (λ (x : ℕ). IsPrefixOf (c.read ++ x ∷ []) (answer_spelled next.0.1 next.0.2)) (ap (λ (i : ℕ). get_or s.words i 0) (sym where_is)) next.4 in
+    let begins = subst (λ (x : ℕ). IsPrefixOf (c.read ++ x ∷ []) (answer_spelled next.0.1 next.0.2))
+    (ap (λ (i : ℕ). get_or s.words i 0) (sym where_is)) next.4 in
     let whole : c.read ++ found ∷ [] ≡ answer_spelled next.0.1 next.0.2 =
-    prefix_all (c.read ++ found ∷ []) (answer_spelled next.0.1 next.0.2) begins (length-append c.read (found ∷ []) ∙ ap (λ (n : ℕ). n + 1) five ∙ sym (answer_six next.0.1 next.0.2)) in
+    prefix_all (c.read ++ found ∷ []) (answer_spelled next.0.1 next.0.2) begins (length-append c.read (found ∷ [])
+    ∙ ap (λ (n : ℕ). n + 1) five ∙ sym (answer_six next.0.1 next.0.2)) in
     let below : c.collected < length c.posted =
-    (let x = g.answers.known_most in let y = g.answers.published_most in let z = g.answers.in_turn.most in let v = g.requests.looked_least in let w = g.requests.looked_most in omega arith) in (
+    (let x = g.answers.known_most in let y = g.answers.published_most in let z = g.answers.in_turn.most in
+    let v = g.requests.looked_least in let w = g.requests.looked_most in omega arith) in (
       Client (client_collected c),
       keeps,
       tt,
@@ -290,48 +286,19 @@ may_collect setup slots id me c word told is more five where_is =
           (λ l agrees. collects_agree setup.depth c.process at k.desk c more agrees),
       λ u e. subst (λ (v : ClientView).
           HasClient (client_collected v) (Client (client_collected c), [])
-          × ((a : ℕ × Reply × ℕ) × (get_elem? (answers_to v.process v.seen) v.collected ≡ some a) × ReplyFits a.1 × (v.read ++ found ∷ [] ≡ answer_spelled a.1 a.2))
+          × ((a : ℕ × Reply × ℕ) × (get_elem? (answers_to v.process v.seen) v.collected ≡ some a) × ReplyFits a.1
+          × (v.read ++ found ∷ [] ≡ answer_spelled a.1 a.2))
           × (v.collected < length v.posted)) (client_is c u e)
           (refl, (next.0, next.2, next.3, whole), below),
     ))
 
 -- the closing mark, at the client
-marks_agree : (depth p : ℕ) (at : Place → ℕ) (d : DeskView) (c : ClientView) (found : ℕ) → (found ≡ 1 → d.closed ≡ true) → (d.closed ≡ true → found ≡ 1) → Agrees depth p at d c → Agrees depth p at d (client_marked c found)
+marks_agree : (depth p : ℕ) (at : Place → ℕ) (d : DeskView) (c : ClientView) (found : ℕ) → (found ≡ 1 → d.closed ≡ true)
+    → (d.closed ≡ true → found ≡ 1) → Agrees depth p at d c → Agrees depth p at d (client_marked c found)
 marks_agree depth p at d c found one closed g =
-    let q = g.requests in let t = g.answers in
     record {
-      requests = record {
-        posted_word = q.posted_word;
-        taken_word = q.taken_word;
-        in_order = q.in_order;
-        looked_least = q.looked_least;
-        looked_most = q.looked_most;
-        fit = q.fit;
-        cells = q.cells;
-        few = q.few;
-        room = q.room;
-        filled = q.filled;
-        filled_most = q.filled_most;
-        reads = q.reads;
-        reads_some = q.reads_some;
-      };
-      answers = record {
-        answered_word = t.answered_word;
-        collected_most = t.collected_most;
-        known_most = t.known_most;
-        published_most = t.published_most;
-        in_turn = t.in_turn;
-        fit = t.fit;
-        cells = t.cells;
-        seen = t.seen;
-        seen_known = t.seen_known;
-        reads = t.reads;
-        reads_known = t.reads_known;
-        filled = t.filled;
-        fills = t.fills;
-        filled_most = t.filled_most;
-        fills_some = t.fills_some;
-      };
+      requests = requests_same g.requests;
+      answers = answers_same g.answers;
       closing = record {
         all_published = g.closing.all_published;
         over_closed = λ h. one (eqb-true found 1 h);
@@ -344,7 +311,8 @@ mark_is : (b : Bool) → mark_of b ≡ 1 → b ≡ true
 mark_is true h = refl
 mark_is false h = absurd (omega arith)
 
-pub may_mark : (setup : Setup) (slots id : ℕ) (me : Seated) (c : ClientView) (told : Step (Unit {0})) → HasClient c me → Allows (Kept setup) slots id me 0 (λ n. n) (Marks told me)
+pub may_mark : (setup : Setup) (slots id : ℕ) (me : Seated) (c : ClientView) (told : Step (Unit {0})) → HasClient c me
+    → Allows (Kept setup) slots id me 0 (λ n. n) (Marks told me)
 may_mark setup slots id me c told is =
     subst (λ (y : Seated). Allows (Kept setup) slots id y 0 (λ n. n) (Marks told y)) (sym is)
     (λ s k wide here _.
@@ -356,7 +324,9 @@ may_mark setup slots id me c told is =
       Client (client_marked c found),
       keeps,
       tt,
-      client_loads setup s k id c (client_marked c found) 0 here refl refl (λ l agrees. marks_agree setup.depth c.process at k.desk c found one closed agrees),
-      λ u e. subst (λ (v : ClientView). HasClient (client_marked v found) (Client (client_marked c found), []) × (v.over ≡ true → found ≡ 1)) (client_is c u e)
+      client_loads setup s k id c (client_marked c found) 0 here refl refl (λ l agrees. marks_agree setup.depth c.process at k.desk
+          c found one closed agrees),
+      λ u e. subst (λ (v : ClientView). HasClient (client_marked v found) (Client (client_marked c found), []) × (v.over ≡ true
+          → found ≡ 1)) (client_is c u e)
           (refl, λ over. closed (g.closing.over_closed over)),
     ))

@@ -24,15 +24,19 @@ use Rattle.call_table.proofs.Frames.{request_six, desk_stays}
 use Rattle.call_table.proofs.Moves.{desk_moves}
 
 -- what a load of the desk owes
-pub desk_loads : (setup : Setup) (s : State (Unit {0}) View) (k : Kept setup s) (id : ℕ) (d now : DeskView) (word : ℕ) → get_elem? s.views id ≡ some (Desk d)
+pub desk_loads : (setup : Setup) (s : State (Unit {0}) View) (k : Kept setup s) (id : ℕ) (d now : DeskView) (word : ℕ)
+    → get_elem? s.views id ≡ some (Desk d)
     → now.made ≡ d.made → now.setup ≡ d.setup → now.journal ≡ d.journal → now.closed ≡ d.closed
     → ((p : ℕ) → IsProcess setup.processes p → Agrees setup.depth p (word_at setup.processes setup.depth s.words) d (k.clients p)
     → Agrees setup.depth p (word_at setup.processes setup.depth s.words) now (k.clients p))
     → Kept setup record { words = set s.words word (get_or s.words word 0); homes = s.homes; views = set s.views id (Desk now) }
 desk_loads setup s k id d now word here made told journal closed each =
-    subst (λ (words : List ℕ). Kept setup record { words = words; homes = s.homes; views = set s.views id (Desk now) }) (sym (set-get_or s.words word 0))
+    subst (λ (words : List ℕ). Kept setup record { words = words; homes = s.homes; views = set s.views id (Desk now) })
+    (sym (set-get_or s.words word 0))
     (desk_moves setup s k id d now s.words here made told refl
-    (λ run. subst (λ (h : List Rattle.session_core.specs.Event.Event). ∥ ((T : Rattle.lock_manager.specs.State.State) × Rattle.session_core.specs.Runs.IsRun setup.rules setup.processes h T) ∥₁) (sym journal) run)
+    (λ run. subst (λ (h : List Rattle.session_core.specs.Event.Event). ∥
+    ((T : Rattle.lock_manager.specs.State.State) × Rattle.session_core.specs.Runs.IsRun setup.rules setup.processes h T) ∥₁)
+    (sym journal) run)
     (λ marked. marked ∙ ap Rattle.call_table.specs.Rule.mark_of (sym closed))
     (λ p a b agrees. each p (a, b) agrees))
 
@@ -40,10 +44,15 @@ pub desk_is : (d u : DeskView) → HasDesk u (Desk d, []) → d ≡ u
 desk_is d u e = ap (λ (m : Seated). desk_of m.0) e
 
 -- a look: the number of posted requests of process p, at the client that posted them
-looks_agree : (depth p : ℕ) (at : Place → ℕ) (d : DeskView) (c : ClientView) (found : ℕ) → found ≡ at (posted p) → Agrees depth p at d c → Agrees depth p at (desk_looked d p found) c
+looks_agree : (depth p : ℕ) (at : Place → ℕ) (d : DeskView) (c : ClientView) (found : ℕ) → found ≡ at (posted p)
+    → Agrees depth p at d c → Agrees depth p at (desk_looked d p found) c
 looks_agree depth p at d c found is g =
     let q = g.requests in
-    let t : Tally = record { published = (tally_at d.tallies p).published; looked = found; probes = (tally_at d.tallies p).probes + 1 } in
+    let t : Tally = record {
+      published = (tally_at d.tallies p).published;
+      looked = found;
+      probes = (tally_at d.tallies p).probes + 1;
+    } in
     let now : tally_at (with_tally d.tallies p t) p ≡ t = tally_here d.tallies p t in
     let all : found ≡ length c.posted = is ∙ q.posted_word in
     record {
@@ -66,7 +75,8 @@ looks_agree depth p at d c found is g =
       closing = subst (λ (u : Tally). ClosingAgrees p d.journal u.published d.closed c) (sym now) g.closing;
     }
 
-pub may_look : (setup : Setup) (slots id : ℕ) (me : Seated) (d : DeskView) (word : ℕ) → IsProcess setup.processes word → HasDesk d me
+pub may_look : (setup : Setup) (slots id : ℕ) (me : Seated) (d : DeskView) (word : ℕ)
+    → IsProcess setup.processes word → HasDesk d me
     → Allows (Kept setup) slots id me word (λ n. n) (Looks (step slots word 0 0 none) me)
 may_look setup slots id me d word l is =
     subst (λ (y : Seated). Allows (Kept setup) slots id y word (λ n. n) (Looks (step slots word 0 0 none) y)) (sym is)
@@ -74,7 +84,8 @@ may_look setup slots id me d word l is =
     let found : ℕ = get_or s.words word 0 in
     let mine_is = k.stands id (Desk d) here in
     let g : Agrees setup.depth word (word_at setup.processes setup.depth s.words) d (k.clients word) =
-    subst (λ (x : DeskView). Agrees setup.depth word (word_at setup.processes setup.depth s.words) x (k.clients word)) (sym mine_is.view_is) (k.each word l.0 l.1) in
+    subst (λ (x : DeskView). Agrees setup.depth word (word_at setup.processes setup.depth s.words) x (k.clients word))
+    (sym mine_is.view_is) (k.each word l.0 l.1) in
     let all = g.requests.posted_word in
     let least = g.requests.looked_least in let most = g.requests.looked_most in (
       Desk (desk_looked d word found),
@@ -82,10 +93,13 @@ may_look setup slots id me d word l is =
       tt,
       desk_loads setup s k id d (desk_looked d word found) word here refl refl refl refl
           (λ q a agrees. dite (ℕ_discrete q word)
-          (λ e. subst (λ (x : ℕ). Agrees setup.depth x (word_at setup.processes setup.depth s.words) (desk_looked d word found) (k.clients x)) (sym e)
+          (λ e. subst (λ (x : ℕ). Agrees setup.depth x (word_at setup.processes setup.depth s.words)
+          (desk_looked d word found) (k.clients x)) (sym e)
           (looks_agree setup.depth word (word_at setup.processes setup.depth s.words) d (k.clients word) found refl g))
-          (λ n. desk_stays setup.depth q (word_at setup.processes setup.depth s.words) d (desk_looked d word found) (k.clients q) refl refl
-          (ap (λ (t : Tally). t.looked) (tally_else d.tallies word q _ n)) (ap (λ (t : Tally). t.published) (tally_else d.tallies word q _ n))
+          (λ n. desk_stays setup.depth q (word_at setup.processes setup.depth s.words) d (desk_looked d word found) (k.clients q)
+          refl refl
+          (ap (λ (t : Tally). t.looked) (tally_else d.tallies word q _ n))
+          (ap (λ (t : Tally). t.published) (tally_else d.tallies word q _ n))
           (λ e. absurd (n (sym e))) (λ _. refl) agrees)),
       λ u e. let same = desk_is d u e in (
         ap (λ (v : DeskView). (Desk (desk_looked v word found), [])) same,
@@ -96,15 +110,19 @@ may_look setup slots id me d word l is =
     ))
 
 -- what holds of a process, at the view of the desk's seat
-pub agrees_at : (setup : Setup) (s : State (Unit {0}) View) (k : Kept setup s) (id : ℕ) (d : DeskView) → get_elem? s.views id ≡ some (Desk d)
+pub agrees_at : (setup : Setup) (s : State (Unit {0}) View) (k : Kept setup s) (id : ℕ) (d : DeskView)
+    → get_elem? s.views id ≡ some (Desk d)
     → (p : ℕ) → IsProcess setup.processes p → Agrees setup.depth p (word_at setup.processes setup.depth s.words) d (k.clients p)
 agrees_at setup s k id d here p l =
     let mine_is = k.stands id (Desk d) here in
-    subst (λ (x : DeskView). Agrees setup.depth p (word_at setup.processes setup.depth s.words) x (k.clients p)) (sym mine_is.view_is) (k.each p l.0 l.1)
+    subst (λ (x : DeskView). Agrees setup.depth p (word_at setup.processes setup.depth s.words) x (k.clients p))
+    (sym mine_is.view_is) (k.each p l.0 l.1)
 
 -- a read: a word of the next untaken request of process p
-reads_agree : (depth p : ℕ) → 1 ≤ p → (at : Place → ℕ) (d : DeskView) (c : ClientView) (r : Request) (found : ℕ) → d.reading.0 ≡ p → get_elem? c.posted (length (requests_taken p d.journal)) ≡ some r
-    → IsPrefixOf (d.reading.1 ++ found ∷ []) (request_spelled r) → length (requests_taken p d.journal) < (tally_at d.tallies p).looked
+reads_agree : (depth p : ℕ) → 1 ≤ p → (at : Place → ℕ) (d : DeskView) (c : ClientView) (r : Request) (found : ℕ) → d.reading.0 ≡ p
+    → get_elem? c.posted (length (requests_taken p d.journal)) ≡ some r
+    → IsPrefixOf (d.reading.1 ++ found ∷ []) (request_spelled r)
+    → length (requests_taken p d.journal) < (tally_at d.tallies p).looked
     → Agrees depth p at d c → Agrees depth p at (desk_read d found) c
 reads_agree depth p l at d c r found mine next begins some_left g =
     let q = g.requests in
@@ -121,7 +139,8 @@ reads_agree depth p l at d c r found mine next begins some_left g =
         room = q.room;
         filled = q.filled;
         filled_most = q.filled_most;
-        reads = λ _ x e. subst (λ (y : Request). IsPrefixOf (d.reading.1 ++ found ∷ []) (request_spelled y)) (some-injective r x (sym next ∙ e)) begins;
+        reads = λ _ x e. subst (λ (y : Request). IsPrefixOf (d.reading.1 ++ found ∷ []) (request_spelled y))
+            (some-injective r x (sym next ∙ e)) begins;
         reads_some = λ _ _. some_left;
       };
       answers = g.answers;
@@ -129,10 +148,12 @@ reads_agree depth p l at d c r found mine next begins some_left g =
     }
 
 -- the next untaken request of a process of which more was seen than taken, and its word that is next to be read
-next_word : (depth p : ℕ) (at : Place → ℕ) (d : DeskView) (c : ClientView) → d.reading.0 ≡ p → length (requests_taken p d.journal) < (tally_at d.tallies p).looked → length d.reading.1 < 6
+next_word : (depth p : ℕ) (at : Place → ℕ) (d : DeskView) (c : ClientView) → d.reading.0 ≡ p
+    → length (requests_taken p d.journal) < (tally_at d.tallies p).looked → length d.reading.1 < 6
     → Agrees depth p at d c
     → (r : Request) × (get_elem? c.posted (length (requests_taken p d.journal)) ≡ some r) × RequestFits r
-    × IsPrefixOf (d.reading.1 ++ at (request_cell depth p (length (requests_taken p d.journal)) (length d.reading.1)) ∷ []) (request_spelled r)
+    × IsPrefixOf (d.reading.1 ++ at (request_cell depth p (length (requests_taken p d.journal)) (length d.reading.1)) ∷ [])
+    (request_spelled r)
 next_word depth p at d c mine some_left few g =
     let q = g.requests in
     let n : ℕ = length (requests_taken p d.journal) in
@@ -140,13 +161,21 @@ next_word depth p at d c mine some_left few g =
     let most = q.looked_most in
     let next : (r : Request) × (get_elem? c.posted n ≡ some r) = some_at c.posted n (omega arith) in
     let r : Request = next.0 in
-    let word : (x : ℕ) × (get_elem? (request_spelled r) i ≡ some x) = some_at (request_spelled r) i (omega (arith, request_six r)) in
-    let is : at (request_cell depth p n i) ≡ word.0 = q.cells n r (let h : n ≤ n = omega arith in h) next.1 i word.0 word.1 in
-    (r, next.1, q.fit n r next.1, prefix_more d.reading.1 (request_spelled r) (at (request_cell depth p n i)) (q.reads mine r next.1) (word.1 ∙ ap (λ (y : ℕ). some y) (sym is)))
+    let word : (x : ℕ) × (get_elem? (request_spelled r) i ≡ some x) =
+    some_at (request_spelled r) i (omega (arith, request_six r)) in
+    let is : at (request_cell depth p n i) ≡ word.0 = q.cells n r (let h : n ≤ n = omega arith in h) next.1 i word.0 word.1 in (
+      r,
+      next.1,
+      q.fit n r next.1,
+      prefix_more d.reading.1 (request_spelled r) (at (request_cell depth p n i))
+          (q.reads mine r next.1) (word.1 ∙ ap (λ (y : ℕ). some y) (sym is)),
+    )
 
-pub may_read : (setup : Setup) (slots id : ℕ) (me : Seated) (d : DeskView) (p word : ℕ) (told : Step (Unit {0})) → IsProcess setup.processes p → HasDesk d me → d.reading.0 ≡ p
+pub may_read : (setup : Setup) (slots id : ℕ) (me : Seated) (d : DeskView) (p word : ℕ) (told : Step (Unit {0}))
+    → IsProcess setup.processes p → HasDesk d me → d.reading.0 ≡ p
     → length (requests_taken p d.journal) < (tally_at d.tallies p).looked → length d.reading.1 < 6
-    → word ≡ index_of setup.processes setup.depth (request_cell setup.depth p (length (requests_taken p d.journal)) (length d.reading.1))
+    → word ≡ index_of setup.processes setup.depth
+    (request_cell setup.depth p (length (requests_taken p d.journal)) (length d.reading.1))
     → Allows (Kept setup) slots id me word (λ n. n) (Reads told me)
 may_read setup slots id me d p word told l is mine some_left few where_is =
     subst (λ (y : Seated). Allows (Kept setup) slots id y word (λ n. n) (Reads told y)) (sym is)
@@ -155,8 +184,10 @@ may_read setup slots id me d p word told l is mine some_left few where_is =
     let at : Place → ℕ = word_at setup.processes setup.depth s.words in
     let g = agrees_at setup s k id d here p l in
     let next = next_word setup.depth p at d (k.clients p) mine some_left few g in
-    let same : at (request_cell setup.depth p (length (requests_taken p d.journal)) (length d.reading.1)) ≡ found = ap (λ (i : ℕ). get_or s.words i 0) (sym where_is) in
-    let begins : IsPrefixOf (d.reading.1 ++ found ∷ []) (request_spelled next.0) = subst (λ (x : ℕ). IsPrefixOf (d.reading.1 ++ x ∷ []) (request_spelled next.0)) same next.3 in (
+    let same : at (request_cell setup.depth p (length (requests_taken p d.journal)) (length d.reading.1)) ≡ found =
+    ap (λ (i : ℕ). get_or s.words i 0) (sym where_is) in
+    let begins : IsPrefixOf (d.reading.1 ++ found ∷ []) (request_spelled next.0) =
+    subst (λ (x : ℕ). IsPrefixOf (d.reading.1 ++ x ∷ []) (request_spelled next.0)) same next.3 in (
       Desk (desk_read d found),
       keeps,
       tt,
@@ -168,6 +199,11 @@ may_read setup slots id me d p word told l is mine some_left few where_is =
           (λ e. absurd (n (sym e ∙ mine))) (λ _. refl) agrees)),
       λ u e. let same_desk = desk_is d u e in (
         ap (λ (v : DeskView). (Desk (desk_read v found), [])) same_desk,
-        (next.0, next.2, subst (λ (v : DeskView). IsPrefixOf (v.reading.1 ++ found ∷ []) (request_spelled next.0)) same_desk begins),
+        (
+          next.0,
+          next.2,
+          subst (λ (v : DeskView). IsPrefixOf (v.reading.1 ++ found ∷ []) (request_spelled next.0)) same_desk
+              begins,
+        ),
       ),
     ))

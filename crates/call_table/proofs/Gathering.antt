@@ -22,10 +22,12 @@ use Rattle.call_table.proofs.Posting.{view_is}
 use Rattle.call_table.proofs.Collecting.{may_get, may_collect}
 use Rattle.call_table.proofs.InTurnLaws.{number_at}
 
-pub sits_as : (setup : Setup) (me after : Seated) (process posted collected now : ℕ) (c : ClientView) → SitsAs me setup process posted collected → HasClient c after
+pub sits_as : (setup : Setup) (me after : Seated) (process posted collected now : ℕ) (c : ClientView)
+    → SitsAs me setup process posted collected → HasClient c after
     → c.process ≡ (client_of me.0).process → c.posted ≡ (client_of me.0).posted → c.collected ≡ now → c.filled ≡ [] → c.read ≡ []
     → collected ≤ now → now ≤ posted → SitsAs after setup process posted now
-sits_as setup me after process posted collected now c sits is process_same posted_same collected_is filled_none read_none more most =
+sits_as setup me after process posted collected now c sits is process_same posted_same collected_is
+    filled_none read_none more most =
     let same : client_of after.0 ≡ c = view_is c after is in
     let room = sits.room in
     record {
@@ -43,17 +45,21 @@ sits_as setup me after process posted collected now c sits is process_same poste
     }
 
 -- the word i of the next answer may be loaded, after those before it
-pub may_get_next : (setup key : Setup) (slots id : ℕ) (me : Seated) (c : ClientView) (words : List ℕ) (p before i word : ℕ) (step : Step (Unit {0})) → key ≡ setup
-    → HasClient (record c { read = take i words }) me → c.process ≡ p → c.collected ≡ before → before < c.known → i < 5 → length words ≡ 6
+pub may_get_next : (setup key : Setup) (slots id : ℕ) (me : Seated) (c : ClientView) (words : List ℕ) (p before i word : ℕ)
+    (step : Step (Unit {0})) → key ≡ setup
+    → HasClient (record c { read = take i words }) me → c.process ≡ p → c.collected ≡ before → before < c.known
+    → i < 5 → length words ≡ 6
     → word ≡ index_of setup.processes setup.depth (answer_cell setup.depth p before i)
     → Allows (Kept key) slots id me word (λ n. n) (Gets step me)
 may_get_next setup key slots id me c words p before i word step same is process collected_is known few wide where_is =
     let so_far : length (take i words) ≡ i = length-take-le i words (omega arith) in
     subst (λ (k : Setup). Allows (Kept k) slots id me word (λ n. n) (Gets step me)) (sym same)
     (may_get setup slots id me (record c { read = take i words }) word step is (omega arith) (omega arith)
-    (where_is ∙ (λ j. index_of setup.processes setup.depth (answer_cell setup.depth (sym process j) (sym collected_is j) (sym so_far j)))))
+    (where_is ∙ (λ j. index_of setup.processes setup.depth
+    (answer_cell setup.depth (sym process j) (sym collected_is j) (sym so_far j)))))
 
-pub may_collect_last : (setup key : Setup) (slots id : ℕ) (me : Seated) (c : ClientView) (words : List ℕ) (p before word : ℕ) (step : Step (Unit {0})) → key ≡ setup
+pub may_collect_last : (setup key : Setup) (slots id : ℕ) (me : Seated) (c : ClientView) (words : List ℕ) (p before word : ℕ)
+    (step : Step (Unit {0})) → key ≡ setup
     → HasClient (record c { read = take 5 words }) me → c.process ≡ p → c.collected ≡ before → before < c.known → length words ≡ 6
     → word ≡ index_of setup.processes setup.depth (answer_cell setup.depth p before 5)
     → Allows (Kept key) slots id me word (λ n. n) (Collects step me)
@@ -61,26 +67,37 @@ may_collect_last setup key slots id me c words p before word step same is proces
     let so_far : length (take 5 words) ≡ 5 = length-take-le 5 words (omega arith) in
     subst (λ (k : Setup). Allows (Kept k) slots id me word (λ n. n) (Collects step me)) (sym same)
     (may_collect setup slots id me (record c { read = take 5 words }) word step is (omega arith) so_far
-    (where_is ∙ (λ j. index_of setup.processes setup.depth (answer_cell setup.depth (sym process j) (sym collected_is j) (sym so_far j)))))
+    (where_is ∙ (λ j. index_of setup.processes setup.depth
+    (answer_cell setup.depth (sym process j) (sym collected_is j) (sym so_far j)))))
 
 pub read_next : (c : ClientView) (words : List ℕ) (i found : ℕ) (me : Seated) → i < length words
-    → HasClient (client_read (record c { read = take i words }) found) me → HasClient (record c { read = take (i + 1) (set words i found) }) me
-read_next c words i found me h is = is ∙ ap (λ (read : List ℕ). (Client (record c { read = read }), [])) (sym (take_more_set words i found h))
+    → HasClient (client_read (record c { read = take i words }) found) me
+    → HasClient (record c { read = take (i + 1) (set words i found) }) me
+read_next c words i found me h is = is ∙ ap (λ (read : List ℕ). (Client (record c { read = read }), []))
+    (sym (take_more_set words i found h))
 
 pub next_answer : (c : ClientView) (words : List ℕ) (found : ℕ) → length words ≡ 6
-    → ((a : ℕ × Reply × ℕ) × (get_elem? (answers_to c.process c.seen) c.collected ≡ some a) × ReplyFits a.1 × (take 5 words ++ found ∷ [] ≡ answer_spelled a.1 a.2))
+    → ((a : ℕ × Reply × ℕ) × (get_elem? (answers_to c.process c.seen) c.collected ≡ some a) × ReplyFits a.1
+    × (take 5 words ++ found ∷ [] ≡ answer_spelled a.1 a.2))
     → IsNextAnswer c (set words 5 found)
-next_answer c words found wide told =
-    (told.0, told.1, told.2, sym (take_all 6 (set words 5 found) (omega (arith, length-set words 5 found))) ∙ take_more_set words 5 found (omega arith) ∙ told.3)
+next_answer c words found wide told = (
+  told.0,
+  told.1,
+  told.2,
+  sym (take_all 6 (set words 5 found) (omega (arith, length-set words 5 found)))
+      ∙ take_more_set words 5 found (omega arith) ∙ told.3,
+)
 
 -- what a load of the number of published answers tells
 abbrev pub FoundSo : ClientView → ℕ → Seated → Type 0
 FoundSo c found after =
     (journal : List Event) × HasClient (client_found c journal found) after × IsSeen c journal
-    × (c.known ≤ found) × (found ≤ length (answers_to c.process journal)) × (c.over ≡ true → found ≡ length (answers_to c.process journal))
+    × (c.known ≤ found) × (found ≤ length (answers_to c.process journal)) × (c.over ≡ true
+    → found ≡ length (answers_to c.process journal))
     × (c.collected ≤ c.known)
 
-pub is_nothing : (c : ClientView) (after : Seated) (found collected : ℕ) → FoundSo c found after → c.collected ≡ collected → found ≡ collected → IsNothing c (client_of after.0)
+pub is_nothing : (c : ClientView) (after : Seated) (found collected : ℕ) → FoundSo c found after → c.collected ≡ collected
+    → found ≡ collected → IsNothing c (client_of after.0)
 is_nothing c after found collected told is none =
     let same : found ≡ c.collected = none ∙ sym is in
     record {
@@ -91,18 +108,21 @@ is_nothing c after found collected told is none =
       all = λ over. sym same ∙ told.5 over;
     }
 
-pub is_collected : (c : ClientView) (mid after : Seated) (found collected : ℕ) (words : List ℕ) (reply : Reply) (place : ℕ) → FoundSo c found mid → c.collected ≡ collected
+pub is_collected : (c : ClientView) (mid after : Seated) (found collected : ℕ) (words : List ℕ) (reply : Reply) (place : ℕ)
+    → FoundSo c found mid → c.collected ≡ collected
     → HasClient (client_collected (client_of mid.0)) after → IsNextAnswer (client_of mid.0) words
     → ((r : Reply) (p : ℕ) → ReplyFits r → words ≡ answer_spelled r p → (reply ≡ r) × (place ≡ p))
     → IsCollected c (client_of after.0) (collected + 1, reply, place)
 is_collected c mid after found collected words reply place told is now next reads =
     let was : client_of mid.0 ≡ client_found c told.0 found = view_is (client_found c told.0 found) mid told.1 in
-    let then : client_of after.0 ≡ client_collected (client_found c told.0 found) = view_is (client_collected (client_of mid.0)) after now ∙ ap client_collected was in
+    let then : client_of after.0 ≡ client_collected (client_found c told.0 found) =
+    view_is (client_collected (client_of mid.0)) after now ∙ ap client_collected was in
     let there : IsNextAnswer (client_found c told.0 found) words = subst (λ (v : ClientView). IsNextAnswer v words) was next in
     let a : ℕ × Reply × ℕ = there.0 in
     let read = reads a.1 a.2 there.2 there.3 in
     let number : a.0 ≡ c.collected + 1 = number_at c.process told.0 told.2.in_turn c.collected a there.1 in
-    let same : ◌≡◌ {A = ℕ × Reply × ℕ} a (collected + 1, reply, place) = λ i. ((number ∙ ap (λ (n : ℕ). n + 1) is) i, sym read.0 i, sym read.1 i) in
+    let same : ◌≡◌ {A = ℕ × Reply × ℕ} a (collected + 1, reply, place) =
+    λ i. ((number ∙ ap (λ (n : ℕ). n + 1) is) i, sym read.0 i, sym read.1 i) in
     record {
       journal = told.0;
       found = found;

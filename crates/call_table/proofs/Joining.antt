@@ -1,7 +1,6 @@
 -- The opening, and the steps by which seats are split and joined, keep the rule.
-use Rattle.std.proofs.Common.{◌≡◌, ◌≢◌, ⊎_elim, ℕ, zero, suc, ◌+◌, ◌*◌, ◌<◌, ◌≤◌, Bool, true, true≢false, eqb, cond, eq-eqb, ne_eqb, List, [], ◌∷◌, length, get_or, set, refl, sym, ap, ◌∙◌, subst, arith, length-set, append-nil}
-use Rattle.std.specs.Prelude.{◌==◌, replicate}
-use Rattle.std.proofs.lemmas.Bool.{eqb-true}
+use Rattle.std.proofs.Common.{◌≡◌, ◌≢◌, ⊎_elim, ℕ, zero, suc, ◌+◌, ◌*◌, ◌<◌, ◌≤◌, Bool, true, true≢false, eqb, cond, eq-eqb, ne_eqb, List, [], ◌∷◌, length, get_or, set, refl, sym, ap, ◌∙◌, subst, arith, length-set}
+use Rattle.std.specs.Prelude.{replicate}
 use Rattle.std.proofs.lemmas.Grind.{merely}
 use native.Mathlib.Decide.{ℕ_discrete}
 use mathlib.Core.Logic.{dite}
@@ -26,9 +25,9 @@ use Rattle.call_table.specs.Views.{client_of, desk_of, tally_at, with_tally, new
 use Rattle.call_table.specs.Rule.{RequestsAgree, AnswersAgree, ClosingAgrees, Agrees, ClientStands, DeskStands, Outgrows, Stands, mark_of, Kept}
 use Rattle.call_table.specs.Steps.{Seated, Compares, met_desk, met_client, before_meeting}
 use Rattle.call_table.proofs.Pushing.{at_push, tally_here, tally_else}
-use Rattle.call_table.proofs.Frames.{desk_stays}
+use Rattle.call_table.proofs.Frames.{desk_stays, answers_found}
 use Rattle.call_table.proofs.Moves.{with_client, client_here, client_else}
-use Rattle.call_table.proofs.Collecting.{drained_by}
+use Rattle.call_table.proofs.Collecting.{closing_found}
 
 -- the seats, where process p has this one
 abbrev with_seat : (ℕ → ℕ) → ℕ → ℕ → ℕ → ℕ
@@ -53,7 +52,8 @@ may_make setup id d room s k here =
     let made_is : k.desk.made ≡ d.made = ap (λ (x : DeskView). x.made) is in
     let told_is : k.desk.setup ≡ d.setup = ap (λ (x : DeskView). x.setup) is in
     let seats : ℕ → ℕ = with_seat k.seats p n in
-    let keep_client : (j : ℕ) (u : ClientView) → ClientStands k.desk.setup k.desk.made k.clients k.seats j u → ClientStands now.setup now.made k.clients seats j u =
+    let keep_client : (j : ℕ) (u : ClientView) → ClientStands k.desk.setup k.desk.made k.clients k.seats j u
+    → ClientStands now.setup now.made k.clients seats j u =
     λ j u t. record {
       seat_is = t.seat_is ∙ sym (seat_else k.seats p n u.process (λ e. let m = t.most in omega arith));
       view_is = t.view_is;
@@ -61,7 +61,8 @@ may_make setup id d room s k here =
       least = t.least;
       most = let m = t.most in omega arith;
     } in
-    let keep : (j : ℕ) (v : View) → j ≢ id → Stands k.desk k.clients k.desk_seat k.seats j v → Stands now k.clients k.desk_seat seats j v =
+    let keep : (j : ℕ) (v : View) → j ≢ id → Stands k.desk k.clients k.desk_seat k.seats j v
+    → Stands now k.clients k.desk_seat seats j v =
     λ j v apart. elim v as (λ w. Stands k.desk k.clients k.desk_seat k.seats j w → Stands now k.clients k.desk_seat seats j w) [
       | Spent ↦ λ t. tt
       | Client u ↦ keep_client j u
@@ -75,11 +76,13 @@ may_make setup id d room s k here =
       seats = seats;
       stands = λ j v e. ⊎_elim
           (λ (old : get_elem? (set s.views id (Desk now)) j ≡ some v). ⊎_elim
-          (λ (x : (j ≡ id) × (Desk now ≡ v)). subst (λ (y : ℕ × View). Stands now k.clients k.desk_seat seats y.0 y.1) (λ i. (sym x.0 i, x.1 i)) record { seat_is = mine_is.seat_is; view_is = refl })
+          (λ (x : (j ≡ id) × (Desk now ≡ v)). subst (λ (y : ℕ × View). Stands now k.clients k.desk_seat seats y.0 y.1)
+          (λ i. (sym x.0 i, x.1 i)) record { seat_is = mine_is.seat_is; view_is = refl })
           (λ (x : (j ≢ id) × (get_elem? s.views j ≡ some v)). keep j v x.0 (k.stands j v x.1))
           (at_set s.views id j (Desk now) v old))
           (λ (new : (j ≡ length (set s.views id (Desk now))) × (Client fresh ≡ v)).
-          subst (λ (y : ℕ × View). Stands now k.clients k.desk_seat seats y.0 y.1) (λ i. (sym (new.0 ∙ length-set s.views id (Desk now)) i, new.1 i)) record {
+          subst (λ (y : ℕ × View). Stands now k.clients k.desk_seat seats y.0 y.1)
+          (λ i. (sym (new.0 ∙ length-set s.views id (Desk now)) i, new.1 i)) record {
             seat_is = sym (seat_here k.seats p n p refl);
             view_is = (λ i. new_client (sym told_is i) p) ∙ (λ i. new_client (k.told i) p) ∙ sym (k.unmade p (omega arith));
             told = refl;
@@ -93,66 +96,52 @@ may_make setup id d room s k here =
       wide = k.wide;
       deep = k.deep;
       run = subst (λ (x : DeskView). ∥ ((T : manager.State) × IsRun setup.rules setup.processes x.journal T) ∥₁) is k.run;
-      marked = subst (λ (x : DeskView). word_at setup.processes setup.depth s.words Rattle.call_table.specs.Places.mark ≡ mark_of x.closed) is k.marked;
-      each = λ q a b. desk_stays setup.depth q (word_at setup.processes setup.depth s.words) d now (k.clients q) refl refl refl refl (λ _. refl) (λ _. refl)
-          (subst (λ (x : DeskView). Agrees setup.depth q (word_at setup.processes setup.depth s.words) x (k.clients q)) is (k.each q a b));
+      marked = subst (λ (x : DeskView). word_at setup.processes setup.depth s.words Rattle.call_table.specs.Places.mark ≡ mark_of
+          x.closed) is k.marked;
+      each = λ q a b. desk_stays setup.depth q (word_at setup.processes setup.depth s.words) d now (k.clients q) refl refl refl
+          refl (λ _. refl) (λ _. refl)
+          (subst (λ (x : DeskView). Agrees setup.depth q (word_at setup.processes setup.depth s.words) x (k.clients q)) is
+          (k.each q a b));
     }
 
 -- joining, at the process of the client
-meets_agree : (depth p : ℕ) (at : Place → ℕ) (d : DeskView) (c : ClientView) → c.process ≡ p → Agrees depth p at d c → Agrees depth p at (met_desk d c) (met_client d c)
+meets_agree : (depth p : ℕ) (at : Place → ℕ) (d : DeskView) (c : ClientView) → c.process ≡ p → Agrees depth p at d c
+    → Agrees depth p at (met_desk d c) (met_client d c)
 meets_agree depth p at d c is g =
     let q = g.requests in let t = g.answers in
     let old : Tally = tally_at d.tallies p in
     let new : Tally = record { published = old.published; looked = length c.posted; probes = old.probes } in
     let here : tally_at (met_desk d c).tallies p ≡ new =
-    ap (λ (y : ℕ). tally_at (with_tally d.tallies y (record { published = (tally_at d.tallies y).published; looked = length c.posted; probes = (tally_at d.tallies y).probes })) p) is
+    ap (λ (y : ℕ). tally_at (with_tally d.tallies y (record {
+      published = (tally_at d.tallies y).published;
+      looked = length c.posted;
+      probes = (tally_at d.tallies y).probes;
+    })) p) is
     ∙ tally_here d.tallies p new in
     let n : ℕ = old.published in
     let n_is : (tally_at d.tallies c.process).published ≡ n = ap (λ (y : ℕ). (tally_at d.tallies y).published) is in
     let order = q.looked_least in let looked = q.looked_most in
     record {
-      requests = subst (λ (u : Tally). RequestsAgree depth p at (requests_taken p d.journal) u.looked d.reading (met_client d c)) (sym here) record {
-        posted_word = q.posted_word;
-        taken_word = q.taken_word;
-        in_order = q.in_order;
-        looked_least = omega arith;
-        looked_most = omega arith;
-        fit = q.fit;
-        cells = q.cells;
-        few = q.few;
-        room = q.room;
-        filled = q.filled;
-        filled_most = q.filled_most;
-        reads = q.reads;
-        reads_some = λ e h. let x = q.reads_some e h in omega arith;
-      };
-      answers = subst (λ (u : Tally). AnswersAgree depth p at d.journal u.published d.filling (met_client d c)) (sym here) record {
-        answered_word = t.answered_word;
-        collected_most = let x = t.collected_most in let y = t.known_most in omega arith;
-        known_most = omega arith;
-        published_most = t.published_most;
-        in_turn = t.in_turn;
-        fit = t.fit;
-        cells = t.cells;
-        seen = ([], sym (append-nil d.journal));
-        seen_known = let x = t.published_most in omega arith;
-        reads = t.reads;
-        reads_known = λ h. let x = t.reads_known h in let y = t.known_most in omega arith;
-        filled = t.filled;
-        fills = t.fills;
-        filled_most = t.filled_most;
-        fills_some = t.fills_some;
-      };
-      closing = subst (λ (u : Tally). ClosingAgrees p d.journal u.published d.closed (met_client d c)) (sym here) record {
-        all_published = g.closing.all_published;
-        over_closed = g.closing.over_closed;
-        drained_over = λ h. ⊎_elim (λ (old : c.drained ≡ true). g.closing.drained_over old) (λ (new : (c.over ≡ true) × (((tally_at d.tallies c.process).published == c.collected) ≡ true)). new.0)
-            (drained_by c.drained c.over ((tally_at d.tallies c.process).published == c.collected) h);
-        drained_all = λ h. ⊎_elim (λ (old : c.drained ≡ true). g.closing.drained_all old)
-            (λ (new : (c.over ≡ true) × (((tally_at d.tallies c.process).published == c.collected) ≡ true)).
-            sym (eqb-true (tally_at d.tallies c.process).published c.collected new.1) ∙ n_is ∙ g.closing.all_published (g.closing.over_closed new.0))
-            (drained_by c.drained c.over ((tally_at d.tallies c.process).published == c.collected) h);
-      };
+      requests = subst (λ (u : Tally). RequestsAgree depth p at (requests_taken p d.journal) u.looked d.reading (met_client d c))
+          (sym here) record {
+            posted_word = q.posted_word;
+            taken_word = q.taken_word;
+            in_order = q.in_order;
+            looked_least = omega arith;
+            looked_most = omega arith;
+            fit = q.fit;
+            cells = q.cells;
+            few = q.few;
+            room = q.room;
+            filled = q.filled;
+            filled_most = q.filled_most;
+            reads = q.reads;
+            reads_some = λ e h. let x = q.reads_some e h in omega arith;
+          };
+      answers = subst (λ (u : Tally). AnswersAgree depth p at d.journal u.published d.filling (met_client d c)) (sym here)
+          (answers_found n_is t);
+      closing = subst (λ (u : Tally). ClosingAgrees p d.journal u.published d.closed (met_client d c)) (sym here)
+          (closing_found n_is g.closing);
     }
 
 -- joining: neither knows less of the other than before
@@ -170,10 +159,12 @@ outgrows depth p at d c is g =
       seen = g.answers.seen;
     }
 
-pub may_join : (setup : Setup) (id other : ℕ) (d : DeskView) (c : ClientView) → Joins (Kept setup) id (Desk d) other (Client c) (Both (met_desk d c) (met_client d c) (before_meeting d c)) Spent
+pub may_join : (setup : Setup) (id other : ℕ) (d : DeskView) (c : ClientView)
+    → Joins (Kept setup) id (Desk d) other (Client c) (Both (met_desk d c) (met_client d c) (before_meeting d c)) Spent
 may_join setup id other d c s k here apart there =
     let mine_is : DeskStands k.desk k.desk_seat id d = k.stands id (Desk d) here in
-    let there_is : get_elem? s.views other ≡ some (Client c) = sym (set_else s.views id other (Both (met_desk d c) (met_client d c) (before_meeting d c)) apart) ∙ there in
+    let there_is : get_elem? s.views other ≡ some (Client c) =
+    sym (set_else s.views id other (Both (met_desk d c) (met_client d c) (before_meeting d c)) apart) ∙ there in
     let his : ClientStands k.desk.setup k.desk.made k.clients k.seats other c = k.stands other (Client c) there_is in
     let is : k.desk ≡ d = sym mine_is.view_is in
     let now : DeskView = met_desk d c in
@@ -187,8 +178,10 @@ may_join setup id other d c s k here apart there =
     let before : (q : ℕ) → 1 ≤ q → q ≤ setup.processes → Agrees setup.depth q at d (k.clients q) =
     λ q a b. subst (λ (x : DeskView). Agrees setup.depth q at x (k.clients q)) is (k.each q a b) in
     let grown : Outgrows now his_now (before_meeting d c) = outgrows setup.depth p at d c refl
-    (subst (λ (y : ClientView). Agrees setup.depth p at d y) (sym his.view_is) (before p his.least (let m = his.most in let n = k.made_most in omega arith))) in
-    let keep_client : (j : ℕ) (u : ClientView) → j ≢ other → ClientStands k.desk.setup k.desk.made k.clients k.seats j u → ClientStands now.setup now.made clients seats j u =
+    (subst (λ (y : ClientView). Agrees setup.depth p at d y) (sym his.view_is) (before p his.least (let m = his.most in
+    let n = k.made_most in omega arith))) in
+    let keep_client : (j : ℕ) (u : ClientView) → j ≢ other → ClientStands k.desk.setup k.desk.made k.clients k.seats j u
+    → ClientStands now.setup now.made clients seats j u =
     λ j u n t. let differ : u.process ≢ p = λ e. n (t.seat_is ∙ ap k.seats e ∙ sym his.seat_is) in record {
       seat_is = t.seat_is ∙ sym (seat_else k.seats p id u.process differ);
       view_is = t.view_is ∙ sym (client_else k.clients p his_now u.process differ);
@@ -196,7 +189,8 @@ may_join setup id other d c s k here apart there =
       least = t.least;
       most = let m = t.most in omega arith;
     } in
-    let keep : (j : ℕ) (v : View) → j ≢ id → j ≢ other → Stands k.desk k.clients k.desk_seat k.seats j v → Stands now clients k.desk_seat seats j v =
+    let keep : (j : ℕ) (v : View) → j ≢ id → j ≢ other → Stands k.desk k.clients k.desk_seat k.seats j v
+    → Stands now clients k.desk_seat seats j v =
     λ j v n m. elim v as (λ w. Stands k.desk k.clients k.desk_seat k.seats j w → Stands now clients k.desk_seat seats j w) [
       | Spent ↦ λ t. tt
       | Client u ↦ keep_client j u m
@@ -211,7 +205,8 @@ may_join setup id other d c s k here apart there =
       stands = λ j v e. ⊎_elim
           (λ (x : (j ≡ other) × (Spent ≡ v)). subst (λ (y : View). Stands now clients k.desk_seat seats j y) x.1 tt)
           (λ (x : (j ≢ other) × (get_elem? (set s.views id (Both now his_now (before_meeting d c))) j ≡ some v)). ⊎_elim
-          (λ (y : (j ≡ id) × (Both now his_now (before_meeting d c) ≡ v)). subst (λ (z : ℕ × View). Stands now clients k.desk_seat seats z.0 z.1) (λ i. (sym y.0 i, y.1 i)) (
+          (λ (y : (j ≡ id) × (Both now his_now (before_meeting d c) ≡ v)). subst (λ (z : ℕ × View). Stands now clients k.desk_seat
+          seats z.0 z.1) (λ i. (sym y.0 i, y.1 i)) (
             record { seat_is = mine_is.seat_is; view_is = refl },
             record {
               seat_is = sym (seat_here k.seats p id p refl);
@@ -231,13 +226,15 @@ may_join setup id other d c s k here apart there =
       wide = k.wide;
       deep = k.deep;
       run = subst (λ (x : DeskView). ∥ ((T : manager.State) × IsRun setup.rules setup.processes x.journal T) ∥₁) is k.run;
-      marked = subst (λ (x : DeskView). word_at setup.processes setup.depth s.words Rattle.call_table.specs.Places.mark ≡ mark_of x.closed) is k.marked;
+      marked = subst (λ (x : DeskView). word_at setup.processes setup.depth s.words Rattle.call_table.specs.Places.mark ≡ mark_of
+          x.closed) is k.marked;
       each = λ q a b. dite (ℕ_discrete q p)
           (λ e. subst (λ (y : ClientView). Agrees setup.depth q at now y) (sym (client_here k.clients p his_now q e))
           (meets_agree setup.depth q at d c (sym e)
           (subst (λ (y : ClientView). Agrees setup.depth q at d y) (ap k.clients e ∙ sym his.view_is) (before q a b))))
           (λ n. subst (λ (y : ClientView). Agrees setup.depth q at now y) (sym (client_else k.clients p his_now q n))
-          (desk_stays setup.depth q at d now (k.clients q) refl refl (ap (λ (t : Tally). t.looked) (tally_else d.tallies p q _ n)) (ap (λ (t : Tally). t.published) (tally_else d.tallies p q _ n))
+          (desk_stays setup.depth q at d now (k.clients q) refl refl (ap (λ (t : Tally). t.looked) (tally_else d.tallies p q _ n))
+          (ap (λ (t : Tally). t.published) (tally_else d.tallies p q _ n))
           (λ _. refl) (λ _. refl) (before q a b)));
     }
 
@@ -251,7 +248,8 @@ may_part setup id d c before s k here =
     let p : ℕ = c.process in
     let n : ℕ = length s.views in
     let seats : ℕ → ℕ = with_seat k.seats p n in
-    let keep_client : (j : ℕ) (u : ClientView) → j ≢ id → ClientStands k.desk.setup k.desk.made k.clients k.seats j u → ClientStands k.desk.setup k.desk.made k.clients seats j u =
+    let keep_client : (j : ℕ) (u : ClientView) → j ≢ id → ClientStands k.desk.setup k.desk.made k.clients k.seats j u
+    → ClientStands k.desk.setup k.desk.made k.clients seats j u =
     λ j u apart t. record {
       seat_is = t.seat_is ∙ sym (seat_else k.seats p n u.process (λ e. apart (t.seat_is ∙ ap k.seats e ∙ sym his.seat_is)));
       view_is = t.view_is;
@@ -259,7 +257,8 @@ may_part setup id d c before s k here =
       least = t.least;
       most = t.most;
     } in
-    let keep : (j : ℕ) (v : View) → j ≢ id → Stands k.desk k.clients k.desk_seat k.seats j v → Stands k.desk k.clients k.desk_seat seats j v =
+    let keep : (j : ℕ) (v : View) → j ≢ id → Stands k.desk k.clients k.desk_seat k.seats j v
+    → Stands k.desk k.clients k.desk_seat seats j v =
     λ j v apart. elim v as (λ w. Stands k.desk k.clients k.desk_seat k.seats j w → Stands k.desk k.clients k.desk_seat seats j w) [
       | Spent ↦ λ t. tt
       | Client u ↦ keep_client j u apart
@@ -273,11 +272,13 @@ may_part setup id d c before s k here =
       seats = seats;
       stands = λ j v e. ⊎_elim
           (λ (old : get_elem? (set s.views id (Desk d)) j ≡ some v). ⊎_elim
-          (λ (x : (j ≡ id) × (Desk d ≡ v)). subst (λ (y : ℕ × View). Stands k.desk k.clients k.desk_seat seats y.0 y.1) (λ i. (sym x.0 i, x.1 i)) mine_is)
+          (λ (x : (j ≡ id) × (Desk d ≡ v)). subst (λ (y : ℕ × View). Stands k.desk k.clients k.desk_seat seats y.0 y.1)
+          (λ i. (sym x.0 i, x.1 i)) mine_is)
           (λ (x : (j ≢ id) × (get_elem? s.views j ≡ some v)). keep j v x.0 (k.stands j v x.1))
           (at_set s.views id j (Desk d) v old))
           (λ (new : (j ≡ length (set s.views id (Desk d))) × (Client c ≡ v)).
-          subst (λ (y : ℕ × View). Stands k.desk k.clients k.desk_seat seats y.0 y.1) (λ i. (sym (new.0 ∙ length-set s.views id (Desk d)) i, new.1 i)) record {
+          subst (λ (y : ℕ × View). Stands k.desk k.clients k.desk_seat seats y.0 y.1)
+          (λ i. (sym (new.0 ∙ length-set s.views id (Desk d)) i, new.1 i)) record {
             seat_is = sym (seat_here k.seats p n p refl);
             view_is = his.view_is;
             told = his.told;
@@ -301,7 +302,8 @@ zeros zero i = refl
 zeros (suc n) zero = refl
 zeros (suc n) (suc i) = zeros n i
 
-pub opens : (setup : Setup) (words : List ℕ) → 1 ≤ setup.depth → words ≡ replicate (words_of setup.processes setup.depth) 0 → Kept setup (opening {S = Unit {0}} words [] (opening_view setup))
+pub opens : (setup : Setup) (words : List ℕ) → 1 ≤ setup.depth → words ≡ replicate (words_of setup.processes setup.depth) 0
+    → Kept setup (opening {S = Unit {0}} words [] (opening_view setup))
 opens setup words deep is =
     subst (λ (w : List ℕ). Kept setup (opening {S = Unit {0}} w [] (opening_view setup))) (sym is) record {
       desk = new_desk setup;
@@ -349,12 +351,19 @@ opens setup words deep is =
           filled_most = λ e. absurd (omega arith);
           fills_some = λ e. absurd (omega arith);
         };
-        closing = record { all_published = λ _. refl; over_closed = λ h. absurd (true≢false (sym h)); drained_over = λ h. absurd (true≢false (sym h)); drained_all = λ _. refl };
+        closing = record {
+          all_published = λ _. refl;
+          over_closed = λ h. absurd (true≢false (sym h));
+          drained_over = λ h. absurd (true≢false (sym h));
+          drained_all = λ _. refl;
+        };
       };
     }
   where
-    one : (id : ℕ) (v : View) → get_elem? (opening_view setup ∷ []) id ≡ some v → Stands (new_desk setup) (new_client setup) 0 (λ _. 0) id v
-    one zero v e = subst (Stands (new_desk setup) (new_client setup) 0 (λ _. 0) 0) (some-injective _ _ e) record { seat_is = refl; view_is = refl }
+    one : (id : ℕ) (v : View) → get_elem? (opening_view setup ∷ []) id ≡ some v
+        → Stands (new_desk setup) (new_client setup) 0 (λ _. 0) id v
+    one zero v e = subst (Stands (new_desk setup) (new_client setup) 0 (λ _. 0) 0) (some-injective _ _ e)
+        record { seat_is = refl; view_is = refl }
     one (suc id) v e = absurd (some-ne-none v (sym e))
 
 -- the load of the joined seat
@@ -366,7 +375,8 @@ may_compare setup slots id me d c before word told is =
     let both : Stands k.desk k.clients k.desk_seat k.seats id (Both d c before) = k.stands id (Both d c before) here in
     let at : Place → ℕ = word_at setup.processes setup.depth s.words in
     let g : Agrees setup.depth c.process at d c =
-    subst (λ (y : DeskView × ClientView). Agrees setup.depth c.process at y.0 y.1) (λ i. (sym both.0.view_is i, sym both.1.view_is i))
+    subst (λ (y : DeskView × ClientView). Agrees setup.depth c.process at y.0 y.1)
+    (λ i. (sym both.0.view_is i, sym both.1.view_is i))
     (k.each c.process both.1.least (let m = both.1.most in let n = k.made_most in omega arith)) in (
       Both d c before,
       keeps,

@@ -21,27 +21,39 @@ use Rattle.call_table.proofs.Joining.{may_join, may_part}
 use Rattle.call_table.proofs.Posting.{view_is}
 use Rattle.call_table.proofs.Serving.{desk_view_is}
 
-pub may_join_as : (setup : Setup) (id other : ℕ) (me his : Seated) (d : DeskView) (c : ClientView) → HasDesk d me → HasClient c his → Joins (Kept setup) id me.0 other his.0 (joined me.0 his.0) Spent
+pub may_join_as : (setup : Setup) (id other : ℕ) (me his : Seated) (d : DeskView) (c : ClientView) → HasDesk d me → HasClient c his
+    → Joins (Kept setup) id me.0 other his.0 (joined me.0 his.0) Spent
 may_join_as setup id other me his d c is his_is =
-    subst (λ (y : Seated × Seated). Joins (Kept setup) id y.0.0 other y.1.0 (joined y.0.0 y.1.0) Spent) (λ i. (sym is i, sym his_is i)) (may_join setup id other d c)
+    subst (λ (y : Seated × Seated). Joins (Kept setup) id y.0.0 other y.1.0 (joined y.0.0 y.1.0) Spent)
+    (λ i. (sym is i, sym his_is i)) (may_join setup id other d c)
 
-pub joined_is : (me his after : Seated) (d : DeskView) (c : ClientView) → HasDesk d me → HasClient c his → after ≡ (joined me.0 his.0, me.1) → after ≡ (Both (met_desk d c) (met_client d c) (before_meeting d c), [])
+pub joined_is : (me his after : Seated) (d : DeskView) (c : ClientView) → HasDesk d me → HasClient c his
+    → after ≡ (joined me.0 his.0, me.1) → after ≡ (Both (met_desk d c) (met_client d c) (before_meeting d c), [])
 joined_is me his after d c is his_is e = e ∙ (λ i. (joined (is i).0 (his_is i).0, (is i).1))
 
-pub may_part_as : (setup : Setup) (id : ℕ) (me : Seated) (d : DeskView) (c : ClientView) (before : Before) → me ≡ (Both d c before, []) → Splits (Kept setup) id me.0 (desk_parted me.0) (client_parted me.0)
-may_part_as setup id me d c before is = subst (λ (y : Seated). Splits (Kept setup) id y.0 (desk_parted y.0) (client_parted y.0)) (sym is) (may_part setup id d c before)
+pub may_part_as : (setup : Setup) (id : ℕ) (me : Seated) (d : DeskView) (c : ClientView) (before : Before)
+    → me ≡ (Both d c before, []) → Splits (Kept setup) id me.0 (desk_parted me.0) (client_parted me.0)
+may_part_as setup id me d c before is = subst (λ (y : Seated). Splits (Kept setup) id y.0 (desk_parted y.0) (client_parted y.0))
+    (sym is) (may_part setup id d c before)
 
-pub parted_is : (me after : Seated) (d : DeskView) (c : ClientView) (before : Before) → me ≡ (Both d c before, []) → after ≡ (desk_parted me.0, me.1) → HasDesk d after
+pub parted_is : (me after : Seated) (d : DeskView) (c : ClientView) (before : Before) → me ≡ (Both d c before, [])
+    → after ≡ (desk_parted me.0, me.1) → HasDesk d after
 parted_is me after d c before is e = e ∙ (λ i. (desk_parted (is i).0, (is i).1))
 
-pub other_is : (me after : Seated) (d : DeskView) (c : ClientView) (before : Before) → me ≡ (Both d c before, []) → after ≡ (client_parted me.0, []) → HasClient c after
+pub other_is : (me after : Seated) (d : DeskView) (c : ClientView) (before : Before) → me ≡ (Both d c before, [])
+    → after ≡ (client_parted me.0, []) → HasClient c after
 other_is me after d c before is e = e ∙ (λ i. (client_parted (is i).0, []))
 
-pub sits_met : (me after : Seated) (setup : Setup) (closed : Bool) (session : Session) (c : ClientView) → SitsAsDesk me setup closed session → HasDesk (met_desk (desk_of me.0) c) after → SitsAsDesk after setup closed session
+pub sits_met : (me after : Seated) (setup : Setup) (closed : Bool) (session : Session) (c : ClientView)
+    → SitsAsDesk me setup closed session → HasDesk (met_desk (desk_of me.0) c) after → SitsAsDesk after setup closed session
 sits_met me after setup closed session c sits is =
     let d : DeskView = desk_of me.0 in
     let p : ℕ = c.process in
-    let t : Tally = record { published = (tally_at d.tallies p).published; looked = length c.posted; probes = (tally_at d.tallies p).probes } in
+    let t : Tally = record {
+      published = (tally_at d.tallies p).published;
+      looked = length c.posted;
+      probes = (tally_at d.tallies p).probes;
+    } in
     let same : desk_of after.0 ≡ met_desk d c = desk_view_is (met_desk d c) after is in
     record {
       is = is ∙ ap (λ (v : DeskView). (Desk v, [])) (sym same);
@@ -50,7 +62,9 @@ sits_met me after setup closed session c sits is =
       journal_is = ap (λ (v : DeskView). v.journal) same ∙ sits.journal_is;
       published = λ q l. ap (λ (v : DeskView). (tally_at v.tallies q).published) same
           ∙ dite (ℕ_discrete q p)
-          (λ e. ap (λ (x : ℕ). (tally_at (with_tally d.tallies p t) x).published) e ∙ ap (λ (u : Tally). u.published) (tally_here d.tallies p t) ∙ ap (λ (x : ℕ). (tally_at d.tallies x).published) (sym e))
+          (λ e. ap (λ (x : ℕ). (tally_at (with_tally d.tallies p t) x).published) e
+          ∙ ap (λ (u : Tally). u.published) (tally_here d.tallies p t)
+          ∙ ap (λ (x : ℕ). (tally_at d.tallies x).published) (sym e))
           (λ n. ap (λ (u : Tally). u.published) (tally_else d.tallies p q t n))
           ∙ sits.published q l;
       filling_none = ap (λ (v : DeskView). v.filling) same ∙ sits.filling_none;
@@ -67,7 +81,11 @@ pub is_met : (d : DeskView) (c : ClientView) (me his : Seated)
     → HasDesk (met_desk d c) me → HasClient (met_client d c) his → IsMet d c (desk_of me.0) (client_of his.0)
 is_met d c me his told is his_is =
     let p : ℕ = c.process in
-    let t : Tally = record { published = (tally_at d.tallies p).published; looked = length c.posted; probes = (tally_at d.tallies p).probes } in
+    let t : Tally = record {
+      published = (tally_at d.tallies p).published;
+      looked = length c.posted;
+      probes = (tally_at d.tallies p).probes;
+    } in
     let here : tally_at (with_tally d.tallies p t) p ≡ t = tally_here d.tallies p t in
     let met : IsMet d c (met_desk d c) (met_client d c) = record {
       seen = refl;
@@ -79,4 +97,5 @@ is_met d c me his told is his_is =
       taken_in_order = told.0;
       drained_all = told.1;
     } in
-    subst (λ (y : DeskView × ClientView). IsMet d c y.0 y.1) (λ i. (sym (desk_view_is (met_desk d c) me is) i, sym (view_is (met_client d c) his his_is) i)) met
+    subst (λ (y : DeskView × ClientView). IsMet d c y.0 y.1)
+    (λ i. (sym (desk_view_is (met_desk d c) me is) i, sym (view_is (met_client d c) his his_is) i)) met

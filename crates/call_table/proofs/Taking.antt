@@ -36,23 +36,31 @@ Told_answer : Type 0
 Told_answer = ℕ × Reply × ℕ
 
 -- what one more event adds to the requests of a process that were taken
-pub taken_here : (p : ℕ) (H : List Event) (e : Event) → e.p ≡ p → requests_taken p (H ++ e ∷ []) ≡ requests_taken p H ++ e.request ∷ []
+pub taken_here : (p : ℕ) (H : List Event) (e : Event) → e.p ≡ p
+    → requests_taken p (H ++ e ∷ []) ≡ requests_taken p H ++ e.request ∷ []
 taken_here p H e is =
-    ap (map (λ (x : Event). x.request)) (filter-append (λ (x : Event). eqb x.p p) H (e ∷ []) ∙ ap (λ (b : Bool). events_of p H ++ cond b (e ∷ []) []) (eq-eqb e.p p is))
+    ap (map (λ (x : Event). x.request)) (filter-append (λ (x : Event). eqb x.p p) H (e ∷ [])
+    ∙ ap (λ (b : Bool). events_of p H ++ cond b (e ∷ []) []) (eq-eqb e.p p is))
     ∙ map-append (λ (x : Event). x.request) (events_of p H) (e ∷ [])
 
 pub taken_else : (p : ℕ) (H : List Event) (e : Event) → e.p ≢ p → requests_taken p (H ++ e ∷ []) ≡ requests_taken p H
 taken_else p H e other =
-    ap (map (λ (x : Event). x.request)) (filter-append (λ (x : Event). eqb x.p p) H (e ∷ []) ∙ ap (λ (b : Bool). events_of p H ++ cond b (e ∷ []) []) (ne_eqb e.p p other) ∙ append-nil (events_of p H))
+    ap (map (λ (x : Event). x.request)) (filter-append (λ (x : Event). eqb x.p p) H (e ∷ [])
+    ∙ ap (λ (b : Bool). events_of p H ++ cond b (e ∷ []) []) (ne_eqb e.p p other) ∙ append-nil (events_of p H))
 
-answers_longer : (p place : ℕ) (H : List Event) (e : Event) → (more : List (ℕ × Reply × ℕ)) × (answers_from p place (H ++ e ∷ []) ≡ answers_from p place H ++ more)
+answers_longer : (p place : ℕ) (H : List Event) (e : Event)
+    → (more : List (ℕ × Reply × ℕ)) × (answers_from p place (H ++ e ∷ []) ≡ answers_from p place H ++ more)
 answers_longer p place [] e = (answers_in p place e.notes, append-nil (answers_in p place e.notes))
 answers_longer p place (x ∷ xs) e =
-    let rest = answers_longer p (place + 1) xs e in
-    (rest.0, ap (λ (l : List (ℕ × Reply × ℕ)). answers_in p place x.notes ++ l) rest.1 ∙ sym (append_assoc (answers_in p place x.notes) (answers_from p (place + 1) xs) rest.0))
+    let rest = answers_longer p (place + 1) xs e in (
+      rest.0,
+      ap (λ (l : List (ℕ × Reply × ℕ)). answers_in p place x.notes ++ l) rest.1
+          ∙ sym (append_assoc (answers_in p place x.notes) (answers_from p (place + 1) xs) rest.0),
+    )
 
 -- the answers to a process only grow
-pub answers_grow : (p : ℕ) (H : List Event) (e : Event) → (more : List (ℕ × Reply × ℕ)) × (answers_to p (H ++ e ∷ []) ≡ answers_to p H ++ more)
+pub answers_grow : (p : ℕ) (H : List Event) (e : Event)
+    → (more : List (ℕ × Reply × ℕ)) × (answers_to p (H ++ e ∷ []) ≡ answers_to p H ++ more)
 answers_grow p H e = answers_longer p 1 H e
 
 module _ (depth p : ℕ) (l : 1 ≤ p) (deep : 1 ≤ depth) (at now : Place → ℕ) (d : DeskView) (c : ClientView) (e : Event)
@@ -73,14 +81,16 @@ module _ (depth p : ℕ) (l : 1 ≤ p) (deep : 1 ≤ depth) (at now : Place → 
       → RequestsAgree depth p at (requests_taken p H) (tally_at d.tallies p).looked d.reading c
       → RequestsAgree depth p now (requests_taken p longer) (tally_at d.tallies p).looked (0, []) c
   requests_else other posted_same taken_same q =
-      subst (λ (x : List Request). RequestsAgree depth p now x (tally_at d.tallies p).looked (0, []) c) (sym (taken_else p H e other)) record {
+      subst (λ (x : List Request). RequestsAgree depth p now x (tally_at d.tallies p).looked (0, []) c)
+      (sym (taken_else p H e other)) record {
         posted_word = posted_same ∙ q.posted_word;
         taken_word = taken_same ∙ q.taken_word;
         in_order = q.in_order;
         looked_least = q.looked_least;
         looked_most = q.looked_most;
         fit = q.fit;
-        cells = λ before x h f. request_cell_stays depth p deep at now cells_same before (request_spelled x) (omega (arith, request_six x)) (q.cells before x h f);
+        cells = λ before x h f. request_cell_stays depth p deep at now cells_same before (request_spelled x)
+            (omega (arith, request_six x)) (q.cells before x h f);
         few = q.few;
         room = q.room;
         filled = request_cell_stays depth p deep at now cells_same (length c.posted) c.filled q.filled_most q.filled;
@@ -101,17 +111,21 @@ module _ (depth p : ℕ) (l : 1 ≤ p) (deep : 1 ≤ depth) (at now : Place → 
       let most = q.looked_most in
       let next = some_at c.posted n (omega arith) in
       let whole : request_spelled e.request ≡ request_spelled next.0 =
-      prefix_all (request_spelled e.request) (request_spelled next.0) (subst (λ (x : List ℕ). IsPrefixOf x (request_spelled next.0)) spelled (q.reads mine next.0 next.1)) (request_six e.request ∙ sym (request_six next.0)) in
+      prefix_all (request_spelled e.request) (request_spelled next.0) (subst (λ (x : List ℕ). IsPrefixOf x (request_spelled next.0))
+      spelled (q.reads mine next.0 next.1)) (request_six e.request ∙ sym (request_six next.0)) in
       let same : e.request ≡ next.0 = one_request e.request next.0 fits (q.fit n next.0 next.1) whole in
       let more : length (requests_taken p H ++ e.request ∷ []) ≡ n + 1 = length-append (requests_taken p H) (e.request ∷ []) in
-      subst (λ (x : List Request). RequestsAgree depth p now x (tally_at d.tallies p).looked (0, []) c) (sym (taken_here p H e is)) record {
+      subst (λ (x : List Request). RequestsAgree depth p now x (tally_at d.tallies p).looked (0, []) c)
+      (sym (taken_here p H e is)) record {
         posted_word = posted_same ∙ q.posted_word;
         taken_word = stored ∙ sym more;
-        in_order = prefix_more (requests_taken p H) c.posted e.request q.in_order (next.1 ∙ ap (λ (r : Request). some r) (sym same));
+        in_order = prefix_more (requests_taken p H) c.posted e.request q.in_order (next.1
+            ∙ ap (λ (r : Request). some r) (sym same));
         looked_least = omega arith;
         looked_most = q.looked_most;
         fit = q.fit;
-        cells = λ before x h f. request_cell_stays depth p deep at now cells_same before (request_spelled x) (omega (arith, request_six x)) (q.cells before x (omega arith) f);
+        cells = λ before x h f. request_cell_stays depth p deep at now cells_same before (request_spelled x)
+            (omega (arith, request_six x)) (q.cells before x (omega arith) f);
         few = q.few;
         room = q.room;
         filled = request_cell_stays depth p deep at now cells_same (length c.posted) c.filled q.filled_most q.filled;
@@ -125,8 +139,10 @@ module _ (depth p : ℕ) (l : 1 ≤ p) (deep : 1 ≤ depth) (at now : Place → 
       → AnswersAgree depth p now longer (tally_at d.tallies p).published d.filling c
   answers_here answered_same g =
       let grow = answers_grow p H e in
-      let total : length (answers_to p longer) ≡ length (answers_to p H) + length grow.0 = ap (λ (x : List (ℕ × Reply × ℕ)). length x) grow.1 ∙ length-append (answers_to p H) grow.0 in
-      let front : (i : ℕ) (a : ℕ × Reply × ℕ) → i < length (answers_to p H) → get_elem? (answers_to p longer) i ≡ some a → get_elem? (answers_to p H) i ≡ some a =
+      let total : length (answers_to p longer) ≡ length (answers_to p H) + length grow.0 =
+      ap (λ (x : List (ℕ × Reply × ℕ)). length x) grow.1 ∙ length-append (answers_to p H) grow.0 in
+      let front : (i : ℕ) (a : ℕ × Reply × ℕ) → i < length (answers_to p H) → get_elem? (answers_to p longer) i ≡ some a
+      → get_elem? (answers_to p H) i ≡ some a =
       λ i a h f. at_front (answers_to p H) grow.0 i a h (subst (λ (x : List (ℕ × Reply × ℕ)). get_elem? x i ≡ some a) grow.1 f) in
       let published = g.published_most in
       record {
@@ -136,21 +152,25 @@ module _ (depth p : ℕ) (l : 1 ≤ p) (deep : 1 ≤ depth) (at now : Place → 
         published_most = omega arith;
         in_turn = in_turn;
         fit = λ before a h f. g.fit before a h (front before a (omega arith) f);
-        cells = λ before a h k f. answer_cell_stays depth p deep at now answers_same before (answer_spelled a.1 a.2) (omega (arith, answer_six a.1 a.2)) (g.cells before a h k (front before a (omega arith) f));
+        cells = λ before a h k f. answer_cell_stays depth p deep at now answers_same before (answer_spelled a.1 a.2)
+            (omega (arith, answer_six a.1 a.2)) (g.cells before a h k (front before a (omega arith) f));
         seen = prefix_longer c.seen H (e ∷ []) g.seen;
         seen_known = g.seen_known;
         reads = λ a f. dite (dec_lt 0 (length c.read))
-            (λ some_read. let low = g.reads_known some_read in let high = g.known_most in g.reads a (front c.collected a (omega arith) f))
+            (λ some_read. let low = g.reads_known some_read in let high = g.known_most in
+            g.reads a (front c.collected a (omega arith) f))
             (λ none_read. prefix_none c.read (answer_spelled a.1 a.2) none_read);
         reads_known = g.reads_known;
-        filled = λ is. answer_cell_stays depth p deep at now answers_same (tally_at d.tallies p).published d.filling.1 (g.filled_most is) (g.filled is);
+        filled = λ is. answer_cell_stays depth p deep at now answers_same (tally_at d.tallies p).published d.filling.1
+            (g.filled_most is) (g.filled is);
         fills = λ is a f. g.fills is a (front (tally_at d.tallies p).published a (g.fills_some is) f);
         filled_most = g.filled_most;
         fills_some = λ is. let some_left = g.fills_some is in omega arith;
       }
 
   -- the desk was not closed
-  pub closing_here : d.closed ≡ false → ClosingAgrees p H (tally_at d.tallies p).published d.closed c → ClosingAgrees p longer (tally_at d.tallies p).published d.closed c
+  pub closing_here : d.closed ≡ false → ClosingAgrees p H (tally_at d.tallies p).published d.closed c
+      → ClosingAgrees p longer (tally_at d.tallies p).published d.closed c
   closing_here live g =
       let never : d.closed ≡ true → ⊥ = λ closed. true≢false (sym closed ∙ live) in
       record {
@@ -161,7 +181,8 @@ module _ (depth p : ℕ) (l : 1 ≤ p) (deep : 1 ≤ depth) (at now : Place → 
       }
 
 -- the number of taken requests of process p may be stored: the one event of the journal
-pub may_take : (setup : Setup) (slots id : ℕ) (me : Seated) (d : DeskView) (p word x : ℕ) (e : Event) (told : Step (Unit {0})) → IsProcess setup.processes p → HasDesk d me
+pub may_take : (setup : Setup) (slots id : ℕ) (me : Seated) (d : DeskView) (p word x : ℕ) (e : Event) (told : Step (Unit {0}))
+    → IsProcess setup.processes p → HasDesk d me
     → d.closed ≡ false → d.reading.0 ≡ p → d.reading.1 ≡ request_spelled e.request → RequestFits e.request → e.p ≡ p
     → x ≡ length (requests_taken p d.journal) + 1
     → ∥ ((T : manager.State) × IsRun setup.rules setup.processes (d.journal ++ e ∷ []) T) ∥₁
@@ -169,14 +190,16 @@ pub may_take : (setup : Setup) (slots id : ℕ) (me : Seated) (d : DeskView) (p 
     → word ≡ index_of setup.processes setup.depth (taken p)
     → Allows (Kept setup) slots id me word (λ _. x) (λ _. Takes e told me x)
 may_take setup slots id me d p word x e told l is live mine spelled fits process number run in_turn where_is =
-    subst (λ (y : Seated × ℕ). Allows (Kept setup) slots id y.0 y.1 (λ _. x) (λ _. Takes e told y.0 x)) (λ i. (sym is i, sym where_is i))
+    subst (λ (y : Seated × ℕ). Allows (Kept setup) slots id y.0 y.1 (λ _. x) (λ _. Takes e told y.0 x))
+    (λ i. (sym is i, sym where_is i))
     (λ s k wide here _.
     let P : ℕ = setup.processes in
     let D : ℕ = setup.depth in
     let at : Place → ℕ = word_at P D s.words in
     let words : List ℕ = set s.words (index_of P D (taken p)) x in
     let now : Place → ℕ = word_at P D words in
-    let else : (a : Place) → IsPlace P D a → a ≢ taken p → now a ≡ at a = λ a t apart. stored_else P D s.words (taken p) a x l t apart in
+    let else : (a : Place) → IsPlace P D a → a ≢ taken p → now a ≡ at a =
+    λ a t apart. stored_else P D s.words (taken p) a x l t apart in
     let stored : now (taken p) ≡ x = stored_here P D s.words (taken p) x k.wide l in (
       Desk (desk_took d e),
       keeps,
@@ -185,18 +208,25 @@ may_take setup slots id me d p word x e told l is live mine spelled fits process
           (λ _. run)
           (λ marked. else mark tt (λ f. cc) ∙ marked)
           (λ q a b agrees.
-          let cells_same : (cell i : ℕ) → cell < D → i < 6 → now (request q cell i) ≡ at (request q cell i) = λ cell i h j. else (request q cell i) ((a, b), h, j) (λ f. cc) in
-          let answers_same : (cell i : ℕ) → cell < D → i < 6 → now (answer q cell i) ≡ at (answer q cell i) = λ cell i h j. else (answer q cell i) ((a, b), h, j) (λ f. cc) in
+          let cells_same : (cell i : ℕ) → cell < D → i < 6 → now (request q cell i) ≡ at (request q cell i) =
+          λ cell i h j. else (request q cell i) ((a, b), h, j) (λ f. cc) in
+          let answers_same : (cell i : ℕ) → cell < D → i < 6 → now (answer q cell i) ≡ at (answer q cell i) =
+          λ cell i h j. else (answer q cell i) ((a, b), h, j) (λ f. cc) in
           let posted_same : now (posted q) ≡ at (posted q) = else (posted q) (a, b) (λ f. cc) in
           let answered_same : now (answered q) ≡ at (answered q) = else (answered q) (a, b) (λ f. cc) in
           record {
             requests = dite (ℕ_discrete q p)
-                (λ same. requests_here D q a k.deep at now d (k.clients q) e cells_same answers_same (in_turn q (a, b)) (process ∙ sym same) (mine ∙ sym same) spelled fits posted_same
-                (subst (λ (y : ℕ). now (taken y) ≡ length (requests_taken y d.journal) + 1) (sym same) (stored ∙ number)) agrees.requests)
-                (λ apart. requests_else D q a k.deep at now d (k.clients q) e cells_same answers_same (in_turn q (a, b)) (λ f. apart (sym f ∙ process)) posted_same
+                (λ same. requests_here D q a k.deep at now d (k.clients q) e cells_same answers_same (in_turn q (a, b)) (process
+                ∙ sym same) (mine ∙ sym same) spelled fits posted_same
+                (subst (λ (y : ℕ). now (taken y) ≡ length (requests_taken y d.journal) + 1) (sym same) (stored ∙ number))
+                agrees.requests)
+                (λ apart. requests_else D q a k.deep at now d (k.clients q) e cells_same answers_same (in_turn q (a, b))
+                (λ f. apart (sym f ∙ process)) posted_same
                 (else (taken q) (a, b) (λ f. apart (cc))) agrees.requests);
-            answers = answers_here D q a k.deep at now d (k.clients q) e cells_same answers_same (in_turn q (a, b)) answered_same agrees.answers;
-            closing = closing_here D q a k.deep at now d (k.clients q) e cells_same answers_same (in_turn q (a, b)) live agrees.closing;
+            answers = answers_here D q a k.deep at now d (k.clients q) e cells_same answers_same (in_turn q (a, b))
+                answered_same agrees.answers;
+            closing = closing_here D q a k.deep at now d (k.clients q) e cells_same answers_same
+                (in_turn q (a, b)) live agrees.closing;
           }),
       λ u f. ap (λ (v : DeskView). (Desk (desk_took v e), [])) (desk_is d u f),
     ))

@@ -21,22 +21,26 @@ use Rattle.call_table.specs.Views.{tally_at, with_tally}
 use Rattle.call_table.proofs.Pushing.{tally_here, tally_else}
 use Rattle.call_table.proofs.InTurnLaws.{number_at}
 
-exact_from : (q place : ℕ) (H : List Event) (e : Event) → answers_from q place (H ++ e ∷ []) ≡ answers_from q place H ++ answers_in q (place + length H) e.notes
+exact_from : (q place : ℕ) (H : List Event) (e : Event) → answers_from q place (H ++ e ∷ []) ≡ answers_from q place H ++ answers_in
+    q (place + length H) e.notes
 exact_from q place [] e = append-nil (answers_in q place e.notes) ∙ ap (λ (n : ℕ). answers_in q n e.notes) (omega arith)
 exact_from q place (x ∷ xs) e =
     ap (λ (l : List (ℕ × Reply × ℕ)). answers_in q place x.notes ++ l)
     (exact_from q (place + 1) xs e ∙ ap (λ (n : ℕ). answers_from q (place + 1) xs ++ answers_in q n e.notes) (omega arith))
-    ∙ sym (append_assoc (answers_in q place x.notes) (answers_from q (place + 1) xs) (answers_in q (place + length (x ∷ xs)) e.notes))
+    ∙ sym (append_assoc (answers_in q place x.notes) (answers_from q (place + 1) xs)
+    (answers_in q (place + length (x ∷ xs)) e.notes))
 
 -- what one more event answers to a process
-pub answers_exact : (q : ℕ) (H : List Event) (e : Event) → answers_to q (H ++ e ∷ []) ≡ answers_to q H ++ answers_in q (length H + 1) e.notes
+pub answers_exact : (q : ℕ) (H : List Event) (e : Event)
+    → answers_to q (H ++ e ∷ []) ≡ answers_to q H ++ answers_in q (length H + 1) e.notes
 answers_exact q H e = exact_from q 1 H e ∙ ap (λ (n : ℕ). answers_to q H ++ answers_in q n e.notes) (omega arith)
 
 cond_append : (b : Bool) (a : ℕ × Reply × ℕ) (x y : List (ℕ × Reply × ℕ)) → cond b (a ∷ (x ++ y)) (x ++ y) ≡ cond b (a ∷ x) x ++ y
 cond_append true a x y = refl
 cond_append false a x y = refl
 
-pub answers_in-append : (q place : ℕ) (xs ys : List Note) → answers_in q place (xs ++ ys) ≡ answers_in q place xs ++ answers_in q place ys
+pub answers_in-append : (q place : ℕ) (xs ys : List Note)
+    → answers_in q place (xs ++ ys) ≡ answers_in q place xs ++ answers_in q place ys
 answers_in-append q place [] ys = refl
 answers_in-append q place (Answer p n reply ∷ xs) ys =
     ap (λ (l : List (ℕ × Reply × ℕ)). cond (eqb p q) ((n, reply, place) ∷ l) l) (answers_in-append q place xs ys)
@@ -44,42 +48,59 @@ answers_in-append q place (Answer p n reply ∷ xs) ys =
 answers_in-append q place (Waits p n ∷ xs) ys = answers_in-append q place xs ys
 
 -- the answer of the next note: to its process one more, to others none
-pub answer_here : (q place n : ℕ) (reply : Reply) (notes : List Note) → answers_in q place (Answer q n reply ∷ notes) ≡ (n, reply, place) ∷ answers_in q place notes
-answer_here q place n reply notes = ap (λ (b : Bool). cond b ((n, reply, place) ∷ answers_in q place notes) (answers_in q place notes)) (eq-eqb q q refl)
+pub answer_here : (q place n : ℕ) (reply : Reply) (notes : List Note)
+    → answers_in q place (Answer q n reply ∷ notes) ≡ (n, reply, place) ∷ answers_in q place notes
+answer_here q place n reply notes =
+    ap (λ (b : Bool). cond b ((n, reply, place) ∷ answers_in q place notes) (answers_in q place notes)) (eq-eqb q q refl)
 
-pub answer_else : (q p place n : ℕ) (reply : Reply) (notes : List Note) → p ≢ q → answers_in q place (Answer p n reply ∷ notes) ≡ answers_in q place notes
-answer_else q p place n reply notes other = ap (λ (b : Bool). cond b ((n, reply, place) ∷ answers_in q place notes) (answers_in q place notes)) (ne_eqb p q other)
+pub answer_else : (q p place n : ℕ) (reply : Reply) (notes : List Note) → p ≢ q
+    → answers_in q place (Answer p n reply ∷ notes) ≡ answers_in q place notes
+answer_else q p place n reply notes other =
+    ap (λ (b : Bool). cond b ((n, reply, place) ∷ answers_in q place notes) (answers_in q place notes)) (ne_eqb p q other)
 
 at_middle : {A : Type 0} (xs : List A) (y : A) (ys : List A) → get_elem? (xs ++ y ∷ ys) (length xs) ≡ some y
 at_middle [] y ys = refl
 at_middle (x ∷ xs) y ys = at_middle xs y ys
 
 -- where the answers of the notes before it are published, the answer of a note is the next to publish to its process
-pub next_to_tell : (q n : ℕ) (reply : Reply) (H : List Event) (e : Event) (before after : List Note) → e.notes ≡ before ++ Answer q n reply ∷ after
-    → get_elem? (answers_to q (H ++ e ∷ [])) (length (answers_to q H ++ answers_in q (length H + 1) before)) ≡ some (n, reply, length H + 1)
+pub next_to_tell : (q n : ℕ) (reply : Reply) (H : List Event) (e : Event) (before after : List Note)
+    → e.notes ≡ before ++ Answer q n reply ∷ after
+    → get_elem? (answers_to q (H ++ e ∷ [])) (length (answers_to q H ++ answers_in q (length H + 1) before)) ≡ some (
+      n,
+      reply,
+      length H + 1,
+    )
 next_to_tell q n reply H e before after is =
     let place : ℕ = length H + 1 in
-    let all : answers_to q (H ++ e ∷ []) ≡ (answers_to q H ++ answers_in q place before) ++ (n, reply, place) ∷ answers_in q place after =
+    let all : answers_to q (H ++ e ∷ []) ≡ (answers_to q H ++ answers_in q place before) ++ (
+      n,
+      reply,
+      place,
+    ) ∷ answers_in q place after =
     answers_exact q H e
     ∙ ap (λ (l : List (ℕ × Reply × ℕ)). answers_to q H ++ l)
     (ap (answers_in q place) is ∙ answers_in-append q place before (Answer q n reply ∷ after)
     ∙ ap (λ (l : List (ℕ × Reply × ℕ)). answers_in q place before ++ l) (answer_here q place n reply after))
     ∙ sym (append_assoc (answers_to q H) (answers_in q place before) ((n, reply, place) ∷ answers_in q place after)) in
-    subst (λ (l : List (ℕ × Reply × ℕ)). get_elem? l (length (answers_to q H ++ answers_in q place before)) ≡ some (n, reply, place)) (sym all)
+    subst (λ (l : List (ℕ × Reply × ℕ)). get_elem? l (length (answers_to q H ++ answers_in q place before)) ≡ some
+    (n, reply, place)) (sym all)
     (at_middle (answers_to q H ++ answers_in q place before) (n, reply, place) (answers_in q place after))
 
 -- its number is the one after the published ones, which is what publishing stores
-pub number_to_tell : (q n : ℕ) (reply : Reply) (H : List Event) (e : Event) (before after : List Note) → e.notes ≡ before ++ Answer q n reply ∷ after
+pub number_to_tell : (q n : ℕ) (reply : Reply) (H : List Event) (e : Event) (before after : List Note)
+    → e.notes ≡ before ++ Answer q n reply ∷ after
     → AreInTurn q (H ++ e ∷ []) → n ≡ length (answers_to q H ++ answers_in q (length H + 1) before) + 1
 number_to_tell q n reply H e before after is in_turn =
-    number_at q (H ++ e ∷ []) in_turn (length (answers_to q H ++ answers_in q (length H + 1) before)) (n, reply, length H + 1) (next_to_tell q n reply H e before after is)
+    number_at q (H ++ e ∷ []) in_turn (length (answers_to q H ++ answers_in q (length H + 1) before)) (n, reply, length H + 1)
+    (next_to_tell q n reply H e before after is)
 
 -- the answers among these notes were published, and nothing else changed
 pub record ToldSome (processes : ℕ) (old new : DeskView) (told : List Note) : Type 0 where
   pub same : new ≡ record old { tallies = new.tallies; filling = (0, []) }
   pub looked : (q : ℕ) → (tally_at new.tallies q).looked ≡ (tally_at old.tallies q).looked
   pub probes : (q : ℕ) → (tally_at new.tallies q).probes ≡ (tally_at old.tallies q).probes
-  pub published : (before : List Event) (q : ℕ) → IsProcess processes q → (tally_at old.tallies q).published ≡ length (answers_to q before)
+  pub published : (before : List Event) (q : ℕ) → IsProcess processes q
+      → (tally_at old.tallies q).published ≡ length (answers_to q before)
       → (tally_at new.tallies q).published ≡ length (answers_to q before ++ answers_in q (length before + 1) told)
 
 pub ToldSome-none : (processes : ℕ) (d : DeskView) → d.filling ≡ (0, []) → ToldSome processes d d []
@@ -102,7 +123,8 @@ ToldSome-waits processes old d told p n h =
       published = λ before q there is.
           h.published before q there is
           ∙ ap (λ (l : List (ℕ × Reply × ℕ)). length (answers_to q before ++ l))
-          (sym (answers_in-append q (length before + 1) told (Waits p n ∷ []) ∙ append-nil (answers_in q (length before + 1) told)));
+          (sym (answers_in-append q (length before + 1) told (Waits p n ∷ [])
+          ∙ append-nil (answers_in q (length before + 1) told)));
     }
 
 -- how many answers there are to a process with one more
@@ -110,7 +132,8 @@ one_more : (p place n : ℕ) (reply : Reply) (answers : List (ℕ × Reply × �
     → length (answers ++ answers_in p place (told ++ Answer p n reply ∷ [])) ≡ length (answers ++ answers_in p place told) + 1
 one_more p place n reply answers told =
     ap (λ (l : List (ℕ × Reply × ℕ)). length (answers ++ l))
-    (answers_in-append p place told (Answer p n reply ∷ []) ∙ ap (λ (l : List (ℕ × Reply × ℕ)). answers_in p place told ++ l) (answer_here p place n reply []))
+    (answers_in-append p place told (Answer p n reply ∷ []) ∙ ap (λ (l : List (ℕ × Reply × ℕ)). answers_in p place told ++ l)
+    (answer_here p place n reply []))
     ∙ ap (λ (l : List (ℕ × Reply × ℕ)). length l) (sym (append_assoc answers (answers_in p place told) ((n, reply, place) ∷ [])))
     ∙ length-append (answers ++ answers_in p place told) ((n, reply, place) ∷ [])
 
@@ -149,18 +172,22 @@ ToldSome-answer processes old d after told p n reply is h =
       published = λ before q there start.
           ⊎_elim
           (λ (e : q ≡ p).
-          subst (λ (r : ℕ). (tally_at (with_tally ts p u) r).published ≡ length (answers_to r before ++ answers_in r (length before + 1) (told ++ Answer p n reply ∷ []))) (sym e)
+          subst (λ (r : ℕ). (tally_at (with_tally ts p u) r).published ≡ length
+          (answers_to r before ++ answers_in r (length before + 1) (told ++ Answer p n reply ∷ []))) (sym e)
           (ap (λ (t : Tally). t.published) here
-          ∙ ap (λ (k : ℕ). k + 1) (h.published before p (subst (IsProcess processes) e there) (subst (λ (r : ℕ). (tally_at old.tallies r).published ≡ length (answers_to r before)) e start))
+          ∙ ap (λ (k : ℕ). k + 1) (h.published before p (subst (IsProcess processes) e there)
+          (subst (λ (r : ℕ). (tally_at old.tallies r).published ≡ length (answers_to r before)) e start))
           ∙ sym (one_more p (length before + 1) n reply (answers_to p before) told)))
           (λ (other : q ≢ p).
           ap (λ (t : Tally). t.published) (tally_else ts p q u other) ∙ h.published before q there start
-          ∙ ap (λ (l : List (ℕ × Reply × ℕ)). length (answers_to q before ++ l)) (sym (no_more p q (length before + 1) n reply told (λ e. other (sym e)))))
+          ∙ ap (λ (l : List (ℕ × Reply × ℕ)). length (answers_to q before ++ l))
+          (sym (no_more p q (length before + 1) n reply told (λ e. other (sym e)))))
           (cases_eq q p);
     })
 
 -- one note more, whichever it is
-pub told_more : (processes : ℕ) (old d : DeskView) (notes : List Note) (i : ℕ) (note default : Note) → i < length notes → get_or notes i default ≡ note
+pub told_more : (processes : ℕ) (old d : DeskView) (notes : List Note) (i : ℕ) (note default : Note) → i < length notes
+    → get_or notes i default ≡ note
     → ToldSome processes old d (take i notes ++ note ∷ []) → ToldSome processes old d (take (i + 1) notes)
 told_more processes old d notes i note default within read h =
     subst (λ (l : List Note). ToldSome processes old d l)
@@ -172,7 +199,8 @@ pub record IsNextTold (processes : ℕ) (d : DeskView) (p n : ℕ) (reply : Repl
   pub next : IsNextToTell d p (n, reply, place)
   pub number : n ≡ (tally_at d.tallies p).published + 1
 
-pub next_told : (processes : ℕ) (old d : DeskView) (notes : List Note) (place i p n : ℕ) (reply : Reply) (default : Note) → IsUntold processes old notes place
+pub next_told : (processes : ℕ) (old d : DeskView) (notes : List Note) (place i p n : ℕ) (reply : Reply) (default : Note)
+    → IsUntold processes old notes place
     → ToldSome processes old d (take i notes) → i < length notes → get_or notes i default ≡ Answer p n reply
     → IsNextTold processes d p n reply place
 next_told processes old d notes place i p n reply default untold told within read =
@@ -181,18 +209,24 @@ next_told processes old d notes place i p n reply default untold told within rea
     subst (λ (x : Note). IsProcess processes (told_process x)) read
     (All-get_or (λ (x : Note). IsProcess processes (told_process x)) notes i default within untold.in_range) in
     let split : untold.event.notes ≡ take i notes ++ note ∷ drop (i + 1) notes =
-    untold.notes_are ∙ sym (take-append-drop (i + 1) notes) ∙ ap (λ (l : List Note). l ++ drop (i + 1) notes) (take_more notes i default within)
-    ∙ append_assoc (take i notes) (get_or notes i default ∷ []) (drop (i + 1) notes) ∙ ap (λ (x : Note). take i notes ++ x ∷ drop (i + 1) notes) read in
+    untold.notes_are ∙ sym (take-append-drop (i + 1) notes)
+    ∙ ap (λ (l : List Note). l ++ drop (i + 1) notes) (take_more notes i default within)
+    ∙ append_assoc (take i notes) (get_or notes i default ∷ []) (drop (i + 1) notes)
+    ∙ ap (λ (x : Note). take i notes ++ x ∷ drop (i + 1) notes) read in
     let journal : d.journal ≡ untold.before ++ untold.event ∷ [] = ap (λ (v : DeskView). v.journal) told.same ∙ untold.journal in
-    let many : (tally_at d.tallies p).published ≡ length (answers_to p untold.before ++ answers_in p (length untold.before + 1) (take i notes)) =
+    let many : (tally_at d.tallies p).published ≡ length
+    (answers_to p untold.before ++ answers_in p (length untold.before + 1) (take i notes)) =
     told.published untold.before p there (untold.published p there) in
     let next = next_to_tell p n reply untold.before untold.event (take i notes) (drop (i + 1) notes) split in
-    let number = number_to_tell p n reply untold.before untold.event (take i notes) (drop (i + 1) notes) split (subst (AreInTurn p) untold.journal (untold.in_turn p)) in
+    let number = number_to_tell p n reply untold.before untold.event (take i notes) (drop (i + 1) notes) split
+    (subst (AreInTurn p) untold.journal (untold.in_turn p)) in
     record {
       is_process = there;
       next =
           subst (λ (k : ℕ). get_elem? (answers_to p d.journal) k ≡ some (n, reply, place)) (sym many)
-          (subst (λ (l : List Event). get_elem? (answers_to p l) (length (answers_to p untold.before ++ answers_in p (length untold.before + 1) (take i notes))) ≡ some (n, reply, place)) (sym journal)
+          (subst (λ (l : List Event). get_elem? (answers_to p l)
+          (length (answers_to p untold.before ++ answers_in p (length untold.before + 1) (take i notes))) ≡ some
+          (n, reply, place)) (sym journal)
           (next ∙ ap (λ (k : ℕ). some (n, reply, k)) (sym untold.at_place)));
       number = number ∙ ap (λ (k : ℕ). k + 1) (sym many);
     }
@@ -207,7 +241,8 @@ told_all processes old d notes place i untold told past =
       probes = told.probes;
       published = λ q there.
           told.published untold.before q there (untold.published q there)
-          ∙ ap (λ (l : List Note). length (answers_to q untold.before ++ answers_in q (length untold.before + 1) l)) (take_all i notes (omega arith) ∙ sym untold.notes_are)
+          ∙ ap (λ (l : List Note). length (answers_to q untold.before ++ answers_in q (length untold.before + 1) l))
+          (take_all i notes (omega arith) ∙ sym untold.notes_are)
           ∙ ap length (sym (answers_exact q untold.before untold.event))
           ∙ ap (λ (l : List Event). length (answers_to q l)) (sym untold.journal);
     }

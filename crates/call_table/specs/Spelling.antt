@@ -17,7 +17,8 @@ use Rattle.lock_manager.specs.declared.request.LkCmd.TheVariants.{GetLk, SetLk, 
 use Rattle.lock_manager.specs.declared.request.FlockOp.{FlockOp}
 use Rattle.lock_manager.specs.declared.request.FlockOp.TheVariants.{Sh, Ex, Un}
 use Rattle.lock_manager.specs.declared.request.Request.{Request}
-use Rattle.lock_manager.specs.declared.request.Request.TheVariants.{OpenFile, Dup, DupTo, CloseFd, Seek, Resize, Lk, Flock, Fork, Exit, Signal, Kill}
+use Rattle.lock_manager.specs.declared.request.Request.TheVariants.{OpenFile, Dup, DupTo, CloseFd, Seek, Resize, Lk, Flock, Fork}
+use Rattle.lock_manager.specs.declared.request.Request.TheVariants.{Exit, Signal, Kill}
 use Rattle.lock_manager.specs.declared.request.Errno.{Errno}
 use Rattle.lock_manager.specs.declared.request.Errno.TheVariants.{EBADF, EINVAL, EOVERFLOW, EAGAIN, EDEADLK, EINTR, EMFILE, ESRCH}
 use Rattle.lock_manager.specs.declared.request.Reply.{Reply}
@@ -124,7 +125,13 @@ request_spelled (Kill target) = six 17 target 0 0 0 0
 -- the lock description that four words of a cell spell
 abbrev pub lock_in : ℕ → ℕ → ℕ → ℕ → Lock
 lock_in how start len pid =
-    record { kind = kind_in (how % 3); whence = whence_in (how / 3); start = number_in start; len = number_in len; pid = number_in pid }
+    record {
+      kind = kind_in (how % 3);
+      whence = whence_in (how / 3);
+      start = number_in start;
+      len = number_in len;
+      pid = number_in pid;
+    }
 
 -- the request that six words spell
 abbrev pub request_of_words : ℕ → ℕ → ℕ → ℕ → ℕ → ℕ → Request

@@ -59,7 +59,7 @@ Posts step me number after =
 abbrev pub desk_looked : DeskView → ℕ → ℕ → DeskView
 desk_looked d p found =
     let t = tally_at d.tallies p in
-    record d { tallies = with_tally d.tallies p (record { published = t.published; looked = found; probes = t.probes + 1 }); reading = (p, []) }
+    record d { tallies = with_tally d.tallies p (record t { looked = found; probes = t.probes + 1 }); reading = (p, []) }
 
 -- the number of posted requests of the process was loaded, whose word has its number
 abbrev pub Looks : Told
@@ -144,11 +144,15 @@ desk_filled d p word = record d { filling = (p, d.filling.1 ++ word ∷ []) }
 abbrev pub FillsAnswer : ℕ → Told
 FillsAnswer p step me word after = (d : DeskView) → HasDesk d me → HasDesk (desk_filled d p word) after
 
+-- the desk, which published one more answer to process p
+abbrev pub desk_told : DeskView → ℕ → DeskView
+desk_told d p =
+    let t = tally_at d.tallies p in
+    record d { tallies = with_tally d.tallies p (record t { published = t.published + 1 }); filling = (0, []) }
+
 -- the desk, which published one more answer to the process whose cell it filled
 abbrev pub desk_published : DeskView → DeskView
-desk_published d =
-    let t = tally_at d.tallies d.filling.0 in
-    record d { tallies = with_tally d.tallies d.filling.0 (record { published = t.published + 1; looked = t.looked; probes = t.probes }); filling = (0, []) }
+desk_published d = desk_told d d.filling.0
 
 -- the number of published answers was stored
 abbrev pub Publishes : Told
@@ -176,7 +180,7 @@ client_made (Both d c before) = Spent
 abbrev pub met_desk : DeskView → ClientView → DeskView
 met_desk d c =
     let t = tally_at d.tallies c.process in
-    record d { tallies = with_tally d.tallies c.process (record { published = t.published; looked = length c.posted; probes = t.probes }) }
+    record d { tallies = with_tally d.tallies c.process (record t { looked = length c.posted }) }
 
 -- the client, which met the desk
 abbrev pub met_client : DeskView → ClientView → ClientView
@@ -215,7 +219,8 @@ client_parted (Desk d) = Spent
 -- six words spell the next answer in what the client saw
 abbrev pub IsNextAnswer : ClientView → List ℕ → Type 0
 IsNextAnswer c words =
-    (a : ℕ × Reply × ℕ) × (get_elem? (answers_to c.process c.seen) c.collected ≡ some a) × ReplyFits a.1 × (words ≡ answer_spelled a.1 a.2)
+    (a : ℕ × Reply × ℕ) × (get_elem? (answers_to c.process c.seen) c.collected ≡ some a)
+    × ReplyFits a.1 × (words ≡ answer_spelled a.1 a.2)
 
 -- the journal is a run under these rules and with so many processes
 abbrev pub IsRunOf : Setup → List Event → Type 0
@@ -234,12 +239,6 @@ Compares step me found after =
 -- six words spell a request
 abbrev pub AreRequestWords : List ℕ → Type 0
 AreRequestWords words = (r : Request) × RequestFits r × (words ≡ request_spelled r)
-
--- the desk, which published one more answer to process p
-abbrev pub desk_told : DeskView → ℕ → DeskView
-desk_told d p =
-    let t = tally_at d.tallies p in
-    record d { tallies = with_tally d.tallies p (record { published = t.published + 1; looked = t.looked; probes = t.probes }); filling = (0, []) }
 
 -- the next answer to publish to process p is this
 abbrev pub IsNextToTell : DeskView → ℕ → ℕ × Reply × ℕ → Type 0

@@ -67,7 +67,8 @@ impl Desk {
         ensures served { IfOk result (IsServed self.old self.new) }
         ensures closed { (result ≡ Ok Served.Closed) ↔ ((desk_view self.old).closed ≡ true) }
         ensures memory { OnErr result (IsUnserved self.old self.new) }
-        ensures looked { (p : ℕ) → (tally_at (desk_view self.old).tallies p).looked ≤ (tally_at (desk_view self.new).tallies p).looked }
+        ensures looked { (p : ℕ)
+            → (tally_at (desk_view self.old).tallies p).looked ≤ (tally_at (desk_view self.new).tallies p).looked }
         ensures same { SameDesk self.old self.new }
     {
         if self.closed {
@@ -141,12 +142,6 @@ impl Desk {
         ensures session { result ≡ session_in self }
         ensures journal { events_in result ≡ (desk_view self).journal }
     {
-        let Desk {
-            setup: _,
-            closed: _,
-            session,
-            seat: _,
-        } = self;
-        session
+        self.session
     }
 }

@@ -1,5 +1,6 @@
 // What each kind of step tells its caller, and how views are split and joined. These types are for the proofs alone.
-ghost use Rattle.call_table.specs.Steps.{Compares, Fills, Posts, Looks, Reads, Finds, Gets, Collects, Marks, Publishes, Closes, desk_before, client_made, joined, desk_parted, client_parted};
+ghost use Rattle.call_table.specs.Steps.{Compares, Fills, Posts, Looks, Reads, Finds, Gets, Collects, Marks, Publishes, Closes};
+ghost use Rattle.call_table.specs.Steps.{desk_before, client_made, joined, desk_parted, client_parted};
 
 use crate::view::View;
 use atomic_table::{Join, Play, Split};

@@ -5,10 +5,14 @@ ghost use Rattle.fd_table.specs.Descriptors.{process_limit};
 ghost use Rattle.call_table.specs.Desks.{IsDeskOf, IsOpened, SameDesk};
 ghost use Rattle.call_table.specs.Shown.{IsClientOf};
 
-use crate::{Busy, Client, Desk, Gate, Hub, Served, open_hub};
+use crate::indexes::{
+    answer_index, answered_index, posted_index, request_index, taken_index, words_in,
+};
+use crate::spelling::{spell_answer, spell_request};
+use crate::{Busy, Client, Desk, Gate, Hub, Served, Setup, open_hub};
 use fd_table::{Access, Limits};
-use lock_manager::{Reply, Request, Rules};
-use range_core::Memory;
+use lock_manager::{Errno, LkCmd, Lock, Reply, Request, Rules};
+use range_core::{Kind, Memory, Whence};
 use std::alloc::Global;
 use std::process::Abort;
 use std::test::Fail;
@@ -19,6 +23,11 @@ use wait_core::Policy;
 const RULES: Rules = Rules {
     policy: Policy::Held,
     limits: Limits::Small,
+};
+
+const WIDE: Rules = Rules {
+    policy: Policy::Held,
+    limits: Limits::Wide,
 };
 
 const OPEN: Request = Request::OpenFile {
@@ -60,7 +69,8 @@ fn open_table(
 ) -> Result<(Hub, Vec<Client>, Desk), Memory>
     requires processes { (1 ≤ processes) × (processes ≤ process_limit rules.limits) }
     requires depth { (1 ≤ depth) × (depth ≤ 32) }
-    ensures { IfOk result (λ made. IsOpened (record { processes = processes; depth = depth; rules = rules }) made.0 made.1.items made.2) }
+    ensures { IfOk result (λ made. IsOpened (record { processes = processes; depth = depth; rules = rules })
+        made.0 made.1.items made.2) }
 {
     match open_hub(alloc, processes, depth, rules) {
         Err(Memory) => open_hub(alloc, processes, depth, rules),
@@ -81,6 +91,15 @@ fn table_of_two(
     let second = clients.pop().expect(rt, "process 2 has a client");
     let first = clients.pop().expect(rt, "process 1 has a client");
     Ok((hub, first, second, desk))
+}
+
+/// The largest table, and the client of its last process.
+fn last_of_many(rt: &impl Abort, alloc: Global) -> Result<(Hub, Client), Memory>
+    ensures { IfOk result (λ made. IsClientOf made.0 made.1) }
+{
+    let (hub, mut clients, _desk) = open_table(alloc, 64, 32, WIDE)?;
+    let last = clients.pop().expect(rt, "process 64 has a client");
+    Ok((hub, last))
 }
 
 /// In one thread: each call answers as the documents say.
@@ -122,5 +141,70 @@ fn the_desk_goes_on_where_a_client_is_dropped(rt: HostRuntime) -> Result<(), Fai
     assert_eq!(rt; serve(&mut desk, &hub, &Open)?, Served::Took(2));
     let (_desk, mut second) = desk.meet(&hub, second);
     assert_eq!(rt; second.collect(&hub), Some((1, Reply::Fd(0), 2)));
+    Ok(())
+}
+
+/// In the largest table the last client posts as many requests as there are cells.
+#[test]
+fn the_last_of_many_clients_has_its_cells(rt: HostRuntime) -> Result<(), Fail> {
+    let (hub, mut last) = last_of_many(&rt, rt.alloc())?;
+    for n in 1..=32 {
+        assert_eq!(rt; last.post(&hub, OPEN), Ok(n));
+    }
+    let busy = Err(Busy { request: FORK });
+    assert_eq!(rt; last.post(&hub, FORK), busy);
+    assert_eq!(rt; last.collect(&hub), None);
+    Ok(())
+}
+
+fn setup_of(processes: u8, depth: u8) -> Setup
+    ensures { (result.processes ≡ processes) × (result.depth ≡ depth) }
+{
+    Setup {
+        processes,
+        depth,
+        rules: RULES,
+    }
+}
+
+/// The words stand where the documents say.
+#[test]
+fn words_have_their_places(rt: HostRuntime) -> Result<(), Fail> {
+    assert_eq!(rt; words_in(&setup_of(2, 1)), 31);
+    assert_eq!(rt; words_in(&setup_of(64, 32)), 24769);
+    let setup = setup_of(2, 4);
+    assert_eq!(rt; posted_index(&setup, 2), 2);
+    assert_eq!(rt; taken_index(&setup, 2), 4);
+    assert_eq!(rt; answered_index(&setup, 2), 6);
+    assert_eq!(rt; request_index(&setup, 1, 4, 0), 7);
+    assert_eq!(rt; request_index(&setup, 1, 4, 5), 12);
+    assert_eq!(rt; answer_index(&setup, 1, 4, 0), 31);
+    assert_eq!(rt; answer_index(&setup, 1, 4, 5), 36);
+    Ok(())
+}
+
+/// A request and an answer are spelled as the documents say.
+#[test]
+fn words_spell(rt: HostRuntime) -> Result<(), Fail> {
+    let lock = Lock {
+        kind: Kind::Write,
+        whence: Whence::Set,
+        start: 10,
+        len: -10,
+        pid: 0,
+    };
+    let request = Request::Lk {
+        fd: 0,
+        cmd: LkCmd::SetLk,
+        lock,
+    };
+    assert_eq!(rt;
+        spell_request(request),
+        [8, 0, 1, 10, 18446744073709551606, 0]
+    );
+    assert_eq!(rt;
+        spell_answer(Reply::Err(Errno::EMFILE), 9),
+        [5, 7, 0, 0, 0, 9]
+    );
     Ok(())
 }

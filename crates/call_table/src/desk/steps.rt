@@ -33,7 +33,8 @@ fn look(
     requires seat { HasDesk (desk_of seat.old.me.0) seat.old.me }
     ensures seat { SameSeat seat.old seat.new }
     ensures view { HasDesk (desk_looked (desk_of seat.old.me.0) process result) seat.new.me }
-    ensures found { ((tally_at (desk_of seat.old.me.0).tallies process).looked ≤ result) × (length (requests_taken process (desk_of seat.old.me.0).journal) ≤ result) × (result ≤ N_MAX) }
+    ensures found { ((tally_at (desk_of seat.old.me.0).tallies process).looked ≤ result)
+        × (length (requests_taken process (desk_of seat.old.me.0).journal) ≤ result) × (result ≤ N_MAX) }
 {
     shared.load::<Look>(seat, posted_index(setup, process))
 }
@@ -49,7 +50,8 @@ pub(super) fn read(
     requires table { IsTable seat.old.table_id shared.now.table_id shared.now.key setup.now }
     requires setup { IsSetup setup.now × IsProcess setup.now.processes process }
     requires seat { HasDesk (desk_of seat.old.me.0) seat.old.me × ((desk_of seat.old.me.0).reading ≡ (process, [])) }
-    requires next { (before ≡ length (requests_taken process (desk_of seat.old.me.0).journal)) × (before < (tally_at (desk_of seat.old.me.0).tallies process).looked) }
+    requires next { (before ≡ length (requests_taken process (desk_of seat.old.me.0).journal))
+        × (before < (tally_at (desk_of seat.old.me.0).tallies process).looked) }
     ensures seat { SameSeat seat.old seat.new }
     ensures view { HasDesk (record (desk_of seat.old.me.0) { reading = (process, result) }) seat.new.me }
     ensures words { AreRequestWords result }
@@ -168,7 +170,8 @@ pub(super) fn find_next(
     requires seat { HasDesk (desk_of seat.old.me.0) seat.old.me × ((desk_of seat.old.me.0).journal ≡ events_in session.now) }
     ensures seat { SameSeat seat.old seat.new }
     ensures view { HasDesk (desk_of seat.new.me.0) seat.new.me }
-    ensures some { IfSome result (λ found. FindsNext session.now setup.now.processes (desk_of seat.old.me.0) (desk_of seat.new.me.0) found.0 found.1) }
+    ensures some { IfSome result (λ found. FindsNext session.now setup.now.processes (desk_of seat.old.me.0)
+        (desk_of seat.new.me.0) found.0 found.1) }
     ensures none { IfNone result (LooksUpTo session.now (desk_of seat.old.me.0) (desk_of seat.new.me.0) setup.now.processes
         × HasAllTakenBelow session.now (desk_of seat.new.me.0) (setup.now.processes + 1)) }
 {

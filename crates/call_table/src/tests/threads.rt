@@ -2,10 +2,12 @@
 ghost use Rattle.call_table.specs.Desks.{IsDeskOf};
 ghost use Rattle.call_table.specs.Shown.{IsClientOf};
 
-use super::{FORK, OPEN, Open, serve, table_of_two};
+use super::{FORK, OPEN, OPEN_TO_READ, Open, RULES, serve, table_of_two};
 use crate::{Busy, Client, Desk, Gate, Hub, Served};
-use lock_manager::{LkCmd, Lock, Reply, Request};
+use lock_manager::{LkCmd, Lock, Note, ProcState, Reply, Request};
 use range_core::{Kind, Memory, Whence};
+use session_core::{Session, check_journal};
+use std::alloc::Global;
 use std::process::Abort;
 use std::sync::Wait;
 use std::sync::atomic::{AtomicBool, Ordering};
@@ -47,6 +49,21 @@ impl Caller<'_> {
     fn collect(&mut self) -> Option<Answer> {
         self.client.collect(self.hub)
     }
+
+    fn closed(&mut self) -> bool {
+        self.client.closed(self.hub)
+    }
+
+    /// Collects until there is an answer, so many times at most.
+    fn collect_soon(&mut self) -> Option<Answer> {
+        for _ in 0..TURNS {
+            if let Some(answer) = self.collect() {
+                return Some(answer);
+            }
+            thread::yield_now();
+        }
+        None
+    }
 }
 
 /// A desk with its hub.
@@ -60,6 +77,34 @@ struct Server<'a> {
 impl Server<'_> {
     fn serve<G: Gate>(&mut self, gate: &G) -> Result<Served, Memory> {
         serve(&mut self.desk, self.hub, gate)
+    }
+
+    /// Serves until a request is taken, so many times at most.
+    fn serve_soon(&mut self) -> Result<Served, Memory> {
+        for _ in 0..TURNS {
+            let served = self.serve(&Open)?;
+            if served != Served::Idle {
+                return Ok(served);
+            }
+            thread::yield_now();
+        }
+        Ok(Served::Idle)
+    }
+
+    fn close(&mut self) {
+        self.desk.close(self.hub);
+    }
+
+    fn state_of(&self, p: u8) -> ProcState {
+        self.desk.session().manager().state_of(p)
+    }
+
+    /// Whether all of these many requests of each process are taken that may be.
+    fn has_taken(&self, counts: [u64; 2]) -> bool {
+        let session = self.desk.session();
+        let one = |p: u8, count: u64| self.state_of(p) != ProcState::Live
+            || session.taken(p) == count;
+        one(1, counts[0]) && one(2, counts[1])
     }
 }
 
@@ -237,5 +282,217 @@ fn a_client_collects_while_the_desk_serves(rt: HostRuntime) -> Result<(), Fail> 
     lock_first_byte(&rt, &mut first, &mut server)?;
     let came = act_at_the_gate(&rt, first, second, server, Act::Collect)?;
     assert_eq!(rt; came, Some(Came::Collected(Some(LOCKED))));
+    Ok(())
+}
+
+/// Posts the request and collects its answer.
+fn ask(mut caller: Caller, request: Request) -> Result<Option<Answer>, Busy> {
+    caller.post(request)?;
+    Ok(caller.collect_soon())
+}
+
+/// Process 2 waits for the lock, and then process 1 unlocks. Refused where no thread can be had.
+fn unlock_for_who_waits<R: Threads + Wait + Abort + Sync>(
+    rt: &R,
+    mut first: Caller,
+    second: Caller,
+    mut server: Server,
+) -> Result<Option<Answer>, Fail> {
+    thread::scope(thread::scope_env(), rt, |scope| {
+        let wait = lock(LkCmd::SetLkW, Kind::Write, 0);
+        let Ok(waiting) = scope.spawn(move || ask(second, wait)) else {
+            return Err(Fail::from(Memory));
+        };
+        assert_eq!(rt; server.serve_soon()?, Served::Took(4));
+        assert_eq!(rt; server.state_of(2), ProcState::Waiting);
+        let unlock = lock(LkCmd::SetLk, Kind::Unlock, 0);
+        let Ok(unlocking) = scope.spawn(move || first.post(unlock)) else {
+            return Err(Fail::from(Memory));
+        };
+        assert_eq!(rt; server.serve_soon()?, Served::Took(5));
+        assert_eq!(rt; unlocking.join(rt), Ok(4));
+        Ok(waiting.join(rt)?)
+    })
+}
+
+/// A process that waits is answered by the unlock of another, and its answer has that event's place.
+#[test]
+fn an_unlock_answers_who_waits(rt: HostRuntime) -> Result<(), Fail> {
+    let (hub, first, second, desk) = table_of_two(&rt, rt.alloc(), 2)?;
+    let (mut first, second, mut server) = with_hub(&hub, first, second, desk);
+    lock_first_byte(&rt, &mut first, &mut server)?;
+    assert_eq!(rt; first.collect(), Some(LOCKED));
+    let answer = unlock_for_who_waits(&rt, first, second, server)?;
+    assert_eq!(rt; answer, Some((1, Reply::Ok, 5)));
+    Ok(())
+}
+
+/// Posts two requests.
+fn post_both(mut caller: Caller) -> (Result<u64, Busy>, Result<u64, Busy>) {
+    (
+        caller.post(OPEN_TO_READ),
+        caller.post(Request::Dup { fd: 0 }),
+    )
+}
+
+/// What a thread posts is taken in order, and answered.
+#[test]
+fn the_desk_takes_what_a_thread_posts(rt: HostRuntime) -> Result<(), Fail> {
+    let (hub, first, second, desk) = table_of_two(&rt, rt.alloc(), 2)?;
+    let (first, _second, mut server) = with_hub(&hub, first, second, desk);
+    let handle = &rt;
+    let posted = thread::scope(thread::scope_env(), &rt, |scope| {
+        let Ok(posting) = scope.spawn(move || post_both(first)) else {
+            return Err(Fail::from(Memory));
+        };
+        assert_eq!(handle; server.serve_soon()?, Served::Took(1));
+        assert_eq!(handle; server.serve_soon()?, Served::Took(2));
+        let session = server.desk.session();
+        assert_eq!(handle; session.answer_of(1, 1), Some(Reply::Fd(0)));
+        assert_eq!(handle; session.answer_of(1, 2), Some(Reply::Fd(1)));
+        Ok(posting.join(handle))
+    })?;
+    assert_eq!(rt; posted, (Ok(1), Ok(2)));
+    Ok(())
+}
+
+/// Posts the requests and collects the answers, until the desk is closed and nothing is left: `None` where the turns ran out.
+/// There is room for the answers.
+fn converse(
+    mut caller: Caller,
+    requests: &[Request],
+    mut answers: Vec<Answer>,
+) -> Result<Option<Vec<Answer>>, Memory> {
+    let mut posted = 0;
+    for _ in 0..TURNS {
+        if let Some(request) = requests.get(posted) {
+            if caller.post(*request).is_ok() {
+                posted += 1;
+            }
+        }
+        let closed = caller.closed();
+        if let Some(answer) = caller.collect() {
+            answers.push(answer).map_err(|_| Memory)?;
+        } else if closed {
+            return Ok(Some(answers));
+        } else {
+            thread::yield_now();
+        }
+    }
+    Ok(None)
+}
+
+/// Serves until all that may be taken is, and closes: false where the turns ran out.
+fn serve_all(server: &mut Server, counts: [u64; 2]) -> Result<bool, Memory> {
+    let mut done = false;
+    for _ in 0..TURNS {
+        let served = server.serve(&Open)?;
+        done = server.has_taken(counts);
+        if done {
+            break;
+        }
+        if served == Served::Idle {
+            thread::yield_now();
+        }
+    }
+    server.close();
+    Ok(done)
+}
+
+/// The requests of two processes, each of which locks a byte and then asks for the other's.
+fn requests_of_first() -> [Request; 4] {
+    [
+        OPEN,
+        FORK,
+        lock(LkCmd::SetLk, Kind::Write, 0),
+        lock(LkCmd::SetLkW, Kind::Write, 1),
+    ]
+}
+
+fn requests_of_second() -> [Request; 3] {
+    [
+        lock(LkCmd::SetLk, Kind::Write, 1),
+        lock(LkCmd::SetLkW, Kind::Write, 0),
+        lock(LkCmd::SetLk, Kind::Unlock, 1),
+    ]
+}
+
+/// What each of the two collected. Refused where no thread can be had.
+fn run_both<R: Threads + Wait + Abort + Sync>(
+    rt: &R,
+    alloc: Global,
+    first: Caller,
+    second: Caller,
+    server: &mut Server,
+) -> Result<(Option<Vec<Answer>>, Option<Vec<Answer>>), Fail> {
+    let to_first = Vec::with_capacity(alloc, 4).map_err(|_| Memory)?;
+    let to_second = Vec::with_capacity(alloc, 3).map_err(|_| Memory)?;
+    thread::scope(thread::scope_env(), rt, |scope| {
+        let one = move || converse(first, &requests_of_first(), to_first);
+        let Ok(one) = scope.spawn(one) else {
+            return Err(Fail::from(Memory));
+        };
+        let two = move || converse(second, &requests_of_second(), to_second);
+        let Ok(two) = scope.spawn(two) else {
+            return Err(Fail::from(Memory));
+        };
+        let served = serve_all(server, [4, 3]);
+        let both = (one.join(rt), two.join(rt));
+        assert!(rt; served?);
+        Ok((both.0?, both.1?))
+    })
+}
+
+/// Looks that these are the journal's answers to the process, each at its place.
+fn look_at_answers(rt: &impl Abort, session: &Session, process: u8, answers: Option<Vec<Answer>>) {
+    let answers = answers.expect(rt, "the turns are enough");
+    assert_eq!(rt; answers.len() as u64, session.answered(process));
+    for (count, (n, reply, place)) in (1..).zip(answers.iter().copied()) {
+        assert_eq!(rt; n, count);
+        assert!(rt; 1 <= place);
+        let entry = session
+            .journal()
+            .get(place as usize - 1)
+            .expect(rt, "the journal has an entry at this place");
+        let note = Note::Answer {
+            p: process,
+            n,
+            reply,
+        };
+        assert!(rt; entry.notes.contains(&note));
+    }
+}
+
+/// Whether the journal is a run of two processes.
+fn is_run(alloc: Global, session: &Session) -> Result<bool, Memory> {
+    let journal = session.journal();
+    match check_journal(alloc, 2, RULES, journal) {
+        Err(Memory) => check_journal(alloc, 2, RULES, journal),
+        first => first,
+    }
+}
+
+/// In whatever order two threads ask, the journal is a run, and each collects the journal's answers to it.
+fn lock_and_wait<R: Threads + Wait + Abort + Sync>(rt: &R, alloc: Global) -> Result<(), Fail> {
+    let (hub, first, second, desk) = table_of_two(rt, alloc, 4)?;
+    let (first, second, mut server) = with_hub(&hub, first, second, desk);
+    let (one, two) = run_both(rt, alloc, first, second, &mut server)?;
+    let session = server.desk.session();
+    assert!(rt; is_run(alloc, session)?);
+    look_at_answers(rt, session, 1, one);
+    look_at_answers(rt, session, 2, two);
+    Ok(())
+}
+
+#[test]
+fn two_threads_lock_and_wait(rt: HostRuntime) -> Result<(), Fail> {
+    lock_and_wait(&rt, rt.alloc())
+}
+
+#[test]
+fn pairs_of_threads_lock_and_wait_often(rt: HostRuntime) -> Result<(), Fail> {
+    for _ in 0..100 {
+        lock_and_wait(&rt, rt.alloc())?;
+    }
     Ok(())
 }

@@ -24,7 +24,8 @@ join_seat-requires c =
       search rules,
       ap (λ (m : Seated). m.1) parts.ensures.sits.is,
       subst (λ (n : ℕ). 0 < n) (sym hub.wide) (inside hub.setup.processes hub.setup.depth mark tt),
-      may_join_as hub.table.shared.key c.args.self.seat.id parts.result.4.id c.args.self.seat.me his (desk_of c.args.self.seat.me.0) (client_of his.0) c.args.self.sits.is parts.ensures.sits.is,
+      may_join_as hub.table.shared.key c.args.self.seat.id parts.result.4.id c.args.self.seat.me his (desk_of c.args.self.seat.me.0)
+          (client_of his.0) c.args.self.sits.is parts.ensures.sits.is,
     )
 
 pub load-requires : goal.load-requires
@@ -34,10 +35,12 @@ load-requires c =
     let parts = c.into_parts-process in
     let his : Seated = parts.result.4.me in
     let d : DeskView = desk_of c.args.self.seat.me.0 in let u : ClientView = client_of his.0 in
-    let both = joined_is c.args.self.seat.me his c.join_seat.new.seat.me d u c.args.self.sits.is parts.ensures.sits.is c.join_seat.ensures.2 in (
+    let both = joined_is c.args.self.seat.me his c.join_seat.new.seat.me d u c.args.self.sits.is parts.ensures.sits.is
+    c.join_seat.ensures.2 in (
       c.join_seat.ensures.0 ∙ c.requires.desk.table,
       subst (λ (n : ℕ). 0 < n) (sym hub.wide) (inside hub.setup.processes hub.setup.depth mark tt),
-      may_compare hub.table.shared.key hub.table.shared.table_id.slots c.join_seat.new.seat.id c.join_seat.new.seat.me (met_desk d u) (met_client d u) (before_meeting d u) 0
+      may_compare hub.table.shared.key hub.table.shared.table_id.slots c.join_seat.new.seat.id c.join_seat.new.seat.me
+          (met_desk d u) (met_client d u) (before_meeting d u) 0
           (tables.step hub.table.shared.table_id.slots 0 0 0 none) both,
     )
 
@@ -48,11 +51,14 @@ split_seat-other-requires c =
     let parts = c.into_parts-process in
     let his : Seated = parts.result.4.me in
     let d : DeskView = desk_of c.args.self.seat.me.0 in let u : ClientView = client_of his.0 in
-    let both = joined_is c.args.self.seat.me his c.join_seat.new.seat.me d u c.args.self.sits.is parts.ensures.sits.is c.join_seat.ensures.2 in
-    let still : c.load.new.seat.me ≡ (Both (met_desk d u) (met_client d u) (before_meeting d u), []) = c.load.ensures.2.0 ∙ both in (
+    let both = joined_is c.args.self.seat.me his c.join_seat.new.seat.me d u c.args.self.sits.is
+    parts.ensures.sits.is c.join_seat.ensures.2 in
+    let still : c.load.new.seat.me ≡ (Both (met_desk d u) (met_client d u) (before_meeting d u), []) =
+    c.load.ensures.2.0 ∙ both in (
       c.load.ensures.0 ∙ c.join_seat.ensures.0 ∙ c.requires.desk.table,
       subst (λ (n : ℕ). 0 < n) (sym hub.wide) (inside hub.setup.processes hub.setup.depth mark tt),
-      may_part_as hub.table.shared.key c.load.new.seat.id c.load.new.seat.me (met_desk d u) (met_client d u) (before_meeting d u) still,
+      may_part_as hub.table.shared.key c.load.new.seat.id c.load.new.seat.me (met_desk d u) (met_client d u)
+          (before_meeting d u) still,
     )
 
 pub invariant_of-result : goal.invariant_of-result
@@ -61,11 +67,14 @@ invariant_of-result c =
     let parts = c.into_parts-process in
     let his : Seated = parts.result.4.me in
     let d : DeskView = desk_of c.args.self.seat.me.0 in let u : ClientView = client_of his.0 in
-    let both = joined_is c.args.self.seat.me his c.join_seat.new.seat.me d u c.args.self.sits.is parts.ensures.sits.is c.join_seat.ensures.2 in
+    let both = joined_is c.args.self.seat.me his c.join_seat.new.seat.me d u c.args.self.sits.is
+    parts.ensures.sits.is c.join_seat.ensures.2 in
     let still : c.load.new.seat.me ≡ (Both (met_desk d u) (met_client d u) (before_meeting d u), []) = c.load.ensures.2.0 ∙ both in
     record {
-      sits = sits_met c.args.self.seat.me c.split_seat-other.new.seat.me c.args.self.setup c.args.self.closed c.args.self.session u c.args.self.sits
-          (parted_is c.load.new.seat.me c.split_seat-other.new.seat.me (met_desk d u) (met_client d u) (before_meeting d u) still c.split_seat-other.ensures.2);
+      sits = sits_met c.args.self.seat.me c.split_seat-other.new.seat.me c.args.self.setup c.args.self.closed
+          c.args.self.session u c.args.self.sits
+          (parted_is c.load.new.seat.me c.split_seat-other.new.seat.me (met_desk d u) (met_client d u) (before_meeting d u) still
+          c.split_seat-other.ensures.2);
     }
 
 pub returns-clause-met : goal.returns-clause-met
@@ -74,7 +83,8 @@ returns-clause-met c =
     let parts = c.into_parts-process in
     let his : Seated = parts.result.4.me in
     let d : DeskView = desk_of c.args.self.seat.me.0 in let u : ClientView = client_of his.0 in
-    let both = joined_is c.args.self.seat.me his c.join_seat.new.seat.me d u c.args.self.sits.is parts.ensures.sits.is c.join_seat.ensures.2 in
+    let both = joined_is c.args.self.seat.me his c.join_seat.new.seat.me d u c.args.self.sits.is
+    parts.ensures.sits.is c.join_seat.ensures.2 in
     let still : c.load.new.seat.me ≡ (Both (met_desk d u) (met_client d u) (before_meeting d u), []) = c.load.ensures.2.0 ∙ both in
     let desk_after : DeskView = desk_of c.split_seat-other.new.seat.me.0 in
     subst (λ (m : Seated × Seated). IsMet d (client_of m.0.0) desk_after (client_of m.1.0))
