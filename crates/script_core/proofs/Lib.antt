@@ -1,5 +1,6 @@
 pub mod NumberLemmas
 pub mod LineLemmas
+pub mod FirstWordsLemmas
 pub mod ReadingLemmas
 pub mod RoundTripLemmas
 pub mod TextLemmas

@@ -1,8 +1,12 @@
 -- The bytes of a line.
-use Rattle.std.proofs.Common.{◌≡◌, ℕ, zero, suc, true, List, [], ◌∷◌, arith, lit<, tests}
+use Rattle.std.proofs.Common.{◌≡◌, ℕ, zero, suc, Bool, true, false, Ok, List, [], ◌∷◌, length, filter, refl, sym, subst, arith, ne_eqb, lit<, tests}
+use Rattle.std.specs.Prelude.{◌==◌, if◌then◌else◌, not}
+use Rattle.std.specs.List.{slice_split, onto_first}
 use Rattle.std.specs.Str.{IsUtf8, IsAscii}
 use Rattle.std.proofs.lemmas.Str.{IsUtf8-from_ascii}
-use Rattle.script_core.specs.Words.{is_printable}
+use Rattle.script_core.specs.declared.line.Line.TheVariants.{Skipped}
+use Rattle.script_core.specs.Words.{begins_with_hash, is_printable, words_of}
+use Rattle.script_core.specs.Reading.{Reading, WordsGive, is_comment}
 
 printable_ascii : (line : List ℕ) → is_printable line ≡ true → IsAscii line
 printable_ascii [] printable i = lit< tt
@@ -12,3 +16,29 @@ printable_ascii (byte ∷ bytes) printable (suc i) = printable_ascii bytes (grin
 -- a printable line is text
 pub printable_utf8 : (line : List ℕ) → is_printable line ≡ true → IsUtf8 line
 printable_utf8 line printable = IsUtf8-from_ascii line (printable_ascii line printable)
+
+starts_comment : (byte : ℕ) (parts : List (List ℕ)) → (byte == 35) ≡ true
+    → (first : List ℕ) × (rest : List (List ℕ)) × (filter (λ word. not (length word == 0)) (onto_first byte parts) ≡ first ∷ rest) × (is_comment first ≡ true)
+starts_comment byte [] is = (byte ∷ [], [], refl, is)
+starts_comment byte (part ∷ parts) is =
+    let some : (length (byte ∷ part) == 0) ≡ false = ne_eqb (length (byte ∷ part)) 0 (λ e. omega (arith, e)) in
+    (byte ∷ part, filter (λ word. not (length word == 0)) parts, rw some refl, is)
+
+-- where the first byte that isn't a space is `#`, the first word begins with it
+comment_word : (line : List ℕ) → begins_with_hash line ≡ true
+    → (first : List ℕ) × (rest : List (List ℕ)) × (words_of line ≡ first ∷ rest) × (is_comment first ≡ true)
+comment_word [] is = cc
+comment_word (byte ∷ bytes) is =
+    let parts = slice_split (λ b. b == 32) bytes in
+    let by_first : (b : Bool) → (if b then begins_with_hash bytes else byte == 35) ≡ true
+    → (first : List ℕ) × (rest : List (List ℕ)) × (filter (λ word. not (length word == 0)) (if b then [] ∷ parts else onto_first byte parts) ≡ first ∷ rest) × (is_comment first ≡ true) =
+    (λ b. elim b as (λ v. (if v then begins_with_hash bytes else byte == 35) ≡ true
+    → (first : List ℕ) × (rest : List (List ℕ)) × (filter (λ word. not (length word == 0)) (if v then [] ∷ parts else onto_first byte parts) ≡ first ∷ rest) × (is_comment first ≡ true))
+    [ true ↦ comment_word bytes | false ↦ starts_comment byte parts ]) in
+    by_first (byte == 32) is
+
+-- and the line says nothing
+pub comment_skipped : (reading : Reading) (line : List ℕ) → begins_with_hash line ≡ true → WordsGive reading (words_of line) (Ok Skipped)
+comment_skipped reading line is =
+    let word = comment_word line is in
+    subst (λ words. WordsGive reading words (Ok Skipped)) (sym word.2) (rw word.3 refl)

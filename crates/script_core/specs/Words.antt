@@ -1,5 +1,5 @@
 -- Lines and words of a script (this project's choice).
-use Rattle.std.specs.Prelude.{ℕ, ◌==◌, Bool, ◌&&◌, not, nat_le, List, [], ◌∷◌, map, filter, length}
+use Rattle.std.specs.Prelude.{ℕ, ◌==◌, Bool, false, ◌&&◌, if◌then◌else◌, not, nat_le, List, [], ◌∷◌, map, filter, length}
 use Rattle.std.specs.Borrow.{Bor}
 use Rattle.std.specs.List.{list_all, slice_split}
 
@@ -17,6 +17,11 @@ lines_of bytes = without_empty_end (slice_split (λ byte. byte == 10) bytes)
 -- the words: what stands between spaces, of which there may be several, and also at both ends
 abbrev pub words_of : List ℕ → List (List ℕ)
 words_of line = filter (λ word. not (length word == 0)) (slice_split (λ byte. byte == 32) line)
+
+-- whether the first byte that isn't a space is `#`
+abbrev pub begins_with_hash : List ℕ → Bool
+begins_with_hash [] = false
+begins_with_hash (byte ∷ bytes) = if byte == 32 then begins_with_hash bytes else byte == 35
 
 -- each byte is a printable one of ASCII, or a space
 abbrev pub is_printable : List ℕ → Bool

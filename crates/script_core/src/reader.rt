@@ -1,8 +1,8 @@
 ghost use Rattle.std.specs.Prelude.{◌≡◌, ◌≢◌, OnOk, IfErr, Err};
-ghost use Rattle.script_core.specs.Words.{texts};
+ghost use Rattle.script_core.specs.Words.{texts, words_of};
 
 use crate::line::{Line, read_arrival, read_limits_line, read_policy_line};
-use crate::words::{printable_text, words_of};
+use crate::words::{first_words, is_comment, printable_text};
 use crate::{Cause, LINE_MAX, Script};
 use fd_table::Limits;
 use lock_manager::{Request, Rules};
@@ -87,14 +87,23 @@ impl Reader {
 
     /// What the line says.
     fn parse_line(&self, line: &[u8]) -> Result<Line, Cause>
-        ensures { result ≢ Err Cause.Memory → LineGives self.now line.now result }
+        ensures { LineGives self.now line.now result }
     {
         if line.len() > LINE_MAX {
             return Err(Cause::TooLong);
         }
         let text = printable_text(line).ok_or(Cause::Byte)?;
-        let words = words_of(*self.arrivals.allocator(), text).map_err(|_| Cause::Memory)?;
-        self.parse_words(&words)
+        self.parse_text(text)
+    }
+
+    /// What the text of a line says. Of more words than [`crate::words::WORDS_MAX`] the first ones say the same.
+    fn parse_text(&self, text: &str) -> Result<Line, Cause>
+        ensures { WordsGive self.now (words_of text.now) result }
+    {
+        if is_comment(text) {
+            return Ok(Line::Skipped);
+        }
+        self.parse_words(&first_words(text))
     }
 
     /// What the words of a line say.

@@ -1,9 +1,12 @@
-ghost use Rattle.std.specs.Prelude.{◌≡◌, IsTrue, IsFalse, IfOk, MatchOption};
+ghost use Rattle.std.specs.Prelude.{◌≡◌, IsTrue, IsFalse, MatchOption, take};
 ghost use Rattle.script_core.specs.Words.{texts};
 ghost use Rattle.script_core.specs.Words as spec;
 
-use std::alloc::{AllocError, Global};
+use arrayvec::ArrayVec;
 use std::str;
+
+/// One word more than the longest line has: a process, a lock command and its six arguments.
+pub const WORDS_MAX: usize = 9;
 
 /// The line as a text, where each byte is printable ASCII.
 #[tactic(auto, using(crate::proofs::LineLemmas::printable_utf8))]
@@ -18,18 +21,39 @@ pub fn printable_text(line: &[u8]) -> Option<&str>
     }
 }
 
-/// Whether each byte is printable ASCII, or a space.
+/// Whether each byte is printable ASCII, or a space. It stops at none, so that the compiler can look at many at once.
 fn is_printable(line: &[u8]) -> bool
     ensures { result ≡ spec.is_printable line.now }
 {
-    line.iter().all(|byte| matches!(byte, b' '..=b'~'))
+    let mut printable = true;
+    for byte in line {
+        printable &= matches!(byte, b' '..=b'~');
+    }
+    printable
 }
 
-/// What stands between spaces, of which there may be several, and also at both ends.
-pub fn words_of(alloc: Global, line: &str) -> Result<Vec<&str>, AllocError>
-    ensures { IfOk result (λ words. texts words.items ≡ spec.words_of line.now) }
+/// Whether the first byte that isn't a space is `#`: the line is a comment.
+pub fn is_comment(line: &str) -> bool
+    ensures { result ≡ spec.begins_with_hash line.now }
 {
-    line.split(' ')
-        .filter(|word| !word.is_empty())
-        .collect(alloc)
+    for byte in line.as_bytes() {
+        if *byte != b' ' {
+            return *byte == b'#';
+        }
+    }
+    false
+}
+
+/// The first words, at most [`WORDS_MAX`]: what stands between spaces, of which there may be several, and also at both ends.
+pub fn first_words(line: &str) -> ArrayVec<&str, WORDS_MAX>
+    ensures { texts result.items ≡ take WORDS_MAX (spec.words_of line.now) }
+{
+    let mut words = ArrayVec::new();
+    for word in line.split(' ').filter(|word| !word.is_empty()) {
+        if words.is_full() {
+            return words;
+        }
+        words.push(word);
+    }
+    words
 }

@@ -1,24 +1,13 @@
 -- Answers among notes and events, counted and looked up.
-use Rattle.std.proofs.Common.{ℕ, ◌≡◌, ◌+◌, ◌<◌, ◌≤◌, refl, sym, ◌∙◌, ap, arith, true, false, ◌&&◌, eq-eqb, ne_eqb, length, length-append, List, [], ◌∷◌, ◌++◌, ⊎_elim, Some, None, take, drop, get_or, find, count_by, option_map}
+use Rattle.std.proofs.Common.{ℕ, ◌≡◌, ◌+◌, ◌<◌, refl, sym, ◌∙◌, ap, true, false, ◌&&◌, eq-eqb, ne_eqb, length, List, [], ◌∷◌, ◌++◌, ⊎_elim, Some, None, drop, get_or, find, option_map}
 use Rattle.std.specs.Prelude.{◌==◌, if◌then◌else◌}
 use Rattle.std.proofs.lemmas.Bool.{cases_eq}
-use Rattle.std.proofs.lemmas.List.{take_more, at_drop_more, append-nil, append_assoc, take-append-drop}
-use Rattle.std.proofs.lemmas.List.Recursion.{is_count_by}
-use Rattle.std.proofs.lemmas.List.Sums.{length-filter, count_by-le-length}
-use Rattle.std.proofs.Math.Logic.{∥∥₁_elim}
-use Rattle.std.proofs.Math.Bridge.{le_prop}
+use Rattle.std.proofs.lemmas.List.{at_drop_more}
 use Rattle.lock_manager.specs.declared.request.Reply.{Reply}
 use Rattle.lock_manager.specs.declared.request.Note.{Note}
 use Rattle.lock_manager.specs.declared.request.Note.TheVariants.{Answer, Waits}
 use Rattle.session_core.specs.Event.{Event}
-use Rattle.lock_manager.specs.declared.manager.Manager.{Manager}
-use Rattle.lock_manager.specs.declared.request.Request.{Request}
-use Rattle.session_core.specs.Runs.{events_of}
-use Rattle.session_core.specs.Headline.{Holds}
-use Rattle.session_core.proofs.Tally.{numbers_in}
-use Rattle.session_core.proofs.RunLaws.{numbers_of}
-use Rattle.session_core.proofs.HeadlineLaws.{length-answers}
-use Rattle.session_core.specs.Mail.{answers_in, answers_from, answers_to, reply_among, reply_of, is_answer_to}
+use Rattle.session_core.specs.Mail.{answers_in, answers_from, reply_among, reply_of}
 
 Some≢None : {X : Type 0} {x : X} → Some x ≡ None → ⊥
 Some≢None e = cc
@@ -111,49 +100,3 @@ reply_to-hit p n events i event reply within read found =
     ∙ ap (λ x. reply_among n (answers_from p (i + 1) (x ∷ drop (i + 1) events))) (sym read)
     ∙ reply_among-first n (answers_in p (i + 1) event.notes) (answers_from p (i + 1 + 1) (drop (i + 1) events)) reply
     (reply_among-place p n (i + 1) 0 event.notes ∙ found)
-
-one_number : (p : ℕ) (note : Note) (notes : List Note)
-    → length (numbers_in p (note ∷ notes)) ≡ (if is_answer_to p note then 1 + length (numbers_in p notes) else length (numbers_in p notes))
-one_number p (Answer q m reply) notes =
-    elim (q == p) as (λ b. length (if b then m ∷ numbers_in p notes else numbers_in p notes) ≡ (if b then 1 + length (numbers_in p notes) else length (numbers_in p notes)))
-    [ true ↦ omega arith | false ↦ refl ]
-one_number p (Waits q m) notes = refl
-
--- as many numbers as answers among the notes
-length-numbers_in : (p : ℕ) (notes : List Note) → length (numbers_in p notes) ≡ count_by (is_answer_to p) notes
-length-numbers_in p notes = is_count_by (λ l. length (numbers_in p l)) (is_answer_to p) refl (λ note l. one_number p note l) notes
-
-numbers_of-append : (p : ℕ) (xs ys : List Event) → numbers_of p (xs ++ ys) ≡ numbers_of p xs ++ numbers_of p ys
-numbers_of-append p [] ys = refl
-numbers_of-append p (x ∷ xs) ys =
-    ap (λ l. numbers_in p x.notes ++ l) (numbers_of-append p xs ys) ∙ sym (append_assoc (numbers_in p x.notes) (numbers_of p xs) (numbers_of p ys))
-
--- the answers of one event more
-pub numbers_of_more : (p : ℕ) (events : List Event) (i : ℕ) (event : Event) → i < length events → event ≡ get_or events i event
-    → length (numbers_of p (take (i + 1) events)) ≡ length (numbers_of p (take i events)) + count_by (is_answer_to p) event.notes
-numbers_of_more p events i event within read =
-    let split : take (i + 1) events ≡ take i events ++ event ∷ [] = take_more events i event within ∙ ap (λ e. take i events ++ e ∷ []) (sym read) in
-    let one : numbers_of p (event ∷ []) ≡ numbers_in p event.notes = append-nil (numbers_in p event.notes) in
-    ap (λ l. length (numbers_of p l)) split
-    ∙ ap length (numbers_of-append p (take i events) (event ∷ []))
-    ∙ length-append (numbers_of p (take i events)) (numbers_of p (event ∷ []))
-    ∙ ap (λ l. length (numbers_of p (take i events)) + length l) one
-    ∙ ap (λ n. length (numbers_of p (take i events)) + n) (length-numbers_in p event.notes)
-
--- the first events have no more answers than all of them
-pub length-numbers_of-take : (p : ℕ) (events : List Event) (i : ℕ) → length (numbers_of p (take i events)) ≤ length (numbers_of p events)
-length-numbers_of-take p events i =
-    let whole : length (numbers_of p events) ≡ length (numbers_of p (take i events)) + length (numbers_of p (drop i events)) =
-    ap (λ l. length (numbers_of p l)) (sym (take-append-drop i events))
-    ∙ ap length (numbers_of-append p (take i events) (drop i events))
-    ∙ length-append (numbers_of p (take i events)) (numbers_of p (drop i events)) in
-    omega arith
-
--- no process was answered more often than there are events, where the headline holds
-pub numbers_fit : (manager : Manager) (sent : ℕ → List Request) (journal : List Event) (p : ℕ) → ∥ Holds manager sent journal ∥₁
-    → length (numbers_of p journal) ≤ length journal
-numbers_fit manager sent journal p holds =
-    let taken : length (answers_to p journal) ≤ length (events_of p journal) = ∥∥₁_elim holds le_prop (λ h. h.answered_taken p) in
-    let filtered : length (events_of p journal) ≤ length journal = let k = length-filter (λ (e : Event). e.p == p) journal in let m = count_by-le-length (λ (e : Event). e.p == p) journal in omega arith in
-    let same = length-answers p journal in
-    omega arith

@@ -12,6 +12,7 @@ pub mod HeadlineLaws
 pub mod JournalLemmas
 pub mod GoingOnLaws
 pub mod AnswerLemmas
+pub mod LastLemmas
 pub mod DrainLemmas
 pub mod DrainLaws
 pub mod NoteLemmas

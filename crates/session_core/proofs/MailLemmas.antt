@@ -1,18 +1,20 @@
 -- Mailboxes by process: what is written to one of them, and what stays.
 use Rattle.std.proofs.Common.{ℕ, zero, suc, ◌≡◌, ◌≢◌, ◌+◌, ◌-◌, ◌<◌, ◌≤◌, refl, sym, ◌∙◌, ap, subst, arith, length, take, slice_get, set, get_or, List, [], ◌∷◌, ◌++◌, Some, Option, Result, Ok, Err, is_ok, IfOk, OnOk, OnErr, eq-eqb, ne_eqb, ⊎_elim}
-use Rattle.std.specs.Prelude.{◌==◌, if◌then◌else◌}
+use Rattle.std.specs.Prelude.{◌==◌, if◌then◌else◌, IsNone}
 use Rattle.std.proofs.lemmas.List.{get_or-set_same, length-set, append-nil, append_assoc}
-use Rattle.std.proofs.lemmas.Option.{slice_get-get_or}
-use Rattle.std.proofs.lemmas.Bool.{cases_eq}
+use Rattle.std.proofs.lemmas.Option.{slice_get-get_or, slice_get_past}
+use Rattle.std.proofs.lemmas.Bool.{cases_eq, cases_lt}
 use Rattle.lock_manager.specs.declared.request.Request.{Request}
 use Rattle.lock_manager.specs.declared.manager.Manager.{Manager}
-use Rattle.lock_manager.specs.State.{State}
-use Rattle.lock_manager.specs.ManagerView.{SameManager, StandsFor, rules_of, processes_of}
+use Rattle.lock_manager.specs.ManagerView.{SameManager, rules_of, processes_of}
 use Rattle.session_core.specs.declared.session.Session.{Session}
 use Rattle.session_core.specs.Runs.{IsStep, events_of}
-use Rattle.session_core.specs.SessionView.{manager_of, events_in, sent_of, Arrives, TakesRequest, sent_with}
+use Rattle.session_core.specs.SessionView.{manager_of, sent_of, Arrives, TakesRequest, sent_with}
 use Rattle.session_core.specs.declared.mailbox.Mailbox.{Mailbox}
-use Rattle.session_core.specs.Mailboxes.{mailbox_of, requests_in, taken_in, mail_sent, mail_taken}
+use Rattle.session_core.specs.declared.window.Window.{Window}
+use Rattle.lock_manager.specs.declared.request.ProcState.{ProcState}
+use Rattle.session_core.specs.Draining.{next_untaken, HasNoMailBelow, IsDrained}
+use Rattle.session_core.specs.Mailboxes.{mailbox_of, requests_in, taken_in, mail_sent, mail_taken, HasMail, IsInside, IsMailInside, IsMailKept}
 use Rattle.session_core.specs.Event.{Event}
 use Rattle.session_core.specs.Mail.{IsPrefixOf, requests_taken}
 use Rattle.session_core.specs.Headline.{Holds}
@@ -261,3 +263,75 @@ TakesRequest-arrived old between new p request n place arrived took =
       sent_is = λ q. took.sent_is q ∙ arrived.sent q;
       same_rules = record { rules = took.same_rules.rules ∙ same.rules; processes = took.same_rules.processes ∙ same.processes };
     }
+
+-- where a request in the mailbox of a process wasn't taken, the process has such mail
+pub HasMail-there : (mailboxes : List Mailbox) (place p : ℕ) (mailbox : Mailbox) → StandsAt mailboxes place p mailbox
+    → mailbox.taken < length mailbox.sent.items → HasMail mailboxes p
+HasMail-there mailboxes place p mailbox at untaken =
+    let there = mailbox_of-there mailboxes place p mailbox at in
+    let taken : mail_taken mailboxes p ≡ mailbox.taken = ap taken_in there in
+    let sent : length (mail_sent mailboxes p) ≡ length mailbox.sent.items = ap (λ m. length (requests_in m)) there in
+    omega arith
+
+-- a mailbox is written: the mail stays inside a window that isn't smaller, where that of its process does
+pub IsMailInside-set : (mailboxes : List Mailbox) (place p : ℕ) (old new : Mailbox) (window window' : Window) → StandsAt mailboxes place p old
+    → ((q : ℕ) → IsInside window q → IsInside window' q) → (new.taken < length new.sent.items → IsInside window' p)
+    → IsMailInside window mailboxes → IsMailInside window' (set mailboxes place new)
+IsMailInside-set mailboxes place p old new window window' at wider own inside q mail =
+    let written_taken = mail_taken-set mailboxes place p old new at q in
+    let written_sent = mail_sent-set mailboxes place p old new at q in
+    ⊎_elim
+    (λ same.
+    let taken : (if q == p then new.taken else mail_taken mailboxes q) ≡ new.taken = rw (eq-eqb q p same) refl in
+    let sent : (if q == p then new.sent.items else mail_sent mailboxes q) ≡ new.sent.items = rw (eq-eqb q p same) refl in
+    let as_long : length (mail_sent (set mailboxes place new) q) ≡ length new.sent.items = ap length (written_sent ∙ sent) in
+    let as_many : mail_taken (set mailboxes place new) q ≡ new.taken = written_taken ∙ taken in
+    subst (IsInside window') (sym same) (own (omega (arith, mail))))
+    (λ other.
+    let taken : (if q == p then new.taken else mail_taken mailboxes q) ≡ mail_taken mailboxes q = rw (ne_eqb q p other) refl in
+    let sent : (if q == p then new.sent.items else mail_sent mailboxes q) ≡ mail_sent mailboxes q = rw (ne_eqb q p other) refl in
+    let as_long : length (mail_sent (set mailboxes place new) q) ≡ length (mail_sent mailboxes q) = ap length (written_sent ∙ sent) in
+    let as_many : mail_taken (set mailboxes place new) q ≡ mail_taken mailboxes q = written_taken ∙ taken in
+    wider q (inside q (omega (arith, mail))))
+    (cases_eq q p)
+
+-- a process without such mail has no next request
+pub nothing_untaken : (processes : ℕ) (mailboxes : List Mailbox) (journal : List Event) (q : ℕ) → IsMailKept processes mailboxes journal
+    → ¬ (HasMail mailboxes q) → IsNone (next_untaken (mail_sent mailboxes) journal q)
+nothing_untaken processes mailboxes journal q mail none =
+    let many = mail.taken q in
+    ⊎_elim
+    (λ some. absurd (none some))
+    (λ past.
+    let all = slice_get_past (mail_sent mailboxes q) (length (events_of q journal)) (omega (arith, many, past)) in
+    subst (λ o. IsNone o) (sym all) refl)
+    (cases_lt (mail_taken mailboxes q) (length (mail_sent mailboxes q)))
+
+some_within : {X : Type 0} (xs : List X) (i : ℕ) → i < length xs → IsNone (slice_get xs i) → ⊥
+some_within [] i within none = omega arith
+some_within (x ∷ xs) zero within none = cc
+some_within (x ∷ xs) (suc i) within none = some_within xs i (omega arith) none
+
+-- and one without a next request has no such mail
+pub no_mail : (processes : ℕ) (mailboxes : List Mailbox) (journal : List Event) (q : ℕ) → IsMailKept processes mailboxes journal
+    → IsNone (next_untaken (mail_sent mailboxes) journal q) → ¬ (HasMail mailboxes q)
+no_mail processes mailboxes journal q mail none some =
+    let many = mail.taken q in
+    some_within (mail_sent mailboxes q) (length (events_of q journal)) (omega (arith, many, some)) none
+
+-- no process before those with mail has a next request
+pub none_below : (processes : ℕ) (mailboxes : List Mailbox) (journal : List Event) (states : ℕ → ProcState) (window : Window)
+    → IsMailKept processes mailboxes journal → IsMailInside window mailboxes
+    → HasNoMailBelow states (mail_sent mailboxes) journal (window.before + 1)
+none_below processes mailboxes journal states window mail inside q below live =
+    nothing_untaken processes mailboxes journal q mail (λ some. omega (arith, below, (inside q some).0))
+
+-- nor has any live one, where none up to the last of them has
+pub none_at_all : (processes : ℕ) (mailboxes : List Mailbox) (journal : List Event) (states : ℕ → ProcState) (window : Window) (index : ℕ)
+    → IsMailKept processes mailboxes journal → IsMailInside window mailboxes → window.last ≤ index
+    → HasNoMailBelow states (mail_sent mailboxes) journal (index + 1) → IsDrained states (mail_sent mailboxes) journal
+none_at_all processes mailboxes journal states window index mail inside past none q live =
+    ⊎_elim
+    (λ below. none q below live)
+    (λ behind. nothing_untaken processes mailboxes journal q mail (λ some. omega (arith, behind, past, (inside q some).1)))
+    (cases_lt q (index + 1))

@@ -3,6 +3,7 @@ pub mod Runs
 pub mod GoingOn
 pub mod Mail
 pub mod Mailboxes
+pub mod LastAnswers
 pub mod Draining
 pub mod Headline
 pub mod SessionView

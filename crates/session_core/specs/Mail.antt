@@ -1,5 +1,5 @@
 -- What a process sent, what was taken of it, and what it was answered (the words are this project's choice).
-use Rattle.std.specs.Prelude.{◌≡◌, ℕ, ◌+◌, Bool, false, ◌==◌, ◌&&◌, if◌then◌else◌, Option, Some, None, List, [], ◌∷◌, ◌++◌, map, filter, find, option_map}
+use Rattle.std.specs.Prelude.{◌≡◌, ℕ, ◌+◌, ◌==◌, ◌&&◌, if◌then◌else◌, Option, Some, None, List, [], ◌∷◌, ◌++◌, map, filter, find, option_map}
 use Rattle.lock_manager.specs.declared.request.Request.{Request}
 use Rattle.lock_manager.specs.declared.request.Reply.{Reply}
 use Rattle.lock_manager.specs.declared.request.Note.{Note}
@@ -42,11 +42,6 @@ reply_among n answers = option_map (λ answer. answer.1) (find (λ answer. answe
 -- the reply to the request number n of the process, if it was answered
 abbrev pub reply_to : ℕ → ℕ → List Event → Option Reply
 reply_to p n events = reply_among n (answers_to p events)
-
--- whether the note answers a request of the process
-abbrev pub is_answer_to : ℕ → Note → Bool
-is_answer_to p (Answer q n reply) = q == p
-is_answer_to p (Waits q n) = false
 
 -- the reply to the request number n of the process, if the note is that answer
 abbrev pub reply_of : ℕ → ℕ → Note → Option Reply

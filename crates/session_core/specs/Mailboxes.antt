@@ -1,7 +1,8 @@
 -- What the mailboxes hold (the words are this project's choice).
-use Rattle.std.specs.Prelude.{◌≡◌, ◌≤◌, ℕ, zero, suc, Option, Some, None, List, [], length, slice_get}
+use Rattle.std.specs.Prelude.{◌≡◌, ◌<◌, ◌≤◌, ℕ, zero, suc, Option, Some, None, List, [], length, slice_get}
 use Rattle.lock_manager.specs.declared.request.Request.{Request}
 use Rattle.session_core.specs.declared.mailbox.Mailbox.{Mailbox}
+use Rattle.session_core.specs.declared.window.Window.{Window}
 use Rattle.session_core.specs.Event.{Event}
 use Rattle.session_core.specs.Runs.{events_of}
 
@@ -27,6 +28,18 @@ mail_sent mailboxes p = requests_in (mailbox_of mailboxes p)
 -- how much of what a process sent was taken
 abbrev pub mail_taken : List Mailbox → ℕ → ℕ
 mail_taken mailboxes p = taken_in (mailbox_of mailboxes p)
+
+-- a request of the process wasn't taken
+abbrev pub HasMail : List Mailbox → ℕ → Type 0
+HasMail mailboxes p = mail_taken mailboxes p < length (mail_sent mailboxes p)
+
+-- the process is one of those
+abbrev pub IsInside : Window → ℕ → Type 0
+IsInside window p = (window.before < p) × (p ≤ window.last)
+
+-- each process with a request that wasn't taken is one of those
+abbrev pub IsMailInside : Window → List Mailbox → Type 0
+IsMailInside window mailboxes = (p : ℕ) → HasMail mailboxes p → IsInside window p
 
 -- there is some process; each has a mailbox, and of each just so much was taken as the journal has
 pub record IsMailKept (processes : ℕ) (mailboxes : List Mailbox) (journal : List Event) : Type 0 where

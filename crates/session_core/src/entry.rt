@@ -1,5 +1,5 @@
-ghost use Rattle.std.specs.Prelude.{◌≡◌, count_by};
-ghost use Rattle.session_core.specs.Mail.{answers_in, is_answer_to, reply_of as reply_of_lem, reply_among};
+ghost use Rattle.std.specs.Prelude.{◌≡◌};
+ghost use Rattle.session_core.specs.Mail.{answers_in, reply_of as reply_of_lem, reply_among};
 
 use lock_manager::{Note, Reply, Request};
 use std::marker::Model;
@@ -25,11 +25,16 @@ impl Model for Entry {
     ghost view = { λ entry. record { p = entry.p; n = entry.n; request = entry.request; notes = entry.notes.items } };
 }
 
-/// How many requests of the process the notes answer.
-pub fn count_answers(notes: &[Note], p: u8) -> usize
-    ensures { result ≡ count_by (is_answer_to p) notes.now }
+/// The notes without most of the room that there was for a note to each wait. Where the growth of a smaller place is refused, they
+/// keep their room.
+pub fn fitted(notes: Vec<Note>) -> Vec<Note>
+    ensures { result.items ≡ notes.items }
 {
-    notes.iter().filter(|note| is_answer(note, p)).count()
+    let mut notes = notes;
+    if notes.len() + 1 < notes.capacity() {
+        notes.shrink_to_fit();
+    }
+    notes
 }
 
 /// The answer to request number `n` of the process that is among the notes.
@@ -42,13 +47,6 @@ pub fn find_reply(notes: &[Note], p: u8, n: u64) -> Option<Reply>
         }
     }
     None
-}
-
-/// Whether the note answers a request of the process.
-fn is_answer(note: &Note, p: u8) -> bool
-    ensures { result ≡ is_answer_to p note.now }
-{
-    matches!(note, Note::Answer { p: to, .. } if *to == p)
 }
 
 /// The answer to request number `n` of the process, if the note is that.

@@ -1,6 +1,7 @@
 //! A lock manager with the mail of its processes and the journal of what was taken.
 #![tactic(auto)]
 
+mod answers;
 mod check;
 mod entry;
 mod laws;
@@ -9,6 +10,7 @@ mod run;
 mod session;
 #[cfg(test)]
 mod tests;
+mod window;
 
 pub use check::check_journal;
 pub use entry::Entry;

@@ -2,16 +2,20 @@ ghost use Rattle.std.specs.Prelude.{ℕ, ◌≡◌, ◌+◌, ◌-◌, ◌<◌, �
 ghost use Rattle.fd_table.specs.Descriptors.{process_limit};
 ghost use Rattle.lock_manager.specs.ManagerView.{processes_of, state_at};
 ghost use Rattle.session_core.specs.Mail.{events_of, answers_to, reply_to};
-ghost use Rattle.session_core.specs.Mailboxes.{IsMailKept, IsEmptyMailbox, mail_sent, mailbox_of};
+ghost use Rattle.session_core.specs.Mailboxes.{IsMailKept, IsMailInside, IsEmptyMailbox, mail_sent, mailbox_of};
+ghost use Rattle.session_core.specs.LastAnswers.{AreLastAnswers};
 ghost use Rattle.session_core.specs.Draining.{next_untaken, HasNoMailBelow, IsDrained};
 ghost use Rattle.session_core.specs.Headline.{Holds};
 
-use crate::entry::{count_answers, find_reply};
+use crate::answers::LastAnswers;
+use crate::entry::{find_reply, fitted};
 use crate::mailbox::Mailbox;
+use crate::window::Window;
 use crate::{Entry, N_MAX};
 use lock_manager::{Manager, ProcState, Reply, Request, Rules};
 use range_core::Memory;
 use std::alloc::Global;
+use std::cmp::Ordering;
 
 /// Why a request can't arrive.
 #[derive(Clone, Copy, Debug, PartialEq, Eq)]
@@ -22,14 +26,20 @@ pub enum ArriveFault {
     Memory = 2,
 }
 
-/// A lock manager with the mail of its processes, and the journal of what was taken (this project's choice).
+/// A lock manager with the mail of its processes, and the journal of what was taken (this project's choice). Neither is ever cut,
+/// so it grows with each request that comes.
 #[derive(Drop)]
 pub struct Session {
     manager: Manager,
     /// By process, from process 1 on.
     mailboxes: Vec<Mailbox>,
+    /// Among these are the processes that have sent what wasn't taken.
+    window: Window,
+    answers: LastAnswers,
     journal: Vec<Entry>,
     ghost mail: { IsMailKept (processes_of manager) mailboxes.items journal.items },
+    ghost inside: { IsMailInside window mailboxes.items },
+    ghost answered: { AreLastAnswers (processes_of manager) answers journal.items },
     ghost holds: { ∥ Holds manager (mail_sent mailboxes.items) journal.items ∥₁ },
 }
 
@@ -45,9 +55,12 @@ impl Session {
     {
         let manager = Manager::new(alloc, processes, rules)?;
         let mailboxes = empty_mailboxes(alloc, processes)?;
+        let answers = LastAnswers::new(alloc, processes)?;
         Ok(Session {
             manager,
             mailboxes,
+            window: Window::empty(),
+            answers,
             journal: Vec::new(alloc),
         })
     }
@@ -62,6 +75,7 @@ impl Session {
         ensures err { OnErr result (SameSession self.old self.new) }
         ensures holds { SessionHolds self.new }
     {
+        self.window = self.window.with(p);
         self.mailboxes[usize::from(p) - 1].push(request)
     }
 
@@ -74,6 +88,7 @@ impl Session {
         ensures memory { OnErr result (SameSession self.old self.new) }
         ensures holds { SessionHolds self.new }
     {
+        self.window = self.narrowed();
         match self.next_mail() {
             Some((p, request)) => self.take(p, request).map(Some),
             None => Ok(None),
@@ -133,15 +148,24 @@ impl Session {
     pub fn answered(&self, p: u8) -> u64
         ensures { result ≡ length (answers_to p (events_in self.now)) }
     {
-        let mut answered = 0;
-        for entry in &self.journal {
-            answered += count_answers(&entry.notes, p) as u64;
-        }
-        answered
+        // The answers to a process have the numbers 1, 2, and so on.
+        self.answers.of(p).map_or(0, |last| last.n)
     }
 
     /// The answer to request number `n` of the process, if there is such a process and it was answered.
     pub fn answer_of(&self, p: u8, n: u64) -> Option<Reply>
+        ensures { result ≡ reply_to p n (events_in self.now) }
+    {
+        let last = self.answers.of(p)?;
+        match n.cmp(&last.n) {
+            Ordering::Less => self.find_answer(p, n),
+            Ordering::Equal => Some(last.reply),
+            Ordering::Greater => None,
+        }
+    }
+
+    /// The answer to request number `n` of the process, looked for in the whole journal.
+    fn find_answer(&self, p: u8, n: u64) -> Option<Reply>
         ensures { result ≡ reply_to p n (events_in self.now) }
     {
         for entry in &self.journal {
@@ -160,7 +184,7 @@ impl Session {
         ensures least { IfSome result (λ mail. HasNoMailBelow (state_at (manager_of self.now)) (sent_of self.now) (events_in self.now) mail.0) }
         ensures none { IfNone result (IsDrained (state_at (manager_of self.now)) (sent_of self.now) (events_in self.now)) }
     {
-        for index in 0..self.manager.processes() {
+        for index in self.window.before..self.window.last {
             let p = index + 1;
             if let Some(request) = self.untaken(p)
                 && self.manager.able(p)
@@ -169,6 +193,22 @@ impl Session {
             }
         }
         None
+    }
+
+    /// The window from the first process on that has sent what wasn't taken.
+    fn narrowed(&self) -> Window
+        ensures { IsMailInside result self.now.mailboxes.items }
+    {
+        let Window { before, last } = self.window;
+        for index in before..last {
+            if self.untaken(index + 1).is_some() {
+                return Window {
+                    before: index,
+                    last,
+                };
+            }
+        }
+        Window::empty()
     }
 
     /// The first request of the process that wasn't taken.
@@ -190,11 +230,12 @@ impl Session {
         // The journal's place is there before the manager takes, so that nothing can fail afterwards.
         self.journal.reserve(1).map_err(|_| Memory)?;
         let notes = self.manager.take(p, n, request)?;
+        self.answers.tell(&notes);
         let entry = Entry {
             p,
             n,
             request,
-            notes,
+            notes: fitted(notes),
         };
         self.journal.push(entry).unwrap();
         self.mailboxes[usize::from(p) - 1].advance();

@@ -1,23 +1,33 @@
-use Rattle.std.proofs.Common.{◌≡◌, ◌∙◌, ap, sym, Some, None}
-use Rattle.session_core.specs.Mail.{answers_in, answers_to, reply_among}
+use Rattle.std.proofs.Common.{◌≡◌, ◌∙◌, ◌<◌, sym, subst, None, rules}
+use Rattle.std.specs.Ordering.{MatchOrdering}
+use Rattle.std.proofs.lemmas.Cmp.{ranked}
+use Rattle.session_core.specs.Mail.{answers_to, reply_among}
 use Rattle.session_core.specs.SessionView.{events_in}
-use Rattle.session_core.proofs.AnswerLemmas.{reply_to-skip, reply_to-hit}
+use Rattle.session_core.proofs.LastLemmas.{last_is, last_found, last_past_all, none_found}
 use Rattle.session_core.proofs.session.Session.answer_of.Goals as goal
 
-pub returns-in-Some : goal.returns-in-Some
+pub returns-in_err-last : goal.returns-in_err-last
 unfolding events_in
-returns-in-Some c =
-    let events = c.deref-entry-items.result.now in
-    let notes = c.deref.ensures.value ∙ ap (λ e. e.notes) c.entry.view_is in
-    let found : reply_among c.args.n (answers_in c.args.p 0 c.entry-item.result.notes) ≡ Some c.in-Some.reply =
-    ap (λ l. reply_among c.args.n (answers_in c.args.p 0 l)) (sym notes) ∙ sym c.in-Some.ensures in
-    let hit = reply_to-hit c.args.p c.args.n events c.loop-entry.entry-index c.entry-item.result c.in-Some.reply c.loop-entry-test.true c.entry-item.is found in
-    sym (ap (λ l. reply_among c.args.n (answers_to c.args.p l)) (sym c.deref-entry-items.ensures.value) ∙ c.loop-entry.invariant ∙ hit)
+returns-in_err-last c =
+    let self = c.args.self.now in
+    let is = c.of.ensures ∙ last_is self.manager _ _ self.mailboxes.items self.answers self.journal.items c.args.p self.mail self.answered self.holds in
+    let none : reply_among c.args.n (answers_to c.args.p self.journal.items) ≡ None = none_found self.journal.items c.args.p c.args.n (sym c.in_err-last.was ∙ is) in
+    search (rules, none)
 
-pub loop-entry-preserved : goal.loop-entry-preserved
-loop-entry-preserved c =
-    let events = c.deref-entry-items.result.now in
-    let notes = c.deref.ensures.value ∙ ap (λ e. e.notes) c.entry.view_is in
-    let none : reply_among c.args.n (answers_in c.args.p 0 c.entry-item.result.notes) ≡ None =
-    ap (λ l. reply_among c.args.n (answers_in c.args.p 0 l)) (sym notes) ∙ sym c.in_default.ensures in
-    c.loop-entry.invariant ∙ reply_to-skip c.args.p c.args.n events c.loop-entry.entry-index c.entry-item.result c.loop-entry-test.true c.entry-item.is none
+pub returns-in-Equal : goal.returns-in-Equal
+unfolding events_in
+returns-in-Equal c =
+    let self = c.args.self.now in
+    let is = c.of.ensures ∙ last_is self.manager _ _ self.mailboxes.items self.answers self.journal.items c.args.p self.mail self.answered self.holds in
+    let last = c.in_ok-last.last in
+    let same = subst (λ r. MatchOrdering r (c.args.n < last.n) (c.args.n ≡ last.n) (last.n < c.args.n)) c.in-Equal.is (ranked c.args.n last.n c.cmp.result c.cmp.ensures) in
+    sym (last_found self.manager _ self.journal.items c.args.p c.args.n last self.holds (sym c.in_ok-last.was ∙ is) same)
+
+pub returns-in-Greater : goal.returns-in-Greater
+unfolding events_in
+returns-in-Greater c =
+    let self = c.args.self.now in
+    let is = c.of.ensures ∙ last_is self.manager _ _ self.mailboxes.items self.answers self.journal.items c.args.p self.mail self.answered self.holds in
+    let last = c.in_ok-last.last in
+    let past = subst (λ r. MatchOrdering r (c.args.n < last.n) (c.args.n ≡ last.n) (last.n < c.args.n)) c.in-Greater.is (ranked c.args.n last.n c.cmp.result c.cmp.ensures) in
+    sym (last_past_all self.manager _ self.journal.items c.args.p c.args.n last self.holds (sym c.in_ok-last.was ∙ is) past)

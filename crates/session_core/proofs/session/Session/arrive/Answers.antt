@@ -3,7 +3,7 @@ use Rattle.std.proofs.lemmas.Result.{IfErr-weaker}
 use Rattle.std.proofs.Math.Logic.{∥∥₁_map}
 use Rattle.std.proofs.lemmas.List.{length-set}
 use Rattle.session_core.specs.SessionView.{manager_of, events_in, sent_of}
-use Rattle.session_core.proofs.MailLemmas.{StandsAt-index, mailbox_of-there, mail_taken-kept, mail_sent-grown, mail_sent-kept, mail_sent-pushed, length-mail_sent-set, IsPrefixOf-pushed, Holds-grown, SameManager-refl, IfOk-both}
+use Rattle.session_core.proofs.MailLemmas.{StandsAt-index, IsMailInside-set, mailbox_of-there, mail_taken-kept, mail_sent-grown, mail_sent-kept, mail_sent-pushed, length-mail_sent-set, IsPrefixOf-pushed, Holds-grown, SameManager-refl, IfOk-both}
 use Rattle.session_core.proofs.JournalLemmas.{mail_sent-few}
 use Rattle.session_core.proofs.session.Session.arrive.Goals as goal
 
@@ -22,6 +22,8 @@ invariant_of-self c =
         one_each = rw length-set self.mail.one_each;
         taken = λ q. mail_taken-kept mailboxes _ c.args.p old new at c.push.ensures.taken q ∙ self.mail.taken q;
       };
+      inside = IsMailInside-set mailboxes _ c.args.p old new self.window c.with-self.result at c.with-self.ensures.others (λ some. c.with-self.ensures.p) self.inside;
+      answered = self.answered;
       holds = ∥∥₁_map self.holds (Holds-grown _ _ _ _ (mail_sent-grown mailboxes _ c.args.p old new at grown) (mail_sent-few _));
     }
 

@@ -1,4 +1,6 @@
-use Rattle.std.proofs.Common.{◌∙◌, sym}
+use Rattle.std.proofs.Common.{◌∙◌, sym, ap, arith, length, None}
+use Rattle.session_core.specs.Mail.{answers_to}
+use Rattle.session_core.specs.LastAnswers.{latest}
 use Rattle.session_core.specs.SessionView.{manager_of, events_in, sent_of}
 use Rattle.std.proofs.lemmas.Grind.{merely}
 use Rattle.session_core.proofs.JournalLemmas.{Holds-opening, nothing_sent, mail_sent-few}
@@ -9,8 +11,13 @@ invariant_of-result c =
     let manager = c.in_ok-manager.manager in
     let mailboxes = c.in_ok-mailboxes.mailboxes.items in
     record {
-      mail = record { some = rw c.in_ok-manager.ensures.processes c.requires.0; one_each = c.in_ok-mailboxes.ensures.each ∙ sym c.in_ok-manager.ensures.processes; taken = λ q. rw c.new-2.ensures.items (nothing_sent mailboxes c.in_ok-mailboxes.ensures.empty q).1 };
-      holds = merely (Holds-opening manager _ _ (record { some = rw c.in_ok-manager.ensures.processes c.requires.0; few = rw (c.in_ok-manager.ensures.processes, c.in_ok-manager.ensures.rules) c.requires.1; requests = mail_sent-few mailboxes }) c.new-2.ensures.items c.in_ok-manager.ensures.safe c.in_ok-manager.ensures.opening);
+      mail = record { some = rw c.in_ok-manager.ensures.processes c.requires.0; one_each = c.in_ok-mailboxes.ensures.each ∙ sym c.in_ok-manager.ensures.processes; taken = λ q. rw c.new-3.ensures.items (nothing_sent mailboxes c.in_ok-mailboxes.ensures.empty q).1 };
+      inside = λ p some. absurd (let none = ap length (nothing_sent mailboxes c.in_ok-mailboxes.ensures.empty p).0 in omega (arith, some, none));
+      answered = record {
+        one_each = c.in_ok-answers.ensures.processes ∙ sym c.in_ok-manager.ensures.processes;
+        latest_is = λ p low high. c.in_ok-answers.ensures.none p ∙ ap (λ l. latest None (answers_to p l)) (sym c.new-3.ensures.items);
+      };
+      holds = merely (Holds-opening manager _ _ (record { some = rw c.in_ok-manager.ensures.processes c.requires.0; few = rw (c.in_ok-manager.ensures.processes, c.in_ok-manager.ensures.rules) c.requires.1; requests = mail_sent-few mailboxes }) c.new-3.ensures.items c.in_ok-manager.ensures.safe c.in_ok-manager.ensures.opening);
     }
 
 pub returns-clause-empty : goal.returns-clause-empty
@@ -20,6 +27,6 @@ returns-clause-empty c =
       rules_are = c.in_ok-manager.ensures.rules;
       processes_are = c.in_ok-manager.ensures.processes;
       opening = c.in_ok-manager.ensures.opening;
-      journal = c.new-2.ensures.items;
+      journal = c.new-3.ensures.items;
       sent = λ q. (nothing_sent c.in_ok-mailboxes.mailboxes.items c.in_ok-mailboxes.ensures.empty q).0;
     }

@@ -1,4 +1,3 @@
-use Rattle.std.proofs.Common.{◌≡◌, ◌∙◌, ap, sym, length, ◌+◌, ◌∷◌, ◌++◌, []}
 use Rattle.std.proofs.lemmas.Result.{IfOk-weaker}
 use Rattle.session_core.specs.SessionView.{Arrives}
 use Rattle.session_core.proofs.MailLemmas.{IfOk-found, TakesRequest-arrived}

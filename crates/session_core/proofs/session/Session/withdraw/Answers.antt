@@ -1,10 +1,10 @@
-use Rattle.std.proofs.Common.{◌≡◌, ◌∙◌, ◌<◌, length}
+use Rattle.std.proofs.Common.{◌∙◌, ◌-◌, ◌<◌, ap, arith, length}
 use Rattle.std.proofs.Math.Logic.{∥∥₁_map}
-use Rattle.std.proofs.lemmas.List.{length-set, length-map}
-use Rattle.session_core.specs.Mail.{events_of, requests_taken}
+use Rattle.std.proofs.lemmas.List.{length-set, length-map, length-take}
+use Rattle.session_core.specs.Mail.{requests_taken}
 use Rattle.session_core.specs.Mailboxes.{mail_sent}
 use Rattle.session_core.specs.SessionView.{manager_of, events_in, sent_of}
-use Rattle.session_core.proofs.MailLemmas.{StandsAt-index, mail_taken-kept, mail_sent-withdrawn, taken_in_order-withdrawn, Holds-sent}
+use Rattle.session_core.proofs.MailLemmas.{StandsAt-index, IsMailInside-set, HasMail-there, mail_taken-kept, mail_sent-withdrawn, taken_in_order-withdrawn, Holds-sent}
 use Rattle.session_core.proofs.JournalLemmas.{mail_sent-few}
 use Rattle.session_core.proofs.session.Session.withdraw.Goals as goal
 
@@ -24,6 +24,11 @@ invariant_of-self c =
         one_each = rw length-set self.mail.one_each;
         taken = λ q. mail_taken-kept mailboxes _ c.args.p old new at c.withdraw.ensures.taken q ∙ self.mail.taken q;
       };
+      inside =
+          IsMailInside-set mailboxes _ c.args.p old new self.window self.window at (λ q h. h)
+          (λ some. self.inside c.args.p (HasMail-there mailboxes _ c.args.p old at (let shorter = ap length c.withdraw.ensures.sent in let cut = length-take (length old.sent.items - 1) old.sent.items in omega (arith, some, c.withdraw.ensures.taken, shorter, cut))))
+          self.inside;
+      answered = self.answered;
       holds =
           ∥∥₁_map self.holds
           (λ h. Holds-sent _ _ _ _ (taken_in_order-withdrawn mailboxes _ c.args.p old new self.journal.items at c.withdraw.ensures.sent untaken h.taken_in_order) (mail_sent-few _) h);

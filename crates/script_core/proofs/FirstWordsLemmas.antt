@@ -1,0 +1,121 @@
+-- A line's first words: what they say, the whole line says.
+use Rattle.std.proofs.Common.{◌≡◌, ℕ, ◌+◌, ◌<◌, ◌≤◌, Bool, true, false, Option, Some, None, IfSome, MatchOption, Result, Err, List, [], ◌∷◌, length, take, find, refl, ap, subst, inl, inr, arith, lit≤, ne_eqb, ⊎_elim, MatchBool}
+use Rattle.std.specs.Prelude.{if◌then◌else◌, bytes_eq}
+use Rattle.std.specs.List.{AllByRecursion as Each}
+use Rattle.std.proofs.lemmas.Bool.{cases_lt}
+use Rattle.std.proofs.lemmas.List.{length-take-le, take_all}
+use Rattle.fd_table.specs.declared.Limits.{Limits}
+use Rattle.lock_manager.specs.declared.request.Request.{Request}
+use Rattle.script_core.specs.declared.line.Line.{Line}
+use Rattle.script_core.specs.declared.script.Cause.{Cause}
+use Rattle.script_core.specs.declared.script.Cause.TheVariants.{Count, Word}
+use Rattle.script_core.specs.Arguments.{Argument, Command, PolicyWord, LimitsWord, AreRefused, commands, command_named, has_count}
+use Rattle.script_core.specs.Reading.{Reading, PolicyGives, LimitsGive, CommandGives, RequestGives, ProcessGives, WordsGive, is_comment, says_policy, says_limits, limits_of}
+
+-- one of two facts for another
+MatchBool-map : (b : Bool) (P Q P' Q' : Type 0) → (P → P') → (Q → Q') → MatchBool b P Q → MatchBool b P' Q'
+MatchBool-map true P Q P' Q' f g h = f h
+MatchBool-map false P Q P' Q' f g h = g h
+
+-- of words that are too many for a header line, others that are say the same
+many_refused : (argument : Argument) (words others : List (List ℕ)) (cause : Cause) → 1 < length words → 1 < length others
+    → AreRefused (argument ∷ []) words cause → AreRefused (argument ∷ []) others cause
+many_refused argument words others cause many more refused =
+    let is : cause ≡ Count = rw (ne_eqb (length words) 1 (λ e. omega (arith, e))) at refused in
+    rw (ne_eqb (length others) 1 (λ e. omega (arith, e))) is
+
+many_policy : (words others : List (List ℕ)) (result : Result Line Cause) → 1 < length words → 1 < length others
+    → PolicyGives words result → PolicyGives others result
+many_policy words others result many more (inl refused) = inl (refused.0, many_refused PolicyWord words others refused.0 many more refused.1, refused.2)
+many_policy words others result many more (inr read) = absurd (let one = ap length read.1 in omega (arith, one))
+
+many_limits : (words others : List (List ℕ)) (result : Result Line Cause) → 1 < length words → 1 < length others
+    → LimitsGive words result → LimitsGive others result
+many_limits words others result many more (inl refused) = inl (refused.0, many_refused LimitsWord words others refused.0 many more refused.1, refused.2)
+many_limits words others result many more (inr read) = absurd (let one = ap length read.1 in omega (arith, one))
+
+-- the command has six arguments at most
+abbrev HasFew : Command → Type 0
+HasFew command = length command.required + length command.optional ≤ 6
+
+each_has_few : (limits : Limits) → Each HasFew (commands limits)
+each_has_few limits = (
+  lit≤ tt,
+  (
+    lit≤ tt,
+    (
+      lit≤ tt,
+      (
+        lit≤ tt,
+        (
+          lit≤ tt,
+          (
+            lit≤ tt,
+            (
+              lit≤ tt,
+              (
+                lit≤ tt,
+                (
+                  lit≤ tt,
+                  (lit≤ tt, (lit≤ tt, (lit≤ tt, (lit≤ tt, (lit≤ tt, (lit≤ tt, (lit≤ tt, (lit≤ tt, tt)))))))),
+                ),
+              ),
+            ),
+          ),
+        ),
+      ),
+    ),
+  ),
+)
+
+found_has : {X : Type 0} (P : X → Type 0) (test : X → Bool) (xs : List X) → Each P xs → IfSome (find test xs) P
+found_has P test [] all = tt
+found_has P test (x ∷ xs) all =
+    elim (test x) as (λ b. IfSome (if b then Some x else find test xs) P) [ true ↦ all.0 | false ↦ found_has P test xs all.1 ]
+
+-- it hasn't more
+too_many : (command : Command) (count : ℕ) → HasFew command → 6 < count → has_count command count ≡ false
+too_many command count few many =
+    rw (ne_eqb count (length command.required) (λ e. omega (arith, e)), ne_eqb count (length command.required + length command.optional) (λ e. omega (arith, e))) refl
+
+-- of arguments that are too many for any command, others that are say the same
+many_found : (limits : Limits) (name : List ℕ) (arguments others : List (List ℕ)) (result : Result Request Cause) (found : Option Command)
+    → 6 < length arguments → 6 < length others → IfSome found HasFew
+    → MatchOption found (result ≡ Err Word) (λ command. CommandGives limits (name ∷ arguments) command arguments result)
+    → MatchOption found (result ≡ Err Word) (λ command. CommandGives limits (name ∷ others) command others result)
+many_found limits name arguments others result None many more few given = given
+many_found limits name arguments others result (Some command) many more few given =
+    let is : result ≡ Err Count = rw (too_many command (length arguments) few many) at given in
+    rw (too_many command (length others) few more) is
+
+many_arguments : (limits : Limits) (name : List ℕ) (arguments others : List (List ℕ)) (result : Result Request Cause) → 6 < length arguments → 6 < length others
+    → RequestGives limits (name ∷ arguments) result → RequestGives limits (name ∷ others) result
+many_arguments limits name arguments others result many more given =
+    many_found limits name arguments others result (command_named limits name) many more (found_has HasFew (λ command. bytes_eq command.name name) (commands limits) (each_has_few limits)) given
+
+many_behind : (limits : Limits) (first name : List ℕ) (arguments others : List (List ℕ)) (result : Result Line Cause) → 6 < length arguments → 6 < length others
+    → ProcessGives limits first (name ∷ arguments) result → ProcessGives limits first (name ∷ others) result
+many_behind limits first name arguments others result many more (inl given) =
+    inl (given.0, given.1, given.2, given.3, many_arguments limits name arguments others given.3 many more given.4, given.5)
+many_behind limits first name arguments others result many more (inr refused) = inr refused
+
+-- of words that are too many for any line, others that are say the same behind the same two
+many_words : (reading : Reading) (first name : List ℕ) (arguments others : List (List ℕ)) (result : Result Line Cause) → 6 < length arguments → 6 < length others
+    → WordsGive reading (first ∷ name ∷ arguments) result → WordsGive reading (first ∷ name ∷ others) result
+many_words reading first name arguments others result many more given =
+    MatchBool-map (is_comment first) _ _ _ _ (λ skipped. skipped)
+    (MatchBool-map (says_policy reading first) _ _ _ _ (many_policy (name ∷ arguments) (name ∷ others) result (omega arith) (omega arith))
+    (MatchBool-map (says_limits reading first) _ _ _ _ (many_limits (name ∷ arguments) (name ∷ others) result (omega arith) (omega arith))
+    (many_behind (limits_of reading) first name arguments others result many more)))
+    given
+
+-- a line says what its first nine words say
+pub first_words_give : (reading : Reading) (words : List (List ℕ)) (result : Result Line Cause) → WordsGive reading (take 9 words) result
+    → WordsGive reading words result
+first_words_give reading [] result given = given
+first_words_give reading (first ∷ []) result given = given
+first_words_give reading (first ∷ name ∷ arguments) result given =
+    ⊎_elim
+    (λ many. many_words reading first name (take 7 arguments) arguments result (omega (arith, length-take-le 7 arguments (omega arith))) (omega arith) given)
+    (λ few. subst (λ l. WordsGive reading (first ∷ name ∷ l) result) (take_all 7 arguments few) given)
+    (cases_lt 7 (length arguments))

@@ -1,0 +1,194 @@
+-- The last answer to each process: as a journal grows, and by its number.
+use Rattle.std.proofs.Common.{ℕ, zero, suc, ◌≡◌, ◌+◌, ◌<◌, ◌≤◌, refl, sym, ◌∙◌, ap, subst, arith, true, false, eq-eqb, ne_eqb, length, List, [], ◌∷◌, ◌++◌, ⊎_elim, Option, Some, None, IfSome, slice_get}
+use Rattle.std.specs.Prelude.{◌==◌, if◌then◌else◌, slice_index_or}
+use Rattle.std.proofs.lemmas.Bool.{cases_lt}
+use Rattle.std.proofs.lemmas.List.{append-nil, nil_from_length}
+use Rattle.std.proofs.lemmas.Option.{slice_get_past}
+use Rattle.std.proofs.Math.Logic.{∥∥₁_elim}
+use Rattle.std.proofs.Math.Bridge.{le_prop}
+use Rattle.lock_manager.specs.declared.request.Request.{Request}
+use Rattle.lock_manager.specs.declared.request.Reply.{Reply}
+use Rattle.lock_manager.specs.declared.request.Note.{Note}
+use Rattle.lock_manager.specs.declared.request.Note.TheVariants.{Answer, Waits}
+use Rattle.lock_manager.specs.declared.manager.Manager.{Manager}
+use Rattle.session_core.specs.declared.answers.Answer as declared
+use Rattle.session_core.specs.declared.answers.LastAnswers.{LastAnswers}
+use Rattle.session_core.specs.declared.mailbox.Mailbox.{Mailbox}
+use Rattle.session_core.specs.Event.{Event}
+use Rattle.session_core.specs.Runs.{events_of}
+use Rattle.session_core.specs.Mail.{answers_in, answers_from, answers_to, reply_among}
+use Rattle.session_core.specs.Mailboxes.{mail_taken, taken_in, IsMailKept}
+use Rattle.session_core.specs.LastAnswers.{latest, processes_in, last_of, AreLastAnswers}
+use Rattle.session_core.specs.Headline.{Holds}
+
+-- what is known last after more answers
+latest-append : (known : Option declared.Answer) (xs ys : List (ℕ × Reply × ℕ)) → latest known (xs ++ ys) ≡ latest (latest known xs) ys
+latest-append known [] ys = refl
+latest-append known (x ∷ xs) ys = latest-append (Some (record { n = x.0; reply = x.1 })) xs ys
+
+-- at which place the notes stand doesn't matter to it
+latest-place : (known : Option declared.Answer) (p place other : ℕ) (notes : List Note)
+    → latest known (answers_in p place notes) ≡ latest known (answers_in p other notes)
+latest-place known p place other [] = refl
+latest-place known p place other (Answer q n reply ∷ notes) =
+    elim (q == p) as (λ b. latest known (if b then (n, reply, place) ∷ answers_in p place notes else answers_in p place notes) ≡ latest known (if b then (n, reply, other) ∷ answers_in p other notes else answers_in p other notes))
+    [ true ↦ latest-place (Some (record { n = n; reply = reply })) p place other notes | false ↦ latest-place known p place other notes ]
+latest-place known p place other (Waits q n ∷ notes) = latest-place known p place other notes
+
+-- what is known last after one more event
+latest-push : (p place : ℕ) (known : Option declared.Answer) (events : List Event) (event : Event)
+    → latest known (answers_from p place (events ++ event ∷ [])) ≡ latest (latest known (answers_from p place events)) (answers_in p 0 event.notes)
+latest-push p place known [] event = ap (latest known) (append-nil (answers_in p place event.notes)) ∙ latest-place known p place 0 event.notes
+latest-push p place known (e ∷ events) event =
+    latest-append known (answers_in p place e.notes) (answers_from p (place + 1) (events ++ event ∷ []))
+    ∙ latest-push p (place + 1) (latest known (answers_in p place e.notes)) events event
+    ∙ ap (λ last. latest last (answers_in p 0 event.notes)) (sym (latest-append known (answers_in p place e.notes) (answers_from p (place + 1) events)))
+
+-- the last answers are taken down still, where those of one more event were told
+pub AreLastAnswers-push : (processes : ℕ) (last last' : LastAnswers) (journal journal' : List Event) (event : Event)
+    → journal' ≡ journal ++ event ∷ [] → processes_in last' ≡ processes_in last
+    → ((p : ℕ) → 1 ≤ p → p ≤ processes_in last → last_of last' p ≡ latest (last_of last p) (answers_in p 0 event.notes))
+    → AreLastAnswers processes last journal → AreLastAnswers processes last' journal'
+AreLastAnswers-push processes last last' journal journal' event more as_many told h = record {
+  one_each = as_many ∙ h.one_each;
+  latest_is = λ p low high.
+      told p low (subst (λ n. p ≤ n) (sym h.one_each) high)
+      ∙ ap (λ known. latest known (answers_in p 0 event.notes)) (h.latest_is p low high)
+      ∙ sym (ap (λ l. latest None (answers_to p l)) more ∙ latest-push p 1 None journal event);
+}
+
+-- the number of what is known last
+abbrev pub number_in : Option declared.Answer → ℕ
+number_in None = 0
+number_in (Some answer) = answer.n
+
+-- the answers have the numbers behind this one, one by one
+abbrev AreNumberedFrom : ℕ → List (ℕ × Reply × ℕ) → Type 0
+AreNumberedFrom first answers = (place : ℕ) → IfSome (slice_get answers place) (λ answer. answer.0 ≡ first + place + 1)
+
+numbered_later : (first : ℕ) (x : ℕ × Reply × ℕ) (xs : List (ℕ × Reply × ℕ)) → AreNumberedFrom first (x ∷ xs) → AreNumberedFrom (first + 1) xs
+numbered_later first x xs numbered place =
+    let e : first + suc place + 1 ≡ first + 1 + place + 1 = omega arith in
+    subst (λ n. IfSome (slice_get xs place) (λ answer. answer.0 ≡ n)) e (numbered (suc place))
+
+-- the last one's number is how many there are
+latest_number : (first : ℕ) (known : Option declared.Answer) (answers : List (ℕ × Reply × ℕ)) → number_in known ≡ first → AreNumberedFrom first answers
+    → number_in (latest known answers) ≡ first + length answers
+latest_number first known [] is numbered = is ∙ omega arith
+latest_number first known (x ∷ xs) is numbered =
+    let here : x.0 ≡ first + 0 + 1 = numbered 0 in
+    let rest = latest_number (first + 1) (Some (record { n = x.0; reply = x.1 })) xs (omega (arith, here)) (numbered_later first x xs numbered) in
+    omega (arith, rest)
+
+-- an answer with another number is passed over
+passed_over : (n : ℕ) (x : ℕ × Reply × ℕ) (xs : List (ℕ × Reply × ℕ)) → (x.0 ≡ n → ⊥) → reply_among n (x ∷ xs) ≡ reply_among n xs
+passed_over n x xs other = rw (ne_eqb x.0 n other) refl
+
+-- none has a number past the last one
+none_past : (n first : ℕ) (answers : List (ℕ × Reply × ℕ)) → AreNumberedFrom first answers → first + length answers < n → reply_among n answers ≡ None
+none_past n first [] numbered past = refl
+none_past n first (x ∷ xs) numbered past =
+    let here : x.0 ≡ first + 0 + 1 = numbered 0 in
+    passed_over n x xs (λ same. omega (arith, here, same)) ∙ none_past n (first + 1) xs (numbered_later first x xs numbered) (omega arith)
+
+-- the last one is found by its number
+latest_found : (n first : ℕ) (known : Option declared.Answer) (answers : List (ℕ × Reply × ℕ)) (last : declared.Answer) → number_in known ≡ first
+    → AreNumberedFrom first answers → latest known answers ≡ Some last → n ≡ last.n → first < n → reply_among n answers ≡ Some last.reply
+latest_found n first known [] last is numbered found same past =
+    let number : number_in known ≡ last.n = ap number_in found in absurd (omega (arith, number))
+latest_found n first known (x ∷ []) last is numbered found same past =
+    let number : x.0 ≡ last.n = ap number_in found in
+    let read : x.1 ≡ last.reply = cc in
+    rw (eq-eqb x.0 n (number ∙ sym same)) (ap (λ reply. Some reply) read)
+latest_found n first known (x ∷ (y ∷ ys)) last is numbered found same past =
+    let here : x.0 ≡ first + 0 + 1 = numbered 0 in
+    let later = numbered_later first x (y ∷ ys) numbered in
+    let start : number_in (Some (record { n = x.0; reply = x.1 })) ≡ first + 1 = omega (arith, here) in
+    let many = latest_number (first + 1) (Some (record { n = x.0; reply = x.1 })) (y ∷ ys) start later in
+    let number : number_in (latest (Some (record { n = x.0; reply = x.1 })) (y ∷ ys)) ≡ last.n = ap number_in found in
+    passed_over n x (y ∷ ys) (λ e. omega (arith, here, many, number))
+    ∙ latest_found n (first + 1) (Some (record { n = x.0; reply = x.1 })) (y ∷ ys) last start later found same (omega (arith, here, many, number))
+
+latest_some : (answer : declared.Answer) (answers : List (ℕ × Reply × ℕ)) → latest (Some answer) answers ≡ None → ⊥
+latest_some answer [] none = cc
+latest_some answer (x ∷ xs) none = latest_some (record { n = x.0; reply = x.1 }) xs none
+
+-- where no answer is known, there was none
+none_told : (answers : List (ℕ × Reply × ℕ)) → latest None answers ≡ None → answers ≡ []
+none_told [] none = refl
+none_told (x ∷ xs) none = absurd (latest_some (record { n = x.0; reply = x.1 }) xs none)
+
+each_some : {X : Type 0} (o : Option X) (P : X → Type 0) → ((x : X) → o ≡ Some x → P x) → IfSome o P
+each_some None P h = tt
+each_some (Some x) P h = h x refl
+
+-- the answers to a process are numbered, where the headline holds
+answers_numbered : (manager : Manager) (sent : ℕ → List Request) (journal : List Event) (p : ℕ) → ∥ Holds manager sent journal ∥₁
+    → AreNumberedFrom 0 (answers_to p journal)
+answers_numbered manager sent journal p holds place =
+    each_some (slice_get (answers_to p journal) place) (λ answer. answer.0 ≡ 0 + place + 1) (λ answer found.
+    let low : answer.0 ≤ place + 1 = ∥∥₁_elim holds le_prop (λ h. let is : answer.0 ≡ place + 1 = subst (λ o. IfSome o (λ a. a.0 ≡ place + 1)) found (h.answers_numbered p place) in omega (arith, is)) in
+    let high : place + 1 ≤ answer.0 = ∥∥₁_elim holds le_prop (λ h. let is : answer.0 ≡ place + 1 = subst (λ o. IfSome o (λ a. a.0 ≡ place + 1)) found (h.answers_numbered p place) in omega (arith, is)) in
+    omega arith)
+
+-- a process without a mailbox was taken nothing of
+taken_past : (mailboxes : List Mailbox) (p : ℕ) → length mailboxes < p → mail_taken mailboxes p ≡ 0
+taken_past mailboxes zero past = refl
+taken_past mailboxes (suc place) past = ap taken_in (slice_get_past mailboxes place (omega arith))
+
+last_past : (last : LastAnswers) (p : ℕ) → processes_in last < p → last_of last p ≡ None
+last_past last zero past = refl
+last_past last (suc place) past = index_past last.answers.items place (omega arith)
+  where
+    index_past : (xs : List (Option declared.Answer)) (i : ℕ) → length xs ≤ i → slice_index_or xs i None ≡ None
+    index_past [] i past = refl
+    index_past (x ∷ xs) zero past = absurd (omega arith)
+    index_past (x ∷ xs) (suc i) past = index_past xs i (omega arith)
+
+-- a process without a mailbox was answered nothing
+answers_past : (manager : Manager) (sent : ℕ → List Request) (processes : ℕ) (mailboxes : List Mailbox) (journal : List Event) (p : ℕ)
+    → IsMailKept processes mailboxes journal → ∥ Holds manager sent journal ∥₁ → mail_taken mailboxes p ≡ 0 → answers_to p journal ≡ []
+answers_past manager sent processes mailboxes journal p mail holds nothing =
+    let few : length (answers_to p journal) ≤ length (events_of p journal) = ∥∥₁_elim holds le_prop (λ h. h.answered_taken p) in
+    nil_from_length (answers_to p journal) (let taken = mail.taken p in omega arith)
+
+-- what is taken down of each process, also of one that isn't there, is the last answer to it in the journal
+pub last_is : (manager : Manager) (sent : ℕ → List Request) (processes : ℕ) (mailboxes : List Mailbox) (last : LastAnswers) (journal : List Event) (p : ℕ)
+    → IsMailKept processes mailboxes journal → AreLastAnswers processes last journal → ∥ Holds manager sent journal ∥₁
+    → last_of last p ≡ latest None (answers_to p journal)
+last_is manager sent processes mailboxes last journal zero mail answered holds =
+    ap (latest None) (sym (answers_past manager sent processes mailboxes journal 0 mail holds refl))
+last_is manager sent processes mailboxes last journal (suc place) mail answered holds =
+    ⊎_elim
+    (λ past.
+    last_past last (suc place) (rw answered.one_each past)
+    ∙ ap (latest None) (sym (answers_past manager sent processes mailboxes journal (suc place) mail holds (taken_past mailboxes (suc place) (rw mail.one_each past)))))
+    (λ within. answered.latest_is (suc place) (omega arith) within)
+    (cases_lt processes (suc place))
+
+-- its number is how many answers there are
+pub last_number : (manager : Manager) (sent : ℕ → List Request) (journal : List Event) (p : ℕ) (last : Option declared.Answer)
+    → ∥ Holds manager sent journal ∥₁ → last ≡ latest None (answers_to p journal) → number_in last ≡ length (answers_to p journal)
+last_number manager sent journal p last holds is =
+    ap number_in is ∙ latest_number 0 None (answers_to p journal) refl (answers_numbered manager sent journal p holds) ∙ omega arith
+
+-- it is found by its number, and no answer by a greater one or where there is none
+pub last_found : (manager : Manager) (sent : ℕ → List Request) (journal : List Event) (p n : ℕ) (last : declared.Answer)
+    → ∥ Holds manager sent journal ∥₁ → Some last ≡ latest None (answers_to p journal) → n ≡ last.n → reply_among n (answers_to p journal) ≡ Some last.reply
+last_found manager sent journal p n last holds is same =
+    let numbered = answers_numbered manager sent journal p holds in
+    let many = last_number manager sent journal p (Some last) holds is in
+    latest_found n 0 None (answers_to p journal) last refl numbered (sym is) same (some_told (answers_to p journal) is many)
+  where
+    some_told : (answers : List (ℕ × Reply × ℕ)) → Some last ≡ latest None answers → last.n ≡ length answers → 0 < n
+    some_told [] is many = absurd (let no : Some last ≡ None = is in cc)
+    some_told (x ∷ xs) is many = omega (arith, many, same)
+
+pub last_past_all : (manager : Manager) (sent : ℕ → List Request) (journal : List Event) (p n : ℕ) (last : declared.Answer)
+    → ∥ Holds manager sent journal ∥₁ → Some last ≡ latest None (answers_to p journal) → last.n < n → reply_among n (answers_to p journal) ≡ None
+last_past_all manager sent journal p n last holds is past =
+    let many = last_number manager sent journal p (Some last) holds is in
+    none_past n 0 (answers_to p journal) (answers_numbered manager sent journal p holds) (omega (arith, many))
+
+pub none_found : (journal : List Event) (p n : ℕ) → None ≡ latest None (answers_to p journal) → reply_among n (answers_to p journal) ≡ None
+none_found journal p n is = ap (reply_among n) (none_told (answers_to p journal) (sym is))
