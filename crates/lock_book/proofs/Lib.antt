@@ -2,6 +2,7 @@ pub mod BlockLemmas
 pub mod BookLaws
 pub mod BookLemmas
 pub mod CoverLemmas
+pub mod DecideLemmas
 pub mod FlockLemmas
 pub mod HeldLemmas
 pub mod HolderLemmas

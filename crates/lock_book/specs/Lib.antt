@@ -7,3 +7,4 @@ pub mod Owners
 pub mod OwnerLists
 pub mod Reports
 pub mod OneReport
+pub mod Decided

@@ -1,4 +1,5 @@
-//! Laws of the report of the locks. Each is the contract of a function that does nothing.
+//! Laws of the report of the locks, and of what blocks a lock. Each is the contract of a function that does nothing.
+ghost use Rattle.lock_book.specs.Decided.{ByteConflictIsDecided, FlockConflictIsDecided, ProcessBlocksIsDecided};
 ghost use Rattle.lock_book.specs.OneReport.{LocksHaveOneFileReport, LocksHaveOneReport};
 
 /// The locks that are held on one file have one report, that of [`crate::Book::held`]: two reports of the same locks have the
@@ -10,4 +11,12 @@ pub fn locks_have_one_file_report()
 /// The locks that are held have one report: two reports of the same locks have the same lines in the same order.
 pub fn locks_have_one_report()
     ensures { LocksHaveOneReport }
+{}
+
+/// Whether a lock is blocked can be decided: by the byte locks of a book, by its flock locks, and by the traditional locks of one
+/// process. So a lock that is only known to be blocked is blocked by one that can be named.
+pub fn conflicts_are_decided()
+    ensures bytes { ByteConflictIsDecided }
+    ensures flocks { FlockConflictIsDecided }
+    ensures processes { ProcessBlocksIsDecided }
 {}

@@ -21,6 +21,7 @@ use Rattle.fd_table.specs.declared.tables.Look.{Look}
 use Rattle.lock_manager.specs.FlockCalls.{wanted_flock}
 use Rattle.wait_core.specs.Locks.{Locks, locks_of, byte_modes_at, flock_modes_at}
 use Rattle.wait_core.specs.Cycles.{IsFreeOfCycles}
+use Rattle.wait_core.specs.Settled.{AreBlockedElsewhere, AgreeElsewhere}
 use Rattle.wait_core.specs.WaitsView.{waits_of, policy_of, processes_of, AreTold}
 use Rattle.wait_core.specs.FreeOfCycles.{FreeWhenDescriptionLocksChange, FreeWhenOneJoins}
 use Rattle.lock_manager.specs.declared.machine.Machine.{Machine}
@@ -31,11 +32,11 @@ use Rattle.lock_manager.proofs.ProcessLemmas.{state_numbered-set}
 use Rattle.lock_manager.specs.Safety.{AreCompatible}
 use Rattle.lock_manager.specs.DescriptionLocks.{IsOpenOn, AreOwned, AreWithinFiles, MayLock, MayWait}
 use Rattle.lock_manager.specs.MachineView.{Shows, SameMachine, machine_rules, machine_processes, machine_locks, machine_state, machine_waits}
-use Rattle.lock_manager.specs.WaitsKept.{AreApart, HaveRoom, is_byte_wait, is_flock_wait, is_of_bytes, is_of_whole, has_place_at}
+use Rattle.lock_manager.specs.WaitsKept.{AreApart, HaveRoom, is_byte_wait, is_flock_wait, is_of_bytes, is_of_whole, has_place_at, SameWaits, StayKnown}
 use Rattle.lock_manager.proofs.BookLemmas.{slice_get-set, slice_get-set_same, entry_is}
 use Rattle.lock_manager.proofs.SafetyLemmas.{both, conflict_back, same_owner}
 use Rattle.lock_manager.proofs.OwnedLemmas.{none_but_set}
-use Rattle.lock_manager.proofs.WaitLemmas.{rooms_at, told_by_bytes, waits_of_others}
+use Rattle.lock_manager.proofs.WaitLemmas.{rooms_at, told_by_bytes, waits_of_others, agree_elsewhere}
 use Rattle.lock_manager.proofs.SuspendLemmas.{locks_stay, counted, owned_joined}
 use Rattle.std.specs.List.{list_any}
 use Rattle.std.proofs.lemmas.List.Folds.{list_any-append}
@@ -178,12 +179,14 @@ room_in_places books waits file old new within was same kept h =
     }
 
 -- what holds of the machine holds after a change of a flock lock that nothing blocks
-pub kept_by_flock : FreeWhenDescriptionLocksChange → (m : Machine) (books : List Book) (file : ℕ) (old new : Book) (description : ℕ) (mode : Option Mode)
+pub kept_by_flock : FreeWhenDescriptionLocksChange → (m : Machine) (books : List Book) (waits : Waits) (file : ℕ) (old new : Book) (description : ℕ) (mode : Option Mode)
     → books ≡ slice_set m.books.items file new → file < length m.books.items → slice_get m.books.items file ≡ Some old
     → MayLock m.tables file (Description description)
     → ((k : Mode) → mode ≡ Some k → ¬ FlockConflict ((locks_of m.books.items).flocks file) (Description description) k)
-    → SetsFlock old new description mode → AreKept m.rules m.processes m.tables books m.waits
-kept_by_flock all m books file old new description mode is within was may free sets =
+    → SetsFlock old new description mode → SameWaits m.waits waits → ((locks : Locks) → AreTold m.waits locks → AreTold waits locks)
+    → ((before after : Locks) → AreBlockedElsewhere m.waits before → AgreeElsewhere file before after → AreBlockedElsewhere waits after)
+    → AreKept m.rules m.processes m.tables books waits
+kept_by_flock all m books waits file old new description mode is within was may free sets waits_same told blocked =
     let before = m.books.items in
     let after = slice_set before file new in
     let list = waits_of m.waits in
@@ -191,17 +194,23 @@ kept_by_flock all m books file old new description mode is within was may free s
     let flocks = flock_set_flocks before file old new description mode within was sets in
     record {
       compatible = subst (λ bs. AreCompatible (locks_of bs)) (sym is) (compatible_flock (locks_of before) (locks_of after) file description mode m.compatible free bytes flocks);
-      owned = subst (λ bs. AreOwned m.tables (locks_of bs) list) (sym is)
-          (owned_flock m.tables list (locks_of before) (locks_of after) file description mode may bytes flocks m.owned);
+      owned = subst (λ bs. AreOwned m.tables (locks_of bs) (waits_of waits)) (sym is)
+          (subst (AreOwned m.tables (locks_of after)) (sym waits_same.waits)
+          (owned_flock m.tables list (locks_of before) (locks_of after) file description mode may bytes flocks m.owned));
       within = subst (λ bs. AreWithinFiles (locks_of bs)) (sym is) (λ f o byte past. bytes f o byte ∙ m.within f o byte past);
-      policy = m.policy;
-      counted = m.counted;
-      told = subst (λ bs. ∥ AreTold m.waits (locks_of bs) ∥₁) (sym is) (∥∥₁_map m.told (told_by_bytes m.waits (locks_of before) (locks_of after) bytes));
-      apart = m.apart;
-      room = subst (λ bs. HaveRoom bs list) (sym is)
-          (room_in_places before list file old new within was sets.rooms (flock_place_kept old new description mode sets) m.room);
-      free_of_cycles = subst (λ bs. IsFreeOfCycles m.rules.policy (locks_of bs) list) (sym is)
-          (all m.rules.policy (locks_of before) (locks_of after) list m.free_of_cycles (λ f q byte. bytes f (Process q) byte));
+      policy = waits_same.policy ∙ m.policy;
+      counted = waits_same.processes ∙ m.counted;
+      told = subst (λ bs. ∥ AreTold waits (locks_of bs) ∥₁) (sym is)
+          (∥∥₁_map m.told (λ known. told (locks_of after) (told_by_bytes m.waits (locks_of before) (locks_of after) bytes known)));
+      blocked = subst (λ bs. ∥ AreBlockedElsewhere waits (locks_of bs) ∥₁) (sym is)
+          (∥∥₁_map m.blocked (λ known. blocked (locks_of before) (locks_of after) known (agree_elsewhere before file new)));
+      apart = subst AreApart (sym waits_same.waits) m.apart;
+      room = subst (λ bs. HaveRoom bs (waits_of waits)) (sym is)
+          (subst (HaveRoom after) (sym waits_same.waits)
+          (room_in_places before list file old new within was sets.rooms (flock_place_kept old new description mode sets) m.room));
+      free_of_cycles = subst (λ bs. IsFreeOfCycles m.rules.policy (locks_of bs) (waits_of waits)) (sym is)
+          (subst (IsFreeOfCycles m.rules.policy (locks_of after)) (sym waits_same.waits)
+          (all m.rules.policy (locks_of before) (locks_of after) list m.free_of_cycles (λ f q byte. bytes f (Process q) byte)));
     }
 
 -- the machine shows the state with the changed flock lock
@@ -264,6 +273,7 @@ kept_by_place m books file old new is within was taken =
       policy = m.policy;
       counted = m.counted;
       told = subst (λ ls. ∥ AreTold m.waits ls ∥₁) (sym locks) m.told;
+      blocked = subst (λ ls. ∥ AreBlockedElsewhere m.waits ls ∥₁) (sym locks) m.blocked;
       apart = m.apart;
       room = subst (λ bs. HaveRoom bs (waits_of m.waits)) (sym is) (room_in_places before (waits_of m.waits) file old new within was taken.rooms taken.kept m.room);
       free_of_cycles = subst (λ ls. IsFreeOfCycles m.rules.policy ls (waits_of m.waits)) (sym locks) m.free_of_cycles;
@@ -338,8 +348,8 @@ pub kept_by_wait : FreeWhenOneJoins → (m : Machine) (waits : Waits) (wait : Wa
     → wait.family ≡ Whole → wait.owner ≡ Description description → has_place_at (slice_get m.books.items wait.file) description ≡ true
     → MayWait m.tables wait.p wait.file wait.owner → state_numbered m.states.items wait.p ≡ Live
     → waits_of waits ≡ waits_of m.waits ++ wait ∷ [] → policy_of waits ≡ policy_of m.waits → processes_of waits ≡ processes_of m.waits
-    → (AreTold m.waits (locks_of m.books.items) → AreTold waits (locks_of m.books.items)) → AreKept m.rules m.processes m.tables m.books.items waits
-kept_by_wait joins m waits wait description family owner there may live list policy processes told =
+    → StayKnown m.waits waits (locks_of m.books.items) (locks_of m.books.items) → AreKept m.rules m.processes m.tables m.books.items waits
+kept_by_wait joins m waits wait description family owner there may live list policy processes known =
     let books = m.books.items in
     record {
       compatible = m.compatible;
@@ -347,7 +357,8 @@ kept_by_wait joins m waits wait description family owner there may live list pol
       within = m.within;
       policy = policy ∙ m.policy;
       counted = processes ∙ m.counted;
-      told = ∥∥₁_map m.told told;
+      told = ∥∥₁_map m.told known.told;
+      blocked = ∥∥₁_map m.blocked known.blocked;
       apart = subst AreApart (sym list)
           (all_pairs_push (λ (v w : Wait). v.p ≢ w.p) (waits_of m.waits) wait m.apart (waits_of_others m.tables m.states.items (waits_of m.waits) wait.p m.suspended live));
       room = subst (HaveRoom books) (sym list) (room_joined_flock books (waits_of m.waits) wait description family owner there m.room);

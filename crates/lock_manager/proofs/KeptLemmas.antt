@@ -17,9 +17,10 @@ use Rattle.fd_table.specs.Descriptors.{Descriptors}
 use Rattle.fd_table.specs.TablesView.{StandFor}
 use Rattle.wait_core.specs.declared.Policy.{Policy}
 use Rattle.wait_core.specs.declared.waits.Waits.{Waits}
-use Rattle.wait_core.specs.Locks.{locks_of}
+use Rattle.wait_core.specs.Locks.{Locks, locks_of}
 use Rattle.wait_core.specs.Cycles.{IsFreeOfCycles}
 use Rattle.wait_core.specs.WaitsView.{waits_of, policy_of, processes_of, AreTold, AgreeBut}
+use Rattle.wait_core.specs.Settled.{AreBlockedElsewhere, AgreeElsewhere}
 use Rattle.wait_core.specs.FreeOfCycles.{FreeWhenLocksChange, FreeWhenDescriptionLocksChange}
 use Rattle.lock_manager.specs.declared.machine.Machine.{Machine}
 use Rattle.lock_manager.specs.declared.request.Rules.{Rules}
@@ -28,12 +29,12 @@ use Rattle.lock_manager.specs.State.{state_numbered}
 use Rattle.lock_manager.specs.Safety.{AreCompatible}
 use Rattle.lock_manager.specs.DescriptionLocks.{AreOwned, AreWithinFiles, MayLock}
 use Rattle.lock_manager.specs.LockReleases.{ReleasesLocks, ReleasesRoom}
-use Rattle.lock_manager.specs.WaitsKept.{AreApart, HaveRoom, SameWaits}
+use Rattle.lock_manager.specs.WaitsKept.{AreApart, HaveRoom, SameWaits, StayKnown}
 use Rattle.lock_manager.proofs.SafetyLemmas.{compatible_after}
 use Rattle.lock_manager.proofs.OwnedLemmas.{owned_set, within_files_set}
 use Rattle.lock_manager.proofs.ClosingLemmas.{Closing}
 use Rattle.lock_manager.proofs.AfterCloseLemmas.{compatible_released, owned_released, within_released}
-use Rattle.lock_manager.proofs.WaitLemmas.{waits_of_others, not_owned_by, agree_but, free_after, room_after}
+use Rattle.lock_manager.proofs.WaitLemmas.{waits_of_others, not_owned_by, agree_elsewhere, free_after, room_after}
 use Rattle.lock_manager.proofs.WaitCloseLemmas.{none_of_released, room_released}
 
 -- what holds of these tables, books and waits
@@ -44,9 +45,22 @@ pub record AreKept (rules : Rules) (processes : ℕ) (tables : Tables) (books : 
   pub policy : policy_of waits ≡ rules.policy
   pub counted : processes_of waits ≡ processes
   pub told : ∥ AreTold waits (locks_of books) ∥₁
+  pub blocked : ∥ AreBlockedElsewhere waits (locks_of books) ∥₁
   pub apart : AreApart (waits_of waits)
   pub room : HaveRoom books (waits_of waits)
   pub free_of_cycles : IsFreeOfCycles rules.policy (locks_of books) (waits_of waits)
+
+-- what a refresh of the file leaves of what was known, where these are the books that it is told
+pub stays_known : (old new : Waits) (before after told_books : List Book) (file : ℕ) → told_books ≡ after → file < 64
+    → ((locks : Locks) → AreTold old locks → AgreeBut file locks (locks_of told_books) → AreTold new (locks_of told_books))
+    → (file < 64 → (locks : Locks) → AreBlockedElsewhere old locks → AgreeElsewhere file locks (locks_of told_books) → AreBlockedElsewhere new (locks_of told_books))
+    → AgreeElsewhere file (locks_of before) (locks_of after) → StayKnown old new (locks_of before) (locks_of after)
+stays_known old new before after told_books file is within told blocked agree =
+    let same : AgreeElsewhere file (locks_of before) (locks_of told_books) = subst (λ bs. AgreeElsewhere file (locks_of before) (locks_of bs)) (sym is) agree in
+    subst (λ bs. StayKnown old new (locks_of before) (locks_of bs)) is (record {
+      told = λ was. told (locks_of before) was same.bytes;
+      blocked = λ was. blocked within (locks_of before) was same;
+    })
 
 -- it holds after a change of one book by an owner that doesn't wait, which nothing blocks, refused or not, where there is room for
 -- the waits
@@ -55,12 +69,13 @@ pub kept_in_room : FreeWhenLocksChange → FreeWhenDescriptionLocksChange → (m
     → MayLock m.tables file owner → IsByteRange span → ((p : ℕ) → owner ≡ Process p → state_numbered m.states.items p ≡ Live)
     → ((k : Mode) → mode ≡ Some k → ¬ ByteConflict ((locks_of m.books.items).bytes file) owner span k)
     → OnOk result (SetsOwnerMode old new owner span mode) → HaveRoom (slice_set m.books.items file new) (waits_of m.waits) → OnErr result (SameBook old new)
-    → SameWaits m.waits waits → (AreTold m.waits (locks_of m.books.items) → AgreeBut file (locks_of m.books.items) (locks_of books) → AreTold waits (locks_of books))
+    → SameWaits m.waits waits → (AgreeElsewhere file (locks_of m.books.items) (locks_of books) → StayKnown m.waits waits (locks_of m.books.items) (locks_of books))
     → AreKept m.rules m.processes m.tables books waits
-kept_in_room one all m books waits file old new owner span mode result is within was may range live free sets room same waits_same told =
+kept_in_room one all m books waits file old new owner span mode result is within was may range live free sets room same waits_same known =
     let before = m.books.items in
     let after = slice_set before file new in
     let list = waits_of m.waits in
+    let still = known (subst (λ bs. AgreeElsewhere file (locks_of before) (locks_of bs)) (sym is) (agree_elsewhere before file new)) in
     let idle : (p : ℕ) → owner ≡ Process p → All (λ wait. wait.owner ≢ Process p) list =
     λ p e. not_owned_by m.tables (locks_of before) list p m.owned (waits_of_others m.tables m.states.items list p m.suspended (live p e)) in
     record {
@@ -71,7 +86,8 @@ kept_in_room one all m books waits file old new owner span mode result is within
       within = subst (λ bs. AreWithinFiles (locks_of bs)) (sym is) (within_files_set before file old new owner span mode result within was range sets same m.within);
       policy = waits_same.policy ∙ m.policy;
       counted = waits_same.processes ∙ m.counted;
-      told = ∥∥₁_map m.told (λ before_told. told before_told (subst (λ bs. AgreeBut file (locks_of before) (locks_of bs)) (sym is) (agree_but before file new)));
+      told = ∥∥₁_map m.told still.told;
+      blocked = ∥∥₁_map m.blocked still.blocked;
       apart = subst AreApart (sym waits_same.waits) m.apart;
       room = subst (λ bs. HaveRoom bs (waits_of waits)) (sym is)
           (subst (HaveRoom after) (sym waits_same.waits) room);
@@ -86,11 +102,11 @@ pub kept_by_change : FreeWhenLocksChange → FreeWhenDescriptionLocksChange → 
     → MayLock m.tables file owner → IsByteRange span → ((p : ℕ) → owner ≡ Process p → state_numbered m.states.items p ≡ Live)
     → ((k : Mode) → mode ≡ Some k → ¬ ByteConflict ((locks_of m.books.items).bytes file) owner span k)
     → OnOk result (SetsOwnerMode old new owner span mode) → OnOk result (room_in old owner ≤ room_in new owner) → OnErr result (SameBook old new)
-    → SameWaits m.waits waits → (AreTold m.waits (locks_of m.books.items) → AgreeBut file (locks_of m.books.items) (locks_of books) → AreTold waits (locks_of books))
+    → SameWaits m.waits waits → (AgreeElsewhere file (locks_of m.books.items) (locks_of books) → StayKnown m.waits waits (locks_of m.books.items) (locks_of books))
     → AreKept m.rules m.processes m.tables books waits
-kept_by_change one all m books waits file old new owner span mode result is within was may range live free sets kept same waits_same told =
+kept_by_change one all m books waits file old new owner span mode result is within was may range live free sets kept same waits_same known =
     kept_in_room one all m books waits file old new owner span mode result is within was may range live free sets
-    (room_after (waits_of m.waits) m.books.items file old new owner span mode result within was sets kept same m.room) same waits_same told
+    (room_after (waits_of m.waits) m.books.items file old new owner span mode result within was sets kept same m.room) same waits_same known
 
 -- and after a release of what a live process closed
 pub kept_by_release : (m : Machine) (tables : Tables) (books : List Book) (waits : Waits) (p : ℕ) (released : Released)
@@ -98,11 +114,11 @@ pub kept_by_release : (m : Machine) (tables : Tables) (books : List Book) (waits
     → ((D : Descriptors) → StandFor m.tables D → (E : Descriptors) × Closing D E p released × StandFor tables E)
     → ReleasesLocks (locks_of m.books.items) (locks_of books) p released.files released.descriptions
     → ReleasesRoom m.books.items books p released.files released.descriptions
-    → SameWaits m.waits waits → (AreTold m.waits (locks_of m.books.items) → AreTold waits (locks_of books))
+    → SameWaits m.waits waits → StayKnown m.waits waits (locks_of m.books.items) (locks_of books)
     → ((policy : Policy) → All (λ wait. wait.owner ≢ Process p) (waits_of m.waits) → IsFreeOfCycles policy (locks_of m.books.items) (waits_of m.waits)
     → IsFreeOfCycles policy (locks_of books) (waits_of waits))
     → AreKept m.rules m.processes tables books waits
-kept_by_release m tables books waits p released live call locks room same told free =
+kept_by_release m tables books waits p released live call locks room same known free =
     let old = locks_of m.books.items in
     let new = locks_of books in
     let list = waits_of m.waits in
@@ -113,7 +129,8 @@ kept_by_release m tables books waits p released live call locks room same told f
       within = within_released old new p released.files released.descriptions locks m.within;
       policy = same.policy ∙ m.policy;
       counted = same.processes ∙ m.counted;
-      told = ∥∥₁_map m.told told;
+      told = ∥∥₁_map m.told known.told;
+      blocked = ∥∥₁_map m.blocked known.blocked;
       apart = subst AreApart (sym same.waits) m.apart;
       room = subst (HaveRoom books) (sym same.waits)
           (room_released m.books.items books list p released.files released.descriptions room (none_of_released m.tables tables old list p released call others m.owned) m.room);

@@ -24,6 +24,7 @@ use Rattle.wait_core.specs.declared.Wait.{Wait}
 use Rattle.wait_core.specs.declared.waits.Waits.{Waits}
 use Rattle.wait_core.specs.Locks.{Locks, locks_of, byte_modes_at, flock_modes_at}
 use Rattle.wait_core.specs.Cycles.{IsTraditional, ClosesCycle, IsFreeOfCycles}
+use Rattle.wait_core.specs.Settled.{AreBlockedElsewhere}
 use Rattle.wait_core.specs.WaitsView.{waits_of, policy_of, processes_of, wait_of, AreTold}
 use Rattle.wait_core.specs.FreeOfCycles.{FreeWhenOneJoins}
 use Rattle.lock_manager.specs.declared.machine.Machine.{Machine}
@@ -33,7 +34,7 @@ use Rattle.lock_manager.specs.State.{State, state_numbered, with_process}
 use Rattle.lock_manager.specs.DescriptionLocks.{AreOwned, AreWithinFiles, MayWait, MayWaitAs}
 use Rattle.lock_manager.specs.Safety.{AreCompatible}
 use Rattle.lock_manager.specs.MachineView.{Shows, machine_state, machine_locks, machine_waits}
-use Rattle.lock_manager.specs.WaitsKept.{AreApart, IsSuspended, AreAwaited, HaveRoom, is_byte_wait, is_flock_wait, is_of_bytes, is_of_whole, room_at, has_place_at}
+use Rattle.lock_manager.specs.WaitsKept.{AreApart, IsSuspended, AreAwaited, HaveRoom, is_byte_wait, is_flock_wait, is_of_bytes, is_of_whole, room_at, has_place_at, StayKnown}
 use Rattle.lock_manager.proofs.BookLemmas.{slice_get-set, slice_get-set_same, entry_is}
 use Rattle.lock_manager.proofs.SafetyLemmas.{same_owner, itself, both}
 use Rattle.lock_manager.proofs.ProcessLemmas.{state_numbered-set, waiting_still}
@@ -230,8 +231,8 @@ pub kept_by_join : FreeWhenOneJoins → (m : Machine) (books : List Book) (waits
     → SameButRoom old new wait.owner → room_in old wait.owner ≤ room_in new wait.owner
     → length (filter (is_byte_wait wait.file wait.owner) (waits_of m.waits)) + 1 ≤ room_in new wait.owner
     → waits_of waits ≡ waits_of m.waits ++ wait ∷ [] → policy_of waits ≡ policy_of m.waits → processes_of waits ≡ processes_of m.waits
-    → (AreTold m.waits (locks_of books) → AreTold waits (locks_of books)) → AreKept m.rules m.processes m.tables books waits
-kept_by_join joins m books waits old new wait is within was family may live free same kept more list policy processes told =
+    → StayKnown m.waits waits (locks_of books) (locks_of books) → AreKept m.rules m.processes m.tables books waits
+kept_by_join joins m books waits old new wait is within was family may live free same kept more list policy processes known =
     let before = m.books.items in
     let longer = waits_of m.waits ++ wait ∷ [] in
     let locks : locks_of books ≡ locks_of before = ap (λ bs. locks_of bs) is ∙ locks_stay before wait.file old new within was same.bytes same.flocks in
@@ -242,7 +243,8 @@ kept_by_join joins m books waits old new wait is within was family may live free
       within = subst AreWithinFiles (sym locks) m.within;
       policy = policy ∙ m.policy;
       counted = processes ∙ m.counted;
-      told = ∥∥₁_map (subst (λ ls. ∥ AreTold m.waits ls ∥₁) (sym locks) m.told) told;
+      told = ∥∥₁_map (subst (λ ls. ∥ AreTold m.waits ls ∥₁) (sym locks) m.told) known.told;
+      blocked = ∥∥₁_map (subst (λ ls. ∥ AreBlockedElsewhere m.waits ls ∥₁) (sym locks) m.blocked) known.blocked;
       apart = subst AreApart (sym list)
           (all_pairs_push (λ (v w : Wait). v.p ≢ w.p) (waits_of m.waits) wait m.apart (waits_of_others m.tables m.states.items (waits_of m.waits) wait.p m.suspended live));
       room = subst (λ bs. HaveRoom bs (waits_of waits)) (sym is)
@@ -266,6 +268,7 @@ kept_by_none m books file old new is within was same =
       policy = m.policy;
       counted = m.counted;
       told = subst (λ ls. ∥ AreTold m.waits ls ∥₁) (sym locks) m.told;
+      blocked = subst (λ ls. ∥ AreBlockedElsewhere m.waits ls ∥₁) (sym locks) m.blocked;
       apart = m.apart;
       room = subst (λ bs. HaveRoom bs (waits_of m.waits)) (sym is)
           (room_with before (waits_of m.waits) file old new within was (λ o. same_number (room_in old o) (room_in new o) (same.rooms o)) same.places m.room);

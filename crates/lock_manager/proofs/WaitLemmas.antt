@@ -19,10 +19,11 @@ use Rattle.fd_table.specs.TablesView.{StandFor, ever_alive}
 use Rattle.wait_core.specs.declared.Policy.{Policy}
 use Rattle.wait_core.specs.declared.Policy.TheVariants.{Held}
 use Rattle.wait_core.specs.declared.Wait.{Wait}
-use Rattle.wait_core.specs.Locks.{Locks, locks_of, byte_modes_at}
+use Rattle.wait_core.specs.Locks.{Locks, locks_of, byte_modes_at, flock_modes_at}
 use Rattle.wait_core.specs.declared.waits.Waits.{Waits}
 use Rattle.wait_core.specs.Cycles.{IsFreeOfCycles, WaitsFor}
-use Rattle.wait_core.specs.WaitsView.{waits_of, AreTold, AgreeBut}
+use Rattle.wait_core.specs.Settled.{AgreeElsewhere}
+use Rattle.wait_core.specs.WaitsView.{waits_of, AreTold}
 use Rattle.wait_core.specs.FreeOfCycles.{FreeWhenLocksChange, FreeWhenDescriptionLocksChange}
 use Rattle.lock_manager.specs.declared.request.ProcState.{ProcState}
 use Rattle.lock_manager.specs.declared.request.ProcState.TheVariants.{Live, Waiting}
@@ -73,8 +74,11 @@ never_alive tables locks waits child owned free e =
     cc)
 
 -- the books but that of the file stay
-pub agree_but : (books : List Book) (file : ℕ) (new : Book) → AgreeBut file (locks_of books) (locks_of (slice_set books file new))
-agree_but books file new other owner byte distinct = ap (λ e. byte_modes_at e owner byte) (slice_get-set_other books file other new distinct)
+pub agree_elsewhere : (books : List Book) (file : ℕ) (new : Book) → AgreeElsewhere file (locks_of books) (locks_of (slice_set books file new))
+agree_elsewhere books file new = record {
+  bytes = λ other owner byte distinct. ap (λ e. byte_modes_at e owner byte) (slice_get-set_other books file other new distinct);
+  flocks = λ other description distinct. ap (λ e. flock_modes_at e description) (slice_get-set_other books file other new distinct);
+}
 
 -- a step by a lock is one where the byte locks are the same
 step_by_bytes : (old new : Locks) (waits : List Wait) (p q : ℕ) → ((file : ℕ) (owner : Owner) (byte : ℕ) → new.bytes file owner byte ≡ old.bytes file owner byte)

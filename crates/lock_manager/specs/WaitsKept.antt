@@ -12,7 +12,9 @@ use Rattle.wait_core.specs.declared.Family.{Family}
 use Rattle.wait_core.specs.declared.Family.TheVariants.{Bytes, Whole}
 use Rattle.wait_core.specs.declared.Wait.{Wait}
 use Rattle.wait_core.specs.declared.waits.Waits.{Waits}
-use Rattle.wait_core.specs.WaitsView.{waits_of, policy_of, processes_of, wait_of}
+use Rattle.wait_core.specs.Locks.{Locks}
+use Rattle.wait_core.specs.Settled.{AreBlockedElsewhere}
+use Rattle.wait_core.specs.WaitsView.{waits_of, policy_of, processes_of, wait_of, AreTold}
 use Rattle.lock_manager.specs.declared.request.ProcState.{ProcState}
 use Rattle.lock_manager.specs.declared.request.ProcState.TheVariants.{Waiting}
 use Rattle.lock_manager.specs.State.{state_numbered}
@@ -71,3 +73,9 @@ pub record SameWaits (old new : Waits) : Type 0 where
   pub waits : waits_of new ≡ waits_of old
   pub policy : policy_of new ≡ policy_of old
   pub processes : processes_of new ≡ processes_of old
+
+-- what was known of the waits under the locks before is known of them under those after: which process waits for which, and that
+-- each wait is blocked on a file that doesn't count as changed
+pub record StayKnown (old new : Waits) (before after : Locks) : Type 0 where
+  pub told : AreTold old before → AreTold new after
+  pub blocked : AreBlockedElsewhere old before → AreBlockedElsewhere new after

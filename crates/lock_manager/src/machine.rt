@@ -3,6 +3,7 @@ ghost use Rattle.fd_table.specs.declared.TheConstants.{FILES};
 ghost use Rattle.fd_table.specs.TablesView.{processes_of as processes_in, limits_of, ever_alive};
 ghost use Rattle.wait_core.specs.Locks.{locks_of};
 ghost use Rattle.wait_core.specs.Cycles.{IsFreeOfCycles};
+ghost use Rattle.wait_core.specs.Settled.{AreBlockedElsewhere};
 ghost use Rattle.wait_core.specs.WaitsView.{waits_of, policy_of, processes_of, AreTold};
 ghost use Rattle.lock_manager.specs.declared.request.ProcState.TheVariants.{Live};
 ghost use Rattle.lock_manager.specs.State.{state_numbered};
@@ -47,6 +48,7 @@ pub struct Machine {
     ghost policy: { policy_of waits ≡ rules.policy },
     ghost counted: { processes_of waits ≡ processes },
     ghost told: { ∥ AreTold waits (locks_of books.items) ∥₁ },
+    ghost blocked: { ∥ AreBlockedElsewhere waits (locks_of books.items) ∥₁ },
     ghost apart: { AreApart (waits_of waits) },
     ghost suspended: { All (IsSuspended tables states.items) (waits_of waits) },
     ghost awaited: { AreAwaited states.items (waits_of waits) },

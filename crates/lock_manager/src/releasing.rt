@@ -5,9 +5,9 @@ ghost use Rattle.lock_book.specs.declared.Owner.TheVariants.{Process};
 ghost use Rattle.wait_core.specs.declared.Policy.{Policy};
 ghost use Rattle.wait_core.specs.Locks.{locks_of};
 ghost use Rattle.wait_core.specs.Cycles.{IsFreeOfCycles};
-ghost use Rattle.wait_core.specs.WaitsView.{waits_of, AreTold};
+ghost use Rattle.wait_core.specs.WaitsView.{waits_of};
 ghost use Rattle.lock_manager.specs.LockReleases.{ReleasesInBook, ReleasesLocks, ReleasesRoom};
-ghost use Rattle.lock_manager.specs.WaitsKept.{SameWaits};
+ghost use Rattle.lock_manager.specs.WaitsKept.{SameWaits, StayKnown};
 
 use fd_table::Releases;
 use lock_book::{Book, Owner};
@@ -22,7 +22,7 @@ pub fn release(books: &mut Vec<Book>, waits: &mut Waits, p: u8, released: &Relea
     ensures room { ReleasesRoom books.old.items books.new.items p released.now.files released.now.descriptions }
     ensures count { vec_len books.new ≡ FILES }
     ensures waits { SameWaits waits.old waits.new }
-    ensures told { AreTold waits.old (locks_of books.old.items) → AreTold waits.new (locks_of books.new.items) }
+    ensures known { StayKnown waits.old waits.new (locks_of books.old.items) (locks_of books.new.items) }
 
     // Where the process has no traditional wait no cycle is closed.
     ensures free { (policy : Policy) → All (λ wait. wait.owner ≢ Process p) (waits_of waits.old) →

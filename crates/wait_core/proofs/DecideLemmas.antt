@@ -1,20 +1,30 @@
--- Who waits for whom by a lock can be decided. So what is told of it is known, where it is only known that it is told.
-use Rattle.std.proofs.Common.{ℕ, ◌≡◌, ◌≢◌, ◌+◌, ◌-◌, ◌<◌, ◌≤◌, ◌⊎◌, inl, inr, ap, subst, arith, zero, suc, List, [], ◌∷◌, Any, Option, Some, None}
-use Rattle.std.proofs.Math.Logic.{∥∥₁_elim}
-use Rattle.std.proofs.lemmas.Bool.{cases_eq, cases_Bool}
+-- Who waits for whom by a lock can be decided, and which waits are blocked. So what is told of it is known, where it is only known that
+-- it is told.
+use Rattle.std.proofs.Common.{ℕ, ◌≡◌, ◌≢◌, ◌⊎◌, inl, inr, ap, refl, arith, List, [], ◌∷◌, ◌++◌, Any, Option, Some, None}
+use Rattle.std.specs.Prelude.{slice_get}
+use Rattle.std.proofs.Math.Logic.{∥∥₁_elim, ∥∥₁_map}
+use Rattle.std.proofs.lemmas.Bool.{cases_eq, cases_lt, cases_Bool}
 use Rattle.range_core.specs.declared.Mode.{Mode}
 use Rattle.range_core.specs.declared.Mode.TheVariants.{Read, Write}
 use Rattle.range_core.specs.declared.Span.{Span}
-use Rattle.range_core.specs.Ranges.{Conflict, HeldConflicts}
+use Rattle.range_core.specs.Ranges.{Conflict}
 use Rattle.lock_book.specs.declared.Owner.{Owner}
 use Rattle.lock_book.specs.declared.Owner.TheVariants.{Process, Description}
-use Rattle.lock_book.specs.Conflicts.{ByteModes, Blocks, ProcessBlocks}
-use Rattle.wait_core.specs.declared.Policy.TheVariants.{Held}
+use Rattle.lock_book.specs.declared.book.Book.{Book}
+use Rattle.lock_book.specs.Conflicts.{ByteConflict, FlockConflict}
+use Rattle.lock_book.specs.Decided.{ByteConflictIsDecided, FlockConflictIsDecided, ProcessBlocksIsDecided}
+use Rattle.wait_core.specs.declared.Family.{Family}
+use Rattle.wait_core.specs.declared.Family.TheVariants.{Bytes, Whole}
+use Rattle.wait_core.specs.declared.Policy.{Policy}
+use Rattle.wait_core.specs.declared.Policy.TheVariants.{Held, Queue}
 use Rattle.wait_core.specs.declared.Wait.{Wait}
+use Rattle.wait_core.specs.declared.files.FileSet.{FileSet}
 use Rattle.wait_core.specs.declared.waits.Waits.{Waits}
-use Rattle.wait_core.specs.Locks.{Locks}
+use Rattle.wait_core.specs.Locks.{Locks, byte_modes_at, flock_modes_at, locks_of}
+use Rattle.wait_core.specs.Blocking.{IsBlocked, IsBlockedIn, Meet, WaitsConflict}
 use Rattle.wait_core.specs.Cycles.{WaitsFor}
 use Rattle.wait_core.specs.Pairs.{IsBlockedWait}
+use Rattle.wait_core.specs.Settled.{AllBlockedElsewhere}
 use Rattle.wait_core.specs.WaitsView.{waits_of, has_pair, AreTold}
 use Rattle.wait_core.proofs.AnyLemmas.{Any-nil, Any-here, Any-there, Any-cons}
 use Rattle.wait_core.proofs.PairLemmas.{blocked_wait, waits_by_lock}
@@ -33,64 +43,6 @@ conflict_or_not Read Write = inl tt
 conflict_or_not Write Read = inl tt
 conflict_or_not Write Write = inl tt
 
-held_or_not : (held : Option Mode) (wanted : Mode) → HeldConflicts held wanted ⊎ ¬ HeldConflicts held wanted
-held_or_not None wanted = inr (λ conflict. conflict)
-held_or_not (Some held) wanted = conflict_or_not held wanted
-
--- whether another owner's lock on a byte stands in the way
-blocks_or_not : (modes : ByteModes) (owner : Owner) (wanted : Mode) (byte : ℕ) (other : Owner) → Blocks modes owner wanted byte other ⊎ ¬ Blocks modes owner wanted byte other
-blocks_or_not modes owner wanted byte other = elim (same_or_other other owner) [
-  | inl same ↦ inr (λ blocks. blocks.another same)
-  | inr another ↦ elim (held_or_not (modes other byte) wanted) [
-    | inl conflicts ↦ inl (record { another = another; conflicts = conflicts })
-    | inr none ↦ inr (λ blocks. none blocks.conflicts)
-  ]
-]
-
--- a number of which something holds, among so many from the first on
-record Among (P : ℕ → Type 0) (first count : ℕ) : Type 0 where
-  number : ℕ
-  from : first ≤ number
-  below : number < first + count
-  holds : P number
-
-one_more : (P : ℕ → Type 0) (first count : ℕ) → P (first + count) ⊎ ¬ P (first + count) → ¬ Among P first count → Among P first (suc count) ⊎ ¬ Among P first (suc count)
-one_more P first count (inl last) none = inl (record { number = first + count; from = omega arith; below = omega arith; holds = last })
-one_more P first count (inr not_last) none = inr (λ among. elim (cases_eq among.number (first + count)) [
-  | inl same ↦ not_last (subst P same among.holds)
-  | inr differs ↦ none (record {
-    number = among.number;
-    from = among.from;
-    below = (let h = among.below in omega arith);
-    holds = among.holds;
-  })
-])
-
-among_or_not : (P : ℕ → Type 0) → ((n : ℕ) → P n ⊎ ¬ P n) → (first count : ℕ) → Among P first count ⊎ ¬ Among P first count
-among_or_not P each first zero = inr (λ among. (let h = among.below in let k = among.from in absurd (omega arith)))
-among_or_not P each first (suc count) = elim (among_or_not P each first count) [
-  | inl among ↦ inl (record { number = among.number; from = among.from; below = (let h = among.below in omega arith); holds = among.holds })
-  | inr none ↦ one_more P first count (each (first + count)) none
-]
-
--- whether a process blocks, by a search of the bytes of the range
-process_blocks_or_not : (modes : ByteModes) (q : ℕ) (owner : Owner) (span : Span) (wanted : Mode) → ProcessBlocks modes q owner span wanted ⊎ ¬ ProcessBlocks modes q owner span wanted
-process_blocks_or_not modes q owner span wanted =
-    elim (among_or_not (λ byte. Blocks modes owner wanted byte (Process q)) (λ byte. blocks_or_not modes owner wanted byte (Process q))
-    span.first (suc span.last - span.first)) [
-      | inl among ↦ inl (record {
-        byte = among.number;
-        covered = (among.from, (let h = among.below in let k = among.from in omega arith));
-        blocks = among.holds;
-      })
-      | inr none ↦ inr (λ blocks. none (record {
-        number = blocks.byte;
-        from = blocks.covered.0;
-        below = (let h = blocks.covered.0 in let k = blocks.covered.1 in omega arith);
-        holds = blocks.blocks;
-      }))
-    ]
-
 -- whether something holds of some wait
 any_or_not : (P : Wait → Type 0) → ((wait : Wait) → P wait ⊎ ¬ P wait) → (waits : List Wait) → Any P waits ⊎ ¬ Any P waits
 any_or_not P each [] = inr (Any-nil P)
@@ -102,12 +54,12 @@ any_or_not P each (wait ∷ waits) = elim (each wait) [
   ]
 ]
 
-blocked_wait_or_not : (locks : Locks) (p q : ℕ) (wait : Wait) → IsBlockedWait locks p q wait ⊎ ¬ IsBlockedWait locks p q wait
-blocked_wait_or_not locks p q wait = elim (cases_eq wait.p p) [
+blocked_wait_or_not : ProcessBlocksIsDecided → (locks : Locks) (p q : ℕ) (wait : Wait) → IsBlockedWait locks p q wait ⊎ ¬ IsBlockedWait locks p q wait
+blocked_wait_or_not processes locks p q wait = elim (cases_eq wait.p p) [
   | inr differs ↦ inr (λ is. differs is.of_p)
   | inl of_p ↦ elim (same_or_other wait.owner (Process wait.p)) [
     | inr differs ↦ inr (λ is. differs is.traditional)
-    | inl own ↦ elim (process_blocks_or_not (locks.bytes wait.file) q wait.owner wait.span wait.mode) [
+    | inl own ↦ elim (processes (locks.bytes wait.file) q wait.owner wait.span wait.mode) [
       | inl blocked ↦ inl (record { of_p = of_p; traditional = own; blocked = blocked })
       | inr none ↦ inr (λ is. none is.blocked)
     ]
@@ -115,16 +67,16 @@ blocked_wait_or_not locks p q wait = elim (cases_eq wait.p p) [
 ]
 
 -- whether a process waits for another by a lock
-pub waits_or_not : (locks : Locks) (waits : List Wait) (p q : ℕ) → WaitsFor Held locks waits p q ⊎ ¬ WaitsFor Held locks waits p q
-waits_or_not locks waits p q = elim (any_or_not (IsBlockedWait locks p q) (blocked_wait_or_not locks p q) waits) [
+pub waits_or_not : ProcessBlocksIsDecided → (locks : Locks) (waits : List Wait) (p q : ℕ) → WaitsFor Held locks waits p q ⊎ ¬ WaitsFor Held locks waits p q
+waits_or_not processes locks waits p q = elim (any_or_not (IsBlockedWait locks p q) (blocked_wait_or_not processes locks p q) waits) [
   | inl any ↦ inl (waits_by_lock locks waits p q any)
   | inr none ↦ inr (λ for. none (blocked_wait locks waits p q for))
 ]
 
 -- so a table that is known to tell the pairs tells them
-pub told_known : (waits : Waits) (locks : Locks) → ∥ AreTold waits locks ∥₁ → AreTold waits locks
-told_known waits locks known = record {
-  pairs = λ p q p_few q_one q_few. elim (waits_or_not locks (waits_of waits) p q) [
+pub told_known : ProcessBlocksIsDecided → (waits : Waits) (locks : Locks) → ∥ AreTold waits locks ∥₁ → AreTold waits locks
+told_known processes waits locks known = record {
+  pairs = λ p q p_few q_one q_few. elim (waits_or_not processes locks (waits_of waits) p q) [
     | inl for ↦ (
       λ has. for,
       λ again. elim (cases_Bool (has_pair waits p q)) [
@@ -138,3 +90,81 @@ told_known waits locks known = record {
     )
   ];
 }
+
+-- whether the locks of a book, if there is one, block a lock
+bytes_or_not : ByteConflictIsDecided → (book : Option Book) (owner : Owner) (span : Span) (wanted : Mode)
+    → ByteConflict (byte_modes_at book) owner span wanted ⊎ ¬ ByteConflict (byte_modes_at book) owner span wanted
+bytes_or_not bytes None owner span wanted = inr (λ conflict. conflict.blocks.conflicts)
+bytes_or_not bytes (Some book) owner span wanted = bytes book owner span wanted
+
+flocks_or_not : FlockConflictIsDecided → (book : Option Book) (owner : Owner) (wanted : Mode)
+    → FlockConflict (flock_modes_at book) owner wanted ⊎ ¬ FlockConflict (flock_modes_at book) owner wanted
+flocks_or_not flocks None owner wanted = inr (λ conflict. conflict.conflicts)
+flocks_or_not flocks (Some book) owner wanted = flocks book owner wanted
+
+blocked_in_or_not : ByteConflictIsDecided → FlockConflictIsDecided → (books : List Book) (family : Family) (wait : Wait)
+    → IsBlockedIn family (locks_of books) wait ⊎ ¬ IsBlockedIn family (locks_of books) wait
+blocked_in_or_not bytes flocks books Bytes wait = bytes_or_not bytes (slice_get books wait.file) wait.owner wait.span wait.mode
+blocked_in_or_not bytes flocks books Whole wait = flocks_or_not flocks (slice_get books wait.file) wait.owner wait.mode
+
+-- whether two ranges meet
+meet_or_not : (family : Family) (one other : Span) → Meet family one other ⊎ ¬ Meet family one other
+meet_or_not Whole one other = inl tt
+meet_or_not Bytes one other = elim (cases_lt other.last one.first) [
+  | inl past ↦ inr (λ meet. (let h = meet.0 in omega arith))
+  | inr begins ↦ elim (cases_lt one.last other.first) [
+    | inl before ↦ inr (λ meet. (let h = meet.1 in omega arith))
+    | inr ends ↦ inl (begins, ends)
+  ]
+]
+
+same_family_or_not : (one other : Family) → (one ≡ other) ⊎ (one ≢ other)
+same_family_or_not Bytes Bytes = inl refl
+same_family_or_not Bytes Whole = inr (λ e. cc)
+same_family_or_not Whole Bytes = inr (λ e. cc)
+same_family_or_not Whole Whole = inl refl
+
+-- whether two waits conflict
+waits_conflict_or_not : (v w : Wait) → WaitsConflict v w ⊎ ¬ WaitsConflict v w
+waits_conflict_or_not v w = elim (cases_eq v.file w.file) [
+  | inr differs ↦ inr (λ conflict. differs conflict.file)
+  | inl file ↦ elim (same_family_or_not v.family w.family) [
+    | inr differs ↦ inr (λ conflict. differs conflict.family)
+    | inl family ↦ elim (same_or_other v.owner w.owner) [
+      | inl same ↦ inr (λ conflict. conflict.owners same)
+      | inr owners ↦ elim (conflict_or_not v.mode w.mode) [
+        | inr none ↦ inr (λ conflict. none conflict.modes)
+        | inl modes ↦ elim (meet_or_not w.family v.span w.span) [
+          | inr apart ↦ inr (λ conflict. apart conflict.ranges)
+          | inl ranges ↦ inl (record { file = file; family = family; owners = owners; modes = modes; ranges = ranges })
+        ]
+      ]
+    ]
+  ]
+]
+
+-- whether a wait is blocked
+blocked_or_not : ByteConflictIsDecided → FlockConflictIsDecided → (policy : Policy) (books : List Book) (earlier : List Wait) (wait : Wait)
+    → IsBlocked policy (locks_of books) earlier wait ⊎ ¬ IsBlocked policy (locks_of books) earlier wait
+blocked_or_not bytes flocks Held books earlier wait = blocked_in_or_not bytes flocks books wait.family wait
+blocked_or_not bytes flocks Queue books earlier wait = elim (blocked_in_or_not bytes flocks books wait.family wait) [
+  | inl by_lock ↦ inl (inl by_lock)
+  | inr no_lock ↦ elim (any_or_not (λ v. WaitsConflict v wait) (λ v. waits_conflict_or_not v wait) earlier) [
+    | inl by_wait ↦ inl (inr by_wait)
+    | inr no_wait ↦ inr (λ blocked. elim blocked [ inl by_lock ↦ no_lock by_lock | inr by_wait ↦ no_wait by_wait ])
+  ]
+]
+
+-- what is decided holds where it is only known that it holds
+known : {P : Type 0} → P ⊎ ¬ P → ∥ P ∥₁ → P
+known (inl holds) merely = holds
+known (inr not) merely = absurd (∥∥₁_elim merely (λ x y. absurd x) not)
+
+-- so waits that are known to be blocked are
+pub blocked_known : ByteConflictIsDecided → FlockConflictIsDecided → (files : FileSet) (policy : Policy) (books : List Book) (earlier waits : List Wait)
+    → ∥ AllBlockedElsewhere files policy (locks_of books) earlier waits ∥₁ → AllBlockedElsewhere files policy (locks_of books) earlier waits
+blocked_known bytes flocks files policy books earlier [] merely = tt
+blocked_known bytes flocks files policy books earlier (wait ∷ waits) merely = (
+  λ elsewhere. known (blocked_or_not bytes flocks policy books earlier wait) (∥∥₁_map merely (λ all. all.0 elsewhere)),
+  blocked_known bytes flocks files policy books (earlier ++ wait ∷ []) waits (∥∥₁_map merely (λ all. all.1)),
+)

@@ -6,3 +6,4 @@ pub mod ListLemmas
 pub mod PairLemmas
 pub mod ProcessLemmas
 pub mod ReachLemmas
+pub mod SettledLemmas

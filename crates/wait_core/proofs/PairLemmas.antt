@@ -1,6 +1,6 @@
 -- What the table of pairs tells, and what a change of the list or of the locks leaves of it.
-use Rattle.std.proofs.Common.{ℕ, ◌≡◌, ◌≢◌, ◌+◌, ◌<◌, ◌≤◌, ◌↔◌, ◌∙◌, ◌⊎◌, inl, inr, sym, ap, subst, arith, Bool, true, false, not, Some, suc, List, [], ◌∷◌, ◌++◌, All, Any, length, get_or, set, get_or-set_same, replicate, take, drop}
-use Rattle.std.specs.Prelude.{IsTrue, ◌==◌, ◌||◌, slice_get}
+use Rattle.std.proofs.Common.{ℕ, ◌≡◌, ◌≢◌, ◌+◌, ◌<◌, ◌≤◌, ◌↔◌, ◌∙◌, ◌⊎◌, inl, inr, sym, ap, subst, arith, Bool, true, not, Some, suc, List, [], ◌∷◌, ◌++◌, All, Any, length, get_or, set, get_or-set_same, replicate, take, drop}
+use Rattle.std.specs.Prelude.{IsTrue, ◌==◌, ◌||◌}
 use Rattle.std.specs.List.{AllPairs}
 use Rattle.std.proofs.lemmas.Bool.{cases_eq, cases_lt, or_left}
 use Rattle.std.proofs.lemmas.Bool.Decides.{nat_tests}
@@ -23,7 +23,7 @@ use Rattle.wait_core.specs.Pairs.{IsBehind, IsBlockedWait, IsElsewhere, WaitsBeh
 use Rattle.wait_core.specs.PairsView.{pair_in, TellsWait}
 use Rattle.wait_core.specs.Processes.{is_member, no_process}
 use Rattle.wait_core.specs.WaitsView.{waits_of, has_pair, without_wait_of, AreTold, AgreeBut}
-use Rattle.wait_core.proofs.AnyLemmas.{Any-nil, Any-here, Any-there, Any-cons, Any-append, Any-append_left, Any-append_right, Any-alone, Any-weaker, Any-filter, Any-unfilter, split_at, split_within, split_is, split_take}
+use Rattle.wait_core.proofs.AnyLemmas.{Any-here, Any-there, Any-append, Any-append_left, Any-append_right, Any-alone, Any-weaker, Any-filter, Any-unfilter, split_at, split_within, split_is, split_take}
 use Rattle.wait_core.proofs.ProcessLemmas.{none_in, or_cases, or_right}
 
 -- p waits for q by a lock where the list has a wait of p that a lock of q blocks

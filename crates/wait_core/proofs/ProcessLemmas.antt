@@ -1,11 +1,11 @@
 -- Sets of processes, by their bits.
-use Rattle.std.proofs.Common.{ℕ, ◌≡◌, ◌≢◌, ◌<◌, ◌≤◌, ◌+◌, ◌-◌, ◌*◌, ◌/◌, ◌%◌, ◌^◌, ◌↔◌, ◌∙◌, ◌⊎◌, inl, inr, sym, ap, subst, refl, arith, Bool, true, false, zero, suc, w64}
+use Rattle.std.proofs.Common.{ℕ, ◌≡◌, ◌<◌, ◌≤◌, ◌*◌, ◌%◌, ◌^◌, ◌∙◌, ◌⊎◌, inl, inr, sym, ap, subst, refl, arith, Bool, true, false, zero, suc, w64}
 use Rattle.std.specs.Prelude.{◌==◌, ◌||◌, IsTrue, IsFalse, bit_and, bit_or}
 use Rattle.std.specs.Int.{bit_at, bit_not}
 use Rattle.std.proofs.lemmas.Bool.{cases_eq, eqb-true, eq-eqb}
 use Rattle.std.proofs.lemmas.Bool.Decides.{nat_tests}
 use Rattle.std.proofs.lemmas.Nat.{le_or_l}
-use Rattle.std.proofs.lemmas.Nat.Bits.{bit_at-lt, bit_at-zero, bit_at_and, bit_at_or, bit_at_not, bit_at_set_same, bit_at_set_other, shr_and_one}
+use Rattle.std.proofs.lemmas.Nat.Bits.{bit_at-lt, bit_at-zero, bit_at_and, bit_at_or, bit_at_not, bit_at_ones, bit_at_set_same, bit_at_set_other}
 use Rattle.wait_core.specs.declared.processes.ProcessSet.{ProcessSet}
 use Rattle.wait_core.specs.Processes.{no_process, is_member, lacking, IsBeyond, IsWithin}
 
@@ -14,6 +14,16 @@ pub none_in : (q : ℕ) → is_member no_process q ≡ false
 unfolding is_member
 none_in zero = refl
 none_in (suc k) = let bit = bit_at-zero k in rw bit refl
+
+-- the set of all bits has each process
+pub all_in : (p : ℕ) → 1 ≤ p → p ≤ 64 → IsTrue (is_member (record { bits = 18446744073709551615 }) p)
+unfolding is_member
+all_in zero from_one few = absurd (omega (arith, from_one))
+all_in (suc k) from_one few = eq-eqb _ _ (bit_at_ones 64 k (omega (arith, few)))
+
+-- a word is one set
+pub same_word : (one other : ProcessSet) → one.bits ≡ other.bits → one ≡ other
+same_word one other same = ap (λ (n : ℕ). record { bits = n }) same
 
 -- the members after one more bit is set
 pub member_inserted : (old new : ProcessSet) (p k : ℕ) → suc k ≡ p → k < 64 → new.bits ≡ bit_or old.bits (1 * 2 ^ k % 2 ^ 64) → (q : ℕ) → is_member new q ≡ (q == p || is_member old q)

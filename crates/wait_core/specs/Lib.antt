@@ -1,8 +1,10 @@
 pub mod Locks
 pub mod Blocking
+pub mod Settled
 pub mod Cycles
 pub mod WellFormed
 pub mod Processes
+pub mod Files
 pub mod Pairs
 pub mod PairsView
 pub mod WaitsView

@@ -2,6 +2,7 @@
 #![tactic(auto)]
 
 mod conflicts;
+mod files;
 mod laws;
 mod pairs;
 mod processes;

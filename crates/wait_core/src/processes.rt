@@ -19,6 +19,13 @@ impl ProcessSet {
         ProcessSet { bits: 0 }
     }
 
+    /// Each process.
+    pub fn all() -> ProcessSet
+        ensures { (p : ℕ) → 1 ≤ p → p ≤ PROCESSES → IsTrue (is_member result p) }
+    {
+        ProcessSet { bits: u64::MAX }
+    }
+
     /// Whether the process is in the set.
     pub fn has(self, p: u8) -> bool
         requires from_one { 1 ≤ p }

@@ -5,6 +5,9 @@ ghost use Rattle.wait_core.specs.Cycles.{IsTraditional};
 ghost use Rattle.wait_core.specs.WellFormed.{IsWellFormed};
 ghost use Rattle.wait_core.specs.WaitsView.{processes_of, AreTold};
 
+mod listed;
+mod sequences;
+
 use crate::{Family, Policy, Wait, Waits};
 use lock_book::{Book, Owner};
 use range_core::{Mode, OFFMAX, Span};

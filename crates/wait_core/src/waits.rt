@@ -1,23 +1,29 @@
 ghost use Rattle.std.specs.Prelude.{ℕ, ◌≡◌, ◌≢◌, ◌<◌, ◌≤◌, ◌↔◌, List, [], ◌∷◌, ◌++◌, length, vec_capacity, IfOk, IfSome, IfNone, IsTrue, All, AllPairs, slice_get, None, Some, take};
+ghost use Rattle.wait_core.specs.declared.files.TheConstants.{FILES};
 ghost use Rattle.wait_core.specs.declared.processes.TheConstants.{PROCESSES};
 ghost use Rattle.wait_core.specs.WellFormed.{IsWellFormed};
 
 mod cycles;
 
+use crate::files::{FILES, FileSet};
 use crate::pairs::Pairs;
 use crate::{Policy, Wait};
-use lock_book::Book;
+use lock_book::{Book, conflicts_are_decided};
 use range_core::Memory;
 use std::alloc::Global;
 
 /// The pending requests, in order of arrival, one at most of a process; and which process waits for which by a lock, as
 /// [`Waits::join`], [`Waits::leave`] and [`Waits::refresh`] were last told.
 ///
+/// They also know on which files something has changed since [`Waits::forget_changes`]: a wait that joined or left, or what
+/// [`Waits::touch`] and [`Waits::refresh`] were told. Where each wait was blocked then, a wait on another file is blocked still.
+///
 /// Only [`Waits::new`] takes memory.
 #[derive(Drop)]
 pub struct Waits {
     waits: Vec<Wait>,
     pairs: Pairs,
+    changed: FileSet,
     policy: Policy,
     processes: u8,
     ghost few: { processes ≤ PROCESSES },
@@ -26,10 +32,11 @@ pub struct Waits {
     ghost apart: { AllPairs (λ v w. v.p ≢ w.p) waits.items },
 }
 
-#[tactic(auto, unfolding(crate::specs::WaitsView::waits_of, crate::specs::WaitsView::policy_of, crate::specs::WaitsView::processes_of, crate::specs::WaitsView::has_pair))]
+#[tactic(auto, unfolding(crate::specs::WaitsView::waits_of, crate::specs::WaitsView::policy_of, crate::specs::WaitsView::processes_of, crate::specs::WaitsView::has_pair, crate::specs::Settled::changed_files))]
 impl Waits {
     ghost use Rattle.wait_core.specs.Locks.{Locks, locks_of};
     ghost use Rattle.wait_core.specs.Blocking.{AllBlocked, IsBlocked, IsNextReady, IsQueued};
+    ghost use Rattle.wait_core.specs.Settled.{AllBlockedElsewhere, AreBlockedElsewhere, AgreeElsewhere};
     ghost use Rattle.wait_core.specs.WaitsView.{waits_of, policy_of, processes_of, wait_of, without_wait_of, AreTold, AgreeBut};
 
     /// No wait, with room for one of each process. The processes are numbered from 1, and at most 64 of them (this
@@ -40,6 +47,7 @@ impl Waits {
         ensures policy { IfOk result (λ waits. policy_of waits ≡ policy) }
         ensures processes { IfOk result (λ waits. processes_of waits ≡ processes) }
         ensures told { IfOk result (λ waits. (locks : Locks) → AreTold waits locks) }
+        ensures blocked { IfOk result (λ waits. (locks : Locks) → AreBlockedElsewhere waits locks) }
     {
         let Ok(waits) = Vec::with_capacity(alloc, usize::from(processes)) else {
             return Err(Memory);
@@ -47,6 +55,7 @@ impl Waits {
         Ok(Waits {
             waits,
             pairs: Pairs::new(alloc)?,
+            changed: FileSet::empty(),
             policy,
             processes,
         })
@@ -62,9 +71,11 @@ impl Waits {
         ensures policy { policy_of self.new ≡ policy_of self.old }
         ensures processes { processes_of self.new ≡ processes_of self.old }
         ensures told { AreTold self.old (locks_of books.now) → AreTold self.new (locks_of books.now) }
+        ensures blocked { (locks : Locks) → AreBlockedElsewhere self.old locks → AreBlockedElsewhere self.new locks }
     {
         self.waits.push_reserved(wait);
         self.pairs.tell(&wait, books);
+        self.changed = self.changed.with(wait.file);
     }
 
     /// Takes the wait of the process out of the list, where it has one.
@@ -75,8 +86,10 @@ impl Waits {
         ensures policy { policy_of self.new ≡ policy_of self.old }
         ensures processes { processes_of self.new ≡ processes_of self.old }
         ensures told { (locks : Locks) → AreTold self.old locks → AreTold self.new locks }
+        ensures blocked { (locks : Locks) → AreBlockedElsewhere self.old locks → AreBlockedElsewhere self.new locks }
     {
         let wait = self.of(p);
+        self.changed = self.changed.with_file_of(wait);
         self.waits.retain(|wait| wait.p != p);
         self.pairs.forget(p);
         wait
@@ -89,8 +102,34 @@ impl Waits {
         ensures policy { policy_of self.new ≡ policy_of self.old }
         ensures processes { processes_of self.new ≡ processes_of self.old }
         ensures told { (locks : Locks) → AreTold self.old locks → AgreeBut file locks (locks_of books.now) → AreTold self.new (locks_of books.now) }
+        ensures blocked { file < FILES → (locks : Locks) → AreBlockedElsewhere self.old locks → AgreeElsewhere file locks (locks_of books.now) → AreBlockedElsewhere self.new (locks_of books.now) }
     {
         self.pairs.tell_of_file(file, &self.waits, books);
+        self.touch(file);
+    }
+
+    /// The file counts as changed, as after a change of its flock locks, of which the pairs say nothing.
+    pub fn touch(&mut self, file: u8)
+        ensures waits { waits_of self.new ≡ waits_of self.old }
+        ensures policy { policy_of self.new ≡ policy_of self.old }
+        ensures processes { processes_of self.new ≡ processes_of self.old }
+        ensures told { (locks : Locks) → AreTold self.old locks → AreTold self.new locks }
+        ensures blocked { file < FILES → (old new : Locks) → AreBlockedElsewhere self.old old → AgreeElsewhere file old new → AreBlockedElsewhere self.new new }
+    {
+        if file < FILES {
+            self.changed = self.changed.with(file);
+        }
+    }
+
+    /// No file counts as changed: each wait is known to be blocked.
+    pub fn forget_changes(&mut self)
+        ensures waits { waits_of self.new ≡ waits_of self.old }
+        ensures policy { policy_of self.new ≡ policy_of self.old }
+        ensures processes { processes_of self.new ≡ processes_of self.old }
+        ensures told { (locks : Locks) → AreTold self.old locks → AreTold self.new locks }
+        ensures blocked { (locks : Locks) → AllBlocked (policy_of self.old) locks [] (waits_of self.old) → AreBlockedElsewhere self.new locks }
+    {
+        self.changed = FileSet::empty();
     }
 
     /// The earliest wait that nothing blocks, which stays in the list; `None` where each wait is blocked (POSIX leaves open
@@ -103,8 +142,38 @@ impl Waits {
         ensures well_formed { IfSome result (IsWellFormed (processes_of self.now)) }
         ensures settled { IfNone result (AllBlocked (policy_of self.now) (locks_of books.now) [] (waits_of self.now)) }
     {
+        self.next_ready_on(FileSet::all(), books)
+    }
+
+    /// The same, where each wait on a file that doesn't count as changed is known to be blocked: it looks at no other wait, and at
+    /// none where no file counts as changed.
+    pub fn next_ready_on_changed(&self, books: &[Book]) -> Option<Wait>
+        requires books { length books.now ≡ 64 }
+        requires blocked { ∥ AreBlockedElsewhere self.now (locks_of books.now) ∥₁ }
+        ensures ready { IfSome result (IsNextReady (policy_of self.now) (locks_of books.now) (waits_of self.now)) }
+        ensures found { IfSome result (λ wait. wait_of (waits_of self.now) wait.p ≡ Some wait) }
+        ensures well_formed { IfSome result (IsWellFormed (processes_of self.now)) }
+        ensures settled { IfNone result (AllBlocked (policy_of self.now) (locks_of books.now) [] (waits_of self.now)) }
+    {
+        // A law, and nothing to run.
+        conflicts_are_decided();
+        if self.changed.is_empty() {
+            return None;
+        }
+        self.next_ready_on(self.changed, books)
+    }
+
+    /// The same, where each wait on another file than these is known to be blocked.
+    fn next_ready_on(&self, files: FileSet, books: &[Book]) -> Option<Wait>
+        requires books { length books.now ≡ 64 }
+        requires elsewhere { ∥ AllBlockedElsewhere files (policy_of self.now) (locks_of books.now) [] (waits_of self.now) ∥₁ }
+        ensures ready { IfSome result (IsNextReady (policy_of self.now) (locks_of books.now) (waits_of self.now)) }
+        ensures found { IfSome result (λ wait. wait_of (waits_of self.now) wait.p ≡ Some wait) }
+        ensures well_formed { IfSome result (IsWellFormed (processes_of self.now)) }
+        ensures settled { IfNone result (AllBlocked (policy_of self.now) (locks_of books.now) [] (waits_of self.now)) }
+    {
         for i in 0..self.waits.len() {
-            if !self.is_blocked(i, books) {
+            if !self.is_blocked_on(i, files, books) {
                 return Some(self.waits[i]);
             }
         }
@@ -143,6 +212,18 @@ impl Waits {
         ensures few { (p : ℕ) → 1 ≤ p → p ≤ processes_of self.now → wait_of (waits_of self.now) p ≡ None → length (waits_of self.now) < processes_of self.now }
     {
         &self.waits
+    }
+
+    /// Whether the wait at this place is blocked, which it is known to be on another file than these.
+    fn is_blocked_on(&self, i: usize, files: FileSet, books: &[Book]) -> bool
+        requires place { i < length (waits_of self.now) }
+        requires books { length books.now ≡ 64 }
+        requires elsewhere { ∥ AllBlockedElsewhere files (policy_of self.now) (locks_of books.now) [] (waits_of self.now) ∥₁ }
+        ensures { (wait : Wait) → slice_get (waits_of self.now) i ≡ Some wait → IsTrue result ↔ IsBlocked (policy_of self.now) (locks_of books.now) (take i (waits_of self.now)) wait }
+    {
+        // A law, and nothing to run.
+        conflicts_are_decided();
+        !files.has(self.waits[i].file) || self.is_blocked(i, books)
     }
 
     /// Whether the wait at this place is blocked.

@@ -164,7 +164,7 @@ impl Machine {
     }
 
     /// The description has this flock mode from now on, in the place that is kept, or none. It takes no memory. No process
-    /// waits for another by a flock lock, so the waits needn't be told.
+    /// waits for another by a flock lock, so the waits are told no more than that the file has changed.
     pub(super) fn change_flock(&mut self, file: u8, description: u64, mode: Option<Mode>)
         requires file { file < FILES }
         requires owner { MayLock self.old.tables file (Owner.Description description) }
@@ -180,6 +180,7 @@ impl Machine {
         // A law, and nothing to run.
         stay_free_of_cycles();
         self.books[usize::from(file)].flock_set_reserved(description, mode);
+        self.waits.touch(file);
     }
 }
 

@@ -33,16 +33,31 @@ impl Machine {
             self.grant(wait);
             notes.push_reserved(answered(wait.p, wait.n, Reply::Ok));
         }
+        self.rest();
     }
 
-    /// The earliest wait that nothing blocks, and `None` where each is blocked.
+    /// Each wait is blocked, so no file counts as changed from now on.
+    fn rest(&mut self)
+        requires { AllBlocked (machine_rules self.old).policy (machine_locks self.old) [] (machine_waits self.old) }
+        ensures shows { (S : State) → Shows self.old S → Shows self.new S }
+        ensures settled { AllBlocked (machine_rules self.new).policy (machine_locks self.new) [] (machine_waits self.new) }
+        ensures waits { machine_waits self.new ≡ machine_waits self.old }
+        ensures books { self.new.books ≡ self.old.books }
+        ensures states { self.new.states ≡ self.old.states }
+        ensures tables { self.new.tables ≡ self.old.tables }
+        ensures same_rules { SameRules self.old self.new }
+    {
+        self.waits.forget_changes();
+    }
+
+    /// The earliest wait that nothing blocks, and `None` where each is blocked. It looks at the waits on changed files alone.
     fn next_ready(&self) -> Option<Wait>
         ensures ready { IfSome result (IsNextReady (machine_rules self.now).policy (machine_locks self.now) (machine_waits self.now)) }
         ensures found { IfSome result (λ wait. wait_of (machine_waits self.now) wait.p ≡ Some wait) }
         ensures well_formed { IfSome result (IsWellFormed (machine_processes self.now)) }
         ensures settled { IfNone result (AllBlocked (machine_rules self.now).policy (machine_locks self.now) [] (machine_waits self.now)) }
     {
-        self.waits.next_ready(&self.books)
+        self.waits.next_ready_on_changed(&self.books)
     }
 
     /// The wait leaves the list, its process lives and has the lock. It takes no memory (POSIX.1-2017 fcntl, `F_SETLKW`;

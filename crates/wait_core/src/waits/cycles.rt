@@ -9,7 +9,7 @@ ghost use Rattle.wait_core.specs.WaitsView.{waits_of, policy_of, processes_of, A
 use super::Waits;
 use crate::processes::{PROCESSES, ProcessSet};
 use crate::{Policy, Wait};
-use lock_book::Book;
+use lock_book::{Book, conflicts_are_decided};
 
 #[tactic(auto, unfolding(crate::specs::WaitsView::waits_of, crate::specs::WaitsView::policy_of, crate::specs::WaitsView::processes_of, crate::specs::WaitsView::has_pair))]
 impl Waits {
@@ -25,6 +25,8 @@ impl Waits {
         requires told { ∥ AreTold self.now (locks_of books.now) ∥₁ }
         ensures { IsTrue result ↔ ClosesCycle (policy_of self.now) (locks_of books.now) (waits_of self.now) wait.now }
     {
+        // A law, and nothing to run.
+        conflicts_are_decided();
         let mut reached = self.blockers(wait, books);
         let mut followed = ProcessSet::empty();
         while let Some(next) = reached.first_beyond(followed) {

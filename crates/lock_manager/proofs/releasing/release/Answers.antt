@@ -1,13 +1,15 @@
 use Rattle.std.proofs.Common.{◌≡◌, ◌<◌, ◌∙◌, length, get_or, take, sym, ap, subst, arith, refl}
 use Rattle.std.proofs.lemmas.List.{take_all}
 use Rattle.std.specs.Prelude.{slice_set}
-use Rattle.wait_core.specs.Locks.{locks_of}
+use Rattle.wait_core.specs.Locks.{Locks, locks_of}
 use Rattle.wait_core.specs.Cycles.{IsFreeOfCycles}
 use Rattle.wait_core.specs.WaitsView.{waits_of, AreTold, AgreeBut}
 use Rattle.lock_manager.specs.LockReleases.{ReleasesLocks}
 use Rattle.lock_manager.proofs.BookLemmas.{book_at}
 use Rattle.lock_manager.proofs.ReleaseLemmas.{released_file, released_room}
-use Rattle.lock_manager.proofs.WaitLemmas.{agree_but}
+use Rattle.lock_manager.proofs.KeptLemmas.{stays_known}
+use Rattle.lock_manager.proofs.WaitLemmas.{agree_elsewhere}
+use Rattle.wait_core.specs.Settled.{AreBlockedElsewhere, AgreeElsewhere}
 use Rattle.lock_manager.proofs.WaitCloseLemmas.{free_released}
 use Rattle.lock_manager.proofs.releasing.release.Goals as goal
 
@@ -31,11 +33,11 @@ loop-file-preserved c =
         policy = c.refresh.ensures.policy ∙ before.3.policy;
         processes = c.refresh.ensures.processes ∙ before.3.processes;
       },
-      λ told.
-          subst (λ bs. AreTold c.refresh.new.self (locks_of bs)) c.deref.ensures.value
-          (c.refresh.ensures.told (locks_of books) (before.4 told)
-          (subst (λ bs. AgreeBut (get_or c.files-file-items.result.now i 0) (locks_of books) (locks_of bs)) (sym c.deref.ensures.value)
-          (subst (λ f. AgreeBut f (locks_of books) (locks_of (slice_set books file c.release_in.new.book))) c.from.ensures (agree_but books file c.release_in.new.book)))),
+      (let now = stays_known c.loop-file.waits c.refresh.new.self books (slice_set books file c.release_in.new.book) c.deref.result.now file c.deref.ensures.value (omega arith)
+          (subst (λ f. (locks : Locks) → AreTold c.loop-file.waits locks → AgreeBut f locks (locks_of c.deref.result.now) → AreTold c.refresh.new.self (locks_of c.deref.result.now)) (sym c.from.ensures) c.refresh.ensures.told)
+          (subst (λ f. f < 64 → (locks : Locks) → AreBlockedElsewhere c.loop-file.waits locks → AgreeElsewhere f locks (locks_of c.deref.result.now) → AreBlockedElsewhere c.refresh.new.self (locks_of c.deref.result.now)) (sym c.from.ensures) c.refresh.ensures.blocked)
+          (agree_elsewhere books file c.release_in.new.book) in
+          record { told = λ was. now.told (before.4.told was); blocked = λ was. now.blocked (before.4.blocked was) }),
     )
 
 pub returns-clause-free : goal.returns-clause-free

@@ -1,8 +1,7 @@
 use Rattle.std.proofs.Common.{◌≡◌, take, vec_len}
 use Rattle.wait_core.specs.Locks.{locks_of}
-use Rattle.wait_core.specs.WaitsView.{AreTold}
 use Rattle.lock_manager.specs.LockReleases.{ReleasesLocks, ReleasesRoom}
-use Rattle.lock_manager.specs.WaitsKept.{SameWaits}
+use Rattle.lock_manager.specs.WaitsKept.{SameWaits, StayKnown}
 use Rattle.lock_manager.proofs.releasing.release.Given as goal
 
 abbrev pub invariant-loop-file : goal.invariant-loop-file
@@ -11,4 +10,4 @@ invariant-loop-file l =
     × ReleasesLocks (locks_of l.fn.books.items) (locks_of l.books.items) l.p (take l.file-index l.released.files) l.descriptions
     × ReleasesRoom l.fn.books.items l.books.items l.p (take l.file-index l.released.files) l.descriptions
     × SameWaits l.fn.waits l.waits
-    × (AreTold l.fn.waits (locks_of l.fn.books.items) → AreTold l.waits (locks_of l.books.items))
+    × StayKnown l.fn.waits l.waits (locks_of l.fn.books.items) (locks_of l.books.items)

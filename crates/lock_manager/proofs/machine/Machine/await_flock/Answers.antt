@@ -50,7 +50,10 @@ invariant_of-self c =
     (subst (λ f. MayWait machine.tables wanted.p f wanted.owner) (sym (ap (λ (w : Wait). w.file) c.requires.asked.is))
     (subst (MayWait machine.tables wanted.p look.file) (sym (ap (λ (w : Wait). w.owner) c.requires.asked.is)) c.requires.asked.may_wait))
     c.requires.asked.live c.join.ensures.last c.join.ensures.policy c.join.ensures.processes
-    (subst (λ bs. AreTold machine.waits (locks_of bs) → AreTold c.join.new.self (locks_of bs)) c.deref.ensures.value c.join.ensures.told) in
+    (record {
+      told = subst (λ bs. AreTold machine.waits (locks_of bs) → AreTold c.join.new.self (locks_of bs)) c.deref.ensures.value c.join.ensures.told;
+      blocked = c.join.ensures.blocked _;
+    }) in
     record {
       files = machine.files;
       numbered = machine.numbered;
@@ -63,6 +66,7 @@ invariant_of-self c =
       policy = kept.policy;
       counted = kept.counted;
       told = kept.told;
+      blocked = kept.blocked;
       apart = kept.apart;
       suspended = subst (All (IsSuspended machine.tables (slice_set states (c.from.result - 1) Waiting))) (sym c.join.ensures.last)
           (suspended_joined machine.tables states list wanted (c.from.result - 1) place inside c.requires.asked.live machine.alive machine.suspended);

@@ -1,11 +1,10 @@
 use Rattle.std.proofs.Common.{◌<◌, sym, ap, subst, refl, length, All, arith}
 use Rattle.std.specs.Prelude.{slice_set}
-use Rattle.wait_core.specs.Locks.{locks_of}
-use Rattle.wait_core.specs.WaitsView.{waits_of, AreTold, AgreeBut}
+use Rattle.wait_core.specs.WaitsView.{waits_of}
 use Rattle.lock_manager.specs.WaitsKept.{IsSuspended}
 use Rattle.lock_manager.specs.MachineView.{machine_locks, machine_state}
 use Rattle.lock_manager.proofs.BookLemmas.{book_at, OnOk-map, OnErr-map}
-use Rattle.lock_manager.proofs.KeptLemmas.{kept_by_change}
+use Rattle.lock_manager.proofs.KeptLemmas.{kept_by_change, stays_known}
 use Rattle.lock_manager.proofs.WaitLemmas.{awaited_in}
 use Rattle.lock_manager.proofs.StandsLemmas.{with_change, without_change}
 use Rattle.lock_manager.proofs.machine.Machine.change.Goals as goal
@@ -23,9 +22,8 @@ invariant_of-self c =
     (book_at books c.from.result c.args.file _ c.from.ensures within c.index_mut.ensures.value)
     c.requires.owner c.requires.span c.requires.live c.requires.free c.set-done.ensures.ok c.set-done.ensures.room c.set-done.ensures.err
     (record { waits = c.refresh.ensures.waits; policy = c.refresh.ensures.policy; processes = c.refresh.ensures.processes })
-    (λ told agree.
-    subst (λ bs. AreTold c.refresh.new.self (locks_of bs)) c.deref.ensures.value
-    (c.refresh.ensures.told (locks_of books) told (subst (λ bs. AgreeBut c.args.file (locks_of books) (locks_of bs)) (sym c.deref.ensures.value) agree))) in
+    (λ agree. stays_known machine.waits c.refresh.new.self books (slice_set books c.from.result c.set-done.new.self) c.deref.result.now c.args.file c.deref.ensures.value c.requires.file
+    c.refresh.ensures.told c.refresh.ensures.blocked agree) in
     record {
       files = machine.files;
       numbered = machine.numbered;
@@ -38,6 +36,7 @@ invariant_of-self c =
       policy = kept.policy;
       counted = kept.counted;
       told = kept.told;
+      blocked = kept.blocked;
       apart = kept.apart;
       suspended = subst (All (IsSuspended machine.tables machine.states.items)) (sym c.refresh.ensures.waits) machine.suspended;
       awaited = awaited_in machine.states.items (waits_of machine.waits) (waits_of c.refresh.new.self) c.refresh.ensures.waits machine.awaited;

@@ -22,7 +22,7 @@ invariant_of-self c =
     let after = c.release.ensures in
     let kept = kept_by_release machine c.close_fd.new.self c.release.new.books.items c.release.new.waits c.args.p released c.requires
     (λ D stands. let given = c.in-Ok.ensures.step D stands in (given.0, close_closes D given.0 c.args.p c.args.fd released given.1, given.2))
-    after.locks after.room after.waits after.told after.free in
+    after.locks after.room after.waits after.known after.free in
     record {
       files = after.count;
       numbered = machine.numbered;
@@ -35,6 +35,7 @@ invariant_of-self c =
       policy = kept.policy;
       counted = kept.counted;
       told = kept.told;
+      blocked = kept.blocked;
       apart = kept.apart;
       suspended = subst (All (IsSuspended c.close_fd.new.self machine.states.items)) (sym after.waits.waits)
           (suspended_after machine.tables c.close_fd.new.self machine.states.items machine.states.items (waits_of machine.waits)
@@ -60,6 +61,7 @@ invariant_of-self-in-Err-1 c =
       policy = machine.policy;
       counted = machine.counted;
       told = machine.told;
+      blocked = machine.blocked;
       apart = machine.apart;
       suspended = suspended_after machine.tables c.close_fd.new.self machine.states.items machine.states.items (waits_of machine.waits)
           (λ q born. c.close_fd.ensures.kept.alive q ∙ born) (λ q born live. live) machine.suspended;

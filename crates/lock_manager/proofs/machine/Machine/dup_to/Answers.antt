@@ -23,7 +23,7 @@ invariant_of-self c =
     let after = c.release.ensures in
     let kept = kept_by_release machine c.dup2.new.self c.release.new.books.items c.release.new.waits c.args.p released c.requires
     (λ D stands. let given = c.in-Ok.ensures.step D stands in (given.0, dup2_closes (limits_of machine.tables) D given.0 c.args.p c.args.fd c.args.to (c.in-Ok.number, released) given.1, given.2))
-    after.locks after.room after.waits after.told after.free in
+    after.locks after.room after.waits after.known after.free in
     record {
       files = after.count;
       numbered = machine.numbered;
@@ -36,6 +36,7 @@ invariant_of-self c =
       policy = kept.policy;
       counted = kept.counted;
       told = kept.told;
+      blocked = kept.blocked;
       apart = kept.apart;
       suspended = subst (All (IsSuspended c.dup2.new.self machine.states.items)) (sym after.waits.waits)
           (suspended_after machine.tables c.dup2.new.self machine.states.items machine.states.items (waits_of machine.waits)
@@ -61,6 +62,7 @@ invariant_of-self-in-Err-1 c =
       policy = machine.policy;
       counted = machine.counted;
       told = machine.told;
+      blocked = machine.blocked;
       apart = machine.apart;
       suspended = suspended_after machine.tables c.dup2.new.self machine.states.items machine.states.items (waits_of machine.waits)
           (λ q born. c.dup2.ensures.kept.alive q ∙ born) (λ q born live. live) machine.suspended;

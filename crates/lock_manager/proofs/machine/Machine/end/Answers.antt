@@ -28,7 +28,7 @@ invariant_of-self c =
     let after_states = slice_set states at Ended in
     let kept = kept_by_release machine tables c.release.new.books.items c.release.new.waits c.args.p released c.requires
     (λ D stands. let given = c.end_process-released.ensures.step D stands in (given.0, end_closes D given.0 c.args.p released given.1, given.2))
-    after.locks after.room after.waits after.told after.free in
+    after.locks after.room after.waits after.known after.free in
     record {
       files = after.count;
       numbered = machine.numbered;
@@ -42,6 +42,7 @@ invariant_of-self c =
       policy = kept.policy;
       counted = kept.counted;
       told = kept.told;
+      blocked = kept.blocked;
       apart = kept.apart;
       suspended = subst (All (IsSuspended tables after_states)) (sym after.waits.waits)
           (suspended_after machine.tables tables states after_states (waits_of machine.waits)

@@ -68,6 +68,7 @@ invariant_of-self-in-Err-1 c =
       policy = machine.policy;
       counted = machine.counted;
       told = machine.told;
+      blocked = machine.blocked;
       apart = machine.apart;
       suspended = suspended_after machine.tables c.fork.new.self machine.states.items machine.states.items (waits_of machine.waits)
           (λ q born. c.in-Err.ensures.same q ∙ born) (λ q born live. live) machine.suspended;

@@ -5,7 +5,7 @@ use Rattle.lock_manager.specs.DescriptionLocks.{MayLock}
 use Rattle.lock_book.specs.Conflicts.{ByteConflict}
 use Rattle.wait_core.specs.Blocking.{IsBlockedIn}
 use Rattle.wait_core.specs.Locks.{locks_of}
-use Rattle.wait_core.specs.WaitsView.{waits_of, AreTold, AgreeBut}
+use Rattle.wait_core.specs.WaitsView.{waits_of}
 use Rattle.lock_manager.specs.State.{with_process}
 use Rattle.lock_manager.specs.ProcessCalls.{without_wait}
 use Rattle.lock_manager.specs.declared.request.ProcState.TheVariants.{Live}
@@ -15,7 +15,7 @@ use Rattle.lock_manager.specs.MachineView.{machine_locks, machine_state, machine
 use Rattle.lock_manager.proofs.BookLemmas.{book_at}
 use Rattle.lock_manager.proofs.GrantLemmas.{room_for_grant, room_granted, may_lock_granted, owner_granted, shows_granted}
 use Rattle.lock_manager.proofs.ProcessCallLemmas.{found_holds}
-use Rattle.lock_manager.proofs.KeptLemmas.{kept_in_room}
+use Rattle.lock_manager.proofs.KeptLemmas.{kept_in_room, stays_known}
 use Rattle.lock_manager.proofs.StandsLemmas.{with_change}
 use Rattle.lock_manager.proofs.WaitLemmas.{awaited_in}
 use Rattle.lock_manager.proofs.machine.Machine.grant_bytes.Goals as goal
@@ -64,9 +64,8 @@ invariant_of-self c =
     (λ k e. subst (λ m. ¬ ByteConflict ((locks_of books).bytes wait.file) wait.owner wait.span m) (same_Some wait.mode k e) free)
     c.set_reserved.ensures.sets room tt
     (record { waits = c.refresh.ensures.waits; policy = c.refresh.ensures.policy; processes = c.refresh.ensures.processes })
-    (λ told agree.
-    subst (λ bs. AreTold c.refresh.new.self (locks_of bs)) c.deref.ensures.value
-    (c.refresh.ensures.told (locks_of books) told (subst (λ bs. AgreeBut wait.file (locks_of books) (locks_of bs)) (sym c.deref.ensures.value) agree))) in
+    (λ agree. stays_known machine.waits c.refresh.new.self books (slice_set books c.from.result c.set_reserved.new.self) c.deref.result.now wait.file c.deref.ensures.value c.requires.grantable.well_formed.file
+    c.refresh.ensures.told c.refresh.ensures.blocked agree) in
     record {
       files = machine.files;
       numbered = machine.numbered;
@@ -79,6 +78,7 @@ invariant_of-self c =
       policy = kept.policy;
       counted = kept.counted;
       told = kept.told;
+      blocked = kept.blocked;
       apart = kept.apart;
       suspended = subst (All (IsSuspended machine.tables machine.states.items)) (sym c.refresh.ensures.waits) machine.suspended;
       awaited = awaited_in machine.states.items (waits_of machine.waits) (waits_of c.refresh.new.self) c.refresh.ensures.waits machine.awaited;

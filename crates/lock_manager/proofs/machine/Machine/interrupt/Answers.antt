@@ -47,6 +47,7 @@ invariant_of-self c =
       policy = left.policy ∙ machine.policy;
       counted = left.processes ∙ machine.counted;
       told = ∥∥₁_map machine.told (left.told (locks_of machine.books.items));
+      blocked = ∥∥₁_map machine.blocked (left.blocked (locks_of machine.books.items));
       apart = subst AreApart (sym left.rest) (AllPairs-filter (λ (v w : Wait). v.p ≢ w.p) kept before machine.apart);
       suspended = subst (All (IsSuspended machine.tables after)) (sym left.rest) (suspended_without machine.tables states before p at Live place within machine.suspended);
       awaited = subst (AreAwaited after) (sym left.rest) (awaited_without states before p at Live place within (λ e. cc) machine.awaited);

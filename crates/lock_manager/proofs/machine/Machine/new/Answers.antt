@@ -25,6 +25,7 @@ invariant_of-result c =
       policy = c.in_ok-waits.ensures.policy;
       counted = c.in_ok-waits.ensures.processes;
       told = ∣ c.in_ok-waits.ensures.told (locks_of c.in_ok-books.books.items) ∣₁;
+      blocked = ∣ c.in_ok-waits.ensures.blocked (locks_of c.in_ok-books.books.items) ∣₁;
       apart = subst AreApart (sym none) (λ i j d before within. absurd (omega (arith, within)));
       suspended = of_no_wait (IsSuspended c.in_ok-tables.tables c.in_ok-states.states.items) (waits_of c.in_ok-waits.waits) none;
       awaited = λ p waiting. absurd (none_waits c.in_ok-states.states.items c.in_ok-states.ensures.states p waiting);

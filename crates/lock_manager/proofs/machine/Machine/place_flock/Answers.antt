@@ -25,6 +25,7 @@ invariant_of-self c =
       policy = kept.policy;
       counted = kept.counted;
       told = kept.told;
+      blocked = kept.blocked;
       apart = kept.apart;
       suspended = machine.suspended;
       awaited = machine.awaited;

@@ -39,6 +39,7 @@ invariant_of-self c =
       policy = kept.policy;
       counted = kept.counted;
       told = kept.told;
+      blocked = kept.blocked;
       apart = kept.apart;
       suspended = machine.suspended;
       awaited = machine.awaited;
@@ -83,7 +84,10 @@ invariant_of-self-2 c =
     c.requires.family c.requires.may_wait c.requires.live c.requires.free_of_cycles
     c.in_ok-reserve.ensures.ok c.in_ok-reserve.ensures.kept more_is
     c.join.ensures.last c.join.ensures.policy c.join.ensures.processes
-    (subst (λ bs. AreTold machine.waits (locks_of bs) → AreTold c.join.new.self (locks_of bs)) c.deref.ensures.value c.join.ensures.told) in
+    (record {
+      told = subst (λ bs. AreTold machine.waits (locks_of bs) → AreTold c.join.new.self (locks_of bs)) c.deref.ensures.value c.join.ensures.told;
+      blocked = c.join.ensures.blocked _;
+    }) in
     record {
       files = machine.files;
       numbered = machine.numbered;
@@ -96,6 +100,7 @@ invariant_of-self-2 c =
       policy = kept.policy;
       counted = kept.counted;
       told = kept.told;
+      blocked = kept.blocked;
       apart = kept.apart;
       suspended = subst (All (IsSuspended machine.tables (slice_set states (c.from-2.result - 1) Waiting))) (sym c.join.ensures.last)
           (suspended_joined machine.tables states list wanted (c.from-2.result - 1) place inside c.requires.live machine.alive machine.suspended);

@@ -1,4 +1,4 @@
-use Rattle.std.proofs.Common.{◌≡◌, ◌<◌, ◌≤◌, ◌∙◌, inl, inr, ap, arith, refl, true, length, get_or, set}
+use Rattle.std.proofs.Common.{◌≡◌, ◌<◌, ◌∙◌, inl, inr, ap, arith, refl, true, length, get_or, set}
 use Rattle.std.specs.Vec.{vec_len}
 use Rattle.std.proofs.lemmas.Bool.{cases_lt}
 use Rattle.wait_core.specs.declared.processes.ProcessSet.{ProcessSet}

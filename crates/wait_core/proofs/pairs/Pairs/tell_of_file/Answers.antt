@@ -1,8 +1,6 @@
-use Rattle.std.proofs.Common.{ℕ, ◌≡◌, ◌∙◌, ap, sym, subst, arith}
-use Rattle.wait_core.specs.declared.pairs.Pairs.{Pairs}
+use Rattle.std.proofs.Common.{◌∙◌, sym, arith}
 use Rattle.wait_core.specs.Locks.{locks_of}
-use Rattle.wait_core.specs.PairsView.{pair_in}
-use Rattle.wait_core.proofs.PairLemmas.{TellsBefore, tells_more, tells_skip, tells_all}
+use Rattle.wait_core.proofs.PairLemmas.{tells_more, tells_skip, tells_all}
 use Rattle.wait_core.proofs.pairs.Pairs.tell_of_file.Goals as goal
 use Rattle.wait_core.proofs.pairs.Pairs.tell_of_file.Goals.{then-wait-file, else-wait-file}
 

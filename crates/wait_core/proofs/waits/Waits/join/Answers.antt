@@ -1,13 +1,15 @@
-use Rattle.std.proofs.Common.{◌≡◌, ◌≢◌, ◌<◌, ◌≤◌, arith, length}
+use Rattle.std.proofs.Common.{◌≡◌, ◌≢◌, ◌<◌, ◌≤◌, [], subst, sym, arith, length}
 use Rattle.std.specs.Vec.{vec_len, vec_capacity}
 use Rattle.std.proofs.lemmas.List.Elements.{All-push}
 use Rattle.std.proofs.lemmas.List.Quantifiers.{all_pairs_push}
 use Rattle.wait_core.specs.declared.Wait.{Wait}
 use Rattle.wait_core.specs.Locks.{locks_of}
 use Rattle.wait_core.specs.WellFormed.{IsWellFormed}
-use Rattle.wait_core.specs.WaitsView.{waits_of, processes_of, has_pair}
+use Rattle.wait_core.specs.WaitsView.{waits_of, policy_of, processes_of, has_pair}
+use Rattle.wait_core.specs.Settled.{AllBlockedElsewhere, changed_files}
 use Rattle.wait_core.proofs.ListLemmas.{none_of, room_for}
 use Rattle.wait_core.proofs.PairLemmas.{told-join}
+use Rattle.wait_core.proofs.SettledLemmas.{among_more, elsewhere_joined, elsewhere_more}
 use Rattle.wait_core.proofs.waits.Waits.join.Goals as goal
 
 pub push_reserved-requires : goal.push_reserved-requires
@@ -41,3 +43,15 @@ returns-clause-told c was =
     let self = c.args.self.now in
     told-join self _ (locks_of c.args.books.now) c.args.wait c.push_reserved.ensures.items
     (none_of self.waits.items c.args.wait.p c.requires.none) c.tell.ensures.told c.tell.ensures.others was
+
+pub returns-clause-blocked : goal.returns-clause-blocked
+unfolding waits_of policy_of changed_files
+returns-clause-blocked c locks was =
+    let self = c.args.self.now in
+    let more = c.with-self.result in
+    let file = c.args.wait.file in
+    record {
+      blocked = subst (AllBlockedElsewhere more self.policy locks []) (sym c.push_reserved.ensures.items)
+          (elsewhere_joined more self.policy locks [] self.waits.items c.args.wait (among_more self.changed more file c.with-self.ensures)
+          (elsewhere_more self.changed more self.policy locks file c.with-self.ensures self.waits.items was.blocked));
+    }

@@ -1,4 +1,4 @@
-use Rattle.std.proofs.Common.{◌≡◌, ◌≢◌, ◌≤◌, rules, not}
+use Rattle.std.proofs.Common.{◌≡◌, ◌≢◌, ◌≤◌, [], rules, not, subst, sym}
 use Rattle.std.specs.Prelude.{◌==◌}
 use Rattle.std.specs.List.{filter}
 use Rattle.std.specs.Vec.{vec_capacity}
@@ -7,8 +7,10 @@ use Rattle.std.proofs.lemmas.List.Elements.{All-filter}
 use Rattle.std.proofs.lemmas.List.Kept.{AllPairs-filter}
 use Rattle.wait_core.specs.declared.Wait.{Wait}
 use Rattle.wait_core.specs.WellFormed.{IsWellFormed}
-use Rattle.wait_core.specs.WaitsView.{waits_of, has_pair}
+use Rattle.wait_core.specs.WaitsView.{waits_of, policy_of, has_pair}
+use Rattle.wait_core.specs.Settled.{AllBlockedElsewhere, changed_files}
 use Rattle.wait_core.proofs.PairLemmas.{told-leave}
+use Rattle.wait_core.proofs.SettledLemmas.{elsewhere_without}
 use Rattle.wait_core.proofs.waits.Waits.leave.Goals as goal
 
 pub invariant_of-self : goal.invariant_of-self
@@ -31,3 +33,13 @@ pub returns-clause-told : goal.returns-clause-told
 unfolding waits_of has_pair
 returns-clause-told c locks was =
     told-leave c.args.self.now _ locks c.args.p (returns-clause-rest c) c.forget.ensures.forgotten c.forget.ensures.others was
+
+pub returns-clause-blocked : goal.returns-clause-blocked
+unfolding waits_of policy_of changed_files
+returns-clause-blocked c locks was =
+    let self = c.args.self.now in
+    record {
+      blocked = subst (AllBlockedElsewhere c.with_file_of-self.result self.policy locks []) (sym (returns-clause-rest c))
+          (elsewhere_without self.changed c.with_file_of-self.result self.policy locks self.waits.items c.args.p c.of-wait.result self.apart c.of-wait.ensures.found
+          c.with_file_of-self.ensures.some c.with_file_of-self.ensures.none was.blocked);
+    }

@@ -1,4 +1,4 @@
-use Rattle.std.proofs.Common.{ℕ, ◌≡◌, ◌≤◌, ◌∙◌, Bool, true, false, inl, inr, sym, ap, subst, arith}
+use Rattle.std.proofs.Common.{ℕ, ◌≡◌, ◌≤◌, ◌∙◌, true, false, inl, inr, sym, ap, subst, arith}
 use Rattle.std.specs.Prelude.{IsTrue, ◌==◌}
 use Rattle.std.proofs.lemmas.Bool.{eqb-true, or_left}
 use Rattle.wait_core.specs.declared.processes.ProcessSet.{ProcessSet}
@@ -8,7 +8,7 @@ use Rattle.wait_core.specs.Processes.{is_member}
 use Rattle.wait_core.specs.WaitsView.{waits_of, policy_of, processes_of}
 use Rattle.wait_core.proofs.DecideLemmas.{told_known}
 use Rattle.wait_core.proofs.ProcessLemmas.{none_in, or_cases, or_right}
-use Rattle.wait_core.proofs.ReachLemmas.{IsReached, LeadsInside, blocked_reached, reach_step, reached_closes, closes_reached}
+use Rattle.wait_core.proofs.ReachLemmas.{blocked_reached, reach_step, reached_closes, closes_reached}
 use Rattle.wait_core.proofs.waits.Waits.would_cycle.Goals as goal
 
 pub loop-next-init : goal.loop-next-init
@@ -26,7 +26,7 @@ loop-next-preserved c =
     let self = c.args.self.now in
     let locks = locks_of c.args.books.now in
     let wait = c.args.wait.now in
-    let told = told_known self locks c.requires.told in
+    let told = told_known c.conflicts_are_decided.ensures.processes self locks c.requires.told in
     let next = c.in-Some.next in
     let beyond = c.in-Some.ensures.some in
     let more = λ (q : ℕ) (known : IsTrue (is_member c.loop-next.reached q)).

@@ -1,0 +1,207 @@
+-- Waits that are known to be blocked on all files but some, and what a change of the list or of the locks leaves of that.
+use Rattle.std.proofs.Common.{ℕ, ◌≡◌, ◌≢◌, ◌<◌, ◌∙◌, inl, inr, sym, ap, subst, refl, arith, Bool, true, false, not, zero, suc, Option, Some, None, List, [], ◌∷◌, ◌++◌, All, Any, length, get_or, take, append_assoc, append-nil}
+use Rattle.std.specs.Prelude.{◌==◌, ◌||◌, IfSome, IfNone, IsTrue, IsFalse}
+use Rattle.std.specs.List.{AllPairs, filter}
+use Rattle.std.proofs.lemmas.Bool.{cases_Bool, cases_eq}
+use Rattle.std.proofs.lemmas.Bool.Decides.{nat_tests}
+use Rattle.std.proofs.lemmas.Option.{same_Some}
+use Rattle.std.proofs.lemmas.List.Elements.{All-nil, All-cons, All-head, All-tail, All-push, All-weaker, filter-append}
+use Rattle.lock_book.specs.declared.Owner.{Owner}
+use Rattle.wait_core.specs.declared.Family.{Family}
+use Rattle.wait_core.specs.declared.Family.TheVariants.{Bytes, Whole}
+use Rattle.wait_core.specs.declared.Policy.{Policy}
+use Rattle.wait_core.specs.declared.Policy.TheVariants.{Held, Queue}
+use Rattle.wait_core.specs.declared.Wait.{Wait}
+use Rattle.wait_core.specs.declared.files.FileSet.{FileSet}
+use Rattle.wait_core.specs.Locks.{Locks}
+use Rattle.wait_core.specs.Blocking.{AllBlocked, IsBlocked, IsBlockedIn, WaitsConflict}
+use Rattle.wait_core.specs.Files.{has_file}
+use Rattle.wait_core.specs.Settled.{AllBlockedElsewhere, AgreeElsewhere}
+use Rattle.wait_core.specs.WellFormed.{IsWellFormed}
+use Rattle.wait_core.specs.WaitsView.{wait_of}
+use Rattle.wait_core.proofs.AnyLemmas.{Any-filter, Any-weaker}
+use Rattle.wait_core.proofs.ListLemmas.{none_of}
+
+-- the two have the same locks on the file
+pub record SameOn (file : ℕ) (old new : Locks) : Type 0 where
+  pub bytes : (owner : Owner) (byte : ℕ) → new.bytes file owner byte ≡ old.bytes file owner byte
+  pub flocks : (description : ℕ) → new.flocks file description ≡ old.flocks file description
+
+blocked_in_same : (family : Family) (old new : Locks) (wait : Wait) → SameOn wait.file old new → IsBlockedIn family old wait → IsBlockedIn family new wait
+blocked_in_same Bytes old new wait same blocked = record {
+  byte = blocked.byte;
+  covered = blocked.covered;
+  other = blocked.other;
+  blocks = record { another = blocked.blocks.another; conflicts = rw (same.bytes blocked.other blocked.byte) blocked.blocks.conflicts };
+}
+blocked_in_same Whole old new wait same blocked = record {
+  description = blocked.description;
+  another = blocked.another;
+  conflicts = rw (same.flocks blocked.description) blocked.conflicts;
+}
+
+-- a wait is blocked still by locks that are the same on its file
+blocked_same : (policy : Policy) (old new : Locks) (earlier : List Wait) (wait : Wait) → SameOn wait.file old new → IsBlocked policy old earlier wait → IsBlocked policy new earlier wait
+blocked_same Held old new earlier wait same blocked = blocked_in_same wait.family old new wait same blocked
+blocked_same Queue old new earlier wait same (inl by_lock) = inl (blocked_in_same wait.family old new wait same by_lock)
+blocked_same Queue old new earlier wait same (inr by_wait) = inr by_wait
+
+-- more files, and locks that are the same on all others
+pub elsewhere_after : (files more : FileSet) (policy : Policy) (old new : Locks) → ((f : ℕ) → IsFalse (has_file more f) → IsFalse (has_file files f) × SameOn f old new)
+    → (earlier waits : List Wait) → AllBlockedElsewhere files policy old earlier waits → AllBlockedElsewhere more policy new earlier waits
+elsewhere_after files more policy old new others earlier [] all = tt
+elsewhere_after files more policy old new others earlier (wait ∷ waits) all = (
+  λ elsewhere. (let other = others wait.file elsewhere in blocked_same policy old new earlier wait other.1 (all.0 other.0)),
+  elsewhere_after files more policy old new others (earlier ++ wait ∷ []) waits all.1,
+)
+
+-- what is in neither of two
+neither : (a b : Bool) → IsFalse (a || b) → (a ≡ false) × (b ≡ false)
+neither true b is = absurd (let e : true ≡ false = is in cc)
+neither false b is = (refl, is)
+
+-- one file more
+pub elsewhere_touched : (files more : FileSet) (policy : Policy) (old new : Locks) (file : ℕ) → ((f : ℕ) → has_file more f ≡ (f == file || has_file files f))
+    → AgreeElsewhere file old new → (waits : List Wait) → AllBlockedElsewhere files policy old [] waits → AllBlockedElsewhere more policy new [] waits
+elsewhere_touched files more policy old new file is agree waits all =
+    elsewhere_after files more policy old new (λ f elsewhere.
+    let two = neither (f == file) (has_file files f) (sym (is f) ∙ elsewhere) in
+    let other : f ≢ file = (let test : (f == file) ≡ false = two.0 in grind (arith, nat_tests)) in
+    (two.1, record { bytes = λ owner byte. agree.bytes f owner byte other; flocks = λ description. agree.flocks f description other })) [] waits all
+
+-- one file more, and the same locks
+pub elsewhere_more : (files more : FileSet) (policy : Policy) (locks : Locks) (file : ℕ) → ((f : ℕ) → has_file more f ≡ (f == file || has_file files f))
+    → (waits : List Wait) → AllBlockedElsewhere files policy locks [] waits → AllBlockedElsewhere more policy locks [] waits
+elsewhere_more files more policy locks file is waits all =
+    elsewhere_touched files more policy locks locks file is
+    (record { bytes = λ other owner byte differs. refl; flocks = λ other description differs. refl }) waits all
+
+-- a wait more, on one of the files
+pub elsewhere_joined : (files : FileSet) (policy : Policy) (locks : Locks) (earlier waits : List Wait) (wait : Wait) → IsTrue (has_file files wait.file)
+    → AllBlockedElsewhere files policy locks earlier waits → AllBlockedElsewhere files policy locks earlier (waits ++ wait ∷ [])
+elsewhere_joined files policy locks earlier [] wait among all = (λ elsewhere. absurd (let e : true ≡ false = sym among ∙ elsewhere in cc), tt)
+elsewhere_joined files policy locks earlier (v ∷ waits) wait among all = (all.0, elsewhere_joined files policy locks (earlier ++ v ∷ []) waits wait among all.1)
+
+-- the file that was added is among the files
+pub among_more : (files more : FileSet) (file : ℕ) → ((f : ℕ) → has_file more f ≡ (f == file || has_file files f)) → IsTrue (has_file more file)
+among_more files more file is =
+    let here : (file == file) ≡ true = (let e : file ≡ file = refl in grind (arith, nat_tests)) in
+    is file ∙ ap (λ (b : Bool). b || has_file files file) here
+
+module _ (files : FileSet) (p : ℕ) where
+  -- the wait, if it is of the process, is on one of the files
+  abbrev pub MayLeave : Wait → Type 0
+  MayLeave wait = wait.p ≡ p → IsTrue (has_file files wait.file)
+
+  -- whether the wait is of another process
+  stays : Wait → Bool
+  stays wait = not (wait.p == p)
+
+  -- of the earlier waits those that conflict with one on another file stay
+  conflict_stays : (v wait : Wait) → IsFalse (has_file files wait.file) → WaitsConflict v wait × MayLeave v → not (v.p == p) ≡ true
+  conflict_stays v wait elsewhere (conflict, leaves) = elim (cases_eq v.p p) [
+    | inl same ↦ absurd (let e : true ≡ false = sym (leaves same) ∙ ap (has_file files) conflict.file ∙ elsewhere in cc)
+    | inr other ↦ grind (arith, nat_tests)
+  ]
+
+  blocked_left : (policy : Policy) (locks : Locks) (earlier : List Wait) (wait : Wait) → All MayLeave earlier → IsFalse (has_file files wait.file)
+      → IsBlocked policy locks earlier wait → IsBlocked policy locks (filter (λ w. not (w.p == p)) earlier) wait
+  blocked_left Held locks earlier wait leave elsewhere blocked = blocked
+  blocked_left Queue locks earlier wait leave elsewhere (inl by_lock) = inl by_lock
+  blocked_left Queue locks earlier wait leave elsewhere (inr (k, v, within, is, conflict)) =
+      let both : Any (λ u. WaitsConflict u wait × MayLeave u) earlier = (k, v, within, is, (conflict, subst MayLeave is (leave k v within))) in
+      inr (Any-weaker (λ u. WaitsConflict u wait × MayLeave u) (λ u. WaitsConflict u wait) (λ u h. h.0) (filter (λ w. not (w.p == p)) earlier)
+      (Any-filter (λ u. WaitsConflict u wait × MayLeave u) (λ w. not (w.p == p)) (λ u h. conflict_stays u wait elsewhere h) earlier both))
+
+  -- the waits of a process left, which were on these files
+  pub elsewhere_left : (policy : Policy) (locks : Locks) (earlier waits : List Wait) → All MayLeave earlier → All MayLeave waits
+      → AllBlockedElsewhere files policy locks earlier waits
+      → AllBlockedElsewhere files policy locks (filter (λ w. not (w.p == p)) earlier) (filter (λ w. not (w.p == p)) waits)
+  elsewhere_left policy locks earlier [] before leave all = tt
+  elsewhere_left policy locks earlier (wait ∷ waits) before leave all =
+      let stay : Wait → Bool = λ w. not (w.p == p) in
+      let rest = elsewhere_left policy locks (earlier ++ wait ∷ []) waits (All-push MayLeave earlier wait before (All-head MayLeave wait waits leave))
+      (All-tail MayLeave wait waits leave) all.1 in
+      elim (cases_Bool (not (wait.p == p))) [
+        | inl kept ↦
+            let one : filter stay (wait ∷ []) ≡ wait ∷ [] = rw kept refl in
+            let more : filter stay (earlier ++ wait ∷ []) ≡ filter stay earlier ++ wait ∷ [] =
+            filter-append stay earlier (wait ∷ []) ∙ ap (λ (l : List Wait). filter stay earlier ++ l) one in
+            let whole : filter stay (wait ∷ waits) ≡ wait ∷ filter stay waits = rw kept refl in
+            subst (AllBlockedElsewhere files policy locks (filter stay earlier)) (sym whole) (
+              λ elsewhere. blocked_left policy locks earlier wait before elsewhere (all.0 elsewhere),
+              subst (λ (l : List Wait). AllBlockedElsewhere files policy locks l (filter stay waits)) more rest,
+            )
+        | inr gone ↦
+            let none : filter stay (wait ∷ []) ≡ [] = rw gone refl in
+            let same : filter stay (earlier ++ wait ∷ []) ≡ filter stay earlier =
+            filter-append stay earlier (wait ∷ []) ∙ ap (λ (l : List Wait). filter stay earlier ++ l) none ∙ append-nil (filter stay earlier) in
+            let whole : filter stay (wait ∷ waits) ≡ filter stay waits = rw gone refl in
+            subst (AllBlockedElsewhere files policy locks (filter stay earlier)) (sym whole)
+            (subst (λ (l : List Wait). AllBlockedElsewhere files policy locks l (filter stay waits)) same rest)
+      ]
+
+-- the waits of a process are on the file of the one that is found, of which there is one at most
+pub file_of_found : (waits : List Wait) (p : ℕ) (wait : Wait) → AllPairs (λ v w. v.p ≢ w.p) waits → wait_of waits p ≡ Some wait → All (λ v. v.p ≡ p → v.file ≡ wait.file) waits
+file_of_found [] p wait apart found = All-nil (λ v. v.p ≡ p → v.file ≡ wait.file)
+file_of_found (v ∷ waits) p wait apart found = elim (cases_eq v.p p) [
+  | inl same ↦
+      let here : (v.p == p) ≡ true = grind (arith, nat_tests) in
+      let is : v ≡ wait = (let some : Some v ≡ Some wait = rw here at found in same_Some v wait some) in
+      All-cons (λ u. u.p ≡ p → u.file ≡ wait.file) v waits (λ of_p. ap (λ (w : Wait). w.file) is)
+      (λ k d within of_p. absurd (apart 0 (suc k) d (omega arith) (omega (arith, within)) (same ∙ sym of_p)))
+  | inr other ↦
+      let passed : (v.p == p) ≡ false = grind (arith, nat_tests) in
+      All-cons (λ u. u.p ≡ p → u.file ≡ wait.file) v waits (λ of_p. absurd (other of_p))
+      (file_of_found waits p wait (λ i j d before within. apart (suc i) (suc j) d (omega (arith, before)) (omega (arith, within))) (rw passed at found))
+]
+
+-- where a process has no wait none leaves
+pub none_leaves : (files : FileSet) (waits : List Wait) (p : ℕ) → wait_of waits p ≡ None → All (MayLeave files p) waits
+none_leaves files waits p none = All-weaker (λ v. v.p ≢ p) (MayLeave files p) (λ v other same. absurd (other same)) waits (none_of waits p none)
+
+-- where it has one on one of the files, those that leave are on these
+pub one_leaves : (files : FileSet) (waits : List Wait) (p : ℕ) (wait : Wait) → AllPairs (λ v w. v.p ≢ w.p) waits → wait_of waits p ≡ Some wait → IsTrue (has_file files wait.file) → All (MayLeave files p) waits
+one_leaves files waits p wait apart found among =
+    All-weaker (λ v. v.p ≡ p → v.file ≡ wait.file) (MayLeave files p) (λ v there same. ap (has_file files) (there same) ∙ among) waits
+    (file_of_found waits p wait apart found)
+
+-- on no file: each wait is blocked
+pub elsewhere_all : (files : FileSet) (policy : Policy) (locks : Locks) (earlier waits : List Wait) → AllBlocked policy locks earlier waits → AllBlockedElsewhere files policy locks earlier waits
+elsewhere_all files policy locks earlier [] all = tt
+elsewhere_all files policy locks earlier (wait ∷ waits) all = (λ elsewhere. all.0, elsewhere_all files policy locks (earlier ++ wait ∷ []) waits all.1)
+
+pub all_elsewhere : (files : FileSet) (policy : Policy) (locks : Locks) → ((f : ℕ) → IsFalse (has_file files f)) → (earlier waits : List Wait) → AllBlockedElsewhere files policy locks earlier waits → AllBlocked policy locks earlier waits
+all_elsewhere files policy locks none earlier [] all = tt
+all_elsewhere files policy locks none earlier (wait ∷ waits) all = (all.0 (none wait.file), all_elsewhere files policy locks none (earlier ++ wait ∷ []) waits all.1)
+
+-- on each file: nothing is said
+pub none_elsewhere : (files : FileSet) (processes : ℕ) (policy : Policy) (locks : Locks) → ((f : ℕ) → f < 64 → IsTrue (has_file files f)) → (earlier waits : List Wait) → All (IsWellFormed processes) waits → AllBlockedElsewhere files policy locks earlier waits
+none_elsewhere files processes policy locks each earlier [] well_formed = tt
+none_elsewhere files processes policy locks each earlier (wait ∷ waits) well_formed = (
+  λ elsewhere. absurd (let e : true ≡ false = sym (each wait.file (All-head (IsWellFormed processes) wait waits well_formed).file) ∙ elsewhere in cc),
+  none_elsewhere files processes policy locks each (earlier ++ wait ∷ []) waits (All-tail (IsWellFormed processes) wait waits well_formed),
+)
+
+-- the wait at a place, if it is on none of the files
+pub elsewhere_at : (files : FileSet) (policy : Policy) (locks : Locks) (earlier waits : List Wait) (i : ℕ) (wait : Wait) → i < length waits → get_or waits i wait ≡ wait
+    → IsFalse (has_file files wait.file) → AllBlockedElsewhere files policy locks earlier waits → IsBlocked policy locks (earlier ++ take i waits) wait
+elsewhere_at files policy locks earlier [] i wait within is elsewhere all = absurd (omega (arith, within))
+elsewhere_at files policy locks earlier (v ∷ waits) zero wait within is elsewhere all =
+    let here : v ≡ wait = is in
+    subst (λ (es : List Wait). IsBlocked policy locks es wait) (sym (append-nil earlier))
+    (subst (λ (w : Wait). IsBlocked policy locks earlier w) here (all.0 (ap (λ (w : Wait). has_file files w.file) here ∙ elsewhere)))
+elsewhere_at files policy locks earlier (v ∷ waits) (suc i) wait within is elsewhere all =
+    subst (λ (es : List Wait). IsBlocked policy locks es wait) (append_assoc earlier (v ∷ []) (take i waits))
+    (elsewhere_at files policy locks (earlier ++ v ∷ []) waits i wait (omega (arith, within)) is elsewhere all.1)
+
+-- the wait of a process left, if it had one
+pub elsewhere_without : (files more : FileSet) (policy : Policy) (locks : Locks) (waits : List Wait) (p : ℕ) (wait : Option Wait) → AllPairs (λ v w. v.p ≢ w.p) waits → wait ≡ wait_of waits p
+    → IfSome wait (λ some. (f : ℕ) → has_file more f ≡ (f == some.file || has_file files f)) → IfNone wait (more ≡ files)
+    → AllBlockedElsewhere files policy locks [] waits → AllBlockedElsewhere more policy locks [] (filter (λ w. not (w.p == p)) waits)
+elsewhere_without files more policy locks waits p (Some wait) apart found some none all =
+    elsewhere_left more p policy locks [] waits (All-nil (MayLeave more p)) (one_leaves more waits p wait apart (sym found) (among_more files more wait.file some))
+    (elsewhere_more files more policy locks wait.file some waits all)
+elsewhere_without files more policy locks waits p None apart found some none all =
+    elsewhere_left more p policy locks [] waits (All-nil (MayLeave more p)) (none_leaves more waits p (sym found))
+    (subst (λ (fs : FileSet). AllBlockedElsewhere fs policy locks [] waits) (sym none) all)

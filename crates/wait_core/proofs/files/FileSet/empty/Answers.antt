@@ -1,0 +1,10 @@
+use Rattle.std.proofs.Common.{◌∙◌, ap, suc}
+use Rattle.wait_core.specs.declared.processes.ProcessSet.{ProcessSet}
+use Rattle.wait_core.specs.Files.{has_file}
+use Rattle.wait_core.specs.Processes.{is_member}
+use Rattle.wait_core.proofs.ProcessLemmas.{none_in}
+use Rattle.wait_core.proofs.files.FileSet.empty.Goals as goal
+
+pub returns : goal.returns
+unfolding has_file
+returns c f = ap (λ (set : ProcessSet). is_member set (suc f)) c.empty.ensures ∙ none_in (suc f)

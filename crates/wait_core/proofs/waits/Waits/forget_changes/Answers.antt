@@ -1,0 +1,11 @@
+use Rattle.std.proofs.Common.{[]}
+use Rattle.wait_core.specs.Settled.{changed_files}
+use Rattle.wait_core.specs.WaitsView.{waits_of, policy_of}
+use Rattle.wait_core.proofs.SettledLemmas.{elsewhere_all}
+use Rattle.wait_core.proofs.waits.Waits.forget_changes.Goals as goal
+
+pub returns-clause-blocked : goal.returns-clause-blocked
+unfolding waits_of policy_of changed_files
+returns-clause-blocked c locks all =
+    let self = c.args.self.now in
+    record { blocked = elsewhere_all _ self.policy locks [] self.waits.items all }

@@ -1,0 +1,30 @@
+-- Waits that are known to be blocked, and what a change on one file leaves of that (the words are this project's choice).
+use Rattle.std.specs.Prelude.{◌≡◌, ◌≢◌, ℕ, ⊤, List, [], ◌∷◌, ◌++◌, IsFalse}
+use Rattle.wait_core.specs.declared.Policy.{Policy}
+use Rattle.wait_core.specs.declared.Wait.{Wait}
+use Rattle.wait_core.specs.declared.files.FileSet.{FileSet}
+use Rattle.wait_core.specs.declared.waits.Waits.{Waits}
+use Rattle.wait_core.specs.Locks.{Locks}
+use Rattle.wait_core.specs.Blocking.{IsBlocked}
+use Rattle.wait_core.specs.Files.{has_file}
+use Rattle.wait_core.specs.WaitsView.{waits_of, policy_of, AgreeBut}
+
+-- each of these waits that is on none of the files is blocked, where the earlier ones stand before them
+abbrev pub AllBlockedElsewhere : FileSet → Policy → Locks → List Wait → List Wait → Type 0
+AllBlockedElsewhere files policy locks earlier [] = ⊤
+AllBlockedElsewhere files policy locks earlier (wait ∷ waits) =
+    (IsFalse (has_file files wait.file) → IsBlocked policy locks earlier wait)
+    × AllBlockedElsewhere files policy locks (earlier ++ wait ∷ []) waits
+
+-- the files that may have a wait that isn't blocked
+unfoldable pub changed_files : Waits → FileSet
+changed_files waits = waits.changed
+
+-- each wait on another file than those that count as changed is blocked
+pub record AreBlockedElsewhere (waits : Waits) (locks : Locks) : Type 0 where
+  pub blocked : AllBlockedElsewhere (changed_files waits) (policy_of waits) locks [] (waits_of waits)
+
+-- the two have the same locks on each file but this one
+pub record AgreeElsewhere (file : ℕ) (old new : Locks) : Type 0 where
+  pub bytes : AgreeBut file old new
+  pub flocks : (other description : ℕ) → other ≢ file → new.flocks other description ≡ old.flocks other description

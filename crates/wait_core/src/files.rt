@@ -1,0 +1,72 @@
+ghost use Rattle.std.specs.Prelude.{ℕ, ◌≡◌, ◌<◌, ◌==◌, ◌||◌, false, true, IfNone, IfSome, IsTrue};
+ghost use Rattle.wait_core.specs.Files.{has_file};
+
+use crate::Wait;
+use crate::processes::{PROCESSES, ProcessSet};
+
+/// How many files there are, which are numbered from 0 (this project's choice).
+pub const FILES: u8 = 64;
+
+/// A set of files, in one word: file `f` stands where process `f + 1` stands in a set of processes.
+#[derive(Clone, Copy, Debug, PartialEq, Eq)]
+pub struct FileSet {
+    places: ProcessSet,
+}
+
+#[tactic(auto, unfolding(crate::specs::Files::has_file))]
+impl FileSet {
+    /// No file.
+    pub fn empty() -> FileSet
+        ensures { (f : ℕ) → has_file result f ≡ false }
+    {
+        FileSet {
+            places: ProcessSet::empty(),
+        }
+    }
+
+    /// Each file.
+    pub fn all() -> FileSet
+        ensures { (f : ℕ) → f < FILES → has_file result f ≡ true }
+    {
+        FileSet {
+            places: ProcessSet::all(),
+        }
+    }
+
+    /// Whether the file is in the set.
+    pub fn has(self, file: u8) -> bool
+        requires { file < FILES }
+        ensures { result ≡ has_file self file }
+    {
+        self.places.has(file + 1)
+    }
+
+    /// The set with the file in it.
+    pub fn with(self, file: u8) -> FileSet
+        requires { file < FILES }
+        ensures { (f : ℕ) → has_file result f ≡ (f == file || has_file self f) }
+    {
+        FileSet {
+            places: self.places.with(file + 1),
+        }
+    }
+
+    /// The set with the file of the wait in it, if there is one.
+    pub fn with_file_of(self, wait: Option<Wait>) -> FileSet
+        requires { IfSome wait (λ some. some.file < FILES) }
+        ensures some { IfSome wait (λ some. (f : ℕ) → has_file result f ≡ (f == some.file || has_file self f)) }
+        ensures none { IfNone wait (result ≡ self) }
+    {
+        match wait {
+            Some(some) => self.with(some.file),
+            None => self,
+        }
+    }
+
+    /// Whether there is no file in the set.
+    pub fn is_empty(self) -> bool
+        ensures { IsTrue result → (f : ℕ) → has_file self f ≡ false }
+    {
+        self.places == ProcessSet::empty()
+    }
+}
