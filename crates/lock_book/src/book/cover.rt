@@ -10,8 +10,8 @@ use range_core::{Mode, RangeList, Span};
 use std::alloc::Global;
 use std::collections::BTreeMap;
 
-/// So many owners are asked in turn, without a cover.
-const FEW_OWNERS: usize = 16;
+/// So many owners are asked in turn, without a cover: each process twice over. A cover costs a set as much as a list of all runs.
+const FEW_OWNERS: usize = 128;
 
 /// For how many sets in held room a cover has room: one for each process that may wait.
 const SPARE_SETS: usize = 64;
