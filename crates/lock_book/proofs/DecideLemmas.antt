@@ -7,7 +7,7 @@ use Rattle.range_core.specs.declared.Mode.{Mode}
 use Rattle.range_core.specs.declared.Mode.TheVariants.{Read, Write}
 use Rattle.range_core.specs.declared.Span.{Span}
 use Rattle.range_core.specs.declared.list.RangeList.{RangeList}
-use Rattle.range_core.specs.Ranges.{Conflict, Covers, HeldConflicts}
+use Rattle.range_core.specs.Ranges.{Covers, HeldConflicts}
 use Rattle.lock_book.specs.declared.Owner.{Owner}
 use Rattle.lock_book.specs.declared.Owner.TheVariants.{Process, Description}
 use Rattle.lock_book.specs.declared.book.Book.{Book}
@@ -26,16 +26,16 @@ same_or_other one other = elim (cases_Bool (is_same_owner one other)) [
   | inr differ ↦ inr (λ e. let same : is_same_owner one other ≡ true = subst (λ (o : Owner). is_same_owner one o ≡ true) e (is_same_owner-self one) in cc)
 ]
 
--- two modes conflict, or not
-conflict_or_not : (held wanted : Mode) → Conflict held wanted ⊎ ¬ Conflict held wanted
-conflict_or_not Read Read = inr (λ conflict. conflict)
-conflict_or_not Read Write = inl tt
-conflict_or_not Write Read = inl tt
-conflict_or_not Write Write = inl tt
-
+-- what is held, if anything, conflicts or not
 held_or_not : (held : Option Mode) (wanted : Mode) → HeldConflicts held wanted ⊎ ¬ HeldConflicts held wanted
 held_or_not None wanted = inr (λ conflict. conflict)
-held_or_not (Some held) wanted = conflict_or_not held wanted
+held_or_not (Some Read) Read = inr (λ conflict. conflict)
+held_or_not (Some Read) Write = inl tt
+held_or_not (Some Write) wanted = inl (writes wanted)
+  where
+    writes : (wanted : Mode) → HeldConflicts (Some Write) wanted
+    writes Read = tt
+    writes Write = tt
 
 -- whether another owner's lock on a byte stands in the way
 blocks_or_not : (modes : ByteModes) (owner : Owner) (wanted : Mode) (byte : ℕ) (other : Owner) → Blocks modes owner wanted byte other ⊎ ¬ Blocks modes owner wanted byte other

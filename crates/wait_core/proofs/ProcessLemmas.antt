@@ -1,11 +1,11 @@
 -- Sets of processes, by their bits.
-use Rattle.std.proofs.Common.{ℕ, ◌≡◌, ◌<◌, ◌≤◌, ◌*◌, ◌%◌, ◌^◌, ◌∙◌, ◌⊎◌, inl, inr, sym, ap, subst, refl, arith, Bool, true, false, zero, suc, w64}
+use Rattle.std.proofs.Common.{ℕ, ◌≡◌, ◌≢◌, ◌<◌, ◌≤◌, ◌*◌, ◌%◌, ◌^◌, ◌∙◌, ◌⊎◌, inl, inr, sym, ap, subst, refl, arith, Bool, true, false, zero, suc, w64}
 use Rattle.std.specs.Prelude.{◌==◌, ◌||◌, IsTrue, IsFalse, bit_and, bit_or}
-use Rattle.std.specs.Int.{bit_at, bit_not}
+use Rattle.std.specs.Int.{bit_at, bit_not, trailing_zeros}
 use Rattle.std.proofs.lemmas.Bool.{cases_eq, eqb-true, eq-eqb}
 use Rattle.std.proofs.lemmas.Bool.Decides.{nat_tests}
 use Rattle.std.proofs.lemmas.Nat.{le_or_l}
-use Rattle.std.proofs.lemmas.Nat.Bits.{bit_at-lt, bit_at-zero, bit_at_and, bit_at_or, bit_at_not, bit_at_ones, bit_at_set_same, bit_at_set_other}
+use Rattle.std.proofs.lemmas.Nat.Bits.{bit_at-lt, bit_at-zero, bit_at_and, bit_at_or, bit_at_not, bit_at_ones, bit_at-trailing_zeros, bit_at_set_same, bit_at_set_other}
 use Rattle.wait_core.specs.declared.processes.ProcessSet.{ProcessSet}
 use Rattle.wait_core.specs.Processes.{no_process, is_member, lacking, IsBeyond, IsWithin}
 
@@ -20,6 +20,14 @@ pub all_in : (p : ℕ) → 1 ≤ p → p ≤ 64 → IsTrue (is_member (record { 
 unfolding is_member
 all_in zero from_one few = absurd (omega (arith, from_one))
 all_in (suc k) from_one few = eq-eqb _ _ (bit_at_ones 64 k (omega (arith, few)))
+
+-- a set that isn't that of no process has one
+pub some_in : (set : ProcessSet) → set.bits < 2 ^ 64 → set.bits ≢ 0 → (k : ℕ) × (k < 64) × IsTrue (is_member set (suc k))
+unfolding is_member
+some_in set fits some =
+    let positive : 0 < set.bits = omega (arith, some) in
+    let lowest = bit_at-trailing_zeros w64 set.bits positive fits in
+    (trailing_zeros w64 set.bits, lowest.0, eq-eqb _ _ lowest.1)
 
 -- a word is one set
 pub same_word : (one other : ProcessSet) → one.bits ≡ other.bits → one ≡ other

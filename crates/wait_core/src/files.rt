@@ -1,4 +1,4 @@
-ghost use Rattle.std.specs.Prelude.{ℕ, ◌≡◌, ◌<◌, ◌==◌, ◌||◌, false, true, IfNone, IfSome, IsTrue};
+ghost use Rattle.std.specs.Prelude.{ℕ, ◌≡◌, ◌<◌, ◌==◌, ◌||◌, false, true, IfNone, IfSome, IsFalse, IsTrue};
 ghost use Rattle.wait_core.specs.Files.{has_file};
 
 use crate::Wait;
@@ -65,7 +65,8 @@ impl FileSet {
 
     /// Whether there is no file in the set.
     pub fn is_empty(self) -> bool
-        ensures { IsTrue result → (f : ℕ) → has_file self f ≡ false }
+        ensures none { IsTrue result → (f : ℕ) → has_file self f ≡ false }
+        ensures some { IsFalse result → (f : ℕ) × (f < FILES) × IsTrue (has_file self f) }
     {
         self.places == ProcessSet::empty()
     }

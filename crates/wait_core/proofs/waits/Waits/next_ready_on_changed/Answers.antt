@@ -12,7 +12,7 @@ unfolding waits_of policy_of changed_files
 returns-then-is_empty-clause-settled c =
     let self = c.args.self.now in
     let laws = c.conflicts_are_decided.ensures in
-    all_elsewhere self.changed self.policy (locks_of c.args.books.now) (c.is_empty.ensures c.if-is_empty.true) [] self.waits.items
+    all_elsewhere self.changed self.policy (locks_of c.args.books.now) (c.is_empty.ensures.none c.if-is_empty.true) [] self.waits.items
     (blocked_known laws.bytes laws.flocks self.changed self.policy c.args.books.now [] self.waits.items (∥∥₁_map c.requires.blocked (λ known. known.blocked)))
 
 pub next_ready_on-requires-clause-elsewhere : goal.next_ready_on-requires-clause-elsewhere
