@@ -245,31 +245,34 @@ fn serve_while_a_client_acts<R: Threads + Wait + Abort + Sync>(
     })
 }
 
-/// Process 2 asks for the lock that blocks, and while the desk stands at its gate client 1 acts: what came of it.
+/// The desk serves the request that was posted, and while it stands at its gate a client acts: what came of it.
 fn act_at_the_gate<R: Threads + Wait + Abort + Sync>(
     rt: &R,
-    first: Caller,
-    mut second: Caller,
+    acting: Caller,
     server: Server,
     act: Act,
 ) -> Result<Option<Came>, Memory> {
-    assert_eq!(rt; second.post(lock(LkCmd::GetLk, Kind::Write, 0)), Ok(1));
     let flags = Flags::new();
-    let (served, came) = serve_while_a_client_acts(rt, first, server, &flags, act)?;
+    let (served, came) = serve_while_a_client_acts(rt, acting, server, &flags, act)?;
     assert_eq!(rt; served, Served::Took(4));
     assert!(rt; flags.seen.load(Ordering::SeqCst));
     Ok(came)
+}
+
+/// Asks for the lock that blocks.
+fn look_for_the_lock() -> Request {
+    lock(LkCmd::GetLk, Kind::Write, 0)
 }
 
 /// A client can post while the desk stands between the taking of a request and its answer.
 #[test]
 fn a_client_posts_while_the_desk_serves(rt: HostRuntime) -> Result<(), Fail> {
     let (hub, first, second, desk) = table_of_two(&rt, rt.alloc(), 2)?;
-    let (mut first, second, mut server) = with_hub(&hub, first, second, desk);
+    let (mut first, mut second, mut server) = with_hub(&hub, first, second, desk);
     lock_first_byte(&rt, &mut first, &mut server)?;
     assert_eq!(rt; first.collect(), Some(LOCKED));
-    let get = lock(LkCmd::GetLk, Kind::Write, 0);
-    let came = act_at_the_gate(&rt, first, second, server, Act::Post(get))?;
+    assert_eq!(rt; second.post(look_for_the_lock()), Ok(1));
+    let came = act_at_the_gate(&rt, first, server, Act::Post(look_for_the_lock()))?;
     assert_eq!(rt; came, Some(Came::Posted(Ok(4))));
     Ok(())
 }
@@ -278,10 +281,23 @@ fn a_client_posts_while_the_desk_serves(rt: HostRuntime) -> Result<(), Fail> {
 #[test]
 fn a_client_collects_while_the_desk_serves(rt: HostRuntime) -> Result<(), Fail> {
     let (hub, first, second, desk) = table_of_two(&rt, rt.alloc(), 2)?;
-    let (mut first, second, mut server) = with_hub(&hub, first, second, desk);
+    let (mut first, mut second, mut server) = with_hub(&hub, first, second, desk);
     lock_first_byte(&rt, &mut first, &mut server)?;
-    let came = act_at_the_gate(&rt, first, second, server, Act::Collect)?;
+    assert_eq!(rt; second.post(look_for_the_lock()), Ok(1));
+    let came = act_at_the_gate(&rt, first, server, Act::Collect)?;
     assert_eq!(rt; came, Some(Came::Collected(Some(LOCKED))));
+    Ok(())
+}
+
+/// What a request leads to is published only once the gate is passed.
+#[test]
+fn an_answer_comes_after_the_gate(rt: HostRuntime) -> Result<(), Fail> {
+    let (hub, first, second, desk) = table_of_two(&rt, rt.alloc(), 2)?;
+    let (mut first, mut second, mut server) = with_hub(&hub, first, second, desk);
+    lock_first_byte(&rt, &mut first, &mut server)?;
+    assert_eq!(rt; second.post(look_for_the_lock()), Ok(1));
+    let came = act_at_the_gate(&rt, second, server, Act::Collect)?;
+    assert_eq!(rt; came, Some(Came::Collected(None)));
     Ok(())
 }
 
