@@ -1,0 +1,119 @@
+"""The command line of locktest."""
+
+from __future__ import annotations
+
+import argparse
+import os
+import signal
+import sys
+import tempfile
+from pathlib import Path
+from typing import Iterator, Union
+
+from harness import calls, chance, filesystem, watch
+from harness.host import Timing
+from harness.judge import DIFFERS, NOT_RUN, Judge
+from harness.replay import Faulty, Lockreplay
+from harness.report import JsonReport, TapReport, Totals
+from harness.runner import Runner
+from harness.script import Script
+
+HERE = Path(__file__).resolve().parent.parent
+CORPUS = HERE / "scripts"
+PROGRAM = HERE.parent / "crates" / "lockreplay" / "out" / "lockreplay"
+# On other file systems than the kernel's own an answer may still be on its way where a process sleeps.
+REMOTE_SETTLE_SECONDS = 0.3
+
+DESCRIPTION = """Carries scripts of lock requests out by real processes in a directory, and judges what the system answers by
+lockreplay. Without SCRIPT it runs the corpus, conformance/scripts. Prints TAP; the status is 0, 1 where something differs, and 2 where
+something could not be run."""
+
+
+def parser() -> argparse.ArgumentParser:
+    """What the command line may say."""
+    made = argparse.ArgumentParser(prog="locktest", description=DESCRIPTION)
+    made.add_argument("directory", metavar="DIR", type=Path, help="a directory of the file system that is asked")
+    made.add_argument("scripts", metavar="SCRIPT", type=Path, nargs="*", help="a script of lockreplay's language")
+    made.add_argument("--json", action="store_true", help="print JSON, one object a line, instead of TAP")
+    made.add_argument("--keep-going", action="store_true", help="go on behind a script that differs or can't be run")
+    made.add_argument("--journal", action="store_true", help="print each journal; without it, those of named scripts, and of what differs")
+    made.add_argument("--strict", action="store_true", help="count the known differences of Linux's kernel as differences")
+    made.add_argument("--random", metavar="N", type=int, default=0, help="run N scripts made at random instead of the corpus")
+    made.add_argument("--seed", metavar="S", type=int, default=1, help="make them by this seed (1)")
+    made.add_argument("--settle", metavar="SECONDS", type=float, help="how long nothing may change until a wait counts as one")
+    made.add_argument("--limit", metavar="SECONDS", type=float, default=10.0, help="how long a request may take that can't wait (10)")
+    made.add_argument("--lockreplay", metavar="PATH", type=Path, help="the program; also by the environment's LOCKREPLAY")
+    return made
+
+
+def chosen_scripts(options: argparse.Namespace) -> list[Script]:
+    """The scripts to run. Raises OSError where one can't be read."""
+    if options.random:
+        return [chance.make_script(options.seed, number) for number in range(1, options.random + 1)]
+    paths = options.scripts or sorted(CORPUS.glob("*.lock"))
+    return [Script.parse(path.stem, path.read_text()) for path in paths]
+
+
+def chosen_watcher(options: argparse.Namespace, file_system: filesystem.FileSystem) -> tuple[watch.ProcWatcher | watch.TimeWatcher, float]:
+    """How waits are seen, and how long nothing may change until they are believed."""
+    seen = watch.ProcWatcher.works()
+    settle = options.settle
+    if settle is None:
+        settle = 0.0 if seen and file_system.is_local else REMOTE_SETTLE_SECONDS
+    return (watch.ProcWatcher() if seen else watch.TimeWatcher()), settle
+
+
+def run_all(runner: Runner, scripts: list[Script], report: Union[TapReport, JsonReport], keep_going: bool) -> int:
+    """Runs and tells the scripts; the exit status."""
+    totals = Totals()
+    for place, script in enumerate(scripts):
+        verdict = runner.run(script)
+        shrunk = None
+        if verdict.kind == DIFFERS and script.name.startswith("random "):
+            shrunk = chance.shrink(script, lambda shorter: runner.run(shorter).kind == DIFFERS)
+        totals.count(verdict)
+        report.tell(script, verdict, shrunk)
+        if verdict.kind in (DIFFERS, NOT_RUN) and not keep_going and place + 1 < len(scripts):
+            report.stop("a script differs or can't be run; --keep-going runs the rest")
+            break
+    report.end(totals)
+    return totals.status
+
+
+def stop(number: int, _: object) -> None:
+    """Ends the run where a signal asks for it, by way of what cleans up."""
+    raise SystemExit(128 + number)
+
+
+def run(options: argparse.Namespace) -> int:
+    """Runs what the command line says; the exit status."""
+    program = options.lockreplay or Path(os.environ.get("LOCKREPLAY", PROGRAM))
+    lockreplay = Lockreplay(program)
+    lockreplay.run(Script.parse("empty", ""))
+    scripts = chosen_scripts(options)
+    file_system = filesystem.look_at(options.directory)
+    watcher, settle = chosen_watcher(options, file_system)
+    report = JsonReport() if options.json else TapReport(options.journal or bool(options.scripts))
+    calls.become_subreaper()
+    with tempfile.TemporaryDirectory(prefix="locktest-", dir=options.directory) as folder:
+        judge = Judge(lockreplay, file_system, not options.strict)
+        runner = Runner(Path(folder), judge, watcher, Timing(settle, options.limit))
+        seen = "seen in /proc" if isinstance(watcher, watch.ProcWatcher) else "guessed by time"
+        report.begin(f"{options.directory}: {file_system}; waits are {seen}, after {settle} s without a change", len(scripts))
+        return run_all(runner, scripts, report, options.keep_going)
+
+
+def main() -> int:
+    """Runs locktest; the exit status."""
+    options = parser().parse_args()
+    for number in (signal.SIGTERM, signal.SIGHUP):
+        signal.signal(number, stop)
+    try:
+        return run(options)
+    except Faulty as fault:
+        print(f"locktest: lockreplay fails: {fault}", file=sys.stderr)
+    except OSError as failed:
+        print(f"locktest: {failed.strerror or failed}: {failed.filename or ''} (make build makes lockreplay)", file=sys.stderr)
+    except KeyboardInterrupt:
+        return 130
+    return 2

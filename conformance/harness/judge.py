@@ -1,0 +1,65 @@
+"""Judges what a system showed: by lockreplay, and by what is known of Linux's own kernel."""
+
+from __future__ import annotations
+
+from dataclasses import dataclass, field
+from typing import Optional
+
+from harness.account import Account, Finding, Moment, first_difference, moments_of, replay
+from harness.filesystem import FileSystem
+from harness.journal import Event
+from harness.known import Situation, recognised
+from harness.replay import Lockreplay
+from harness.script import Script
+
+AS_DEFINED, KNOWN, DIFFERS, SKIPPED, NOT_RUN = "as defined", "known", "differs", "skipped", "not run"
+
+
+@dataclass
+class Verdict:
+    """How a script went: the journal, the known differences, the event that is none of them, and how many events weren't compared."""
+
+    kind: str
+    journal: list[Event] = field(default_factory=list)
+    findings: tuple[Finding, ...] = ()
+    left_out: int = 0
+    difference: Optional[Finding] = None
+    reason: str = ""
+
+
+class Judge:
+    """Judges journals on one file system. `knows` says whether known differences are looked for."""
+
+    def __init__(self, lockreplay: Lockreplay, file_system: FileSystem, knows: bool = True) -> None:
+        self.lockreplay = lockreplay
+        self.file_system = file_system
+        self.knows = knows
+
+    def judge(self, script: Script, journal: list[Event]) -> Verdict:
+        """The verdict on a journal."""
+        account = Account.of_journal(journal)
+        while True:
+            moments = self.moments(script, account)
+            at = first_difference(account, journal, moments)
+            if at is None:
+                break
+            right = moments[at] if at < len(moments) else Moment("not taken: its process waits or has ended")
+            better = self.explain(Situation(self.lockreplay, script, journal, account, at, right, self.file_system))
+            if better is None:
+                told = Finding("", at, str(Event(journal[at].ticket, journal[at].request, right.note, right.grants)))
+                return Verdict(DIFFERS, journal, account.findings, len(journal) - at - 1, told)
+            account = better
+        left_out = 0 if account.stop is None else len(journal) - account.stop
+        return Verdict(KNOWN if account.findings else AS_DEFINED, journal, account.findings, left_out)
+
+    def moments(self, script: Script, account: Account) -> list[Moment]:
+        """What is right by an account."""
+        return moments_of(account, replay(self.lockreplay, script, account.steps))
+
+    def explain(self, situation: Situation) -> Optional[Account]:
+        """The first account under which the event is as it should be; None where there is none."""
+        for account in recognised(situation) if self.knows else ():
+            later = first_difference(account, situation.journal, self.moments(situation.script, account))
+            if later is None or later > situation.at:
+                return account
+        return None
