@@ -46,12 +46,13 @@ def parser() -> argparse.ArgumentParser:
     return made
 
 
-def chosen_scripts(options: argparse.Namespace) -> list[Script]:
-    """The scripts to run. Raises OSError where one can't be read."""
+def chosen_scripts(options: argparse.Namespace, lockreplay: Lockreplay) -> tuple[int, Iterator[Script]]:
+    """How many scripts there are to run, and the scripts. Raises OSError where one can't be read."""
     if options.random:
-        return [chance.make_script(options.seed, number) for number in range(1, options.random + 1)]
+        numbers = range(1, options.random + 1)
+        return len(numbers), (chance.make_script(lockreplay, options.seed, number) for number in numbers)
     paths = options.scripts or sorted(CORPUS.glob("*.lock"))
-    return [Script.parse(path.stem, path.read_text()) for path in paths]
+    return len(paths), iter([Script.parse(path.stem, path.read_text()) for path in paths])
 
 
 def chosen_watcher(options: argparse.Namespace, file_system: filesystem.FileSystem) -> tuple[watch.ProcWatcher | watch.TimeWatcher, float]:
@@ -63,18 +64,18 @@ def chosen_watcher(options: argparse.Namespace, file_system: filesystem.FileSyst
     return (watch.ProcWatcher() if seen else watch.TimeWatcher()), settle
 
 
-def run_all(runner: Runner, scripts: list[Script], report: Union[TapReport, JsonReport], keep_going: bool) -> int:
+def run_all(runner: Runner, scripts: Iterator[Script], report: Union[TapReport, JsonReport], keep_going: bool) -> int:
     """Runs and tells the scripts; the exit status."""
     totals = Totals()
-    for place, script in enumerate(scripts):
+    for script in scripts:
         verdict = runner.run(script)
         shrunk = None
         if verdict.kind == DIFFERS and script.name.startswith("random "):
             shrunk = chance.shrink(script, lambda shorter: runner.run(shorter).kind == DIFFERS)
         totals.count(verdict)
         report.tell(script, verdict, shrunk)
-        if verdict.kind in (DIFFERS, NOT_RUN) and not keep_going and place + 1 < len(scripts):
-            report.stop("a script differs or can't be run; --keep-going runs the rest")
+        if verdict.kind in (DIFFERS, NOT_RUN) and not keep_going:
+            report.stop("this script differs or can't be run; --keep-going runs the rest")
             break
     report.end(totals)
     return totals.status
@@ -90,7 +91,7 @@ def run(options: argparse.Namespace) -> int:
     program = options.lockreplay or Path(os.environ.get("LOCKREPLAY", PROGRAM))
     lockreplay = Lockreplay(program)
     lockreplay.run(Script.parse("empty", ""))
-    scripts = chosen_scripts(options)
+    count, scripts = chosen_scripts(options, lockreplay)
     file_system = filesystem.look_at(options.directory)
     watcher, settle = chosen_watcher(options, file_system)
     report = JsonReport() if options.json else TapReport(options.journal or bool(options.scripts))
@@ -99,7 +100,7 @@ def run(options: argparse.Namespace) -> int:
         judge = Judge(lockreplay, file_system, not options.strict)
         runner = Runner(Path(folder), judge, watcher, Timing(settle, options.limit))
         seen = "seen in /proc" if isinstance(watcher, watch.ProcWatcher) else "guessed by time"
-        report.begin(f"{options.directory}: {file_system}; waits are {seen}, after {settle} s without a change", len(scripts))
+        report.begin(f"{options.directory}: {file_system}; waits are {seen}, after {settle} s without a change", count)
         return run_all(runner, scripts, report, options.keep_going)
 
 
