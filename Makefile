@@ -2,7 +2,7 @@
 FILE ?= crates/lockreplay/stdin
 PROGRAM := crates/lockreplay/out/lockreplay
 
-.PHONY: run test build memory edits
+.PHONY: run test build memory edits conformance conformance-tests
 
 run: build
 	@$(PROGRAM) $(if $(FILE),'$(FILE)')
@@ -19,6 +19,7 @@ test:
 	rt ci
 	sh tests/command-line.sh $(PROGRAM)
 	sh tests/command-line.sh $(PROGRAM).by-rattle
+	$(MAKE) conformance-tests
 
 # Says of each must-fail edit what refuses it, and fails where that is a name alone; `make edits EDITS='CRATE EDIT'` tries some.
 edits:
@@ -35,3 +36,12 @@ memory: build
 	    || { cat crates/$$crate/out/test.log >&2; exit 1; }; done
 	@for crate in $(TESTED); do sh tests/refuse-growths-in-tests.sh crates/$$crate/out/$${crate}_tests || exit 1; done
 	sh tests/refuse-growths-in-tests.sh crates/script_core/out/script_core_tests memory
+
+# What the machine's own locks do: of the file system of a directory, as `make conformance DIR=/dev/shm`.
+DIR ?= .
+conformance: build
+	conformance/locktest --keep-going --lockreplay $(PROGRAM) '$(DIR)'
+
+# The tools' own tests, which want Python 3 and no root; each script of the corpus goes through lockreplay.
+conformance-tests:
+	cd conformance && LOCKREPLAY=$(abspath $(PROGRAM)) python3 -m unittest discover -t . -s tests

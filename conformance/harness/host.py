@@ -234,6 +234,8 @@ class Host:
         for number in ready:
             process = channels[number]
             answer = process.channel.recv(agent.LONGEST_MESSAGE).decode()
+            if not answer:
+                raise CouldNotRun(f"process {process.number} ended without an answer: {self.describe(process)}")
             self.answers[process.number] = self.note_of(process, answer)
             process.unanswered = None
         return bool(ready)

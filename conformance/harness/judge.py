@@ -44,10 +44,10 @@ class Judge:
             if at is None:
                 break
             right = moments[at] if at < len(moments) else Moment("not taken: its process waits or has ended")
-            better = self.explain(Situation(self.lockreplay, script, journal, account, at, right, self.file_system))
+            situation = Situation(self.lockreplay, script, journal, account, at, right, self.file_system)
+            better = self.explain(situation)
             if better is None:
-                told = Finding("", at, str(Event(journal[at].ticket, journal[at].request, right.note, right.grants)))
-                return Verdict(DIFFERS, journal, account.findings, len(journal) - at - 1, told)
+                return Verdict(DIFFERS, journal, account.findings, len(journal) - at - 1, situation.finding(""))
             account = better
         left_out = 0 if account.stop is None else len(journal) - account.stop
         return Verdict(KNOWN if account.findings else AS_DEFINED, journal, account.findings, left_out)

@@ -47,6 +47,10 @@ class Situation:
     def same_grants(self) -> bool:
         return self.event.grants == self.right.grants
 
+    def finding(self, name: str) -> Finding:
+        """The event as a known difference."""
+        return Finding(name, self.at, str(Event(self.event.ticket, self.request, self.right.note, self.right.grants)))
+
     @cached_property
     def before(self) -> Run:
         """The state before the event."""
@@ -188,8 +192,11 @@ def flock_lost(situation: Situation) -> Iterator[Account]:
     for moment in range(situation.at, max(-1, situation.at - MOST_EVENTS_BACK), -1):
         held = {lock.owner for lock in situation.state_before(moment).held if lock.by_flock}
         losing = [ticket for ticket, wait in situation.waits_before(moment) if wait.lock.by_flock and wait.lock.owner in held]
-        for lost in losing:
-            yield from flocks_asked_again(situation, moment, (lost,))
+        for account in (account for lost in losing for account in flocks_asked_again(situation, moment, (lost,))):
+            yield account
+            # The loss may show first in a conversion, which goes its own way too.
+            for converted in flock_conversion(replace(situation, account=account)) if moment < situation.at else ():
+                yield replace(converted, findings=account.findings + (situation.finding("flock-conversion"),))
 
 
 def flocks_asked_again(situation: Situation, moment: int, lost: tuple[Ticket, ...]) -> Iterator[Account]:
@@ -282,7 +289,6 @@ RECOGNISERS: dict[str, Recogniser] = {
 
 def recognised(situation: Situation) -> Iterator[Account]:
     """The accounts that the recognisers offer, each with its finding."""
-    right = str(Event(situation.event.ticket, situation.request, situation.right.note, situation.right.grants))
     for name, recogniser in RECOGNISERS.items():
         for account in recogniser(situation):
-            yield replace(account, findings=account.findings + (Finding(name, situation.at, right),))
+            yield replace(account, findings=account.findings + (situation.finding(name),))

@@ -1,0 +1,52 @@
+"""What the tests share: a runner in a temporary directory, and agents that lie."""
+
+from __future__ import annotations
+
+import os
+import tempfile
+import unittest
+from pathlib import Path
+from typing import Callable, Optional
+from unittest import mock
+
+from harness import agent, calls, filesystem, watch
+from harness.command import CORPUS, PROGRAM
+from harness.host import Timing
+from harness.judge import Judge, Verdict
+from harness.replay import Lockreplay
+from harness.runner import Runner
+from harness.script import Script
+
+LOCKREPLAY = Path(os.environ.get("LOCKREPLAY", PROGRAM))
+LIMIT_SECONDS = 1.5
+
+
+class RunnerTest(unittest.TestCase):
+    """A test that carries scripts out in a temporary directory."""
+
+    def setUp(self) -> None:
+        calls.become_subreaper()
+        folder = tempfile.TemporaryDirectory(prefix="locktest-tests-")
+        self.addCleanup(folder.cleanup)
+        self.folder = Path(folder.name)
+        self.lockreplay = Lockreplay(LOCKREPLAY)
+
+    def runner(self, watcher: Optional[watch.TimeWatcher] = None, settle: float = 0.0) -> Runner:
+        """A runner that sees waits in /proc, or as the watcher does."""
+        judge = Judge(self.lockreplay, filesystem.look_at(self.folder))
+        return Runner(self.folder, judge, watcher or watch.ProcWatcher(), Timing(settle, LIMIT_SECONDS))
+
+    def verdict(self, *lines: str) -> Verdict:
+        """The verdict on a script of these lines."""
+        return self.runner().run(Script.parse("test", "".join(f"{line}\n" for line in lines)))
+
+    def corpus(self, name: str) -> Script:
+        """A script of the corpus."""
+        return Script.parse(name, (CORPUS / f"{name}.lock").read_text())
+
+    def lying(self, method: str, lie: Callable[..., Optional[str]]) -> None:
+        """Has the agents of this test carry a request out by the lie instead. It is told the true method first."""
+        truth = getattr(agent.Agent, method)
+        patch = mock.patch.object(agent.Agent, method, lambda *words: lie(truth, *words))
+        patch.start()
+        self.addCleanup(patch.stop)
