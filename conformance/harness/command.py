@@ -11,6 +11,7 @@ from pathlib import Path
 from typing import Iterator, Union
 
 from harness import calls, chance, filesystem, watch
+from harness.guard import CouldNotRun, guarded
 from harness.host import Timing
 from harness.judge import DIFFERS, NOT_RUN, Judge
 from harness.replay import Faulty, Lockreplay
@@ -46,6 +47,11 @@ def parser() -> argparse.ArgumentParser:
     return made
 
 
+def program_of(options: argparse.Namespace) -> Path:
+    """Where lockreplay is."""
+    return options.lockreplay or Path(os.environ.get("LOCKREPLAY", PROGRAM))
+
+
 def chosen_scripts(options: argparse.Namespace, lockreplay: Lockreplay) -> tuple[int, Iterator[Script]]:
     """How many scripts there are to run, and the scripts. Raises OSError where one can't be read."""
     if options.random:
@@ -70,10 +76,13 @@ def run_all(runner: Runner, scripts: Iterator[Script], report: Union[TapReport, 
     for script in scripts:
         verdict = runner.run(script)
         shrunk = None
-        if verdict.kind == DIFFERS and script.name.startswith("random "):
+        if verdict.kind == DIFFERS and not runner.left and script.name.startswith("random "):
             shrunk = chance.shrink(script, lambda shorter: runner.run(shorter).kind == DIFFERS)
         totals.count(verdict)
         report.tell(script, verdict, shrunk)
+        if runner.left:
+            report.stop(f"the file system hangs; left behind: pids {runner.left}, and {runner.folder}")
+            break
         if verdict.kind in (DIFFERS, NOT_RUN) and not keep_going:
             report.stop("this script differs or can't be run; --keep-going runs the rest")
             break
@@ -88,20 +97,22 @@ def stop(number: int, _: object) -> None:
 
 def run(options: argparse.Namespace) -> int:
     """Runs what the command line says; the exit status."""
-    program = options.lockreplay or Path(os.environ.get("LOCKREPLAY", PROGRAM))
-    lockreplay = Lockreplay(program)
+    lockreplay = Lockreplay(program_of(options))
     lockreplay.run(Script.parse("empty", ""))
     count, scripts = chosen_scripts(options, lockreplay)
     file_system = filesystem.look_at(options.directory)
     watcher, settle = chosen_watcher(options, file_system)
     report = JsonReport() if options.json else TapReport(options.journal or bool(options.scripts))
     calls.become_subreaper()
-    with tempfile.TemporaryDirectory(prefix="locktest-", dir=options.directory) as folder:
-        judge = Judge(lockreplay, file_system, not options.strict)
-        runner = Runner(Path(folder), judge, watcher, Timing(settle, options.limit))
-        seen = "seen in /proc" if isinstance(watcher, watch.ProcWatcher) else "guessed by time"
+    seen = "seen in /proc" if isinstance(watcher, watch.ProcWatcher) else "guessed by time"
+    folder = Path(tempfile.mkdtemp(prefix="locktest-", dir=options.directory))
+    runner = Runner(folder, Judge(lockreplay, file_system, not options.strict), watcher, Timing(settle, options.limit))
+    try:
         report.begin(f"{options.directory}: {file_system}; waits are {seen}, after {settle} s without a change", count)
         return run_all(runner, scripts, report, options.keep_going)
+    finally:
+        if not runner.left:
+            guarded(folder.rmdir, options.limit)
 
 
 def main() -> int:
@@ -111,10 +122,12 @@ def main() -> int:
         signal.signal(number, stop)
     try:
         return run(options)
+    except CouldNotRun as failed:
+        print(f"locktest: {failed}", file=sys.stderr)
     except Faulty as fault:
         print(f"locktest: lockreplay fails: {fault}", file=sys.stderr)
     except OSError as failed:
-        print(f"locktest: {failed.strerror or failed}: {failed.filename or ''} (make build makes lockreplay)", file=sys.stderr)
+        print(f"locktest: {failed}{'' if program_of(options).exists() else '; make build makes lockreplay'}", file=sys.stderr)
     except KeyboardInterrupt:
         return 130
     return 2

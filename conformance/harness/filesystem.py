@@ -7,6 +7,7 @@ import platform
 import tempfile
 from dataclasses import dataclass
 from pathlib import Path
+from typing import Callable
 
 from harness.script import LARGEST_OFFSET
 
@@ -17,12 +18,13 @@ LOCAL_KINDS = frozenset("ext2 ext3 ext4 tmpfs ramfs xfs btrfs f2fs overlay zfs b
 
 @dataclass(frozen=True)
 class FileSystem:
-    """The kind of file system, where and how it is mounted, and the largest offset that it lets a file have."""
+    """The kind of file system, where and how it is mounted, and the largest offset and size that it lets a file have."""
 
     kind: str
     mounted_on: str
     options: str
-    largest_offset: int
+    largest_offset: int = LARGEST_OFFSET
+    largest_size: int = LARGEST_OFFSET
 
     @property
     def is_local(self) -> bool:
@@ -54,21 +56,23 @@ def find_mount(folder: Path) -> tuple[str, str, str]:
     return best
 
 
-def find_largest_offset(folder: Path) -> int:
-    """The largest offset to which a file of the folder can be sought, found by halving."""
-    with tempfile.TemporaryFile(dir=folder) as file:
-        low, high = 0, LARGEST_OFFSET
-        while low < high:
-            middle = low + (high - low + 1) // 2
-            try:
-                os.lseek(file.fileno(), middle, os.SEEK_SET)
-                low = middle
-            except OSError:
-                high = middle - 1
-        return low
+def find_largest(takes: Callable[[int], object]) -> int:
+    """The largest number that a call takes, found by halving."""
+    low, high = 0, LARGEST_OFFSET
+    while low < high:
+        middle = low + (high - low + 1) // 2
+        try:
+            takes(middle)
+            low = middle
+        except OSError:
+            high = middle - 1
+    return low
 
 
 def look_at(folder: Path) -> FileSystem:
     """What is known of the folder's file system."""
     kind, place, options = find_mount(folder.resolve())
-    return FileSystem(kind, place, options, find_largest_offset(folder))
+    with tempfile.TemporaryFile(dir=folder) as file:
+        offset = find_largest(lambda number: os.lseek(file.fileno(), number, os.SEEK_SET))
+        size = find_largest(lambda number: os.ftruncate(file.fileno(), number))
+    return FileSystem(kind, place, options, offset, size)

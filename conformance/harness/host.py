@@ -15,17 +15,13 @@ from pathlib import Path
 from typing import Optional, Union
 
 from harness import agent, watch
+from harness.guard import LOOK_AGAIN_SECONDS, CouldNotRun, Hangs, guarded
 from harness.journal import Event, Ticket
 from harness.script import Request, Script
 
 Watcher = Union[watch.ProcWatcher, watch.TimeWatcher]
 # Descriptors of a script stand below.
 FIRST_CHANNEL = 256
-LOOK_AGAIN_SECONDS = 0.0003
-
-
-class CouldNotRun(Exception):
-    """The script couldn't be carried out to its end; why is the message."""
 
 
 @dataclass
@@ -95,7 +91,7 @@ class Host:
 
     def run(self) -> None:
         """Carries the script out; the journal has what was seen, also where this raises CouldNotRun."""
-        self.make_files()
+        guarded(self.make_files, self.timing.limit)
         self.make_processes()
         for request in self.script.requests:
             self.processes[request.process].mail.append(request)
@@ -276,7 +272,7 @@ class Host:
         return f"pid {process.pid}, state {watch.state_of(process.pid or 0) or 'gone'}{place}, at '{process.unanswered}'"
 
     def close(self) -> None:
-        """Ends all agents and removes the files. `left` then has the pids that don't end, as in an uninterruptible wait."""
+        """Ends all agents, and removes the files where they end. `left` then has the pids that don't, as in an uninterruptible wait."""
         first = self.processes[1].pid if 1 in self.processes else None
         pids = [process.pid for process in self.processes.values() if process.pid is not None]
         if first is not None:
@@ -293,4 +289,11 @@ class Host:
                 pass
         for process in self.processes.values():
             process.channel.close()
-        shutil.rmtree(self.folder, ignore_errors=True)
+        try:
+            if not self.left:
+                guarded(lambda: shutil.rmtree(self.folder), self.timing.limit)
+        except Hangs as hangs:
+            self.left.append(hangs.pid)
+        except FileNotFoundError:
+            # The folder wasn't made.
+            pass

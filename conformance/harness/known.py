@@ -130,7 +130,8 @@ def read_only_resize(situation: Situation) -> Iterator[Account]:
 
 def past_largest_file(situation: Situation) -> Iterator[Account]:
     if situation.request.command in ("seek", "resize") and situation.event.note in ("EINVAL", "EFBIG") and situation.same_grants:
-        if int(situation.request.words[2]) > situation.file_system.largest_offset:
+        largest = {"seek": situation.file_system.largest_offset, "resize": situation.file_system.largest_size}
+        if int(situation.request.words[2]) > largest[situation.request.command]:
             yield situation.account.leaving_out(situation.at)
 
 

@@ -6,7 +6,8 @@ import itertools
 from dataclasses import dataclass, field
 from pathlib import Path
 
-from harness.host import CouldNotRun, Host, Timing, Watcher
+from harness.guard import CouldNotRun
+from harness.host import Host, Timing, Watcher
 from harness.judge import DIFFERS, NOT_RUN, SKIPPED, Judge, Verdict
 from harness.replay import Faulty
 from harness.script import Script
@@ -14,13 +15,14 @@ from harness.script import Script
 
 @dataclass
 class Runner:
-    """A folder of its own on the file system that is asked, the judge, and how waits are seen."""
+    """A folder of its own on the file system that is asked, the judge, and how waits are seen. `left` has pids that a kill doesn't end."""
 
     folder: Path
     judge: Judge
     watcher: Watcher
     timing: Timing
-    numbers: itertools.count = field(default_factory=itertools.count)
+    numbers: itertools.count[int] = field(default_factory=itertools.count)
+    left: list[int] = field(default_factory=list)
 
     def run(self, script: Script) -> Verdict:
         """Carries a script out, and judges it."""
@@ -41,6 +43,7 @@ class Runner:
         # The last event of a run that failed isn't over.
         verdict = self.judge.judge(script, host.journal[:-1] if reason else host.journal)
         verdict.journal = host.journal
+        self.left += host.left
         if host.left:
             reason = f"{reason}; left behind, since a kill doesn't end them: pids {host.left}".lstrip("; ")
         if reason:

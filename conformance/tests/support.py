@@ -18,7 +18,8 @@ from harness.runner import Runner
 from harness.script import Script
 
 LOCKREPLAY = Path(os.environ.get("LOCKREPLAY", PROGRAM))
-LIMIT_SECONDS = 1.5
+LIMIT_SECONDS = 4.0
+GUESS_SECONDS = 0.2
 
 
 class RunnerTest(unittest.TestCase):
@@ -31,10 +32,11 @@ class RunnerTest(unittest.TestCase):
         self.folder = Path(folder.name)
         self.lockreplay = Lockreplay(LOCKREPLAY)
 
-    def runner(self, watcher: Optional[watch.TimeWatcher] = None, settle: float = 0.0) -> Runner:
-        """A runner that sees waits in /proc, or as the watcher does."""
+    def runner(self, guesses: bool = not watch.ProcWatcher.works()) -> Runner:
+        """A runner that sees waits in /proc where the system lets it, or guesses them by time."""
         judge = Judge(self.lockreplay, filesystem.look_at(self.folder))
-        return Runner(self.folder, judge, watcher or watch.ProcWatcher(), Timing(settle, LIMIT_SECONDS))
+        watcher = watch.TimeWatcher() if guesses else watch.ProcWatcher()
+        return Runner(self.folder, judge, watcher, Timing(GUESS_SECONDS if guesses else 0.0, LIMIT_SECONDS))
 
     def verdict(self, *lines: str) -> Verdict:
         """The verdict on a script of these lines."""

@@ -46,7 +46,7 @@ class Hosts(RunnerTest):
 
     def test_waits_are_guessed_by_time(self) -> None:
         for name in ("a-cycle-of-two", "eintr-setlkw", "flock-waits"):
-            verdict = self.runner(watch.TimeWatcher(), settle=0.2).run(self.corpus(name))
+            verdict = self.runner(guesses=True).run(self.corpus(name))
             self.assertEqual((verdict.kind, verdict.reason), (AS_DEFINED, ""))
 
     def test_a_queue_script_is_skipped(self) -> None:
