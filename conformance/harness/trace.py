@@ -237,9 +237,6 @@ class Translator:
             if process.matters:
                 self.lines.append(Line(process, "exit", str(call)))
 
-    def on_exit(self, process: Traced, call: Call) -> None:
-        """A thread's end, of which `ended` tells too."""
-
 
 def needed(translator: Translator) -> list[Traced]:
     """The processes that matter, and those from which they stem."""
@@ -266,14 +263,14 @@ def script_of(log: Iterable[str], name: str) -> str:
     if len(processes) > WIDE.processes or most >= WIDE.descriptors or len(translator.paths) > 64:
         raise ValueError(f"{len(processes)} processes, {len(translator.paths)} files: more than a script may name")
     wide = len(processes) > SMALL.processes or most >= SMALL.descriptors
-    lines = [f"# Made from the strace log {name}: behind each request stands the call.", "# What strace doesn't show is guessed: see README.md."]
-    lines += [f"# file {number}: {path}" for number, path in enumerate(translator.paths)]
-    lines += [f"# process {numbers[id(process)]}: pid {process.pid}" for process in processes]
-    body = ["limits wide"] if wide else []
+    head = [f"Made from the strace log {name}: behind each request stands the call.", "What strace doesn't show is guessed."]
+    head += [f"file {number}: {path}" for number, path in enumerate(translator.paths)]
+    head += [f"process {numbers[id(process)]}: pid {process.pid}" for process in processes]
+    body = [clipped(comment) for comment in head] + (["limits wide"] if wide else [])
     for line in translator.lines:
         if not line.process.matters or (line.child and not line.child.matters):
             continue
         request = f"fork {numbers[id(line.child)]}" if line.child else line.request
         body += [f"{numbers[id(line.process)]} {request}"] if request else []
         body.append(clipped(line.comment))
-    return "".join(f"{line}\n" for line in [clipped(line[2:]) for line in lines] + body)
+    return "".join(f"{line}\n" for line in body)

@@ -2,7 +2,9 @@
 
 from __future__ import annotations
 
+import os
 import platform
+import signal
 from pathlib import Path
 from typing import Optional
 
@@ -45,7 +47,14 @@ class ProcWatcher:
 
     @staticmethod
     def works() -> bool:
-        return platform.machine() in LOCK_CALLS and bool(read_text("/proc/self/syscall")) and bool(read_text("/proc/self/status"))
+        """Whether /proc tells of a child: a system may forbid that, or not have it."""
+        child = os.fork()
+        if child == 0:
+            signal.pause()
+        told = read_text(f"/proc/{child}/syscall") and read_text(f"/proc/{child}/status")
+        os.kill(child, signal.SIGKILL)
+        os.waitpid(child, 0)
+        return bool(told) and platform.machine() in LOCK_CALLS
 
     def look(self, pid: int) -> Optional[str]:
         """What tells this sleep from the next one; None where the process doesn't sleep in a lock call."""

@@ -20,6 +20,7 @@ from harness.script import Script
 LOCKREPLAY = Path(os.environ.get("LOCKREPLAY", PROGRAM))
 LIMIT_SECONDS = 4.0
 GUESS_SECONDS = 0.2
+PROC_WORKS = watch.ProcWatcher.works()
 
 
 class RunnerTest(unittest.TestCase):
@@ -32,7 +33,7 @@ class RunnerTest(unittest.TestCase):
         self.folder = Path(folder.name)
         self.lockreplay = Lockreplay(LOCKREPLAY)
 
-    def runner(self, guesses: bool = not watch.ProcWatcher.works()) -> Runner:
+    def runner(self, guesses: bool = not PROC_WORKS) -> Runner:
         """A runner that sees waits in /proc where the system lets it, or guesses them by time."""
         judge = Judge(self.lockreplay, filesystem.look_at(self.folder))
         watcher = watch.TimeWatcher() if guesses else watch.ProcWatcher()

@@ -29,9 +29,11 @@ class Traces(unittest.TestCase):
         self.assertEqual(self.requests(log), ["1 open 0 rw", "1 setlk 0 w set 3 7", "1 dup 0", "1 close 1"])
 
     def test_a_wait_stands_where_it_began(self) -> None:
-        log = START + "10 100.2 fork() = 11\n10 100.3 fcntl(5</d/a>, F_SETLK, {l_type=F_WRLCK, l_whence=SEEK_SET, l_start=0, l_len=0}) = 0\n"
+        log = START + "10 100.2 fork() = 11\n"
+        log += "10 100.3 fcntl(5</d/a>, F_SETLK, {l_type=F_WRLCK, l_whence=SEEK_SET, l_start=0, l_len=0}) = 0\n"
         log += "11 100.4 fcntl(5</d/a>, F_SETLKW, {l_type=F_RDLCK, l_whence=SEEK_SET, l_start=0, l_len=1} <unfinished ...>\n"
-        log += "10 100.5 close(5</d/a>) = 0\n11 100.6 <... fcntl resumed>) = 0\n11 100.7 exit_group(0) = ?\n11 100.8 +++ exited with 0 +++\n"
+        log += "10 100.5 close(5</d/a>) = 0\n11 100.6 <... fcntl resumed>) = 0\n"
+        log += "11 100.7 exit_group(0) = ?\n11 100.8 +++ exited with 0 +++\n"
         expected = ["1 open 0 rw", "1 fork 2", "1 setlk 0 w set 0 0", "2 setlkw 0 r set 0 1", "1 close 0", "2 exit"]
         self.assertEqual(self.requests(log), expected)
 
