@@ -87,16 +87,17 @@ class Maker:
             return f" {descriptor} {chance.choice(['sh', 'sh', 'ex', 'ex', 'un'])}{chance.choice(['', '', ' nb'])}"
         if command in ("signal", "kill"):
             return f" {chance.randint(1, self.processes)}"
-        return "" if command == "exit" else f" {descriptor}{self.lock_arguments(command)}"
+        return "" if command == "exit" else f" {descriptor}{self.lock_arguments()}"
 
-    def lock_arguments(self, command: str) -> str:
-        """Kind, whence, start and length; a few are out of the ordinary."""
+    def lock_arguments(self) -> str:
+        """Kind, whence, start, length and sometimes a pid; a few are out of the ordinary."""
         chance = self.chance
-        kind = chance.choice("rw" if command.endswith("getlk") else "rrrwwwu")
+        kind = chance.choice("rrrwwwu")
         whence = chance.choice(["set"] * 10 + ["cur", "end"])
         length = chance.choice([1, 1, 1, 2, 3, 0, -1])
         start = chance.randrange(BYTES) if chance.random() < 0.98 else chance.choice([-1, 2**63 - 1, 2**63 - 3])
-        return f" {kind} {whence} {start} {length}"
+        pid = " 5" if chance.random() < 0.02 else ""
+        return f" {kind} {whence} {start} {length}{pid}"
 
 
 def make_script(lockreplay: Lockreplay, seed: int, number: int) -> Script:

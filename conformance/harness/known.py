@@ -104,8 +104,12 @@ def open_file_unlock_asked(situation: Situation) -> Iterator[Account]:
     asked = span_of(situation, description)
     own = [held for held in situation.before.held if held.owner == description.owner and held.file == description.file]
     told = [told_as(held) for held in own if not held.by_flock and asked and overlap(held, asked)]
-    if situation.event.note in (told or ["free"]):
+    if asked and situation.event.note in (told or ["free"]):
         yield situation.account.accepting(situation.at)
+    elif situation.event.note in ("EINVAL", "EOVERFLOW"):
+        # The range may still be refused, as that of any lock.
+        words = situation.request.words
+        yield situation.account.asking_instead(situation.at, replace(situation.request, words=(*words[:2], "r", *words[3:])))
 
 
 def other_blocker(situation: Situation) -> Iterator[Account]:

@@ -4,7 +4,9 @@ from __future__ import annotations
 
 import time
 
+from harness.chance import make_script, shrink
 from harness.judge import AS_DEFINED, DIFFERS, NOT_RUN
+from harness.script import Script
 from tests.support import RunnerTest
 
 TWO = ("1 open 0 rw", "1 fork 2")
@@ -67,6 +69,19 @@ class Lies(RunnerTest):
         self.lying("do_flock", lambda truth, *words: "ok" if (note := truth(*words)) == "EAGAIN" else note)
         verdict = self.verdict("1 open 0 rw", "1 open 0 rw", "1 flock 0 sh", "1 flock 1 sh", "1 flock 0 ex nb")
         self.assertEqual(verdict.kind, DIFFERS)
+
+    def test_a_random_script_is_shrunk(self) -> None:
+        self.lying("do_lock", lambda truth, *words: "ok" if (note := truth(*words)) == "EAGAIN" else note)
+        runner = self.runner()
+
+        def differs(script: Script) -> bool:
+            return runner.run(script).kind == DIFFERS
+
+        script = next(script for number in range(50) if differs(script := make_script(self.lockreplay, 1, number)))
+        shrunk = shrink(script, differs)
+        self.assertTrue(differs(shrunk))
+        # Two owners have to come by descriptors, one sets a lock, and one is refused another.
+        self.assertLessEqual(len(shrunk.requests), 6)
 
 
 def wait_for_good(truth, *words: str) -> str:  # type: ignore[no-untyped-def]
