@@ -94,7 +94,10 @@ def open_file_order(situation: Situation) -> Iterator[Account]:
     request, call = situation.request, situation.request.lock_call
     if request.is_open_file_lock and call is not None and call.pid != 0 and situation.right.note == "EINVAL":
         if situation.event.note in ("EOVERFLOW", "EBADF"):
-            yield situation.account.asking_instead(situation.at, replace(request, words=request.words[:6]))
+            # What the command asks about isn't looked at before the range.
+            kind = "r" if request.command == "ogetlk" else call.kind
+            words = (*request.words[:2], kind, *request.words[3:6])
+            yield situation.account.asking_instead(situation.at, replace(request, words=words))
 
 
 def open_file_unlock_asked(situation: Situation) -> Iterator[Account]:
