@@ -83,6 +83,7 @@ Recogniser = Callable[[Situation], Iterator[Account]]
 
 
 def start_past_largest(situation: Situation) -> Iterator[Account]:
+    """EOVERFLOW where the start alone is past the largest offset."""
     call, description = situation.request.lock_call, situation.description
     if call is None or description is None or situation.event.note != "EOVERFLOW" or not situation.same_grants:
         return
@@ -91,6 +92,7 @@ def start_past_largest(situation: Situation) -> Iterator[Account]:
 
 
 def open_file_order(situation: Situation) -> Iterator[Account]:
+    """An OFD command with a pid, and the refusal that it gets without one."""
     request, call = situation.request, situation.request.lock_call
     if request.is_open_file_lock and call is not None and call.pid != 0 and situation.right.note == "EINVAL":
         if situation.event.note in ("EOVERFLOW", "EBADF"):
@@ -101,6 +103,7 @@ def open_file_order(situation: Situation) -> Iterator[Account]:
 
 
 def open_file_unlock_asked(situation: Situation) -> Iterator[Account]:
+    """An OFD get command that asks about an unlock, and is told of its own locks."""
     call, description = situation.request.lock_call, situation.description
     if situation.request.command != "ogetlk" or call is None or call.kind != "u" or description is None:
         return
@@ -116,6 +119,7 @@ def open_file_unlock_asked(situation: Situation) -> Iterator[Account]:
 
 
 def other_blocker(situation: Situation) -> Iterator[Account]:
+    """A get command that tells another lock that blocks."""
     call, description = situation.request.lock_call, situation.description
     if not situation.request.command.endswith("getlk") or call is None or description is None:
         return
@@ -129,6 +133,7 @@ def other_blocker(situation: Situation) -> Iterator[Account]:
 
 
 def read_only_resize(situation: Situation) -> Iterator[Account]:
+    """A resize that is refused by the access mode."""
     description = situation.description
     if situation.request.command == "resize" and description is not None and description.access == "r":
         if situation.event.note == "EINVAL" and situation.same_grants:
@@ -136,6 +141,7 @@ def read_only_resize(situation: Situation) -> Iterator[Account]:
 
 
 def past_largest_file(situation: Situation) -> Iterator[Account]:
+    """A seek or a resize past the largest file."""
     if situation.request.command in ("seek", "resize") and situation.event.note in ("EINVAL", "EFBIG") and situation.same_grants:
         largest = {"seek": situation.file_system.largest_offset, "resize": situation.file_system.largest_size}
         if int(situation.request.words[2]) > largest[situation.request.command]:
@@ -143,11 +149,13 @@ def past_largest_file(situation: Situation) -> Iterator[Account]:
 
 
 def eacces(situation: Situation) -> Iterator[Account]:
+    """EACCES, which POSIX allows beside EAGAIN."""
     if situation.request.command in ("setlk", "osetlk") and situation.event.note == "EACCES" and situation.right.note == "EAGAIN":
         yield situation.account.accepting(situation.at)
 
 
 def deadlock_missed(situation: Situation) -> Iterator[Account]:
+    """A cycle that a search by one blocker of each wait may miss. lockreplay has no such state, so comparing ends."""
     if situation.right.note != "EDEADLK" or situation.event.note != "waits" or situation.description is None:
         return
     asked = asked_lock(situation)
@@ -157,6 +165,7 @@ def deadlock_missed(situation: Situation) -> Iterator[Account]:
 
 
 def deadlock_through_description(situation: Situation) -> Iterator[Account]:
+    """A cycle that leads through OFD waits, at the request."""
     asked = asked_lock(situation)
     if situation.event.note != "EDEADLK" or situation.right.note != "waits" or asked is None:
         return
@@ -166,6 +175,7 @@ def deadlock_through_description(situation: Situation) -> Iterator[Account]:
 
 
 def deadlock_told_late(situation: Situation) -> Iterator[Account]:
+    """A cycle that leads through OFD waits, at a later test of a wait."""
     late = [ticket for ticket, note in situation.event.grants.items() if note == "EDEADLK"]
     after = replay(situation.lockreplay, situation.script, situation.account.until(situation.at + 1))
     waits = {ticket: wait for ticket, wait in situation.waits_before(situation.at + 1)}
@@ -178,6 +188,7 @@ def deadlock_told_late(situation: Situation) -> Iterator[Account]:
 
 
 def order_of_grants(situation: Situation) -> Iterator[Account]:
+    """Another order of waits that are in each other's way."""
     waits = situation.waits_before(situation.at)
     if len(waits) < 2 or situation.same_grants:
         return
@@ -188,6 +199,7 @@ def order_of_grants(situation: Situation) -> Iterator[Account]:
 
 
 def flock_conversion(situation: Situation) -> Iterator[Account]:
+    """A conversion by flock between whose halves no wait comes."""
     description = situation.description
     if situation.request.command != "flock" or description is None:
         return
@@ -197,6 +209,7 @@ def flock_conversion(situation: Situation) -> Iterator[Account]:
 
 
 def flock_lost(situation: Situation) -> Iterator[Account]:
+    """A flock lock that was lost by a wait through its own description, at this event or an earlier one."""
     for moment in range(situation.at, max(-1, situation.at - MOST_EVENTS_BACK), -1):
         held = {lock.owner for lock in situation.state_before(moment).held if lock.by_flock}
         losing = [ticket for ticket, wait in situation.waits_before(moment) if wait.lock.by_flock and wait.lock.owner in held]

@@ -18,8 +18,10 @@ from harness.runner import Runner
 from harness.script import Script
 
 LOCKREPLAY = Path(os.environ.get("LOCKREPLAY", PROGRAM))
-LIMIT_SECONDS = 4.0
-GUESS_SECONDS = 0.2
+# On a busy machine an answer may take long; where a hang is what is tested, there is none to come.
+LIMIT_SECONDS = 30.0
+HANG_SECONDS = 3.0
+GUESS_SECONDS = 1.0
 PROC_WORKS = watch.ProcWatcher.works()
 
 
@@ -33,15 +35,15 @@ class RunnerTest(unittest.TestCase):
         self.folder = Path(folder.name)
         self.lockreplay = Lockreplay(LOCKREPLAY)
 
-    def runner(self, guesses: bool = not PROC_WORKS) -> Runner:
+    def runner(self, guesses: bool = not PROC_WORKS, limit: float = LIMIT_SECONDS) -> Runner:
         """A runner that sees waits in /proc where the system lets it, or guesses them by time."""
         judge = Judge(self.lockreplay, filesystem.look_at(self.folder))
         watcher = watch.TimeWatcher() if guesses else watch.ProcWatcher()
-        return Runner(self.folder, judge, watcher, Timing(GUESS_SECONDS if guesses else 0.0, LIMIT_SECONDS))
+        return Runner(self.folder, judge, watcher, Timing(GUESS_SECONDS if guesses else 0.0, limit))
 
-    def verdict(self, *lines: str) -> Verdict:
+    def verdict(self, *lines: str, limit: float = LIMIT_SECONDS) -> Verdict:
         """The verdict on a script of these lines."""
-        return self.runner().run(Script.parse("test", "".join(f"{line}\n" for line in lines)))
+        return self.runner(limit=limit).run(Script.parse("test", "".join(f"{line}\n" for line in lines)))
 
     def corpus(self, name: str) -> Script:
         """A script of the corpus."""

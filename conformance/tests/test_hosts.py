@@ -14,7 +14,7 @@ from harness import watch
 from harness.command import HERE
 from harness.host import has_ended
 from harness.judge import AS_DEFINED, NOT_RUN, SKIPPED
-from tests.support import LOCKREPLAY, RunnerTest
+from tests.support import HANG_SECONDS, LIMIT_SECONDS, LOCKREPLAY, RunnerTest
 
 # On file systems of any kind, these show no known difference.
 PLAIN = [
@@ -45,7 +45,7 @@ class Hosts(RunnerTest):
                 self.assertEqual((verdict.kind, verdict.reason), (AS_DEFINED, ""))
 
     def test_waits_are_guessed_by_time(self) -> None:
-        for name in ("a-cycle-of-two", "eintr-setlkw", "flock-waits"):
+        for name in ("a-cycle-of-two", "flock-waits"):
             verdict = self.runner(guesses=True).run(self.corpus(name))
             self.assertEqual((verdict.kind, verdict.reason), (AS_DEFINED, ""))
 
@@ -63,7 +63,7 @@ class Hosts(RunnerTest):
 
     def test_a_hang_is_told_with_its_pid(self) -> None:
         self.lying("do_seek", lambda truth, *words: time.sleep(60))
-        verdict = self.verdict("1 open 0 rw", "1 setlk 0 w set 0 1", "1 seek 0 5")
+        verdict = self.verdict("1 open 0 rw", "1 setlk 0 w set 0 1", "1 seek 0 5", limit=HANG_SECONDS)
         self.assertEqual(verdict.kind, NOT_RUN)
         self.assertRegex(verdict.reason, r"process 1 doesn't answer: pid \d+, state S.*'1 seek 0 5'")
         self.assert_nothing_left(verdict.reason)
@@ -88,10 +88,10 @@ class Interrupted(RunnerTest):
         script = self.folder / "script.lock"
         script.write_text(text)
         self.place = Path(tempfile.mkdtemp(dir=self.folder))
-        command = [sys.executable, str(HERE / "locktest"), "--settle", "30", "--lockreplay", str(LOCKREPLAY), str(self.place), str(script)]
+        command = [sys.executable, str(HERE / "locktest"), "--settle", "100", "--lockreplay", str(LOCKREPLAY), str(self.place), str(script)]
         started = subprocess.Popen(command, stdout=subprocess.DEVNULL)
         self.addCleanup(started.wait)
-        deadline = time.monotonic() + 10
+        deadline = time.monotonic() + LIMIT_SECONDS
         while len(self.agents(started.pid)) < 2 and time.monotonic() < deadline:
             time.sleep(0.02)
         time.sleep(0.1)
@@ -105,8 +105,8 @@ class Interrupted(RunnerTest):
                 parents[int(entry.name)] = int(fields[1])
         return [pid for pid, parent in parents.items() if host in (parent, parents.get(parent))]
 
-    def assert_all_end(self, pids: list[int], seconds: float) -> None:
-        deadline = time.monotonic() + seconds
+    def assert_all_end(self, pids: list[int]) -> None:
+        deadline = time.monotonic() + LIMIT_SECONDS
         while not all(has_ended(pid) for pid in pids) and time.monotonic() < deadline:
             time.sleep(0.02)
         self.assertTrue(all(has_ended(pid) for pid in pids))
@@ -117,7 +117,7 @@ class Interrupted(RunnerTest):
         self.assertGreaterEqual(len(pids), 2)
         host.send_signal(signal.SIGTERM)
         self.assertEqual(host.wait(), 128 + signal.SIGTERM)
-        self.assert_all_end(pids, 1)
+        self.assert_all_end(pids)
         self.assertEqual(list(self.place.iterdir()), [])
 
     def test_a_kill_leaves_no_process(self) -> None:
@@ -125,4 +125,4 @@ class Interrupted(RunnerTest):
         pids = self.agents(host.pid)
         self.assertGreaterEqual(len(pids), 2)
         host.kill()
-        self.assert_all_end(pids, 5)
+        self.assert_all_end(pids)

@@ -7,7 +7,7 @@ import time
 from harness.chance import make_script, shrink
 from harness.judge import AS_DEFINED, DIFFERS, NOT_RUN
 from harness.script import Script
-from tests.support import RunnerTest
+from tests.support import HANG_SECONDS, RunnerTest
 
 TWO = ("1 open 0 rw", "1 fork 2")
 
@@ -46,7 +46,7 @@ class Lies(RunnerTest):
 
     def test_a_plain_cycle_is_not_found(self) -> None:
         self.lying("do_lock", lambda truth, *words: wait_for_good(truth, *words))
-        verdict = self.runner().run(self.corpus("a-cycle-of-two"))
+        verdict = self.runner(limit=HANG_SECONDS).run(self.corpus("a-cycle-of-two"))
         self.assertEqual(verdict.kind, NOT_RUN)
 
     def test_a_deadlock_is_made_up(self) -> None:
