@@ -75,7 +75,7 @@ class Situation:
         return [(named, wait) for wait in run.waits if (named := names.get(wait.ticket)) is not None]
 
     def request_of(self, ticket: Ticket) -> Request:
-        """The request that waits by a ticket, which its process sent last: with the bytes that were found when it was taken."""
+        """The request of a ticket."""
         return next(event.request for event in self.journal if event.ticket == ticket)
 
 
