@@ -14,11 +14,13 @@ build:
 	@(cd crates/lockreplay && rt run) < /dev/null > crates/lockreplay/out/build.log 2>&1 \
 	    || { cat crates/lockreplay/out/build.log >&2; exit 1; }
 
-# The gate, and then the command lines, on the program as two compilers built it in the gate.
+# The gate, and then the command lines and the large scripts, on the program as two compilers built it in the gate.
 test:
 	rt ci
 	sh tests/command-line.sh $(PROGRAM)
 	sh tests/command-line.sh $(PROGRAM).by-rattle
+	sh tests/large-scripts.sh $(PROGRAM)
+	sh tests/large-scripts.sh $(PROGRAM).by-rattle
 
 # Says of each must-fail edit what refuses it, and fails where that is a name alone; `make edits EDITS='CRATE EDIT'` tries some.
 edits:
