@@ -33,7 +33,7 @@ pub fn release(books: &mut Vec<Book>, waits: &mut Waits, p: u8, released: &Relea
     let descriptions = released.descriptions();
     for file in released.files() {
         release_in(&mut books[usize::from(*file)], p, descriptions);
-        waits.refresh(*file, books);
+        waits.refresh_owner(*file, Owner::Process(p), books);
     }
 }
 

@@ -1,6 +1,7 @@
 -- What `Waits` stands for (the words are this project's choice).
 use Rattle.std.specs.Prelude.{◌≡◌, ◌≢◌, ℕ, ◌≤◌, ◌==◌, ◌↔◌, Bool, not, Option, List, find, filter, IsTrue}
 use Rattle.lock_book.specs.declared.Owner.{Owner}
+use Rattle.lock_book.specs.declared.Owner.TheVariants.{Process}
 use Rattle.wait_core.specs.declared.Policy.{Policy}
 use Rattle.wait_core.specs.declared.Policy.TheVariants.{Held}
 use Rattle.wait_core.specs.declared.Wait.{Wait}
@@ -41,3 +42,7 @@ pub record AreTold (waits : Waits) (locks : Locks) : Type 0 where
 -- the two have the same byte locks on each file but this one
 abbrev pub AgreeBut : ℕ → Locks → Locks → Type 0
 AgreeBut file old new = (other : ℕ) (owner : Owner) (byte : ℕ) → other ≢ file → new.bytes other owner byte ≡ old.bytes other owner byte
+
+-- the two have the same traditional locks, but for those of this owner on this file
+abbrev pub AgreeButOwner : ℕ → Owner → Locks → Locks → Type 0
+AgreeButOwner file owner old new = (other q byte : ℕ) → (other ≡ file → Process q ≢ owner) → new.bytes other (Process q) byte ≡ old.bytes other (Process q) byte

@@ -65,7 +65,7 @@ impl Wait {
     }
 
     /// Whether a traditional lock of the process blocks the wait.
-    fn is_blocked_by_process(&self, process: u8, books: &[Book]) -> bool
+    pub(crate) fn is_blocked_by_process(&self, process: u8, books: &[Book]) -> bool
         requires file { self.now.file < length books.now }
         requires range { IsByteRange self.now.span }
         ensures { let locks = locks_of books.now in IsTrue result ↔ ProcessBlocks (locks.bytes self.now.file) process self.now.owner self.now.span self.now.mode }

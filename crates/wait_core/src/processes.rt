@@ -1,4 +1,4 @@
-ghost use Rattle.std.specs.Prelude.{ℕ, ◌≡◌, ◌<◌, ◌≤◌, ◌==◌, ◌||◌, IfNone, IfSome, IsFalse, IsTrue};
+ghost use Rattle.std.specs.Prelude.{ℕ, ◌≡◌, ◌<◌, ◌≤◌, ◌==◌, ◌||◌, if◌then◌else◌, false, IfNone, IfSome, IsFalse, IsTrue};
 ghost use Rattle.wait_core.specs.Processes.{IsBeyond, IsWithin, is_member, lacking, no_process};
 
 /// How many processes there are at most, which are numbered from 1 (this project's choice).
@@ -44,6 +44,26 @@ impl ProcessSet {
     {
         ProcessSet {
             bits: self.bits | 1 << (p - 1),
+        }
+    }
+
+    /// The set with the process in it, or without it.
+    pub fn put(self, p: u8, is_in: bool) -> ProcessSet
+        requires from_one { 1 ≤ p }
+        requires few { p ≤ PROCESSES }
+        ensures { (q : ℕ) → q ≤ PROCESSES → is_member result q ≡ (if q == p then is_in else is_member self q) }
+    {
+        if is_in { self.with(p) } else { self.without(p) }
+    }
+
+    /// The set without the process.
+    fn without(self, p: u8) -> ProcessSet
+        requires from_one { 1 ≤ p }
+        requires few { p ≤ PROCESSES }
+        ensures { (q : ℕ) → q ≤ PROCESSES → is_member result q ≡ (if q == p then false else is_member self q) }
+    {
+        ProcessSet {
+            bits: self.bits & !(1 << (p - 1)),
         }
     }
 

@@ -8,7 +8,7 @@ mod cycles;
 use crate::files::{FILES, FileSet};
 use crate::pairs::Pairs;
 use crate::{Policy, Wait};
-use lock_book::{Book, conflicts_are_decided};
+use lock_book::{Book, Owner, conflicts_are_decided};
 use range_core::Memory;
 use std::alloc::Global;
 
@@ -37,7 +37,7 @@ impl Waits {
     ghost use Rattle.wait_core.specs.Locks.{Locks, locks_of};
     ghost use Rattle.wait_core.specs.Blocking.{AllBlocked, IsBlocked, IsNextReady, IsQueued};
     ghost use Rattle.wait_core.specs.Settled.{AllBlockedElsewhere, AreBlockedElsewhere, AgreeElsewhere};
-    ghost use Rattle.wait_core.specs.WaitsView.{waits_of, policy_of, processes_of, wait_of, without_wait_of, AreTold, AgreeBut};
+    ghost use Rattle.wait_core.specs.WaitsView.{waits_of, policy_of, processes_of, wait_of, without_wait_of, AreTold, AgreeBut, AgreeButOwner};
 
     /// No wait, with room for one of each process. The processes are numbered from 1, and at most 64 of them (this
     /// project's choice).
@@ -105,6 +105,19 @@ impl Waits {
         ensures blocked { file < FILES → (locks : Locks) → AreBlockedElsewhere self.old locks → AgreeElsewhere file locks (locks_of books.now) → AreBlockedElsewhere self.new (locks_of books.now) }
     {
         self.pairs.tell_of_file(file, &self.waits, books);
+        self.touch(file);
+    }
+
+    /// Tells the pairs anew after a change of this owner's locks on the file, the other traditional locks being as they were.
+    pub fn refresh_owner(&mut self, file: u8, owner: Owner, books: &[Book])
+        requires { length books.now ≡ 64 }
+        ensures waits { waits_of self.new ≡ waits_of self.old }
+        ensures policy { policy_of self.new ≡ policy_of self.old }
+        ensures processes { processes_of self.new ≡ processes_of self.old }
+        ensures told { (locks : Locks) → AreTold self.old locks → AgreeButOwner file owner locks (locks_of books.now) → AreTold self.new (locks_of books.now) }
+        ensures blocked { file < FILES → (locks : Locks) → AreBlockedElsewhere self.old locks → AgreeElsewhere file locks (locks_of books.now) → AreBlockedElsewhere self.new (locks_of books.now) }
+    {
+        self.pairs.tell_of_owner(file, owner, &self.waits, books);
         self.touch(file);
     }
 
