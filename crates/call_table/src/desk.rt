@@ -66,6 +66,7 @@ impl Desk {
         requires { IsDeskOf hub.now self.old }
         ensures served { IfOk result (IsServed self.old self.new) }
         ensures closed { (result ≡ Ok Served.Closed) ↔ ((desk_view self.old).closed ≡ true) }
+        ensures gate { (place : ℕ) → result ≡ Ok (Served.Took place) → G.passed gate.now place }
         ensures memory { OnErr result (IsUnserved self.old self.new) }
         ensures looked { (p : ℕ)
             → (tally_at (desk_view self.old).tallies p).looked ≤ (tally_at (desk_view self.new).tallies p).looked }
@@ -92,8 +93,14 @@ impl Desk {
             taken + 1,
             entry,
         );
-        gate.between(place);
-        publish_all(shared, &self.setup, &mut self.seat, &entry.notes, place);
+        publish_all(
+            shared,
+            &self.setup,
+            &mut self.seat,
+            gate,
+            &entry.notes,
+            place,
+        );
         Ok(Served::Took(place))
     }
 
