@@ -9,6 +9,7 @@ use Rattle.std.proofs.lemmas.List.Elements.{All-nil, All-cons}
 use Rattle.std.proofs.lemmas.Option.{slice_get-get_or, slice_get_within, slice_get_cases, get_or_from_slice_get}
 use Rattle.range_core.specs.declared.Mode.{Mode}
 use Rattle.range_core.specs.declared.Span.{Span}
+use Rattle.range_core.specs.Ranges.{Covers, IsByteRange}
 use Rattle.lock_book.specs.declared.Owner.{Owner}
 use Rattle.lock_book.specs.declared.Owner.TheVariants.{Process, Description}
 use Rattle.lock_book.specs.Conflicts.{ByteModes, ProcessBlocks}
@@ -19,9 +20,10 @@ use Rattle.wait_core.specs.declared.processes.ProcessSet.{ProcessSet}
 use Rattle.wait_core.specs.declared.waits.Waits.{Waits}
 use Rattle.wait_core.specs.Locks.{Locks}
 use Rattle.wait_core.specs.Cycles.{WaitsFor}
-use Rattle.wait_core.specs.Pairs.{IsBehind, IsBlockedWait, IsElsewhere, WaitsBehind}
+use Rattle.wait_core.specs.Pairs.{IsBehind, IsBlockedWait, IsElsewhere, IsOff, IsOn, WaitsBehind}
 use Rattle.wait_core.specs.PairsView.{pair_in, TellsPair}
 use Rattle.wait_core.specs.Processes.{is_member, no_process}
+use Rattle.wait_core.specs.WellFormed.{IsWellFormed}
 use Rattle.wait_core.specs.WaitsView.{waits_of, has_pair, without_wait_of, AreTold, AgreeBut, AgreeButOwner}
 use Rattle.wait_core.proofs.AnyLemmas.{Any-here, Any-there, Any-append, Any-append_left, Any-append_right, Any-alone, Any-weaker, Any-filter, Any-unfilter, split_at, split_within, split_is, split_take}
 use Rattle.wait_core.proofs.ProcessLemmas.{none_in, or_cases, or_right}
@@ -92,14 +94,14 @@ told-leave old new locks process rest forgotten others was = told new locks (λ 
       )
     ])
 
--- a process blocks by locks that agree
-pub blocks_same : (modes modes' : ByteModes) (q : ℕ) (owner : Owner) (span : Span) (mode : Mode) → ((byte : ℕ) → modes' (Process q) byte ≡ modes (Process q) byte) → ProcessBlocks modes q owner span mode → ProcessBlocks modes' q owner span mode
+-- a process blocks by locks that agree on the range
+pub blocks_same : (modes modes' : ByteModes) (q : ℕ) (owner : Owner) (span : Span) (mode : Mode) → ((byte : ℕ) → Covers span byte → modes' (Process q) byte ≡ modes (Process q) byte) → ProcessBlocks modes q owner span mode → ProcessBlocks modes' q owner span mode
 blocks_same modes modes' q owner span mode agree blocks = record {
   byte = blocks.byte;
   covered = blocks.covered;
   blocks = record {
     another = blocks.blocks.another;
-    conflicts = rw (agree blocks.byte) blocks.blocks.conflicts;
+    conflicts = rw (agree blocks.byte blocks.covered) blocks.blocks.conflicts;
   };
 }
 
@@ -151,12 +153,12 @@ kept_elsewhere old new file p q wait agree other = (
   λ was. record {
     of_p = was.of_p;
     traditional = was.traditional;
-    blocked = blocks_same (old.bytes wait.file) (new.bytes wait.file) q wait.owner wait.span wait.mode (λ byte. agree wait.file (Process q) byte other) was.blocked;
+    blocked = blocks_same (old.bytes wait.file) (new.bytes wait.file) q wait.owner wait.span wait.mode (λ byte covered. agree wait.file (Process q) byte other) was.blocked;
   },
   λ is. record {
     of_p = is.of_p;
     traditional = is.traditional;
-    blocked = blocks_same (new.bytes wait.file) (old.bytes wait.file) q wait.owner wait.span wait.mode (λ byte. sym (agree wait.file (Process q) byte other)) is.blocked;
+    blocked = blocks_same (new.bytes wait.file) (old.bytes wait.file) q wait.owner wait.span wait.mode (λ byte covered. sym (agree wait.file (Process q) byte other)) is.blocked;
   },
 )
 
@@ -208,20 +210,24 @@ told-refresh old new before after file list apart anew others agree = told-chang
     ])
     (λ p q q_few none. others p q (λ k d within same. absurd (none k d within same)))
 
--- a process blocks by the same locks where its own are the same
-kept_of_owner : (old new : Locks) (file p q : ℕ) (owner : Owner) (wait : Wait) → AgreeButOwner file owner old new → (wait.file ≡ file → Process q ≢ owner) → IsBlockedWait old p q wait ↔ IsBlockedWait new p q wait
-kept_of_owner old new file p q owner wait agree another = (
-  λ was. record {
-    of_p = was.of_p;
-    traditional = was.traditional;
-    blocked = blocks_same (old.bytes wait.file) (new.bytes wait.file) q wait.owner wait.span wait.mode (λ byte. agree wait.file q byte another) was.blocked;
-  },
-  λ is. record {
-    of_p = is.of_p;
-    traditional = is.traditional;
-    blocked = blocks_same (new.bytes wait.file) (old.bytes wait.file) q wait.owner wait.span wait.mode (λ byte. sym (agree wait.file q byte another)) is.blocked;
-  },
-)
+-- a process blocks by the same locks where its own are the same on the range
+kept_of_owner : (old new : Locks) (file p q : ℕ) (owner : Owner) (span : Span) (wait : Wait) → IsByteRange wait.span → AgreeButOwner file owner span old new
+    → (Process q ≡ owner → ¬ IsOn file span wait) → IsBlockedWait old p q wait ↔ IsBlockedWait new p q wait
+kept_of_owner old new file p q owner span wait range agree off =
+    let same : (byte : ℕ) → Covers wait.span byte → new.bytes wait.file (Process q) byte ≡ old.bytes wait.file (Process q) byte =
+    λ byte covered. agree wait.file q byte (omega (arith, range.1, covered.1))
+    (λ changed. off changed.1 (changed.0, (omega (arith, covered.0, changed.2.1), omega (arith, changed.2.0, covered.1)))) in (
+      λ was. record {
+        of_p = was.of_p;
+        traditional = was.traditional;
+        blocked = blocks_same (old.bytes wait.file) (new.bytes wait.file) q wait.owner wait.span wait.mode same was.blocked;
+      },
+      λ is. record {
+        of_p = is.of_p;
+        traditional = is.traditional;
+        blocked = blocks_same (new.bytes wait.file) (old.bytes wait.file) q wait.owner wait.span wait.mode (λ byte covered. sym (same byte covered)) is.blocked;
+      },
+    )
 
 pub one_process : (q r : ℕ) → Process q ≡ Process r → q ≡ r
 one_process q r same = cc
@@ -234,22 +240,44 @@ itself_or_another q (Process r) = elim (cases_eq q r) [
 ]
 itself_or_another q (Description d) = inr (λ e. let no : Process q ≡ Description d = e in cc)
 
--- the pairs with the owner are told anew of the waits on the file, if it is a process, and the others stay
-pub told-owner : (old new : Waits) (before after : Locks) (file : ℕ) (owner : Owner) → waits_of new ≡ waits_of old → AllPairs (λ v w. v.p ≢ w.p) (waits_of old)
-    → ((q : ℕ) → Process q ≡ owner → 1 ≤ q → q ≤ 64 → All (λ wait. wait.file ≡ file → IsTrue (has_pair new wait.p q) ↔ IsBlockedWait after wait.p q wait) (waits_of old))
-    → ((p q : ℕ) → q ≤ 64 → (Process q ≡ owner → All (IsElsewhere p file) (waits_of old)) → has_pair new p q ≡ has_pair old p q)
-    → AgreeButOwner file owner before after → AreTold old before → AreTold new after
-told-owner old new before after file owner list apart anew others agree = told-changed old new before after list apart
-    (λ k q wait within is q_one q_few. elim (cases_eq wait.file file) [
-      | inr other ↦ inr (
-        others wait.p q q_few (λ itself. elsewhere_by_wait (waits_of old) apart k file wait within is other),
-        kept_of_owner before after file wait.p q owner wait agree (λ here. absurd (other here)),
+-- a wait is on these bytes of the file, or it isn't
+on_or_off : (file : ℕ) (span : Span) (wait : Wait) → IsOn file span wait ⊎ ¬ IsOn file span wait
+on_or_off file span wait = elim (cases_eq wait.file file) [
+  | inr other ↦ inr (λ on. other on.0)
+  | inl here ↦ elim (cases_lt span.last wait.span.first) [
+    | inl past ↦ inr (λ on. omega (arith, past, on.1.0))
+    | inr begins ↦ elim (cases_lt wait.span.last span.first) [
+      | inl before ↦ inr (λ on. omega (arith, before, on.1.1))
+      | inr ends ↦ inl (here, (begins, ends))
+    ]
+  ]
+]
+
+-- a process whose wait isn't on these bytes has no wait on them
+off_by_wait : (waits : List Wait) → AllPairs (λ v w. v.p ≢ w.p) waits → (k file : ℕ) (span : Span) (wait : Wait) → k < length waits → get_or waits k wait ≡ wait → ¬ IsOn file span wait → All (IsOff wait.p file span) waits
+off_by_wait waits apart k file span wait within is off j d inside same =
+    subst (λ (w : Wait). ¬ IsOn file span w)
+    (one_wait waits apart k j wait (get_or waits j d) within inside is (get_or_default waits j (get_or waits j d) d inside) (sym same)) off
+
+-- the pairs with the owner are told anew of the waits on these bytes, if it is a process, and the others stay
+pub told-owner : (old new : Waits) (before after : Locks) (file processes : ℕ) (owner : Owner) (span : Span) → waits_of new ≡ waits_of old → AllPairs (λ v w. v.p ≢ w.p) (waits_of old)
+    → All (IsWellFormed processes) (waits_of old)
+    → ((q : ℕ) → Process q ≡ owner → 1 ≤ q → q ≤ 64 → All (λ wait. IsOn file span wait → IsTrue (has_pair new wait.p q) ↔ IsBlockedWait after wait.p q wait) (waits_of old))
+    → ((p q : ℕ) → q ≤ 64 → (Process q ≡ owner → All (IsOff p file span) (waits_of old)) → has_pair new p q ≡ has_pair old p q)
+    → AgreeButOwner file owner span before after → AreTold old before → AreTold new after
+told-owner old new before after file processes owner span list apart well_formed anew others agree = told-changed old new before after list apart
+    (λ k q wait within is q_one q_few.
+    let range : IsByteRange wait.span = subst (λ (w : Wait). IsByteRange w.span) is (well_formed k wait within).range in
+    elim (on_or_off file span wait) [
+      | inr off ↦ inr (
+        others wait.p q q_few (λ itself. off_by_wait (waits_of old) apart k file span wait within is off),
+        kept_of_owner before after file wait.p q owner span wait range agree (λ itself. off),
       )
-      | inl here ↦ elim (itself_or_another q owner) [
-        | inl itself ↦ inl (subst (λ (w : Wait). w.file ≡ file → IsTrue (has_pair new w.p q) ↔ IsBlockedWait after w.p q w) is (anew q itself q_one q_few k wait within) here)
+      | inl on ↦ elim (itself_or_another q owner) [
+        | inl itself ↦ inl (subst (λ (w : Wait). IsOn file span w → IsTrue (has_pair new w.p q) ↔ IsBlockedWait after w.p q w) is (anew q itself q_one q_few k wait within) on)
         | inr another ↦ inr (
           others wait.p q q_few (λ itself. absurd (another itself)),
-          kept_of_owner before after file wait.p q owner wait agree (λ there. another),
+          kept_of_owner before after file wait.p q owner span wait range agree (λ itself. absurd (another itself)),
         )
       ]
     ])
@@ -276,14 +304,14 @@ told-join old new locks wait list none own others was = told new locks (λ p q p
   )
 ]))
 
--- what holds of the waits on the file that stand before this place
-abbrev pub Before : (Wait → Type 0) → ℕ → List Wait → ℕ → Type 0
-Before P file waits i = (k : ℕ) (wait : Wait) → k < i → k < length waits → get_or waits k wait ≡ wait → wait.file ≡ file → P wait
+-- what holds of the waits before this place that are looked at
+abbrev pub Before : (Wait → Type 0) → (Wait → Type 0) → List Wait → ℕ → Type 0
+Before P On waits i = (k : ℕ) (wait : Wait) → k < i → k < length waits → get_or waits k wait ≡ wait → On wait → P wait
 
--- and of one wait more that is on the file, where the waits of other processes keep it
-pub before_more : (P P' : Wait → Type 0) (file i : ℕ) (waits : List Wait) (d : Wait) → AllPairs (λ v w. v.p ≢ w.p) waits → i < length waits → Before P file waits i → P' (get_or waits i d)
-    → ((w : Wait) → w.p ≢ (get_or waits i d).p → P w → P' w) → Before P' file waits (i + 1)
-before_more P P' file i waits d apart within before last keeps k w below inside at on = elim (cases_eq k i) [
+-- and of one wait more that is looked at, where the waits of other processes keep it
+pub before_more : (P P' On : Wait → Type 0) (i : ℕ) (waits : List Wait) (d : Wait) → AllPairs (λ v w. v.p ≢ w.p) waits → i < length waits → Before P On waits i → P' (get_or waits i d)
+    → ((w : Wait) → w.p ≢ (get_or waits i d).p → P w → P' w) → Before P' On waits (i + 1)
+before_more P P' On i waits d apart within before last keeps k w below inside at on = elim (cases_eq k i) [
   | inl same ↦
       let w_is : w ≡ get_or waits i d = sym at ∙ ap (λ (n : ℕ). get_or waits n w) same ∙ get_or_default waits i w d within in
       subst P' (sym w_is) last
@@ -294,17 +322,17 @@ before_more P P' file i waits d apart within before last keeps k w below inside 
 ]
 
 -- and of one that isn't
-pub before_skip : (P : Wait → Type 0) (file i : ℕ) (waits : List Wait) (d : Wait) → i < length waits → (get_or waits i d).file ≢ file → Before P file waits i → Before P file waits (i + 1)
-before_skip P file i waits d within elsewhere before k w below inside at on = elim (cases_eq k i) [
+pub before_skip : (P On : Wait → Type 0) (i : ℕ) (waits : List Wait) (d : Wait) → i < length waits → ¬ On (get_or waits i d) → Before P On waits i → Before P On waits (i + 1)
+before_skip P On i waits d within off before k w below inside at on = elim (cases_eq k i) [
   | inl same ↦
       let w_is : w ≡ get_or waits i d = sym at ∙ ap (λ (n : ℕ). get_or waits n w) same ∙ get_or_default waits i w d within in
-      absurd (elsewhere (sym (ap (λ (x : Wait). x.file) w_is) ∙ on))
+      absurd (off (subst On w_is on))
   | inr other ↦ before k w (omega arith) inside at on
 ]
 
 -- and of all
-pub before_all : (P : Wait → Type 0) (file : ℕ) (waits : List Wait) → Before P file waits (length waits) → All (λ wait. wait.file ≡ file → P wait) waits
-before_all P file waits before k d within on =
+pub before_all : (P On : Wait → Type 0) (waits : List Wait) → Before P On waits (length waits) → All (λ wait. On wait → P wait) waits
+before_all P On waits before k d within on =
     before k (get_or waits k d) within within (get_or_default waits k (get_or waits k d) d within) on
 
 -- a pair that stays is told of the same locks

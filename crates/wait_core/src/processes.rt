@@ -1,4 +1,4 @@
-ghost use Rattle.std.specs.Prelude.{ℕ, ◌≡◌, ◌<◌, ◌≤◌, ◌==◌, ◌||◌, if◌then◌else◌, false, IfNone, IfSome, IsFalse, IsTrue};
+ghost use Rattle.std.specs.Prelude.{ℕ, suc, ◌≡◌, ◌<◌, ◌≤◌, ◌==◌, ◌||◌, if◌then◌else◌, false, IfNone, IfSome, IsFalse, IsTrue};
 ghost use Rattle.wait_core.specs.Processes.{IsBeyond, IsWithin, is_member, lacking, no_process};
 
 /// How many processes there are at most, which are numbered from 1 (this project's choice).
@@ -24,6 +24,14 @@ impl ProcessSet {
         ensures { (p : ℕ) → 1 ≤ p → p ≤ PROCESSES → IsTrue (is_member result p) }
     {
         ProcessSet { bits: u64::MAX }
+    }
+
+    /// Whether there is no process in the set.
+    pub fn is_empty(self) -> bool
+        ensures none { IsTrue result → (p : ℕ) → is_member self p ≡ false }
+        ensures some { IsFalse result → (k : ℕ) × (k < PROCESSES) × IsTrue (is_member self (suc k)) }
+    {
+        self.bits == 0
     }
 
     /// Whether the process is in the set.

@@ -1,6 +1,7 @@
 use Rattle.std.proofs.Common.{◌≡◌, ◌<◌, ◌∙◌, length, get_or, take, sym, ap, subst, arith, refl}
 use Rattle.std.proofs.lemmas.List.{take_all}
 use Rattle.std.specs.Prelude.{slice_set}
+use Rattle.range_core.specs.declared.TheConstants.{OFFMAX}
 use Rattle.wait_core.specs.Locks.{Locks, locks_of}
 use Rattle.wait_core.specs.Cycles.{IsFreeOfCycles}
 use Rattle.wait_core.specs.WaitsView.{waits_of, AreTold, AgreeButOwner}
@@ -34,8 +35,8 @@ loop-file-preserved c =
         policy = c.refresh_owner.ensures.policy ∙ before.3.policy;
         processes = c.refresh_owner.ensures.processes ∙ before.3.processes;
       },
-      (let now = stays_known c.loop-file.waits c.refresh_owner.new.self books (slice_set books file c.release_in.new.book) c.deref.result.now file (Process c.args.p) c.deref.ensures.value (omega arith)
-          (subst (λ f. (locks : Locks) → AreTold c.loop-file.waits locks → AgreeButOwner f (Process c.args.p) locks (locks_of c.deref.result.now) → AreTold c.refresh_owner.new.self (locks_of c.deref.result.now)) (sym c.from.ensures) c.refresh_owner.ensures.told)
+      (let now = stays_known c.loop-file.waits c.refresh_owner.new.self books (slice_set books file c.release_in.new.book) c.deref.result.now file (Process c.args.p) (record { first = 0; last = OFFMAX }) c.deref.ensures.value (omega arith)
+          (subst (λ f. (locks : Locks) → AreTold c.loop-file.waits locks → AgreeButOwner f (Process c.args.p) (record { first = 0; last = OFFMAX }) locks (locks_of c.deref.result.now) → AreTold c.refresh_owner.new.self (locks_of c.deref.result.now)) (sym c.from.ensures) c.refresh_owner.ensures.told)
           (subst (λ f. f < 64 → (locks : Locks) → AreBlockedElsewhere c.loop-file.waits locks → AgreeElsewhere f locks (locks_of c.deref.result.now) → AreBlockedElsewhere c.refresh_owner.new.self (locks_of c.deref.result.now)) (sym c.from.ensures) c.refresh_owner.ensures.blocked)
           (agree_elsewhere books file c.release_in.new.book)
           (process_alone books file c.index_mut.result.now c.release_in.new.book c.args.p c.descriptions-descriptions.result.now within was c.release_in.ensures) in

@@ -22,7 +22,7 @@ invariant_of-self c =
     (book_at books c.from.result c.args.file _ c.from.ensures within c.index_mut.ensures.value)
     c.requires.owner c.requires.span c.requires.live c.requires.free c.set-done.ensures.ok c.set-done.ensures.room c.set-done.ensures.err
     (record { waits = c.refresh_owner.ensures.waits; policy = c.refresh_owner.ensures.policy; processes = c.refresh_owner.ensures.processes })
-    (λ agree alone. stays_known machine.waits c.refresh_owner.new.self books (slice_set books c.from.result c.set-done.new.self) c.deref.result.now c.args.file c.args.owner c.deref.ensures.value c.requires.file
+    (λ agree alone. stays_known machine.waits c.refresh_owner.new.self books (slice_set books c.from.result c.set-done.new.self) c.deref.result.now c.args.file c.args.owner c.args.span c.deref.ensures.value c.requires.file
     c.refresh_owner.ensures.told c.refresh_owner.ensures.blocked agree alone) in
     record {
       files = machine.files;

@@ -64,7 +64,7 @@ invariant_of-self c =
     (λ k e. subst (λ m. ¬ ByteConflict ((locks_of books).bytes wait.file) wait.owner wait.span m) (same_Some wait.mode k e) free)
     c.set_reserved.ensures.sets room tt
     (record { waits = c.refresh_owner.ensures.waits; policy = c.refresh_owner.ensures.policy; processes = c.refresh_owner.ensures.processes })
-    (λ agree alone. stays_known machine.waits c.refresh_owner.new.self books (slice_set books c.from.result c.set_reserved.new.self) c.deref.result.now wait.file wait.owner c.deref.ensures.value c.requires.grantable.well_formed.file
+    (λ agree alone. stays_known machine.waits c.refresh_owner.new.self books (slice_set books c.from.result c.set_reserved.new.self) c.deref.result.now wait.file wait.owner wait.span c.deref.ensures.value c.requires.grantable.well_formed.file
     c.refresh_owner.ensures.told c.refresh_owner.ensures.blocked agree alone) in
     record {
       files = machine.files;

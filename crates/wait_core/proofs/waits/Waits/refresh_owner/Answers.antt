@@ -10,9 +10,9 @@ unfolding waits_of has_pair
 returns-clause-told c locks was agree =
     let self = c.args.self.now in
     c.touch.ensures.told (locks_of c.args.books.now)
-    (told-owner self _ locks (locks_of c.args.books.now) c.args.file c.args.owner refl self.apart
+    (told-owner self _ locks (locks_of c.args.books.now) c.args.file self.processes c.args.owner c.args.span refl self.apart self.well_formed
     (rw c.deref.ensures.value at c.tell_of_owner.ensures.told)
-    (λ p q few elsewhere. c.tell_of_owner.ensures.others p q few (rw c.deref.ensures.value elsewhere)) agree was)
+    (λ p q few off. c.tell_of_owner.ensures.others p q few (rw c.deref.ensures.value off)) agree was)
 
 pub returns-clause-blocked : goal.returns-clause-blocked
 unfolding waits_of policy_of changed_files
