@@ -212,10 +212,29 @@ pub(super) fn publish_all<G: Gate>(
     requires untold { IsUntold setup.now.processes (desk_of seat.old.me.0) notes.now place }
     ensures seat { SameSeat seat.old seat.new }
     ensures view { HasDesk (desk_of seat.new.me.0) seat.new.me }
-    ensures gate { G.passed gate.now place }
     ensures told { IsTold setup.now.processes (desk_of seat.old.me.0) (desk_of seat.new.me.0) }
+    ensures gate { G.passed gate.now place }
 {
     pass(setup, seat, gate, place);
+    publish_notes(shared, setup, seat, notes, place);
+}
+
+/// Publishes the answers among the notes of the journal's last entry, which has this place.
+fn publish_notes(
+    shared: &Shared<(), View, Setup, Rule>,
+    setup: &Setup,
+    seat: &mut Seat<(), View>,
+    notes: &[Note],
+    place: u64,
+)
+    requires table { IsTable seat.old.table_id shared.now.table_id shared.now.key setup.now }
+    requires setup { IsSetup setup.now }
+    requires seat { HasDesk (desk_of seat.old.me.0) seat.old.me × ((desk_of seat.old.me.0).filling ≡ (0, [])) }
+    requires untold { IsUntold setup.now.processes (desk_of seat.old.me.0) notes.now place }
+    ensures seat { SameSeat seat.old seat.new }
+    ensures view { HasDesk (desk_of seat.new.me.0) seat.new.me }
+    ensures told { IsTold setup.now.processes (desk_of seat.old.me.0) (desk_of seat.new.me.0) }
+{
     for note in notes {
         match *note {
             Note::Answer { p, n, reply } => publish(shared, setup, seat, p, n, reply, place),
