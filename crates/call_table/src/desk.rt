@@ -98,7 +98,7 @@ impl Desk {
             &self.setup,
             &mut self.seat,
             gate,
-            &entry.notes,
+            entry.notes.as_slice(),
             place,
         );
         Ok(Served::Took(place))
