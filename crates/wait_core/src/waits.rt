@@ -16,10 +16,10 @@ use range_core::{Memory, Span};
 use std::alloc::Global;
 
 /// The pending requests, in order of arrival, one at most of a process; and which process waits for which by a lock, as
-/// [`Waits::join`], [`Waits::leave`] and [`Waits::refresh`] were last told.
+/// [`Waits::join`], [`Waits::leave`], [`Waits::refresh`] and [`Waits::refresh_owner`] were last told.
 ///
 /// They also know on which files something has changed since [`Waits::forget_changes`]: a wait that joined or left, or what
-/// [`Waits::touch`] and [`Waits::refresh`] were told. Where each wait was blocked then, a wait on another file is blocked still.
+/// [`Waits::touch`] and the two that refresh were told. Where each wait was blocked then, a wait on another file is blocked still.
 ///
 /// Only [`Waits::new`] takes memory.
 #[derive(Drop)]
@@ -112,7 +112,7 @@ impl Waits {
     }
 
     /// Tells the pairs anew after a change of this owner's locks on these bytes of the file, the other traditional locks being as
-    /// they were.
+    /// they were: it asks this owner alone, of the waits that meet these bytes. The file counts as changed.
     pub fn refresh_owner(&mut self, file: u8, owner: Owner, span: Span, books: &[Book])
         requires { length books.now ≡ 64 }
         ensures waits { waits_of self.new ≡ waits_of self.old }
@@ -266,7 +266,7 @@ impl Waits {
         ensures { (wait : Wait) → slice_get (waits_of self.now) i ≡ Some wait → IsTrue result ↔ IsBlocked (policy_of self.now) (locks_of books.now) (take i (waits_of self.now)) wait }
     {
         let wait = &self.waits[i];
-        wait.is_blocked_by_lock(books)
-            || self.policy == Policy::Queue && wait.conflicts_with_any(&self.waits[..i])
+        self.policy == Policy::Queue && wait.conflicts_with_any(&self.waits[..i])
+            || wait.is_blocked_by_lock(books)
     }
 }
