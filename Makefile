@@ -14,12 +14,15 @@ build:
 	@(cd crates/lockreplay && rt run) < /dev/null > crates/lockreplay/out/build.log 2>&1 \
 	    || { cat crates/lockreplay/out/build.log >&2; exit 1; }
 
-# The gate, and then the command lines, on the program as two compilers built it in the gate.
+# The gate, and then the command lines and the large scripts on the program as two compilers built it in the gate, and the conformance
+# tools' tests but for those that a busy machine can upset.
 test:
 	rt ci
 	sh tests/command-line.sh $(PROGRAM)
 	sh tests/command-line.sh $(PROGRAM).by-rattle
-	$(MAKE) conformance-tests
+	sh tests/large-scripts.sh $(PROGRAM)
+	sh tests/large-scripts.sh $(PROGRAM).by-rattle
+	cd conformance && LOCKREPLAY=$(abspath $(PROGRAM)) python3 -m unittest tests.test_corpus tests.test_judging tests.test_lies tests.test_trace
 
 # Says of each must-fail edit what refuses it, and fails where that is a name alone; `make edits EDITS='CRATE EDIT'` tries some.
 edits:
@@ -42,6 +45,6 @@ DIR ?= .
 conformance: build
 	conformance/locktest --keep-going --lockreplay $(PROGRAM) '$(DIR)'
 
-# The tools' own tests, which want Python 3 and no root; each script of the corpus goes through lockreplay.
+# All the tools' own tests, which want Python 3 and no root; each script of the corpus goes through lockreplay.
 conformance-tests:
 	cd conformance && LOCKREPLAY=$(abspath $(PROGRAM)) python3 -m unittest discover -t . -s tests

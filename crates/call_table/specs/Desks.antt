@@ -1,7 +1,7 @@
 -- What contracts see of a desk.
 use Rattle.std.specs.Prelude.{◌≡◌, ℕ, ◌+◌, ◌<◌, ◌≤◌, Some, slice_get, List, [], ◌∷◌, ◌++◌, true, length}
 use Rattle.lock_manager.specs.State.{State}
-use Rattle.lock_manager.specs.ManagerView.{StandsFor}
+use Rattle.lock_manager.specs.ManagerView.{StandsFor, rules_of, processes_of}
 use Rattle.session_core.specs.Event.{Event}
 use Rattle.session_core.specs.Runs.{IsStep}
 use Rattle.session_core.specs.SessionView.{manager_of, SameSession, IsEmptySession}
@@ -47,6 +47,11 @@ pub record IsDeskOf (hub : Hub) (desk : Desk) : Type 0 where
 pub record SameDesk (old new : Desk) : Type 0 where
   pub table : desk_table new ≡ desk_table old
   pub setup : desk_setup new ≡ desk_setup old
+
+-- the session has the rules and as many processes as the table was made with
+pub record HasSetup (setup : Setup) (session : Session) : Type 0 where
+  pub rules_are : rules_of (manager_of session) ≡ setup.rules
+  pub processes_are : processes_of (manager_of session) ≡ setup.processes
 
 -- once the two have met, the client saw the desk's journal, which begins with what it had seen. What was taken of it is a prefix of
 -- what it posted; where it is drained, it has collected every answer; and neither knows less of the other than before

@@ -46,7 +46,7 @@ impl Desk {
     ghost use Rattle.std.specs.Prelude.{IfOk, OnErr, Ok, ◌↔◌};
     ghost use Rattle.call_table.specs.Steps.{met_desk, met_client};
     ghost use Rattle.call_table.specs.Shown.{client_view, IsClientOf, SameClient};
-    ghost use Rattle.call_table.specs.Desks.{desk_view, session_in, IsDeskOf, SameDesk, IsMet, IsServed, IsUnserved};
+    ghost use Rattle.call_table.specs.Desks.{desk_view, desk_setup, session_in, IsDeskOf, SameDesk, HasSetup, IsMet, IsServed, IsUnserved};
 
     /// Closes the desk: no request is taken from now on.
     pub fn close(&mut self, hub: &Hub)
@@ -66,6 +66,7 @@ impl Desk {
         requires { IsDeskOf hub.now self.old }
         ensures served { IfOk result (IsServed self.old self.new) }
         ensures closed { (result ≡ Ok Served.Closed) ↔ ((desk_view self.old).closed ≡ true) }
+        ensures gate { (place : ℕ) → result ≡ Ok (Served.Took place) → G.passed gate.now place }
         ensures memory { OnErr result (IsUnserved self.old self.new) }
         ensures looked { (p : ℕ)
             → (tally_at (desk_view self.old).tallies p).looked ≤ (tally_at (desk_view self.new).tallies p).looked }
@@ -92,8 +93,14 @@ impl Desk {
             taken + 1,
             entry,
         );
-        gate.between(place);
-        publish_all(shared, &self.setup, &mut self.seat, &entry.notes, place);
+        publish_all(
+            shared,
+            &self.setup,
+            &mut self.seat,
+            gate,
+            entry.notes.as_slice(),
+            place,
+        );
         Ok(Served::Took(place))
     }
 
@@ -133,6 +140,7 @@ impl Desk {
     pub fn session(&self) -> &Session
         ensures session { result.now ≡ session_in self.now }
         ensures journal { events_in result.now ≡ (desk_view self.now).journal }
+        ensures setup { HasSetup (desk_setup self.now) result.now }
     {
         &self.session
     }
@@ -141,6 +149,7 @@ impl Desk {
     pub fn into_session(self) -> Session
         ensures session { result ≡ session_in self }
         ensures journal { events_in result ≡ (desk_view self).journal }
+        ensures setup { HasSetup (desk_setup self) result }
     {
         self.session
     }

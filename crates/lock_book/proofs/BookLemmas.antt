@@ -130,6 +130,11 @@ PutsAt-writes old owners owner before list writes was =
     let there : IsSome (get owner_cmp old.owners owner) = rw (sym (list_of-get old owner) ∙ was) refl in
     PutsAt-updates old owners owner (Some list) (writes.3 there)
 
+-- so it is where the owners lent the list
+pub list_written : (book : Book) (owners : BTreeMap Owner RangeList) (owner : Owner) (lent : Option (MutBor RangeList)) (list : MutBor RangeList) (after : RangeList) → option_copied_mut lent ≡ get owner_cmp book.owners owner → lent ≡ Some list → WritesThrough owner_cmp (owner_cmp owner) book.owners after owners → (list_of book owner ≡ Some list.now) × PutsAt book owners owner (Some after)
+list_written book owners owner lent list after value is writes =
+    let was = list_of-lent book owner lent list value is in (was, PutsAt-writes book owners owner list.now after writes was)
+
 -- which a removal takes away
 update_removed : (same : Bool) (list rest : Option RangeList) → cond same None (cond same list rest) ≡ cond same None rest
 update_removed true list rest = refl

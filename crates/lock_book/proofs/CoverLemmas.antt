@@ -1,19 +1,23 @@
 -- What keeps each owner's list covered.
-use Rattle.std.proofs.Common.{ℕ, ◌≡◌, refl, subst, true, Option, Some, None, inl, inr, arith}
+use Rattle.std.proofs.Common.{ℕ, ◌≡◌, refl, subst, true, Option, Some, None, List, Result, inl, inr, arith}
+use Rattle.std.specs.Prelude.{OnOk, OnErr}
+use Rattle.std.specs.BTreeMap.{BTreeMap, UpdatesBy}
 use Rattle.std.proofs.lemmas.Bool.{cases_Bool}
 use Rattle.std.proofs.lemmas.Bool.Decides.{nat_tests}
 use Rattle.range_core.specs.declared.Mode.{Mode}
 use Rattle.range_core.specs.declared.Span.{Span}
 use Rattle.range_core.specs.declared.list.RangeList.{RangeList}
 use Rattle.range_core.specs.Ranges.{Modes, Covers, HeldConflicts}
-use Rattle.range_core.specs.Changes.{is_covered, SetsMode}
+use Rattle.range_core.specs.Changes.{is_covered, modes_of, SetsMode}
 use Rattle.lock_book.specs.declared.Owner.{Owner}
 use Rattle.lock_book.specs.declared.book.Book.{Book}
 use Rattle.lock_book.specs.declared.book.cover.Cover.{Cover}
 use Rattle.lock_book.specs.Books.{list_of, byte_modes_of}
 use Rattle.lock_book.specs.Conflicts.{ByteConflict}
-use Rattle.lock_book.specs.OwnerLists.{modes_in_list}
+use Rattle.lock_book.specs.OwnerLists.{modes_in_list, AreInUse, IsIdle}
 use Rattle.lock_book.specs.Covering.{IsCovered, CoversAtLeast, CoversMode, IsClear, AreCovered}
+use Rattle.lock_book.proofs.OwnerLemmas.{owner_cmp}
+use Rattle.lock_book.proofs.BookLemmas.{PutsAt, EachList-list, EachList-removed, EachList-left, EachList-insert}
 
 -- a byte that is tested to lie in a range does
 covers_by_test : (span : Span) (byte : ℕ) → is_covered span byte ≡ true → Covers span byte
@@ -45,6 +49,39 @@ pub IsCovered-before : (book : Book) (cover : Cover) (owner : Owner) (before : O
 unfolding list_of
 IsCovered-before book cover owner None each was byte wanted conflict = absurd conflict
 IsCovered-before book cover owner (Some list) each was byte wanted conflict = each owner list was byte wanted conflict
+
+-- what a book knows of its lists, under a cover: each is in use, and covered
+pub record AreKept (cover : Cover) (lists : List (Owner × RangeList)) : Type 0 where
+  pub in_use : AreInUse lists
+  pub covered : AreCovered cover lists
+
+-- it still does where an owner's list is another one that is in use and covered
+pub AreKept-list : (cover : Cover) (old : Book) (owners : BTreeMap Owner RangeList) (owner : Owner) (list : RangeList) → AreCovered cover old.owners.entries → PutsAt old owners owner (Some list) → ¬ IsIdle list → IsCovered cover (modes_of list) → AreKept cover owners.entries
+AreKept-list cover old owners owner list covered puts used covers = record {
+  in_use = EachList-list (λ other. ¬ IsIdle other) old owners owner list old.in_use puts used;
+  covered = EachList-list (λ other. IsCovered cover (modes_of other)) old owners owner list covered puts covers;
+}
+
+-- or where it is gone
+pub AreKept-removed : (cover : Cover) (old : Book) (owners : BTreeMap Owner RangeList) (owner : Owner) → AreCovered cover old.owners.entries → PutsAt old owners owner None → AreKept cover owners.entries
+AreKept-removed cover old owners owner covered puts = record {
+  in_use = EachList-removed (λ other. ¬ IsIdle other) old owners owner old.in_use puts;
+  covered = EachList-removed (λ other. IsCovered cover (modes_of other)) old owners owner covered puts;
+}
+
+-- or where nothing was lent
+pub AreKept-left : (cover : Cover) (old : Book) (was : BTreeMap Owner RangeList) → AreCovered cover old.owners.entries → was ≡ old.owners → AreKept cover was.entries
+AreKept-left cover old was covered same = record {
+  in_use = EachList-left (λ other. ¬ IsIdle other) was old.owners same old.in_use;
+  covered = EachList-left (λ other. IsCovered cover (modes_of other)) was old.owners same covered;
+}
+
+-- or where a list was added, unless that was refused
+pub AreKept-insert : {T E : Type 0} (cover : Cover) (old : Book) (was owners : BTreeMap Owner RangeList) (owner : Owner) (list : RangeList) (r : Result T E) → AreCovered cover old.owners.entries → was ≡ old.owners → OnOk r (UpdatesBy owner_cmp (owner_cmp owner) was owners (Some list)) → OnErr r (owners.entries ≡ was.entries) → ¬ IsIdle list → IsCovered cover (modes_of list) → AreKept cover owners.entries
+AreKept-insert cover old was owners owner list r covered same updates kept used covers = record {
+  in_use = EachList-insert (λ other. ¬ IsIdle other) old was owners owner list r old.in_use same updates kept used;
+  covered = EachList-insert (λ other. IsCovered cover (modes_of other)) old was owners owner list r covered same updates kept covers;
+}
 
 -- where no byte of the range may conflict, none does
 pub clear_of_conflicts : (book : Book) (owner : Owner) (span : Span) (wanted : Mode) → IsClear book.cover span wanted → ¬ ByteConflict (byte_modes_of book) owner span wanted

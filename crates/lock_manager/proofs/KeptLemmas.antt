@@ -1,15 +1,20 @@
 -- What holds of the machine at every moment, after a change of one book and after a release.
-use Rattle.std.proofs.Common.{ℕ, ◌≡◌, ◌≢◌, ◌<◌, ◌≤◌, sym, ◌∙◌, subst, List, length, Some, Option, All, Result, OnOk, OnErr}
+use Rattle.std.proofs.Common.{ℕ, ◌≡◌, ◌≢◌, ◌<◌, ◌≤◌, sym, ap, refl, arith, ◌∙◌, subst, true, false, inl, inr, List, length, Some, Option, All, Result, OnOk, OnErr}
 use Rattle.std.proofs.Math.Logic.{∥∥₁_map}
-use Rattle.std.specs.Prelude.{slice_get, slice_set}
+use Rattle.std.specs.Prelude.{◌==◌, ◌&&◌, if◌then◌else◌, slice_get, slice_set}
+use Rattle.std.proofs.lemmas.Bool.{cases_Bool, cases_eq, eqb-true}
+use Rattle.std.proofs.lemmas.Bool.Decides.{nat_tests}
 use Rattle.range_core.specs.declared.Memory.{Memory}
 use Rattle.range_core.specs.declared.Mode.{Mode}
 use Rattle.range_core.specs.declared.Span.{Span}
-use Rattle.range_core.specs.Ranges.{IsByteRange}
+use Rattle.range_core.specs.declared.TheConstants.{OFFMAX}
+use Rattle.range_core.specs.Ranges.{Covers, IsByteRange}
 use Rattle.lock_book.specs.declared.Owner.{Owner}
 use Rattle.lock_book.specs.declared.Owner.TheVariants.{Process}
 use Rattle.lock_book.specs.declared.book.Book.{Book}
-use Rattle.lock_book.specs.Books.{SetsOwnerMode, SameBook, room_in}
+use Rattle.lock_book.specs.Owners.{is_same_owner}
+use Rattle.lock_book.specs.Books.{byte_modes_of, SetsOwnerMode, SameBook, room_in}
+use Rattle.range_core.specs.Changes.{is_covered}
 use Rattle.lock_book.specs.Conflicts.{ByteConflict}
 use Rattle.fd_table.specs.declared.tables.Tables.{Tables}
 use Rattle.fd_table.specs.Released.{Released}
@@ -17,9 +22,9 @@ use Rattle.fd_table.specs.Descriptors.{Descriptors}
 use Rattle.fd_table.specs.TablesView.{StandFor}
 use Rattle.wait_core.specs.declared.Policy.{Policy}
 use Rattle.wait_core.specs.declared.waits.Waits.{Waits}
-use Rattle.wait_core.specs.Locks.{Locks, locks_of}
+use Rattle.wait_core.specs.Locks.{Locks, byte_modes_at, locks_of}
 use Rattle.wait_core.specs.Cycles.{IsFreeOfCycles}
-use Rattle.wait_core.specs.WaitsView.{waits_of, policy_of, processes_of, AreTold, AgreeBut}
+use Rattle.wait_core.specs.WaitsView.{waits_of, policy_of, processes_of, AreTold, AgreeButOwner}
 use Rattle.wait_core.specs.Settled.{AreBlockedElsewhere, AgreeElsewhere}
 use Rattle.wait_core.specs.FreeOfCycles.{FreeWhenLocksChange, FreeWhenDescriptionLocksChange}
 use Rattle.lock_manager.specs.declared.machine.Machine.{Machine}
@@ -28,9 +33,10 @@ use Rattle.lock_manager.specs.declared.request.ProcState.TheVariants.{Live}
 use Rattle.lock_manager.specs.State.{state_numbered}
 use Rattle.lock_manager.specs.Safety.{AreCompatible}
 use Rattle.lock_manager.specs.DescriptionLocks.{AreOwned, AreWithinFiles, MayLock}
-use Rattle.lock_manager.specs.LockReleases.{ReleasesLocks, ReleasesRoom}
+use Rattle.lock_manager.specs.LockReleases.{ReleasesInBook, ReleasesLocks, ReleasesRoom}
 use Rattle.lock_manager.specs.WaitsKept.{AreApart, HaveRoom, SameWaits, StayKnown}
-use Rattle.lock_manager.proofs.SafetyLemmas.{compatible_after}
+use Rattle.lock_manager.proofs.BookLemmas.{after_set, slice_get-set_same, slice_get-set_other}
+use Rattle.lock_manager.proofs.SafetyLemmas.{compatible_after, same_owner}
 use Rattle.lock_manager.proofs.OwnedLemmas.{owned_set, within_files_set}
 use Rattle.lock_manager.proofs.ClosingLemmas.{Closing}
 use Rattle.lock_manager.proofs.AfterCloseLemmas.{compatible_released, owned_released, within_released}
@@ -50,16 +56,55 @@ pub record AreKept (rules : Rules) (processes : ℕ) (tables : Tables) (books : 
   pub room : HaveRoom books (waits_of waits)
   pub free_of_cycles : IsFreeOfCycles rules.policy (locks_of books) (waits_of waits)
 
--- what a refresh of the file leaves of what was known, where these are the books that it is told
-pub stays_known : (old new : Waits) (before after told_books : List Book) (file : ℕ) → told_books ≡ after → file < 64
-    → ((locks : Locks) → AreTold old locks → AgreeBut file locks (locks_of told_books) → AreTold new (locks_of told_books))
+-- a byte that is tested to lie in a range does
+covers_by_test : (span : Span) (byte : ℕ) → is_covered span byte ≡ true → Covers span byte
+covers_by_test span byte test = (grind (arith, nat_tests), grind (arith, nat_tests))
+
+-- a set by the owner changes no other traditional lock, nor one of its own on other bytes
+set_apart : (file f q byte : ℕ) (owner : Owner) (span : Span) (mode before : Option Mode) → ¬ ((f ≡ file) × (Process q ≡ owner) × Covers span byte)
+    → (if (file == f) && is_same_owner owner (Process q) && is_covered span byte then mode else before) ≡ before
+set_apart file f q byte owner span mode before apart = elim (cases_Bool (file == f)) [
+  | inl here ↦ elim (cases_Bool (is_same_owner owner (Process q))) [
+    | inl same ↦ elim (cases_Bool (is_covered span byte)) [
+      | inl covered ↦ absurd (apart (sym (eqb-true file f here), sym (same_owner owner (Process q) same), covers_by_test span byte covered))
+      | inr beside ↦ rw (here, same, beside) refl
+    ]
+    | inr differ ↦ rw (here, differ) refl
+  ]
+  | inr other ↦ rw other refl
+]
+
+pub owner_alone : (books : List Book) (file : ℕ) (old new : Book) (owner : Owner) (span : Span) (mode : Option Mode) (result : Result (Unit {0}) Memory)
+    → file < length books → slice_get books file ≡ Some old → OnOk result (SetsOwnerMode old new owner span mode) → OnErr result (SameBook old new)
+    → AgreeButOwner file owner span (locks_of books) (locks_of (slice_set books file new))
+owner_alone books file old new owner span mode result within was sets same =
+    after_set (λ locks. AgreeButOwner file owner span (locks_of books) locks) books file old new owner span mode result within was sets same
+    (λ bytes flocks f q byte few apart. bytes f (Process q) byte ∙ set_apart file f q byte owner span mode ((locks_of books).bytes f (Process q) byte) apart)
+    (λ bytes flocks f q byte few apart. bytes f (Process q) byte)
+
+-- nor does a release of what the process closed
+pub process_alone : (books : List Book) (file : ℕ) (old new : Book) (p : ℕ) (descriptions : List ℕ) → file < length books → slice_get books file ≡ Some old
+    → ReleasesInBook old new p descriptions → AgreeButOwner file (Process p) (record { first = 0; last = OFFMAX }) (locks_of books) (locks_of (slice_set books file new))
+process_alone books file old new p descriptions within was releases f q byte few apart = elim (cases_eq f file) [
+  | inl here ↦
+      let differ : (p == q) ≡ false = elim (cases_Bool (p == q)) [
+        | inl same ↦ absurd (apart (here, ap (λ (n : ℕ). Process n) (sym (eqb-true p q same)), (omega arith, few)))
+        | inr differ ↦ differ
+      ] in
+      let now : byte_modes_of new (Process q) byte ≡ byte_modes_of old (Process q) byte = rw differ at (releases.bytes (Process q) byte) in
+      rw (here, slice_get-set_same books file new within, was) now
+  | inr other ↦ ap (λ e. byte_modes_at e (Process q) byte) (slice_get-set_other books file f new other)
+]
+
+-- what a refresh of the owner's pairs on these bytes leaves of what was known, where these are the books that it is told
+pub stays_known : (old new : Waits) (before after told_books : List Book) (file : ℕ) (owner : Owner) (span : Span) → told_books ≡ after → file < 64
+    → ((locks : Locks) → AreTold old locks → AgreeButOwner file owner span locks (locks_of told_books) → AreTold new (locks_of told_books))
     → (file < 64 → (locks : Locks) → AreBlockedElsewhere old locks → AgreeElsewhere file locks (locks_of told_books) → AreBlockedElsewhere new (locks_of told_books))
-    → AgreeElsewhere file (locks_of before) (locks_of after) → StayKnown old new (locks_of before) (locks_of after)
-stays_known old new before after told_books file is within told blocked agree =
-    let same : AgreeElsewhere file (locks_of before) (locks_of told_books) = subst (λ bs. AgreeElsewhere file (locks_of before) (locks_of bs)) (sym is) agree in
+    → AgreeElsewhere file (locks_of before) (locks_of after) → AgreeButOwner file owner span (locks_of before) (locks_of after) → StayKnown old new (locks_of before) (locks_of after)
+stays_known old new before after told_books file owner span is within told blocked agree alone =
     subst (λ bs. StayKnown old new (locks_of before) (locks_of bs)) is (record {
-      told = λ was. told (locks_of before) was same.bytes;
-      blocked = λ was. blocked within (locks_of before) was same;
+      told = λ was. told (locks_of before) was (subst (λ bs. AgreeButOwner file owner span (locks_of before) (locks_of bs)) (sym is) alone);
+      blocked = λ was. blocked within (locks_of before) was (subst (λ bs. AgreeElsewhere file (locks_of before) (locks_of bs)) (sym is) agree);
     })
 
 -- it holds after a change of one book by an owner that doesn't wait, which nothing blocks, refused or not, where there is room for
@@ -69,13 +114,14 @@ pub kept_in_room : FreeWhenLocksChange → FreeWhenDescriptionLocksChange → (m
     → MayLock m.tables file owner → IsByteRange span → ((p : ℕ) → owner ≡ Process p → state_numbered m.states.items p ≡ Live)
     → ((k : Mode) → mode ≡ Some k → ¬ ByteConflict ((locks_of m.books.items).bytes file) owner span k)
     → OnOk result (SetsOwnerMode old new owner span mode) → HaveRoom (slice_set m.books.items file new) (waits_of m.waits) → OnErr result (SameBook old new)
-    → SameWaits m.waits waits → (AgreeElsewhere file (locks_of m.books.items) (locks_of books) → StayKnown m.waits waits (locks_of m.books.items) (locks_of books))
+    → SameWaits m.waits waits → (AgreeElsewhere file (locks_of m.books.items) (locks_of books) → AgreeButOwner file owner span (locks_of m.books.items) (locks_of books) → StayKnown m.waits waits (locks_of m.books.items) (locks_of books))
     → AreKept m.rules m.processes m.tables books waits
 kept_in_room one all m books waits file old new owner span mode result is within was may range live free sets room same waits_same known =
     let before = m.books.items in
     let after = slice_set before file new in
     let list = waits_of m.waits in
-    let still = known (subst (λ bs. AgreeElsewhere file (locks_of before) (locks_of bs)) (sym is) (agree_elsewhere before file new)) in
+    let still = known (subst (λ bs. AgreeElsewhere file (locks_of before) (locks_of bs)) (sym is) (agree_elsewhere before file new))
+    (subst (λ bs. AgreeButOwner file owner span (locks_of before) (locks_of bs)) (sym is) (owner_alone before file old new owner span mode result within was sets same)) in
     let idle : (p : ℕ) → owner ≡ Process p → All (λ wait. wait.owner ≢ Process p) list =
     λ p e. not_owned_by m.tables (locks_of before) list p m.owned (waits_of_others m.tables m.states.items list p m.suspended (live p e)) in
     record {
@@ -102,7 +148,7 @@ pub kept_by_change : FreeWhenLocksChange → FreeWhenDescriptionLocksChange → 
     → MayLock m.tables file owner → IsByteRange span → ((p : ℕ) → owner ≡ Process p → state_numbered m.states.items p ≡ Live)
     → ((k : Mode) → mode ≡ Some k → ¬ ByteConflict ((locks_of m.books.items).bytes file) owner span k)
     → OnOk result (SetsOwnerMode old new owner span mode) → OnOk result (room_in old owner ≤ room_in new owner) → OnErr result (SameBook old new)
-    → SameWaits m.waits waits → (AgreeElsewhere file (locks_of m.books.items) (locks_of books) → StayKnown m.waits waits (locks_of m.books.items) (locks_of books))
+    → SameWaits m.waits waits → (AgreeElsewhere file (locks_of m.books.items) (locks_of books) → AgreeButOwner file owner span (locks_of m.books.items) (locks_of books) → StayKnown m.waits waits (locks_of m.books.items) (locks_of books))
     → AreKept m.rules m.processes m.tables books waits
 kept_by_change one all m books waits file old new owner span mode result is within was may range live free sets kept same waits_same known =
     kept_in_room one all m books waits file old new owner span mode result is within was may range live free sets

@@ -4,7 +4,7 @@ use crate::{Cause, ScriptFault, parse, write_entry, write_report};
 use fd_table::Access;
 use lock_manager::{Errno, FlockOp, LkCmd, Lock, Note, Reply, Request};
 use range_core::{Kind, Mode, Whence};
-use session_core::{Entry, run_all};
+use session_core::{Entry, Notes, run_all};
 use std::alloc::Global;
 use std::process::Abort;
 use std::test::Fail;
@@ -404,10 +404,10 @@ fn check_entries(
     Ok(())
 }
 
-fn notes_of(alloc: Global, p: u8, n: u64, reply: Option<Reply>) -> Result<Vec<Note>, Fail> {
+fn notes_of(alloc: Global, p: u8, n: u64, reply: Option<Reply>) -> Result<Notes, Fail> {
     match reply {
-        Some(reply) => Ok(vec![in alloc; Note::Answer { p, n, reply }]?),
-        None => Ok(Vec::new(alloc)),
+        Some(reply) => Ok(Notes::of(vec![in alloc; Note::Answer { p, n, reply }]?)),
+        None => Ok(Notes::of(Vec::new(alloc))),
     }
 }
 
@@ -424,7 +424,7 @@ fn entry_lines(rt: HostRuntime) -> Result<(), Fail> {
             p: 2,
             n,
             request: set_lock(Kind::Write, 10, -10, pid),
-            notes: vec![in rt.alloc(); Note::Answer { p: 2, n, reply }]?,
+            notes: Notes::of(vec![in rt.alloc(); Note::Answer { p: 2, n, reply }]?),
         };
         write_entry(&entry, &mut out).map_err(|_| "no memory")?;
     }
@@ -455,13 +455,13 @@ fn entries_of_waits(rt: HostRuntime) -> Result<(), Fail> {
         p: 2,
         n: 1,
         request: with_command(LkCmd::SetLkW, set_lock(Kind::Read, 0, 1, 0)),
-        notes: vec![in rt.alloc(); waits]?,
+        notes: Notes::of(vec![in rt.alloc(); waits]?),
     };
     let signalling = Entry {
         p: 1,
         n: 4,
         request: Request::Signal { target: 2 },
-        notes: vec![in rt.alloc(); signalled, interrupted]?,
+        notes: Notes::of(vec![in rt.alloc(); signalled, interrupted]?),
     };
     let mut out = Vec::new(rt.alloc());
     write_entry(&waiting, &mut out).map_err(|_| "no memory")?;
@@ -575,7 +575,7 @@ fn write_without_memory(rt: HostRuntime) {
         p: 1,
         n: 2,
         request: set_lock(Kind::Write, 0, 100, 5),
-        notes: Vec::new(rt.alloc()),
+        notes: Notes::of(Vec::new(rt.alloc())),
     };
     let mut out = Vec::new(rt.alloc());
     let whole = b"1#2 setlk 0 w set 0 100 5\n1#2 setlk 0 w set 0 100 5\n";

@@ -25,7 +25,7 @@ pub fn push_entry(text: &mut Vec<u8>, entry: &Entry) -> Result<(), AllocError>
     push_first_number(text, u64::from(entry.p))?;
     push_number(text, b'#', entry.n)?;
     push_request(text, &entry.request)?;
-    for note in &entry.notes {
+    for note in entry.notes.as_slice() {
         push_note(text, note)?;
     }
     push_str(text, "\n")

@@ -15,11 +15,12 @@ use Rattle.session_core.specs.declared.session.Session.{Session}
 use Rattle.session_core.specs.Event.{Event}
 use Rattle.session_core.specs.Runs.{IsStep, events_of}
 use Rattle.session_core.specs.Mail.{requests_sent}
-use Rattle.session_core.specs.Mailboxes.{mail_sent, requests_in}
-use Rattle.session_core.specs.Draining.{IsNext, IsDrained, TakesMail, DrainsMail, DrainsFrom, IsDrain}
+use Rattle.session_core.specs.Mailboxes.{mail_waiting, mail_sent, waiting_in}
+use Rattle.session_core.specs.Draining.{next_untaken, IsNext, IsDrained, TakesMail, DrainsMail, DrainsFrom, IsDrain}
 use Rattle.session_core.specs.SessionView.{SameSession, Arrives, IsEmptySession, TakesOne, TakesNext, manager_of, events_in, sent_of}
 use Rattle.session_core.specs.Deliveries.{GoesOn, TakesSome, Drains, Delivers}
 use Rattle.session_core.proofs.JournalLemmas.{length-events_of-push}
+use Rattle.session_core.proofs.MailLemmas.{next_untaken-waits}
 
 -- what is next doesn't depend on how the states, the mail and the events are written
 pub IsNext-along : (states states' : ℕ → ProcState) (sent sent' : ℕ → List Request) (events events' : List Event) (event : Event)
@@ -131,18 +132,22 @@ mail_left-push sent events event (suc k) low high within =
     omega arith)
     (cases_eq (suc k) event.p)
 
-mailbox_within : (mailboxes : List Mailbox) (k : ℕ) (mailbox : Option Mailbox) (place : ℕ) (request : Request)
-    → slice_get mailboxes k ≡ mailbox → slice_get (requests_in mailbox) place ≡ Some request
-    → (1 ≤ suc k) × (suc k ≤ length mailboxes)
-mailbox_within mailboxes k None place request is found = cc
-mailbox_within mailboxes k (Some mailbox) place request is found =
+mailbox_within : (mailboxes : List Mailbox) (k : ℕ) (mailbox : Option Mailbox) (request : Request)
+    → slice_get mailboxes k ≡ mailbox → slice_get (waiting_in mailbox) 0 ≡ Some request → (1 ≤ suc k) × (suc k ≤ length mailboxes)
+mailbox_within mailboxes k None request is found = cc
+mailbox_within mailboxes k (Some mailbox) request is found =
     let within = slice_get_within mailboxes k mailbox is in (omega arith, omega arith)
 
--- whoever sent something is one of the processes
-mail_within : (mailboxes : List Mailbox) (p place : ℕ) (request : Request) → slice_get (mail_sent mailboxes p) place ≡ Some request
+waits_within : (mailboxes : List Mailbox) (p : ℕ) (request : Request) → slice_get (mail_waiting mailboxes p) 0 ≡ Some request
     → (1 ≤ p) × (p ≤ length mailboxes)
-mail_within mailboxes zero place request found = cc
-mail_within mailboxes (suc k) place request found = mailbox_within mailboxes k (slice_get mailboxes k) place request refl found
+waits_within mailboxes zero request found = cc
+waits_within mailboxes (suc k) request found = mailbox_within mailboxes k (slice_get mailboxes k) request refl found
+
+-- whoever has sent what wasn't taken is one of the processes
+mail_within : (mailboxes : List Mailbox) (journal : List Event) (p : ℕ) (request : Request)
+    → next_untaken (mail_sent mailboxes journal) journal p ≡ Some request → (1 ≤ p) × (p ≤ length mailboxes)
+mail_within mailboxes journal p request found =
+    waits_within mailboxes p request (sym (next_untaken-waits mailboxes journal p) ∙ found)
 
 -- a session that took an event has less mail left
 pub mail_left-takes : (old new : Session) (place : ℕ) → TakesOne old new place
@@ -150,7 +155,7 @@ pub mail_left-takes : (old new : Session) (place : ℕ) → TakesOne old new pla
 unfolding manager_of events_in sent_of
 mail_left-takes old new place takes =
     let event = takes.event in
-    let range = mail_within old.mailboxes.items event.p (length (events_of event.p (events_in old))) event.request takes.is_next.request in
+    let range = mail_within old.mailboxes.items old.journal.items event.p event.request takes.is_next.request in
     let within = slice_get_within (sent_of old event.p) (length (events_of event.p (events_in old))) event.request takes.is_next.request in
     let less = mail_left-push (sent_of old) (events_in old) event (processes_of (manager_of old)) range.0 (rw (← old.mail.one_each) range.1) within in
     let sent : sent_of new ≡ sent_of old = λ i p. takes.sent p i in

@@ -1,5 +1,5 @@
 -- A journal with one more event.
-use Rattle.std.proofs.Common.{ℕ, zero, suc, ◌≡◌, ◌≢◌, ◌+◌, ◌<◌, ◌≤◌, refl, sym, ◌∙◌, ap, subst, arith, eq-eqb, ne_eqb, length, length-append, set, List, [], ◌∷◌, ◌++◌, ⊎_elim, Option, Some, None, IfSome, All, map, slice_get}
+use Rattle.std.proofs.Common.{ℕ, zero, suc, ◌≡◌, ◌≢◌, ◌+◌, ◌<◌, ◌≤◌, refl, sym, ◌∙◌, ap, subst, arith, eq-eqb, ne_eqb, length, length-append, set, List, [], ◌∷◌, ◌++◌, ⊎_elim, Option, Some, None, IfSome, All, map, slice_get, drop}
 use Rattle.std.specs.Prelude.{◌==◌, if◌then◌else◌}
 use Rattle.std.specs.List.{AllByRecursion as Each}
 use Rattle.std.proofs.lemmas.Bool.{cases_eq}
@@ -14,13 +14,13 @@ use Rattle.lock_manager.specs.ManagerView.{StandsFor, SameManager, IsSafeManager
 use Rattle.session_core.specs.declared.TheConstants.{N_MAX}
 use Rattle.session_core.specs.declared.mailbox.Mailbox.{Mailbox}
 use Rattle.session_core.specs.Event.{Event}
-use Rattle.session_core.specs.Mailboxes.{mailbox_of, mail_sent, mail_taken, requests_in, taken_in, IsMailKept, IsEmptyMailbox}
+use Rattle.session_core.specs.Mailboxes.{mailbox_of, mail_waiting, mail_sent, mail_taken, waiting_in, taken_in, IsMailKept, IsEmptyMailbox}
 use Rattle.session_core.specs.Runs.{IsStep, Leads, IsRun, AreNumbered, events_of}
 use Rattle.session_core.specs.Mail.{IsPrefixOf, requests_taken}
 use Rattle.session_core.specs.Draining.{IsReplayed, next_untaken}
 use Rattle.session_core.specs.Headline.{AreWithinLimits, Holds}
 use Rattle.session_core.proofs.HeadlineLaws.{Holds-from}
-use Rattle.session_core.proofs.MailLemmas.{StandsAt, mailbox_of-there, mail_taken-set, mail_sent-kept, Holds-grown}
+use Rattle.session_core.proofs.MailLemmas.{StandsAt, mailbox_of-there, mail_waiting-set, mail_taken-set, length-mail_sent, next_untaken-waits}
 
 -- one more event of the process
 pub events_of-push_own : (q : ℕ) (journal : List Event) (event : Event) → event.p ≡ q
@@ -173,24 +173,60 @@ Holds-same old new sent journal journal' some same_journal same safe h =
     (record { state = r.state; run = run; stands = same.stands r.state r.stands }))
 
 -- no process has sent more than it may
-pub mail_sent-few : (mailboxes : List Mailbox) (p : ℕ) → length (mail_sent mailboxes p) ≤ N_MAX
-mail_sent-few mailboxes p = few (mailbox_of mailboxes p)
+pub mail_sent-few : (processes : ℕ) (mailboxes : List Mailbox) (journal : List Event) → IsMailKept processes mailboxes journal → (p : ℕ)
+    → length (mail_sent mailboxes journal p) ≤ N_MAX
+mail_sent-few processes mailboxes journal mail p =
+    let both = length-mail_sent processes mailboxes journal mail p in
+    let limit = few (mailbox_of mailboxes p) in
+    omega arith
   where
-    few : (mailbox : Option Mailbox) → length (requests_in mailbox) ≤ N_MAX
+    few : (mailbox : Option Mailbox) → taken_in mailbox + length (waiting_in mailbox) ≤ N_MAX
     few None = omega arith
     few (Some mailbox) = mailbox.limited
 
--- where the next request of a process is there, its mailbox has more than was taken
+-- where the next request of a process is there, it is the first in its mailbox
 pub next_within : (mailboxes : List Mailbox) (place p : ℕ) (mailbox : Mailbox) (journal : List Event) (request : Request)
-    → StandsAt mailboxes place p mailbox → mail_taken mailboxes p ≡ length (events_of p journal)
-    → next_untaken (mail_sent mailboxes) journal p ≡ Some request → mailbox.taken < length mailbox.sent.items
-next_within mailboxes place p mailbox journal request at taken next =
-    let there = mailbox_of-there mailboxes place p mailbox at in
-    let many : mailbox.taken ≡ length (events_of p journal) = sym (ap taken_in there) ∙ taken in
-    let requests : mailbox.sent.items ≡ mail_sent mailboxes p = sym (ap requests_in there) in
-    let within = slice_get_within (mail_sent mailboxes p) (length (events_of p journal)) request next in
-    let long : length mailbox.sent.items ≡ length (mail_sent mailboxes p) = ap length requests in
-    omega arith
+    → StandsAt mailboxes place p mailbox → next_untaken (mail_sent mailboxes journal) journal p ≡ Some request
+    → mailbox.waiting.items ≡ request ∷ drop 1 mailbox.waiting.items
+next_within mailboxes place p mailbox journal request at next =
+    first mailbox.waiting.items
+    (ap (λ m. slice_get (waiting_in m) 0) (sym (mailbox_of-there mailboxes place p mailbox at)) ∙ sym (next_untaken-waits mailboxes journal p) ∙ next)
+  where
+    first : (waiting : List Request) → slice_get waiting 0 ≡ Some request → waiting ≡ request ∷ drop 1 waiting
+    first [] is = cc
+    first (other ∷ waiting) is = let same : other ≡ request = Some-injective is in ap (λ r. r ∷ waiting) same
+
+-- so there is one in it
+pub next_waits : (mailboxes : List Mailbox) (place p : ℕ) (mailbox : Mailbox) (journal : List Event) (request : Request)
+    → StandsAt mailboxes place p mailbox → next_untaken (mail_sent mailboxes journal) journal p ≡ Some request
+    → 0 < length mailbox.waiting.items
+next_waits mailboxes place p mailbox journal request at next =
+    let first = ap length (next_within mailboxes place p mailbox journal request at next) in
+    omega (arith, first)
+
+-- what each process sent stays, where the first request in a mailbox is taken
+mail_sent-taken : (mailboxes : List Mailbox) (place p : ℕ) (before after : Mailbox) (journal : List Event) (event : Event)
+    → StandsAt mailboxes place p before → event.p ≡ p → before.waiting.items ≡ event.request ∷ after.waiting.items → (q : ℕ)
+    → mail_sent (set mailboxes place after) (journal ++ event ∷ []) q ≡ mail_sent mailboxes journal q
+mail_sent-taken mailboxes place p before after journal event at own first q =
+    let there = ap waiting_in (mailbox_of-there mailboxes place p before at) in
+    let written = mail_waiting-set mailboxes place p before after at q in
+    ⊎_elim
+    (λ same.
+    let rest : mail_waiting (set mailboxes place after) q ≡ after.waiting.items = written ∙ rw (eq-eqb q p same) refl in
+    let more : requests_taken q (journal ++ event ∷ []) ≡ requests_taken q journal ++ event.request ∷ [] =
+    ap (λ l. map (λ e. e.request) l) (events_of-push_own q journal event (own ∙ sym same))
+    ∙ map-append (λ e. e.request) (events_of q journal) (event ∷ []) in
+    ap (λ l. l ++ mail_waiting (set mailboxes place after) q) more
+    ∙ ap (λ l. (requests_taken q journal ++ event.request ∷ []) ++ l) rest
+    ∙ append_assoc (requests_taken q journal) (event.request ∷ []) after.waiting.items
+    ∙ ap (λ l. requests_taken q journal ++ l) (sym first ∙ sym there ∙ ap (mail_waiting mailboxes) (sym same)))
+    (λ other.
+    let rest : mail_waiting (set mailboxes place after) q ≡ mail_waiting mailboxes q = written ∙ rw (ne_eqb q p other) refl in
+    let as_before : requests_taken q (journal ++ event ∷ []) ≡ requests_taken q journal =
+    ap (λ l. map (λ e. e.request) l) (events_of-push_other q journal event (λ e. other (sym e ∙ own))) in
+    ap (λ l. l ++ mail_waiting (set mailboxes place after) q) as_before ∙ ap (λ l. requests_taken q journal ++ l) rest)
+    (cases_eq q p)
 
 -- the mail is kept where one more was taken of the process of one more event
 pub IsMailKept-push : (processes : ℕ) (mailboxes : List Mailbox) (place p : ℕ) (old new : Mailbox) (journal journal' : List Event)
@@ -217,19 +253,27 @@ IsMailKept-push processes mailboxes place p old new journal journal' event at on
           (cases_eq q p));
     }
 
--- the headline holds after the manager took the next request of a process, and its mailbox was written so
-pub Holds-taken : (old new : Manager) (mailboxes : List Mailbox) (place p : ℕ) (before after : Mailbox) (journal journal' : List Event)
-    (event : Event) → 1 ≤ processes_of old → StandsAt mailboxes place p before → after.sent.items ≡ before.sent.items
-    → journal' ≡ journal ++ event ∷ [] → next_untaken (mail_sent mailboxes) journal event.p ≡ Some event.request
+-- what each process sent stays, where the manager took the next request of a process
+pub mail_sent-took : (mailboxes : List Mailbox) (place p : ℕ) (before after : Mailbox) (journal journal' : List Event) (event : Event)
+    → StandsAt mailboxes place p before → after.waiting.items ≡ drop 1 before.waiting.items → event.p ≡ p
+    → journal' ≡ journal ++ event ∷ [] → next_untaken (mail_sent mailboxes journal) journal p ≡ Some event.request → (q : ℕ)
+    → mail_sent (set mailboxes place after) journal' q ≡ mail_sent mailboxes journal q
+mail_sent-took mailboxes place p before after journal journal' event at rest own same next q =
+    let first = next_within mailboxes place p before journal event.request at next ∙ ap (λ l. event.request ∷ l) (sym rest) in
+    ap (λ l. mail_sent (set mailboxes place after) l q) same ∙ mail_sent-taken mailboxes place p before after journal event at own first q
+
+-- and so does the headline
+pub Holds-taken : (old new : Manager) (mailboxes mailboxes' : List Mailbox) (journal journal' : List Event)
+    (event : Event) → 1 ≤ processes_of old → ((q : ℕ) → mail_sent mailboxes' journal' q ≡ mail_sent mailboxes journal q)
+    → journal' ≡ journal ++ event ∷ [] → next_untaken (mail_sent mailboxes journal) journal event.p ≡ Some event.request
     → event.n ≡ length (events_of event.p journal) + 1 → rules_of new ≡ rules_of old → processes_of new ≡ processes_of old
     → ((S : State) → StandsFor old S → (T : State) × IsStep (rules_of old) (processes_of old) S event T × StandsFor new T)
-    → IsSafeManager new → Holds old (mail_sent mailboxes) journal → Holds new (mail_sent (set mailboxes place after)) journal'
-Holds-taken old new mailboxes place p before after journal journal' event some at sent same next number same_rules same_processes steps safe h =
-    Holds-grown new (mail_sent mailboxes) (mail_sent (set mailboxes place after)) journal'
-    (λ q. ([], mail_sent-kept mailboxes place p before after at sent q ∙ sym (append-nil (mail_sent mailboxes q))))
-    (mail_sent-few (set mailboxes place after))
-    (subst (λ l. Holds new (mail_sent mailboxes) l) (sym same)
-    (Holds-push old new (mail_sent mailboxes) journal event some next number same_rules same_processes steps safe h))
+    → IsSafeManager new → Holds old (mail_sent mailboxes journal) journal → Holds new (mail_sent mailboxes' journal') journal'
+Holds-taken old new mailboxes mailboxes' journal journal' event some sent same next number same_rules same_processes steps safe h =
+    let kept : mail_sent mailboxes' journal' ≡ mail_sent mailboxes journal = λ i q. sent q i in
+    subst (λ f. Holds new f journal') (sym kept)
+    (subst (λ l. Holds new (mail_sent mailboxes journal) l) (sym same)
+    (Holds-push old new (mail_sent mailboxes journal) journal event some next number same_rules same_processes steps safe h))
 
 -- the headline holds at the opening
 pub Holds-opening : (manager : Manager) (sent : ℕ → List Request) (journal : List Event) → AreWithinLimits manager sent → journal ≡ []
@@ -240,9 +284,9 @@ Holds-opening manager sent journal within empty safe stands =
     (record { state = opening_state; run = record { leads = refl; numbered = λ q place. tt }; stands = stands }))
 
 -- where nothing was sent, no process sent or was taken anything
-empty_at : (mailbox : Option Mailbox) → IfSome mailbox IsEmptyMailbox → (requests_in mailbox ≡ []) × (taken_in mailbox ≡ 0)
+empty_at : (mailbox : Option Mailbox) → IfSome mailbox IsEmptyMailbox → (waiting_in mailbox ≡ []) × (taken_in mailbox ≡ 0)
 empty_at None h = (refl, refl)
-empty_at (Some mailbox) h = (h.sent, h.taken)
+empty_at (Some mailbox) h = (h.waiting, h.taken)
 
 all_at : {X : Type 0} (P : X → Type 0) (xs : List X) (place : ℕ) → Each P xs → IfSome (slice_get xs place) P
 all_at P [] place h = tt
@@ -250,7 +294,7 @@ all_at P (x ∷ xs) zero h = h.0
 all_at P (x ∷ xs) (suc place) h = all_at P xs place h.1
 
 pub nothing_sent : (mailboxes : List Mailbox) → All IsEmptyMailbox mailboxes → (p : ℕ)
-    → (mail_sent mailboxes p ≡ []) × (mail_taken mailboxes p ≡ 0)
+    → (mail_waiting mailboxes p ≡ []) × (mail_taken mailboxes p ≡ 0)
 nothing_sent mailboxes h zero = (refl, refl)
 nothing_sent mailboxes h (suc place) =
     empty_at (slice_get mailboxes place) (all_at IsEmptyMailbox mailboxes place (recursion_from_All IsEmptyMailbox mailboxes h))

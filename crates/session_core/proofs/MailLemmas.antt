@@ -1,22 +1,22 @@
 -- Mailboxes by process: what is written to one of them, and what stays.
-use Rattle.std.proofs.Common.{ℕ, zero, suc, ◌≡◌, ◌≢◌, ◌+◌, ◌-◌, ◌<◌, ◌≤◌, refl, sym, ◌∙◌, ap, subst, arith, length, take, slice_get, set, get_or, List, [], ◌∷◌, ◌++◌, Some, Option, Result, Ok, Err, is_ok, IfOk, OnOk, OnErr, eq-eqb, ne_eqb, ⊎_elim}
+use Rattle.std.proofs.Common.{ℕ, zero, suc, ◌≡◌, ◌≢◌, ◌+◌, ◌-◌, ◌<◌, ◌≤◌, refl, sym, ◌∙◌, ap, subst, arith, length, length-append, take, slice_get, set, get_or, List, [], ◌∷◌, ◌++◌, Some, Option, Result, Ok, Err, is_ok, IfOk, OnOk, OnErr, eq-eqb, ne_eqb, ⊎_elim}
 use Rattle.std.specs.Prelude.{◌==◌, if◌then◌else◌, IsNone}
-use Rattle.std.proofs.lemmas.List.{get_or-set_same, length-set, append-nil, append_assoc}
-use Rattle.std.proofs.lemmas.Option.{slice_get-get_or, slice_get_past}
+use Rattle.std.proofs.lemmas.List.{get_or-set_same, length-set, length-map, append-nil, append_assoc}
+use Rattle.std.proofs.lemmas.Option.{slice_get-get_or}
 use Rattle.std.proofs.lemmas.Bool.{cases_eq, cases_lt}
 use Rattle.lock_manager.specs.declared.request.Request.{Request}
 use Rattle.lock_manager.specs.declared.manager.Manager.{Manager}
 use Rattle.lock_manager.specs.ManagerView.{SameManager, rules_of, processes_of}
 use Rattle.session_core.specs.declared.session.Session.{Session}
 use Rattle.session_core.specs.Runs.{IsStep, events_of}
-use Rattle.session_core.specs.SessionView.{manager_of, sent_of, Arrives, TakesRequest, sent_with}
+use Rattle.session_core.specs.SessionView.{manager_of, events_in, sent_of, SameSession, Arrives, TakesRequest, sent_with}
 use Rattle.session_core.specs.declared.mailbox.Mailbox.{Mailbox}
 use Rattle.session_core.specs.declared.window.Window.{Window}
 use Rattle.lock_manager.specs.declared.request.ProcState.{ProcState}
 use Rattle.session_core.specs.Draining.{next_untaken, HasNoMailBelow, IsDrained}
-use Rattle.session_core.specs.Mailboxes.{mailbox_of, requests_in, taken_in, mail_sent, mail_taken, HasMail, IsInside, IsMailInside, IsMailKept}
+use Rattle.session_core.specs.Mailboxes.{mailbox_of, waiting_in, taken_in, mail_waiting, mail_sent, mail_taken, HasMail, IsInside, IsMailInside, IsMailKept}
 use Rattle.session_core.specs.Event.{Event}
-use Rattle.session_core.specs.Mail.{IsPrefixOf, requests_taken}
+use Rattle.session_core.specs.Mail.{requests_taken}
 use Rattle.session_core.specs.Headline.{Holds}
 use Rattle.session_core.specs.declared.TheConstants.{N_MAX}
 
@@ -54,7 +54,7 @@ mailbox_of-there mailboxes place (suc k) mailbox at =
     rw same (slice_get-get_or mailboxes place mailbox at.within ∙ ap (λ x. Some x) (sym at.read))
 
 -- the mailbox that is written is the new one
-mailbox_of-set_same : (mailboxes : List Mailbox) (place p : ℕ) (old new : Mailbox) → StandsAt mailboxes place p old
+pub mailbox_of-set_same : (mailboxes : List Mailbox) (place p : ℕ) (old new : Mailbox) → StandsAt mailboxes place p old
     → mailbox_of (set mailboxes place new) p ≡ Some new
 mailbox_of-set_same mailboxes place zero old new at = absurd (omega arith)
 mailbox_of-set_same mailboxes place (suc k) old new at =
@@ -78,10 +78,10 @@ of_set f mailboxes place p old new at q =
     (λ other. rw (ne_eqb q p other) (ap f (mailbox_of-set_other mailboxes place p q old new at other)))
     (cases_eq q p)
 
--- what a process sent, where a mailbox was written
-pub mail_sent-set : (mailboxes : List Mailbox) (place p : ℕ) (old new : Mailbox) → StandsAt mailboxes place p old → (q : ℕ)
-    → mail_sent (set mailboxes place new) q ≡ (if q == p then new.sent.items else mail_sent mailboxes q)
-mail_sent-set mailboxes place p old new at q = of_set requests_in mailboxes place p old new at q
+-- what waits, where a mailbox was written
+pub mail_waiting-set : (mailboxes : List Mailbox) (place p : ℕ) (old new : Mailbox) → StandsAt mailboxes place p old → (q : ℕ)
+    → mail_waiting (set mailboxes place new) q ≡ (if q == p then new.waiting.items else mail_waiting mailboxes q)
+mail_waiting-set mailboxes place p old new at q = of_set waiting_in mailboxes place p old new at q
 
 -- how much was taken, where a mailbox was written
 pub mail_taken-set : (mailboxes : List Mailbox) (place p : ℕ) (old new : Mailbox) → StandsAt mailboxes place p old → (q : ℕ)
@@ -100,47 +100,33 @@ mail_taken-kept mailboxes place p old new at same q =
     mail_taken-set mailboxes place p old new at q
     ∙ chosen_same (mail_taken mailboxes) p q new.taken (same ∙ sym (ap taken_in (mailbox_of-there mailboxes place p old at)))
 
--- a mailbox that is written with the same requests leaves all of them
-pub mail_sent-kept : (mailboxes : List Mailbox) (place p : ℕ) (old new : Mailbox) → StandsAt mailboxes place p old
-    → new.sent.items ≡ old.sent.items → (q : ℕ) → mail_sent (set mailboxes place new) q ≡ mail_sent mailboxes q
-mail_sent-kept mailboxes place p old new at same q =
-    mail_sent-set mailboxes place p old new at q
-    ∙ chosen_same (mail_sent mailboxes) p q new.sent.items
-    (same ∙ sym (ap requests_in (mailbox_of-there mailboxes place p old at)))
-
--- a mailbox that is written with more requests adds to what its process sent, and to nothing else
-pub mail_sent-grown : (mailboxes : List Mailbox) (place p : ℕ) (old new : Mailbox) → StandsAt mailboxes place p old
-    → IsPrefixOf old.sent.items new.sent.items → (q : ℕ)
-    → IsPrefixOf (mail_sent mailboxes q) (mail_sent (set mailboxes place new) q)
-mail_sent-grown mailboxes place p old new at grown q =
-    ⊎_elim
-    (λ same. (
-      grown.0,
-      mail_sent-set mailboxes place p old new at q
-          ∙ rw (eq-eqb q p same, same) (grown.1 ∙ ap (λ xs. xs ++ grown.0) (sym (ap requests_in (mailbox_of-there mailboxes place p old at)))),
-    ))
-    (λ other.
-    ([], mail_sent-set mailboxes place p old new at q ∙ rw (ne_eqb q p other) (sym (append-nil (mail_sent mailboxes q)))))
-    (cases_eq q p)
-
--- a list with one more item, or as it was, begins with what it was
-pub IsPrefixOf-pushed : {X E T : Type 0} (result : Result T E) (old new : List X) (x : X) → OnOk result (new ≡ old ++ x ∷ [])
-    → OnErr result (new ≡ old) → IsPrefixOf old new
-IsPrefixOf-pushed (Ok n) old new x ok err = (x ∷ [], ok)
-IsPrefixOf-pushed (Err fault) old new x ok err = ([], err ∙ sym (append-nil old))
-
--- a prefix of a prefix is a prefix
-pub IsPrefixOf-longer : {X : Type 0} (xs ys zs : List X) → IsPrefixOf xs ys → IsPrefixOf ys zs → IsPrefixOf xs zs
-IsPrefixOf-longer xs ys zs first second =
-    (first.0 ++ second.0, second.1 ∙ ap (λ l. l ++ second.0) first.1 ∙ append_assoc xs first.0 second.0)
-
--- what holds of a session holds where something else was sent, if what was taken is a prefix of that and it isn't too much
-pub Holds-sent : (manager : Manager) (sent sent' : ℕ → List Request) (journal : List Event)
-    → ((q : ℕ) → IsPrefixOf (requests_taken q journal) (sent' q)) → ((q : ℕ) → length (sent' q) ≤ N_MAX) → Holds manager sent journal
-    → Holds manager sent' journal
-Holds-sent manager sent sent' journal in_order few holds =
+-- and with it the mail is kept
+pub IsMailKept-written : (processes : ℕ) (mailboxes : List Mailbox) (journal : List Event) (place p : ℕ) (old new : Mailbox)
+    → StandsAt mailboxes place p old → new.taken ≡ old.taken → IsMailKept processes mailboxes journal
+    → IsMailKept processes (set mailboxes place new) journal
+IsMailKept-written processes mailboxes journal place p old new at same mail =
     record {
-      taken_in_order = in_order;
+      some = mail.some;
+      one_each = rw length-set mail.one_each;
+      taken = λ q. mail_taken-kept mailboxes place p old new at same q ∙ mail.taken q;
+    }
+
+-- a mailbox that is written with the same requests leaves all that was sent
+pub mail_sent-kept : (mailboxes : List Mailbox) (journal : List Event) (place p : ℕ) (old new : Mailbox) → StandsAt mailboxes place p old
+    → new.waiting.items ≡ old.waiting.items → (q : ℕ)
+    → mail_sent (set mailboxes place new) journal q ≡ mail_sent mailboxes journal q
+mail_sent-kept mailboxes journal place p old new at same q =
+    ap (λ l. requests_taken q journal ++ l)
+    (mail_waiting-set mailboxes place p old new at q
+    ∙ chosen_same (mail_waiting mailboxes) p q new.waiting.items (same ∙ sym (ap waiting_in (mailbox_of-there mailboxes place p old at))))
+
+-- what holds of a session holds where other mail waits, if not too much was sent then
+pub Holds-sent : (manager : Manager) (mailboxes mailboxes' : List Mailbox) (journal : List Event)
+    → ((q : ℕ) → length (mail_sent mailboxes' journal q) ≤ N_MAX) → Holds manager (mail_sent mailboxes journal) journal
+    → Holds manager (mail_sent mailboxes' journal) journal
+Holds-sent manager mailboxes mailboxes' journal few holds =
+    record {
+      taken_in_order = λ q. (mail_waiting mailboxes' q, refl);
       answered_once = holds.answered_once;
       answers_numbered = holds.answers_numbered;
       answered_taken = holds.answered_taken;
@@ -153,58 +139,32 @@ Holds-sent manager sent sent' journal in_order few holds =
       replayed = holds.replayed;
     }
 
--- what holds of a session holds where more was sent
-pub Holds-grown : (manager : Manager) (sent sent' : ℕ → List Request) (journal : List Event)
-    → ((q : ℕ) → IsPrefixOf (sent q) (sent' q)) → ((q : ℕ) → length (sent' q) ≤ N_MAX) → Holds manager sent journal
-    → Holds manager sent' journal
-Holds-grown manager sent sent' journal grown few holds =
-    Holds-sent manager sent sent' journal
-    (λ p. IsPrefixOf-longer (requests_taken p journal) (sent p) (sent' p) (holds.taken_in_order p) (grown p))
-    few
-    holds
-
--- a list that begins with a shorter one still does where its last item is taken off
-pub IsPrefixOf-shorter : {X : Type 0} (xs ys : List X) → IsPrefixOf xs ys → length xs < length ys
-    → IsPrefixOf xs (take (length ys - 1) ys)
-IsPrefixOf-shorter [] ys begins shorter = (take (length ys - 1) ys, refl)
-IsPrefixOf-shorter (x ∷ xs) [] begins shorter = absurd (omega arith)
-IsPrefixOf-shorter (x ∷ xs) (y ∷ ys) begins shorter =
-    let rest : ys ≡ xs ++ begins.0 = cc in
-    let same : y ≡ x = cc in
-    let less : length xs < length ys = omega arith in
-    let tail = IsPrefixOf-shorter xs ys (begins.0, rest) less in
-    let count : suc (length ys) - 1 ≡ suc (length ys - 1) = omega arith in
-    (tail.0, ap (λ n. take n (y ∷ ys)) count ∙ ap (λ z. z ∷ take (length ys - 1) ys) same ∙ ap (λ l. x ∷ l) tail.1)
+-- two lists without the last item of the second
+take-behind : {X : Type 0} (xs ys : List X) → 0 < length ys
+    → take (length (xs ++ ys) - 1) (xs ++ ys) ≡ xs ++ take (length ys - 1) ys
+take-behind [] ys some = refl
+take-behind (x ∷ xs) ys some =
+    let long = length-append xs ys in
+    let count : suc (length (xs ++ ys)) - 1 ≡ suc (length (xs ++ ys) - 1) = omega arith in
+    ap (λ n. take n (x ∷ (xs ++ ys))) count ∙ ap (λ l. x ∷ l) (take-behind xs ys some)
 
 -- what a process sent, where the last request was taken out of its mailbox
-pub mail_sent-withdrawn : (mailboxes : List Mailbox) (place p : ℕ) (old new : Mailbox) → StandsAt mailboxes place p old
-    → new.sent.items ≡ take (length old.sent.items - 1) old.sent.items → (q : ℕ)
-    → mail_sent (set mailboxes place new) q
-    ≡ (if q == p then take (length (mail_sent mailboxes q) - 1) (mail_sent mailboxes q) else mail_sent mailboxes q)
-mail_sent-withdrawn mailboxes place p old new at shorter q =
-    mail_sent-set mailboxes place p old new at q
+pub mail_sent-withdrawn : (mailboxes : List Mailbox) (journal : List Event) (place p : ℕ) (old new : Mailbox)
+    → StandsAt mailboxes place p old → 0 < length old.waiting.items
+    → new.waiting.items ≡ take (length old.waiting.items - 1) old.waiting.items → (q : ℕ)
+    → mail_sent (set mailboxes place new) journal q
+    ≡ (if q == p then take (length (mail_sent mailboxes journal q) - 1) (mail_sent mailboxes journal q) else mail_sent mailboxes journal q)
+mail_sent-withdrawn mailboxes journal place p old new at some shorter q =
+    let there = ap waiting_in (mailbox_of-there mailboxes place p old at) in
+    ap (λ l. requests_taken q journal ++ l) (mail_waiting-set mailboxes place p old new at q)
     ∙ ⊎_elim
     (λ same.
     rw (eq-eqb q p same, same)
-    (shorter ∙ ap (λ mailbox. take (length (requests_in mailbox) - 1) (requests_in mailbox)) (sym (mailbox_of-there mailboxes place p old at))))
+    (ap (λ l. requests_taken p journal ++ l) shorter
+    ∙ sym (take-behind (requests_taken p journal) old.waiting.items some)
+    ∙ ap (λ l. take (length (requests_taken p journal ++ l) - 1) (requests_taken p journal ++ l)) (sym there)))
     (λ other. rw (ne_eqb q p other) refl)
     (cases_eq q p)
-
--- what was taken stays a prefix of what was sent, where a request is taken out that wasn't taken
-pub taken_in_order-withdrawn : (mailboxes : List Mailbox) (place p : ℕ) (old new : Mailbox) (journal : List Event)
-    → StandsAt mailboxes place p old → new.sent.items ≡ take (length old.sent.items - 1) old.sent.items
-    → length (requests_taken p journal) < length (mail_sent mailboxes p)
-    → ((q : ℕ) → IsPrefixOf (requests_taken q journal) (mail_sent mailboxes q)) → (q : ℕ)
-    → IsPrefixOf (requests_taken q journal) (mail_sent (set mailboxes place new) q)
-taken_in_order-withdrawn mailboxes place p old new journal at shorter untaken in_order q =
-    let sent = mail_sent-withdrawn mailboxes place p old new at shorter q in
-    subst (λ l. IsPrefixOf (requests_taken q journal) l) (sym sent)
-    (⊎_elim
-    (λ same.
-    let less : length (requests_taken q journal) < length (mail_sent mailboxes q) = rw same untaken in
-    rw (eq-eqb q p same) (IsPrefixOf-shorter (requests_taken q journal) (mail_sent mailboxes q) (in_order q) less))
-    (λ other. rw (ne_eqb q p other) (in_order q))
-    (cases_eq q p))
 
 -- one success follows another
 pub IfOk-found : {T E F : Type 0} (first : Result T E) (second : Result T F) (P : T → Type 0) (x : T) → is_ok second ≡ is_ok first
@@ -214,22 +174,45 @@ IfOk-found (Err fault) (Ok y) P x alike is h = cc
 IfOk-found (Err fault) (Err other) P x alike is h = cc
 
 -- what a process sent, where its mailbox got one more request
-pub mail_sent-pushed : (mailboxes : List Mailbox) (place p : ℕ) (old new : Mailbox) (request : Request)
-    → StandsAt mailboxes place p old → new.sent.items ≡ old.sent.items ++ request ∷ [] → (q : ℕ)
-    → mail_sent (set mailboxes place new) q ≡ (if q == p then mail_sent mailboxes q ++ request ∷ [] else mail_sent mailboxes q)
-mail_sent-pushed mailboxes place p old new request at pushed q =
-    mail_sent-set mailboxes place p old new at q
+pub mail_sent-pushed : (mailboxes : List Mailbox) (journal : List Event) (place p : ℕ) (old new : Mailbox) (request : Request)
+    → StandsAt mailboxes place p old → new.waiting.items ≡ old.waiting.items ++ request ∷ [] → (q : ℕ)
+    → mail_sent (set mailboxes place new) journal q
+    ≡ (if q == p then mail_sent mailboxes journal q ++ request ∷ [] else mail_sent mailboxes journal q)
+mail_sent-pushed mailboxes journal place p old new request at pushed q =
+    let there = ap waiting_in (mailbox_of-there mailboxes place p old at) in
+    ap (λ l. requests_taken q journal ++ l) (mail_waiting-set mailboxes place p old new at q)
     ∙ ⊎_elim
     (λ same.
-    rw (eq-eqb q p same, same) (pushed ∙ ap (λ mailbox. requests_in mailbox ++ request ∷ []) (sym (mailbox_of-there mailboxes place p old at))))
+    rw (eq-eqb q p same, same)
+    (ap (λ l. requests_taken p journal ++ l) (pushed ∙ ap (λ l. l ++ request ∷ []) (sym there))
+    ∙ sym (append_assoc (requests_taken p journal) (mail_waiting mailboxes p) (request ∷ []))))
     (λ other. rw (ne_eqb q p other) refl)
     (cases_eq q p)
 
--- how much a process sent, where its mailbox was written
-pub length-mail_sent-set : (mailboxes : List Mailbox) (place p n : ℕ) (old new : Mailbox) → StandsAt mailboxes place p old
-    → n ≡ length new.sent.items → n ≡ length (mail_sent (set mailboxes place new) p)
-length-mail_sent-set mailboxes place p n old new at is =
-    is ∙ ap (λ mailbox. length (requests_in mailbox)) (sym (mailbox_of-set_same mailboxes place p old new at))
+-- how much a process sent: what was taken of it, and what waits
+pub length-mail_sent : (processes : ℕ) (mailboxes : List Mailbox) (journal : List Event) → IsMailKept processes mailboxes journal
+    → (p : ℕ) → length (mail_sent mailboxes journal p) ≡ mail_taken mailboxes p + length (mail_waiting mailboxes p)
+length-mail_sent processes mailboxes journal mail p =
+    let both = length-append (requests_taken p journal) (mail_waiting mailboxes p) in
+    let taken = length-map (events_of p journal) (λ event. event.request) in
+    let as_many = mail.taken p in
+    omega arith
+
+-- the same of a mailbox that is there
+pub length-mail_sent-there : (processes : ℕ) (mailboxes : List Mailbox) (journal : List Event) (p : ℕ) (mailbox : Mailbox)
+    → IsMailKept processes mailboxes journal → mailbox_of mailboxes p ≡ Some mailbox
+    → length (mail_sent mailboxes journal p) ≡ mailbox.taken + length mailbox.waiting.items
+length-mail_sent-there processes mailboxes journal p mailbox mail there =
+    length-mail_sent processes mailboxes journal mail p ∙ ap (λ m. taken_in m + length (waiting_in m)) there
+
+-- where fewer requests of a process were taken than it sent, there is one in its mailbox
+pub untaken_waits : (processes : ℕ) (mailboxes : List Mailbox) (journal : List Event) (p : ℕ) (mailbox : Mailbox)
+    → IsMailKept processes mailboxes journal → mailbox_of mailboxes p ≡ Some mailbox
+    → length (events_of p journal) < length (mail_sent mailboxes journal p) → 0 < length mailbox.waiting.items
+untaken_waits processes mailboxes journal p mailbox mail there untaken =
+    let sent = length-mail_sent-there processes mailboxes journal p mailbox mail there in
+    let taken = sym (ap taken_in there) ∙ mail.taken p in
+    omega (arith, untaken)
 
 -- a manager stands for what it stands for
 pub SameManager-refl : (manager : Manager) → SameManager manager manager
@@ -240,6 +223,35 @@ pub IfOk-both : {T E : Type 0} (result : Result T E) (P Q R : T → Type 0) → 
     → IfOk result Q → IfOk result R
 IfOk-both (Ok x) P Q R both p q = both x p q
 IfOk-both (Err fault) P Q R both p q = tt
+
+-- a request that arrived, and was taken back where nothing else changed, leaves a session that shows the same
+pub SameSession-withdrawn : (old between refused new : Session) (p : ℕ) (request : Request) (n : ℕ) → Arrives old between p request n
+    → SameSession between refused
+    → ((q : ℕ) → sent_of new q ≡ (if q == p then take (length (sent_of refused q) - 1) (sent_of refused q) else sent_of refused q))
+    → events_in new ≡ events_in refused → manager_of new ≡ manager_of refused → SameSession old new
+SameSession-withdrawn old between refused new p request n arrived same shorter same_journal same_manager =
+    let first = arrived.manager in
+    let second : SameManager (manager_of between) (manager_of new) =
+    subst (λ m. SameManager (manager_of between) m) (sym same_manager) same.manager in
+    record {
+      manager = record {
+        stands = λ S stands. second.stands S (first.stands S stands);
+        states = λ q. second.states q ∙ first.states q;
+        rules = second.rules ∙ first.rules;
+        processes = second.processes ∙ first.processes;
+      };
+      journal = same_journal ∙ same.journal ∙ arrived.journal;
+      sent = λ q.
+          let sent = same.sent q ∙ arrived.sent q in
+          shorter q
+          ∙ ⊎_elim
+          (λ own.
+          let more : sent_of refused q ≡ sent_of old q ++ request ∷ [] = sent ∙ rw (eq-eqb q p own) refl in
+          rw (eq-eqb q p own)
+          (ap (λ l. take (length l - 1) l) more ∙ take-behind (sent_of old q) (request ∷ []) (omega arith) ∙ append-nil (sent_of old q)))
+          (λ other. rw (ne_eqb q p other) (sent ∙ rw (ne_eqb q p other) refl))
+          (cases_eq q p);
+    }
 
 -- a request that arrived and was taken then is taken as one
 pub TakesRequest-arrived : (old between new : Session) (p : ℕ) (request : Request) (n place : ℕ) → Arrives old between p request n
@@ -266,72 +278,69 @@ TakesRequest-arrived old between new p request n place arrived took =
 
 -- where a request in the mailbox of a process wasn't taken, the process has such mail
 pub HasMail-there : (mailboxes : List Mailbox) (place p : ℕ) (mailbox : Mailbox) → StandsAt mailboxes place p mailbox
-    → mailbox.taken < length mailbox.sent.items → HasMail mailboxes p
-HasMail-there mailboxes place p mailbox at untaken =
-    let there = mailbox_of-there mailboxes place p mailbox at in
-    let taken : mail_taken mailboxes p ≡ mailbox.taken = ap taken_in there in
-    let sent : length (mail_sent mailboxes p) ≡ length mailbox.sent.items = ap (λ m. length (requests_in m)) there in
-    omega arith
+    → 0 < length mailbox.waiting.items → HasMail mailboxes p
+HasMail-there mailboxes place p mailbox at some =
+    subst (λ m. 0 < length (waiting_in m)) (sym (mailbox_of-there mailboxes place p mailbox at)) some
 
 -- a mailbox is written: the mail stays inside a window that isn't smaller, where that of its process does
 pub IsMailInside-set : (mailboxes : List Mailbox) (place p : ℕ) (old new : Mailbox) (window window' : Window) → StandsAt mailboxes place p old
-    → ((q : ℕ) → IsInside window q → IsInside window' q) → (new.taken < length new.sent.items → IsInside window' p)
+    → ((q : ℕ) → IsInside window q → IsInside window' q) → (0 < length new.waiting.items → IsInside window' p)
     → IsMailInside window mailboxes → IsMailInside window' (set mailboxes place new)
 IsMailInside-set mailboxes place p old new window window' at wider own inside q mail =
-    let written_taken = mail_taken-set mailboxes place p old new at q in
-    let written_sent = mail_sent-set mailboxes place p old new at q in
+    let written = mail_waiting-set mailboxes place p old new at q in
     ⊎_elim
     (λ same.
-    let taken : (if q == p then new.taken else mail_taken mailboxes q) ≡ new.taken = rw (eq-eqb q p same) refl in
-    let sent : (if q == p then new.sent.items else mail_sent mailboxes q) ≡ new.sent.items = rw (eq-eqb q p same) refl in
-    let as_long : length (mail_sent (set mailboxes place new) q) ≡ length new.sent.items = ap length (written_sent ∙ sent) in
-    let as_many : mail_taken (set mailboxes place new) q ≡ new.taken = written_taken ∙ taken in
-    subst (IsInside window') (sym same) (own (omega (arith, mail))))
+    let is : (if q == p then new.waiting.items else mail_waiting mailboxes q) ≡ new.waiting.items = rw (eq-eqb q p same) refl in
+    subst (IsInside window') (sym same) (own (subst (λ l. 0 < length l) (written ∙ is) mail)))
     (λ other.
-    let taken : (if q == p then new.taken else mail_taken mailboxes q) ≡ mail_taken mailboxes q = rw (ne_eqb q p other) refl in
-    let sent : (if q == p then new.sent.items else mail_sent mailboxes q) ≡ mail_sent mailboxes q = rw (ne_eqb q p other) refl in
-    let as_long : length (mail_sent (set mailboxes place new) q) ≡ length (mail_sent mailboxes q) = ap length (written_sent ∙ sent) in
-    let as_many : mail_taken (set mailboxes place new) q ≡ mail_taken mailboxes q = written_taken ∙ taken in
-    wider q (inside q (omega (arith, mail))))
+    let is : (if q == p then new.waiting.items else mail_waiting mailboxes q) ≡ mail_waiting mailboxes q = rw (ne_eqb q p other) refl in
+    wider q (inside q (subst (λ l. 0 < length l) (written ∙ is) mail)))
     (cases_eq q p)
 
--- a process without such mail has no next request
-pub nothing_untaken : (processes : ℕ) (mailboxes : List Mailbox) (journal : List Event) (q : ℕ) → IsMailKept processes mailboxes journal
-    → ¬ (HasMail mailboxes q) → IsNone (next_untaken (mail_sent mailboxes) journal q)
-nothing_untaken processes mailboxes journal q mail none =
-    let many = mail.taken q in
-    ⊎_elim
-    (λ some. absurd (none some))
-    (λ past.
-    let all = slice_get_past (mail_sent mailboxes q) (length (events_of q journal)) (omega (arith, many, past)) in
-    subst (λ o. IsNone o) (sym all) refl)
-    (cases_lt (mail_taken mailboxes q) (length (mail_sent mailboxes q)))
+-- what stands right behind a list is the first of what follows it
+slice_get-behind : {X : Type 0} (xs ys : List X) → slice_get (xs ++ ys) (length xs) ≡ slice_get ys 0
+slice_get-behind [] ys = refl
+slice_get-behind (x ∷ xs) ys = slice_get-behind xs ys
 
-some_within : {X : Type 0} (xs : List X) (i : ℕ) → i < length xs → IsNone (slice_get xs i) → ⊥
-some_within [] i within none = omega arith
-some_within (x ∷ xs) zero within none = cc
-some_within (x ∷ xs) (suc i) within none = some_within xs i (omega arith) none
+-- the next request of a process is the first that waits
+pub next_untaken-waits : (mailboxes : List Mailbox) (journal : List Event) (p : ℕ)
+    → next_untaken (mail_sent mailboxes journal) journal p ≡ slice_get (mail_waiting mailboxes p) 0
+next_untaken-waits mailboxes journal p =
+    ap (λ n. slice_get (mail_sent mailboxes journal p) n) (sym (length-map (events_of p journal) (λ event. event.request)))
+    ∙ slice_get-behind (requests_taken p journal) (mail_waiting mailboxes p)
+
+-- a process without such mail has no next request
+nothing_untaken : (mailboxes : List Mailbox) (journal : List Event) (q : ℕ)
+    → ¬ (HasMail mailboxes q) → IsNone (next_untaken (mail_sent mailboxes journal) journal q)
+nothing_untaken mailboxes journal q none =
+    subst (λ o. IsNone o) (sym (next_untaken-waits mailboxes journal q)) (nothing (mail_waiting mailboxes q) none)
+  where
+    nothing : (waiting : List Request) → ¬ (0 < length waiting) → IsNone (slice_get waiting 0)
+    nothing [] none = refl
+    nothing (request ∷ waiting) none = absurd (none (omega arith))
 
 -- and one without a next request has no such mail
-pub no_mail : (processes : ℕ) (mailboxes : List Mailbox) (journal : List Event) (q : ℕ) → IsMailKept processes mailboxes journal
-    → IsNone (next_untaken (mail_sent mailboxes) journal q) → ¬ (HasMail mailboxes q)
-no_mail processes mailboxes journal q mail none some =
-    let many = mail.taken q in
-    some_within (mail_sent mailboxes q) (length (events_of q journal)) (omega (arith, many, some)) none
+pub no_mail : (mailboxes : List Mailbox) (journal : List Event) (q : ℕ)
+    → IsNone (next_untaken (mail_sent mailboxes journal) journal q) → ¬ (HasMail mailboxes q)
+no_mail mailboxes journal q none some =
+    nothing (mail_waiting mailboxes q) (subst (λ o. IsNone o) (next_untaken-waits mailboxes journal q) none) some
+  where
+    nothing : (waiting : List Request) → IsNone (slice_get waiting 0) → ¬ (0 < length waiting)
+    nothing [] none some = omega arith
+    nothing (request ∷ waiting) none some = cc
 
 -- no process before those with mail has a next request
-pub none_below : (processes : ℕ) (mailboxes : List Mailbox) (journal : List Event) (states : ℕ → ProcState) (window : Window)
-    → IsMailKept processes mailboxes journal → IsMailInside window mailboxes
-    → HasNoMailBelow states (mail_sent mailboxes) journal (window.before + 1)
-none_below processes mailboxes journal states window mail inside q below live =
-    nothing_untaken processes mailboxes journal q mail (λ some. omega (arith, below, (inside q some).0))
+pub none_below : (mailboxes : List Mailbox) (journal : List Event) (states : ℕ → ProcState) (window : Window)
+    → IsMailInside window mailboxes → HasNoMailBelow states (mail_sent mailboxes journal) journal (window.before + 1)
+none_below mailboxes journal states window inside q below live =
+    nothing_untaken mailboxes journal q (λ some. omega (arith, below, (inside q some).0))
 
 -- nor has any live one, where none up to the last of them has
-pub none_at_all : (processes : ℕ) (mailboxes : List Mailbox) (journal : List Event) (states : ℕ → ProcState) (window : Window) (index : ℕ)
-    → IsMailKept processes mailboxes journal → IsMailInside window mailboxes → window.last ≤ index
-    → HasNoMailBelow states (mail_sent mailboxes) journal (index + 1) → IsDrained states (mail_sent mailboxes) journal
-none_at_all processes mailboxes journal states window index mail inside past none q live =
+pub none_at_all : (mailboxes : List Mailbox) (journal : List Event) (states : ℕ → ProcState) (window : Window) (index : ℕ)
+    → IsMailInside window mailboxes → window.last ≤ index
+    → HasNoMailBelow states (mail_sent mailboxes journal) journal (index + 1) → IsDrained states (mail_sent mailboxes journal) journal
+none_at_all mailboxes journal states window index inside past none q live =
     ⊎_elim
     (λ below. none q below live)
-    (λ behind. nothing_untaken processes mailboxes journal q mail (λ some. omega (arith, behind, past, (inside q some).1)))
+    (λ behind. nothing_untaken mailboxes journal q (λ some. omega (arith, behind, past, (inside q some).1)))
     (cases_lt q (index + 1))

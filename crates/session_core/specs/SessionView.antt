@@ -22,7 +22,7 @@ events_in session = session.journal.items
 
 -- what a process sent, in order
 unfoldable pub sent_of : Session → ℕ → List Request
-sent_of session p = mail_sent session.mailboxes.items p
+sent_of session p = mail_sent session.mailboxes.items session.journal.items p
 
 -- the rules and the number of processes stay
 pub record SameRules (old new : Session) : Type 0 where

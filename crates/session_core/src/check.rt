@@ -66,7 +66,7 @@ impl Replay {
         }
         let notes = self.manager.take(entry.p, entry.n, entry.request)?;
         self.taken[usize::from(entry.p) - 1] = entry.n;
-        Ok(are_same(&notes, &entry.notes))
+        Ok(are_same(&notes, entry.notes.as_slice()))
     }
 
     /// Whether the entry's process is able, and its next request has the entry's number.

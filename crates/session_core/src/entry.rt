@@ -3,6 +3,7 @@ ghost use Rattle.session_core.specs.Mail.{answers_in, reply_of as reply_of_lem, 
 
 use lock_manager::{Note, Reply, Request};
 use std::marker::Model;
+use std::slice;
 
 /// One event: request number `n` of process `p`, and what it told (this project's choice).
 #[derive(Debug, Drop)]
@@ -14,7 +15,7 @@ pub struct Entry {
     /// The request.
     pub request: Request,
     /// The caller's note first, where there is one (an exit and a kill of oneself have none), then those of the others that it touched.
-    pub notes: Vec<Note>,
+    pub notes: Notes,
 }
 
 impl Model for Entry {
@@ -22,19 +23,63 @@ impl Model for Entry {
 
     ghost Value = { Event };
 
-    ghost view = { λ entry. record { p = entry.p; n = entry.n; request = entry.request; notes = entry.notes.items } };
+    ghost view = { λ entry. record { p = entry.p; n = entry.n; request = entry.request; notes = entry.notes } };
 }
 
-/// The notes without most of the room that there was for a note to each wait. Where the growth of a smaller place is refused, they
-/// keep their room.
-pub fn fitted(notes: Vec<Note>) -> Vec<Note>
-    ensures { result.items ≡ notes.items }
-{
-    let mut notes = notes;
-    if notes.len() + 1 < notes.capacity() {
-        notes.shrink_to_fit();
+/// What an event told. Most events tell one note, which takes no memory of its own (this project's choice).
+#[derive(Debug, Drop)]
+pub struct Notes {
+    kept: KeptNotes,
+}
+
+/// How notes are kept.
+#[derive(Debug, Drop)]
+enum KeptNotes {
+    /// A single note.
+    One(Note),
+    /// None, or several.
+    Several(Vec<Note>),
+}
+
+impl Model for Notes {
+    ghost use Rattle.std.specs.Prelude.{List};
+    ghost use Rattle.lock_manager.specs.declared.request.Note.{Note};
+    ghost use Rattle.session_core.specs.Event.{notes_kept};
+
+    ghost Value = { List Note };
+
+    ghost view = { λ notes. notes_kept notes.kept };
+}
+
+impl Notes {
+    /// These notes, without most of the room that there was for a note to each wait. Where the growth of a smaller place is refused,
+    /// they keep their room.
+    pub fn of(notes: Vec<Note>) -> Notes
+        ensures { result ≡ notes.items }
+    {
+        if let [note] = notes.as_slice() {
+            return Notes {
+                kept: KeptNotes::One(*note),
+            };
+        }
+        let mut notes = notes;
+        if notes.len() + 1 < notes.capacity() {
+            notes.shrink_to_fit();
+        }
+        Notes {
+            kept: KeptNotes::Several(notes),
+        }
     }
-    notes
+
+    /// The notes, in order.
+    pub fn as_slice(&self) -> &[Note]
+        ensures { result.now ≡ self.now }
+    {
+        match &self.kept {
+            KeptNotes::One(note) => slice::from_ref(note),
+            KeptNotes::Several(notes) => notes,
+        }
+    }
 }
 
 /// The answer to request number `n` of the process that is among the notes.

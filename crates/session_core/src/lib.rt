@@ -13,7 +13,7 @@ mod tests;
 mod window;
 
 pub use check::check_journal;
-pub use entry::Entry;
+pub use entry::{Entry, Notes};
 pub use laws::{
     arrivals_have_one_drain, every_run_goes_on, requests_join_the_queue, waits_are_granted_in_turn,
 };

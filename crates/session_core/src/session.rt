@@ -8,10 +8,10 @@ ghost use Rattle.session_core.specs.Draining.{next_untaken, HasNoMailBelow, IsDr
 ghost use Rattle.session_core.specs.Headline.{Holds};
 
 use crate::answers::LastAnswers;
-use crate::entry::{find_reply, fitted};
+use crate::entry::find_reply;
 use crate::mailbox::Mailbox;
 use crate::window::Window;
-use crate::{Entry, N_MAX};
+use crate::{Entry, N_MAX, Notes};
 use lock_manager::{Manager, ProcState, Reply, Request, Rules};
 use range_core::Memory;
 use std::alloc::Global;
@@ -40,7 +40,7 @@ pub struct Session {
     ghost mail: { IsMailKept (processes_of manager) mailboxes.items journal.items },
     ghost inside: { IsMailInside window mailboxes.items },
     ghost answered: { AreLastAnswers (processes_of manager) answers journal.items },
-    ghost holds: { ∥ Holds manager (mail_sent mailboxes.items) journal.items ∥₁ },
+    ghost holds: { ∥ Holds manager (mail_sent mailboxes.items journal.items) journal.items ∥₁ },
 }
 
 #[tactic(auto, unfolding(crate::specs::SessionView::manager_of, crate::specs::SessionView::events_in, crate::specs::SessionView::sent_of))]
@@ -169,7 +169,7 @@ impl Session {
         ensures { result ≡ reply_to p n (events_in self.now) }
     {
         for entry in &self.journal {
-            if let Some(reply) = find_reply(&entry.notes, p, n) {
+            if let Some(reply) = find_reply(entry.notes.as_slice(), p, n) {
                 return Some(reply);
             }
         }
@@ -235,7 +235,7 @@ impl Session {
             p,
             n,
             request,
-            notes: fitted(notes),
+            notes: Notes::of(notes),
         };
         self.journal.push(entry).unwrap();
         self.mailboxes[usize::from(p) - 1].advance();

@@ -352,7 +352,7 @@ fn processes_begin_and_end(rt: HostRuntime) -> Result<(), Fail> {
         session
             .journal()
             .last()
-            .is_some_and(|entry| entry.p == 1 && entry.notes.is_empty())
+            .is_some_and(|entry| entry.p == 1 && entry.notes.as_slice().is_empty())
     );
     assert_held(&rt, &session, &[])?;
     assert_eq!(rt; take_next(&rt, &mut session)?, Some(5));

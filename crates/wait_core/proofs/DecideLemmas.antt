@@ -18,13 +18,12 @@ use Rattle.wait_core.specs.declared.Family.TheVariants.{Bytes, Whole}
 use Rattle.wait_core.specs.declared.Policy.{Policy}
 use Rattle.wait_core.specs.declared.Policy.TheVariants.{Held, Queue}
 use Rattle.wait_core.specs.declared.Wait.{Wait}
-use Rattle.wait_core.specs.declared.files.FileSet.{FileSet}
 use Rattle.wait_core.specs.declared.waits.Waits.{Waits}
 use Rattle.wait_core.specs.Locks.{Locks, byte_modes_at, flock_modes_at, locks_of}
 use Rattle.wait_core.specs.Blocking.{IsBlocked, IsBlockedIn, Meet, WaitsConflict}
 use Rattle.wait_core.specs.Cycles.{WaitsFor}
 use Rattle.wait_core.specs.Pairs.{IsBlockedWait}
-use Rattle.wait_core.specs.Settled.{AllBlockedElsewhere}
+use Rattle.wait_core.specs.Settled.{AllBlockedWhere}
 use Rattle.wait_core.specs.WaitsView.{waits_of, has_pair, AreTold}
 use Rattle.wait_core.proofs.AnyLemmas.{Any-nil, Any-here, Any-there, Any-cons}
 use Rattle.wait_core.proofs.PairLemmas.{blocked_wait, waits_by_lock}
@@ -161,10 +160,10 @@ known (inl holds) merely = holds
 known (inr not) merely = absurd (∥∥₁_elim merely (λ x y. absurd x) not)
 
 -- so waits that are known to be blocked are
-pub blocked_known : ByteConflictIsDecided → FlockConflictIsDecided → (files : FileSet) (policy : Policy) (books : List Book) (earlier waits : List Wait)
-    → ∥ AllBlockedElsewhere files policy (locks_of books) earlier waits ∥₁ → AllBlockedElsewhere files policy (locks_of books) earlier waits
-blocked_known bytes flocks files policy books earlier [] merely = tt
-blocked_known bytes flocks files policy books earlier (wait ∷ waits) merely = (
-  λ elsewhere. known (blocked_or_not bytes flocks policy books earlier wait) (∥∥₁_map merely (λ all. all.0 elsewhere)),
-  blocked_known bytes flocks files policy books (earlier ++ wait ∷ []) waits (∥∥₁_map merely (λ all. all.1)),
+pub blocked_known : ByteConflictIsDecided → FlockConflictIsDecided → (Holds : Wait → Type 0) (policy : Policy) (books : List Book) (earlier waits : List Wait)
+    → ∥ AllBlockedWhere Holds policy (locks_of books) earlier waits ∥₁ → AllBlockedWhere Holds policy (locks_of books) earlier waits
+blocked_known bytes flocks Holds policy books earlier [] merely = tt
+blocked_known bytes flocks Holds policy books earlier (wait ∷ waits) merely = (
+  λ holds. known (blocked_or_not bytes flocks policy books earlier wait) (∥∥₁_map merely (λ all. all.0 holds)),
+  blocked_known bytes flocks Holds policy books (earlier ++ wait ∷ []) waits (∥∥₁_map merely (λ all. all.1)),
 )

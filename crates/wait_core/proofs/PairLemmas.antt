@@ -9,8 +9,9 @@ use Rattle.std.proofs.lemmas.List.Elements.{All-nil, All-cons}
 use Rattle.std.proofs.lemmas.Option.{slice_get-get_or, slice_get_within, slice_get_cases, get_or_from_slice_get}
 use Rattle.range_core.specs.declared.Mode.{Mode}
 use Rattle.range_core.specs.declared.Span.{Span}
+use Rattle.range_core.specs.Ranges.{Covers, IsByteRange}
 use Rattle.lock_book.specs.declared.Owner.{Owner}
-use Rattle.lock_book.specs.declared.Owner.TheVariants.{Process}
+use Rattle.lock_book.specs.declared.Owner.TheVariants.{Process, Description}
 use Rattle.lock_book.specs.Conflicts.{ByteModes, ProcessBlocks}
 use Rattle.wait_core.specs.declared.Policy.TheVariants.{Held, Queue}
 use Rattle.wait_core.specs.declared.Wait.{Wait}
@@ -19,10 +20,11 @@ use Rattle.wait_core.specs.declared.processes.ProcessSet.{ProcessSet}
 use Rattle.wait_core.specs.declared.waits.Waits.{Waits}
 use Rattle.wait_core.specs.Locks.{Locks}
 use Rattle.wait_core.specs.Cycles.{WaitsFor}
-use Rattle.wait_core.specs.Pairs.{IsBehind, IsBlockedWait, IsElsewhere, WaitsBehind}
-use Rattle.wait_core.specs.PairsView.{pair_in, TellsWait}
+use Rattle.wait_core.specs.Pairs.{IsBehind, IsBlockedWait, IsElsewhere, IsOff, IsOn, WaitsBehind}
+use Rattle.wait_core.specs.PairsView.{pair_in, TellsPair}
 use Rattle.wait_core.specs.Processes.{is_member, no_process}
-use Rattle.wait_core.specs.WaitsView.{waits_of, has_pair, without_wait_of, AreTold, AgreeBut}
+use Rattle.wait_core.specs.WellFormed.{IsWellFormed}
+use Rattle.wait_core.specs.WaitsView.{waits_of, has_pair, without_wait_of, AreTold, AgreeBut, AgreeButOwner}
 use Rattle.wait_core.proofs.AnyLemmas.{Any-here, Any-there, Any-append, Any-append_left, Any-append_right, Any-alone, Any-weaker, Any-filter, Any-unfilter, split_at, split_within, split_is, split_take}
 use Rattle.wait_core.proofs.ProcessLemmas.{none_in, or_cases, or_right}
 
@@ -92,14 +94,14 @@ told-leave old new locks process rest forgotten others was = told new locks (λ 
       )
     ])
 
--- a process blocks by locks that agree
-pub blocks_same : (modes modes' : ByteModes) (q : ℕ) (owner : Owner) (span : Span) (mode : Mode) → ((other : Owner) (byte : ℕ) → modes' other byte ≡ modes other byte) → ProcessBlocks modes q owner span mode → ProcessBlocks modes' q owner span mode
+-- a process blocks by locks that agree on the range
+pub blocks_same : (modes modes' : ByteModes) (q : ℕ) (owner : Owner) (span : Span) (mode : Mode) → ((byte : ℕ) → Covers span byte → modes' (Process q) byte ≡ modes (Process q) byte) → ProcessBlocks modes q owner span mode → ProcessBlocks modes' q owner span mode
 blocks_same modes modes' q owner span mode agree blocks = record {
   byte = blocks.byte;
   covered = blocks.covered;
   blocks = record {
     another = blocks.blocks.another;
-    conflicts = rw (agree (Process q) blocks.byte) blocks.blocks.conflicts;
+    conflicts = rw (agree blocks.byte blocks.covered) blocks.blocks.conflicts;
   };
 }
 
@@ -151,46 +153,135 @@ kept_elsewhere old new file p q wait agree other = (
   λ was. record {
     of_p = was.of_p;
     traditional = was.traditional;
-    blocked = blocks_same (old.bytes wait.file) (new.bytes wait.file) q wait.owner wait.span wait.mode (λ owner byte. agree wait.file owner byte other) was.blocked;
+    blocked = blocks_same (old.bytes wait.file) (new.bytes wait.file) q wait.owner wait.span wait.mode (λ byte covered. agree wait.file (Process q) byte other) was.blocked;
   },
   λ is. record {
     of_p = is.of_p;
     traditional = is.traditional;
-    blocked = blocks_same (new.bytes wait.file) (old.bytes wait.file) q wait.owner wait.span wait.mode (λ owner byte. sym (agree wait.file owner byte other)) is.blocked;
+    blocked = blocks_same (new.bytes wait.file) (old.bytes wait.file) q wait.owner wait.span wait.mode (λ byte covered. sym (agree wait.file (Process q) byte other)) is.blocked;
   },
 )
+
+-- the pair is told anew, or it stays and so do the locks that it rests on
+abbrev pub IsToldOrKept : Waits → Waits → Locks → Locks → ℕ → Wait → Type 0
+IsToldOrKept old new before after q wait =
+    (IsTrue (has_pair new wait.p q) ↔ IsBlockedWait after wait.p q wait)
+    ⊎ ((has_pair new wait.p q ≡ has_pair old wait.p q) × (IsBlockedWait before wait.p q wait ↔ IsBlockedWait after wait.p q wait))
+
+pub told-changed : (old new : Waits) (before after : Locks) → waits_of new ≡ waits_of old → AllPairs (λ v w. v.p ≢ w.p) (waits_of old)
+    → ((k q : ℕ) (wait : Wait) → k < length (waits_of old) → get_or (waits_of old) k wait ≡ wait → 1 ≤ q → q ≤ 64 → IsToldOrKept old new before after q wait)
+    → ((p q : ℕ) → q ≤ 64 → All (λ w. w.p ≢ p) (waits_of old) → has_pair new p q ≡ has_pair old p q)
+    → AreTold old before → AreTold new after
+told-changed old new before after list apart pairs others was = told new after (λ p q p_few q_one q_few. rw list (elim (of_process_or_none (waits_of old) p) [
+  | inr none ↦
+      let kept = others p q q_few none in (
+        λ has. absurd (none_blocked before (waits_of old) p q none ((tells old before was p q p_few q_one q_few).0 (subst (λ (b : Bool). IsTrue b) kept has))),
+        λ any. absurd (none_blocked after (waits_of old) p q none any),
+      )
+  | inl (k, wait, within, is, of_p) ↦ subst (λ (n : ℕ). IsTrue (has_pair new n q) ↔ Any (IsBlockedWait after n q) (waits_of old)) of_p
+      (by_its_wait after (waits_of old) k q wait (has_pair new wait.p q) apart within is (elim (pairs k q wait within is q_one q_few) [
+        | inl anew ↦ anew
+        | inr (kept, alike) ↦
+            let told_old = tells old before was wait.p q (rw of_p p_few) q_one q_few in (
+              λ has.
+                  let (j, v, inside, v_is, holds) = told_old.0 (subst (λ (b : Bool). IsTrue b) kept has) in
+                  let same : v ≡ wait = one_wait (waits_of old) apart j k v wait inside within v_is is holds.of_p in
+                  alike.0 (subst (λ (w : Wait). IsBlockedWait before wait.p q w) same holds),
+              λ blocked. subst (λ (b : Bool). IsTrue b) (sym kept) (told_old.1 (k, wait, within, is, alike.1 blocked)),
+            )
+      ]))
+]))
+
+-- a process whose wait is on another file has no wait on this one
+elsewhere_by_wait : (waits : List Wait) → AllPairs (λ v w. v.p ≢ w.p) waits → (k file : ℕ) (wait : Wait) → k < length waits → get_or waits k wait ≡ wait → wait.file ≢ file → All (IsElsewhere wait.p file) waits
+elsewhere_by_wait waits apart k file wait within is other j d inside same =
+    subst (λ (w : Wait). w.file ≢ file)
+    (one_wait waits apart k j wait (get_or waits j d) within inside is (get_or_default waits j (get_or waits j d) d inside) (sym same)) other
 
 -- the pairs of the processes are told anew whose waits are on the file, and the others stay
 pub told-refresh : (old new : Waits) (before after : Locks) (file : ℕ) → waits_of new ≡ waits_of old → AllPairs (λ v w. v.p ≢ w.p) (waits_of old)
     → All (λ wait. wait.file ≡ file → (q : ℕ) → 1 ≤ q → q ≤ 64 → IsTrue (has_pair new wait.p q) ↔ IsBlockedWait after wait.p q wait) (waits_of old)
     → ((p q : ℕ) → All (IsElsewhere p file) (waits_of old) → has_pair new p q ≡ has_pair old p q)
     → AgreeBut file before after → AreTold old before → AreTold new after
-told-refresh old new before after file list apart anew others agree was = told new after (λ p q p_few q_one q_few. rw list (elim (of_process_or_none (waits_of old) p) [
-  | inr none ↦
-      let kept : has_pair new p q ≡ has_pair old p q = others p q (λ k d within same. absurd (none k d within same)) in (
-        λ has. absurd (none_blocked before (waits_of old) p q none ((tells old before was p q p_few q_one q_few).0 (subst (λ (b : Bool). IsTrue b) kept has))),
-        λ any. absurd (none_blocked after (waits_of old) p q none any),
+told-refresh old new before after file list apart anew others agree = told-changed old new before after list apart
+    (λ k q wait within is q_one q_few. elim (cases_eq wait.file file) [
+      | inl here ↦ inl (subst (λ (w : Wait). w.file ≡ file → (r : ℕ) → 1 ≤ r → r ≤ 64 → IsTrue (has_pair new w.p r) ↔ IsBlockedWait after w.p r w) is (anew k wait within) here q q_one q_few)
+      | inr other ↦ inr (others wait.p q (elsewhere_by_wait (waits_of old) apart k file wait within is other), kept_elsewhere before after file wait.p q wait agree other)
+    ])
+    (λ p q q_few none. others p q (λ k d within same. absurd (none k d within same)))
+
+-- a process blocks by the same locks where its own are the same on the range
+kept_of_owner : (old new : Locks) (file p q : ℕ) (owner : Owner) (span : Span) (wait : Wait) → IsByteRange wait.span → AgreeButOwner file owner span old new
+    → (Process q ≡ owner → ¬ IsOn file span wait) → IsBlockedWait old p q wait ↔ IsBlockedWait new p q wait
+kept_of_owner old new file p q owner span wait range agree off =
+    let same : (byte : ℕ) → Covers wait.span byte → new.bytes wait.file (Process q) byte ≡ old.bytes wait.file (Process q) byte =
+    λ byte covered. agree wait.file q byte (omega (arith, range.1, covered.1))
+    (λ changed. off changed.1 (changed.0, (omega (arith, covered.0, changed.2.1), omega (arith, changed.2.0, covered.1)))) in (
+      λ was. record {
+        of_p = was.of_p;
+        traditional = was.traditional;
+        blocked = blocks_same (old.bytes wait.file) (new.bytes wait.file) q wait.owner wait.span wait.mode same was.blocked;
+      },
+      λ is. record {
+        of_p = is.of_p;
+        traditional = is.traditional;
+        blocked = blocks_same (new.bytes wait.file) (old.bytes wait.file) q wait.owner wait.span wait.mode (λ byte covered. sym (same byte covered)) is.blocked;
+      },
+    )
+
+pub one_process : (q r : ℕ) → Process q ≡ Process r → q ≡ r
+one_process q r same = cc
+
+-- a process is the owner, or it isn't
+itself_or_another : (q : ℕ) (owner : Owner) → (Process q ≡ owner) ⊎ (Process q ≢ owner)
+itself_or_another q (Process r) = elim (cases_eq q r) [
+  | inl same ↦ inl (ap (λ (n : ℕ). Process n) same)
+  | inr differ ↦ inr (λ e. differ (one_process q r e))
+]
+itself_or_another q (Description d) = inr (λ e. let no : Process q ≡ Description d = e in cc)
+
+-- a wait is on these bytes of the file, or it isn't
+on_or_off : (file : ℕ) (span : Span) (wait : Wait) → IsOn file span wait ⊎ ¬ IsOn file span wait
+on_or_off file span wait = elim (cases_eq wait.file file) [
+  | inr other ↦ inr (λ on. other on.0)
+  | inl here ↦ elim (cases_lt span.last wait.span.first) [
+    | inl past ↦ inr (λ on. omega (arith, past, on.1.0))
+    | inr begins ↦ elim (cases_lt wait.span.last span.first) [
+      | inl before ↦ inr (λ on. omega (arith, before, on.1.1))
+      | inr ends ↦ inl (here, (begins, ends))
+    ]
+  ]
+]
+
+-- a process whose wait isn't on these bytes has no wait on them
+off_by_wait : (waits : List Wait) → AllPairs (λ v w. v.p ≢ w.p) waits → (k file : ℕ) (span : Span) (wait : Wait) → k < length waits → get_or waits k wait ≡ wait → ¬ IsOn file span wait → All (IsOff wait.p file span) waits
+off_by_wait waits apart k file span wait within is off j d inside same =
+    subst (λ (w : Wait). ¬ IsOn file span w)
+    (one_wait waits apart k j wait (get_or waits j d) within inside is (get_or_default waits j (get_or waits j d) d inside) (sym same)) off
+
+-- the pairs with the owner are told anew of the waits on these bytes, if it is a process, and the others stay
+pub told-owner : (old new : Waits) (before after : Locks) (file processes : ℕ) (owner : Owner) (span : Span) → waits_of new ≡ waits_of old → AllPairs (λ v w. v.p ≢ w.p) (waits_of old)
+    → All (IsWellFormed processes) (waits_of old)
+    → ((q : ℕ) → Process q ≡ owner → 1 ≤ q → q ≤ 64 → All (λ wait. IsOn file span wait → IsTrue (has_pair new wait.p q) ↔ IsBlockedWait after wait.p q wait) (waits_of old))
+    → ((p q : ℕ) → q ≤ 64 → (Process q ≡ owner → All (IsOff p file span) (waits_of old)) → has_pair new p q ≡ has_pair old p q)
+    → AgreeButOwner file owner span before after → AreTold old before → AreTold new after
+told-owner old new before after file processes owner span list apart well_formed anew others agree = told-changed old new before after list apart
+    (λ k q wait within is q_one q_few.
+    let range : IsByteRange wait.span = subst (λ (w : Wait). IsByteRange w.span) is (well_formed k wait within).range in
+    elim (on_or_off file span wait) [
+      | inr off ↦ inr (
+        others wait.p q q_few (λ itself. off_by_wait (waits_of old) apart k file span wait within is off),
+        kept_of_owner before after file wait.p q owner span wait range agree (λ itself. off),
       )
-  | inl (k, wait, within, is, of_p) ↦ subst (λ (n : ℕ). IsTrue (has_pair new n q) ↔ Any (IsBlockedWait after n q) (waits_of old)) of_p
-      (elim (cases_eq wait.file file) [
-        | inl here ↦ by_its_wait after (waits_of old) k q wait (has_pair new wait.p q) apart within is (subst (λ (w : Wait). w.file ≡ file → (r : ℕ) → 1 ≤ r → r ≤ 64 → IsTrue (has_pair new w.p r) ↔ IsBlockedWait after w.p r w) is (anew k wait within) here q q_one q_few)
-        | inr other ↦
-            let elsewhere : All (IsElsewhere wait.p file) (waits_of old) =
-            λ j d inside same. subst (λ (w : Wait). w.file ≢ file)
-            (one_wait (waits_of old) apart k j wait (get_or (waits_of old) j d) within inside is (get_or_default (waits_of old) j (get_or (waits_of old) j d) d inside) (sym same)) other in
-            let kept = others wait.p q elsewhere in
-            let told_old = tells old before was wait.p q (rw of_p p_few) q_one q_few in
-            let alike = kept_elsewhere before after file wait.p q wait agree other in
-            by_its_wait after (waits_of old) k q wait (has_pair new wait.p q) apart within is (
-              λ has.
-                  let any = told_old.0 (subst (λ (b : Bool). IsTrue b) kept has) in
-                  let (j, v, inside, v_is, holds) = any in
-                  let same : v ≡ wait = one_wait (waits_of old) apart j k v wait inside within v_is is holds.of_p in
-                  alike.0 (subst (λ (w : Wait). IsBlockedWait before wait.p q w) same holds),
-              λ blocked. subst (λ (b : Bool). IsTrue b) (sym kept) (told_old.1 (k, wait, within, is, alike.1 blocked)),
-            )
-      ])
-]))
+      | inl on ↦ elim (itself_or_another q owner) [
+        | inl itself ↦ inl (subst (λ (w : Wait). IsOn file span w → IsTrue (has_pair new w.p q) ↔ IsBlockedWait after w.p q w) is (anew q itself q_one q_few k wait within) on)
+        | inr another ↦ inr (
+          others wait.p q q_few (λ itself. absurd (another itself)),
+          kept_of_owner before after file wait.p q owner span wait range agree (λ itself. absurd (another itself)),
+        )
+      ]
+    ])
+    (λ p q q_few none. others p q q_few (λ itself k d within same. absurd (none k d within same)))
 
 -- one wait more, of a process that had none, and its pairs
 pub told-join : (old new : Waits) (locks : Locks) (wait : Wait) → waits_of new ≡ waits_of old ++ wait ∷ [] → All (λ w. w.p ≢ wait.p) (waits_of old)
@@ -213,36 +304,40 @@ told-join old new locks wait list none own others was = told new locks (λ p q p
   )
 ]))
 
--- what is told of the waits on the file that stand before this place
-abbrev pub TellsBefore : Pairs → Locks → ℕ → List Wait → ℕ → Type 0
-TellsBefore pairs locks file waits i = (k : ℕ) (wait : Wait) → k < i → k < length waits → get_or waits k wait ≡ wait → wait.file ≡ file → TellsWait pairs locks wait
+-- what holds of the waits before this place that are looked at
+abbrev pub Before : (Wait → Type 0) → (Wait → Type 0) → List Wait → ℕ → Type 0
+Before P On waits i = (k : ℕ) (wait : Wait) → k < i → k < length waits → get_or waits k wait ≡ wait → On wait → P wait
 
--- and of one wait more that is on the file
-pub tells_more : (old new : Pairs) (locks : Locks) (file i : ℕ) (waits : List Wait) (d : Wait) → AllPairs (λ v w. v.p ≢ w.p) waits → i < length waits → TellsBefore old locks file waits i
-    → TellsWait new locks (get_or waits i d) → ((p q : ℕ) → p ≢ (get_or waits i d).p → pair_in new p q ≡ pair_in old p q) → TellsBefore new locks file waits (i + 1)
-tells_more old new locks file i waits d apart within before last others k w below inside at on = elim (cases_eq k i) [
+-- and of one wait more that is looked at, where the waits of other processes keep it
+pub before_more : (P P' On : Wait → Type 0) (i : ℕ) (waits : List Wait) (d : Wait) → AllPairs (λ v w. v.p ≢ w.p) waits → i < length waits → Before P On waits i → P' (get_or waits i d)
+    → ((w : Wait) → w.p ≢ (get_or waits i d).p → P w → P' w) → Before P' On waits (i + 1)
+before_more P P' On i waits d apart within before last keeps k w below inside at on = elim (cases_eq k i) [
   | inl same ↦
       let w_is : w ≡ get_or waits i d = sym at ∙ ap (λ (n : ℕ). get_or waits n w) same ∙ get_or_default waits i w d within in
-      subst (TellsWait new locks) (sym w_is) last
+      subst P' (sym w_is) last
   | inr other ↦
       let differs : w.p ≢ (get_or waits i d).p =
       λ same. apart k i d (omega arith) within (ap (λ (x : Wait). x.p) (get_or_default waits k d w inside ∙ at) ∙ same) in
-      λ q one few. subst (λ (b : Bool). IsTrue b ↔ IsBlockedWait locks w.p q w) (sym (others w.p q differs)) (before k w (omega arith) inside at on q one few)
+      keeps w differs (before k w (omega arith) inside at on)
 ]
 
 -- and of one that isn't
-pub tells_skip : (pairs : Pairs) (locks : Locks) (file i : ℕ) (waits : List Wait) (d : Wait) → i < length waits → (get_or waits i d).file ≢ file → TellsBefore pairs locks file waits i → TellsBefore pairs locks file waits (i + 1)
-tells_skip pairs locks file i waits d within elsewhere before k w below inside at on = elim (cases_eq k i) [
+pub before_skip : (P On : Wait → Type 0) (i : ℕ) (waits : List Wait) (d : Wait) → i < length waits → ¬ On (get_or waits i d) → Before P On waits i → Before P On waits (i + 1)
+before_skip P On i waits d within off before k w below inside at on = elim (cases_eq k i) [
   | inl same ↦
       let w_is : w ≡ get_or waits i d = sym at ∙ ap (λ (n : ℕ). get_or waits n w) same ∙ get_or_default waits i w d within in
-      absurd (elsewhere (sym (ap (λ (x : Wait). x.file) w_is) ∙ on))
+      absurd (off (subst On w_is on))
   | inr other ↦ before k w (omega arith) inside at on
 ]
 
 -- and of all
-pub tells_all : (pairs : Pairs) (locks : Locks) (file : ℕ) (waits : List Wait) → TellsBefore pairs locks file waits (length waits) → All (λ wait. wait.file ≡ file → TellsWait pairs locks wait) waits
-tells_all pairs locks file waits before k d within on =
+pub before_all : (P On : Wait → Type 0) (waits : List Wait) → Before P On waits (length waits) → All (λ wait. On wait → P wait) waits
+before_all P On waits before k d within on =
     before k (get_or waits k d) within within (get_or_default waits k (get_or waits k d) d within) on
+
+-- a pair that stays is told of the same locks
+pub tells_still : (old new : Pairs) (locks : Locks) (q : ℕ) (w : Wait) → pair_in new w.p q ≡ pair_in old w.p q → TellsPair old locks q w → TellsPair new locks q w
+tells_still old new locks q w same was = subst (λ (b : Bool). IsTrue b ↔ IsBlockedWait locks w.p q w) (sym same) was
 
 -- under the queue policy a process waits by a lock or behind a wait
 pub waits_in_queue : (locks : Locks) (waits : List Wait) (p q : ℕ) → WaitsFor Held locks waits p q ⊎ WaitsBehind waits p q → WaitsFor Queue locks waits p q

@@ -1,11 +1,11 @@
 -- Sets of processes, by their bits.
 use Rattle.std.proofs.Common.{ℕ, ◌≡◌, ◌≢◌, ◌<◌, ◌≤◌, ◌*◌, ◌%◌, ◌^◌, ◌∙◌, ◌⊎◌, inl, inr, sym, ap, subst, refl, arith, Bool, true, false, zero, suc, w64}
-use Rattle.std.specs.Prelude.{◌==◌, ◌||◌, IsTrue, IsFalse, bit_and, bit_or}
+use Rattle.std.specs.Prelude.{◌==◌, ◌||◌, if◌then◌else◌, IsTrue, IsFalse, bit_and, bit_or}
 use Rattle.std.specs.Int.{bit_at, bit_not, trailing_zeros}
 use Rattle.std.proofs.lemmas.Bool.{cases_eq, eqb-true, eq-eqb}
 use Rattle.std.proofs.lemmas.Bool.Decides.{nat_tests}
 use Rattle.std.proofs.lemmas.Nat.{le_or_l}
-use Rattle.std.proofs.lemmas.Nat.Bits.{bit_at-lt, bit_at-zero, bit_at_and, bit_at_or, bit_at_not, bit_at_ones, bit_at-trailing_zeros, bit_at_set_same, bit_at_set_other}
+use Rattle.std.proofs.lemmas.Nat.Bits.{bit_at-lt, bit_at-zero, bit_at_and, bit_at_or, bit_at_not, bit_at_ones, bit_at-trailing_zeros, bit_at_set_same, bit_at_set_other, bit_at_clear_same, bit_at_clear_other}
 use Rattle.wait_core.specs.declared.processes.ProcessSet.{ProcessSet}
 use Rattle.wait_core.specs.Processes.{no_process, is_member, lacking, IsBeyond, IsWithin}
 
@@ -44,6 +44,21 @@ member_inserted old new p k place few is (suc j) = elim (cases_eq j k) [
       rw here (eq-eqb _ _ bit)
   | inr other ↦
       let bit : bit_at new.bits j ≡ bit_at old.bits j = rw is (bit_at_set_other w64 old.bits k few j other) in
+      let no : (suc j == p) ≡ false = grind (arith, nat_tests) in
+      rw no (ap (λ (b : ℕ). b == 1) bit)
+]
+
+-- and after one is cleared
+pub member_removed : (old new : ProcessSet) (p k : ℕ) → suc k ≡ p → k < 64 → new.bits ≡ bit_and old.bits (bit_not w64 (1 * 2 ^ k % 2 ^ 64)) → (q : ℕ) → q ≤ 64 → is_member new q ≡ (if q == p then false else is_member old q)
+unfolding is_member
+member_removed old new p k place few is zero within = let no : (0 == p) ≡ false = grind (arith, nat_tests) in rw no refl
+member_removed old new p k place few is (suc j) within = elim (cases_eq j k) [
+  | inl same ↦
+      let bit : bit_at new.bits j ≡ 0 = rw (is, same) (bit_at_clear_same w64 old.bits k few) in
+      let here : (suc j == p) ≡ true = eq-eqb (suc j) p (ap (λ (n : ℕ). suc n) same ∙ place) in
+      rw (here, bit) refl
+  | inr other ↦
+      let bit : bit_at new.bits j ≡ bit_at old.bits j = rw is (bit_at_clear_other w64 old.bits k few j (omega (arith, within)) other) in
       let no : (suc j == p) ≡ false = grind (arith, nat_tests) in
       rw no (ap (λ (b : ℕ). b == 1) bit)
 ]

@@ -1,5 +1,5 @@
 -- Waits that are known to be blocked on all files but some, and what a change of the list or of the locks leaves of that.
-use Rattle.std.proofs.Common.{ℕ, ◌≡◌, ◌≢◌, ◌<◌, ◌∙◌, inl, inr, sym, ap, subst, refl, arith, Bool, true, false, not, zero, suc, Option, Some, None, List, [], ◌∷◌, ◌++◌, All, Any, length, get_or, take, append_assoc, append-nil}
+use Rattle.std.proofs.Common.{ℕ, ◌≡◌, ◌≢◌, ◌<◌, ◌≤◌, ◌∙◌, ◌⊎◌, inl, inr, sym, ap, subst, refl, arith, Bool, true, false, not, zero, suc, Option, Some, None, List, [], ◌∷◌, ◌++◌, All, Any, length, get_or, take, append_assoc, append-nil}
 use Rattle.std.specs.Prelude.{◌==◌, ◌||◌, IfSome, IfNone, IsTrue, IsFalse}
 use Rattle.std.specs.List.{AllPairs, filter}
 use Rattle.std.proofs.lemmas.Bool.{cases_Bool, cases_eq}
@@ -7,20 +7,28 @@ use Rattle.std.proofs.lemmas.Bool.Decides.{nat_tests}
 use Rattle.std.proofs.lemmas.Option.{same_Some}
 use Rattle.std.proofs.lemmas.List.Elements.{All-nil, All-cons, All-head, All-tail, All-push, All-weaker, filter-append}
 use Rattle.lock_book.specs.declared.Owner.{Owner}
+use Rattle.lock_book.specs.declared.Owner.TheVariants.{Process}
+use Rattle.lock_book.specs.Conflicts.{ProcessBlocks}
 use Rattle.wait_core.specs.declared.Family.{Family}
 use Rattle.wait_core.specs.declared.Family.TheVariants.{Bytes, Whole}
 use Rattle.wait_core.specs.declared.Policy.{Policy}
 use Rattle.wait_core.specs.declared.Policy.TheVariants.{Held, Queue}
 use Rattle.wait_core.specs.declared.Wait.{Wait}
 use Rattle.wait_core.specs.declared.files.FileSet.{FileSet}
+use Rattle.wait_core.specs.declared.processes.ProcessSet.{ProcessSet}
+use Rattle.wait_core.specs.declared.waits.Waits.{Waits}
 use Rattle.wait_core.specs.Locks.{Locks}
 use Rattle.wait_core.specs.Blocking.{AllBlocked, IsBlocked, IsBlockedIn, WaitsConflict}
+use Rattle.wait_core.specs.Cycles.{IsTraditional}
 use Rattle.wait_core.specs.Files.{has_file}
-use Rattle.wait_core.specs.Settled.{AllBlockedElsewhere, AgreeElsewhere}
-use Rattle.wait_core.specs.WellFormed.{IsWellFormed}
-use Rattle.wait_core.specs.WaitsView.{wait_of}
+use Rattle.wait_core.specs.Pairs.{IsBlockedWait}
+use Rattle.wait_core.specs.Processes.{is_member}
+use Rattle.wait_core.specs.Settled.{AllBlockedBut, AllBlockedElsewhere, AllBlockedWhere, AgreeElsewhere}
+use Rattle.wait_core.specs.WellFormed.{IsWellFormed, can_own}
+use Rattle.wait_core.specs.WaitsView.{waits_of, wait_of, AreTold, IsTold}
 use Rattle.wait_core.proofs.AnyLemmas.{Any-filter, Any-weaker}
 use Rattle.wait_core.proofs.ListLemmas.{none_of}
+use Rattle.wait_core.proofs.PairLemmas.{blocked_wait, one_wait}
 
 -- the two have the same locks on the file
 pub record SameOn (file : ℕ) (old new : Locks) : Type 0 where
@@ -59,6 +67,12 @@ elsewhere_after files more policy old new others earlier (wait ∷ waits) all = 
 neither : (a b : Bool) → IsFalse (a || b) → (a ≡ false) × (b ≡ false)
 neither true b is = absurd (let e : true ≡ false = is in cc)
 neither false b is = (refl, is)
+
+-- who isn't among the processes with one more is another one, and wasn't among them
+pub not_before : (old new : ProcessSet) (p : ℕ) → ((q : ℕ) → is_member new q ≡ (q == p || is_member old q)) → (q : ℕ) → IsFalse (is_member new q) → (q ≢ p) × IsFalse (is_member old q)
+not_before old new p is q out =
+    let two = neither (q == p) (is_member old q) (sym (is q) ∙ out) in
+    ((let test : (q == p) ≡ false = two.0 in grind (arith, nat_tests)), two.1)
 
 -- one file more
 pub elsewhere_touched : (files more : FileSet) (policy : Policy) (old new : Locks) (file : ℕ) → ((f : ℕ) → has_file more f ≡ (f == file || has_file files f))
@@ -175,25 +189,60 @@ pub all_elsewhere : (files : FileSet) (policy : Policy) (locks : Locks) → ((f 
 all_elsewhere files policy locks none earlier [] all = tt
 all_elsewhere files policy locks none earlier (wait ∷ waits) all = (all.0 (none wait.file), all_elsewhere files policy locks none (earlier ++ wait ∷ []) waits all.1)
 
--- on each file: nothing is said
-pub none_elsewhere : (files : FileSet) (processes : ℕ) (policy : Policy) (locks : Locks) → ((f : ℕ) → f < 64 → IsTrue (has_file files f)) → (earlier waits : List Wait) → All (IsWellFormed processes) waits → AllBlockedElsewhere files policy locks earlier waits
-none_elsewhere files processes policy locks each earlier [] well_formed = tt
-none_elsewhere files processes policy locks each earlier (wait ∷ waits) well_formed = (
-  λ elsewhere. absurd (let e : true ≡ false = sym (each wait.file (All-head (IsWellFormed processes) wait waits well_formed).file) ∙ elsewhere in cc),
-  none_elsewhere files processes policy locks each (earlier ++ wait ∷ []) waits (All-tail (IsWellFormed processes) wait waits well_formed),
-)
+-- of each process: nothing is said
+pub none_but : (set : ProcessSet) (processes : ℕ) (policy : Policy) (locks : Locks) → processes ≤ 64 → ((p : ℕ) → 1 ≤ p → p ≤ 64 → IsTrue (is_member set p)) → (earlier waits : List Wait) → All (IsWellFormed processes) waits → AllBlockedBut set policy locks earlier waits
+none_but set processes policy locks few each earlier [] well_formed = tt
+none_but set processes policy locks few each earlier (wait ∷ waits) well_formed =
+    let first = All-head (IsWellFormed processes) wait waits well_formed in (
+      λ out. absurd (let e : true ≡ false = sym (each wait.p first.from_one (omega (arith, few, first.process))) ∙ out in cc),
+      none_but set processes policy locks few each (earlier ++ wait ∷ []) waits (All-tail (IsWellFormed processes) wait waits well_formed),
+    )
 
--- the wait at a place, if it is on none of the files
-pub elsewhere_at : (files : FileSet) (policy : Policy) (locks : Locks) (earlier waits : List Wait) (i : ℕ) (wait : Wait) → i < length waits → get_or waits i wait ≡ wait
-    → IsFalse (has_file files wait.file) → AllBlockedElsewhere files policy locks earlier waits → IsBlocked policy locks (earlier ++ take i waits) wait
-elsewhere_at files policy locks earlier [] i wait within is elsewhere all = absurd (omega (arith, within))
-elsewhere_at files policy locks earlier (v ∷ waits) zero wait within is elsewhere all =
+-- the wait at a place, if this holds of it
+pub blocked_at : (Holds : Wait → Type 0) (policy : Policy) (locks : Locks) (earlier waits : List Wait) (i : ℕ) (wait : Wait) → i < length waits → get_or waits i wait ≡ wait
+    → Holds wait → AllBlockedWhere Holds policy locks earlier waits → IsBlocked policy locks (earlier ++ take i waits) wait
+blocked_at Holds policy locks earlier [] i wait within is holds all = absurd (omega (arith, within))
+blocked_at Holds policy locks earlier (v ∷ waits) zero wait within is holds all =
     let here : v ≡ wait = is in
     subst (λ (es : List Wait). IsBlocked policy locks es wait) (sym (append-nil earlier))
-    (subst (λ (w : Wait). IsBlocked policy locks earlier w) here (all.0 (ap (λ (w : Wait). has_file files w.file) here ∙ elsewhere)))
-elsewhere_at files policy locks earlier (v ∷ waits) (suc i) wait within is elsewhere all =
+    (subst (λ (w : Wait). IsBlocked policy locks earlier w) here (all.0 (subst Holds (sym here) holds)))
+blocked_at Holds policy locks earlier (v ∷ waits) (suc i) wait within is holds all =
     subst (λ (es : List Wait). IsBlocked policy locks es wait) (append_assoc earlier (v ∷ []) (take i waits))
-    (elsewhere_at files policy locks (earlier ++ v ∷ []) waits i wait (omega (arith, within)) is elsewhere all.1)
+    (blocked_at Holds policy locks (earlier ++ v ∷ []) waits i wait (omega (arith, within)) is holds all.1)
+
+-- a wait that a process blocks is blocked by a lock
+by_process : (family : Family) (locks : Locks) (wait : Wait) (q : ℕ) → IsTrue (can_own family wait.owner) → IsTraditional wait → ProcessBlocks (locks.bytes wait.file) q wait.owner wait.span wait.mode
+    → IsBlockedIn family locks wait
+by_process Bytes locks wait q owner traditional blocks = record { byte = blocks.byte; covered = blocks.covered; other = Process q; blocks = blocks.blocks }
+by_process Whole locks wait q owner traditional blocks = absurd (let no : false ≡ true = ap (can_own Whole) (sym traditional) ∙ owner in cc)
+
+-- a wait is blocked by a lock where its process is told to wait for one
+pub told_blocked : (waits : Waits) (locks : Locks) (processes k : ℕ) (wait : Wait) → processes ≤ 64 → All (IsWellFormed processes) (waits_of waits) → AllPairs (λ v w. v.p ≢ w.p) (waits_of waits)
+    → AreTold waits locks → k < length (waits_of waits) → get_or (waits_of waits) k wait ≡ wait → IsTold waits wait.p → IsBlockedIn wait.family locks wait
+told_blocked waits locks processes k wait few well_formed apart told within is (q, q_few, has) =
+    let good : IsWellFormed processes wait = subst (IsWellFormed processes) is (well_formed k wait within) in
+    let for = (told.pairs wait.p (suc q) (omega (arith, few, good.process)) (omega arith) (omega (arith, q_few))).0 has in
+    let (j, v, inside, v_is, holds) = blocked_wait locks (waits_of waits) wait.p (suc q) for in
+    let same : v ≡ wait = one_wait (waits_of waits) apart j k v wait inside within v_is is holds.of_p in
+    let its : IsBlockedWait locks wait.p (suc q) wait = subst (IsBlockedWait locks wait.p (suc q)) same holds in
+    by_process wait.family locks wait (suc q) good.owner its.traditional its.blocked
+
+blocked_by_lock : (policy : Policy) (locks : Locks) (earlier : List Wait) (wait : Wait) → IsBlockedIn wait.family locks wait → IsBlocked policy locks earlier wait
+blocked_by_lock Held locks earlier wait by_lock = by_lock
+blocked_by_lock Queue locks earlier wait by_lock = inl by_lock
+
+-- where each of the waits of which the one holds is one of which the other holds, or is blocked by a lock
+pub blocked_more : (One Other : Wait → Type 0) (policy : Policy) (locks : Locks) (earlier waits : List Wait) → All (λ wait. One wait → Other wait ⊎ IsBlockedIn wait.family locks wait) waits
+    → AllBlockedWhere Other policy locks earlier waits → AllBlockedWhere One policy locks earlier waits
+blocked_more One Other policy locks earlier [] each all = tt
+blocked_more One Other policy locks earlier (wait ∷ waits) each all =
+    let Is : Wait → Type 0 = λ w. One w → Other w ⊎ IsBlockedIn w.family locks w in (
+      λ one. elim (All-head Is wait waits each one) [
+        | inl other ↦ all.0 other
+        | inr by_lock ↦ blocked_by_lock policy locks earlier wait by_lock
+      ],
+      blocked_more One Other policy locks (earlier ++ wait ∷ []) waits (All-tail Is wait waits each) all.1,
+    )
 
 -- the wait of a process left, if it had one
 pub elsewhere_without : (files more : FileSet) (policy : Policy) (locks : Locks) (waits : List Wait) (p : ℕ) (wait : Option Wait) → AllPairs (λ v w. v.p ≢ w.p) waits → wait ≡ wait_of waits p

@@ -1,9 +1,11 @@
 -- What is told of pairs of processes (the words are this project's choice).
 use Rattle.std.specs.Prelude.{◌≡◌, ◌≢◌, ℕ, List, Some, slice_get, take, Any}
+use Rattle.range_core.specs.declared.Span.{Span}
 use Rattle.lock_book.specs.Conflicts.{ProcessBlocks}
+use Rattle.wait_core.specs.declared.Family.TheVariants.{Bytes}
 use Rattle.wait_core.specs.declared.Wait.{Wait}
 use Rattle.wait_core.specs.Locks.{Locks}
-use Rattle.wait_core.specs.Blocking.{WaitsConflict}
+use Rattle.wait_core.specs.Blocking.{Meet, WaitsConflict}
 use Rattle.wait_core.specs.Cycles.{IsTraditional}
 
 -- the wait is the traditional wait of the process p, and a traditional lock of the process q blocks it
@@ -29,6 +31,14 @@ pub record WaitsBehind (waits : List Wait) (p q : ℕ) : Type 0 where
   pub wait : Wait
   pub there : slice_get waits place ≡ Some wait
   pub is : IsBehind waits p q place wait
+
+-- the wait is on the file, and on a range that meets this one
+abbrev pub IsOn : ℕ → Span → Wait → Type 0
+IsOn file span wait = (wait.file ≡ file) × Meet Bytes wait.span span
+
+-- the wait, if it is of the process, is on another file or on a range that doesn't meet this one
+abbrev pub IsOff : ℕ → ℕ → Span → Wait → Type 0
+IsOff p file span wait = wait.p ≡ p → ¬ IsOn file span wait
 
 -- the wait, if it is of the process, is on another file
 abbrev pub IsElsewhere : ℕ → ℕ → Wait → Type 0

@@ -11,6 +11,10 @@ use Rattle.wait_core.specs.Processes.{no_process, is_member}
 unfoldable pub pair_in : Pairs → ℕ → ℕ → Bool
 pair_in pairs p q = is_member (slice_index_or pairs.rows.items p no_process) q
 
--- of each process it is told whether it blocks the wait by a lock
+-- of this process it is told whether it blocks the wait by a lock
+abbrev pub TellsPair : Pairs → Locks → ℕ → Wait → Type 0
+TellsPair pairs locks q wait = IsTrue (pair_in pairs wait.p q) ↔ IsBlockedWait locks wait.p q wait
+
+-- and of each process
 abbrev pub TellsWait : Pairs → Locks → Wait → Type 0
-TellsWait pairs locks wait = (q : ℕ) → 1 ≤ q → q ≤ PROCESSES → IsTrue (pair_in pairs wait.p q) ↔ IsBlockedWait locks wait.p q wait
+TellsWait pairs locks wait = (q : ℕ) → 1 ≤ q → q ≤ PROCESSES → TellsPair pairs locks q wait

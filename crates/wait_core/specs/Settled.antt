@@ -3,18 +3,27 @@ use Rattle.std.specs.Prelude.{◌≡◌, ◌≢◌, ℕ, ⊤, List, [], ◌∷�
 use Rattle.wait_core.specs.declared.Policy.{Policy}
 use Rattle.wait_core.specs.declared.Wait.{Wait}
 use Rattle.wait_core.specs.declared.files.FileSet.{FileSet}
+use Rattle.wait_core.specs.declared.processes.ProcessSet.{ProcessSet}
 use Rattle.wait_core.specs.declared.waits.Waits.{Waits}
 use Rattle.wait_core.specs.Locks.{Locks}
 use Rattle.wait_core.specs.Blocking.{IsBlocked}
 use Rattle.wait_core.specs.Files.{has_file}
+use Rattle.wait_core.specs.Processes.{is_member}
 use Rattle.wait_core.specs.WaitsView.{waits_of, policy_of, AgreeBut}
 
--- each of these waits that is on none of the files is blocked, where the earlier ones stand before them
+-- each of these waits of which this holds is blocked, where the earlier ones stand before them
+abbrev pub AllBlockedWhere : (Wait → Type 0) → Policy → Locks → List Wait → List Wait → Type 0
+AllBlockedWhere Holds policy locks earlier [] = ⊤
+AllBlockedWhere Holds policy locks earlier (wait ∷ waits) =
+    (Holds wait → IsBlocked policy locks earlier wait) × AllBlockedWhere Holds policy locks (earlier ++ wait ∷ []) waits
+
+-- each of these waits that is on none of the files is blocked
 abbrev pub AllBlockedElsewhere : FileSet → Policy → Locks → List Wait → List Wait → Type 0
-AllBlockedElsewhere files policy locks earlier [] = ⊤
-AllBlockedElsewhere files policy locks earlier (wait ∷ waits) =
-    (IsFalse (has_file files wait.file) → IsBlocked policy locks earlier wait)
-    × AllBlockedElsewhere files policy locks (earlier ++ wait ∷ []) waits
+AllBlockedElsewhere files = AllBlockedWhere (λ wait. IsFalse (has_file files wait.file))
+
+-- each of these waits that is of none of the processes is blocked
+abbrev pub AllBlockedBut : ProcessSet → Policy → Locks → List Wait → List Wait → Type 0
+AllBlockedBut processes = AllBlockedWhere (λ wait. IsFalse (is_member processes wait.p))
 
 -- the files that may have a wait that isn't blocked
 unfoldable pub changed_files : Waits → FileSet

@@ -1,9 +1,14 @@
 -- What `Waits` stands for (the words are this project's choice).
-use Rattle.std.specs.Prelude.{◌≡◌, ◌≢◌, ℕ, ◌≤◌, ◌==◌, ◌↔◌, Bool, not, Option, List, find, filter, IsTrue}
+use Rattle.std.specs.Prelude.{◌≡◌, ◌≢◌, ℕ, suc, ◌<◌, ◌≤◌, ◌==◌, ◌↔◌, Bool, not, Option, List, find, filter, IsTrue}
+use Rattle.range_core.specs.declared.TheConstants.{OFFMAX}
+use Rattle.range_core.specs.declared.Span.{Span}
+use Rattle.range_core.specs.Ranges.{Covers}
 use Rattle.lock_book.specs.declared.Owner.{Owner}
+use Rattle.lock_book.specs.declared.Owner.TheVariants.{Process}
 use Rattle.wait_core.specs.declared.Policy.{Policy}
 use Rattle.wait_core.specs.declared.Policy.TheVariants.{Held}
 use Rattle.wait_core.specs.declared.Wait.{Wait}
+use Rattle.wait_core.specs.declared.processes.TheConstants.{PROCESSES}
 use Rattle.wait_core.specs.declared.waits.Waits.{Waits}
 use Rattle.wait_core.specs.Locks.{Locks}
 use Rattle.wait_core.specs.Cycles.{WaitsFor}
@@ -25,6 +30,10 @@ processes_of waits = waits.processes
 unfoldable pub has_pair : Waits → ℕ → ℕ → Bool
 has_pair waits p q = pair_in waits.pairs p q
 
+-- the process is told to wait for some process by a lock
+abbrev pub IsTold : Waits → ℕ → Type 0
+IsTold waits p = (k : ℕ) × (k < PROCESSES) × IsTrue (has_pair waits p (suc k))
+
 -- the wait of a process, of which it has one at most
 abbrev pub wait_of : List Wait → ℕ → Option Wait
 wait_of waits p = find (λ wait. wait.p == p) waits
@@ -41,3 +50,9 @@ pub record AreTold (waits : Waits) (locks : Locks) : Type 0 where
 -- the two have the same byte locks on each file but this one
 abbrev pub AgreeBut : ℕ → Locks → Locks → Type 0
 AgreeBut file old new = (other : ℕ) (owner : Owner) (byte : ℕ) → other ≢ file → new.bytes other owner byte ≡ old.bytes other owner byte
+
+-- the two have the same traditional locks on the bytes of files, but for those of this owner on these bytes of this file
+abbrev pub AgreeButOwner : ℕ → Owner → Span → Locks → Locks → Type 0
+AgreeButOwner file owner span old new =
+    (other q byte : ℕ) → byte ≤ OFFMAX → ¬ ((other ≡ file) × (Process q ≡ owner) × Covers span byte)
+    → new.bytes other (Process q) byte ≡ old.bytes other (Process q) byte

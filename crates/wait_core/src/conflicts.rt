@@ -4,7 +4,7 @@ ghost use Rattle.lock_book.specs.Conflicts.{ProcessBlocks};
 ghost use Rattle.wait_core.specs.Locks.{locks_of};
 ghost use Rattle.wait_core.specs.Blocking.{IsBlockedByLock, Meet, WaitsConflict};
 ghost use Rattle.wait_core.specs.Cycles.{IsTraditional};
-ghost use Rattle.wait_core.specs.Pairs.{IsConflictOf};
+ghost use Rattle.wait_core.specs.Pairs.{IsConflictOf, IsOn};
 ghost use Rattle.wait_core.specs.Processes.{is_member};
 ghost use Rattle.wait_core.specs.WellFormed.{IsWellFormed, can_own};
 
@@ -30,6 +30,13 @@ impl Wait {
             && self.owner != other.owner
             && self.mode.conflicts_with(other.mode)
             && meet(other.family, self.span, other.span)
+    }
+
+    /// Whether the wait is on the file, and on a range that meets this one.
+    pub(crate) fn is_on(&self, file: u8, span: Span) -> bool
+        ensures { IsTrue result ↔ IsOn file span self.now }
+    {
+        self.file == file && meet(Family::Bytes, self.span, span)
     }
 
     /// Whether a lock of another owner blocks the wait.
@@ -65,7 +72,7 @@ impl Wait {
     }
 
     /// Whether a traditional lock of the process blocks the wait.
-    fn is_blocked_by_process(&self, process: u8, books: &[Book]) -> bool
+    pub(crate) fn is_blocked_by_process(&self, process: u8, books: &[Book]) -> bool
         requires file { self.now.file < length books.now }
         requires range { IsByteRange self.now.span }
         ensures { let locks = locks_of books.now in IsTrue result ↔ ProcessBlocks (locks.bytes self.now.file) process self.now.owner self.now.span self.now.mode }

@@ -24,15 +24,6 @@ impl FileSet {
         }
     }
 
-    /// Each file.
-    pub fn all() -> FileSet
-        ensures { (f : ℕ) → f < FILES → has_file result f ≡ true }
-    {
-        FileSet {
-            places: ProcessSet::all(),
-        }
-    }
-
     /// Whether the file is in the set.
     pub fn has(self, file: u8) -> bool
         requires { file < FILES }
@@ -68,6 +59,6 @@ impl FileSet {
         ensures none { IsTrue result → (f : ℕ) → has_file self f ≡ false }
         ensures some { IsFalse result → (f : ℕ) × (f < FILES) × IsTrue (has_file self f) }
     {
-        self.places == ProcessSet::empty()
+        self.places.is_empty()
     }
 }

@@ -1,14 +1,15 @@
-ghost use Rattle.std.specs.Prelude.{◌≡◌, ◌≢◌, ℕ, ◌≤◌, ◌↔◌, All, AllPairs, IfOk, IsTrue, length, vec_len};
+ghost use Rattle.std.specs.Prelude.{◌≡◌, ◌≢◌, ℕ, suc, ◌<◌, ◌≤◌, ◌↔◌, IsFalse, All, AllPairs, IfOk, IsTrue, length, vec_len};
 ghost use Rattle.wait_core.specs.declared.pairs.TheConstants.{ROWS};
+ghost use Rattle.lock_book.specs.declared.Owner.TheVariants.{Process};
 ghost use Rattle.wait_core.specs.Locks.{locks_of};
-ghost use Rattle.wait_core.specs.Pairs.{IsBlockedWait, IsElsewhere};
+ghost use Rattle.wait_core.specs.Pairs.{IsBlockedWait, IsElsewhere, IsOff, IsOn};
 ghost use Rattle.wait_core.specs.Processes.{is_member};
 ghost use Rattle.wait_core.specs.WellFormed.{IsWellFormed};
 
 use crate::Wait;
 use crate::processes::{PROCESSES, ProcessSet};
-use lock_book::Book;
-use range_core::Memory;
+use lock_book::{Book, Owner};
+use range_core::{Memory, Span};
 use std::alloc::Global;
 
 /// How many rows there are: one for each process, and a first one of no process, which stays empty.
@@ -24,7 +25,7 @@ pub struct Pairs {
 
 #[tactic(auto, unfolding(crate::specs::PairsView::pair_in))]
 impl Pairs {
-    ghost use Rattle.wait_core.specs.PairsView.{pair_in, TellsWait};
+    ghost use Rattle.wait_core.specs.PairsView.{pair_in, TellsPair, TellsWait};
 
     /// No pair; this takes the memory of all of them.
     pub fn new(alloc: Global) -> Result<Pairs, Memory>
@@ -67,6 +68,69 @@ impl Pairs {
                 self.tell(wait, books);
             }
         }
+    }
+
+    /// Tells anew which of the processes whose waits are on the file, and meet the range, wait for the owner by a lock: none where
+    /// it is no process.
+    pub fn tell_of_owner(
+        &mut self,
+        file: u8,
+        owner: Owner,
+        span: Span,
+        waits: &[Wait],
+        books: &[Book],
+    )
+        requires waits { All (IsWellFormed PROCESSES) waits.now }
+        requires apart { AllPairs (λ v w. v.p ≢ w.p) waits.now }
+        requires books { length books.now ≡ 64 }
+        ensures told { (q : ℕ) → Process q ≡ owner → 1 ≤ q → q ≤ PROCESSES → All (λ wait. IsOn file span wait → TellsPair self.new (locks_of books.now) q wait) waits.now }
+        ensures others { (p r : ℕ) → r ≤ PROCESSES → (Process r ≡ owner → All (IsOff p file span) waits.now) → pair_in self.new p r ≡ pair_in self.old p r }
+    {
+        if let Owner::Process(q) = owner
+            && (1..=PROCESSES).contains(&q)
+        {
+            self.tell_of_process(file, q, span, waits, books);
+        }
+    }
+
+    /// Tells anew which of the processes whose waits are on the file, and meet the range, wait for this one by a lock.
+    fn tell_of_process(&mut self, file: u8, q: u8, span: Span, waits: &[Wait], books: &[Book])
+        requires from_one { 1 ≤ q }
+        requires few { q ≤ PROCESSES }
+        requires waits { All (IsWellFormed PROCESSES) waits.now }
+        requires apart { AllPairs (λ v w. v.p ≢ w.p) waits.now }
+        requires books { length books.now ≡ 64 }
+        ensures told { All (λ wait. IsOn file span wait → TellsPair self.new (locks_of books.now) q wait) waits.now }
+        ensures others { (p r : ℕ) → r ≤ PROCESSES → (r ≡ q → All (IsOff p file span) waits.now) → pair_in self.new p r ≡ pair_in self.old p r }
+    {
+        for waiting in waits {
+            if waiting.is_on(file, span) {
+                self.tell_pair(waiting, q, books);
+            }
+        }
+    }
+
+    /// Tells anew whether the process of this wait waits for the other one by a lock.
+    fn tell_pair(&mut self, wait: &Wait, q: u8, books: &[Book])
+        requires from_one { 1 ≤ q }
+        requires few { q ≤ PROCESSES }
+        requires wait { IsWellFormed PROCESSES wait.now }
+        requires books { length books.now ≡ 64 }
+        ensures told { TellsPair self.new (locks_of books.now) q wait.now }
+        ensures others { (p r : ℕ) → r ≤ PROCESSES → (p ≡ wait.now.p → r ≢ q) → pair_in self.new p r ≡ pair_in self.old p r }
+    {
+        let blocks = wait.is_traditional() && wait.is_blocked_by_process(q, books);
+        let row = &mut self.rows[usize::from(wait.p)];
+        *row = row.put(q, blocks);
+    }
+
+    /// Whether the process is told to wait for some process by a lock.
+    pub fn has_any(&self, process: u8) -> bool
+        requires { process ≤ PROCESSES }
+        ensures some { IsTrue result → (k : ℕ) × (k < PROCESSES) × IsTrue (pair_in self.now process (suc k)) }
+        ensures none { IsFalse result → (q : ℕ) → ¬ IsTrue (pair_in self.now process q) }
+    {
+        !self.row(process).is_empty()
     }
 
     /// Forgets for which processes this one waits.

@@ -1,4 +1,4 @@
-ghost use Rattle.std.specs.Prelude.{ℕ, ◌≡◌, ◌<◌, ◌≤◌, ◌==◌, ◌||◌, IfNone, IfSome, IsFalse, IsTrue};
+ghost use Rattle.std.specs.Prelude.{ℕ, suc, ◌≡◌, ◌<◌, ◌≤◌, ◌==◌, ◌||◌, if◌then◌else◌, false, IfNone, IfSome, IsFalse, IsTrue};
 ghost use Rattle.wait_core.specs.Processes.{IsBeyond, IsWithin, is_member, lacking, no_process};
 
 /// How many processes there are at most, which are numbered from 1 (this project's choice).
@@ -26,6 +26,14 @@ impl ProcessSet {
         ProcessSet { bits: u64::MAX }
     }
 
+    /// Whether there is no process in the set.
+    pub fn is_empty(self) -> bool
+        ensures none { IsTrue result → (p : ℕ) → is_member self p ≡ false }
+        ensures some { IsFalse result → (k : ℕ) × (k < PROCESSES) × IsTrue (is_member self (suc k)) }
+    {
+        self.bits == 0
+    }
+
     /// Whether the process is in the set.
     pub fn has(self, p: u8) -> bool
         requires from_one { 1 ≤ p }
@@ -44,6 +52,26 @@ impl ProcessSet {
     {
         ProcessSet {
             bits: self.bits | 1 << (p - 1),
+        }
+    }
+
+    /// The set with the process in it, or without it.
+    pub fn put(self, p: u8, is_in: bool) -> ProcessSet
+        requires from_one { 1 ≤ p }
+        requires few { p ≤ PROCESSES }
+        ensures { (q : ℕ) → q ≤ PROCESSES → is_member result q ≡ (if q == p then is_in else is_member self q) }
+    {
+        if is_in { self.with(p) } else { self.without(p) }
+    }
+
+    /// The set without the process.
+    fn without(self, p: u8) -> ProcessSet
+        requires from_one { 1 ≤ p }
+        requires few { p ≤ PROCESSES }
+        ensures { (q : ℕ) → q ≤ PROCESSES → is_member result q ≡ (if q == p then false else is_member self q) }
+    {
+        ProcessSet {
+            bits: self.bits & !(1 << (p - 1)),
         }
     }
 

@@ -1,22 +1,25 @@
-ghost use Rattle.std.specs.Prelude.{ℕ, ◌≡◌, ◌≢◌, ◌<◌, ◌≤◌, ◌↔◌, List, [], ◌∷◌, ◌++◌, length, vec_capacity, IfOk, IfSome, IfNone, IsTrue, All, AllPairs, slice_get, None, Some, take};
+ghost use Rattle.std.specs.Prelude.{ℕ, ◌⊎◌, ◌≡◌, ◌≢◌, ◌<◌, ◌≤◌, ◌↔◌, List, [], ◌∷◌, ◌++◌, length, vec_capacity, IfOk, IfSome, IfNone, IsTrue, IsFalse, All, AllPairs, slice_get, None, Some, take};
 ghost use Rattle.wait_core.specs.declared.files.TheConstants.{FILES};
 ghost use Rattle.wait_core.specs.declared.processes.TheConstants.{PROCESSES};
+ghost use Rattle.wait_core.specs.Files.{has_file};
+ghost use Rattle.wait_core.specs.Processes.{is_member};
 ghost use Rattle.wait_core.specs.WellFormed.{IsWellFormed};
 
 mod cycles;
 
 use crate::files::{FILES, FileSet};
 use crate::pairs::Pairs;
+use crate::processes::ProcessSet;
 use crate::{Policy, Wait};
-use lock_book::{Book, conflicts_are_decided};
-use range_core::Memory;
+use lock_book::{Book, Owner, conflicts_are_decided};
+use range_core::{Memory, Span};
 use std::alloc::Global;
 
 /// The pending requests, in order of arrival, one at most of a process; and which process waits for which by a lock, as
-/// [`Waits::join`], [`Waits::leave`] and [`Waits::refresh`] were last told.
+/// [`Waits::join`], [`Waits::leave`], [`Waits::refresh`] and [`Waits::refresh_owner`] were last told.
 ///
 /// They also know on which files something has changed since [`Waits::forget_changes`]: a wait that joined or left, or what
-/// [`Waits::touch`] and [`Waits::refresh`] were told. Where each wait was blocked then, a wait on another file is blocked still.
+/// [`Waits::touch`] and the two that refresh were told. Where each wait was blocked then, a wait on another file is blocked still.
 ///
 /// Only [`Waits::new`] takes memory.
 #[derive(Drop)]
@@ -36,8 +39,8 @@ pub struct Waits {
 impl Waits {
     ghost use Rattle.wait_core.specs.Locks.{Locks, locks_of};
     ghost use Rattle.wait_core.specs.Blocking.{AllBlocked, IsBlocked, IsNextReady, IsQueued};
-    ghost use Rattle.wait_core.specs.Settled.{AllBlockedElsewhere, AreBlockedElsewhere, AgreeElsewhere};
-    ghost use Rattle.wait_core.specs.WaitsView.{waits_of, policy_of, processes_of, wait_of, without_wait_of, AreTold, AgreeBut};
+    ghost use Rattle.wait_core.specs.Settled.{AllBlockedBut, AreBlockedElsewhere, AgreeElsewhere, changed_files};
+    ghost use Rattle.wait_core.specs.WaitsView.{waits_of, policy_of, processes_of, wait_of, without_wait_of, AreTold, IsTold, AgreeBut, AgreeButOwner};
 
     /// No wait, with room for one of each process. The processes are numbered from 1, and at most 64 of them (this
     /// project's choice).
@@ -108,6 +111,21 @@ impl Waits {
         self.touch(file);
     }
 
+    /// Tells the pairs anew after a change of this owner's locks on these bytes of the file, the other traditional locks being as
+    /// they were: it asks this owner alone, of the waits that meet these bytes. The file counts as changed.
+    pub fn refresh_owner(&mut self, file: u8, owner: Owner, span: Span, books: &[Book])
+        requires { length books.now ≡ 64 }
+        ensures waits { waits_of self.new ≡ waits_of self.old }
+        ensures policy { policy_of self.new ≡ policy_of self.old }
+        ensures processes { processes_of self.new ≡ processes_of self.old }
+        ensures told { (locks : Locks) → AreTold self.old locks → AgreeButOwner file owner span locks (locks_of books.now) → AreTold self.new (locks_of books.now) }
+        ensures blocked { file < FILES → (locks : Locks) → AreBlockedElsewhere self.old locks → AgreeElsewhere file locks (locks_of books.now) → AreBlockedElsewhere self.new (locks_of books.now) }
+    {
+        self.pairs
+            .tell_of_owner(file, owner, span, &self.waits, books);
+        self.touch(file);
+    }
+
     /// The file counts as changed, as after a change of its flock locks, of which the pairs say nothing.
     pub fn touch(&mut self, file: u8)
         ensures waits { waits_of self.new ≡ waits_of self.old }
@@ -142,13 +160,15 @@ impl Waits {
         ensures well_formed { IfSome result (IsWellFormed (processes_of self.now)) }
         ensures settled { IfNone result (AllBlocked (policy_of self.now) (locks_of books.now) [] (waits_of self.now)) }
     {
-        self.next_ready_on(FileSet::all(), books)
+        self.next_ready_among(ProcessSet::all(), books)
     }
 
-    /// The same, where each wait on a file that doesn't count as changed is known to be blocked: it looks at no other wait, and at
-    /// none where no file counts as changed.
+    /// The same, where each wait on a file that doesn't count as changed is known to be blocked, and the pairs are those of the
+    /// books: of a wait on a changed file it asks the books only where no process is told to be in its way, and it looks at none
+    /// where no file counts as changed.
     pub fn next_ready_on_changed(&self, books: &[Book]) -> Option<Wait>
         requires books { length books.now ≡ 64 }
+        requires told { ∥ AreTold self.now (locks_of books.now) ∥₁ }
         requires blocked { ∥ AreBlockedElsewhere self.now (locks_of books.now) ∥₁ }
         ensures ready { IfSome result (IsNextReady (policy_of self.now) (locks_of books.now) (waits_of self.now)) }
         ensures found { IfSome result (λ wait. wait_of (waits_of self.now) wait.p ≡ Some wait) }
@@ -160,20 +180,33 @@ impl Waits {
         if self.changed.is_empty() {
             return None;
         }
-        self.next_ready_on(self.changed, books)
+        self.next_ready_among(self.unsure(), books)
     }
 
-    /// The same, where each wait on another file than these is known to be blocked.
-    fn next_ready_on(&self, files: FileSet, books: &[Book]) -> Option<Wait>
+    /// The processes whose waits are on changed files, but for those that are told to wait for a process by a lock.
+    fn unsure(&self) -> ProcessSet
+        ensures { All (λ wait. IsFalse (is_member result wait.p) → IsFalse (has_file (changed_files self.now) wait.file) ⊎ IsTold self.now wait.p) (waits_of self.now) }
+    {
+        let mut unsure = ProcessSet::empty();
+        for wait in &self.waits {
+            if self.changed.has(wait.file) && !self.pairs.has_any(wait.p) {
+                unsure = unsure.with(wait.p);
+            }
+        }
+        unsure
+    }
+
+    /// The earliest wait that nothing blocks, where the waits of all but these processes are known to be blocked.
+    fn next_ready_among(&self, unsure: ProcessSet, books: &[Book]) -> Option<Wait>
         requires books { length books.now ≡ 64 }
-        requires elsewhere { ∥ AllBlockedElsewhere files (policy_of self.now) (locks_of books.now) [] (waits_of self.now) ∥₁ }
+        requires others { ∥ AllBlockedBut unsure (policy_of self.now) (locks_of books.now) [] (waits_of self.now) ∥₁ }
         ensures ready { IfSome result (IsNextReady (policy_of self.now) (locks_of books.now) (waits_of self.now)) }
         ensures found { IfSome result (λ wait. wait_of (waits_of self.now) wait.p ≡ Some wait) }
         ensures well_formed { IfSome result (IsWellFormed (processes_of self.now)) }
         ensures settled { IfNone result (AllBlocked (policy_of self.now) (locks_of books.now) [] (waits_of self.now)) }
     {
         for i in 0..self.waits.len() {
-            if !self.is_blocked_on(i, files, books) {
+            if !self.is_blocked_among(i, unsure, books) {
                 return Some(self.waits[i]);
             }
         }
@@ -214,16 +247,16 @@ impl Waits {
         &self.waits
     }
 
-    /// Whether the wait at this place is blocked, which it is known to be on another file than these.
-    fn is_blocked_on(&self, i: usize, files: FileSet, books: &[Book]) -> bool
+    /// Whether the wait at this place is blocked, which those of all but these processes are known to be.
+    fn is_blocked_among(&self, i: usize, unsure: ProcessSet, books: &[Book]) -> bool
         requires place { i < length (waits_of self.now) }
         requires books { length books.now ≡ 64 }
-        requires elsewhere { ∥ AllBlockedElsewhere files (policy_of self.now) (locks_of books.now) [] (waits_of self.now) ∥₁ }
+        requires others { ∥ AllBlockedBut unsure (policy_of self.now) (locks_of books.now) [] (waits_of self.now) ∥₁ }
         ensures { (wait : Wait) → slice_get (waits_of self.now) i ≡ Some wait → IsTrue result ↔ IsBlocked (policy_of self.now) (locks_of books.now) (take i (waits_of self.now)) wait }
     {
         // A law, and nothing to run.
         conflicts_are_decided();
-        !files.has(self.waits[i].file) || self.is_blocked(i, books)
+        !unsure.has(self.waits[i].p) || self.is_blocked(i, books)
     }
 
     /// Whether the wait at this place is blocked.
@@ -233,7 +266,7 @@ impl Waits {
         ensures { (wait : Wait) → slice_get (waits_of self.now) i ≡ Some wait → IsTrue result ↔ IsBlocked (policy_of self.now) (locks_of books.now) (take i (waits_of self.now)) wait }
     {
         let wait = &self.waits[i];
-        wait.is_blocked_by_lock(books)
-            || self.policy == Policy::Queue && wait.conflicts_with_any(&self.waits[..i])
+        self.policy == Policy::Queue && wait.conflicts_with_any(&self.waits[..i])
+            || wait.is_blocked_by_lock(books)
     }
 }

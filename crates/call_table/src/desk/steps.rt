@@ -1,6 +1,6 @@
 ghost use Rattle.std.specs.Prelude.{ℕ, ◌≡◌, ◌+◌, ◌<◌, ◌≤◌, length, true, false, IsTrue, [], IfSome, IfNone};
 ghost use Rattle.session_core.specs.SessionView.{events_in};
-ghost use Rattle.call_table.specs.Serving.{FindsNext, LooksUpTo, HasAllTakenBelow, IsUntold, IsTold};
+ghost use Rattle.call_table.specs.Serving.{FindsNext, LooksUpTo, HasAllTakenBelow, IsBetween, IsUntold, IsTold};
 ghost use Rattle.session_core.specs.declared.TheConstants.{N_MAX};
 ghost use Rattle.session_core.specs.Mail.{requests_taken};
 ghost use Rattle.call_table.specs.InTurn.{AreInTurn};
@@ -10,6 +10,7 @@ ghost use Rattle.call_table.specs.Spelling.{request_spelled, RequestFits};
 ghost use Rattle.call_table.specs.Steps.{HasDesk, desk_looked, desk_took, desk_told, AreRequestWords, IsNextToTell, IsRunOf};
 ghost use Rattle.call_table.specs.Views.{desk_of, tally_at};
 
+use crate::gate::Gate;
 use crate::indexes::{answer_index, answered_index, posted_index, request_index, taken_index};
 use crate::plays::{FillAnswer, Filling, Look, PublishAnswer, Read, Take, Taking};
 use crate::rule::Rule;
@@ -188,8 +189,38 @@ pub(super) fn find_next(
     None
 }
 
+/// Calls the gate, where the seat's last event is taken and none of the answers that it told is published.
+fn pass<G: Gate>(setup: &Setup, seat: &Seat<(), View>, gate: &G, place: u64)
+    requires { IsBetween setup.now.processes (desk_of seat.now.me.0) place }
+    ensures { G.passed gate.now place }
+{
+    gate.between(place);
+}
+
+/// Passes the gate, and then publishes the answers among the notes of the journal's last entry, which has this place.
+pub(super) fn publish_all<G: Gate>(
+    shared: &Shared<(), View, Setup, Rule>,
+    setup: &Setup,
+    seat: &mut Seat<(), View>,
+    gate: &G,
+    notes: &[Note],
+    place: u64,
+)
+    requires table { IsTable seat.old.table_id shared.now.table_id shared.now.key setup.now }
+    requires setup { IsSetup setup.now }
+    requires seat { HasDesk (desk_of seat.old.me.0) seat.old.me × ((desk_of seat.old.me.0).filling ≡ (0, [])) }
+    requires untold { IsUntold setup.now.processes (desk_of seat.old.me.0) notes.now place }
+    ensures seat { SameSeat seat.old seat.new }
+    ensures view { HasDesk (desk_of seat.new.me.0) seat.new.me }
+    ensures told { IsTold setup.now.processes (desk_of seat.old.me.0) (desk_of seat.new.me.0) }
+    ensures gate { G.passed gate.now place }
+{
+    pass(setup, seat, gate, place);
+    publish_notes(shared, setup, seat, notes, place);
+}
+
 /// Publishes the answers among the notes of the journal's last entry, which has this place.
-pub(super) fn publish_all(
+fn publish_notes(
     shared: &Shared<(), View, Setup, Rule>,
     setup: &Setup,
     seat: &mut Seat<(), View>,

@@ -475,7 +475,7 @@ fn look_at_answers(rt: &impl Abort, session: &Session, process: u8, answers: Opt
             n,
             reply,
         };
-        assert!(rt; entry.notes.contains(&note));
+        assert!(rt; entry.notes.as_slice().contains(&note));
     }
 }
 

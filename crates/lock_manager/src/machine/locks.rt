@@ -181,7 +181,7 @@ impl Machine {
         // A law, and nothing to run.
         stay_free_of_cycles();
         let done = self.books[usize::from(file)].set(owner, span, mode);
-        self.waits.refresh(file, &self.books);
+        self.waits.refresh_owner(file, owner, span, &self.books);
         done
     }
 

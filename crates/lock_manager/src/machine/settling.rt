@@ -86,7 +86,8 @@ impl Machine {
         self.interrupt(wait.p);
         let book = &mut self.books[usize::from(wait.file)];
         book.set_reserved(wait.owner, wait.span, Some(wait.mode));
-        self.waits.refresh(wait.file, &self.books);
+        self.waits
+            .refresh_owner(wait.file, wait.owner, wait.span, &self.books);
     }
 
     /// The same, of a wait for the flock lock of this description.

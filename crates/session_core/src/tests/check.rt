@@ -2,7 +2,7 @@
 ghost use Rattle.std.specs.Prelude.{◌≤◌};
 
 use super::{FORK, OPEN, RULES, answer, set, wait};
-use crate::{Entry, check_journal};
+use crate::{Entry, Notes, check_journal};
 use lock_manager::{Note, Reply, Request};
 use range_core::{Kind, Memory};
 use std::alloc::Global;
@@ -14,7 +14,7 @@ fn unlock() -> Request {
 }
 
 fn entry(alloc: Global, p: u8, n: u64, request: Request, notes: &[Note]) -> Result<Entry, Memory> {
-    let notes = Vec::from_slice(alloc, notes).map_err(|_| Memory)?;
+    let notes = Notes::of(Vec::from_slice(alloc, notes).map_err(|_| Memory)?);
     Ok(Entry {
         p,
         n,

@@ -1,13 +1,15 @@
 use Rattle.std.proofs.Common.{◌≡◌, ◌<◌, ◌∙◌, length, get_or, take, sym, ap, subst, arith, refl}
 use Rattle.std.proofs.lemmas.List.{take_all}
 use Rattle.std.specs.Prelude.{slice_set}
+use Rattle.range_core.specs.declared.TheConstants.{OFFMAX}
 use Rattle.wait_core.specs.Locks.{Locks, locks_of}
 use Rattle.wait_core.specs.Cycles.{IsFreeOfCycles}
-use Rattle.wait_core.specs.WaitsView.{waits_of, AreTold, AgreeBut}
+use Rattle.wait_core.specs.WaitsView.{waits_of, AreTold, AgreeButOwner}
+use Rattle.lock_book.specs.declared.Owner.TheVariants.{Process}
 use Rattle.lock_manager.specs.LockReleases.{ReleasesLocks}
 use Rattle.lock_manager.proofs.BookLemmas.{book_at}
 use Rattle.lock_manager.proofs.ReleaseLemmas.{released_file, released_room}
-use Rattle.lock_manager.proofs.KeptLemmas.{stays_known}
+use Rattle.lock_manager.proofs.KeptLemmas.{process_alone, stays_known}
 use Rattle.lock_manager.proofs.WaitLemmas.{agree_elsewhere}
 use Rattle.wait_core.specs.Settled.{AreBlockedElsewhere, AgreeElsewhere}
 use Rattle.lock_manager.proofs.WaitCloseLemmas.{free_released}
@@ -29,14 +31,15 @@ loop-file-preserved c =
       released_file c.args.books.now.items books c.index_mut.result.now c.release_in.new.book c.args.p files c.descriptions-descriptions.result.now i 0 file inside is within was before.1 c.release_in.ensures,
       released_room c.args.books.now.items books c.index_mut.result.now c.release_in.new.book c.args.p files c.descriptions-descriptions.result.now i 0 file inside is within was before.2 c.release_in.ensures,
       record {
-        waits = c.refresh.ensures.waits ∙ before.3.waits;
-        policy = c.refresh.ensures.policy ∙ before.3.policy;
-        processes = c.refresh.ensures.processes ∙ before.3.processes;
+        waits = c.refresh_owner.ensures.waits ∙ before.3.waits;
+        policy = c.refresh_owner.ensures.policy ∙ before.3.policy;
+        processes = c.refresh_owner.ensures.processes ∙ before.3.processes;
       },
-      (let now = stays_known c.loop-file.waits c.refresh.new.self books (slice_set books file c.release_in.new.book) c.deref.result.now file c.deref.ensures.value (omega arith)
-          (subst (λ f. (locks : Locks) → AreTold c.loop-file.waits locks → AgreeBut f locks (locks_of c.deref.result.now) → AreTold c.refresh.new.self (locks_of c.deref.result.now)) (sym c.from.ensures) c.refresh.ensures.told)
-          (subst (λ f. f < 64 → (locks : Locks) → AreBlockedElsewhere c.loop-file.waits locks → AgreeElsewhere f locks (locks_of c.deref.result.now) → AreBlockedElsewhere c.refresh.new.self (locks_of c.deref.result.now)) (sym c.from.ensures) c.refresh.ensures.blocked)
-          (agree_elsewhere books file c.release_in.new.book) in
+      (let now = stays_known c.loop-file.waits c.refresh_owner.new.self books (slice_set books file c.release_in.new.book) c.deref.result.now file (Process c.args.p) (record { first = 0; last = OFFMAX }) c.deref.ensures.value (omega arith)
+          (subst (λ f. (locks : Locks) → AreTold c.loop-file.waits locks → AgreeButOwner f (Process c.args.p) (record { first = 0; last = OFFMAX }) locks (locks_of c.deref.result.now) → AreTold c.refresh_owner.new.self (locks_of c.deref.result.now)) (sym c.from.ensures) c.refresh_owner.ensures.told)
+          (subst (λ f. f < 64 → (locks : Locks) → AreBlockedElsewhere c.loop-file.waits locks → AgreeElsewhere f locks (locks_of c.deref.result.now) → AreBlockedElsewhere c.refresh_owner.new.self (locks_of c.deref.result.now)) (sym c.from.ensures) c.refresh_owner.ensures.blocked)
+          (agree_elsewhere books file c.release_in.new.book)
+          (process_alone books file c.index_mut.result.now c.release_in.new.book c.args.p c.descriptions-descriptions.result.now within was c.release_in.ensures) in
           record { told = λ was. now.told (before.4.told was); blocked = λ was. now.blocked (before.4.blocked was) }),
     )
 

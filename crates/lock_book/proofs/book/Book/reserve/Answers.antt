@@ -2,10 +2,8 @@ use Rattle.std.proofs.Common.{◌≡◌, ◌∙◌, refl, sym, Some, None, arith
 use Rattle.std.proofs.lemmas.Result.{on_ok_weaker, on_err_weaker}
 use Rattle.range_core.specs.Changes.{modes_of}
 use Rattle.lock_book.specs.Books.{list_of}
-use Rattle.lock_book.specs.OwnerLists.{IsIdle}
-use Rattle.lock_book.specs.Covering.{IsCovered}
-use Rattle.lock_book.proofs.BookLemmas.{OnOk-at_ok, list_of-lent, list_of-not_lent, PutsAt-writes, PutsAt-adds, PutsList-puts, EachList-insert, EachList-left, EachList-list, still_in_use, in_use_by_room, SameButRoom-puts, SameBook-puts, room_in-list}
-use Rattle.lock_book.proofs.CoverLemmas.{IsCovered-same, IsCovered-before}
+use Rattle.lock_book.proofs.BookLemmas.{OnOk-at_ok, list_of-lent, list_of-not_lent, list_written, PutsAt-adds, PutsList-puts, still_in_use, in_use_by_room, SameButRoom-puts, SameBook-puts, room_in-list}
+use Rattle.lock_book.proofs.CoverLemmas.{AreKept-insert, AreKept-left, AreKept-list, IsCovered-same, IsCovered-before}
 use Rattle.lock_book.proofs.book.Book.reserve.Goals as goal
 
 pub returns-in_err-reserve-in-None-clause-there : goal.returns-in_err-reserve-in-None-clause-there
@@ -22,10 +20,12 @@ returns-in_err-map_err-in-None-clause-there c there =
 
 pub returns-in-Some-clause-ok : goal.returns-in-Some-clause-ok
 returns-in-Some-clause-ok c =
-    let was : list_of c.args.self.now c.args.owner ≡ Some c.in-Some.list.now =
-    list_of-lent _ _ _ _ c.get_mut.ensures.value c.in-Some.is in
+    let book = c.args.self.now in
+    let list = c.reserve.new.self in
+    let owners = c.get_mut.follows.lender list in
+    let written = list_written book owners c.args.owner _ _ list c.get_mut.ensures.value c.in-Some.is (c.get_mut.follows.holds list) in
     on_ok_weaker c.reserve.result
-    (λ room. SameButRoom-puts c.args.self.now _ c.args.owner _ c.reserve.new.self (PutsList-puts c.args.self.now _ _ _ refl (PutsAt-writes c.args.self.now (c.get_mut.follows.lender c.reserve.new.self) c.args.owner c.in-Some.list.now c.reserve.new.self (c.get_mut.follows.holds c.reserve.new.self) was)) was c.reserve.ensures.modes)
+    (λ room. SameButRoom-puts book _ c.args.owner _ list (PutsList-puts book _ _ _ refl written.1) written.0 c.reserve.ensures.modes)
     c.reserve.ensures.ok
 
 pub returns-in-Some-clause-there : goal.returns-in-Some-clause-there
@@ -36,63 +36,52 @@ returns-in-Some-clause-there c there =
 
 pub returns-in-Some-clause-err : goal.returns-in-Some-clause-err
 returns-in-Some-clause-err c =
-    let was : list_of c.args.self.now c.args.owner ≡ Some c.in-Some.list.now =
-    list_of-lent _ _ _ _ c.get_mut.ensures.value c.in-Some.is in
+    let book = c.args.self.now in
+    let list = c.reserve.new.self in
+    let owners = c.get_mut.follows.lender list in
+    let written = list_written book owners c.args.owner _ _ list c.get_mut.ensures.value c.in-Some.is (c.get_mut.follows.holds list) in
     on_err_weaker c.reserve.result
-    (λ same. SameBook-puts c.args.self.now _ c.args.owner _ c.reserve.new.self (PutsList-puts c.args.self.now _ _ _ refl (PutsAt-writes c.args.self.now (c.get_mut.follows.lender c.reserve.new.self) c.args.owner c.in-Some.list.now c.reserve.new.self (c.get_mut.follows.holds c.reserve.new.self) was)) was same.modes same.room)
+    (λ same. SameBook-puts book _ c.args.owner _ list (PutsList-puts book _ _ _ refl written.1) written.0 same.modes same.room)
     c.reserve.ensures.err
 
 pub returns-in_ok-map_err-in-None-clause-ok : goal.returns-in_ok-map_err-in-None-clause-ok
 returns-in_ok-map_err-in-None-clause-ok c =
-    let was : list_of c.args.self.now c.args.owner ≡ None =
-    list_of-not_lent _ _ _ c.get_mut.ensures.value c.in-None.is in
-    SameButRoom-puts c.args.self.now _ c.args.owner None c.reserve-in-None.new.self
-    (PutsList-puts c.args.self.now _ _ _ refl
-    (PutsAt-adds c.args.self.now _ c.insert.new.self c.args.owner (Some c.reserve-in-None.new.self) c.get_mut.follows.holds-at-none
+    let book = c.args.self.now in
+    SameButRoom-puts book _ c.args.owner None c.reserve-in-None.new.self
+    (PutsList-puts book _ _ _ refl
+    (PutsAt-adds book _ c.insert.new.self c.args.owner (Some c.reserve-in-None.new.self) c.get_mut.follows.holds-at-none
     (OnOk-at_ok c.insert.result (sym c.in_ok-map_err-in-None.ensures.variant) c.insert.ensures.updates)))
-    was
+    (list_of-not_lent _ _ _ c.get_mut.ensures.value c.in-None.is)
     (λ byte. c.reserve-in-None.ensures.modes byte ∙ c.new-list.ensures.modes byte)
 
 pub invariant_of-self : goal.invariant_of-self
 invariant_of-self c =
     let book = c.args.self.now in
-    let owners = c.get_mut.follows.lender c.reserve.new.self in
-    let was : list_of book c.args.owner ≡ Some c.in-Some.list.now =
-    list_of-lent _ _ _ _ c.get_mut.ensures.value c.in-Some.is in
-    let puts = PutsAt-writes book owners c.args.owner c.in-Some.list.now c.reserve.new.self (c.get_mut.follows.holds c.reserve.new.self) was in
-    record {
-      in_use = EachList-list (λ list. ¬ IsIdle list) book owners c.args.owner c.reserve.new.self book.in_use puts
-          (still_in_use book c.args.owner c.in-Some.list.now c.reserve.new.self was c.reserve.ensures.modes c.reserve.ensures.kept);
-      covered = EachList-list (λ list. IsCovered book.cover (modes_of list)) book owners c.args.owner c.reserve.new.self book.covered puts
-          (IsCovered-same book.cover book.cover (λ byte wanted may. may) (modes_of c.in-Some.list.now) (modes_of c.reserve.new.self)
-          (IsCovered-before book book.cover c.args.owner (Some c.in-Some.list.now) book.covered was) c.reserve.ensures.modes);
-    }
+    let list = c.reserve.new.self in
+    let owners = c.get_mut.follows.lender list in
+    let written = list_written book owners c.args.owner _ _ list c.get_mut.ensures.value c.in-Some.is (c.get_mut.follows.holds list) in
+    let kept = AreKept-list book.cover book owners c.args.owner list book.covered written.1
+    (still_in_use book c.args.owner c.in-Some.list.now list written.0 c.reserve.ensures.modes c.reserve.ensures.kept)
+    (IsCovered-same book.cover book.cover (λ byte wanted may. may) (modes_of c.in-Some.list.now) (modes_of list)
+    (IsCovered-before book book.cover c.args.owner (Some c.in-Some.list.now) book.covered written.0) c.reserve.ensures.modes) in
+    record { in_use = kept.in_use; covered = kept.covered }
 
 pub invariant_of-self-in-None : goal.invariant_of-self-in-None
 invariant_of-self-in-None c =
     let book = c.args.self.now in
     let added = c.reserve-in-None.new.self in
-    record {
-      in_use = EachList-insert (λ list. ¬ IsIdle list) book _ c.insert.new.self c.args.owner added c.insert.result book.in_use c.get_mut.follows.holds-at-none
-          c.insert.ensures.updates c.insert.ensures.err (in_use_by_room added (let room = c.in_ok-reserve-in-None.ensures.ok in omega arith));
-      covered = EachList-insert (λ list. IsCovered book.cover (modes_of list)) book _ c.insert.new.self c.args.owner added c.insert.result book.covered c.get_mut.follows.holds-at-none
-          c.insert.ensures.updates c.insert.ensures.err
-          (IsCovered-same book.cover book.cover (λ byte wanted may. may) (λ byte. None) (modes_of added) (λ byte wanted conflict. absurd conflict)
-          (λ byte. c.reserve-in-None.ensures.modes byte ∙ c.new-list.ensures.modes byte));
-    }
+    let kept = AreKept-insert book.cover book _ c.insert.new.self c.args.owner added c.insert.result book.covered c.get_mut.follows.holds-at-none
+    c.insert.ensures.updates c.insert.ensures.err (in_use_by_room added (let room = c.in_ok-reserve-in-None.ensures.ok in omega arith))
+    (IsCovered-same book.cover book.cover (λ byte wanted may. may) (λ byte. None) (modes_of added) (λ byte wanted conflict. absurd conflict)
+    (λ byte. c.reserve-in-None.ensures.modes byte ∙ c.new-list.ensures.modes byte)) in
+    record { in_use = kept.in_use; covered = kept.covered }
 
 pub invariant_of-self-then-sets-eq0 : goal.invariant_of-self-then-sets-eq0
 invariant_of-self-then-sets-eq0 c =
-    let book = c.args.self.now in
-    record {
-      in_use = EachList-left (λ list. ¬ IsIdle list) _ book.owners c.get_mut.follows.holds-at-none book.in_use;
-      covered = EachList-left (λ list. IsCovered book.cover (modes_of list)) _ book.owners c.get_mut.follows.holds-at-none book.covered;
-    }
+    let kept = AreKept-left c.args.self.now.cover c.args.self.now _ c.args.self.now.covered c.get_mut.follows.holds-at-none in
+    record { in_use = kept.in_use; covered = kept.covered }
 
 pub invariant_of-self-in-Break-1 : goal.invariant_of-self-in-Break-1
 invariant_of-self-in-Break-1 c =
-    let book = c.args.self.now in
-    record {
-      in_use = EachList-left (λ list. ¬ IsIdle list) _ book.owners c.get_mut.follows.holds-at-none book.in_use;
-      covered = EachList-left (λ list. IsCovered book.cover (modes_of list)) _ book.owners c.get_mut.follows.holds-at-none book.covered;
-    }
+    let kept = AreKept-left c.args.self.now.cover c.args.self.now _ c.args.self.now.covered c.get_mut.follows.holds-at-none in
+    record { in_use = kept.in_use; covered = kept.covered }

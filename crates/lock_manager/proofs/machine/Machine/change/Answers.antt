@@ -16,14 +16,14 @@ invariant_of-self c =
     let books = machine.books.items in
     let within : c.args.file < length books = omega arith in
     let laws = c.stay_free_of_cycles.ensures in
-    let kept = kept_by_change laws.locks_change laws.description_locks_change machine (slice_set books c.from.result c.set-done.new.self) c.refresh.new.self
+    let kept = kept_by_change laws.locks_change laws.description_locks_change machine (slice_set books c.from.result c.set-done.new.self) c.refresh_owner.new.self
     c.args.file c.index_mut.result.now c.set-done.new.self c.args.owner c.args.span c.args.mode c.set-done.result
     (ap (λ i. slice_set books i c.set-done.new.self) c.from.ensures) within
     (book_at books c.from.result c.args.file _ c.from.ensures within c.index_mut.ensures.value)
     c.requires.owner c.requires.span c.requires.live c.requires.free c.set-done.ensures.ok c.set-done.ensures.room c.set-done.ensures.err
-    (record { waits = c.refresh.ensures.waits; policy = c.refresh.ensures.policy; processes = c.refresh.ensures.processes })
-    (λ agree. stays_known machine.waits c.refresh.new.self books (slice_set books c.from.result c.set-done.new.self) c.deref.result.now c.args.file c.deref.ensures.value c.requires.file
-    c.refresh.ensures.told c.refresh.ensures.blocked agree) in
+    (record { waits = c.refresh_owner.ensures.waits; policy = c.refresh_owner.ensures.policy; processes = c.refresh_owner.ensures.processes })
+    (λ agree alone. stays_known machine.waits c.refresh_owner.new.self books (slice_set books c.from.result c.set-done.new.self) c.deref.result.now c.args.file c.args.owner c.args.span c.deref.ensures.value c.requires.file
+    c.refresh_owner.ensures.told c.refresh_owner.ensures.blocked agree alone) in
     record {
       files = machine.files;
       numbered = machine.numbered;
@@ -38,8 +38,8 @@ invariant_of-self c =
       told = kept.told;
       blocked = kept.blocked;
       apart = kept.apart;
-      suspended = subst (All (IsSuspended machine.tables machine.states.items)) (sym c.refresh.ensures.waits) machine.suspended;
-      awaited = awaited_in machine.states.items (waits_of machine.waits) (waits_of c.refresh.new.self) c.refresh.ensures.waits machine.awaited;
+      suspended = subst (All (IsSuspended machine.tables machine.states.items)) (sym c.refresh_owner.ensures.waits) machine.suspended;
+      awaited = awaited_in machine.states.items (waits_of machine.waits) (waits_of c.refresh_owner.new.self) c.refresh_owner.ensures.waits machine.awaited;
       room = kept.room;
       free_of_cycles = kept.free_of_cycles;
     }
@@ -52,7 +52,7 @@ returns-clause-ok c =
     OnOk-map _ _ c.set-done.result c.set-done.ensures.ok
     (λ sets S h. with_change machine _ S c.args.file c.index_mut.result.now c.set-done.new.self c.args.owner c.args.span c.args.mode
     (ap (λ i. slice_set books i c.set-done.new.self) c.from.ensures) refl refl within
-    (book_at books c.from.result c.args.file _ c.from.ensures within c.index_mut.ensures.value) sets c.refresh.ensures.waits h)
+    (book_at books c.from.result c.args.file _ c.from.ensures within c.index_mut.ensures.value) sets c.refresh_owner.ensures.waits h)
 
 pub returns-clause-memory : goal.returns-clause-memory
 returns-clause-memory c =
@@ -62,4 +62,4 @@ returns-clause-memory c =
     OnErr-map _ _ c.set-done.result c.set-done.ensures.err
     (λ same. without_change machine _ c.args.file c.index_mut.result.now c.set-done.new.self
     (ap (λ i. slice_set books i c.set-done.new.self) c.from.ensures) refl refl refl refl within
-    (book_at books c.from.result c.args.file _ c.from.ensures within c.index_mut.ensures.value) same c.refresh.ensures.waits)
+    (book_at books c.from.result c.args.file _ c.from.ensures within c.index_mut.ensures.value) same c.refresh_owner.ensures.waits)

@@ -56,16 +56,16 @@ invariant_of-self c =
     (subst (λ f. ¬ IsBlockedIn f (machine_locks c.args.self.now) wait) c.requires.family c.requires.grantable.free) in
     let tables : c.args.self.now.tables ≡ machine.tables = sym c.interrupt.ensures.tables in
     let laws = c.stay_free_of_cycles.ensures in
-    let kept = kept_in_room laws.locks_change laws.description_locks_change machine (slice_set books c.from.result c.set_reserved.new.self) c.refresh.new.self
+    let kept = kept_in_room laws.locks_change laws.description_locks_change machine (slice_set books c.from.result c.set_reserved.new.self) c.refresh_owner.new.self
     wait.file c.index_mut-book.result.now c.set_reserved.new.self wait.owner wait.span (Some wait.mode) (Ok tt) is within was
     (subst (λ t. MayLock t wait.file wait.owner) tables (may_lock_granted c.args.self.now.tables (locks_of c.args.self.now.books.items) before wait c.args.self.now.owned c.requires.grantable.waits))
     c.requires.grantable.well_formed.range
     (λ q e. subst (λ p. machine_state machine p ≡ Live) (sym (owner_granted c.args.self.now.tables (locks_of c.args.self.now.books.items) before wait c.args.self.now.owned c.requires.grantable.waits q e)) c.interrupt.ensures.live)
     (λ k e. subst (λ m. ¬ ByteConflict ((locks_of books).bytes wait.file) wait.owner wait.span m) (same_Some wait.mode k e) free)
     c.set_reserved.ensures.sets room tt
-    (record { waits = c.refresh.ensures.waits; policy = c.refresh.ensures.policy; processes = c.refresh.ensures.processes })
-    (λ agree. stays_known machine.waits c.refresh.new.self books (slice_set books c.from.result c.set_reserved.new.self) c.deref.result.now wait.file c.deref.ensures.value c.requires.grantable.well_formed.file
-    c.refresh.ensures.told c.refresh.ensures.blocked agree) in
+    (record { waits = c.refresh_owner.ensures.waits; policy = c.refresh_owner.ensures.policy; processes = c.refresh_owner.ensures.processes })
+    (λ agree alone. stays_known machine.waits c.refresh_owner.new.self books (slice_set books c.from.result c.set_reserved.new.self) c.deref.result.now wait.file wait.owner wait.span c.deref.ensures.value c.requires.grantable.well_formed.file
+    c.refresh_owner.ensures.told c.refresh_owner.ensures.blocked agree alone) in
     record {
       files = machine.files;
       numbered = machine.numbered;
@@ -80,8 +80,8 @@ invariant_of-self c =
       told = kept.told;
       blocked = kept.blocked;
       apart = kept.apart;
-      suspended = subst (All (IsSuspended machine.tables machine.states.items)) (sym c.refresh.ensures.waits) machine.suspended;
-      awaited = awaited_in machine.states.items (waits_of machine.waits) (waits_of c.refresh.new.self) c.refresh.ensures.waits machine.awaited;
+      suspended = subst (All (IsSuspended machine.tables machine.states.items)) (sym c.refresh_owner.ensures.waits) machine.suspended;
+      awaited = awaited_in machine.states.items (waits_of machine.waits) (waits_of c.refresh_owner.new.self) c.refresh_owner.ensures.waits machine.awaited;
       room = kept.room;
       free_of_cycles = kept.free_of_cycles;
     }
@@ -98,9 +98,9 @@ returns c =
       shows = λ S before after h place.
           shows_granted _ S before wait after c.requires.family (subst AreApart h.waits c.args.self.now.apart) place
           (with_change machine _ (with_process (without_wait S wait.p) wait.p Live) wait.file c.index_mut-book.result.now c.set_reserved.new.self wait.owner wait.span (Some wait.mode)
-          (ap (λ i. slice_set books i c.set_reserved.new.self) c.from.ensures) refl refl within was c.set_reserved.ensures.sets c.refresh.ensures.waits
+          (ap (λ i. slice_set books i c.set_reserved.new.self) c.from.ensures) refl refl within was c.set_reserved.ensures.sets c.refresh_owner.ensures.waits
           (c.interrupt.ensures.shows S h));
-      fewer = rw c.refresh.ensures.waits c.interrupt.ensures.fewer;
+      fewer = rw c.refresh_owner.ensures.waits c.interrupt.ensures.fewer;
       lives = λ q live. c.interrupt.ensures.others q live;
       places = λ f d there.
           subst (λ i. has_place_at (slice_get (slice_set books i c.set_reserved.new.self) f) d ≡ true) (sym c.from.ensures)

@@ -18,14 +18,14 @@ returns c =
     let old = c.args.self.now in
     let inside = c.entry.inside in
     let event = c.args.entry.now in
-    let view : Event = record { p = inside.p; n = inside.n; request = inside.request; notes = inside.notes.items } in
+    let view : Event = record { p = inside.p; n = inside.n; request = inside.request; notes = inside.notes } in
     let same : view ≡ event = c.entry.view_is in
     let notes = c.in_ok-notes.notes.items in
     let place = c.from.result - 1 in
     let next : IsNextOf old event = c.if-not-is_next.ensures.0 refl in
     let told : Decides c.are_same.result (notes ≡ event.notes) =
-    subst (λ l. Decides c.are_same.result (notes ≡ l)) (c.deref-2.ensures.value ∙ ap (λ e. e.notes) same)
-    (subst (λ l. Decides c.are_same.result (l ≡ c.deref-2.result.now)) c.deref.ensures.value c.are_same.ensures) in
+    subst (λ l. Decides c.are_same.result (notes ≡ l)) (c.as_slice.ensures ∙ ap (λ e. e.notes) same)
+    (subst (λ l. Decides c.are_same.result (l ≡ c.as_slice.result.now)) c.deref.ensures.value c.are_same.ensures) in
     let low = next.able.low in
     let at : suc place ≡ event.p = let process = c.from.ensures ∙ ap (λ e. e.p) same in omega arith in
     let steps =

@@ -1,9 +1,8 @@
-use Rattle.std.proofs.Common.{◌≡◌, ◌∙◌, refl, length, [], ◌∷◌, ◌++◌}
+use Rattle.std.proofs.Common.{◌≡◌, ◌∙◌, ◌+◌, refl, sym, length, [], ◌∷◌, ◌++◌}
 use Rattle.std.proofs.lemmas.Result.{IfErr-weaker}
 use Rattle.std.proofs.Math.Logic.{∥∥₁_map}
-use Rattle.std.proofs.lemmas.List.{length-set}
 use Rattle.session_core.specs.SessionView.{manager_of, events_in, sent_of}
-use Rattle.session_core.proofs.MailLemmas.{StandsAt-index, IsMailInside-set, mailbox_of-there, mail_taken-kept, mail_sent-grown, mail_sent-kept, mail_sent-pushed, length-mail_sent-set, IsPrefixOf-pushed, Holds-grown, SameManager-refl, IfOk-both}
+use Rattle.session_core.proofs.MailLemmas.{StandsAt-index, IsMailInside-set, IsMailKept-written, mailbox_of-there, mailbox_of-set_same, mail_sent-kept, mail_sent-pushed, length-mail_sent-there, Holds-sent, SameManager-refl, IfOk-both}
 use Rattle.session_core.proofs.JournalLemmas.{mail_sent-few}
 use Rattle.session_core.proofs.session.Session.arrive.Goals as goal
 
@@ -15,16 +14,12 @@ invariant_of-self c =
     let old = c.index_mut.result.now in
     let new = c.push.new.self in
     let at = StandsAt-index mailboxes _ c.args.p c.from.result old self.mail.one_each c.requires.0 c.requires.1 c.from.ensures c.index_mut.ensures.value in
-    let grown = IsPrefixOf-pushed c.push.result old.sent.items new.sent.items c.args.request c.push.ensures.ok c.push.ensures.err in
+    let mail = IsMailKept-written _ mailboxes self.journal.items _ c.args.p old new at c.push.ensures.taken self.mail in
     record {
-      mail = record {
-        some = self.mail.some;
-        one_each = rw length-set self.mail.one_each;
-        taken = λ q. mail_taken-kept mailboxes _ c.args.p old new at c.push.ensures.taken q ∙ self.mail.taken q;
-      };
+      mail = mail;
       inside = IsMailInside-set mailboxes _ c.args.p old new self.window c.with-self.result at c.with-self.ensures.others (λ some. c.with-self.ensures.p) self.inside;
       answered = self.answered;
-      holds = ∥∥₁_map self.holds (Holds-grown _ _ _ _ (mail_sent-grown mailboxes _ c.args.p old new at grown) (mail_sent-few _));
+      holds = ∥∥₁_map self.holds (Holds-sent _ mailboxes _ _ (mail_sent-few _ _ _ mail));
     }
 
 pub returns-clause-ok : goal.returns-clause-ok
@@ -35,11 +30,12 @@ returns-clause-ok c =
     let old = c.index_mut.result.now in
     let new = c.push.new.self in
     let at = StandsAt-index mailboxes _ c.args.p c.from.result old self.mail.one_each c.requires.0 c.requires.1 c.from.ensures c.index_mut.ensures.value in
-    IfOk-both c.push.result (λ n. new.sent.items ≡ old.sent.items ++ c.args.request ∷ []) (λ n. n ≡ length new.sent.items) _
+    let mail = IsMailKept-written _ mailboxes self.journal.items _ c.args.p old new at c.push.ensures.taken self.mail in
+    IfOk-both c.push.result (λ n. new.waiting.items ≡ old.waiting.items ++ c.args.request ∷ []) (λ n. n ≡ new.taken + length new.waiting.items) _
     (λ n pushed number.
     record {
-      sent = mail_sent-pushed mailboxes _ c.args.p old new c.args.request at pushed;
-      number = length-mail_sent-set mailboxes _ c.args.p n old new at number;
+      sent = mail_sent-pushed mailboxes self.journal.items _ c.args.p old new c.args.request at pushed;
+      number = number ∙ sym (length-mail_sent-there _ _ self.journal.items c.args.p new mail (mailbox_of-set_same mailboxes _ c.args.p old new at));
       journal = refl;
       manager = SameManager-refl self.manager;
     })
@@ -47,12 +43,12 @@ returns-clause-ok c =
     c.push.ensures.number
 
 pub returns-clause-full : goal.returns-clause-full
-unfolding manager_of sent_of
+unfolding manager_of events_in sent_of
 returns-clause-full c =
     let self = c.args.self.now in
     let old = c.index_mut.result.now in
     let at = StandsAt-index self.mailboxes.items _ c.args.p c.from.result old self.mail.one_each c.requires.0 c.requires.1 c.from.ensures c.index_mut.ensures.value in
-    rw (mailbox_of-there self.mailboxes.items _ c.args.p old at) c.push.ensures.full
+    rw (length-mail_sent-there _ self.mailboxes.items self.journal.items c.args.p old self.mail (mailbox_of-there self.mailboxes.items _ c.args.p old at)) c.push.ensures.full
 
 pub returns-clause-err : goal.returns-clause-err
 unfolding manager_of events_in sent_of
@@ -62,11 +58,11 @@ returns-clause-err c =
     let old = c.index_mut.result.now in
     let new = c.push.new.self in
     let at = StandsAt-index mailboxes _ c.args.p c.from.result old self.mail.one_each c.requires.0 c.requires.1 c.from.ensures c.index_mut.ensures.value in
-    IfErr-weaker c.push.result (λ fault. new.sent.items ≡ old.sent.items) _
+    IfErr-weaker c.push.result (λ fault. new.waiting.items ≡ old.waiting.items) _
     (λ fault same.
     record {
       manager = SameManager-refl self.manager;
       journal = refl;
-      sent = mail_sent-kept mailboxes _ c.args.p old new at same;
+      sent = mail_sent-kept mailboxes self.journal.items _ c.args.p old new at same;
     })
     c.push.ensures.err

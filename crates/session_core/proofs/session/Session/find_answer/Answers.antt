@@ -8,7 +8,7 @@ pub returns-in-Some : goal.returns-in-Some
 unfolding events_in
 returns-in-Some c =
     let events = c.deref-entry-items.result.now in
-    let notes = c.deref.ensures.value ∙ ap (λ e. e.notes) c.entry.view_is in
+    let notes = c.as_slice.ensures ∙ ap (λ e. e.notes) c.entry.view_is in
     let found : reply_among c.args.n (answers_in c.args.p 0 c.entry-item.result.notes) ≡ Some c.in-Some.reply =
     ap (λ l. reply_among c.args.n (answers_in c.args.p 0 l)) (sym notes) ∙ sym c.in-Some.ensures in
     let hit = reply_to-hit c.args.p c.args.n events c.loop-entry.entry-index c.entry-item.result c.in-Some.reply c.loop-entry-test.true c.entry-item.is found in
@@ -17,7 +17,7 @@ returns-in-Some c =
 pub loop-entry-preserved : goal.loop-entry-preserved
 loop-entry-preserved c =
     let events = c.deref-entry-items.result.now in
-    let notes = c.deref.ensures.value ∙ ap (λ e. e.notes) c.entry.view_is in
+    let notes = c.as_slice.ensures ∙ ap (λ e. e.notes) c.entry.view_is in
     let none : reply_among c.args.n (answers_in c.args.p 0 c.entry-item.result.notes) ≡ None =
     ap (λ l. reply_among c.args.n (answers_in c.args.p 0 l)) (sym notes) ∙ sym c.in_default.ensures in
     c.loop-entry.invariant ∙ reply_to-skip c.args.p c.args.n events c.loop-entry.entry-index c.entry-item.result c.loop-entry-test.true c.entry-item.is none

@@ -5,9 +5,10 @@ use Rattle.session_core.specs.Runs.{events_of}
 use Rattle.session_core.specs.Mail.{answers_in, answers_to}
 use Rattle.session_core.specs.LastAnswers.{latest, last_of, processes_in, AreLastAnswers}
 use Rattle.session_core.specs.SessionView.{manager_of, events_in, sent_of}
-use Rattle.session_core.specs.Mailboxes.{IsMailKept}
-use Rattle.session_core.proofs.MailLemmas.{StandsAt-index, IsMailInside-set, HasMail-there, mail_sent-kept}
-use Rattle.session_core.proofs.JournalLemmas.{Holds-same, Holds-taken, next_within, IsMailKept-push}
+use Rattle.session_core.specs.Headline.{Holds}
+use Rattle.session_core.specs.Mailboxes.{IsMailKept, mail_sent}
+use Rattle.session_core.proofs.MailLemmas.{StandsAt-index, IsMailInside-set, HasMail-there}
+use Rattle.session_core.proofs.JournalLemmas.{Holds-same, Holds-taken, mail_sent-took, next_waits, IsMailKept-push}
 use Rattle.session_core.proofs.LastLemmas.{AreLastAnswers-push}
 use Rattle.session_core.proofs.session.Session.take.Goals as goal
 
@@ -29,7 +30,9 @@ invariant_of-self-in-Break-branch-2 c =
             self.answered.latest_is q low (subst (λ n. q ≤ n) c.take.ensures.processes high)
             ∙ ap (λ l. latest None (answers_to q l)) (sym items);
       };
-      holds = ∥∥₁_map self.holds (Holds-same self.manager c.take.new.self _ self.journal.items _ self.mail.some items c.in_err-notes.ensures.memory c.take.ensures.safe);
+      holds =
+          ∥∥₁_map self.holds
+          (λ h. subst (λ l. Holds c.take.new.self (mail_sent self.mailboxes.items l) l) (sym items) (Holds-same self.manager c.take.new.self _ self.journal.items _ self.mail.some refl c.in_err-notes.ensures.memory c.take.ensures.safe h));
     }
 
 pub advance-requires : goal.advance-requires
@@ -37,7 +40,7 @@ unfolding manager_of events_in sent_of
 advance-requires c =
     let self = c.args.self.now in
     let at = StandsAt-index self.mailboxes.items _ c.args.p c.from.result c.index_mut.result.now self.mail.one_each c.requires.process.0 c.requires.process.1 c.from.ensures c.index_mut.ensures.value in
-    next_within self.mailboxes.items _ c.args.p c.index_mut.result.now self.journal.items c.args.request at (self.mail.taken c.args.p) c.requires.next
+    next_waits self.mailboxes.items _ c.args.p c.index_mut.result.now self.journal.items c.args.request at c.requires.next
 
 pub invariant_of-self-2 : goal.invariant_of-self-2
 unfolding manager_of events_in sent_of
@@ -48,22 +51,23 @@ invariant_of-self-2 c =
     let after = c.advance.new.self in
     let at = StandsAt-index mailboxes _ c.args.p c.from.result before self.mail.one_each c.requires.process.0 c.requires.process.1 c.from.ensures c.index_mut.ensures.value in
     let event : Event = record { p = c.args.p; n = c.taken-n.result + 1; request = c.args.request; notes = c.in_ok-notes.notes.items } in
-    let journal : c.push.new.self.items ≡ self.journal.items ++ event ∷ [] = rw (c.push.ensures.items, c.unwrap.ensures, c.reserve.ensures.items, c.fitted.ensures) refl in
+    let journal : c.push.new.self.items ≡ self.journal.items ++ event ∷ [] = rw (c.push.ensures.items, c.unwrap.ensures, c.reserve.ensures.items, c.of.ensures) refl in
     let told = λ (q : ℕ) (low : 1 ≤ q) (high : q ≤ processes_in self.answers).
     c.tell.ensures.latest q low high ∙ ap (λ l. latest (last_of self.answers q) (answers_in q 0 l)) c.deref.ensures.value in
     record {
       mail = IsMailKept-push _ mailboxes _ c.args.p before after self.journal.items _ event at c.advance.ensures.taken refl journal (subst (λ n. IsMailKept n mailboxes self.journal.items) (sym c.take.ensures.processes) self.mail);
       inside =
           IsMailInside-set mailboxes _ c.args.p before after self.window self.window at (λ q h. h)
-          (λ some. self.inside c.args.p (HasMail-there mailboxes _ c.args.p before at (let same = ap length c.advance.ensures.sent in omega (arith, some, c.advance.ensures.taken, same))))
+          (λ some. self.inside c.args.p (HasMail-there mailboxes _ c.args.p before at (next_waits mailboxes _ c.args.p before self.journal.items c.args.request at c.requires.next)))
           self.inside;
       answered =
           AreLastAnswers-push _ self.answers c.tell.new.self self.journal.items _ event journal c.tell.ensures.processes told
           (subst (λ n. AreLastAnswers n self.answers self.journal.items) (sym c.take.ensures.processes) self.answered);
       holds =
           ∥∥₁_map self.holds
-          (Holds-taken self.manager c.take.new.self mailboxes _ c.args.p before after self.journal.items _ event self.mail.some at
-          c.advance.ensures.sent journal c.requires.next (ap (λ n. n + 1) c.taken-n.ensures) c.take.ensures.rules c.take.ensures.processes
+          (Holds-taken self.manager c.take.new.self mailboxes _ self.journal.items _ event self.mail.some
+          (mail_sent-took mailboxes _ c.args.p before after self.journal.items _ event at c.advance.ensures.waiting refl journal c.requires.next)
+          journal c.requires.next (ap (λ n. n + 1) c.taken-n.ensures) c.take.ensures.rules c.take.ensures.processes
           c.in_ok-notes.ensures.step c.take.ensures.safe);
     }
 
@@ -76,14 +80,15 @@ returns-clause-taken c =
     let after = c.advance.new.self in
     let at = StandsAt-index mailboxes _ c.args.p c.from.result before self.mail.one_each c.requires.process.0 c.requires.process.1 c.from.ensures c.index_mut.ensures.value in
     let event : Event = record { p = c.args.p; n = c.taken-n.result + 1; request = c.args.request; notes = c.in_ok-notes.notes.items } in
+    let journal : c.push.new.self.items ≡ self.journal.items ++ event ∷ [] = rw (c.push.ensures.items, c.unwrap.ensures, c.reserve.ensures.items, c.of.ensures) refl in
     record {
       event = event;
       process = refl;
       request_is = refl;
       number = ap (λ n. n + 1) c.taken-n.ensures;
-      journal = rw (c.push.ensures.items, c.unwrap.ensures, c.reserve.ensures.items, c.fitted.ensures) refl;
+      journal = journal;
       at_place = omega (arith, c.len.ensures, c.push.new.self.ok.0);
       step = c.in_ok-notes.ensures.step;
-      sent_is = mail_sent-kept mailboxes _ c.args.p before after at c.advance.ensures.sent;
+      sent_is = mail_sent-took mailboxes _ c.args.p before after self.journal.items _ event at c.advance.ensures.waiting refl journal c.requires.next;
       same_rules = record { rules = c.take.ensures.rules; processes = c.take.ensures.processes };
     }

@@ -1,10 +1,15 @@
-use Rattle.std.proofs.Common.{[]}
+use Rattle.std.proofs.Common.{[], inl, inr, get_or}
+use Rattle.std.specs.Prelude.{IsFalse}
 use Rattle.std.proofs.Math.Logic.{∥∥₁_map}
+use Rattle.std.proofs.lemmas.List.{get_or_default}
+use Rattle.wait_core.specs.declared.Wait.{Wait}
+use Rattle.wait_core.specs.Files.{has_file}
 use Rattle.wait_core.specs.Locks.{locks_of}
+use Rattle.wait_core.specs.Processes.{is_member}
 use Rattle.wait_core.specs.Settled.{changed_files}
 use Rattle.wait_core.specs.WaitsView.{waits_of, policy_of}
-use Rattle.wait_core.proofs.DecideLemmas.{blocked_known}
-use Rattle.wait_core.proofs.SettledLemmas.{all_elsewhere}
+use Rattle.wait_core.proofs.DecideLemmas.{blocked_known, told_known}
+use Rattle.wait_core.proofs.SettledLemmas.{all_elsewhere, blocked_more, told_blocked}
 use Rattle.wait_core.proofs.waits.Waits.next_ready_on_changed.Goals as goal
 
 pub returns-then-is_empty-clause-settled : goal.returns-then-is_empty-clause-settled
@@ -13,8 +18,20 @@ returns-then-is_empty-clause-settled c =
     let self = c.args.self.now in
     let laws = c.conflicts_are_decided.ensures in
     all_elsewhere self.changed self.policy (locks_of c.args.books.now) (c.is_empty.ensures.none c.if-is_empty.true) [] self.waits.items
-    (blocked_known laws.bytes laws.flocks self.changed self.policy c.args.books.now [] self.waits.items (∥∥₁_map c.requires.blocked (λ known. known.blocked)))
+    (blocked_known laws.bytes laws.flocks (λ wait. IsFalse (has_file self.changed wait.file)) self.policy c.args.books.now [] self.waits.items (∥∥₁_map c.requires.blocked (λ known. known.blocked)))
 
-pub next_ready_on-requires-clause-elsewhere : goal.next_ready_on-requires-clause-elsewhere
+pub next_ready_among-requires-clause-others : goal.next_ready_among-requires-clause-others
 unfolding waits_of policy_of changed_files
-next_ready_on-requires-clause-elsewhere c = ∥∥₁_map c.requires.blocked (λ known. known.blocked)
+next_ready_among-requires-clause-others c =
+    let self = c.args.self.now in
+    let locks = locks_of c.args.books.now in
+    let waits = self.waits.items in
+    let told = told_known c.conflicts_are_decided.ensures.processes self locks c.requires.told in
+    let Elsewhere : Wait → Type 0 = λ wait. IsFalse (has_file self.changed wait.file) in
+    ∥∥₁_map c.requires.blocked (λ known.
+    blocked_more (λ wait. IsFalse (is_member c.unsure.result wait.p)) Elsewhere self.policy locks [] waits
+    (λ k d within out. elim (c.unsure.ensures k d within out) [
+      | inl elsewhere ↦ inl elsewhere
+      | inr is_told ↦ inr (told_blocked self locks self.processes k (get_or waits k d) self.few self.well_formed self.apart told within
+          (get_or_default waits k (get_or waits k d) d within) is_told)
+    ]) known.blocked)
