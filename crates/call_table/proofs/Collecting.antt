@@ -20,7 +20,7 @@ use Rattle.call_table.specs.declared.desk_view.DeskView.{DeskView}
 use Rattle.call_table.specs.Spelling.{answer_spelled, ReplyFits}
 use Rattle.call_table.specs.Places.{Place, answered, index_of, IsProcess, word_at}
 use Rattle.call_table.specs.Views.{tally_at}
-use Rattle.call_table.specs.Rule.{answer_cell, ClosingAgrees, Agrees, mark_of, Kept}
+use Rattle.call_table.specs.Rule.{CellHas, BeginsAnswer, answer_cell, ClosingAgrees, Agrees, mark_of, Kept}
 use Rattle.call_table.specs.Steps.{Seated, HasClient, client_found, client_read, client_collected, client_marked, IsSeen, Finds, Gets, Collects, Marks}
 use Rattle.call_table.proofs.Pushing.{some_at, prefix_more, prefix_all}
 use Rattle.call_table.proofs.Frames.{answer_six, requests_same, answers_same, answers_found, closing_same}

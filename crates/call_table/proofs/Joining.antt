@@ -10,6 +10,7 @@ use Rattle.std.proofs.lemmas.List.{set-get_or}
 use Rattle.atomic_table.specs.Table.{Step, keeps, Allows, Splits, Joins, opening}
 use Rattle.atomic_table.proofs.Lists.{at_set, set_else, set_again}
 use Rattle.lock_manager.specs.State.{opening_state}
+use Rattle.lock_manager.specs.declared.request.Request.{Request}
 use Rattle.lock_manager.specs.State as manager
 use Rattle.session_core.specs.Runs.{IsRun}
 use Rattle.session_core.specs.Mail.{IsPrefixOf, requests_taken, answers_to}
