@@ -59,8 +59,17 @@ check 2 empty help.err empty missing --help
 check 2 empty two-files.err empty conversion missing
 check 2 empty two-files.err empty missing missing
 check 2 empty two-files.err empty -- conversion missing
-check 2 empty unknown-flag.err empty --threads
-check 2 empty unknown-flag.err conversion --threads conversion
+check 2 empty unknown-flag.err empty --thread
+check 2 empty unknown-flag.err conversion --thread conversion
+check 2 empty threads-twice.err empty --threads --threads
+
+# In threads a script of one process prints the same.
+check 0 conversion.out empty empty --threads conversion
+check 0 conversion.out empty empty conversion --threads
+check 0 conversion.out empty conversion --threads
+check 0 empty.out empty conversion --threads empty
+check 2 empty faulty.err empty --threads faulty
+check 1 empty read-failed.err empty --threads missing
 
 # Standard output takes nothing.
 status=1 output=empty errors=write-failed.err ended=0
