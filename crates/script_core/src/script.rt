@@ -98,8 +98,9 @@ pub fn parse(alloc: Global, bytes: &[u8]) -> Result<Script, ScriptFault>
 /// Reads the lines that stand before, between and behind the line feeds.
 fn read_lines(alloc: Global, bytes: &[u8]) -> Result<Script, ScriptFault>
     ensures accepted { IfOk result (λ script. LinesGive 1 start (slice_split (λ byte. byte == 10) bytes.now) (Ok script)) }
-    ensures refused { IfErr result (λ fault. fault.cause ≢ Cause.Memory → LinesGive 1 start (slice_split (λ byte. byte == 10) bytes.now) (Err fault)) }
-    ensures memory { IfErr result (λ fault. fault.cause ≡ Cause.Memory → ComesTo 1 start (slice_split (λ byte. byte == 10) bytes.now) fault.line) }
+    ensures fault { IfErr result (λ fault.
+        (fault.cause ≢ Cause.Memory → LinesGive 1 start (slice_split (λ byte. byte == 10) bytes.now) (Err fault))
+        × (fault.cause ≡ Cause.Memory → ComesTo 1 start (slice_split (λ byte. byte == 10) bytes.now) fault.line)) }
 {
     let mut reader = Reader::new(alloc);
     for (index, line) in bytes.split(|byte| *byte == b'\n').enumerate() {
