@@ -35,6 +35,7 @@ memory: build
 	sh tests/refuse-growths.sh $(PROGRAM)
 	sh tests/refuse-growths.sh $(PROGRAM) crates/lockreplay/stdin
 	sh tests/refuse-growths.sh $(PROGRAM) --help
+	sh tests/refuse-growths.sh $(PROGRAM) --threads tests/command-line/handed-over
 	@for crate in $(TESTED) script_core; do (cd crates/$$crate && rt test) > crates/$$crate/out/test.log 2>&1 \
 	    || { cat crates/$$crate/out/test.log >&2; exit 1; }; done
 	@for crate in $(TESTED); do sh tests/refuse-growths-in-tests.sh crates/$$crate/out/$${crate}_tests || exit 1; done

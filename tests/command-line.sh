@@ -12,6 +12,16 @@ cp conversion ./-conversion
 passed=0
 failed=0
 
+# A script of more than 64 KiB, what a reader may be given at a time, and its output.
+awk 'BEGIN {
+    print "1 open 0 rw" > "long"
+    print "1#1 open 0 rw | 1#1 fd 0" > "long.out"
+    for (n = 2; n <= 7000; n++) {
+        print "1 seek 0 0" > "long"
+        print "1#" n " seek 0 0 | 1#" n " ok" > "long.out"
+    }
+    print "proc 1 sent 7000 taken 7000 answered 7000 live" > "long.out" }'
+
 # judge RUN: the run ended with the status that is due, and wrote what the two files have.
 judge() {
     if [ "$ended" -eq "$status" ] && cmp -s "$output" "$work/output" && cmp -s "$errors" "$work/errors"; then
@@ -42,6 +52,8 @@ check 0 empty.out empty conversion empty
 check 0 conversion.out empty empty ./conversion
 check 0 conversion.out empty conversion --
 check 0 conversion.out empty empty -- -conversion
+check 0 long.out empty empty long
+check 0 long.out empty long
 check 2 empty faulty.err empty faulty
 check 2 empty faulty.err faulty
 
@@ -68,6 +80,7 @@ check 0 conversion.out empty empty --threads conversion
 check 0 conversion.out empty empty conversion --threads
 check 0 conversion.out empty conversion --threads
 check 0 empty.out empty conversion --threads empty
+check 0 long.out empty long --threads
 check 2 empty faulty.err empty --threads faulty
 check 1 empty read-failed.err empty --threads missing
 

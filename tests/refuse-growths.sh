@@ -1,6 +1,7 @@
 #!/bin/sh
 # Refuses each growth of a run on the sample in turn. The program must then tell want of memory and print nothing, or end as it
-# does with no growth refused (a vector that is refused the room it would like asks for the room it needs).
+# does with no growth refused (a vector that is refused the room it would like asks for the room it needs). With --threads it may
+# also tell that it has no thread, since a thread takes memory.
 # Usage: refuse-growths.sh PROGRAM [WORD..], the words of the command line; standard input is the sample
 set -eu
 program=$1
@@ -15,7 +16,16 @@ run() {
     refused=$1
     shift
     status=0
-    COUNT=$work/count REFUSE=$refused LD_PRELOAD=$work/refuse.so "$program" "$@" < "$script" > "$work/out" 2> "$work/err" || status=$?
+    COUNT=$work/count REFUSE=$refused LD_PRELOAD=$work/refuse.so timeout 20 "$program" "$@" < "$script" > "$work/out" 2> "$work/err" || status=$?
+}
+
+# is_told [WORD..]: the run told of a refused growth by one of the texts that these words of a command line allow.
+is_told() {
+    case "$(cat "$work/err")" in
+    "lockreplay: no memory") true ;;
+    "lockreplay: no thread") [ "${1-}" = --threads ] ;;
+    *) false ;;
+    esac
 }
 
 run 0 "$@"
@@ -26,7 +36,7 @@ growths=$(cat "$work/count")
 told=0
 for n in $(seq "$growths"); do
     run "$n" "$@"
-    if [ "$status" -eq 1 ] && [ ! -s "$work/out" ] && [ "$(cat "$work/err")" = "lockreplay: no memory" ]; then
+    if [ "$status" -eq 1 ] && [ ! -s "$work/out" ] && is_told "$@"; then
         told=$((told + 1))
     elif [ "$status" -ne "$due" ] || ! cmp -s "$work/out" "$work/due.out" || ! cmp -s "$work/err" "$work/due.err"; then
         echo "growth $n refused: status $status, $(wc -c < "$work/out") bytes written, $(cat "$work/err")" >&2
@@ -34,4 +44,4 @@ for n in $(seq "$growths"); do
     fi
 done
 [ "$told" -gt 0 ] || { echo "no refused growth was told" >&2; exit 1; }
-echo "lockreplay $*: $growths growths refused in turn: $told told as want of memory with nothing written, the others not needed"
+echo "lockreplay $*: $growths growths refused in turn: $told told with nothing written, the others not needed"

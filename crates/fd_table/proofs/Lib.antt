@@ -10,3 +10,4 @@ pub mod ReleasedLemmas
 pub mod ForkLemmas
 pub mod GatherLemmas
 pub mod TablesLaws
+pub mod ConstantLaws

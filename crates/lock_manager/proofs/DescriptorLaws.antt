@@ -1,12 +1,11 @@
 -- What a call on descriptors answers and leaves is determined.
 use Rattle.std.proofs.Common.{◌≡◌, ℕ, ◌+◌, ◌<◌, ◌≤◌, None, IsSome, Result, Ok, Err, refl, sym, ◌∙◌, ap, subst, inl, inr, arith, length, ◌⊎◌}
 use Rattle.std.proofs.lemmas.Bool.{cases_lt}
-use Rattle.fd_table.specs.declared.TheConstants.{DESCRIPTIONS}
 use Rattle.fd_table.specs.declared.Access.{Access}
 use Rattle.fd_table.specs.declared.Limits.{Limits}
 use Rattle.fd_table.specs.declared.FdFault.{FdFault}
 use Rattle.fd_table.specs.declared.FdFault.TheVariants.{BadFd, TooMany, Invalid, Taken, Memory}
-use Rattle.fd_table.specs.Descriptors.{Descriptors, SameDescriptors, IsFull, IsLowestFree, with_description, with_descriptor}
+use Rattle.fd_table.specs.Descriptors.{Descriptors, SameDescriptors, IsFull, IsLowestFree, description_limit, with_description, with_descriptor}
 use Rattle.fd_table.specs.Calls.{OpenGives}
 
 -- descriptors that say the same at each place are the same
@@ -44,8 +43,8 @@ pub IsFull-none : (limits : Limits) (D : Descriptors) (p fd : ℕ) → IsFull li
 IsFull-none limits D p fd full h = open_not_free D p fd (full fd h.within) h.free
 
 -- where a number is free and a description can be made, too many isn't the answer
-not_too_many : (limits : Limits) (D : Descriptors) (p fd : ℕ) → length D.descriptions < DESCRIPTIONS → IsLowestFree limits D p fd
-    → IsFull limits D p ⊎ (DESCRIPTIONS ≤ length D.descriptions) → ⊥
+not_too_many : (limits : Limits) (D : Descriptors) (p fd : ℕ) → length D.descriptions < description_limit → IsLowestFree limits D p fd
+    → IsFull limits D p ⊎ (description_limit ≤ length D.descriptions) → ⊥
 not_too_many limits D p fd room h (inl full) = IsFull-none limits D p fd full h
 not_too_many limits D p fd room h (inr many) = omega arith
 

@@ -3,12 +3,12 @@ use Rattle.std.proofs.Common.{◌≡◌, ℕ, zero, suc, ◌+◌, ◌<◌, ◌�
 use Rattle.std.proofs.lemmas.Bool.{cases_lt}
 use Rattle.std.proofs.lemmas.Int.{ints}
 use Rattle.std.proofs.lemmas.List.Elements.{Contains-get_or, Contains-append_left, Contains-append_right, Contains-append_cases, Contains-push, Contains-push_cases}
-use Rattle.fd_table.specs.declared.TheConstants.{FILES, DESCRIPTIONS}
+use Rattle.fd_table.specs.declared.TheConstants.{FILES}
 use Rattle.fd_table.specs.declared.Access.{Access}
 use Rattle.fd_table.specs.declared.Limits.{Limits}
 use Rattle.fd_table.specs.declared.FdFault.{FdFault}
 use Rattle.fd_table.specs.declared.FdFault.TheVariants.{BadFd, TooMany, Invalid, Taken}
-use Rattle.fd_table.specs.Descriptors.{Descriptors, OpenFileDescription, IsFull, IsLowestFree, SameDescriptors, descriptor_limit, description_numbered, with_description, with_descriptor, without_descriptors, with_child, with_offset, with_size}
+use Rattle.fd_table.specs.Descriptors.{Descriptors, OpenFileDescription, IsFull, IsLowestFree, SameDescriptors, description_limit, descriptor_limit, description_numbered, with_description, with_descriptor, without_descriptors, with_child, with_offset, with_size}
 use Rattle.fd_table.specs.Releasing.{AreExactly, AreReleased, ClosesFile, ClosesDescription}
 use Rattle.fd_table.specs.Calls.{OpenGives, DupGives, DupToGives, CloseGives, EndGives, IsFreeProcess, ForkGives, Refers, SeekGives, ResizeGives, nothing}
 use Rattle.lock_manager.specs.SomeOutcome.{AreMade}
@@ -145,7 +145,7 @@ free_or_full limits D p = elim (lowest_none (D.description_of p) (descriptor_lim
 pub OpenGives-some : (limits : Limits) (D : Descriptors) (p file : ℕ) (access : Access) → SomePair (OpenGives limits D p file access)
 OpenGives-some limits D p file access none = elim (cases_lt file FILES) [
   | inr past ↦ none (Err Invalid) D (past, same D)
-  | inl there ↦ elim (cases_lt (length D.descriptions) DESCRIPTIONS) [
+  | inl there ↦ elim (cases_lt (length D.descriptions) description_limit) [
     | inr many ↦ none (Err TooMany) D (there, inr many, same D)
     | inl few ↦ elim (free_or_full limits D p) [
       | inl free ↦ none (Ok free.0) (with_descriptor (with_description D file access) p free.0 (length D.descriptions + 1)) (there, few, free.1, same _)

@@ -1,7 +1,7 @@
 -- What a source and a sink do at a call, where their bytes are known (the words are this project's choice).
 use Rattle.std.specs.Prelude.{◌≡◌, ℕ, ◌+◌, ◌<◌, ◌≤◌, ◌⊎◌, ◌++◌, Bool, IsTrue, Option, IfNone, option_to_list, List, length, take}
 use Rattle.std.specs.Io.KnownBytes.{Consumes, IsAtEnd, Keeps, Appends}
-use Rattle.script_core.specs.declared.TheConstants.{SCRIPT_MAX}
+use Rattle.script_core.specs.Words.{script_limit}
 
 -- the source gave its first byte, or it is at its end
 pub record GivesByte (old new : Option (List ℕ)) (byte : Option ℕ) : Type 0 where
@@ -35,4 +35,4 @@ pub record TakesFront (old new : Option (List ℕ)) (text : List ℕ) : Type 0 w
 -- these bytes were read of the source: all that it had, or its first bytes up to one past the longest script
 pub record ReadsWhole (old new : Option (List ℕ)) (bytes : List ℕ) : Type 0 where
   pub consumed : Consumes old new bytes
-  pub whole : IsAtEnd new ⊎ (length bytes ≡ SCRIPT_MAX + 1)
+  pub whole : IsAtEnd new ⊎ (length bytes ≡ script_limit + 1)

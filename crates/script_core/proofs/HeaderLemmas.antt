@@ -5,13 +5,12 @@ use Rattle.std.specs.Str.{bytes_eq}
 use Rattle.fd_table.specs.declared.Limits.{Limits}
 use Rattle.fd_table.specs.declared.Limits.TheVariants.{Small}
 use Rattle.lock_manager.specs.declared.request.Request.{Request}
-use Rattle.script_core.specs.declared.TheConstants.{LINE_MAX, SCRIPT_MAX}
 use Rattle.script_core.specs.declared.line.Line.{Line}
 use Rattle.script_core.specs.declared.line.Line.TheVariants as lines
 use Rattle.script_core.specs.declared.script.Cause.{Cause}
 use Rattle.script_core.specs.declared.script.Cause.TheVariants.{Byte, Process, TooLong}
 use Rattle.script_core.specs.declared.script.ScriptFault.{ScriptFault}
-use Rattle.script_core.specs.Words.{lines_of, words_of, is_printable}
+use Rattle.script_core.specs.Words.{lines_of, words_of, is_printable, line_limit, script_limit}
 use Rattle.script_core.specs.ScriptText.{Meaning}
 use Rattle.script_core.specs.Reading.{Reading, Reads, LinesGive, LineGives, WordsGive, ProcessGives, ArrivalGives, is_comment}
 use Rattle.script_core.specs.WithoutHeaders.{PlainReads, PlainLinesGive, PlainLineGives, PlainWordsGive, HeadersChangeNothingElse, IsNoHeaderLine, is_header, plain_rules}
@@ -55,7 +54,7 @@ MatchBool-map : (test : Bool) (P Q R S : Type 0) → (P → R) → (Q → S) →
 MatchBool-map true P Q R S f g h = f h
 MatchBool-map false P Q R S f g h = g h
 
-MatchBool-join : (test : Bool) (P Q R : Type 0) → (P → R) → (Q → R) → MatchBool test P Q → R
+pub MatchBool-join : (test : Bool) (P Q R : Type 0) → (P → R) → (Q → R) → MatchBool test P Q → R
 MatchBool-join true P Q R f g h = f h
 MatchBool-join false P Q R f g h = g h
 
@@ -81,7 +80,7 @@ plain_words (first ∷ rest) result gives =
 plain_line : (line : List ℕ) (result : Result Line Cause) → PlainLineGives line result → IsPlain result
 unfolding IsPlain
 plain_line line result gives =
-    MatchBool-join (nat_lt LINE_MAX (length line)) _ _ (IsPlain result) (plain_by (Err TooLong) result tt)
+    MatchBool-join (nat_lt line_limit (length line)) _ _ (IsPlain result) (plain_by (Err TooLong) result tt)
     (MatchBool-join (is_printable line) _ _ (IsPlain result) (plain_words (words_of line) result) (plain_by (Err Byte) result tt)) gives
 
 -- the line is accepted, or doesn't begin as a header line does
@@ -109,7 +108,7 @@ words_same arrivals (first ∷ rest) result same gives =
 
 line_same : (arrivals : List (ℕ × Request)) (line : List ℕ) (result : Result Line Cause) → IsSame (words_of line) result → PlainLineGives line result → LineGives (reading_of arrivals) line result
 line_same arrivals line result same gives =
-    MatchBool-map (nat_lt LINE_MAX (length line)) _ _ _ _ (λ long. long)
+    MatchBool-map (nat_lt line_limit (length line)) _ _ _ _ (λ long. long)
     (MatchBool-map (is_printable line) _ _ _ _ (words_same arrivals (words_of line) result same) (λ byte. byte)) gives
 
 -- the lines from this number on are accepted, or the faulty one doesn't begin as a header line does
@@ -148,7 +147,7 @@ lines_same number arrivals (line ∷ rest) result same (Err cause, gives, more) 
 reads_same : (bytes : List ℕ) (result : Result (List (ℕ × Request)) ScriptFault) → AreSame 1 (lines_of bytes) result → PlainReads bytes result → Reads bytes (told result)
 unfolding told
 reads_same bytes result same reads =
-    MatchBool-map (nat_lt SCRIPT_MAX (length bytes)) _ _ _ _ (λ long. ap told long) (lines_same 1 [] (lines_of bytes) result same) reads
+    MatchBool-map (nat_lt script_limit (length bytes)) _ _ _ _ (λ long. ap told long) (lines_same 1 [] (lines_of bytes) result same) reads
 
 -- header lines change nothing else
 pub headers_only : HeadersChangeNothingElse

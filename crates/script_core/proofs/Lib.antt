@@ -10,3 +10,5 @@ pub mod HeaderLemmas
 pub mod ProcessLemmas
 pub mod ReportLemmas
 pub mod OutputLaws
+pub mod ConstantLaws
+pub mod FaultLemmas

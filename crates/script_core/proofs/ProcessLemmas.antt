@@ -11,8 +11,7 @@ use Rattle.script_core.specs.declared.script.Cause.TheVariants.{Byte, Process, T
 use Rattle.script_core.specs.declared.script.ScriptFault.{ScriptFault}
 use Rattle.script_core.specs.ScriptText.{Meaning, IsProcess}
 use Rattle.script_core.specs.Reading.{Reading, start, limits_of, meaning_of, reading_after, is_comment, is_empty, says_policy, says_limits, ArrivalGives, PolicyGives, LimitsGive, ProcessGives, WordsGive, LineGives, LinesGive, Reads}
-use Rattle.script_core.specs.Words.{words_of, is_printable, lines_of, without_empty_end}
-use Rattle.script_core.specs.declared.TheConstants.{LINE_MAX, SCRIPT_MAX}
+use Rattle.script_core.specs.Words.{words_of, is_printable, lines_of, without_empty_end, line_limit, script_limit}
 use Rattle.std.specs.List.{slice_split}
 use Rattle.std.proofs.lemmas.Bool.{ltb-false}
 use Rattle.std.proofs.lemmas.List.Sums.{count_by-le-length}
@@ -84,7 +83,7 @@ keeps_words reading (first ∷ rest) result gives =
 keeps_line : (reading : Reading) (line : List ℕ) (result : Result Line Cause) → LineGives reading line result → Keeps reading result
 unfolding Keeps
 keeps_line reading line result gives =
-    join_by (nat_lt LINE_MAX (length line)) _ _ (Keeps reading result) (λ e. keeps_by reading (Err TooLong) result tt)
+    join_by (nat_lt line_limit (length line)) _ _ (Keeps reading result) (λ e. keeps_by reading (Err TooLong) result tt)
     (join_by (is_printable line) _ _ (Keeps reading result) (λ e. keeps_words reading (words_of line) result) (keeps_by reading (Err Byte) result tt)) gives
 
 -- no arrivals are of processes under any limits
@@ -117,7 +116,7 @@ of_lines number reading (line ∷ rest) meaning before (Err cause, gives, refuse
 -- the arrivals of an accepted script are of its processes
 pub processes_read : (bytes : List ℕ) (meaning : Meaning) → Reads bytes (Ok meaning) → All (λ arrival. IsProcess meaning.rules.limits arrival.0) meaning.arrivals
 processes_read bytes meaning reads =
-    join_by (nat_lt SCRIPT_MAX (length bytes)) _ _ (All (λ arrival. IsProcess meaning.rules.limits arrival.0) meaning.arrivals)
+    join_by (nat_lt script_limit (length bytes)) _ _ (All (λ arrival. IsProcess meaning.rules.limits arrival.0) meaning.arrivals)
     (λ e long. absurd (cc)) (of_lines 1 start (lines_of bytes) meaning (All-nil (λ arrival. IsProcess Small arrival.0))) reads
 
 -- a line is one arrival at most
@@ -143,12 +142,12 @@ fewer_lines ((byte ∷ bytes) ∷ []) = omega arith
 fewer_lines ([] ∷ next ∷ pieces) = let rest = fewer_lines (next ∷ pieces) in omega (arith, rest)
 fewer_lines ((byte ∷ bytes) ∷ next ∷ pieces) = let rest = fewer_lines (next ∷ pieces) in omega (arith, rest)
 
-few_by_length : (bytes : List ℕ) (meaning : Meaning) (long : Bool) → nat_lt SCRIPT_MAX (length bytes) ≡ long
+few_by_length : (bytes : List ℕ) (meaning : Meaning) (long : Bool) → nat_lt script_limit (length bytes) ≡ long
     → MatchBool long (accepted meaning ≡ Err (record { line = 0; cause = TooLong })) (LinesGive 1 start (lines_of bytes) (Ok meaning))
-    → length meaning.arrivals ≤ SCRIPT_MAX + 1
+    → length meaning.arrivals ≤ script_limit + 1
 few_by_length bytes meaning true is refused = absurd (cc)
 few_by_length bytes meaning false is given =
-    let short : length bytes ≤ SCRIPT_MAX = ltb-false SCRIPT_MAX (length bytes) is in
+    let short : length bytes ≤ script_limit = ltb-false script_limit (length bytes) is in
     let lines = few_in 1 start (lines_of bytes) meaning given in
     let pieces = fewer_lines (slice_split (λ byte. byte == 10) bytes) in
     let feeds = count_by-le-length (λ byte. byte == 10) bytes in
@@ -156,5 +155,5 @@ few_by_length bytes meaning false is given =
     omega (arith, short, lines, pieces, feeds, split)
 
 -- the arrivals of an accepted script are no more than its lines, and those no more than its bytes and one
-pub few_read : (bytes : List ℕ) (meaning : Meaning) → Reads bytes (Ok meaning) → length meaning.arrivals ≤ SCRIPT_MAX + 1
-few_read bytes meaning reads = few_by_length bytes meaning (nat_lt SCRIPT_MAX (length bytes)) refl reads
+pub few_read : (bytes : List ℕ) (meaning : Meaning) → Reads bytes (Ok meaning) → length meaning.arrivals ≤ script_limit + 1
+few_read bytes meaning reads = few_by_length bytes meaning (nat_lt script_limit (length bytes)) refl reads

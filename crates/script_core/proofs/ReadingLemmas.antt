@@ -21,13 +21,12 @@ use Rattle.range_core.specs.declared.Kind.{Kind}
 use Rattle.range_core.specs.declared.Kind.TheVariants.{Read, Write, Unlock}
 use Rattle.range_core.specs.declared.Whence.{Whence}
 use Rattle.range_core.specs.declared.Whence.TheVariants.{Set, Cur, End}
-use Rattle.script_core.specs.declared.TheConstants.{LINE_MAX, SCRIPT_MAX}
 use Rattle.script_core.specs.declared.line.Line.{Line}
 use Rattle.script_core.specs.declared.line.Line.TheVariants as lines
 use Rattle.script_core.specs.declared.script.Cause.{Cause}
 use Rattle.script_core.specs.declared.script.Cause.TheVariants.{Byte, Word, Count, TooLong}
 use Rattle.script_core.specs.declared.script.ScriptFault.{ScriptFault}
-use Rattle.script_core.specs.Words.{lines_of, words_of, is_printable}
+use Rattle.script_core.specs.Words.{lines_of, words_of, is_printable, line_limit, script_limit}
 use Rattle.script_core.specs.HeaderText.{policy_word, limits_word}
 use Rattle.script_core.specs.RequestText.{access_word, kind_word, whence_word, op_word, nb_words, lock_command_word, pid_words, lock_words, request_words}
 use Rattle.script_core.specs.Arguments.{Argument, FileNumber, DescriptorNumber, AnyNumber, ProcessNumber, AccessWord, OpWord, NbWord, PolicyWord, LimitsWord, Spells, IsFirstBad, AreRefused, lock_arguments, open_command, descriptor_command, number_command, dup_to_command, lock_command, flock_command, process_command, exit_command, Command, command_named, has_count}
@@ -461,7 +460,7 @@ WordsGive-unique reading (word ∷ rest) a b first second =
 
 LineGives-unique : (reading : Reading) (line : List ℕ) (a b : Result Line Cause) → LineGives reading line a → LineGives reading line b → a ≡ b
 LineGives-unique reading line a b first second =
-    MatchBool-unique (λ result. result ≡ Err TooLong) (λ result. MatchBool (is_printable line) (WordsGive reading (words_of line) result) (result ≡ Err Byte)) (nat_lt LINE_MAX (length line))
+    MatchBool-unique (λ result. result ≡ Err TooLong) (λ result. MatchBool (is_printable line) (WordsGive reading (words_of line) result) (result ≡ Err Byte)) (nat_lt line_limit (length line))
     (same_value (Err TooLong))
     (MatchBool-unique (WordsGive reading (words_of line)) (λ result. result ≡ Err Byte) (is_printable line) (WordsGive-unique reading (words_of line)) (same_value (Err Byte)))
     a b first second
@@ -485,5 +484,5 @@ LinesGive-unique number reading (line ∷ rest) a b first second =
 -- two readings of the same bytes are equal
 pub one_reading : (bytes : List ℕ) → HasOneReading bytes
 one_reading bytes = λ a b first second.
-    MatchBool-unique (λ result. result ≡ Err (record { line = 0; cause = TooLong })) (LinesGive 1 start (lines_of bytes)) (nat_lt SCRIPT_MAX (length bytes))
+    MatchBool-unique (λ result. result ≡ Err (record { line = 0; cause = TooLong })) (LinesGive 1 start (lines_of bytes)) (nat_lt script_limit (length bytes))
     (same_value (Err (record { line = 0; cause = TooLong }))) (LinesGive-unique 1 start (lines_of bytes)) a b first second

@@ -23,8 +23,7 @@ use Rattle.range_core.specs.declared.Kind.{Kind}
 use Rattle.range_core.specs.declared.Kind.TheVariants.{Read, Write, Unlock}
 use Rattle.range_core.specs.declared.Whence.{Whence}
 use Rattle.range_core.specs.declared.Whence.TheVariants.{Set, Cur, End}
-use Rattle.script_core.specs.declared.TheConstants.{LINE_MAX}
-use Rattle.script_core.specs.Words.{words_of, is_printable}
+use Rattle.script_core.specs.Words.{words_of, is_printable, line_limit}
 use Rattle.script_core.specs.RequestText.{access_word, kind_word, whence_word, op_word, nb_words, lock_command_word, pid_words, lock_words, request_words, request_text}
 use Rattle.script_core.specs.ScriptText.{IsProcess, IsDescriptor, IsWritable, IsRequest}
 use Rattle.script_core.specs.Arguments.{Command, lock_command, flock_command, command_named, has_count}
@@ -341,10 +340,10 @@ reads_words reading p words request process gives =
     let none = IsNoHeaderWord-decimal p small in
     rw (is_comment-digit (decimal p) plain.at_least, none.0, none.1) (inl (p, process, refl, Ok request, gives, refl))
 
-reads_line : (reading : Reading) (line : List ℕ) (words : List (List ℕ)) (said : Line) → length line ≤ LINE_MAX → is_printable line ≡ true → words_of line ≡ words
+reads_line : (reading : Reading) (line : List ℕ) (words : List (List ℕ)) (said : Line) → length line ≤ line_limit → is_printable line ≡ true → words_of line ≡ words
     → WordsGive reading words (Ok said) → LineGives reading line (Ok said)
 reads_line reading line words said short printable are gives =
-    rw (le-ltb LINE_MAX (length line) short, printable, are) gives
+    rw (le-ltb line_limit (length line) short, printable, are) gives
 
 join_cons : (p : ℕ) (request : Request) → decimal p ++ codes " " ++ request_text request ≡ join_with_byte 32 (decimal p ∷ request_words request)
 join_cons p (OpenFile file access) = append_assoc (decimal p) (codes " ") (request_text (OpenFile file access))
@@ -367,7 +366,7 @@ reads_back p request = λ reading process writable.
     let limits = limits_of reading in
     let words = request_words request in
     let are : AreWords (decimal p ∷ words) = (IsWord-process limits p process, AreWords-request_words limits request writable) in
-    let short : length (join_with_byte 32 (decimal p ∷ words)) ≤ LINE_MAX =
+    let short : length (join_with_byte 32 (decimal p ∷ words)) ≤ line_limit =
     omega (arith, length-join (decimal p) words, length-process limits p process, more_length-request_words limits request writable) in
     rw (join_cons p request)
     (reads_line reading (join_with_byte 32 (decimal p ∷ words)) (decimal p ∷ words) (lines.Arrival p request) short (is_printable-join (decimal p) words are)

@@ -10,22 +10,30 @@ use Rattle.script_core.specs.declared.script.Cause.{Cause}
 use Rattle.script_core.specs.declared.script.Cause.TheVariants.{TooLong}
 use Rattle.script_core.specs.declared.script.ScriptFault.{ScriptFault}
 use Rattle.script_core.specs.ScriptText.{Meaning}
-use Rattle.script_core.specs.Words.{without_empty_end, lines_of}
-use Rattle.script_core.specs.Reading.{Reading, LineGives, LinesGive, Reads, meaning_of, reading_after, start}
-use Rattle.script_core.specs.declared.TheConstants.{SCRIPT_MAX}
+use Rattle.script_core.specs.Words.{without_empty_end, lines_of, script_limit}
+use Rattle.script_core.specs.Reading.{Reading, LineGives, LinesGive, IsArrival, ComesTo, IsAtHand, Reads, meaning_of, reading_after, start}
 
--- whatever the lines from this one on give, all the lines give
+-- whatever the lines from this one on give, all the lines give, and a line at hand that these come to, they all come to
 pub record IsReadUpTo (lines : List (List ℕ)) (count : ℕ) (reading : Reading) : Type 0 where
   pub goes_on : (result : Result Meaning ScriptFault) → LinesGive (count + 1) reading (drop count lines) result → LinesGive 1 start lines result
+  pub comes : (at_hand : ℕ) → ComesTo (count + 1) reading (drop count lines) at_hand → ComesTo 1 start lines at_hand
 
 pub IsReadUpTo-more : (lines : List (List ℕ)) (count : ℕ) (line : List ℕ) (old new : Reading) (said : Line) → IsReadUpTo lines count old
     → drop count lines ≡ line ∷ drop (count + 1) lines → LineGives old line (Ok said) → new ≡ reading_after old said → IsReadUpTo lines (count + 1) new
 IsReadUpTo-more lines count line old new said before cut gives is =
-    record { goes_on = λ result rest. before.goes_on result (rw cut (Ok said, gives, subst (λ reading. LinesGive (count + 1 + 1) reading (drop (count + 1) lines) result) is rest)) }
+    record {
+      goes_on = λ result rest. before.goes_on result (rw cut (Ok said, gives, subst (λ reading. LinesGive (count + 1 + 1) reading (drop (count + 1) lines) result) is rest));
+      comes = λ at_hand rest. before.comes at_hand (rw cut (said, gives, inr (subst (λ reading. ComesTo (count + 1 + 1) reading (drop (count + 1) lines) at_hand) is rest)));
+    }
 
 pub fault_at : (lines : List (List ℕ)) (count : ℕ) (line : List ℕ) (old : Reading) (cause : Cause) → IsReadUpTo lines count old
     → drop count lines ≡ line ∷ drop (count + 1) lines → LineGives old line (Err cause) → LinesGive 1 start lines (Err (record { line = count + 1; cause = cause }))
 fault_at lines count line old cause before cut gives = before.goes_on (Err (record { line = count + 1; cause = cause })) (rw cut (Err cause, gives, refl))
+
+-- an arrival that can't be taken down stands in the line at hand
+pub memory_at : (lines : List (List ℕ)) (count : ℕ) (line : List ℕ) (old : Reading) (said : Line) → IsReadUpTo lines count old
+    → drop count lines ≡ line ∷ drop (count + 1) lines → LineGives old line (Ok said) → IsArrival said → ComesTo 1 start lines (count + 1)
+memory_at lines count line old said before cut gives arrival = before.comes (count + 1) (rw cut (said, gives, inl (refl, arrival)))
 
 pub read_all : (lines : List (List ℕ)) (count : ℕ) (reading : Reading) → IsReadUpTo lines count reading
     → count ≡ length lines → LinesGive 1 start lines (Ok (meaning_of reading))
@@ -119,19 +127,46 @@ IsFull-slice_split byte (next ∷ bytes) other =
 no_line : (result : Result Meaning ScriptFault) → LinesGive 1 start ([] ∷ []) result → LinesGive 1 start [] result
 no_line result (next, line, rest) = subst (λ next. MatchResult next (λ said. LinesGive 2 (reading_after start said) [] result) (λ cause. result ≡ Err (record { line = 1; cause = cause }))) line rest
 
--- what the pieces give, the lines give
-pub lines_from_pieces : (bytes body : List ℕ) (result : Result Meaning ScriptFault)
+-- the line that is an arrival, where a line says one
+says_arrival : Result Line Cause → Type 0
+says_arrival (Ok said) = IsArrival said
+says_arrival (Err cause) = ⊥
+
+-- an empty line is no arrival
+no_arrival : (at_hand : ℕ) → ComesTo 1 start ([] ∷ []) at_hand → ComesTo 1 start [] at_hand
+unfolding says_arrival
+no_arrival at_hand (said, gives, inl here) = subst says_arrival gives here.1
+no_arrival at_hand (said, gives, inr later) = later
+
+-- what holds of the pieces holds of the lines, if an empty line at the end says nothing of it
+of_lines : (P : List (List ℕ) → Type 0) → (P ([] ∷ []) → P []) → (bytes body : List ℕ)
     → (bytes ≡ body ++ 10 ∷ []) ⊎ ((body ≡ bytes) × ((front : List ℕ) → bytes ≢ front ++ 10 ∷ []))
-    → LinesGive 1 start (slice_split (λ byte. byte == 10) body) result → LinesGive 1 start (lines_of bytes) result
-lines_from_pieces bytes body result (inl fed) given = rw (fed, lines_of-feed body) given
-lines_from_pieces [] body result (inr other) given = no_line result (rw other.0 at given)
-lines_from_pieces (byte ∷ bytes) body result (inr other) given =
+    → P (slice_split (λ byte. byte == 10) body) → P (lines_of bytes)
+of_lines P empty bytes body (inl fed) given = rw (fed, lines_of-feed body) given
+of_lines P empty [] body (inr other) given = empty (rw other.0 at given)
+of_lines P empty (byte ∷ bytes) body (inr other) given =
     let full = IsFull-slice_split byte bytes other.1 in
     rw full.is (rw other.0 at given)
 
-pub reads_from_pieces : (bytes body : List ℕ) (result : Result Meaning ScriptFault) → length bytes ≤ SCRIPT_MAX
+-- the line at hand is one of those that there are
+comes_within : (number : ℕ) (reading : Reading) (lines : List (List ℕ)) (at_hand : ℕ) → ComesTo number reading lines at_hand → at_hand < number + length lines
+comes_within number reading [] at_hand none = absurd none
+comes_within number reading (line ∷ lines) at_hand (said, gives, inl here) = let same = here.0 in omega (arith, same)
+comes_within number reading (line ∷ lines) at_hand (said, gives, inr later) =
+    let rest = comes_within (number + 1) (reading_after reading said) lines at_hand later in omega (arith, rest)
+
+-- the line at hand of the pieces is that of the lines
+pub at_hand_from_pieces : (bytes body : List ℕ) (at_hand : ℕ)
+    → (bytes ≡ body ++ 10 ∷ []) ⊎ ((body ≡ bytes) × ((front : List ℕ) → bytes ≢ front ++ 10 ∷ []))
+    → ComesTo 1 start (slice_split (λ byte. byte == 10) body) at_hand → IsAtHand bytes at_hand
+at_hand_from_pieces bytes body at_hand cut given =
+    let read = of_lines (λ lines. ComesTo 1 start lines at_hand) (no_arrival at_hand) bytes body cut given in
+    let within = comes_within 1 start (lines_of bytes) at_hand read in
+    record { read = read; within = omega (arith, within) }
+
+pub reads_from_pieces : (bytes body : List ℕ) (result : Result Meaning ScriptFault) → length bytes ≤ script_limit
     → (bytes ≡ body ++ 10 ∷ []) ⊎ ((body ≡ bytes) × ((front : List ℕ) → bytes ≢ front ++ 10 ∷ []))
     → LinesGive 1 start (slice_split (λ byte. byte == 10) body) result → Reads bytes result
 reads_from_pieces bytes body result short cut given =
     let long = result ≡ Err (record { line = 0; cause = TooLong }) in
-    subst (λ test. MatchBool test long (LinesGive 1 start (lines_of bytes) result)) (sym (le-ltb SCRIPT_MAX (length bytes) short)) (lines_from_pieces bytes body result cut given)
+    subst (λ test. MatchBool test long (LinesGive 1 start (lines_of bytes) result)) (sym (le-ltb script_limit (length bytes) short)) (of_lines (λ lines. LinesGive 1 start lines result) (no_line result) bytes body cut given)

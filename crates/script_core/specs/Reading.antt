@@ -1,11 +1,10 @@
 -- How a script is read: line by line, up to the first fault (this project's choice).
-use Rattle.std.specs.Prelude.{◌≡◌, ℕ, ◌+◌, ◌==◌, ◌⊎◌, Bool, true, false, ◌&&◌, nat_lt, MatchBool, MatchOption, MatchResult, Option, None, Some, is_none, unwrap_or, Result, Ok, Err, List, [], ◌∷◌, ◌++◌, length, codes, decimal, bytes_eq}
+use Rattle.std.specs.Prelude.{◌≡◌, ℕ, ◌+◌, ◌≤◌, ◌==◌, ◌⊎◌, Bool, true, false, ◌&&◌, nat_lt, MatchBool, MatchOption, MatchResult, Option, None, Some, is_none, unwrap_or, Result, Ok, Err, List, [], ◌∷◌, ◌++◌, length, codes, decimal, bytes_eq}
 use Rattle.fd_table.specs.declared.Limits.{Limits}
 use Rattle.fd_table.specs.declared.Limits.TheVariants.{Small}
 use Rattle.wait_core.specs.declared.Policy.{Policy}
 use Rattle.wait_core.specs.declared.Policy.TheVariants.{Held}
 use Rattle.lock_manager.specs.declared.request.Request.{Request}
-use Rattle.script_core.specs.declared.TheConstants.{LINE_MAX, SCRIPT_MAX}
 use Rattle.script_core.specs.declared.line.Line.{Line}
 use Rattle.script_core.specs.declared.line.Line.TheVariants as lines
 use Rattle.script_core.specs.declared.script.Cause.{Cause}
@@ -13,7 +12,7 @@ use Rattle.script_core.specs.declared.script.Cause.TheVariants.{Byte, Word, Coun
 use Rattle.script_core.specs.declared.script.ScriptFault.{ScriptFault}
 use Rattle.script_core.specs.HeaderText.{policy_word, limits_word}
 use Rattle.script_core.specs.RequestText.{request_text}
-use Rattle.script_core.specs.Words.{lines_of, words_of, is_printable}
+use Rattle.script_core.specs.Words.{lines_of, words_of, is_printable, line_limit, script_limit}
 use Rattle.script_core.specs.Arguments.{ProcessNumber, PolicyWord, LimitsWord, Spells, IsFirstBad, AreRefused, Command, command_named, has_count}
 use Rattle.script_core.specs.ScriptText.{Meaning, IsProcess, IsWritable, IsRequest}
 
@@ -114,7 +113,7 @@ WordsGive reading (first ∷ rest) result =
 -- a line: too long, with a byte that isn't printable, or words
 abbrev pub LineGives : Reading → List ℕ → Result Line Cause → Type 0
 LineGives reading line result =
-    MatchBool (nat_lt LINE_MAX (length line)) (result ≡ Err TooLong)
+    MatchBool (nat_lt line_limit (length line)) (result ≡ Err TooLong)
     (MatchBool (is_printable line) (WordsGive reading (words_of line) result) (result ≡ Err Byte))
 
 -- the lines from this number on: the first fault is told with its line
@@ -125,10 +124,29 @@ LinesGive number reading (line ∷ lines) result =
     × MatchResult next (λ said. LinesGive (number + 1) (reading_after reading said) lines result)
     (λ cause. result ≡ Err (record { line = number; cause = cause }))
 
+-- the line is an arrival
+abbrev pub IsArrival : Line → Type 0
+IsArrival lines.Skipped = ⊥
+IsArrival (lines.Policy policy) = ⊥
+IsArrival (lines.Limits limits) = ⊥
+IsArrival (lines.Arrival p request) = Unit {0}
+
+-- the lines from this number on say something up to the one at hand, and that one is an arrival
+abbrev pub ComesTo : ℕ → Reading → List (List ℕ) → ℕ → Type 0
+ComesTo number reading [] at_hand = ⊥
+ComesTo number reading (line ∷ lines) at_hand =
+    (said : Line) × LineGives reading line (Ok said)
+    × (((at_hand ≡ number) × IsArrival said) ⊎ ComesTo (number + 1) (reading_after reading said) lines at_hand)
+
+-- the line at hand is one of the script's: all before it were read, and it is an arrival, to be taken down
+pub record IsAtHand (bytes : List ℕ) (at_hand : ℕ) : Type 0 where
+  pub read : ComesTo 1 start (lines_of bytes) at_hand
+  pub within : at_hand ≤ length (lines_of bytes)
+
 -- a script: its meaning, or the first fault of its first faulty line
 abbrev pub Reads : List ℕ → Result Meaning ScriptFault → Type 0
 Reads bytes result =
-    MatchBool (nat_lt SCRIPT_MAX (length bytes)) (result ≡ Err (record { line = 0; cause = TooLong }))
+    MatchBool (nat_lt script_limit (length bytes)) (result ≡ Err (record { line = 0; cause = TooLong }))
     (LinesGive 1 start (lines_of bytes) result)
 
 -- the bytes have one reading at most

@@ -9,13 +9,12 @@ use Rattle.lock_manager.specs.State.{State}
 use Rattle.session_core.specs.Event.{Event}
 use Rattle.session_core.specs.Mail.{requests_sent}
 use Rattle.session_core.specs.Draining.{IsDrain}
-use Rattle.script_core.specs.declared.TheConstants.{LINE_MAX, SCRIPT_MAX}
 use Rattle.script_core.specs.declared.line.Line.{Line}
 use Rattle.script_core.specs.declared.line.Line.TheVariants as lines
 use Rattle.script_core.specs.declared.script.Cause.{Cause}
 use Rattle.script_core.specs.declared.script.Cause.TheVariants.{Byte, TooLong}
 use Rattle.script_core.specs.declared.script.ScriptFault.{ScriptFault}
-use Rattle.script_core.specs.Words.{lines_of, words_of, is_printable}
+use Rattle.script_core.specs.Words.{lines_of, words_of, is_printable, line_limit, script_limit}
 use Rattle.script_core.specs.Reading.{Reads, ProcessGives, is_comment}
 use Rattle.script_core.specs.EntryText.{entry_line}
 use Rattle.script_core.specs.ReportText.{IsReport}
@@ -33,7 +32,7 @@ PlainWordsGive (first ∷ rest) result = MatchBool (is_comment first) (result �
 -- a line: too long, with a byte that isn't printable, or words
 abbrev pub PlainLineGives : List ℕ → Result Line Cause → Type 0
 PlainLineGives line result =
-    MatchBool (nat_lt LINE_MAX (length line)) (result ≡ Err TooLong)
+    MatchBool (nat_lt line_limit (length line)) (result ≡ Err TooLong)
     (MatchBool (is_printable line) (PlainWordsGive (words_of line) result) (result ≡ Err Byte))
 
 -- the arrivals after a line that says this
@@ -54,7 +53,7 @@ PlainLinesGive number arrivals (line ∷ lines) result =
 -- a script of the language without header lines: its arrivals, or the first fault of its first faulty line
 abbrev pub PlainReads : List ℕ → Result (List (ℕ × Request)) ScriptFault → Type 0
 PlainReads bytes result =
-    MatchBool (nat_lt SCRIPT_MAX (length bytes)) (result ≡ Err (record { line = 0; cause = TooLong }))
+    MatchBool (nat_lt script_limit (length bytes)) (result ≡ Err (record { line = 0; cause = TooLong }))
     (PlainLinesGive 1 [] (lines_of bytes) result)
 
 -- whether the first of the words is one of those that header lines begin with

@@ -3,6 +3,14 @@ use Rattle.std.specs.Prelude.{ℕ, ◌==◌, Bool, false, ◌&&◌, if◌then◌
 use Rattle.std.specs.Borrow.{Bor}
 use Rattle.std.specs.List.{list_all, slice_split}
 
+-- how many bytes a line may have, without its line feed
+abbrev pub line_limit : ℕ
+line_limit = 120
+
+-- how many bytes a script may have
+abbrev pub script_limit : ℕ
+script_limit = 1048576
+
 -- the pieces without the last one, where that is empty
 abbrev pub without_empty_end : List (List ℕ) → List (List ℕ)
 without_empty_end [] = []

@@ -1,4 +1,4 @@
-ghost use Rattle.std.specs.Prelude.{◌≡◌, ◌≢◌, OnOk, IfErr, Err};
+ghost use Rattle.std.specs.Prelude.{◌≡◌, ◌≢◌, OnOk, IfErr, Ok, Err};
 ghost use Rattle.script_core.specs.Words.{texts, words_of};
 
 use crate::line::{Line, read_arrival, read_limits_line, read_policy_line};
@@ -28,7 +28,7 @@ impl Model for Reader {
 
 impl Reader {
     ghost use Rattle.script_core.specs.declared.line.Line.{Line};
-    ghost use Rattle.script_core.specs.Reading.{start, limits_of, meaning_of, reading_after, says_policy, says_limits, WordsGive, LineGives};
+    ghost use Rattle.script_core.specs.Reading.{start, limits_of, meaning_of, reading_after, says_policy, says_limits, WordsGive, LineGives, IsArrival};
 
     /// Nothing was read.
     pub fn new(alloc: Global) -> Reader
@@ -45,6 +45,7 @@ impl Reader {
     pub fn read_line(&mut self, line: &[u8]) -> Result<(), Cause>
         ensures read { OnOk result ((said : Line) × LineGives self.old line.now (Ok said) × (self.new ≡ reading_after self.old said)) }
         ensures refused { IfErr result (λ cause. cause ≢ Cause.Memory → LineGives self.old line.now (Err cause)) }
+        ensures memory { IfErr result (λ cause. cause ≡ Cause.Memory → (said : Line) × LineGives self.old line.now (Ok said) × IsArrival said) }
     {
         let said = self.parse_line(line)?;
         self.apply(said)
@@ -66,7 +67,7 @@ impl Reader {
     /// Takes down what a line says.
     fn apply(&mut self, said: Line) -> Result<(), Cause>
         ensures read { OnOk result (self.new ≡ reading_after self.old said) }
-        ensures refused { IfErr result (λ cause. cause ≡ Cause.Memory) }
+        ensures refused { IfErr result (λ cause. (cause ≡ Cause.Memory) × IsArrival said) }
     {
         match said {
             Line::Skipped => Ok(()),
@@ -87,7 +88,8 @@ impl Reader {
 
     /// What the line says.
     fn parse_line(&self, line: &[u8]) -> Result<Line, Cause>
-        ensures { LineGives self.now line.now result }
+        ensures gives { LineGives self.now line.now result }
+        ensures told { result ≢ Err Cause.Memory }
     {
         if line.len() > LINE_MAX {
             return Err(Cause::TooLong);

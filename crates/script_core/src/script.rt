@@ -1,7 +1,7 @@
 ghost use Rattle.std.specs.Prelude.{◌≡◌, ◌≢◌, ◌≤◌, ◌+◌, ◌⊎◌, ◌==◌, ℕ, List, [], ◌∷◌, ◌++◌, All, Ok, Err, IfOk, IfErr, length};
 ghost use Rattle.script_core.specs.declared.TheConstants.{SCRIPT_MAX};
 ghost use Rattle.std.specs.List.{slice_split};
-ghost use Rattle.script_core.specs.Reading.{Reads, HasOneReading, LinesGive, start};
+ghost use Rattle.script_core.specs.Reading.{Reads, HasOneReading, LinesGive, IsAtHand, ComesTo, start};
 ghost use Rattle.script_core.specs.ScriptText.{IsProcess};
 
 use crate::SCRIPT_MAX;
@@ -68,11 +68,14 @@ impl Model for Script {
 ///
 /// Lines end with a line feed, and bytes after the last one are a line too. A script of more than [`SCRIPT_MAX`] bytes is
 /// too long as a whole, whatever its lines are; a line may have [`crate::LINE_MAX`] bytes. [`Cause::Memory`] may come in
-/// place of any other answer, and only where a growth was refused.
+/// place of any other answer, and only where a growth was refused; its line is the one at hand, an arrival.
 #[tactic(auto, using(crate::proofs::ReadingLemmas::one_reading))]
 pub fn parse(alloc: Global, bytes: &[u8]) -> Result<Script, ScriptFault>
     ensures accepted { IfOk result (λ script. Reads bytes.now (Ok script)) }
     ensures refused { IfErr result (λ fault. fault.cause ≢ Cause.Memory → Reads bytes.now (Err fault)) }
+
+    // Want of memory is told of the line at hand.
+    ensures memory { IfErr result (λ fault. fault.cause ≡ Cause.Memory → IsAtHand bytes.now fault.line) }
 
     // Each arrival is of a process that the script's limits have.
     ensures processes { IfOk result (λ script. All (λ arrival. IsProcess script.rules.limits arrival.0) script.arrivals) }
@@ -95,7 +98,9 @@ pub fn parse(alloc: Global, bytes: &[u8]) -> Result<Script, ScriptFault>
 /// Reads the lines that stand before, between and behind the line feeds.
 fn read_lines(alloc: Global, bytes: &[u8]) -> Result<Script, ScriptFault>
     ensures accepted { IfOk result (λ script. LinesGive 1 start (slice_split (λ byte. byte == 10) bytes.now) (Ok script)) }
-    ensures refused { IfErr result (λ fault. fault.cause ≢ Cause.Memory → LinesGive 1 start (slice_split (λ byte. byte == 10) bytes.now) (Err fault)) }
+    ensures fault { IfErr result (λ fault.
+        (fault.cause ≢ Cause.Memory → LinesGive 1 start (slice_split (λ byte. byte == 10) bytes.now) (Err fault))
+        × (fault.cause ≡ Cause.Memory → ComesTo 1 start (slice_split (λ byte. byte == 10) bytes.now) fault.line)) }
 {
     let mut reader = Reader::new(alloc);
     for (index, line) in bytes.split(|byte| *byte == b'\n').enumerate() {

@@ -10,14 +10,13 @@ use Rattle.lock_manager.specs.declared.request.Request.{Request}
 use Rattle.lock_manager.specs.declared.manager.Manager.{Manager}
 use Rattle.lock_manager.specs.State.{State, opening_state}
 use Rattle.lock_manager.specs.ManagerView.{StandsFor, SameManager, IsSafeManager, rules_of, processes_of}
-use Rattle.session_core.specs.declared.TheConstants.{N_MAX}
 use Rattle.session_core.specs.declared.mailbox.Mailbox.{Mailbox}
 use Rattle.session_core.specs.Event.{Event}
 use Rattle.session_core.specs.Mailboxes.{mailbox_of, mail_waiting, mail_sent, mail_taken, waiting_in, taken_in, IsMailKept, IsEmptyMailbox}
 use Rattle.session_core.specs.Runs.{IsStep, Leads, IsRun, AreNumbered, events_of}
 use Rattle.session_core.specs.Mail.{IsPrefixOf, requests_taken}
 use Rattle.session_core.specs.Draining.{IsReplayed, next_untaken}
-use Rattle.session_core.specs.Headline.{AreWithinLimits, Holds}
+use Rattle.session_core.specs.Headline.{AreWithinLimits, Holds, request_limit}
 use Rattle.session_core.proofs.HeadlineLaws.{Holds-from}
 use Rattle.session_core.proofs.MailLemmas.{StandsAt, mailbox_of-there, mail_waiting-set, mail_taken-set, length-mail_sent, next_untaken-waits}
 
@@ -173,13 +172,13 @@ Holds-same old new sent journal journal' some same_journal same safe h =
 
 -- no process has sent more than it may
 pub mail_sent-few : (processes : ℕ) (mailboxes : List Mailbox) (journal : List Event) → IsMailKept processes mailboxes journal → (p : ℕ)
-    → length (mail_sent mailboxes journal p) ≤ N_MAX
+    → length (mail_sent mailboxes journal p) ≤ request_limit
 mail_sent-few processes mailboxes journal mail p =
     let both = length-mail_sent processes mailboxes journal mail p in
     let limit = few (mailbox_of mailboxes p) in
     omega arith
   where
-    few : (mailbox : Option Mailbox) → taken_in mailbox + length (waiting_in mailbox) ≤ N_MAX
+    few : (mailbox : Option Mailbox) → taken_in mailbox + length (waiting_in mailbox) ≤ request_limit
     few None = omega arith
     few (Some mailbox) = mailbox.limited
 

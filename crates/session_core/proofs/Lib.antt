@@ -23,3 +23,4 @@ pub mod WaitMoves
 pub mod TurnLemmas
 pub mod TurnLaws
 pub mod DoorLaws
+pub mod ConstantLaws

@@ -17,8 +17,7 @@ use Rattle.session_core.specs.Draining.{next_untaken, HasNoMailBelow, IsDrained}
 use Rattle.session_core.specs.Mailboxes.{mailbox_of, waiting_in, taken_in, mail_waiting, mail_sent, mail_taken, HasMail, IsInside, IsMailInside, IsMailKept}
 use Rattle.session_core.specs.Event.{Event}
 use Rattle.session_core.specs.Mail.{requests_taken}
-use Rattle.session_core.specs.Headline.{Holds}
-use Rattle.session_core.specs.declared.TheConstants.{N_MAX}
+use Rattle.session_core.specs.Headline.{Holds, request_limit}
 
 -- the place that is written has the new value
 pub slice_get-set_same : {X : Type 0} (xs : List X) (i : ℕ) (x : X) → i < length xs → slice_get (set xs i x) i ≡ Some x
@@ -122,7 +121,7 @@ mail_sent-kept mailboxes journal place p old new at same q =
 
 -- what holds of a session holds where other mail waits, if not too much was sent then
 pub Holds-sent : (manager : Manager) (mailboxes mailboxes' : List Mailbox) (journal : List Event)
-    → ((q : ℕ) → length (mail_sent mailboxes' journal q) ≤ N_MAX) → Holds manager (mail_sent mailboxes journal) journal
+    → ((q : ℕ) → length (mail_sent mailboxes' journal q) ≤ request_limit) → Holds manager (mail_sent mailboxes journal) journal
     → Holds manager (mail_sent mailboxes' journal) journal
 Holds-sent manager mailboxes mailboxes' journal few holds =
     record {

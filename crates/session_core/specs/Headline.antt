@@ -11,7 +11,6 @@ use Rattle.lock_manager.specs.declared.manager.Manager.{Manager}
 use Rattle.lock_manager.specs.ManagerView.{IsSafeManager, rules_of, processes_of, state_at}
 use Rattle.lock_manager.specs.declared.request.Request.{Request}
 use Rattle.lock_manager.specs.declared.request.Request.TheVariants.{Exit, Kill}
-use Rattle.session_core.specs.declared.TheConstants.{N_MAX}
 use Rattle.session_core.specs.Event.{Event}
 use Rattle.session_core.specs.Runs.{events_of}
 use Rattle.session_core.specs.Mail.{IsPrefixOf, requests_taken, answers_to, reply_to}
@@ -75,11 +74,15 @@ abbrev pub AreToldInRange : ℕ → List Event → Type 0
 AreToldInRange processes events =
     All (λ event. All (λ note. (1 ≤ told_process note) × (told_process note ≤ processes)) event.notes) events
 
+-- how many requests one process may send (this project's choice)
+abbrev pub request_limit : ℕ
+request_limit = 1099511627776
+
 -- there are 1 to so many processes as the limits allow, and none has sent more requests than it may (this project's choice)
 pub record AreWithinLimits (manager : Manager) (sent : ℕ → List Request) : Type 0 where
   pub some : 1 ≤ processes_of manager
   pub few : processes_of manager ≤ process_limit (rules_of manager).limits
-  pub requests : (p : ℕ) → length (sent p) ≤ N_MAX
+  pub requests : (p : ℕ) → length (sent p) ≤ request_limit
 
 -- of each process a prefix of what it sent was taken, each once and in order; each request is answered once at most, in turn;
 -- there is nothing of a process that was never alive, and nothing after the end of one; no owners conflict, each wait is blocked
