@@ -16,6 +16,57 @@ fn bytes(first: u64, last: u64) -> Span
     Span { first, last }
 }
 
+/// These are the list's runs.
+fn assert_runs(rt: &impl Abort, list: &RangeList, wanted: &[(Mode, Span)]) {
+    assert_eq!(rt; list.runs(), wanted);
+}
+
+/// The list has so many runs.
+fn assert_run_count(rt: &impl Abort, list: &RangeList, wanted: usize) {
+    assert_eq!(rt; list.runs().len(), wanted);
+}
+
+/// The run at the byte is this one.
+fn assert_run_at(rt: &impl Abort, list: &RangeList, byte: u64, wanted: Option<(Mode, Span)>) {
+    assert_eq!(rt; list.run_at(byte), wanted, "the run at {byte}");
+}
+
+/// The mode of the byte is this one.
+fn assert_mode_at(rt: &impl Abort, list: &RangeList, byte: u64, wanted: Option<Mode>) {
+    assert_eq!(rt; list.mode_at(byte), wanted, "the mode at {byte}");
+}
+
+/// The first byte of the span that conflicts is this one.
+fn assert_first_hit(
+    rt: &impl Abort,
+    list: &RangeList,
+    (span, against): (Span, Mode),
+    wanted: Option<u64>,
+) {
+    assert!(rt; span.first <= span.last && span.last <= OFFMAX);
+    assert_eq!(rt;
+        list.first_hit(span, against),
+        wanted,
+        "the first hit in {span:?}"
+    );
+}
+
+/// The list has so much room.
+fn assert_room(rt: &impl Abort, list: &RangeList, wanted: usize) {
+    assert_eq!(rt; list.room(), wanted);
+}
+
+/// [`RangeList::set`] of bytes that a file has.
+fn set(
+    rt: &impl Abort,
+    list: &mut RangeList,
+    span: Span,
+    mode: Option<Mode>,
+) -> Result<(), Memory> {
+    assert!(rt; span.first <= span.last && span.last <= OFFMAX);
+    list.set(span, mode)
+}
+
 /// What a lock description names, by the rules of `struct flock`.
 #[test]
 fn names_ranges(rt: HostRuntime) {
@@ -41,9 +92,9 @@ fn names_ranges(rt: HostRuntime) {
 #[test]
 fn converts_and_splits(rt: HostRuntime) -> Result<(), Fail> {
     let mut list = RangeList::new(rt.alloc());
-    list.set(bytes(0, 99), Some(Mode::Write))?;
-    list.set(bytes(40, 59), Some(Mode::Read))?;
-    list.set(bytes(70, 79), None)?;
+    set(&rt, &mut list, bytes(0, 99), Some(Mode::Write))?;
+    set(&rt, &mut list, bytes(40, 59), Some(Mode::Read))?;
+    set(&rt, &mut list, bytes(70, 79), None)?;
     for (byte, wanted) in [
         (0, Some((Mode::Write, bytes(0, 39)))),
         (40, Some((Mode::Read, bytes(40, 59)))),
@@ -52,16 +103,12 @@ fn converts_and_splits(rt: HostRuntime) -> Result<(), Fail> {
         (99, Some((Mode::Write, bytes(80, 99)))),
         (100, None),
     ] {
-        assert_eq!(rt; list.run_at(byte), wanted, "the run at {byte}");
-        assert_eq!(rt;
-            list.mode_at(byte),
-            wanted.map(|run| run.0),
-            "the mode at {byte}"
-        );
+        assert_run_at(&rt, &list, byte, wanted);
+        assert_mode_at(&rt, &list, byte, wanted.map(|run| run.0));
     }
-    assert_eq!(rt; list.first_hit(bytes(40, 65), Mode::Read), Some(60));
-    assert_eq!(rt; list.first_hit(bytes(40, 65), Mode::Write), Some(40));
-    assert_eq!(rt; list.first_hit(bytes(70, 79), Mode::Write), None);
+    assert_first_hit(&rt, &list, (bytes(40, 65), Mode::Read), Some(60));
+    assert_first_hit(&rt, &list, (bytes(40, 65), Mode::Write), Some(40));
+    assert_first_hit(&rt, &list, (bytes(70, 79), Mode::Write), None);
     Ok(())
 }
 
@@ -69,9 +116,9 @@ fn converts_and_splits(rt: HostRuntime) -> Result<(), Fail> {
 #[test]
 fn joins_what_touches(rt: HostRuntime) -> Result<(), Fail> {
     let mut list = RangeList::new(rt.alloc());
-    list.set(bytes(0, 9), Some(Mode::Write))?;
-    list.set(bytes(10, OFFMAX), Some(Mode::Write))?;
-    assert_eq!(rt; list.run_at(5), Some((Mode::Write, bytes(0, OFFMAX))));
+    set(&rt, &mut list, bytes(0, 9), Some(Mode::Write))?;
+    set(&rt, &mut list, bytes(10, OFFMAX), Some(Mode::Write))?;
+    assert_run_at(&rt, &list, 5, Some((Mode::Write, bytes(0, OFFMAX))));
     Ok(())
 }
 
@@ -80,15 +127,15 @@ fn joins_what_touches(rt: HostRuntime) -> Result<(), Fail> {
 fn holds_room(rt: HostRuntime) -> Result<(), Fail> {
     let mut list = RangeList::new(rt.alloc());
     list.reserve(2)?;
-    list.set(bytes(5, 6), Some(Mode::Read))?;
+    set(&rt, &mut list, bytes(5, 6), Some(Mode::Read))?;
     let room = list.room();
     assert!(rt; room >= 2);
     assert_eq!(rt; list.reserve(usize::MAX), Err(Memory));
-    assert_eq!(rt; list.room(), room);
-    assert_eq!(rt; list.run_at(5), Some((Mode::Read, bytes(5, 6))));
+    assert!(rt; list.room() == room);
+    assert_run_at(&rt, &list, 5, Some((Mode::Read, bytes(5, 6))));
     list.set_reserved(bytes(6, 6), None);
     assert!(rt; list.room() >= room - 1);
-    assert_eq!(rt; list.run_at(5), Some((Mode::Read, bytes(5, 5))));
+    assert_run_at(&rt, &list, 5, Some((Mode::Read, bytes(5, 5))));
     Ok(())
 }
 
@@ -98,10 +145,15 @@ fn many_sets_leave_the_room(rt: HostRuntime) -> Result<(), Fail> {
     let mut list = RangeList::new(rt.alloc());
     list.reserve(2)?;
     for index in 0..1000 {
-        list.set(bytes(2 * index, 2 * index), Some(Mode::Write))?;
+        set(
+            &rt,
+            &mut list,
+            bytes(2 * index, 2 * index),
+            Some(Mode::Write),
+        )?;
     }
-    assert_eq!(rt; list.room(), 2);
-    assert_eq!(rt; list.run_at(1998), Some((Mode::Write, bytes(1998, 1998))));
+    assert_room(&rt, &list, 2);
+    assert_run_at(&rt, &list, 1998, Some((Mode::Write, bytes(1998, 1998))));
     Ok(())
 }
 
@@ -109,19 +161,19 @@ fn many_sets_leave_the_room(rt: HostRuntime) -> Result<(), Fail> {
 #[test]
 fn lists_the_runs(rt: HostRuntime) -> Result<(), Fail> {
     let mut list = RangeList::new(rt.alloc());
-    assert_eq!(rt; list.runs(), [].as_slice());
-    list.set(bytes(20, 29), Some(Mode::Read))?;
-    list.set(bytes(0, 9), Some(Mode::Read))?;
-    list.set(bytes(30, OFFMAX), Some(Mode::Write))?;
+    assert_runs(&rt, &list, &[]);
+    set(&rt, &mut list, bytes(20, 29), Some(Mode::Read))?;
+    set(&rt, &mut list, bytes(0, 9), Some(Mode::Read))?;
+    set(&rt, &mut list, bytes(30, OFFMAX), Some(Mode::Write))?;
     let apart = [
         (Mode::Read, bytes(0, 9)),
         (Mode::Read, bytes(20, 29)),
         (Mode::Write, bytes(30, OFFMAX)),
     ];
-    assert_eq!(rt; list.runs(), apart.as_slice());
-    list.set(bytes(10, 19), Some(Mode::Read))?;
+    assert_runs(&rt, &list, &apart);
+    set(&rt, &mut list, bytes(10, 19), Some(Mode::Read))?;
     let joined = [(Mode::Read, bytes(0, 29)), (Mode::Write, bytes(30, OFFMAX))];
-    assert_eq!(rt; list.runs(), joined.as_slice());
+    assert_runs(&rt, &list, &joined);
     Ok(())
 }
 
@@ -130,25 +182,40 @@ fn lists_the_runs(rt: HostRuntime) -> Result<(), Fail> {
 fn joins_and_drops_thousands(rt: HostRuntime) -> Result<(), Fail> {
     let mut list = RangeList::new(rt.alloc());
     for index in 0..5000 {
-        list.set(bytes(10 * index, 10 * index + 4), Some(Mode::Read))?;
+        set(
+            &rt,
+            &mut list,
+            bytes(10 * index, 10 * index + 4),
+            Some(Mode::Read),
+        )?;
     }
-    assert_eq!(rt; list.runs().len(), 5000);
-    list.set(bytes(7, 49_986), None)?;
+    assert_run_count(&rt, &list, 5000);
+    set(&rt, &mut list, bytes(7, 49_986), None)?;
     let sides = [
         (Mode::Read, bytes(0, 4)),
         (Mode::Read, bytes(49_990, 49_994)),
     ];
-    assert_eq!(rt; list.runs(), sides.as_slice());
+    assert_runs(&rt, &list, &sides);
     for index in 1..5000 {
-        list.set(bytes(10 * index - 5, 10 * index + 4), Some(Mode::Read))?;
+        set(
+            &rt,
+            &mut list,
+            bytes(10 * index - 5, 10 * index + 4),
+            Some(Mode::Read),
+        )?;
     }
-    assert_eq!(rt; list.runs(), [(Mode::Read, bytes(0, 49_994))].as_slice());
+    assert_runs(&rt, &list, &[(Mode::Read, bytes(0, 49_994))]);
     for index in 0..5000 {
-        list.set(bytes(10 * index + 1, 10 * index + 1), Some(Mode::Write))?;
+        set(
+            &rt,
+            &mut list,
+            bytes(10 * index + 1, 10 * index + 1),
+            Some(Mode::Write),
+        )?;
     }
-    assert_eq!(rt; list.runs().len(), 10_001);
-    list.set(bytes(0, OFFMAX), None)?;
-    assert_eq!(rt; list.runs(), [].as_slice());
+    assert_run_count(&rt, &list, 10_001);
+    set(&rt, &mut list, bytes(0, OFFMAX), None)?;
+    assert_runs(&rt, &list, &[]);
     Ok(())
 }
 
@@ -183,24 +250,12 @@ fn assert_same_near(rt: &impl Abort, list: &RangeList, changes: &ChangeList, end
     requires { end ≤ OFFMAX }
 {
     for byte in end.saturating_sub(2)..=(end + 2).min(OFFMAX) {
-        assert_eq!(rt;
-            list.mode_at(byte),
-            changes.mode_at(byte),
-            "the mode at {byte}"
-        );
-        assert_eq!(rt;
-            list.run_at(byte),
-            changes.run_at(byte),
-            "the run at {byte}"
-        );
+        assert_mode_at(rt, list, byte, changes.mode_at(byte));
+        assert_run_at(rt, list, byte, changes.run_at(byte));
         for against in [Mode::Read, Mode::Write] {
             let span = bytes(byte, (byte + 20).min(OFFMAX));
             let hit = changes.first_hit(span, against);
-            assert_eq!(rt;
-                list.first_hit(span, against),
-                hit,
-                "the first hit from {byte}"
-            );
+            assert_first_hit(rt, list, (span, against), hit);
         }
     }
 }
@@ -212,7 +267,7 @@ fn answers_as_the_changes_do(rt: HostRuntime) -> Result<(), Fail> {
     let mut changes = ChangeList::new(rt.alloc());
     for k in 0..500 {
         let span = range_of_set(k);
-        list.set(span, mode_of_set(k))?;
+        set(&rt, &mut list, span, mode_of_set(k))?;
         changes.set(span, mode_of_set(k))?;
         assert_same_near(&rt, &list, &changes, span.first);
         assert_same_near(&rt, &list, &changes, span.last);
@@ -232,7 +287,7 @@ fn answers_as_the_changes_do_at_both_ends(rt: HostRuntime) -> Result<(), Fail> {
         }
         let low = range_of_set(k);
         let span = if k % 2 == 0 { low } else { mirrored(low) };
-        list.set(span, mode_of_set(k))?;
+        set(&rt, &mut list, span, mode_of_set(k))?;
         changes.set(span, mode_of_set(k))?;
         assert_same_near(&rt, &list, &changes, span.first);
         assert_same_near(&rt, &list, &changes, span.last);

@@ -1,6 +1,6 @@
 mod header_lines;
 
-use crate::{Cause, ScriptFault, parse, write_entry, write_report};
+use crate::{Cause, Script, ScriptFault, parse, write_entry, write_report};
 use fd_table::Access;
 use lock_manager::{Errno, FlockOp, LkCmd, Lock, Note, Reply, Request};
 use range_core::{Kind, Mode, Whence};
@@ -59,8 +59,36 @@ const OFD_CYCLE_OUTPUT: &[u8] = b"1#1 open 0 rw | 1#1 fd 0\n\
     proc 2 sent 3 taken 3 answered 2 waiting\n\
     proc 3 sent 3 taken 3 answered 2 waiting\n";
 
-fn fault_of(alloc: Global, bytes: &[u8]) -> Option<ScriptFault> {
-    parse(alloc, bytes).err()
+/// A script that has to be accepted.
+fn read(alloc: Global, script: &[u8]) -> Result<Script, Fail> {
+    Ok(parse(alloc, script).map_err(|_| "refused")?)
+}
+
+/// [`write_entry`], which has to find memory.
+fn write(entry: &Entry, out: &mut Vec<u8>) -> Result<(), Fail> {
+    write_entry(entry, out).map_err(|_| "no memory")?;
+    Ok(())
+}
+
+/// The script has this fault, or none.
+fn assert_fault(rt: &impl Abort, alloc: Global, script: &[u8], wanted: Option<ScriptFault>) {
+    assert_eq!(rt; parse(alloc, script).err(), wanted, "{script:?}");
+}
+
+/// The script is accepted, and asks for this.
+fn assert_arrivals(
+    rt: &impl Abort,
+    alloc: Global,
+    script: &[u8],
+    wanted: &[(u8, Request)],
+) -> Result<(), Fail> {
+    assert_eq!(rt; read(alloc, script)?.arrivals.as_slice(), wanted);
+    Ok(())
+}
+
+/// This text was written.
+fn assert_text(rt: &impl Abort, found: &[u8], wanted: &[u8]) {
+    assert_eq!(rt; found, wanted);
 }
 
 fn set_lock(kind: Kind, start: i64, len: i64, pid: i64) -> Request {
@@ -82,9 +110,9 @@ fn set_lock(kind: Kind, start: i64, len: i64, pid: i64) -> Request {
 fn assert_faults(rt: &impl Abort, alloc: Global, cause: Option<Cause>, lines: &[&[u8]]) {
     let wanted = cause.map(|cause| ScriptFault { line: 1, cause });
     for line in lines {
-        assert_eq!(rt; fault_of(alloc, line), wanted, "{line:?}");
+        assert_fault(rt, alloc, line, wanted);
         let without_feed = line.strip_suffix(b"\n").unwrap_or(line);
-        assert_eq!(rt; fault_of(alloc, without_feed), wanted, "{line:?}");
+        assert_fault(rt, alloc, without_feed, wanted);
     }
 }
 
@@ -193,13 +221,13 @@ fn longest_line(rt: HostRuntime) -> Result<(), Fail> {
     for _ in 0..114 {
         line.push(b' ')?;
     }
-    assert_eq!(rt; fault_of(rt.alloc(), &line), None);
+    assert_fault(&rt, rt.alloc(), &line, None);
     line.push(b' ')?;
     let too_long = ScriptFault {
         line: 1,
         cause: Cause::TooLong,
     };
-    assert_eq!(rt; fault_of(rt.alloc(), &line), Some(too_long));
+    assert_fault(&rt, rt.alloc(), &line, Some(too_long));
     Ok(())
 }
 
@@ -211,22 +239,21 @@ fn faulty_line(rt: HostRuntime) -> Result<(), Fail> {
         cause: Cause::Number,
     };
     let script = b"1 open 0 r\n\n1 open 64 r\n17 exit\n";
-    assert_eq!(rt; fault_of(rt.alloc(), script), Some(third));
+    assert_fault(&rt, rt.alloc(), script, Some(third));
     let mut feeds = vec![in rt.alloc(); b'\n'; 1048576]?;
-    assert_eq!(rt; fault_of(rt.alloc(), &feeds), None);
+    assert_fault(&rt, rt.alloc(), &feeds, None);
     feeds.push(b'\n')?;
     let too_long = ScriptFault {
         line: 0,
         cause: Cause::TooLong,
     };
-    assert_eq!(rt; fault_of(rt.alloc(), &feeds), Some(too_long));
+    assert_fault(&rt, rt.alloc(), &feeds, Some(too_long));
     Ok(())
 }
 
 #[test]
 fn arrivals_of_script(rt: HostRuntime) -> Result<(), Fail> {
     let script = b"1 open 63 w\n# a comment\n 2  setlk 0 r set -5 10 7\n16 setlk 0 u set 0 0 0";
-    let script = parse(rt.alloc(), script).map_err(|_| "refused")?;
     let opened = Request::OpenFile {
         file: 63,
         access: Access::W,
@@ -236,8 +263,7 @@ fn arrivals_of_script(rt: HostRuntime) -> Result<(), Fail> {
         (2, set_lock(Kind::Read, -5, 10, 7)),
         (16, set_lock(Kind::Unlock, 0, 0, 0)),
     ];
-    assert_eq!(rt; script.arrivals.as_slice(), expected.as_slice());
-    Ok(())
+    assert_arrivals(&rt, rt.alloc(), script, &expected)
 }
 
 /// A request of each command.
@@ -247,7 +273,6 @@ fn arrivals_of_each_command(rt: HostRuntime) -> Result<(), Fail> {
         b"1 dup 4294967295\n1 dup2 0 31\n1 close 7\n1 seek 2 -5\n1 resize 3 9223372036854775807\n\
         1 getlk 0 w set 1 2 3\n1 setlkw 0 w set 1 2\n1 ogetlk 0 w set 1 2\n1 osetlk 0 w set 1 2\n\
         1 osetlkw 0 w set 1 2 -4\n1 fork 16\n1 signal 2\n1 kill 3\n1 exit\n";
-    let script = parse(rt.alloc(), script).map_err(|_| "refused")?;
     let lock = |cmd, pid| with_command(cmd, set_lock(Kind::Write, 1, 2, pid));
     let expected = [
         (1, Request::Dup { fd: u32::MAX }),
@@ -271,8 +296,7 @@ fn arrivals_of_each_command(rt: HostRuntime) -> Result<(), Fail> {
         (1, Request::Kill { target: 3 }),
         (1, Request::Exit),
     ];
-    assert_eq!(rt; script.arrivals.as_slice(), expected.as_slice());
-    Ok(())
+    assert_arrivals(&rt, rt.alloc(), script, &expected)
 }
 
 /// The lock request with this command in place of its own.
@@ -384,7 +408,7 @@ fn check_entries(
     replies: &[Option<Reply>],
     entries: &[u8],
 ) -> Result<(), Fail> {
-    let arrivals = parse(alloc, script).map_err(|_| "refused")?.arrivals;
+    let arrivals = read(alloc, script)?.arrivals;
     assert_eq!(rt; arrivals.len(), replies.len());
     let mut out = Vec::new(alloc);
     for (index, (arrival, reply)) in arrivals.iter().zip(replies).enumerate() {
@@ -398,9 +422,9 @@ fn check_entries(
             request,
             notes,
         };
-        write_entry(&entry, &mut out).map_err(|_| "no memory")?;
+        write(&entry, &mut out)?;
     }
-    assert_eq!(rt; out.as_slice(), entries);
+    assert_text(rt, &out, entries);
     Ok(())
 }
 
@@ -426,13 +450,13 @@ fn entry_lines(rt: HostRuntime) -> Result<(), Fail> {
             request: set_lock(Kind::Write, 10, -10, pid),
             notes: Notes::of(vec![in rt.alloc(); Note::Answer { p: 2, n, reply }]?),
         };
-        write_entry(&entry, &mut out).map_err(|_| "no memory")?;
+        write(&entry, &mut out)?;
     }
     let text = b"old\n\
         2#1 setlk 0 w set 10 -10 | 2#1 ok\n\
         2#2 setlk 0 w set 10 -10 -3 | 2#2 fd 31\n\
         2#3 setlk 0 w set 10 -10 5 | 2#3 EOVERFLOW\n";
-    assert_eq!(rt; out.as_slice(), text.as_slice());
+    assert_text(&rt, &out, text);
     Ok(())
 }
 
@@ -464,35 +488,28 @@ fn entries_of_waits(rt: HostRuntime) -> Result<(), Fail> {
         notes: Notes::of(vec![in rt.alloc(); signalled, interrupted]?),
     };
     let mut out = Vec::new(rt.alloc());
-    write_entry(&waiting, &mut out).map_err(|_| "no memory")?;
-    write_entry(&signalling, &mut out).map_err(|_| "no memory")?;
-    let text =
-        b"2#1 setlkw 0 r set 0 1 | 2#1 waits\n1#4 signal 2 | 1#4 ok | 2#1 EINTR\n".as_slice();
-    assert_eq!(rt; out.as_slice(), text);
+    write(&waiting, &mut out)?;
+    write(&signalling, &mut out)?;
+    let text = b"2#1 setlkw 0 r set 0 1 | 2#1 waits\n1#4 signal 2 | 1#4 ok | 2#1 EINTR\n";
+    assert_text(&rt, &out, text);
     Ok(())
 }
 
 /// From the bytes of a script to the text of its run.
 #[test]
 fn whole_output(rt: HostRuntime) -> Result<(), Fail> {
-    let output = output_of(rt.alloc(), CONVERSION)?;
-    assert_eq!(rt; output.as_slice(), CONVERSION_OUTPUT);
-    let empty = output_of(rt.alloc(), b"")?;
-    assert_eq!(rt;
-        empty.as_slice(),
-        b"proc 1 sent 0 taken 0 answered 0 live\n".as_slice()
-    );
-    let waiting = output_of(rt.alloc(), OFD_CYCLE)?;
-    assert_eq!(rt; waiting.as_slice(), OFD_CYCLE_OUTPUT);
-    let flocks = output_of(rt.alloc(), FLOCKS)?;
-    assert_eq!(rt; flocks.as_slice(), FLOCKS_OUTPUT);
-    let unborn = output_of(rt.alloc(), b"3 open 0 r\n")?;
-    assert_eq!(rt;
-        unborn.as_slice(),
-        b"proc 1 sent 0 taken 0 answered 0 live\n\
-        proc 3 sent 1 taken 0 answered 0 unborn\n"
-            .as_slice()
-    );
+    let live = b"proc 1 sent 0 taken 0 answered 0 live\n".as_slice();
+    let unborn = b"proc 1 sent 0 taken 0 answered 0 live\n\
+        proc 3 sent 1 taken 0 answered 0 unborn\n";
+    for (script, output) in [
+        (CONVERSION, CONVERSION_OUTPUT),
+        (b"", live),
+        (OFD_CYCLE, OFD_CYCLE_OUTPUT),
+        (FLOCKS, FLOCKS_OUTPUT),
+        (b"3 open 0 r\n", unborn),
+    ] {
+        assert_text(&rt, &output_of(rt.alloc(), script)?, output);
+    }
     Ok(())
 }
 
@@ -506,7 +523,7 @@ fn output_of(alloc: Global, script: &[u8]) -> Result<Vec<u8>, Fail> {
     }
     let mut out = Vec::new(alloc);
     for entry in session.journal() {
-        write_entry(entry, &mut out).map_err(|_| "no memory")?;
+        write(entry, &mut out)?;
     }
     write_report(&session, &sent, &mut out).map_err(|_| "no memory")?;
     Ok(out)
@@ -517,7 +534,6 @@ fn output_of(alloc: Global, script: &[u8]) -> Result<Vec<u8>, Fail> {
 fn entries_of_flock(rt: HostRuntime) -> Result<(), Fail> {
     let script =
         b"1 flock 0 sh\n1 flock 1 ex\n1 flock 0 ex nb\n1 flock 4294967295 un\n1  flock 0 un  nb\n";
-    let parsed = parse(rt.alloc(), script).map_err(|_| "refused")?;
     let expected = [
         (1, flock(0, FlockOp::Sh, false)),
         (1, flock(1, FlockOp::Ex, false)),
@@ -525,7 +541,7 @@ fn entries_of_flock(rt: HostRuntime) -> Result<(), Fail> {
         (1, flock(u32::MAX, FlockOp::Un, false)),
         (1, flock(0, FlockOp::Un, true)),
     ];
-    assert_eq!(rt; parsed.arrivals.as_slice(), expected.as_slice());
+    assert_arrivals(&rt, rt.alloc(), script, &expected)?;
     let replies = [
         Some(Reply::Ok),
         Some(Reply::Ok),
@@ -583,7 +599,7 @@ fn write_without_memory(rt: HostRuntime) {
     for line in lines {
         let old = out.len();
         match write_entry(&entry, &mut out) {
-            Ok(()) => assert_eq!(rt; out.as_slice(), line),
+            Ok(()) => assert_text(&rt, &out, line),
             Err(_) => {
                 assert!(rt; old <= out.len() && line.starts_with(&out));
                 break;

@@ -166,6 +166,21 @@ fn counts(session: &Session) -> [u64; 7] {
     ]
 }
 
+/// What was sent, taken and answered is so much.
+fn assert_counts(rt: &impl Abort, session: &Session, wanted: [u64; 7]) {
+    assert_eq!(rt; counts(session), wanted);
+}
+
+/// Request `n` of the process has this answer.
+fn assert_answer(rt: &impl Abort, session: &Session, p: u8, n: u64, wanted: Option<Reply>) {
+    assert_eq!(rt; session.answer_of(p, n), wanted, "request {n} of {p}");
+}
+
+/// The process stands there.
+fn assert_state(rt: &impl Abort, session: &Session, p: u8, wanted: ProcState) {
+    assert_eq!(rt; session.manager().state_of(p), wanted, "process {p}");
+}
+
 /// `arrive`; a refused growth must leave all as it was.
 fn arrive(
     rt: &impl Abort,
@@ -179,7 +194,7 @@ fn arrive(
     if first != Err(ArriveFault::Memory) {
         return first;
     }
-    assert!(rt; counts(session) == before);
+    assert_counts(rt, session, before);
     assert!(rt; 1 <= p && p <= session.manager().processes());
     session.arrive(p, request)
 }
@@ -191,7 +206,7 @@ fn take_next(rt: &impl Abort, session: &mut Session) -> Result<Option<u64>, Memo
     match session.take_next() {
         Ok(place) => Ok(place),
         Err(Memory) => {
-            assert!(rt; counts(session) == before);
+            assert_counts(rt, session, before);
             let after = all_held(session)?;
             assert!(rt; after.as_slice() == locks.as_slice());
             session.take_next()
@@ -211,7 +226,7 @@ fn take_one(
     let before = counts(session);
     match session.take_one(p, request) {
         Err(Memory) => {
-            assert_eq!(rt; counts(session), before);
+            assert_counts(rt, session, before);
             assert!(rt; 1 <= p && p <= session.manager().processes() && session.manager().able(p));
             assert!(rt; session.sent(p) == session.taken(p) && session.sent(p) < N_MAX);
             session.take_one(p, request)
@@ -252,32 +267,60 @@ fn deliver(
     Ok(())
 }
 
+/// The next request that can be taken gets this place in the journal.
+fn assert_takes(rt: &impl Abort, session: &mut Session, place: Option<u64>) -> Result<(), Memory> {
+    assert_eq!(rt; take_next(rt, session)?, place);
+    Ok(())
+}
+
+/// The request is the process' `n`-th.
+fn assert_arrives(
+    rt: &impl Abort,
+    session: &mut Session,
+    p: u8,
+    request: Request,
+    n: u64,
+) -> Result<(), ArriveFault> {
+    assert_eq!(rt; arrive(rt, session, p, request)?, n, "{request:?} of {p}");
+    Ok(())
+}
+
+/// The request is taken as it comes, and gets this place in the journal.
+fn assert_takes_one(
+    rt: &impl Abort,
+    session: &mut Session,
+    p: u8,
+    request: Request,
+    place: u64,
+) -> Result<(), Memory> {
+    assert_eq!(rt;
+        take_one(rt, session, p, request)?,
+        place,
+        "{request:?} of {p}"
+    );
+    Ok(())
+}
+
 /// Mail comes in any order; of each process it is taken in order, and that of a process that isn't born stays.
 #[test]
 fn mail_is_taken_in_turn(rt: HostRuntime) -> Result<(), Fail> {
     let mut session = two_processes(rt.alloc())?;
-    assert_eq!(rt; arrive(&rt, &mut session, 2, OPEN)?, 1);
-    assert_eq!(rt; take_next(&rt, &mut session)?, None);
-    assert_eq!(rt; arrive(&rt, &mut session, 1, OPEN)?, 1);
-    assert_eq!(rt;
-        arrive(&rt, &mut session, 1, set(0, Kind::Write, 0, 100))?,
-        2
-    );
-    assert_eq!(rt; take_next(&rt, &mut session)?, Some(1));
-    assert_eq!(rt;
-        arrive(&rt, &mut session, 1, set(9, Kind::Write, 0, 100))?,
-        3
-    );
-    assert_eq!(rt; take_next(&rt, &mut session)?, Some(2));
-    assert_eq!(rt; counts(&session), [3, 2, 2, 1, 0, 0, 2]);
-    assert_eq!(rt; take_next(&rt, &mut session)?, Some(3));
-    assert_eq!(rt; take_next(&rt, &mut session)?, None);
-    assert_eq!(rt; counts(&session), [3, 3, 3, 1, 0, 0, 3]);
-    assert_eq!(rt; session.answer_of(1, 1), Some(Reply::Fd(0)));
-    assert_eq!(rt; session.answer_of(1, 2), Some(Reply::Ok));
-    assert_eq!(rt; session.answer_of(1, 3), Some(Reply::Err(Errno::EBADF)));
-    assert_eq!(rt; session.answer_of(1, 4), None);
-    assert_eq!(rt; session.answer_of(2, 1), None);
+    assert_arrives(&rt, &mut session, 2, OPEN, 1)?;
+    assert_takes(&rt, &mut session, None)?;
+    assert_arrives(&rt, &mut session, 1, OPEN, 1)?;
+    assert_arrives(&rt, &mut session, 1, set(0, Kind::Write, 0, 100), 2)?;
+    assert_takes(&rt, &mut session, Some(1))?;
+    assert_arrives(&rt, &mut session, 1, set(9, Kind::Write, 0, 100), 3)?;
+    assert_takes(&rt, &mut session, Some(2))?;
+    assert_counts(&rt, &session, [3, 2, 2, 1, 0, 0, 2]);
+    assert_takes(&rt, &mut session, Some(3))?;
+    assert_takes(&rt, &mut session, None)?;
+    assert_counts(&rt, &session, [3, 3, 3, 1, 0, 0, 3]);
+    assert_answer(&rt, &session, 1, 1, Some(Reply::Fd(0)));
+    assert_answer(&rt, &session, 1, 2, Some(Reply::Ok));
+    assert_answer(&rt, &session, 1, 3, Some(Reply::Err(Errno::EBADF)));
+    assert_answer(&rt, &session, 1, 4, None);
+    assert_answer(&rt, &session, 2, 1, None);
     Ok(())
 }
 
@@ -285,17 +328,13 @@ fn mail_is_taken_in_turn(rt: HostRuntime) -> Result<(), Fail> {
 #[test]
 fn a_request_is_taken_as_it_comes(rt: HostRuntime) -> Result<(), Fail> {
     let mut session = two_processes(rt.alloc())?;
-    assert_eq!(rt; take_one(&rt, &mut session, 1, OPEN)?, 1);
-    assert_eq!(rt; take_one(&rt, &mut session, 1, FORK)?, 2);
-    assert_eq!(rt;
-        take_one(&rt, &mut session, 2, set(0, Kind::Write, 0, 1))?,
-        3
-    );
-    assert_eq!(rt; (session.sent(1), session.taken(1)), (2, 2));
-    assert_eq!(rt; (session.sent(2), session.taken(2)), (1, 1));
-    assert_eq!(rt; session.answer_of(1, 1), Some(Reply::Fd(0)));
-    assert_eq!(rt; session.answer_of(2, 1), Some(Reply::Ok));
-    assert_eq!(rt; take_next(&rt, &mut session)?, None);
+    assert_takes_one(&rt, &mut session, 1, OPEN, 1)?;
+    assert_takes_one(&rt, &mut session, 1, FORK, 2)?;
+    assert_takes_one(&rt, &mut session, 2, set(0, Kind::Write, 0, 1), 3)?;
+    assert_counts(&rt, &session, [2, 2, 2, 1, 1, 1, 3]);
+    assert_answer(&rt, &session, 1, 1, Some(Reply::Fd(0)));
+    assert_answer(&rt, &session, 2, 1, Some(Reply::Ok));
+    assert_takes(&rt, &mut session, None)?;
     Ok(())
 }
 
@@ -309,7 +348,7 @@ fn arrivals_are_run(rt: HostRuntime) -> Result<(), Fail> {
         (1, set(0, Kind::Read, 40, 20)),
     ];
     let session = run(rt.alloc(), &arrivals)?;
-    assert_eq!(rt; counts(&session), [3, 3, 3, 1, 0, 0, 3]);
+    assert_counts(&rt, &session, [3, 3, 3, 1, 0, 0, 3]);
     for (index, (entry, reply)) in session
         .journal()
         .iter()
@@ -319,10 +358,7 @@ fn arrivals_are_run(rt: HostRuntime) -> Result<(), Fail> {
         let n = index as u64 + 1;
         assert!(rt; entry.p == 1 && entry.n == n);
         assert!(rt; arrivals.get(index + 1) == Some(&(1, entry.request)));
-        assert_eq!(rt;
-            entry.notes.as_slice(),
-            [Note::Answer { p: 1, n, reply }].as_slice()
-        );
+        assert_told(&rt, &session, index + 1, &[answer(1, n, reply)]);
     }
     let wanted = [
         held(Mode::Write, 0, 39),
@@ -330,7 +366,7 @@ fn arrivals_are_run(rt: HostRuntime) -> Result<(), Fail> {
         held(Mode::Write, 60, 99),
     ];
     assert_held(&rt, &session, &wanted)?;
-    assert_eq!(rt; session.manager().state_of(2), ProcState::Unborn);
+    assert_state(&rt, &session, 2, ProcState::Unborn);
     Ok(())
 }
 
@@ -338,16 +374,16 @@ fn arrivals_are_run(rt: HostRuntime) -> Result<(), Fail> {
 #[test]
 fn processes_begin_and_end(rt: HostRuntime) -> Result<(), Fail> {
     let mut session = two_processes(rt.alloc())?;
-    assert_eq!(rt; arrive(&rt, &mut session, 2, OPEN)?, 1);
+    assert_arrives(&rt, &mut session, 2, OPEN, 1)?;
     for request in [OPEN, set(0, Kind::Write, 0, 100), FORK, Request::Exit, OPEN] {
         arrive(&rt, &mut session, 1, request)?;
     }
     for place in 1..=3 {
-        assert_eq!(rt; take_next(&rt, &mut session)?, Some(place));
+        assert_takes(&rt, &mut session, Some(place))?;
     }
-    assert_eq!(rt; counts(&session), [5, 3, 3, 1, 0, 0, 3]);
+    assert_counts(&rt, &session, [5, 3, 3, 1, 0, 0, 3]);
     // Both have mail, and process 1 is the least.
-    assert_eq!(rt; take_next(&rt, &mut session)?, Some(4));
+    assert_takes(&rt, &mut session, Some(4))?;
     assert!(rt;
         session
             .journal()
@@ -355,14 +391,14 @@ fn processes_begin_and_end(rt: HostRuntime) -> Result<(), Fail> {
             .is_some_and(|entry| entry.p == 1 && entry.notes.as_slice().is_empty())
     );
     assert_held(&rt, &session, &[])?;
-    assert_eq!(rt; take_next(&rt, &mut session)?, Some(5));
-    assert_eq!(rt; take_next(&rt, &mut session)?, None);
-    assert_eq!(rt; counts(&session), [5, 4, 3, 1, 1, 1, 5]);
-    assert_eq!(rt; session.answer_of(1, 3), Some(Reply::Ok));
-    assert_eq!(rt; session.answer_of(1, 4), None);
-    assert_eq!(rt; session.answer_of(2, 1), Some(Reply::Fd(1)));
-    assert_eq!(rt; session.manager().state_of(1), ProcState::Ended);
-    assert_eq!(rt; session.manager().state_of(2), ProcState::Live);
+    assert_takes(&rt, &mut session, Some(5))?;
+    assert_takes(&rt, &mut session, None)?;
+    assert_counts(&rt, &session, [5, 4, 3, 1, 1, 1, 5]);
+    assert_answer(&rt, &session, 1, 3, Some(Reply::Ok));
+    assert_answer(&rt, &session, 1, 4, None);
+    assert_answer(&rt, &session, 2, 1, Some(Reply::Fd(1)));
+    assert_state(&rt, &session, 1, ProcState::Ended);
+    assert_state(&rt, &session, 2, ProcState::Live);
     Ok(())
 }
 
@@ -378,9 +414,9 @@ fn who_has_ended_stays_so(rt: HostRuntime) -> Result<(), Fail> {
         (2, set(0, Kind::Write, 0, 100)),
     ];
     let session = run(rt.alloc(), &arrivals)?;
-    assert_eq!(rt; counts(&session), [4, 3, 2, 2, 2, 2, 5]);
-    assert_eq!(rt; session.answer_of(2, 1), Some(Reply::Err(Errno::EAGAIN)));
-    assert_eq!(rt; session.answer_of(2, 2), Some(Reply::Ok));
+    assert_counts(&rt, &session, [4, 3, 2, 2, 2, 2, 5]);
+    assert_answer(&rt, &session, 2, 1, Some(Reply::Err(Errno::EAGAIN)));
+    assert_answer(&rt, &session, 2, 2, Some(Reply::Ok));
     Ok(())
 }
 
@@ -397,9 +433,9 @@ fn mail_of_the_unborn_waits_for_the_fork(rt: HostRuntime) -> Result<(), Fail> {
         (1, set(0, Kind::Unlock, 50, 0)),
     ];
     let session = run(rt.alloc(), &arrivals)?;
-    assert_eq!(rt; counts(&session), [4, 4, 4, 3, 2, 1, 6]);
-    assert_eq!(rt; session.answer_of(2, 1), Some(Reply::Err(Errno::EAGAIN)));
-    assert_eq!(rt; session.answer_of(2, 2), None);
+    assert_counts(&rt, &session, [4, 4, 4, 3, 2, 1, 6]);
+    assert_answer(&rt, &session, 2, 1, Some(Reply::Err(Errno::EAGAIN)));
+    assert_answer(&rt, &session, 2, 2, None);
     assert_held(&rt, &session, &[held(Mode::Write, 0, 49)])
 }
 
@@ -414,25 +450,25 @@ fn mail_of_a_waiting_process_stays(rt: HostRuntime) -> Result<(), Fail> {
         arrive(&rt, &mut session, 2, request)?;
     }
     for place in 1..=4 {
-        assert_eq!(rt; take_next(&rt, &mut session)?, Some(place));
+        assert_takes(&rt, &mut session, Some(place))?;
     }
     assert_told(&rt, &session, 4, &[Note::Waits { p: 2, n: 1 }]);
-    assert_eq!(rt; take_next(&rt, &mut session)?, None);
-    assert_eq!(rt; counts(&session), [3, 3, 3, 2, 1, 0, 4]);
-    assert_eq!(rt; session.manager().state_of(2), ProcState::Waiting);
-    assert_eq!(rt; session.answer_of(2, 1), None);
+    assert_takes(&rt, &mut session, None)?;
+    assert_counts(&rt, &session, [3, 3, 3, 2, 1, 0, 4]);
+    assert_state(&rt, &session, 2, ProcState::Waiting);
+    assert_answer(&rt, &session, 2, 1, None);
     arrive(&rt, &mut session, 1, set(0, Kind::Unlock, 0, 1))?;
-    assert_eq!(rt; take_next(&rt, &mut session)?, Some(5));
+    assert_takes(&rt, &mut session, Some(5))?;
     assert_told(
         &rt,
         &session,
         5,
         &[answer(1, 4, Reply::Ok), answer(2, 1, Reply::Ok)],
     );
-    assert_eq!(rt; take_next(&rt, &mut session)?, Some(6));
-    assert_eq!(rt; take_next(&rt, &mut session)?, None);
-    assert_eq!(rt; counts(&session), [4, 4, 4, 2, 2, 2, 6]);
-    assert_eq!(rt; session.answer_of(2, 2), Some(Reply::Fd(1)));
+    assert_takes(&rt, &mut session, Some(6))?;
+    assert_takes(&rt, &mut session, None)?;
+    assert_counts(&rt, &session, [4, 4, 4, 2, 2, 2, 6]);
+    assert_answer(&rt, &session, 2, 2, Some(Reply::Fd(1)));
     assert_held(&rt, &session, &[held_by(2, Mode::Write, 0, 0)])
 }
 
@@ -450,7 +486,7 @@ fn a_wait_is_granted_by_another(rt: HostRuntime) -> Result<(), Fail> {
     ];
     let mut session = two_processes(rt.alloc())?;
     deliver(&rt, &mut session, &arrivals)?;
-    assert_eq!(rt; counts(&session), [4, 4, 4, 3, 3, 3, 7]);
+    assert_counts(&rt, &session, [4, 4, 4, 3, 3, 3, 7]);
     assert_told(&rt, &session, 5, &[Note::Waits { p: 1, n: 4 }]);
     assert_told(
         &rt,
@@ -464,7 +500,7 @@ fn a_wait_is_granted_by_another(rt: HostRuntime) -> Result<(), Fail> {
         7,
         &[answer(2, 3, Reply::Ok), answer(1, 4, Reply::Ok)],
     );
-    assert_eq!(rt; session.answer_of(1, 4), Some(Reply::Ok));
+    assert_answer(&rt, &session, 1, 4, Some(Reply::Ok));
     assert_held(&rt, &session, &[held(Mode::Write, 0, 1)])
 }
 
@@ -483,7 +519,7 @@ fn one_event_grants_several_waits(rt: HostRuntime) -> Result<(), Fail> {
     ];
     let mut session = three_processes(rt.alloc())?;
     deliver(&rt, &mut session, &arrivals)?;
-    assert_eq!(rt; counts(&session), [4, 4, 4, 2, 2, 2, 8]);
+    assert_counts(&rt, &session, [4, 4, 4, 2, 2, 2, 8]);
     let notes = [
         answer(3, 2, Reply::Ok),
         answer(2, 2, Reply::Ok),
@@ -508,7 +544,7 @@ fn a_signal_ends_a_wait(rt: HostRuntime) -> Result<(), Fail> {
     ];
     let mut session = two_processes(rt.alloc())?;
     deliver(&rt, &mut session, &arrivals)?;
-    assert_eq!(rt; counts(&session), [5, 5, 5, 2, 2, 2, 7]);
+    assert_counts(&rt, &session, [5, 5, 5, 2, 2, 2, 7]);
     let interrupted = Reply::Err(Errno::EINTR);
     assert_told(&rt, &session, 5, &[answer(1, 4, Reply::Ok)]);
     let notes = [answer(1, 5, Reply::Ok), answer(2, 1, interrupted)];
@@ -520,7 +556,7 @@ fn a_signal_ends_a_wait(rt: HostRuntime) -> Result<(), Fail> {
         pid: 1,
     };
     assert_told(&rt, &session, 7, &[answer(2, 2, blocker)]);
-    assert_eq!(rt; session.answer_of(2, 1), Some(interrupted));
+    assert_answer(&rt, &session, 2, 1, Some(interrupted));
     Ok(())
 }
 
@@ -539,14 +575,14 @@ fn a_kill_ends_a_wait(rt: HostRuntime) -> Result<(), Fail> {
     ];
     let mut session = two_processes(rt.alloc())?;
     deliver(&rt, &mut session, &arrivals)?;
-    assert_eq!(rt; counts(&session), [6, 6, 6, 2, 1, 0, 7]);
+    assert_counts(&rt, &session, [6, 6, 6, 2, 1, 0, 7]);
     assert_told(&rt, &session, 4, &[Note::Waits { p: 2, n: 1 }]);
     assert_told(&rt, &session, 5, &[answer(1, 4, Reply::Ok)]);
     let refusal = Reply::Err(Errno::ESRCH);
     assert_told(&rt, &session, 6, &[answer(1, 5, refusal)]);
     assert_told(&rt, &session, 7, &[answer(1, 6, Reply::Ok)]);
-    assert_eq!(rt; session.answer_of(2, 1), None);
-    assert_eq!(rt; session.manager().state_of(2), ProcState::Ended);
+    assert_answer(&rt, &session, 2, 1, None);
+    assert_state(&rt, &session, 2, ProcState::Ended);
     assert_held(&rt, &session, &[])
 }
 
@@ -566,7 +602,7 @@ fn kills_release_locks(rt: HostRuntime) -> Result<(), Fail> {
     ];
     let mut session = three_processes(rt.alloc())?;
     deliver(&rt, &mut session, &arrivals)?;
-    assert_eq!(rt; counts(&session), [6, 5, 4, 2, 1, 1, 7]);
+    assert_counts(&rt, &session, [6, 5, 4, 2, 1, 1, 7]);
     assert_told(&rt, &session, 5, &[Note::Waits { p: 3, n: 1 }]);
     assert_told(
         &rt,
@@ -575,9 +611,9 @@ fn kills_release_locks(rt: HostRuntime) -> Result<(), Fail> {
         &[answer(1, 4, Reply::Ok), answer(3, 1, Reply::Ok)],
     );
     assert_told(&rt, &session, 7, &[]);
-    assert_eq!(rt; session.manager().state_of(1), ProcState::Ended);
-    assert_eq!(rt; session.manager().state_of(2), ProcState::Ended);
-    assert_eq!(rt; session.manager().state_of(3), ProcState::Live);
+    assert_state(&rt, &session, 1, ProcState::Ended);
+    assert_state(&rt, &session, 2, ProcState::Ended);
+    assert_state(&rt, &session, 3, ProcState::Live);
     assert_held(&rt, &session, &[held_by(3, Mode::Read, 0, 9)])
 }
 
@@ -594,7 +630,7 @@ fn a_refused_conversion_grants_a_wait(rt: HostRuntime) -> Result<(), Fail> {
     ];
     let mut session = two_processes(rt.alloc())?;
     deliver(&rt, &mut session, &arrivals)?;
-    assert_eq!(rt; counts(&session), [4, 4, 4, 2, 2, 2, 6]);
+    assert_counts(&rt, &session, [4, 4, 4, 2, 2, 2, 6]);
     let refused = Reply::Err(Errno::EAGAIN);
     assert_told(&rt, &session, 5, &[Note::Waits { p: 2, n: 2 }]);
     assert_told(
@@ -603,8 +639,8 @@ fn a_refused_conversion_grants_a_wait(rt: HostRuntime) -> Result<(), Fail> {
         6,
         &[answer(1, 4, refused), answer(2, 2, Reply::Ok)],
     );
-    assert_eq!(rt; session.answer_of(1, 4), Some(refused));
-    assert_eq!(rt; session.answer_of(2, 2), Some(Reply::Ok));
+    assert_answer(&rt, &session, 1, 4, Some(refused));
+    assert_answer(&rt, &session, 2, 2, Some(Reply::Ok));
     assert_held(&rt, &session, &[flock_held(2, Mode::Write)])
 }
 
@@ -630,14 +666,14 @@ fn two_waiting_conversions(rt: &impl Abort, alloc: Global) -> Result<Session, Fa
 #[test]
 fn a_waiting_conversion_grants_a_wait(rt: HostRuntime) -> Result<(), Fail> {
     let session = two_waiting_conversions(&rt, rt.alloc())?;
-    assert_eq!(rt; counts(&session), [4, 4, 4, 4, 3, 2, 7]);
+    assert_counts(&rt, &session, [4, 4, 4, 4, 3, 2, 7]);
     assert_told(&rt, &session, 6, &[Note::Waits { p: 1, n: 4 }]);
     let notes = [Note::Waits { p: 2, n: 3 }, answer(1, 4, Reply::Ok)];
     assert_told(&rt, &session, 7, &notes);
-    assert_eq!(rt; session.answer_of(1, 4), Some(Reply::Ok));
-    assert_eq!(rt; session.answer_of(2, 3), None);
-    assert_eq!(rt; session.manager().state_of(1), ProcState::Live);
-    assert_eq!(rt; session.manager().state_of(2), ProcState::Waiting);
+    assert_answer(&rt, &session, 1, 4, Some(Reply::Ok));
+    assert_answer(&rt, &session, 2, 3, None);
+    assert_state(&rt, &session, 1, ProcState::Live);
+    assert_state(&rt, &session, 2, ProcState::Waiting);
     assert_held(&rt, &session, &[flock_held(1, Mode::Write)])
 }
 
@@ -648,10 +684,10 @@ fn mail_of_a_waiting_conversion_stays(rt: HostRuntime) -> Result<(), Fail> {
     deliver(&rt, &mut session, &[(1, flock(0, FlockOp::Un, false))])?;
     let notes = [answer(1, 5, Reply::Ok), answer(2, 3, Reply::Ok)];
     assert_told(&rt, &session, 8, &notes);
-    assert_eq!(rt; take_next(&rt, &mut session)?, Some(9));
-    assert_eq!(rt; take_next(&rt, &mut session)?, None);
-    assert_eq!(rt; counts(&session), [5, 5, 5, 4, 4, 4, 9]);
-    assert_eq!(rt; session.answer_of(2, 4), Some(Reply::Fd(2)));
+    assert_takes(&rt, &mut session, Some(9))?;
+    assert_takes(&rt, &mut session, None)?;
+    assert_counts(&rt, &session, [5, 5, 5, 4, 4, 4, 9]);
+    assert_answer(&rt, &session, 2, 4, Some(Reply::Fd(2)));
     assert_held(&rt, &session, &[flock_held(2, Mode::Write)])
 }
 
@@ -671,7 +707,7 @@ fn a_conversion_grants_several_waits(rt: HostRuntime) -> Result<(), Fail> {
     ];
     let mut session = three_processes(rt.alloc())?;
     deliver(&rt, &mut session, &arrivals)?;
-    assert_eq!(rt; counts(&session), [5, 5, 5, 2, 2, 2, 9]);
+    assert_counts(&rt, &session, [5, 5, 5, 2, 2, 2, 9]);
     let notes = [
         answer(1, 5, Reply::Ok),
         answer(3, 2, Reply::Ok),
@@ -693,7 +729,7 @@ fn a_reader_passes_a_waiting_writer(rt: HostRuntime) -> Result<(), Fail> {
     assert_told(&rt, &session, 6, &[answer(3, 1, Reply::Ok)]);
     deliver(&rt, &mut session, &[(1, set(0, Kind::Unlock, 0, 10))])?;
     assert_told(&rt, &session, 7, &[answer(1, 5, Reply::Ok)]);
-    assert_eq!(rt; session.answer_of(2, 1), None);
+    assert_answer(&rt, &session, 2, 1, None);
     assert_held(&rt, &session, &[held_by(3, Mode::Read, 0, 9)])
 }
 
@@ -705,7 +741,7 @@ fn a_reader_queues_behind_a_waiting_writer(rt: HostRuntime) -> Result<(), Fail> 
     deliver(&rt, &mut session, &[(1, set(0, Kind::Unlock, 0, 10))])?;
     let notes = [answer(1, 5, Reply::Ok), answer(2, 1, Reply::Ok)];
     assert_told(&rt, &session, 7, &notes);
-    assert_eq!(rt; session.answer_of(3, 1), None);
+    assert_answer(&rt, &session, 3, 1, None);
     assert_held(&rt, &session, &[held_by(2, Mode::Write, 0, 9)])?;
     deliver(&rt, &mut session, &[(2, set(0, Kind::Unlock, 0, 10))])?;
     let notes = [answer(2, 2, Reply::Ok), answer(3, 1, Reply::Ok)];
@@ -735,7 +771,7 @@ fn a_kill_lets_the_next_by(rt: HostRuntime) -> Result<(), Fail> {
     deliver(&rt, &mut session, &[(1, Request::Kill { target: 2 })])?;
     let notes = [answer(1, 5, Reply::Ok), answer(3, 1, Reply::Ok)];
     assert_told(&rt, &session, 7, &notes);
-    assert_eq!(rt; session.answer_of(2, 1), None);
+    assert_answer(&rt, &session, 2, 1, None);
     Ok(())
 }
 

@@ -1,6 +1,6 @@
 //! Header lines: what they say, where they may stand, and their faults.
-use super::fault_of;
-use crate::{Cause, ScriptFault, parse};
+use super::{assert_arrivals, assert_fault, read};
+use crate::{Cause, ScriptFault};
 use fd_table::Limits;
 use lock_manager::{Request, Rules};
 use std::test::Fail;
@@ -22,8 +22,8 @@ fn rules_of_scripts(rt: HostRuntime) -> Result<(), Fail> {
             Limits::Wide,
         ),
     ] {
-        let rules = parse(rt.alloc(), script).map_err(|_| "refused")?.rules;
-        assert_eq!(rt; rules, Rules { policy, limits });
+        let rules = Rules { policy, limits };
+        assert_eq!(rt; read(rt.alloc(), script)?.rules, rules, "{script:?}");
     }
     Ok(())
 }
@@ -49,9 +49,11 @@ fn faulty_header_lines(rt: HostRuntime) {
         (b"1 policy queue\n", Cause::Word),
         (b"1 limits wide\n", Cause::Word),
     ] {
-        assert_eq!(rt;
-            fault_of(rt.alloc(), script),
-            Some(ScriptFault { line: 1, cause })
+        assert_fault(
+            &rt,
+            rt.alloc(),
+            script,
+            Some(ScriptFault { line: 1, cause }),
         );
     }
 }
@@ -73,7 +75,7 @@ fn misplaced_header_lines(rt: HostRuntime) {
             line,
             cause: Cause::Process,
         };
-        assert_eq!(rt; fault_of(rt.alloc(), script), Some(fault));
+        assert_fault(&rt, rt.alloc(), script, Some(fault));
     }
 }
 
@@ -94,17 +96,15 @@ fn processes_of_limits(rt: HostRuntime) -> Result<(), Fail> {
             line,
             cause: Cause::Process,
         };
-        assert_eq!(rt; fault_of(rt.alloc(), script), Some(fault));
+        assert_fault(&rt, rt.alloc(), script, Some(fault));
     }
     let script = b"limits wide\n64 fork 17\n\n17 signal 64\n1 kill 63\n";
-    let script = parse(rt.alloc(), script).map_err(|_| "refused")?;
     let expected = [
         (64, Request::Fork { child: 17 }),
         (17, Request::Signal { target: 64 }),
         (1, Request::Kill { target: 63 }),
     ];
-    assert_eq!(rt; script.arrivals.as_slice(), expected.as_slice());
-    Ok(())
+    assert_arrivals(&rt, rt.alloc(), script, &expected)
 }
 
 /// A header line may have 120 bytes, as each line may.
@@ -114,12 +114,12 @@ fn longest_header_line(rt: HostRuntime) -> Result<(), Fail> {
     for _ in 0..108 {
         line.push(b' ')?;
     }
-    assert_eq!(rt; fault_of(rt.alloc(), &line), None);
+    assert_fault(&rt, rt.alloc(), &line, None);
     line.push(b'x')?;
     let too_long = ScriptFault {
         line: 1,
         cause: Cause::TooLong,
     };
-    assert_eq!(rt; fault_of(rt.alloc(), &line), Some(too_long));
+    assert_fault(&rt, rt.alloc(), &line, Some(too_long));
     Ok(())
 }
