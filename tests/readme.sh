@@ -1,0 +1,41 @@
+#!/bin/sh
+# Runs each `lockreplay` command that the README shows with its output, and compares the two; and looks that the lines of Rattle which
+# it shows are those of a test, one after another.
+# Usage: readme.sh PROGRAM
+set -eu
+program=$(cd "$(dirname "$1")" && pwd)/$(basename "$1")
+cd "$(dirname "$0")/.."
+work=$(mktemp -d)
+trap 'rm -rf "$work"' EXIT
+cp "$program" "$work/lockreplay"
+PATH=$work:$PATH
+passed=0
+failed=0
+
+# judge WHAT SHOWN SEEN: the two files are equal, and not empty.
+judge() {
+    if [ -s "$2" ] && cmp -s "$2" "$3"; then
+        passed=$((passed + 1))
+    else
+        failed=$((failed + 1))
+        echo "$1: the README shows something else:" >&2
+        diff "$2" "$3" >&2 || true
+    fi
+}
+
+# The indented lines behind `$ lockreplay ..`, up to the next command or the end of the block.
+grep '^    \$ lockreplay ' README.md | sed 's/^    \$ //' > "$work/commands"
+while read -r command; do
+    awk -v shown="    \$ $command" '$0 == shown { on = 1; next } !/^    / || /^    \$ / { on = 0 } on { print substr($0, 5) }' README.md > "$work/shown"
+    $command < /dev/null > "$work/seen"
+    judge "$command" "$work/shown" "$work/seen"
+done < "$work/commands"
+
+# The block that begins with the test's first line, against as many lines of the test.
+awk '/^    let open = / { on = 1 } on && !/^    / { exit } on' README.md > "$work/shown"
+lines=$(wc -l < "$work/shown")
+awk -v lines="$lines" '/^    let open = / { on = 1 } on && count++ < lines' crates/session_core/src/tests/example.rt > "$work/seen"
+judge 'the lines of Rattle' "$work/shown" "$work/seen"
+
+echo "$passed passed, $failed failed"
+[ "$failed" -eq 0 ] && [ "$passed" -gt 2 ]
