@@ -71,6 +71,13 @@ check 0 empty.out empty conversion --threads empty
 check 2 empty faulty.err empty --threads faulty
 check 1 empty read-failed.err empty --threads missing
 
+# In threads two processes that ask for one byte are answered in one order or the other.
+check 0 same-byte.first empty empty same-byte
+status=0 output=same-byte.first errors=empty ended=0
+"$work/lockreplay" --threads same-byte > "$work/output" 2> "$work/errors" || ended=$?
+if cmp -s same-byte.second "$work/output"; then output=same-byte.second; fi
+judge "lockreplay --threads same-byte"
+
 # Standard output takes nothing.
 status=1 output=empty errors=write-failed.err ended=0
 : > "$work/output"

@@ -92,5 +92,5 @@ Example:
 
 Exit status:
   0  the script was replayed
-  1  reading or writing failed, or memory was refused
+  1  reading or writing failed, or memory or a thread was refused
   2  the command line or the script is refused; also with --help";

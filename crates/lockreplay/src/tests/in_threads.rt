@@ -1,4 +1,5 @@
 //! Scripts whose processes run in threads of their own.
+use super::look_at_outcome;
 use super::limits_rows::LIMITS_ROWS;
 use super::policy_rows::POLICY_ROWS;
 use super::rows::{ROWS, Row};
@@ -180,20 +181,8 @@ fn check<R: Threads + Wait + Clock + Sync + Abort>(
 ) -> Result<(), Fail> {
     let mut source = FromReader::new(row.script.as_bytes());
     let mut sink = ToWriter::new(Vec::new(alloc));
-    let (fault, status) = match replay_in_threads(rt, alloc, &mut source, &mut sink) {
-        Ok(()) => (String::new(alloc), 0),
-        Err(fault) => (format!(in alloc; "lockreplay: {fault}\n")?, fault.status()),
-    };
-    assert_eq!(rt; fault.as_str(), row.fault, "the fault of {}", row.name);
-    assert_eq!(rt; status, row.status, "the status of {}", row.name);
-    let written = sink.into_inner();
-    assert_eq!(rt;
-        written.as_slice(),
-        row.output.as_bytes(),
-        "the output of {}",
-        row.name
-    );
-    Ok(())
+    let outcome = replay_in_threads(rt, alloc, &mut source, &mut sink);
+    look_at_outcome(rt, alloc, row, outcome, &sink.into_inner())
 }
 
 /// The scripts of one process, and the faulty ones.
