@@ -10,7 +10,7 @@ cc -shared -fPIC -O1 -o "$work/refuse.so" "$(dirname "$0")/refuse.c" -ldl
 # run N: runs the program with thread number N refused, and sets status.
 run() {
     status=0
-    COUNT_THREADS=$work/count REFUSE_THREAD=$1 LD_PRELOAD=$work/refuse.so timeout 20 "$program" --threads "$script" \
+    timeout 20 env COUNT_THREADS="$work/count" REFUSE_THREAD="$1" LD_PRELOAD="$work/refuse.so" "$program" --threads "$script" \
         > "$work/out" 2> "$work/err" || status=$?
 }
 

@@ -1,5 +1,5 @@
 -- What a client has collected, step by step.
-use Rattle.std.proofs.Common.{◌≡◌, ◌≢◌, ℕ, zero, suc, ◌+◌, ◌<◌, ◌≤◌, Bool, true, false, List, [], ◌∷◌, ◌++◌, length, refl, sym, ap, ◌∙◌, subst, arith, length-append, append_assoc, append-nil, take-append-drop}
+use Rattle.std.proofs.Common.{◌≡◌, ℕ, zero, suc, ◌+◌, ◌<◌, ◌≤◌, true, List, [], ◌∷◌, ◌++◌, length, refl, sym, ap, ◌∙◌, subst, arith, length-append, append_assoc, append-nil, take-append-drop}
 use Rattle.std.proofs.lemmas.List.{nil_from_length}
 use Rattle.std.specs.Prelude.{◌||◌, ◌&&◌, ◌==◌, take, drop}
 use mathlib.Core.Option.{some, some-injective, some-ne-none}
@@ -10,7 +10,7 @@ use Rattle.session_core.specs.Event.{Event}
 use Rattle.session_core.specs.Mail.{IsPrefixOf, answers_in, answers_from, answers_to, requests_taken}
 use Rattle.call_table.specs.declared.client_view.ClientView.{ClientView}
 use Rattle.call_table.specs.declared.desk_view.DeskView.{DeskView}
-use Rattle.call_table.specs.Steps.{IsSeen, met_desk, met_client}
+use Rattle.call_table.specs.Steps.{met_desk, met_client}
 use Rattle.call_table.specs.Views.{tally_at}
 use Rattle.call_table.specs.Shown.{IsCollected, IsNothing}
 use Rattle.call_table.specs.Desks.{IsMet}

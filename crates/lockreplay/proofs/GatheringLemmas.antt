@@ -1,16 +1,14 @@
 -- What is known of the callers, one after another and all together.
-use Rattle.std.proofs.Common.{◌≡◌, ◌⊎◌, inl, inr, ℕ, zero, suc, ◌+◌, ◌-◌, ◌<◌, ◌≤◌, List, [], ◌∷◌, ◌++◌, Option, Some, length, map, refl, sym, ap, ◌∙◌, subst, arith, length-append}
-use Rattle.std.specs.Prelude.{slice_get, slice_index, vec_items, option_map}
+use Rattle.std.proofs.Common.{◌≡◌, inl, inr, ℕ, zero, suc, ◌+◌, ◌-◌, ◌<◌, List, [], ◌∷◌, ◌++◌, Some, length, map, refl, sym, ap, ◌∙◌, subst, arith, length-append}
+use Rattle.std.specs.Prelude.{slice_get, vec_items, option_map}
 use Rattle.std.proofs.lemmas.List.{length-map}
 use Rattle.std.proofs.lemmas.Option.{slice_get_within, get_or_from_slice_get, slice_get-map}
 use Rattle.std.proofs.Math.Logic.{∥∥₁_map}
-use Rattle.lock_manager.specs.State.{State}
-use Rattle.lock_manager.specs.ManagerView.{StandsFor, state_at, rules_of, processes_of}
+use Rattle.lock_manager.specs.ManagerView.{state_at, rules_of, processes_of}
 use Rattle.lock_manager.specs.declared.request.Reply.{Reply}
 use Rattle.lock_manager.specs.declared.request.Request.{Request}
 use Rattle.lock_manager.specs.declared.request.Rules.{Rules}
 use Rattle.lock_manager.specs.declared.request.ProcState.TheVariants.{Live}
-use Rattle.session_core.specs.declared.session.Session.{Session}
 use Rattle.session_core.specs.Event.{Event}
 use Rattle.session_core.specs.Runs.{IsRun}
 use Rattle.session_core.specs.Mail.{IsPrefixOf, events_of, requests_taken, requests_sent, answers_to}
@@ -28,8 +26,8 @@ use Rattle.script_core.specs.Output.{processes_in}
 use Rattle.lockreplay.specs.declared.caller.Caller.{Caller}
 use Rattle.lockreplay.specs.declared.threads.ThreadReport.{ThreadReport}
 use Rattle.lockreplay.specs.Callers.{SameCaller, AreAtHub, AreNew, AreOf, IsOf}
-use Rattle.lockreplay.specs.Gathering.{IsGathered, AreGathered, AreAllTaken}
-use Rattle.lockreplay.specs.Interleaving.{Interleaves, IsThreadReport}
+use Rattle.lockreplay.specs.Gathering.{IsGathered, AreGathered}
+use Rattle.lockreplay.specs.Interleaving.{IsThreadReport}
 use Rattle.lockreplay.specs.Rooms.{IsServed}
 use Rattle.lockreplay.proofs.CollectingLemmas.{front_is_all}
 use Rattle.lockreplay.proofs.ListLemmas.{item_of_grown, item_behind}
@@ -127,19 +125,19 @@ reports script hub callers counts report rules processes all each one_each sent 
     let processes_are : processes_of manager ≡ processes_in script = served.setup.processes_are ∙ processes in
     let count : length collected ≡ processes_in script = served.gathered.0 ∙ all in
     let taken : (p : ℕ) → IsProcess script.rules.limits p → IsPrefixOf (requests_taken p journal) (requests_sent p script.arrivals) =
-        λ p range.
-        let answers = some_at collected (p - 1) (omega (arith, range.0, range.1, count)) in
-        subst (λ (q : ℕ). IsPrefixOf (requests_taken q journal) (requests_sent q script.arrivals)) (omega (arith, range.0))
-        (gathered_of journal script.arrivals callers collected each served.gathered (p - 1) answers.0 answers.1).0 in
+    λ p range.
+    let answers = some_at collected (p - 1) (omega (arith, range.0, range.1, count)) in
+    subst (λ (q : ℕ). IsPrefixOf (requests_taken q journal) (requests_sent q script.arrivals)) (omega (arith, range.0))
+    (gathered_of journal script.arrivals callers collected each served.gathered (p - 1) answers.0 answers.1).0 in
     let lengths : (p : ℕ) → IsProcess script.rules.limits p → state_at manager p ≡ Live
-            → length (requests_taken p journal) ≡ length (requests_sent p script.arrivals) =
-        λ p range live.
-        let here = some_at counts (p - 1) (omega (arith, range.0, range.1, one_each)) in
-        let is : (p - 1) + 1 ≡ p = omega (arith, range.0) in
-        let told = served.taken (p - 1) here.0 here.1 (subst (λ (q : ℕ). state_at manager q ≡ Live) (sym is) live) in
-        length-map (events_of p journal) (λ event. event.request)
-        ∙ ap (λ (q : ℕ). length (events_of q journal)) (sym is) ∙ told
-        ∙ sym (get_or_from_slice_get counts (p - 1) here.0 0 here.1) ∙ sent p range.0 (omega (arith, range.1, one_each)) in
+    → length (requests_taken p journal) ≡ length (requests_sent p script.arrivals) =
+    λ p range live.
+    let here = some_at counts (p - 1) (omega (arith, range.0, range.1, one_each)) in
+    let is : (p - 1) + 1 ≡ p = omega (arith, range.0) in
+    let told = served.taken (p - 1) here.0 here.1 (subst (λ (q : ℕ). state_at manager q ≡ Live) (sym is) live) in
+    length-map (events_of p journal) (λ event. event.request)
+    ∙ ap (λ (q : ℕ). length (events_of q journal)) (sym is) ∙ told
+    ∙ sym (get_or_from_slice_get counts (p - 1) here.0 0 here.1) ∙ sent p range.0 (omega (arith, range.1, one_each)) in
     record {
       interleaves = ∥∥₁_map served.holds (λ (h : Holds manager (sent_of report.session) journal). (
         h.replayed.state,

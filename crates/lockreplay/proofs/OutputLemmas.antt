@@ -1,5 +1,5 @@
 -- The text of a run in threads.
-use Rattle.std.proofs.Common.{◌≡◌, ◌≤◌, ◌+◌, ℕ, Bool, true, false, List, Option, inl, inr, refl, subst, length, arith}
+use Rattle.std.proofs.Common.{◌≡◌, ◌≤◌, ℕ, Bool, true, false, List, Option, inl, inr, refl, subst, length, arith}
 use Rattle.std.specs.Prelude.{Ok, Err, Result, MatchBool, nat_lt}
 use Rattle.std.specs.Io.KnownBytes.{IsAtEnd}
 use Rattle.std.proofs.Math.Logic.{∥∥₁_elim, ∥∥₁_map}
@@ -26,20 +26,22 @@ pub tells : (bytes text : List ℕ) (script : Meaning) (report : ThreadReport) (
     → ((count : ℕ → ℕ) → AreCounts sent count → (S : State) → StandsFor (manager_of report.session) S → IsTextOf report.session count S text)
     → IsThreadOutput bytes text
 tells bytes text script report sent accepted run counts told =
-    record { tells = ∥∥₁_map run.interleaves
-    (λ (left : (S : State) × Interleaves script (events_in report.session) S × StandsFor (manager_of report.session) S).
-    let count = λ (p : ℕ). length (requests_sent p script.arrivals) in
-    let is = told count counts left.0 left.2 in
     record {
-      script = script;
-      accepted = accepted;
-      journal = events_in report.session;
-      state = left.0;
-      interleaves = left.1;
-      report = is.report;
-      is_report = subst (λ (n : ℕ). IsReport n left.0 (events_in report.session) count is.report) run.processes is.is_report;
-      is = is.is;
-    }) }
+      tells = ∥∥₁_map run.interleaves
+          (λ (left : (S : State) × Interleaves script (events_in report.session) S × StandsFor (manager_of report.session) S).
+          let count = λ (p : ℕ). length (requests_sent p script.arrivals) in
+          let is = told count counts left.0 left.2 in
+          record {
+            script = script;
+            accepted = accepted;
+            journal = events_in report.session;
+            state = left.0;
+            interleaves = left.1;
+            report = is.report;
+            is_report = subst (λ (n : ℕ). IsReport n left.0 (events_in report.session) count is.report) run.processes is.is_report;
+            is = is.is;
+          });
+    }
 
 abbrev accepted : Meaning → Result Meaning ScriptFault
 accepted script = Ok script

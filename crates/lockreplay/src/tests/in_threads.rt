@@ -1,6 +1,6 @@
 //! Scripts whose processes run in threads of their own.
-use super::look_at_outcome;
 use super::limits_rows::LIMITS_ROWS;
+use super::look_at_outcome;
 use super::policy_rows::POLICY_ROWS;
 use super::rows::{ROWS, Row};
 use super::waiting_rows::WAITING_ROWS;
@@ -98,7 +98,7 @@ fn look_at_answers(rt: &impl Abort, session: &Session, process: u8, answers: &[A
             n,
             reply,
         };
-        assert!(rt; entry.notes.contains(&note));
+        assert!(rt; entry.notes.as_slice().contains(&note));
     }
 }
 
@@ -226,9 +226,9 @@ fn script_of_64(alloc: Global) -> Result<String, Fail> {
         script.push_str(&format!(in alloc; "1 fork {child}\n")?)?;
     }
     for process in 1..=64 {
-        script.push_str(
-            &format!(in alloc; "{process} open 0 rw\n{process} setlk 0 w set {process} 1\n")?,
-        )?;
+        script.push_str(&format!(in alloc;
+            "{process} open 0 rw\n{process} setlk 0 w set {process} 1\n"
+        )?)?;
     }
     Ok(script)
 }

@@ -10,5 +10,5 @@ returns c =
     let file_is : rule_of c.help-file.result ≡ file_argument = search rules in
     let start_is : app_of c.after_help.result ≡ new_app (codes "lockreplay") = search rules in
     let first_is : app_of c.in_ok-arg.field-0 ≡ with_rule (new_app (codes "lockreplay")) threads_flag =
-        c.in_ok-arg.ensures.shape (search rules) ∙ ap₂ with_rule start_is flag_is in
+    c.in_ok-arg.ensures.shape (search rules) ∙ ap₂ with_rule start_is flag_is in
     IfOk-weaker c.arg-2.result _ _ (λ made added. added.shape (search rules) ∙ ap₂ with_rule first_is file_is) c.arg-2.ensures

@@ -1,4 +1,4 @@
-use Rattle.std.proofs.Common.{rules, ◌≡◌, ◌∙◌, ap, sym, subst, ℕ, ◌≤◌, List, [], ◌∷◌, ◌++◌, map, length, vec_len, arith, append-nil}
+use Rattle.std.proofs.Common.{◌≡◌, ◌∙◌, ap, sym, subst, ℕ, ◌≤◌, List, [], ◌∷◌, ◌++◌, map, length, vec_len, arith, append-nil}
 use Rattle.std.specs.Prelude.{vec_items}
 use Rattle.std.specs.Vec.Iter.{into_iter_items}
 use Rattle.std.proofs.lemmas.List.{length-map, map-append, nil_from_length}
@@ -36,7 +36,7 @@ push_reserved-requires g c =
     let collected = c.loop-place.collected in
     let places = c.args.places in
     let at = next_of inv.done (map started (into_iter_items c.loop-place.place-iterator)) (map started places.items)
-        (started c.in-Some.place) (map started (into_iter_items c.next.new.self)) inv.all (ap (map started) c.in-Some.ensures.steps.0) in
+    (started c.in-Some.place) (map started (into_iter_items c.next.new.self)) inv.all (ap (map started) c.in-Some.ensures.steps.0) in
     let below = slice_get_within (map started places.items) (length inv.done) (started c.in-Some.place) at in
     let all = length-map places.items started in
     let some = length-map collected.items vec_items in
@@ -49,7 +49,7 @@ loop-place-preserved g c =
     let J : List Event = (desk_view c.args.desk).journal in
     let answers = c.meet-met.result.1 in
     let met : IsGathered J c.end-caller.result answers.items =
-        subst (λ (j : List Event). IsGathered j c.end-caller.result answers.items) inv.journal c.meet-met.ensures.gathered in
+    subst (λ (j : List Event). IsGathered j c.end-caller.result answers.items) inv.journal c.meet-met.ensures.gathered in
     record {
       done = inv.done ++ caller ∷ [];
       all = done_more inv.done (map started (into_iter_items c.loop-place.place-iterator)) (map started c.args.places.items)
@@ -73,7 +73,7 @@ returns-clause-gathered g c =
     let left = c.loop-place.place-iterator in
     let none : into_iter_items left ≡ [] = nil_from_length (into_iter_items left) (omega (arith, c.in-None.ensures.steps.0, left.rest.ok.0)) in
     let all : inv.done ≡ map started c.args.places.items =
-        sym (append-nil inv.done) ∙ ap (λ (l : List Place). inv.done ++ map started l) (sym none) ∙ inv.all in
+    sym (append-nil inv.done) ∙ ap (λ (l : List Place). inv.done ++ map started l) (sym none) ∙ inv.all in
     subst (λ (j : List Event). AreGathered j (map started c.args.places.items) (map vec_items c.loop-place.collected.items))
     (sym (c.into_session-session.ensures.journal ∙ inv.journal))
     (subst (λ (l : List Caller). AreGathered (desk_view c.args.desk).journal l (map vec_items c.loop-place.collected.items)) all inv.gathered)

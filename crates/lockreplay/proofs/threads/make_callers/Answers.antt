@@ -1,4 +1,4 @@
-use Rattle.std.proofs.Common.{rules, ◌≡◌, ◌∙◌, ap, sym, subst, ℕ, ◌+◌, List, [], ◌∷◌, ◌++◌, map, length, arith, append_assoc}
+use Rattle.std.proofs.Common.{rules, ◌≡◌, ◌∙◌, ap, sym, subst, ℕ, ◌+◌, List, [], ◌∷◌, ◌++◌, map, length, arith}
 use Rattle.std.proofs.lemmas.List.{length-map, map-append}
 use Rattle.std.specs.Vec.Iter.{into_iter_items}
 use Rattle.session_core.specs.Mail.{requests_sent}
@@ -18,7 +18,7 @@ new-requires c =
     let callers = c.loop-client.callers in
     let done = map client_in callers.items in
     let at = next_of done (into_iter_items c.loop-client.client-iterator) c.args.clients.items c.in-Some.client
-        (into_iter_items c.next.new.self) c.loop-client.invariant.all c.in-Some.ensures.steps.0 in
+    (into_iter_items c.next.new.self) c.loop-client.invariant.all c.in-Some.ensures.steps.0 in
     let new = c.requires.new (length done) c.in-Some.client at in
     let count = length-map callers.items client_in in
     (new.0, new.1 ∙ ap (λ (n : ℕ). new_client new.0 (n + 1)) (omega (arith, count, c.loop-client.invariant.count, callers.ok.0)))

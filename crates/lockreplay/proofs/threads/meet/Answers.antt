@@ -1,4 +1,4 @@
-use Rattle.std.proofs.Common.{◌≡◌, ◌∙◌, ap, ℕ, List, subst, true}
+use Rattle.std.proofs.Common.{◌≡◌, ◌∙◌, ap, ℕ, subst}
 use Rattle.session_core.specs.Mail.{IsPrefixOf, requests_taken, answers_to}
 use Rattle.call_table.specs.declared.client_view.ClientView.{ClientView}
 use Rattle.call_table.specs.declared.desk_view.DeskView.{DeskView}
@@ -16,8 +16,8 @@ returns-clause-gathered c =
     let v : ClientView = client_view c.into_parts-client.result.0 in
     let is : c.into_parts-client.result.0 ≡ caller.client = c.into_parts-client.ensures.parts.0 in
     let met : IsMet d v (met_desk d v) (met_client d v) =
-        subst (λ (x : DeskView). IsMet d v x (met_client d v)) c.meet-desk.ensures.desk
-        (subst (λ (y : ClientView). IsMet d v (desk_view c.meet-desk.result.0) y) c.meet-desk.ensures.client c.meet-desk.ensures.met) in
+    subst (λ (x : DeskView). IsMet d v x (met_client d v)) c.meet-desk.ensures.desk
+    (subst (λ (y : ClientView). IsMet d v (desk_view c.meet-desk.result.0) y) c.meet-desk.ensures.client c.meet-desk.ensures.met) in
     let process : v.process ≡ caller.process = ap (λ (x : Client). (client_view x).process) is ∙ caller.process_is in
     record {
       taken_in_order = subst (λ (p : ℕ). IsPrefixOf (requests_taken p d.journal) caller.requests.items) process

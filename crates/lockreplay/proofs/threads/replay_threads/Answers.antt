@@ -7,7 +7,6 @@ use Rattle.lock_manager.specs.declared.request.Rules.{Rules}
 use Rattle.session_core.specs.Mail.{requests_sent}
 use Rattle.call_table.specs.declared.client.Client.{Client}
 use Rattle.call_table.specs.declared.setup.Setup.{Setup}
-use Rattle.call_table.specs.Shown.{hub_setup}
 use Rattle.script_core.specs.ScriptText.{Meaning}
 use Rattle.script_core.specs.ReportText.{AreCounts}
 use Rattle.script_core.specs.Output.{processes_in}
@@ -35,18 +34,18 @@ returns-clause-ok g c =
     let opened = c.in_ok-hub.ensures.opened in
     let rules_are : c.script.inside.rules ≡ script.rules = ap (λ (m : Meaning). m.rules) c.script.view_is in
     let processes_are : c.processes-processes.result ≡ processes_in script =
-        c.processes-processes.ensures ∙ ap (λ (r : Rules). process_limit r.limits) rules_are in
+    c.processes-processes.ensures ∙ ap (λ (r : Rules). process_limit r.limits) rules_are in
     let arrivals_are = ap (λ (m : Meaning). m.arrivals) c.script.view_is in
     let clients = ap (λ (l : List Client). length l) c.in_ok-callers.ensures.clients in
     let mapped = length-map callers.items (λ (caller : Caller). caller.client) in
     let all : length callers.items ≡ processes_in script = omega (arith, clients, mapped, opened.all, processes_are) in
     let each : AreOf script.arrivals callers.items =
-        subst (λ (arrivals : List (ℕ × Request)). AreOf arrivals callers.items) (c.deref-2.ensures.value ∙ arrivals_are) c.in_ok-callers.ensures.callers in
+    subst (λ (arrivals : List (ℕ × Request)). AreOf arrivals callers.items) (c.deref-2.ensures.value ∙ arrivals_are) c.in_ok-callers.ensures.callers in
     let one_each : length counts.items ≡ processes_in script =
-        omega (arith, c.in_ok-counts.ensures.one_each, counts.ok.0, processes_are) in
+    omega (arith, c.in_ok-counts.ensures.one_each, counts.ok.0, processes_are) in
     let sent : AreCounts counts.items (λ p. length (requests_sent p script.arrivals)) =
-        subst (λ (arrivals : List (ℕ × Request)). AreCounts counts.items (λ p. length (requests_sent p arrivals)))
-        (c.deref.ensures.value ∙ arrivals_are) c.in_ok-counts.ensures.counts in
+    subst (λ (arrivals : List (ℕ × Request)). AreCounts counts.items (λ p. length (requests_sent p arrivals)))
+    (c.deref.ensures.value ∙ arrivals_are) c.in_ok-counts.ensures.counts in
     IfOk-weaker c.serve_in_scope.result _ _
     (λ report served. reports script hub callers.items counts.items report
     (ap (λ (s : Setup). s.rules) opened.setup_is ∙ rules_are) (ap (λ (s : Setup). s.processes) opened.setup_is ∙ processes_are)

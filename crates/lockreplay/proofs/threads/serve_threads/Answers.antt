@@ -1,8 +1,7 @@
-use Rattle.std.proofs.Common.{rules, ◌≡◌, ◌∙◌, sym, subst, List, map}
+use Rattle.std.proofs.Common.{◌≡◌, ◌∙◌, sym, subst, List, map}
 use Rattle.std.specs.Prelude.{vec_items}
 use Rattle.session_core.specs.declared.session.Session.{Session}
 use Rattle.session_core.specs.SessionView.{events_in}
-use Rattle.call_table.specs.Desks.{session_in}
 use Rattle.lockreplay.specs.declared.caller.Caller.{Caller}
 use Rattle.lockreplay.specs.Callers.{AreAtHub}
 use Rattle.lockreplay.specs.Gathering.{AreGathered, AreAllTaken}

@@ -1,5 +1,4 @@
-use Rattle.std.proofs.Common.{rules, ◌≡◌, ◌≤◌, ◌<◌, ℕ, ◌++◌, ◌∷◌, [], ap, sym, ◌∙◌, subst, take, length, vec_len, arith}
-use Rattle.std.specs.Prelude.{vec_capacity}
+use Rattle.std.proofs.Common.{rules, ◌≤◌, ℕ, ap, sym, ◌∙◌, subst, vec_len, arith}
 use Rattle.call_table.specs.declared.client_view.ClientView.{ClientView}
 use Rattle.call_table.specs.Shown.{client_view, IsCollected, IsNothing}
 use Rattle.lockreplay.specs.Collecting.{AreCollected}
