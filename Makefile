@@ -2,7 +2,7 @@
 FILE ?= crates/lockreplay/stdin
 PROGRAM := crates/lockreplay/out/lockreplay
 
-.PHONY: run test build memory edits conformance conformance-tests
+.PHONY: run test build memory threads edits conformance conformance-tests
 
 run: build
 	@$(PROGRAM) $(if $(FILE),'$(FILE)')
@@ -39,6 +39,13 @@ memory: build
 	    || { cat crates/$$crate/out/test.log >&2; exit 1; }; done
 	@for crate in $(TESTED); do sh tests/refuse-growths-in-tests.sh crates/$$crate/out/$${crate}_tests || exit 1; done
 	sh tests/refuse-growths-in-tests.sh crates/script_core/out/script_core_tests memory
+
+# Refuses each thread of runs in threads in turn, and runs scripts in threads TIMES times, each order judged by the run without threads.
+TIMES ?= 1000
+THREADED := tests/command-line/deadlock tests/command-line/same-byte $(wildcard tests/threads/*)
+threads: build
+	@for script in $(THREADED); do sh tests/refuse-threads.sh $(PROGRAM) $$script || exit 1; done
+	sh tests/run-threads.sh $(PROGRAM) $(TIMES) $(THREADED)
 
 # What the machine's own locks do: of the file system of a directory, as `make conformance DIR=/dev/shm`.
 DIR ?= .

@@ -59,8 +59,24 @@ check 2 empty help.err empty missing --help
 check 2 empty two-files.err empty conversion missing
 check 2 empty two-files.err empty missing missing
 check 2 empty two-files.err empty -- conversion missing
-check 2 empty unknown-flag.err empty --threads
-check 2 empty unknown-flag.err conversion --threads conversion
+check 2 empty unknown-flag.err empty --thread
+check 2 empty unknown-flag.err conversion --thread conversion
+check 2 empty threads-twice.err empty --threads --threads
+
+# In threads a script of one process prints the same.
+check 0 conversion.out empty empty --threads conversion
+check 0 conversion.out empty empty conversion --threads
+check 0 conversion.out empty conversion --threads
+check 0 empty.out empty conversion --threads empty
+check 2 empty faulty.err empty --threads faulty
+check 1 empty read-failed.err empty --threads missing
+
+# In threads two processes that ask for one byte are answered in one order or the other.
+check 0 same-byte.first empty empty same-byte
+status=0 output=same-byte.first errors=empty ended=0
+"$work/lockreplay" --threads same-byte > "$work/output" 2> "$work/errors" || ended=$?
+if cmp -s same-byte.second "$work/output"; then output=same-byte.second; fi
+judge "lockreplay --threads same-byte"
 
 # Standard output takes nothing.
 status=1 output=empty errors=write-failed.err ended=0

@@ -1,6 +1,7 @@
 -- What the program's command line says (the command line is this project's choice).
-use Rattle.std.specs.Prelude.{◌≡◌, ◌≢◌, List, [], ◌∷◌, Option, Some, None, Result, MatchResult, IsErr, codes, option_map}
-use Rattle.clap.specs.Words.{App, Rule, Text, first_of, kind_of, matches_of, new_app, new_rule, with_rule}
+use Rattle.std.specs.Prelude.{◌≡◌, ◌≢◌, Bool, true, false, List, [], ◌∷◌, Option, Some, None, Result, MatchResult, IsErr, codes, option_map}
+use Rattle.clap.specs.Words.{App, Rule, Text, first_of, kind_of, matches_of, one_of, new_app, new_rule, with_rule}
+use Rattle.clap.specs.declared.builder.action.ArgAction.TheVariants.{SetTrue}
 use Rattle.clap.specs.declared.error.Error.{Error}
 use Rattle.clap.specs.declared.error.kind.ErrorKind.TheVariants.{OutOfMemory}
 use Rattle.lockreplay.specs.declared.options.Options.{Options}
@@ -9,24 +10,47 @@ use Rattle.lockreplay.specs.declared.options.Options.{Options}
 abbrev pub file_argument : Rule
 file_argument = record (new_rule (codes "file")) { value_names = 1 }
 
--- the command `lockreplay [FILE]`, to which clap adds `--help` and `-h`
+-- the flag --threads
+abbrev pub threads_flag : Rule
+threads_flag = record (new_rule (codes "threads")) { long = Some (codes "threads"); action = Some SetTrue }
+
+-- the command `lockreplay [--threads] [FILE]`, to which clap adds `--help` and `-h`
 abbrev pub command_line : App
-command_line = with_rule (new_app (codes "lockreplay")) file_argument
+command_line = with_rule (with_rule (new_app (codes "lockreplay")) threads_flag) file_argument
 
 -- the FILE of these words, the first of which is the program's name, by the matches that clap states for them
 abbrev pub file_of : List Text → Option Text
 file_of words = first_of (codes "file") (matches_of command_line words)
 
+-- the text of the flag --threads in these words, by the same matches
+abbrev pub threads_of : List Text → Option Text
+threads_of words = one_of (codes "threads") (matches_of command_line words)
+
+-- a flag with this text is given, or isn't
+abbrev pub IsGiven : Option Text → Bool → Type 0
+IsGiven None given = given ≡ false
+IsGiven (Some text) given = (text ≡ codes "true" → given ≡ true) × (text ≡ codes "false" → given ≡ false)
+
 -- the word begins with no hyphen (45)
 abbrev pub IsPlain : Text → Type 0
 IsPlain word = (rest : Text) → word ≢ 45 ∷ rest
 
--- this is the file, and only want of memory refuses the words
-abbrev pub GivesFile : Option Text → Result Options Error → Type 0
-GivesFile file result = MatchResult result (λ options. option_map (λ f. f.now) options.file ≡ file) (λ error. kind_of error ≡ OutOfMemory)
+-- the flag is given or not, and this is the file; and only want of memory refuses the words
+abbrev pub Asks : Bool → Option Text → Result Options Error → Type 0
+Asks threads file result =
+    MatchResult result (λ options. (options.threads ≡ threads) × (option_map (λ f. f.now) options.file ≡ file)) (λ error. kind_of error ≡ OutOfMemory)
 
--- the same without clap's words: the program's name alone asks for no file, a plain word behind it is the file, and two of them are refused
+-- the word --threads
+abbrev pub threads_word : Text
+threads_word = codes "--threads"
+
+-- the same without clap's words: the program's name alone asks for no threads and no file, a plain word behind it is the file, and two of
+-- them are refused; the word --threads before or behind a file asks for threads, and twice it is refused
 pub record FollowsUsage (words : List Text) (result : Result Options Error) : Type 0 where
-  pub none : (name : Text) → words ≡ name ∷ [] → GivesFile None result
-  pub one : (name word : Text) → IsPlain word → words ≡ name ∷ word ∷ [] → GivesFile (Some word) result
+  pub none : (name : Text) → words ≡ name ∷ [] → Asks false None result
+  pub one : (name word : Text) → IsPlain word → words ≡ name ∷ word ∷ [] → Asks false (Some word) result
   pub more : (name first second : Text) (rest : List Text) → IsPlain first → IsPlain second → words ≡ name ∷ first ∷ second ∷ rest → IsErr result
+  pub threads : (name : Text) → words ≡ name ∷ threads_word ∷ [] → Asks true None result
+  pub threads_first : (name word : Text) → IsPlain word → words ≡ name ∷ threads_word ∷ word ∷ [] → Asks true (Some word) result
+  pub threads_last : (name word : Text) → IsPlain word → words ≡ name ∷ word ∷ threads_word ∷ [] → Asks true (Some word) result
+  pub twice : (name : Text) (rest : List Text) → words ≡ name ∷ threads_word ∷ threads_word ∷ rest → IsErr result

@@ -12,6 +12,7 @@ status_of faults.Read = 1
 status_of faults.Write = 1
 status_of faults.Memory = 1
 status_of (faults.Script fault) = 2
+status_of faults.Thread = 1
 
 -- a command line that is refused, or asks for help, ends with 2 as well (this project's choice)
 abbrev pub exit_status : Fault → ℕ
@@ -24,6 +25,7 @@ IsReadFault failed faults.Read = IsTrue failed
 IsReadFault failed faults.Memory = ⊤
 IsReadFault failed faults.Write = ⊥
 IsReadFault failed (faults.Script fault) = ⊥
+IsReadFault failed faults.Thread = ⊥
 
 -- bytes have no output for this: they are no script, and have this fault, or a growth was refused
 abbrev pub IsOutputFault : List ℕ → RunFault → Type 0
@@ -31,3 +33,13 @@ IsOutputFault bytes (faults.Script fault) = Reads bytes (Err fault)
 IsOutputFault bytes faults.Memory = ⊤
 IsOutputFault bytes faults.Read = ⊥
 IsOutputFault bytes faults.Write = ⊥
+IsOutputFault bytes faults.Thread = ⊥
+
+-- bytes whose processes run in threads have no output for this: they are no script, and have this fault, or a growth or a thread
+-- was refused
+abbrev pub IsThreadOutputFault : List ℕ → RunFault → Type 0
+IsThreadOutputFault bytes (faults.Script fault) = Reads bytes (Err fault)
+IsThreadOutputFault bytes faults.Memory = ⊤
+IsThreadOutputFault bytes faults.Thread = ⊤
+IsThreadOutputFault bytes faults.Read = ⊥
+IsThreadOutputFault bytes faults.Write = ⊥

@@ -1,4 +1,10 @@
+pub mod Callers
+pub mod Collecting
 pub mod CommandLine
 pub mod Devices
 pub mod Faults
+pub mod Gathering
+pub mod Interleaving
+pub mod Places
 pub mod Replays
+pub mod Rooms

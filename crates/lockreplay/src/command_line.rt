@@ -1,11 +1,11 @@
 //! The command line of the program, read by `clap`.
 ghost use Rattle.std.specs.Prelude.{◌≡◌, IfOk, IfErr, map, option_map, string_bytes, true};
 ghost use Rattle.clap.specs.Words.{FailsBy, app_of, fault_of, kind_of, takes};
-ghost use Rattle.lockreplay.specs.CommandLine.{FollowsUsage, command_line, file_of};
+ghost use Rattle.lockreplay.specs.CommandLine.{FollowsUsage, IsGiven, command_line, file_of, threads_of};
 
 use crate::options::Options;
 use clap::error::ErrorKind;
-use clap::{Arg, Command};
+use clap::{Arg, ArgAction, Command};
 use std::alloc::{AllocError, Global};
 
 /// What these words ask for, the first of which is the program's name.
@@ -13,15 +13,20 @@ pub fn options<'a>(alloc: Global, words: &'a [String]) -> Result<Options<'a>, cl
     // The file is that of the matches that clap states for these words.
     ensures file { IfOk result (λ options. option_map (λ file. file.now) options.file ≡ file_of (map string_bytes words.entry.now)) }
 
+    // So are the threads.
+    ensures threads { IfOk result (λ options. IsGiven (threads_of (map string_bytes words.entry.now)) options.threads) }
+
     // Words are refused just where clap's own condition for this command fails, and by the kind that it states, or for want of memory.
     ensures kind { FailsBy (fault_of command_line (map string_bytes words.entry.now)) result }
     ensures taken { IfErr result (λ error. takes command_line (map string_bytes words.entry.now) ≡ true → kind_of error ≡ ErrorKind.OutOfMemory) }
 
-    // So one word is the file, without one there is none, and two are refused, where they begin with no hyphen.
+    // So one word is the file, without one there is none, and two are refused, where they begin with no hyphen; --threads before or
+    // behind them asks for threads, and is refused twice.
     ensures usage { FollowsUsage (map string_bytes words.entry.now) result }
 {
     let matches = command(alloc)?.try_get_matches_from(words)?;
     Ok(Options {
+        threads: matches.get_flag("threads"),
         file: matches.get_str("file"),
     })
 }
@@ -30,12 +35,17 @@ pub fn options<'a>(alloc: Global, words: &'a [String]) -> Result<Options<'a>, cl
 fn command<'a>(alloc: Global) -> Result<Command<'a>, AllocError>
     ensures { IfOk result (λ command. app_of command ≡ command_line) }
 {
+    let threads = Arg::new(alloc, "threads")
+        .long("threads")
+        .action(ArgAction::SetTrue)
+        .help("Each process that requests something runs in a thread of its own");
     let file = Arg::new(alloc, "file")
         .value_name("FILE")
         .help("The script; without it, standard input is read");
     Command::new(alloc, "lockreplay")
         .about(ABOUT)
         .after_help(GUIDE)
+        .arg(threads)?
         .arg(file)
 }
 
@@ -82,5 +92,5 @@ Example:
 
 Exit status:
   0  the script was replayed
-  1  reading or writing failed, or memory was refused
+  1  reading or writing failed, or memory or a thread was refused
   2  the command line or the script is refused; also with --help";

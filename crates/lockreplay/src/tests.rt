@@ -1,12 +1,13 @@
 mod command_line;
 mod devices;
+mod in_threads;
 mod limits_rows;
 mod policy_rows;
 mod rows;
 mod waiting_rows;
 
 use crate::devices::{FromReader, ToWriter};
-use crate::replay::replay;
+use crate::replay::{RunFault, replay};
 use limits_rows::LIMITS_ROWS;
 use policy_rows::POLICY_ROWS;
 use rows::{ROWS, Row};
@@ -84,15 +85,26 @@ fn check_all_without_the_last_feed(
 fn check(rt: &impl Abort, alloc: Global, row: &Row, script: &str) -> Result<(), Fail> {
     let mut source = FromReader::new(script.as_bytes());
     let mut sink = ToWriter::new(Vec::new(alloc));
-    let (fault, status) = match replay(alloc, &mut source, &mut sink) {
+    let outcome = replay(alloc, &mut source, &mut sink);
+    look_at_outcome(rt, alloc, row, outcome, &sink.into_inner())
+}
+
+/// A run of the row's script came out as the row says, and wrote what it says.
+fn look_at_outcome(
+    rt: &impl Abort,
+    alloc: Global,
+    row: &Row,
+    outcome: Result<(), RunFault>,
+    written: &[u8],
+) -> Result<(), Fail> {
+    let (fault, status) = match outcome {
         Ok(()) => (String::new(alloc), 0),
         Err(fault) => (format!(in alloc; "lockreplay: {fault}\n")?, fault.status()),
     };
     assert_eq!(rt; fault.as_str(), row.fault, "the fault of {}", row.name);
     assert_eq!(rt; status, row.status, "the status of {}", row.name);
-    let written = sink.into_inner();
     assert_eq!(rt;
-        written.as_slice(),
+        written,
         row.output.as_bytes(),
         "the output of {}",
         row.name

@@ -15,10 +15,21 @@ fn words(alloc: Global, words: &[&str]) -> Result<Vec<String>, Fail> {
     Ok(owned)
 }
 
-/// The words ask for this file.
+/// The words ask for this file, and for no threads.
 fn asks(rt: &impl Abort, alloc: Global, given: &[&str], file: Option<&str>) -> Result<(), Fail> {
+    asks_of(rt, alloc, given, false, file)
+}
+
+/// The words ask for threads or not, and for this file.
+fn asks_of(
+    rt: &impl Abort,
+    alloc: Global,
+    given: &[&str],
+    threads: bool,
+    file: Option<&str>,
+) -> Result<(), Fail> {
     let given = words(alloc, given)?;
-    assert_eq!(rt; options(alloc, &given)?, Options { file });
+    assert_eq!(rt; options(alloc, &given)?, Options { threads, file });
     Ok(())
 }
 
@@ -42,6 +53,33 @@ fn takes_one_file_or_none(rt: HostRuntime) -> Result<(), Fail> {
     asks(&rt, alloc, &["lockreplay", "-"], Some("-"))?;
     asks(&rt, alloc, &["lockreplay", ""], Some(""))?;
     asks(&rt, alloc, &[], None)
+}
+
+#[test]
+fn takes_threads(rt: HostRuntime) -> Result<(), Fail> {
+    let alloc = rt.alloc();
+    asks_of(&rt, alloc, &["lockreplay", "--threads"], true, None)?;
+    let before = ["lockreplay", "--threads", "script"];
+    asks_of(&rt, alloc, &before, true, Some("script"))?;
+    let behind = ["lockreplay", "script", "--threads"];
+    asks_of(&rt, alloc, &behind, true, Some("script"))?;
+    let file = ["lockreplay", "--", "--threads"];
+    asks_of(&rt, alloc, &file, false, Some("--threads"))?;
+    let both = ["lockreplay", "--threads", "--", "--threads"];
+    asks_of(&rt, alloc, &both, true, Some("--threads"))
+}
+
+#[test]
+fn refuses_other_flags(rt: HostRuntime) -> Result<(), Fail> {
+    let alloc = rt.alloc();
+    let twice = ["lockreplay", "--threads", "--threads"];
+    refuses(&rt, alloc, &twice, ErrorKind::ArgumentConflict)?;
+    let valued = ["lockreplay", "--threads=true"];
+    refuses(&rt, alloc, &valued, ErrorKind::TooManyValues)?;
+    let misspelt = ["lockreplay", "--thread"];
+    refuses(&rt, alloc, &misspelt, ErrorKind::UnknownArgument)?;
+    let short = ["lockreplay", "-t"];
+    refuses(&rt, alloc, &short, ErrorKind::UnknownArgument)
 }
 
 #[test]

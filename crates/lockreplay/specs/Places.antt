@@ -1,0 +1,9 @@
+-- Where the callers are while a desk serves (the words are this project's choice).
+use Rattle.lockreplay.specs.declared.caller.Caller.{Caller}
+use Rattle.lockreplay.specs.declared.threads.place.Place.{Place}
+use Rattle.lockreplay.specs.declared.threads.place.Place.TheVariants.{There, Here}
+
+-- the caller as it was when its thread was started, or as it is
+abbrev pub started : Place → Caller
+started (There handle) = handle.promise.0.value
+started (Here caller) = caller
