@@ -2,7 +2,7 @@
 FILE ?= crates/lockreplay/stdin
 PROGRAM := crates/lockreplay/out/lockreplay
 
-.PHONY: run test build memory threads edits conformance conformance-tests
+.PHONY: run test build memory threads edits conformance conformance-tests docs install
 
 run: build
 	@$(PROGRAM) $(if $(FILE),'$(FILE)')
@@ -14,14 +14,17 @@ build:
 	@(cd crates/lockreplay && rt run) < /dev/null > crates/lockreplay/out/build.log 2>&1 \
 	    || { cat crates/lockreplay/out/build.log >&2; exit 1; }
 
-# The gate, and then the command lines and the large scripts on the program as two compilers built it in the gate, and the conformance
-# tools' tests but for those that a busy machine can upset.
+# The gate, and then the command lines, the large scripts and the samples on the program as two compilers built it in the gate, what the
+# README shows, and the conformance tools' tests but for those that a busy machine can upset.
 test:
 	rt ci
 	sh tests/command-line.sh $(PROGRAM)
 	sh tests/command-line.sh $(PROGRAM).by-rattle
 	sh tests/large-scripts.sh $(PROGRAM)
 	sh tests/large-scripts.sh $(PROGRAM).by-rattle
+	sh tests/samples.sh $(PROGRAM)
+	sh tests/samples.sh $(PROGRAM).by-rattle
+	sh tests/readme.sh $(PROGRAM)
 	cd conformance && LOCKREPLAY=$(abspath $(PROGRAM)) python3 -m unittest tests.test_corpus tests.test_judging tests.test_lies tests.test_trace
 
 # Says of each must-fail edit what refuses it, and fails where that is a name alone; `make edits EDITS='CRATE EDIT'` tries some.
@@ -56,3 +59,14 @@ conformance: build
 # All the tools' own tests, which want Python 3 and no root; each script of the corpus goes through lockreplay.
 conformance-tests:
 	cd conformance && LOCKREPLAY=$(abspath $(PROGRAM)) python3 -m unittest discover -t . -s tests
+
+# Checks the manual page; wants mandoc.
+docs:
+	mandoc -T lint -W warning docs/lockreplay.1
+
+# Puts the program and its manual page in place, below PREFIX.
+PREFIX ?= /usr/local
+install: build
+	install -d '$(DESTDIR)$(PREFIX)/bin' '$(DESTDIR)$(PREFIX)/share/man/man1'
+	install -m 755 $(PROGRAM) '$(DESTDIR)$(PREFIX)/bin/lockreplay'
+	install -m 644 docs/lockreplay.1 '$(DESTDIR)$(PREFIX)/share/man/man1/lockreplay.1'

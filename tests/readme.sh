@@ -1,0 +1,40 @@
+#!/bin/sh
+# Runs each `lockreplay` command that the README shows with its output, and compares the two.
+# Usage: readme.sh PROGRAM
+set -eu
+program=$(cd "$(dirname "$1")" && pwd)/$(basename "$1")
+cd "$(dirname "$0")/.."
+work=$(mktemp -d)
+trap 'rm -rf "$work"' EXIT
+cp "$program" "$work/lockreplay"
+PATH=$work:$PATH
+passed=0
+failed=0
+
+# judge WHAT SHOWN SEEN: the two files are equal, and not empty.
+judge() {
+    if [ -s "$2" ] && cmp -s "$2" "$3"; then
+        passed=$((passed + 1))
+    else
+        failed=$((failed + 1))
+        echo "$1: the README shows something else:" >&2
+        diff "$2" "$3" >&2 || true
+    fi
+}
+
+# The indented lines behind `$ lockreplay ..`, up to the next command or the end of the block. Of a script whose run is open to the order of its
+# threads, each that may come stands beside it, as NAME.first and NAME.second, and the README shows one of them.
+grep '^    \$ lockreplay ' README.md | sed 's/^    \$ //' > "$work/commands"
+while read -r command; do
+    awk -v shown="    \$ $command" '$0 == shown { on = 1; next } !/^    / || /^    \$ / { on = 0 } on { print substr($0, 5) }' README.md > "$work/shown"
+    $command < /dev/null > "$work/seen"
+    case $command in *--threads*)
+        for run in "${command##* }".first "${command##* }".second; do
+            if cmp -s "$work/shown" "$run"; then cp "$run" "$work/seen"; fi
+        done ;;
+    esac
+    judge "$command" "$work/shown" "$work/seen"
+done < "$work/commands"
+
+echo "$passed passed, $failed failed"
+[ "$failed" -eq 0 ] && [ "$passed" -gt 2 ]

@@ -1,0 +1,23 @@
+#!/bin/sh
+# Replays each sample: the run of samples/NAME.lock must be samples/NAME.out, whose lines were derived by hand from docs/RULES.md.
+# Usage: samples.sh PROGRAM
+set -eu
+program=$1
+samples=$(dirname "$0")/../samples
+work=$(mktemp -d)
+trap 'rm -rf "$work"' EXIT
+passed=0
+failed=0
+for script in "$samples"/*.lock; do
+    if "$program" "$script" > "$work/output" 2> "$work/errors" && [ ! -s "$work/errors" ] && cmp -s "${script%.lock}.out" "$work/output"
+    then
+        passed=$((passed + 1))
+    else
+        failed=$((failed + 1))
+        echo "$script: another run than the one beside it:" >&2
+        cat "$work/errors" >&2
+        diff "${script%.lock}.out" "$work/output" >&2 || true
+    fi
+done
+echo "$passed passed, $failed failed"
+[ "$failed" -eq 0 ] && [ "$passed" -gt 0 ]
