@@ -43,7 +43,8 @@ memory: build
 	@for crate in $(TESTED); do sh tests/refuse-growths-in-tests.sh crates/$$crate/out/$${crate}_tests || exit 1; done
 	sh tests/refuse-growths-in-tests.sh crates/script_core/out/script_core_tests memory
 
-# Refuses each thread of runs in threads in turn, and runs scripts in threads TIMES times, each order judged by the run without threads.
+# Refuses each thread and each growth of runs in threads in turn, and runs scripts in threads TIMES times: each order is judged by a run
+# without threads.
 TIMES ?= 1000
 THREADED := tests/command-line/deadlock tests/command-line/same-byte $(wildcard tests/threads/*)
 threads: build

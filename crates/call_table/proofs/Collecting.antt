@@ -20,7 +20,7 @@ use Rattle.call_table.specs.declared.desk_view.DeskView.{DeskView}
 use Rattle.call_table.specs.Spelling.{answer_spelled, ReplyFits}
 use Rattle.call_table.specs.Places.{Place, answered, index_of, IsProcess, word_at}
 use Rattle.call_table.specs.Views.{tally_at}
-use Rattle.call_table.specs.Rule.{answer_cell, ClosingAgrees, Agrees, mark_of, Kept}
+use Rattle.call_table.specs.Rule.{CellHas, BeginsAnswer, answer_cell, ClosingAgrees, Agrees, mark_of, Kept}
 use Rattle.call_table.specs.Steps.{Seated, HasClient, client_found, client_read, client_collected, client_marked, IsSeen, Finds, Gets, Collects, Marks}
 use Rattle.call_table.proofs.Pushing.{some_at, prefix_more, prefix_all}
 use Rattle.call_table.proofs.Frames.{answer_six, requests_same, answers_same, answers_found, closing_same}
@@ -169,27 +169,13 @@ gets_agree : (depth p : ℕ) (at : Place → ℕ) (d : DeskView) (c : ClientView
     → get_elem? (answers_to p d.journal) c.collected ≡ some a
     → IsPrefixOf (c.read ++ found ∷ []) (answer_spelled a.1 a.2) → Agrees depth p at d c → Agrees depth p at d (client_read c found)
 gets_agree depth p at d c a found more there begins g =
-    let t = g.answers in
+    let words : List ℕ = c.read ++ found ∷ [] in
+    let reads : BeginsAnswer words (answers_to p d.journal) c.collected =
+    λ b e. subst (λ (y : ℕ × Reply × ℕ). IsPrefixOf words (answer_spelled y.1 y.2)) (some-injective a b (sym there ∙ e)) begins in
+    let reads_known : 0 < length words → c.collected < c.known = λ _. more in
     record {
       requests = requests_same g.requests;
-      answers = record {
-        answered_word = t.answered_word;
-        collected_most = t.collected_most;
-        known_most = t.known_most;
-        published_most = t.published_most;
-        in_turn = t.in_turn;
-        fit = t.fit;
-        cells = t.cells;
-        seen = t.seen;
-        seen_known = t.seen_known;
-        reads = λ b e. subst (λ (y : ℕ × Reply × ℕ). IsPrefixOf (c.read ++ found ∷ []) (answer_spelled y.1 y.2))
-            (some-injective a b (sym there ∙ e)) begins;
-        reads_known = λ _. more;
-        filled = t.filled;
-        fills = t.fills;
-        filled_most = t.filled_most;
-        fills_some = t.fills_some;
-      };
+      answers = assumption (g.answers, reads, reads_known);
       closing = closing_same g.closing;
     }
 
@@ -198,40 +184,17 @@ collects_agree : (depth p : ℕ) (at : Place → ℕ) (d : DeskView) (c : Client
     → Agrees depth p at d (client_collected c)
 collects_agree depth p at d c more g =
     let q = g.requests in let t = g.answers in
-    let room = q.room in let known = t.known_most in let published = t.published_most in
+    let answers : List (ℕ × Reply × ℕ) = answers_to p d.journal in
+    let published : ℕ = (tally_at d.tallies p).published in
+    let room : length c.posted ≤ (c.collected + 1) + depth = omega (arith, q.room) in
+    let collected_most : c.collected + 1 ≤ c.known = omega arith in
+    let cells : (before : ℕ) (a : ℕ × Reply × ℕ) → c.collected + 1 ≤ before → before < published → get_elem? answers before ≡ some a
+    → CellHas at (answer_cell depth p before) (answer_spelled a.1 a.2) = λ before a h. t.cells before a (omega arith) in
+    let reads : BeginsAnswer [] answers (c.collected + 1) = λ b e. (answer_spelled b.1 b.2, refl) in
+    let reads_known : 0 < 0 → c.collected + 1 < c.known = λ h. absurd (omega arith) in
     record {
-      requests = record {
-        posted_word = q.posted_word;
-        taken_word = q.taken_word;
-        in_order = q.in_order;
-        looked_least = q.looked_least;
-        looked_most = q.looked_most;
-        fit = q.fit;
-        cells = q.cells;
-        few = q.few;
-        room = omega arith;
-        filled = q.filled;
-        filled_most = q.filled_most;
-        reads = q.reads;
-        reads_some = q.reads_some;
-      };
-      answers = record {
-        answered_word = t.answered_word;
-        collected_most = omega arith;
-        known_most = t.known_most;
-        published_most = t.published_most;
-        in_turn = t.in_turn;
-        fit = t.fit;
-        cells = λ before a h. t.cells before a (omega arith);
-        seen = t.seen;
-        seen_known = t.seen_known;
-        reads = λ b e. (answer_spelled b.1 b.2, refl);
-        reads_known = λ h. absurd (omega arith);
-        filled = t.filled;
-        fills = t.fills;
-        filled_most = t.filled_most;
-        fills_some = t.fills_some;
-      };
+      requests = assumption (q, room);
+      answers = assumption (t, collected_most, cells, reads, reads_known);
       closing = record {
         all_published = g.closing.all_published;
         over_closed = g.closing.over_closed;

@@ -48,29 +48,18 @@ looks_agree : (depth p : ℕ) (at : Place → ℕ) (d : DeskView) (c : ClientVie
     → Agrees depth p at d c → Agrees depth p at (desk_looked d p found) c
 looks_agree depth p at d c found is g =
     let q = g.requests in
-    let t : Tally = record {
-      published = (tally_at d.tallies p).published;
-      looked = found;
-      probes = (tally_at d.tallies p).probes + 1;
-    } in
+    let old : Tally = tally_at d.tallies p in
+    let t : Tally = record old { looked = found; probes = old.probes + 1 } in
     let now : tally_at (with_tally d.tallies p t) p ≡ t = tally_here d.tallies p t in
+    let requests : List Request = requests_taken p d.journal in
     let all : found ≡ length c.posted = is ∙ q.posted_word in
+    let least : length requests ≤ found = omega (arith, all, q.looked_least, q.looked_most) in
+    let most : found ≤ length c.posted = omega (arith, all) in
+    let reads : p ≡ p → BeginsRequest [] c.posted (length requests) = λ _ r _. (request_spelled r, refl) in
+    let reads_some : p ≡ p → 0 < 0 → length requests < found = λ _ h. absurd (omega arith) in
     record {
-      requests = subst (λ (u : Tally). RequestsAgree depth p at (requests_taken p d.journal) u.looked (p, []) c) (sym now) record {
-        posted_word = q.posted_word;
-        taken_word = q.taken_word;
-        in_order = q.in_order;
-        looked_least = let x = q.looked_least in let y = q.looked_most in omega arith;
-        looked_most = omega arith;
-        fit = q.fit;
-        cells = q.cells;
-        few = q.few;
-        room = q.room;
-        filled = q.filled;
-        filled_most = q.filled_most;
-        reads = λ _ r _. (request_spelled r, refl);
-        reads_some = λ _ h. absurd (omega arith);
-      };
+      requests = subst (λ (u : Tally). RequestsAgree depth p at requests u.looked (p, []) c) (sym now)
+          (assumption (q, least, most, reads, reads_some));
       answers = subst (λ (u : Tally). AnswersAgree depth p at d.journal u.published d.filling c) (sym now) g.answers;
       closing = subst (λ (u : Tally). ClosingAgrees p d.journal u.published d.closed c) (sym now) g.closing;
     }
@@ -125,24 +114,13 @@ reads_agree : (depth p : ℕ) → 1 ≤ p → (at : Place → ℕ) (d : DeskView
     → length (requests_taken p d.journal) < (tally_at d.tallies p).looked
     → Agrees depth p at d c → Agrees depth p at (desk_read d found) c
 reads_agree depth p l at d c r found mine next begins some_left g =
-    let q = g.requests in
+    let requests : List Request = requests_taken p d.journal in
+    let words : List ℕ = d.reading.1 ++ found ∷ [] in
+    let reads : d.reading.0 ≡ p → BeginsRequest words c.posted (length requests) =
+    λ _ x e. subst (λ (y : Request). IsPrefixOf words (request_spelled y)) (some-injective r x (sym next ∙ e)) begins in
+    let reads_some : d.reading.0 ≡ p → 0 < length words → length requests < (tally_at d.tallies p).looked = λ _ _. some_left in
     record {
-      requests = record {
-        posted_word = q.posted_word;
-        taken_word = q.taken_word;
-        in_order = q.in_order;
-        looked_least = q.looked_least;
-        looked_most = q.looked_most;
-        fit = q.fit;
-        cells = q.cells;
-        few = q.few;
-        room = q.room;
-        filled = q.filled;
-        filled_most = q.filled_most;
-        reads = λ _ x e. subst (λ (y : Request). IsPrefixOf (d.reading.1 ++ found ∷ []) (request_spelled y))
-            (some-injective r x (sym next ∙ e)) begins;
-        reads_some = λ _ _. some_left;
-      };
+      requests = assumption (g.requests, reads, reads_some);
       answers = g.answers;
       closing = g.closing;
     }

@@ -10,6 +10,7 @@ use Rattle.std.proofs.lemmas.List.{set-get_or}
 use Rattle.atomic_table.specs.Table.{Step, keeps, Allows, Splits, Joins, opening}
 use Rattle.atomic_table.proofs.Lists.{at_set, set_else, set_again}
 use Rattle.lock_manager.specs.State.{opening_state}
+use Rattle.lock_manager.specs.declared.request.Request.{Request}
 use Rattle.lock_manager.specs.State as manager
 use Rattle.session_core.specs.Runs.{IsRun}
 use Rattle.session_core.specs.Mail.{IsPrefixOf, requests_taken, answers_to}
@@ -108,38 +109,23 @@ may_make setup id d room s k here =
 meets_agree : (depth p : ℕ) (at : Place → ℕ) (d : DeskView) (c : ClientView) → c.process ≡ p → Agrees depth p at d c
     → Agrees depth p at (met_desk d c) (met_client d c)
 meets_agree depth p at d c is g =
-    let q = g.requests in let t = g.answers in
+    let q = g.requests in
     let old : Tally = tally_at d.tallies p in
-    let new : Tally = record { published = old.published; looked = length c.posted; probes = old.probes } in
+    let new : Tally = record old { looked = length c.posted } in
     let here : tally_at (met_desk d c).tallies p ≡ new =
-    ap (λ (y : ℕ). tally_at (with_tally d.tallies y (record {
-      published = (tally_at d.tallies y).published;
-      looked = length c.posted;
-      probes = (tally_at d.tallies y).probes;
-    })) p) is
+    ap (λ (y : ℕ). tally_at (with_tally d.tallies y (record (tally_at d.tallies y) { looked = length c.posted })) p) is
     ∙ tally_here d.tallies p new in
-    let n : ℕ = old.published in
-    let n_is : (tally_at d.tallies c.process).published ≡ n = ap (λ (y : ℕ). (tally_at d.tallies y).published) is in
-    let order = q.looked_least in let looked = q.looked_most in
+    let n_is : (tally_at d.tallies c.process).published ≡ old.published = ap (λ (y : ℕ). (tally_at d.tallies y).published) is in
+    let requests : List Request = requests_taken p d.journal in
+    let least : length requests ≤ length c.posted = omega (arith, q.looked_least, q.looked_most) in
+    let most : length c.posted ≤ length c.posted = omega arith in
+    let reads_some : d.reading.0 ≡ p → 0 < length d.reading.1 → length requests < length c.posted =
+    λ e h. omega (arith, q.reads_some e h, q.looked_most) in
     record {
-      requests = subst (λ (u : Tally). RequestsAgree depth p at (requests_taken p d.journal) u.looked d.reading (met_client d c))
-          (sym here) record {
-            posted_word = q.posted_word;
-            taken_word = q.taken_word;
-            in_order = q.in_order;
-            looked_least = omega arith;
-            looked_most = omega arith;
-            fit = q.fit;
-            cells = q.cells;
-            few = q.few;
-            room = q.room;
-            filled = q.filled;
-            filled_most = q.filled_most;
-            reads = q.reads;
-            reads_some = λ e h. let x = q.reads_some e h in omega arith;
-          };
+      requests = subst (λ (u : Tally). RequestsAgree depth p at requests u.looked d.reading (met_client d c)) (sym here)
+          (assumption (q, least, most, reads_some));
       answers = subst (λ (u : Tally). AnswersAgree depth p at d.journal u.published d.filling (met_client d c)) (sym here)
-          (answers_found n_is t);
+          (answers_found n_is g.answers);
       closing = subst (λ (u : Tally). ClosingAgrees p d.journal u.published d.closed (met_client d c)) (sym here)
           (closing_found n_is g.closing);
     }
@@ -149,7 +135,7 @@ outgrows : (depth p : ℕ) (at : Place → ℕ) (d : DeskView) (c : ClientView) 
     → Outgrows (met_desk d c) (met_client d c) (before_meeting d c)
 outgrows depth p at d c is g =
     let t : Tally = tally_at d.tallies c.process in
-    let now : Tally = record { published = t.published; looked = length c.posted; probes = t.probes } in
+    let now : Tally = record t { looked = length c.posted } in
     let here : tally_at (with_tally d.tallies c.process now) c.process ≡ now = tally_here d.tallies c.process now in
     let same : tally_at d.tallies c.process ≡ tally_at d.tallies p = ap (λ (y : ℕ). tally_at d.tallies y) is in
     record {

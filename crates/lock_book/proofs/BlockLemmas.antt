@@ -175,11 +175,11 @@ owner_in book items P whole all other list found =
     subst P (sym (same_owner other entry.0 entry.1)) entry.2
 
 -- an owner whose mode conflicts has a list
-list_in : (list : Option RangeList) (byte : ℕ) (wanted : Mode) → HeldConflicts (modes_in_list list byte) wanted → (some : RangeList) × (list ≡ Some some)
+pub list_in : (list : Option RangeList) (byte : ℕ) (wanted : Mode) → HeldConflicts (modes_in_list list byte) wanted → (some : RangeList) × (list ≡ Some some)
 list_in None byte wanted conflicts = absurd conflicts
 list_in (Some list) byte wanted conflicts = (list, refl)
 
-blocked_in : (book : Book) (items : List Item) (P : Owner → Type 0) → map deref_pair items ≡ book.owners.entries → All (λ x. P x.0.now) items → (owner other : Owner) (wanted : Mode) (byte : ℕ) → Blocks (byte_modes_of book) owner wanted byte other → P other
+pub blocked_in : (book : Book) (items : List Item) (P : Owner → Type 0) → map deref_pair items ≡ book.owners.entries → All (λ x. P x.0.now) items → (owner other : Owner) (wanted : Mode) (byte : ℕ) → Blocks (byte_modes_of book) owner wanted byte other → P other
 unfolding byte_modes_of
 blocked_in book items P whole all owner other wanted byte b =
     let list = list_in (list_of book other) byte wanted b.conflicts in

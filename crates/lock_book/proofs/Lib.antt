@@ -8,6 +8,7 @@ pub mod HeldLemmas
 pub mod HolderLemmas
 pub mod ListLemmas
 pub mod LoopLemmas
+pub mod MarkLemmas
 pub mod OwnerLemmas
 pub mod ReportLaws
 pub mod RunLemmas

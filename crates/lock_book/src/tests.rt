@@ -65,6 +65,31 @@ fn tells_the_first_blocker(rt: HostRuntime) -> Result<(), Fail> {
     Ok(())
 }
 
+/// Of all processes at once it is told which ones have a lock in the way: not the asker itself, and no description.
+#[test]
+fn tells_which_processes_block(rt: HostRuntime) -> Result<(), Fail> {
+    let mut book = Book::new(rt.alloc());
+    for number in [0, 4, 7, 64, 255] {
+        book.set(Owner::Process(number), bytes(5, 14), Some(Mode::Read))?;
+    }
+    book.set(Owner::Process(9), bytes(15, 15), Some(Mode::Write))?;
+    book.set(Owner::Description(3), bytes(5, 5), Some(Mode::Write))?;
+    book.reserve(Owner::Process(8), 1)?;
+    let blocking = book.blocking_processes(Owner::Process(7), bytes(0, 14), Mode::Write);
+    for (number, blocks) in blocking.iter().enumerate() {
+        assert_eq!(rt;
+            *blocks,
+            matches!(number, 0 | 4 | 64 | 255),
+            "process {number}"
+        );
+    }
+    let sharing = book.blocking_processes(Owner::Description(3), bytes(0, 15), Mode::Read);
+    for (number, blocks) in sharing.iter().enumerate() {
+        assert_eq!(rt; *blocks, number == 9, "process {number}");
+    }
+    Ok(())
+}
+
 /// A traditional and an OFD lock conflict, also from one process, and an owner's own lock doesn't block it.
 #[test]
 fn both_kinds_of_owner_meet(rt: HostRuntime) -> Result<(), Fail> {

@@ -1,9 +1,10 @@
 -- Runs made again: their fronts, the one state that they leave, and one more event.
-use Rattle.std.proofs.Common.{ℕ, zero, suc, ◌≡◌, ◌≢◌, ◌+◌, ◌<◌, ◌≤◌, refl, sym, ◌∙◌, ap, subst, arith, Bool, true, false, length, List, [], ◌∷◌, ◌++◌, ⊎_elim, Some, IfSome, slice_get, get_or, set, get_or-set_same, get_or-set_other, replicate, take, drop, length-append}
+use Rattle.std.proofs.Common.{ℕ, zero, suc, ◌≡◌, ◌≢◌, ◌+◌, ◌-◌, ◌<◌, ◌≤◌, refl, sym, ◌∙◌, ap, subst, arith, length, List, [], ◌∷◌, ◌++◌, ⊎_elim, Some, IfSome, slice_get, get_or, set, get_or-set_same, get_or-set_other, replicate, take, drop, length-append}
 use Rattle.std.specs.Prelude.{◌==◌}
-use Rattle.std.specs.Bool.{Decides}
+use Rattle.std.specs.declared.vec.Vec.{Vec}
+use Rattle.std.specs.declared.alloc.Global.{Global}
 use Rattle.std.proofs.lemmas.Bool.{cases_eq}
-use Rattle.std.proofs.lemmas.List.{take-append-drop, take_more}
+use Rattle.std.proofs.lemmas.List.{append_assoc, take-append-drop, take_more}
 use Rattle.std.proofs.lemmas.List.Elements.{filter-append}
 use Rattle.lock_manager.specs.declared.request.Rules.{Rules}
 use Rattle.lock_manager.specs.declared.request.Note.{Note}
@@ -14,7 +15,10 @@ use Rattle.lock_manager.specs.ManagerView.{StandsFor, rules_of, processes_of}
 use Rattle.session_core.specs.declared.check.Replay.{Replay}
 use Rattle.session_core.specs.Event.{Event}
 use Rattle.session_core.specs.Runs.{IsStep, IsRun, Leads, AreNumbered, events_of}
-use Rattle.session_core.specs.Replaying.{HasMade, IsNextOf, Repeats, count_of}
+use Rattle.session_core.specs.declared.check.Expected.{Expected}
+use Rattle.session_core.specs.declared.check.Expected.TheVariants.{NoRequest, NumberAfter, Notes}
+use Rattle.session_core.specs.Legality.{WouldHave}
+use Rattle.session_core.specs.Replaying.{HasMade, IsNextOf, IsOutOfTurn, Makes, Repeats, count_of}
 use Rattle.session_core.proofs.HeadlineLaws.{replayed_tallied}
 use Rattle.session_core.proofs.JournalLemmas.{events_of-push_own, events_of-push_other, IsReplayed-push}
 
@@ -99,10 +103,42 @@ IsNextOf-run one rules processes replay events event T made run =
       number = last.number ∙ ap (λ k. k + 1) (sym (made.counts event.p));
     }
 
--- where the event isn't the next of its process there is no run with it
-pub Repeats-not_next : StepHasOneOutcome → (old new : Replay) (event : Event) → (IsNextOf old event → ⊥) → Repeats old new event false
-Repeats-not_next one old new event other rules processes events made T run =
-    other (IsNextOf-run one rules processes old events event T made run)
+-- where no run goes on with the event, none begins with the events before it and then it
+not_begun : (rules : Rules) (processes : ℕ) (events : List Event) (event : Event)
+    → ((T : State) → ¬ IsRun rules processes (events ++ event ∷ []) T)
+    → (more : List Event) (T : State) → ¬ IsRun rules processes (events ++ event ∷ more) T
+not_begun rules processes events event none more T run =
+    let front =
+    IsRun-front rules processes (events ++ event ∷ []) more T
+    (subst (λ l. IsRun rules processes l T) (sym (append_assoc events (event ∷ []) more)) run) in
+    none front.0 front.1
+
+not_next : (replay : Replay) (event : Event) (expected : Expected) → IsOutOfTurn replay event expected → ¬ IsNextOf replay event
+not_next replay event (NoRequest state) out next = out.1 (sym out.0 ∙ next.able.live)
+not_next replay event (NumberAfter taken) out next = out.2 (next.number ∙ ap (λ k. k + 1) (sym out.1))
+not_next replay event (Notes notes) out next = out
+
+WouldHave-out_of_turn : (rules : Rules) (processes : ℕ) (replay : Replay) (events : List Event) (event : Event) (expected : Expected)
+    → (made : HasMade rules processes replay events) → IsOutOfTurn replay event expected
+    → WouldHave rules processes events made.replayed.state event expected
+WouldHave-out_of_turn rules processes replay events event (NoRequest state) made out =
+    (sym (made.replayed.stands.states event.p) ∙ out.0, out.1)
+WouldHave-out_of_turn rules processes replay events event (NumberAfter taken) made out =
+    (sym (made.replayed.stands.states event.p) ∙ out.0, out.1 ∙ made.counts event.p, out.2)
+WouldHave-out_of_turn rules processes replay events event (Notes notes) made out = absurd out
+
+-- where the event is out of turn it is illegal
+pub Repeats-out_of_turn : StepHasOneOutcome → (old new : Replay) (event : Event) (expected : Expected) → IsOutOfTurn old event expected
+    → Repeats old new event (Some expected)
+Repeats-out_of_turn one old new event expected out rules processes events made =
+    record {
+      state = made.replayed.state;
+      run = made_run rules processes old events made;
+      would_have = WouldHave-out_of_turn rules processes old events event expected made out;
+      none =
+          not_begun rules processes events event
+          (λ T run. not_next old event expected out (IsNextOf-run one rules processes old events event T made run));
+    }
 
 count_elsewhere : (counts : List ℕ) (place n p : ℕ) → suc place ≢ p → count_of (set counts place n) p ≡ count_of counts p
 count_elsewhere counts place n zero other = refl
@@ -128,54 +164,50 @@ count_of-push counts place events event at within number h p =
     count_elsewhere counts place event.n p (λ e. other (sym at ∙ e)) ∙ h p ∙ sym same)
     (cases_eq event.p p)
 
--- one more event, which the replay's manager told
-HasMade-push : (rules : Rules) (processes : ℕ) (old new : Replay) (events : List Event) (event : Event) (place : ℕ)
-    → IsNextOf old event → suc place ≡ event.p → new.taken.items ≡ set old.taken.items place event.n
-    → rules_of new.manager ≡ rules_of old.manager → processes_of new.manager ≡ processes_of old.manager
-    → ((S : State) → StandsFor old.manager S
-    → (T : State) × IsStep (rules_of old.manager) (processes_of old.manager) S event T × StandsFor new.manager T)
-    → HasMade rules processes old events → HasMade rules processes new (events ++ event ∷ [])
-HasMade-push rules processes old new events event place next at taken same_rules same_processes steps made =
+-- one more event, which the replay's manager told: the event's process and number are the next, and so many notes were told
+pub Makes-told : (old new : Replay) (event : Event) (place : ℕ) (notes : List Note) → IsNextOf old event → place ≡ event.p - 1
+    → new.taken.items ≡ set old.taken.items place event.n → rules_of new.manager ≡ rules_of old.manager
+    → processes_of new.manager ≡ processes_of old.manager
+    → ((S : State) → StandsFor old.manager S → (T : State)
+    × Step (rules_of old.manager) (processes_of old.manager) S event.p event.n event.request notes T × StandsFor new.manager T)
+    → Makes old new (record event { notes = notes })
+Makes-told old new event place notes next at taken same_rules same_processes steps rules processes events made =
+    let told : Event = record event { notes = notes } in
     let number : event.n ≡ length (events_of event.p events) + 1 = next.number ∙ ap (λ k. k + 1) (made.counts event.p) in
+    let low : 1 ≤ event.p = next.able.low in
     let high : event.p ≤ processes_of old.manager = next.able.high in
     let many : length old.taken.items ≡ processes_of old.manager = old.one_each in
+    let there : suc place ≡ event.p = omega arith in
     let within : place < length old.taken.items = omega arith in
     record {
       some = made.some;
       rules_are = same_rules ∙ made.rules_are;
       processes_are = same_processes ∙ made.processes_are;
-      replayed = IsReplayed-push old.manager new.manager events event number same_rules same_processes steps made.replayed;
+      replayed = IsReplayed-push old.manager new.manager events told number same_rules same_processes steps made.replayed;
       counts = λ p.
-          subst (λ counts. count_of counts p ≡ length (events_of p (events ++ event ∷ []))) (sym taken)
-          (count_of-push old.taken.items place events event at within next.number made.counts p);
+          subst (λ counts. count_of counts p ≡ length (events_of p (events ++ told ∷ []))) (sym taken)
+          (count_of-push old.taken.items place events told there within next.number made.counts p);
     }
 
--- the step of the next request was made, and the answer is whether it told the event's notes
-pub Repeats-taken : StepHasOneOutcome → (old new : Replay) (event : Event) (place : ℕ) (notes : List Note) (answer : Bool)
-    → Decides answer (notes ≡ event.notes) → IsNextOf old event → suc place ≡ event.p
-    → new.taken.items ≡ set old.taken.items place event.n → rules_of new.manager ≡ rules_of old.manager
-    → processes_of new.manager ≡ processes_of old.manager
-    → ((S : State) → StandsFor old.manager S → (T : State)
-    × Step (rules_of old.manager) (processes_of old.manager) S event.p event.n event.request notes T × StandsFor new.manager T)
-    → Repeats old new event answer
-Repeats-taken one old new event place notes true told next at taken same_rules same_processes steps rules processes events made =
-    HasMade-push rules processes old new events event place next at taken same_rules same_processes
-    (subst (λ l. (S : State) → StandsFor old.manager S → (T : State)
-    × Step (rules_of old.manager) (processes_of old.manager) S event.p event.n event.request l T × StandsFor new.manager T)
-    (told.0 refl) steps)
-    made
-Repeats-taken one old new event place notes false told next at taken same_rules same_processes steps rules processes events made =
-    λ T run.
-    let r = made.replayed in
-    let last = IsRun-last one rules processes events r.state event T (made_run rules processes old events made) run in
-    let made_step = steps r.state r.stands in
-    let step : Step rules processes r.state event.p event.n event.request notes made_step.0 =
-    subst (λ x. Step x processes r.state event.p event.n event.request notes made_step.0) made.rules_are
-    (subst (λ n. Step (rules_of old.manager) n r.state event.p event.n event.request notes made_step.0) made.processes_are made_step.1) in
-    let same : (notes ≡ event.notes) × (made_step.0 ≡ T) =
-    one rules processes r.state event.p event.n event.request notes event.notes made_step.0 T step last.step in
-    let no : false ≡ true = told.1 same.0 in
-    cc
+-- the step of the event's request was made, and told other notes: the event is illegal
+pub Repeats-other_notes : StepHasOneOutcome → (old new : Replay) (event : Event) (notes : Vec Note Global) → notes.items ≢ event.notes
+    → Makes old new (record event { notes = notes.items }) → Repeats old new event (Some (Notes notes))
+Repeats-other_notes one old new event notes other makes rules processes events made =
+    let told : Event = record event { notes = notes.items } in
+    let state = made.replayed.state in
+    let run = made_run rules processes old events made in
+    let more = run_of rules processes new (events ++ told ∷ []) (makes rules processes events made) in
+    let made_step = (IsRun-last one rules processes events state told more.0 run more.1).step in
+    record {
+      state = state;
+      run = run;
+      would_have = (other, more);
+      none =
+          not_begun rules processes events event
+          (λ T run'.
+          let step = (IsRun-last one rules processes events state event T run run').step in
+          other (one rules processes state event.p event.n event.request notes.items event.notes more.0 T made_step step).0);
+    }
 
 count_of-zeros : (many p : ℕ) → count_of (replicate many 0) p ≡ 0
 count_of-zeros many zero = refl
@@ -197,7 +229,7 @@ HasMade-opening rules processes replay many some rules_are processes_are opening
     }
 
 -- the events so far with this one are so many of all
-take_next : (events : List Event) (i : ℕ) (event : Event) → i < length events → event ≡ get_or events i event
+pub take_next : (events : List Event) (i : ℕ) (event : Event) → i < length events → event ≡ get_or events i event
     → take (i + 1) events ≡ take i events ++ event ∷ []
 take_next events i event within at = take_more events i event within ∙ ap (λ e. take i events ++ e ∷ []) (sym at)
 
@@ -209,10 +241,3 @@ no_run rules processes events i event within at none T run =
     let all : events ≡ take (i + 1) events ++ drop (i + 1) events = sym (take-append-drop (i + 1) events) in
     let front = IsRun-front rules processes (take (i + 1) events) (drop (i + 1) events) T (subst (λ l. IsRun rules processes l T) all run) in
     none front.0 (subst (λ l. IsRun rules processes l front.0) (take_next events i event within at) front.1)
-
--- one entry more was made
-pub HasMade-more : (rules : Rules) (processes : ℕ) (replay : Replay) (events : List Event) (i : ℕ) (event : Event) → i < length events
-    → event ≡ get_or events i event → HasMade rules processes replay (take i events ++ event ∷ [])
-    → HasMade rules processes replay (take (i + 1) events)
-HasMade-more rules processes replay events i event within at made =
-    subst (λ l. HasMade rules processes replay l) (sym (take_next events i event within at)) made

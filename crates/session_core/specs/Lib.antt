@@ -9,5 +9,7 @@ pub mod Headline
 pub mod SessionView
 pub mod Deliveries
 pub mod OneDrain
+pub mod Legality
 pub mod Replaying
+pub mod Checking
 pub mod QueuePolicy

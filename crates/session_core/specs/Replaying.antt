@@ -1,13 +1,15 @@
 -- What it is to make a run again (the words are this project's choice).
-use Rattle.std.specs.Prelude.{◌≡◌, ◌+◌, ◌≤◌, ℕ, zero, suc, Bool, List, [], ◌∷◌, ◌++◌, length, slice_index, MatchBool}
+use Rattle.std.specs.Prelude.{◌≡◌, ◌≢◌, ◌+◌, ◌≤◌, ℕ, zero, suc, Option, List, [], ◌∷◌, ◌++◌, length, slice_index, MatchOption}
 use Rattle.lock_manager.specs.declared.request.Rules.{Rules}
 use Rattle.lock_manager.specs.declared.request.ProcState.TheVariants.{Live}
-use Rattle.lock_manager.specs.State.{State}
 use Rattle.lock_manager.specs.ManagerView.{rules_of, processes_of, state_at}
 use Rattle.session_core.specs.declared.check.Replay.{Replay}
+use Rattle.session_core.specs.declared.check.Expected.{Expected}
+use Rattle.session_core.specs.declared.check.Expected.TheVariants.{NoRequest, NumberAfter, Notes}
 use Rattle.session_core.specs.Event.{Event}
-use Rattle.session_core.specs.Runs.{IsRun, events_of}
+use Rattle.session_core.specs.Runs.{events_of}
 use Rattle.session_core.specs.Draining.{IsReplayed}
+use Rattle.session_core.specs.Legality.{IsIllegal}
 
 -- how many requests were taken of a process: the count of process p stands at place p - 1
 abbrev pub count_of : List ℕ → ℕ → ℕ
@@ -34,9 +36,25 @@ pub record IsNextOf (replay : Replay) (event : Event) : Type 0 where
   pub able : IsAble replay event.p
   pub number : event.n ≡ count_of replay.taken.items event.p + 1
 
--- whatever run the old replay made, where the answer is true the new one made the event too, and else no run goes on with it
-abbrev pub Repeats : Replay → Replay → Event → Bool → Type 0
+-- the event isn't the next of its process, and this is expected: no request of it, where it stands so, or the number behind this one
+abbrev pub IsOutOfTurn : Replay → Event → Expected → Type 0
+IsOutOfTurn replay event (NoRequest state) = (state_at replay.manager event.p ≡ state) × (state ≢ Live)
+IsOutOfTurn replay event (NumberAfter taken) =
+    (state_at replay.manager event.p ≡ Live) × (taken ≡ count_of replay.taken.items event.p) × (event.n ≢ taken + 1)
+IsOutOfTurn replay event (Notes notes) = ⊥
+
+-- whatever run the old replay made, the new one made it too
+abbrev pub Keeps : Replay → Replay → Type 0
+Keeps old new = (rules : Rules) (processes : ℕ) (events : List Event) → HasMade rules processes old events → HasMade rules processes new events
+
+-- whatever run the old replay made, the new one made it and then the event
+abbrev pub Makes : Replay → Replay → Event → Type 0
+Makes old new event =
+    (rules : Rules) (processes : ℕ) (events : List Event) → HasMade rules processes old events
+    → HasMade rules processes new (events ++ event ∷ [])
+
+-- whatever run the old replay made, the new one made the event too, where nothing else is expected, and else the event is illegal
+abbrev pub Repeats : Replay → Replay → Event → Option Expected → Type 0
 Repeats old new event answer =
     (rules : Rules) (processes : ℕ) (events : List Event) → HasMade rules processes old events
-    → MatchBool answer (HasMade rules processes new (events ++ event ∷ []))
-    ((T : State) → ¬ IsRun rules processes (events ++ event ∷ []) T)
+    → MatchOption answer (HasMade rules processes new (events ++ event ∷ [])) (λ expected. IsIllegal rules processes events event expected)

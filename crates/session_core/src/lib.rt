@@ -12,7 +12,7 @@ mod session;
 mod tests;
 mod window;
 
-pub use check::check_journal;
+pub use check::{CheckFault, Expected, JournalChecker, check_journal};
 pub use entry::{Entry, Notes};
 pub use laws::{
     arrivals_have_one_drain, every_run_goes_on, requests_join_the_queue, waits_are_granted_in_turn,

@@ -1,13 +1,13 @@
-ghost use Rattle.std.specs.Prelude.{ℕ, ◌≡◌, ◌+◌, ◌-◌, ◌<◌, ◌≤◌, ◌==◌, ◌↔◌, All, IfOk, OnErr, IfSome, IfNone, Err, Some, if◌then◌else◌, length, option_copied, take};
+ghost use Rattle.std.specs.Prelude.{ℕ, ◌≡◌, ◌+◌, ◌-◌, ◌<◌, ◌≤◌, ◌==◌, ◌↔◌, All, IfOk, OnErr, IfSome, IfNone, Err, None, Some, if◌then◌else◌, length, option_copied, take};
 ghost use Rattle.fd_table.specs.Descriptors.{process_limit};
 ghost use Rattle.lock_manager.specs.ManagerView.{processes_of, state_at};
 ghost use Rattle.session_core.specs.Mail.{events_of, answers_to, reply_to};
 ghost use Rattle.session_core.specs.Mailboxes.{IsMailKept, IsMailInside, IsEmptyMailbox, mail_sent, mailbox_of};
-ghost use Rattle.session_core.specs.LastAnswers.{AreLastAnswers};
+ghost use Rattle.session_core.specs.LastAnswers.{AreLastAnswers, latest};
 ghost use Rattle.session_core.specs.Draining.{next_untaken, HasNoMailBelow, IsDrained};
 ghost use Rattle.session_core.specs.Headline.{Holds};
 
-use crate::answers::LastAnswers;
+use crate::answers::{Answer, LastAnswers};
 use crate::entry::find_reply;
 use crate::mailbox::Mailbox;
 use crate::window::Window;
@@ -149,19 +149,26 @@ impl Session {
         ensures { result ≡ length (answers_to p (events_in self.now)) }
     {
         // The answers to a process have the numbers 1, 2, and so on.
-        self.answers.of(p).map_or(0, |last| last.n)
+        self.last_answer(p).map_or(0, |last| last.n)
     }
 
     /// The answer to request number `n` of the process, if there is such a process and it was answered.
     pub fn answer_of(&self, p: u8, n: u64) -> Option<Reply>
         ensures { result ≡ reply_to p n (events_in self.now) }
     {
-        let last = self.answers.of(p)?;
+        let last = self.last_answer(p)?;
         match n.cmp(&last.n) {
             Ordering::Less => self.find_answer(p, n),
             Ordering::Equal => Some(last.reply),
             Ordering::Greater => None,
         }
+    }
+
+    /// The last answer to the process: `None` also where there is no such process.
+    fn last_answer(&self, p: u8) -> Option<Answer>
+        ensures { result ≡ latest None (answers_to p (events_in self.now)) }
+    {
+        self.answers.of(p)
     }
 
     /// The answer to request number `n` of the process, looked for in the whole journal.

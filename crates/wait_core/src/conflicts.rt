@@ -1,4 +1,4 @@
-ghost use Rattle.std.specs.Prelude.{ℕ, ◌≡◌, ◌<◌, ◌≤◌, ◌↔◌, IsTrue, All, Any, length};
+ghost use Rattle.std.specs.Prelude.{ℕ, ◌≡◌, ◌<◌, ◌≤◌, ◌↔◌, false, IsTrue, All, Any, length, slice_index_or};
 ghost use Rattle.range_core.specs.Ranges.{IsByteRange};
 ghost use Rattle.lock_book.specs.Conflicts.{ProcessBlocks};
 ghost use Rattle.wait_core.specs.Locks.{locks_of};
@@ -62,13 +62,23 @@ impl Wait {
         requires range { IsByteRange self.now.span }
         ensures { let locks = locks_of books.now in (q : ℕ) → 1 ≤ q → q ≤ PROCESSES → IsTrue (is_member result q) ↔ ProcessBlocks (locks.bytes self.now.file) q self.now.owner self.now.span self.now.mode }
     {
+        let blocks = self.blocked_by_processes(books);
         let mut blocking = ProcessSet::empty();
         for q in 1..=PROCESSES {
-            if self.is_blocked_by_process(q, books) {
+            if blocks[usize::from(q)] {
                 blocking = blocking.with(q);
             }
         }
         blocking
+    }
+
+    /// Of each process, by its number, whether a traditional lock of it blocks the wait.
+    fn blocked_by_processes(&self, books: &[Book]) -> [bool; 256]
+        requires file { self.now.file < length books.now }
+        requires range { IsByteRange self.now.span }
+        ensures { let locks = locks_of books.now in (q : ℕ) → q < 256 → IsTrue (slice_index_or result q false) ↔ ProcessBlocks (locks.bytes self.now.file) q self.now.owner self.now.span self.now.mode }
+    {
+        books[usize::from(self.file)].blocking_processes(self.owner, self.span, self.mode)
     }
 
     /// Whether a traditional lock of the process blocks the wait.

@@ -1,4 +1,4 @@
-ghost use Rattle.std.specs.Prelude.{◌≡◌, ◌↔◌, nat_lt, IfSome, IfNone, IsTrue, MatchOption};
+ghost use Rattle.std.specs.Prelude.{ℕ, ◌≡◌, ◌<◌, ◌↔◌, false, nat_lt, slice_index_or, IfSome, IfNone, IsTrue, MatchOption};
 ghost use Rattle.range_core.specs.Ranges.{IsByteRange};
 ghost use Rattle.lock_book.specs.Conflicts.{ByteConflict, IsFirstBlocked, IsFirstBlocker, ProcessBlocks};
 ghost use Rattle.lock_book.specs.Books.{byte_modes_of};
@@ -36,6 +36,24 @@ impl Book {
             Some(list) => other != owner && list.first_hit(span, mode).is_some(),
             None => false,
         }
+    }
+
+    /// Of each process, by its number, whether a traditional lock of it blocks, as [`Book::process_blocks`] tells: the owners are
+    /// gone through once. It takes no memory.
+    pub fn blocking_processes(&self, owner: Owner, span: Span, mode: Mode) -> [bool; 256]
+        requires { IsByteRange span }
+        ensures { (process : ℕ) → process < 256 → IsTrue (slice_index_or result process false) ↔ ProcessBlocks (byte_modes_of self.now) process owner span mode }
+    {
+        let mut blocking = [false; 256];
+        for (other, list) in &self.owners {
+            // The processes come before the descriptions.
+            let other = *other;
+            let Owner::Process(process) = other else {
+                return blocking;
+            };
+            blocking[usize::from(process)] = other != owner && list.first_hit(span, mode).is_some();
+        }
+        blocking
     }
 
     /// The lock that a get command reports (POSIX.1-2017 fcntl, `F_GETLK`): at the least byte of the span that is

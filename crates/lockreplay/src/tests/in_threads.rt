@@ -78,8 +78,9 @@ fn processes_run_side_by_side(rt: HostRuntime) -> Result<(), Fail> {
     assert!(rt; !meeting.alone.load(Ordering::SeqCst));
     let journal = report.session.journal();
     assert_eq!(rt; journal.len(), 2);
-    assert_eq!(rt; journal[0].p, 1);
-    assert_eq!(rt; journal[1].p, 2);
+    let (first, second) = (&journal[0], &journal[1]);
+    assert_eq!(rt; first.p, 1);
+    assert_eq!(rt; second.p, 2);
     Ok(())
 }
 

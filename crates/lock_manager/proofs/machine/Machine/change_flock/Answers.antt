@@ -23,25 +23,12 @@ invariant_of-self c =
     (ap (λ i. slice_set books i c.flock_set_reserved.new.self) c.from.ensures) within was c.requires.owner c.requires.free sets
     (record { waits = c.touch.ensures.waits; policy = c.touch.ensures.policy; processes = c.touch.ensures.processes })
     c.touch.ensures.told (c.touch.ensures.blocked c.requires.file) in
-    record {
-      files = machine.files;
-      numbered = machine.numbered;
-      tabled = machine.tabled;
-      limited = machine.limited;
-      alive = machine.alive;
-      compatible = kept.compatible;
-      owned = kept.owned;
-      within = kept.within;
-      policy = kept.policy;
-      counted = kept.counted;
-      told = kept.told;
-      blocked = kept.blocked;
-      apart = kept.apart;
-      suspended = subst (All (IsSuspended machine.tables machine.states.items)) (sym c.touch.ensures.waits) machine.suspended;
-      awaited = awaited_in machine.states.items (waits_of machine.waits) (waits_of c.touch.new.self) c.touch.ensures.waits machine.awaited;
-      room = kept.room;
-      free_of_cycles = kept.free_of_cycles;
-    }
+    assumption (
+      machine,
+      kept,
+      subst (All (IsSuspended machine.tables machine.states.items)) (sym c.touch.ensures.waits) machine.suspended,
+      awaited_in machine.states.items (waits_of machine.waits) (waits_of c.touch.new.self) c.touch.ensures.waits machine.awaited,
+    )
 
 pub returns-clause-shows : goal.returns-clause-shows
 returns-clause-shows c S h =

@@ -66,25 +66,12 @@ invariant_of-self c =
     (record { waits = c.refresh_owner.ensures.waits; policy = c.refresh_owner.ensures.policy; processes = c.refresh_owner.ensures.processes })
     (λ agree alone. stays_known machine.waits c.refresh_owner.new.self books (slice_set books c.from.result c.set_reserved.new.self) c.deref.result.now wait.file wait.owner wait.span c.deref.ensures.value c.requires.grantable.well_formed.file
     c.refresh_owner.ensures.told c.refresh_owner.ensures.blocked agree alone) in
-    record {
-      files = machine.files;
-      numbered = machine.numbered;
-      tabled = machine.tabled;
-      limited = machine.limited;
-      alive = machine.alive;
-      compatible = kept.compatible;
-      owned = kept.owned;
-      within = kept.within;
-      policy = kept.policy;
-      counted = kept.counted;
-      told = kept.told;
-      blocked = kept.blocked;
-      apart = kept.apart;
-      suspended = subst (All (IsSuspended machine.tables machine.states.items)) (sym c.refresh_owner.ensures.waits) machine.suspended;
-      awaited = awaited_in machine.states.items (waits_of machine.waits) (waits_of c.refresh_owner.new.self) c.refresh_owner.ensures.waits machine.awaited;
-      room = kept.room;
-      free_of_cycles = kept.free_of_cycles;
-    }
+    assumption (
+      machine,
+      kept,
+      subst (All (IsSuspended machine.tables machine.states.items)) (sym c.refresh_owner.ensures.waits) machine.suspended,
+      awaited_in machine.states.items (waits_of machine.waits) (waits_of c.refresh_owner.new.self) c.refresh_owner.ensures.waits machine.awaited,
+    )
 
 pub returns : goal.returns
 unfolding machine_waits machine_state machine_rules machine_processes

@@ -13,25 +13,7 @@ invariant_of-self c =
     let kept = kept_by_place machine (slice_set books c.from.result c.flock_reserve.new.self) c.args.file c.index_mut.result.now c.flock_reserve.new.self
     (ap (λ i. slice_set books i c.flock_reserve.new.self) c.from.ensures) within was
     (place_taken c.index_mut.result.now c.flock_reserve.new.self c.args.description c.flock_reserve.result c.flock_reserve.ensures.ok c.flock_reserve.ensures.err) in
-    record {
-      files = machine.files;
-      numbered = machine.numbered;
-      tabled = machine.tabled;
-      limited = machine.limited;
-      alive = machine.alive;
-      compatible = kept.compatible;
-      owned = kept.owned;
-      within = kept.within;
-      policy = kept.policy;
-      counted = kept.counted;
-      told = kept.told;
-      blocked = kept.blocked;
-      apart = kept.apart;
-      suspended = machine.suspended;
-      awaited = machine.awaited;
-      room = kept.room;
-      free_of_cycles = kept.free_of_cycles;
-    }
+    assumption (machine, kept)
 
 pub returns-clause-place : goal.returns-clause-place
 returns-clause-place c =

@@ -17,22 +17,16 @@ invariant_of-self c =
     let locks = locks_of machine.books.items in
     let waits = c.forget_changes.new.self in
     let now = c.forget_changes.ensures in
-    record {
-      files = machine.files;
-      numbered = machine.numbered;
-      tabled = machine.tabled;
-      limited = machine.limited;
-      alive = machine.alive;
-      compatible = machine.compatible;
-      owned = subst (AreOwned machine.tables locks) (sym now.waits) machine.owned;
-      within = machine.within;
-      policy = now.policy ∙ machine.policy;
-      counted = now.processes ∙ machine.counted;
-      told = ∥∥₁_map machine.told (now.told locks);
-      blocked = ∣ now.blocked locks (subst (λ policy. AllBlocked policy locks [] (waits_of machine.waits)) (sym machine.policy) c.requires) ∣₁;
-      apart = subst AreApart (sym now.waits) machine.apart;
-      suspended = subst (All (IsSuspended machine.tables machine.states.items)) (sym now.waits) machine.suspended;
-      awaited = awaited_in machine.states.items (waits_of machine.waits) (waits_of waits) now.waits machine.awaited;
-      room = subst (HaveRoom machine.books.items) (sym now.waits) machine.room;
-      free_of_cycles = subst (IsFreeOfCycles machine.rules.policy locks) (sym now.waits) machine.free_of_cycles;
-    }
+    assumption (
+      machine,
+      subst (AreOwned machine.tables locks) (sym now.waits) machine.owned,
+      now.policy ∙ machine.policy,
+      now.processes ∙ machine.counted,
+      ∥∥₁_map machine.told (now.told locks),
+      ∣ now.blocked locks (subst (λ policy. AllBlocked policy locks [] (waits_of machine.waits)) (sym machine.policy) c.requires) ∣₁,
+      subst AreApart (sym now.waits) machine.apart,
+      subst (All (IsSuspended machine.tables machine.states.items)) (sym now.waits) machine.suspended,
+      awaited_in machine.states.items (waits_of machine.waits) (waits_of waits) now.waits machine.awaited,
+      subst (HaveRoom machine.books.items) (sym now.waits) machine.room,
+      subst (IsFreeOfCycles machine.rules.policy locks) (sym now.waits) machine.free_of_cycles,
+    )

@@ -27,25 +27,7 @@ invariant_of-self c =
     let kept = kept_by_none machine (slice_set books c.from.result c.reserve.new.self) c.args.wanted.file c.index_mut.result.now c.reserve.new.self
     (ap (λ i. slice_set books i c.reserve.new.self) c.from.ensures) within
     (book_at books c.from.result c.args.wanted.file _ c.from.ensures within c.index_mut.ensures.value) c.in_err-reserve.ensures.err in
-    record {
-      files = machine.files;
-      numbered = machine.numbered;
-      tabled = machine.tabled;
-      limited = machine.limited;
-      alive = machine.alive;
-      compatible = kept.compatible;
-      owned = kept.owned;
-      within = kept.within;
-      policy = kept.policy;
-      counted = kept.counted;
-      told = kept.told;
-      blocked = kept.blocked;
-      apart = kept.apart;
-      suspended = machine.suspended;
-      awaited = machine.awaited;
-      room = kept.room;
-      free_of_cycles = kept.free_of_cycles;
-    }
+    assumption (machine, kept)
 
 pub returns-in_err-reserve-clause-memory : goal.returns-in_err-reserve-clause-memory
 returns-in_err-reserve-clause-memory c =

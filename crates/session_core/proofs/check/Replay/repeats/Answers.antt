@@ -1,37 +1,25 @@
-use Rattle.std.proofs.Common.{◌≡◌, ◌∙◌, ap, subst, refl, suc, ◌-◌, arith, true, false, set}
-use Rattle.std.specs.Bool.{Decides}
-use Rattle.lock_manager.specs.State.{State}
-use Rattle.lock_manager.specs.Step.{Step}
-use Rattle.lock_manager.specs.ManagerView.{StandsFor, rules_of, processes_of}
-use Rattle.session_core.specs.Event.{Event}
-use Rattle.session_core.specs.Replaying.{IsNextOf}
-use Rattle.session_core.proofs.ReplayLemmas.{Repeats-not_next, Repeats-taken}
+use Rattle.std.proofs.Common.{◌≡◌, ◌≢◌, ◌∙◌, ap, sym, subst, refl, false, true}
+use Rattle.session_core.specs.Replaying.{Makes}
+use Rattle.session_core.proofs.ReplayLemmas.{Repeats-out_of_turn, Repeats-other_notes}
 use Rattle.session_core.proofs.check.Replay.repeats.Goals as goal
 
-pub returns-then-not-is_next : goal.returns-then-not-is_next
-returns-then-not-is_next c =
-    Repeats-not_next c.step_has_one_outcome.ensures c.args.self.now c.args.self.now c.args.entry.now
-    (λ next. let no : false ≡ true = c.if-not-is_next.ensures.1 next in cc)
+pub returns-in-Some-clause-ok : goal.returns-in-Some-clause-ok
+returns-in-Some-clause-ok c =
+    Repeats-out_of_turn c.step_has_one_outcome.ensures c.args.self.now c.args.self.now c.args.entry.now c.in-Some.expected c.in-Some.ensures
 
-pub returns : goal.returns
-returns c =
-    let old = c.args.self.now in
-    let inside = c.entry.inside in
+pub returns-then-are_same-clause-ok : goal.returns-then-are_same-clause-ok
+returns-then-are_same-clause-ok c =
     let event = c.args.entry.now in
-    let view : Event = record { p = inside.p; n = inside.n; request = inside.request; notes = inside.notes } in
-    let same : view ≡ event = c.entry.view_is in
-    let notes = c.in_ok-notes.notes.items in
-    let place = c.from.result - 1 in
-    let next : IsNextOf old event = c.if-not-is_next.ensures.0 refl in
-    let told : Decides c.are_same.result (notes ≡ event.notes) =
-    subst (λ l. Decides c.are_same.result (notes ≡ l)) (c.as_slice.ensures ∙ ap (λ e. e.notes) same)
-    (subst (λ l. Decides c.are_same.result (l ≡ c.as_slice.result.now)) c.deref.ensures.value c.are_same.ensures) in
-    let low = next.able.low in
-    let at : suc place ≡ event.p = let process = c.from.ensures ∙ ap (λ e. e.p) same in omega arith in
-    let steps =
-    subst
-    (λ e. (S : State) → StandsFor old.manager S → (T : State)
-    × Step (rules_of old.manager) (processes_of old.manager) S e.p e.n e.request notes T × StandsFor c.take.new.self T)
-    same c.in_ok-notes.ensures.step in
-    Repeats-taken c.step_has_one_outcome.ensures old _ event place notes c.are_same.result told next at
-    (ap (λ e. set old.taken.items place e.n) same) c.take.ensures.rules c.take.ensures.processes steps
+    let same : c.in_ok-notes.notes.items ≡ event.notes =
+    sym c.deref.ensures.value ∙ c.if-are_same.ensures.0 refl ∙ c.as_slice.ensures ∙ ap (λ e. e.notes) c.entry.view_is in
+    subst (λ notes. Makes c.args.self.now c.take.new.self (record event { notes = notes })) same c.in_ok-notes.ensures.ok
+
+pub returns-else-are_same-clause-ok : goal.returns-else-are_same-clause-ok
+returns-else-are_same-clause-ok c =
+    let event = c.args.entry.now in
+    let other : c.in_ok-notes.notes.items ≢ event.notes =
+    λ same.
+    let kept : c.as_slice.result.now ≡ event.notes = c.as_slice.ensures ∙ ap (λ e. e.notes) c.entry.view_is in
+    let no : false ≡ true = c.if-are_same.ensures.1 (c.deref.ensures.value ∙ same ∙ sym kept) in
+    cc in
+    Repeats-other_notes c.step_has_one_outcome.ensures c.args.self.now c.take.new.self event c.in_ok-notes.notes other c.in_ok-notes.ensures.ok
