@@ -7,8 +7,10 @@ work=$(mktemp -d)
 trap 'rm -rf "$work"' EXIT
 cp "$1" "$work/lockreplay"
 cp -r "$(dirname "$0")/command-line" "$work/here"
+sed -n 's/^## /lockreplay /p' "$(dirname "$0")/../CHANGELOG.md" | head -n 1 > "$work/here/version.err"
 cd "$work/here"
 cp conversion ./-conversion
+cp deadlock ./-
 passed=0
 failed=0
 
@@ -54,6 +56,9 @@ check 0 conversion.out empty conversion --
 check 0 conversion.out empty empty -- -conversion
 check 0 long.out empty empty long
 check 0 long.out empty long
+check 0 conversion.out empty conversion -
+check 0 conversion.out empty conversion -- -
+check 0 deadlock.out empty conversion ./-
 check 2 empty faulty.err empty faulty
 check 2 empty faulty.err faulty
 
@@ -68,6 +73,9 @@ check 1 empty read-failed.err empty "$(printf '\377')"
 check 2 empty help.err empty --help
 check 2 empty help.err conversion -h
 check 2 empty help.err empty missing --help
+check 2 empty version.err conversion --version
+check 2 empty version.err empty -V
+check 2 empty version.err empty missing --version
 check 2 empty two-files.err empty conversion missing
 check 2 empty two-files.err empty missing missing
 check 2 empty two-files.err empty -- conversion missing
@@ -90,6 +98,14 @@ status=0 output=same-byte.first errors=empty ended=0
 "$work/lockreplay" --threads same-byte > "$work/output" 2> "$work/errors" || ended=$?
 if cmp -s same-byte.second "$work/output"; then output=same-byte.second; fi
 judge "lockreplay --threads same-byte"
+
+# The help's first screen and its lines fit a terminal of 24 by 80.
+if awk 'length($0) > 80 { exit 1 } NR == 25 && $0 != "" { exit 1 }' help.err; then
+    passed=$((passed + 1))
+else
+    failed=$((failed + 1))
+    echo "help.err: a line is longer than 80 columns, or the first screen doesn't end at line 24" >&2
+fi
 
 # Standard output takes nothing.
 status=1 output=empty errors=write-failed.err ended=0

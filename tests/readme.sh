@@ -1,5 +1,6 @@
 #!/bin/sh
-# Runs each `lockreplay` command that the README shows with its output, and compares the two.
+# Runs each `lockreplay` command that the README shows with its output, and compares the two; and looks that the lines of Rattle which
+# it shows are those of a test, one after another.
 # Usage: readme.sh PROGRAM
 set -eu
 program=$(cd "$(dirname "$1")" && pwd)/$(basename "$1")
@@ -35,6 +36,12 @@ while read -r command; do
     esac
     judge "$command" "$work/shown" "$work/seen"
 done < "$work/commands"
+
+# The block that begins with the test's first line, against as many lines of the test.
+awk '/^    let open = / { on = 1 } on && !/^    / { exit } on' README.md > "$work/shown"
+lines=$(wc -l < "$work/shown")
+awk -v lines="$lines" '/^    let open = / { on = 1 } on && count++ < lines' crates/lockreplay/src/tests/example.rt > "$work/seen"
+judge 'the lines of Rattle' "$work/shown" "$work/seen"
 
 echo "$passed passed, $failed failed"
 [ "$failed" -eq 0 ] && [ "$passed" -gt 2 ]

@@ -1,5 +1,6 @@
 -- What the program's command line says (the command line is this project's choice).
 use Rattle.std.specs.Prelude.{◌≡◌, ◌≢◌, Bool, true, false, List, [], ◌∷◌, Option, Some, None, Result, MatchResult, IsErr, codes, option_map}
+use Rattle.clap.specs.Simple.{on_top}
 use Rattle.clap.specs.Words.{App, Rule, Text, first_of, kind_of, matches_of, one_of, new_app, new_rule, with_rule}
 use Rattle.clap.specs.declared.builder.action.ArgAction.TheVariants.{SetTrue}
 use Rattle.clap.specs.declared.error.Error.{Error}
@@ -14,9 +15,13 @@ file_argument = record (new_rule (codes "file")) { value_names = 1 }
 abbrev pub threads_flag : Rule
 threads_flag = record (new_rule (codes "threads")) { long = Some (codes "threads"); action = Some SetTrue }
 
--- the command `lockreplay [--threads] [FILE]`, to which clap adds `--help` and `-h`
+-- the command with that name, which has a version
+abbrev pub versioned_app : App
+versioned_app = on_top (λ shape. record shape { has_version = true }) (new_app (codes "lockreplay"))
+
+-- the command `lockreplay [--threads] [FILE]`, to which clap adds `--help`, `-h`, `--version` and `-V`
 abbrev pub command_line : App
-command_line = with_rule (with_rule (new_app (codes "lockreplay")) threads_flag) file_argument
+command_line = with_rule (with_rule versioned_app threads_flag) file_argument
 
 -- the FILE of these words, the first of which is the program's name, by the matches that clap states for them
 abbrev pub file_of : List Text → Option Text

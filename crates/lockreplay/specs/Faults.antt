@@ -14,7 +14,7 @@ status_of faults.Memory = 1
 status_of (faults.Script fault) = 2
 status_of faults.Thread = 1
 
--- a command line that is refused, or asks for help, ends with 2 as well (this project's choice)
+-- a command line that is refused, or asks for help or the version, ends with 2 as well (this project's choice)
 abbrev pub exit_status : Fault → ℕ
 exit_status (CommandLine error) = 2
 exit_status (Run fault) = status_of fault

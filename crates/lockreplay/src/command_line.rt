@@ -31,66 +31,112 @@ pub fn options<'a>(alloc: Global, words: &'a [String]) -> Result<Options<'a>, cl
     })
 }
 
-/// The command, with the text of its help.
+/// The command, with its version and the text of its help.
 fn command<'a>(alloc: Global) -> Result<Command<'a>, AllocError>
     ensures { IfOk result (λ command. app_of command ≡ command_line) }
 {
     let threads = Arg::new(alloc, "threads")
         .long("threads")
         .action(ArgAction::SetTrue)
-        .help("Each process that requests something runs in a thread of its own");
+        .help("A thread for each process that requests something");
     let file = Arg::new(alloc, "file")
         .value_name("FILE")
-        .help("The script; without it, standard input is read");
+        .help("The script; without it, or where it is -, standard input");
     Command::new(alloc, "lockreplay")
+        .version(VERSION)
         .about(ABOUT)
         .after_help(GUIDE)
         .arg(threads)?
         .arg(file)
 }
 
+/// The version of the program, which is the topmost of CHANGELOG.md.
+const VERSION: &str = "0.2.0";
+
 /// What the program does.
-const ABOUT: &str =
-    "Replays a script of requests for advisory file locks: prints each event, and then what is held";
+const ABOUT: &str = "Replays a script of advisory lock requests (fcntl, OFD, flock): who is answered
+what, what is then held, and who still waits. No file of the machine is locked.";
 
-/// How a script is written and what comes of it.
-const GUIDE: &str = "Script:
-  A line for each request: the number of a process, 1 to 16, and one of those below. Process 1 lives
-  at the start. Lines without words are skipped, and so are those that begin with #. The files are
-  numbers, 0 to 63: no file of the machine is locked.
+/// How a script is written, and what comes of it. With what clap puts before it, its first 11 lines fill a screen of 24.
+const GUIDE: &str = "Exit status:
+  0  the script was replayed
+  1  FILE can't be opened, reading or writing failed, or no memory or thread
+  2  the script or the command line is refused; also --help and --version
 
-  open FILE ACCESS       ACCESS is r, w or rw
+Example:
+  $ printf '1 open 0 rw\\n1 setlk 0 w set 0 100\\n' | lockreplay
+  1#1 open 0 rw | 1#1 fd 0
+  1#2 setlk 0 w set 0 100 | 1#2 ok
+  lock 0 process 1 w 0 99
+  proc 1 sent 2 taken 2 answered 2 live
+
+Script:
+  A line for each request: the number of a process, 1 to 16, and one of those
+  below. Process 1 lives at the start. Requests of a process that was never born
+  or has ended stay untaken; those of one that waits stay until its wait ends.
+  Blank lines and those that begin with # are skipped. A line ends with LF and
+  has 120 bytes at most; CR, tab and BOM are refused. 1 MiB a script at most.
+
+  open FILE ACCESS       FILE is 0 to 63, ACCESS r, w or rw; gives the lowest
+                         free descriptor, 0 to 31
   dup FD                 gives the lowest free descriptor
   dup2 FD FD             the second then refers to what the first does
   close FD
   seek FD OFFSET         from the start of the file
   resize FD SIZE
   getlk FD KIND WHENCE START LENGTH [PID]
-                         which lock of fcntl is in the way of this one
-  setlk, setlkw ..       set it, and setlkw waits for it; KIND is r, w or u, WHENCE set, cur or end
+                         which lock of another owner is in the way of this one
+  setlk ..               sets a lock of the process, or removes it
+  setlkw ..              the same, and waits where it is blocked
   ogetlk, osetlk, osetlkw ..
                          the same for a lock of the open file description
   flock FD OP [nb]       OP is sh, ex or un; with nb it doesn't wait
   fork PROCESS           the process then lives, as a child
   signal PROCESS         ends its wait
-  kill PROCESS
-  exit
+  kill PROCESS           ends the process
+  exit                   so does this, for the one that requests it
 
-  Before all requests, at most once each:
-  policy held|queue      under queue a request waits behind earlier waits too; held where not said
-  limits small|wide      wide has processes 1 to 64, with 256 descriptors each; small where not said
+  KIND is r, w or u (unlock), WHENCE set, cur or end. LENGTH 0 reaches to the
+  largest offset, a negative LENGTH names the bytes before the start. PID is 0
+  where it isn't written, and has to be 0 for ogetlk, osetlk and osetlkw.
 
-Example:
-  $ printf '1 open 0 rw\\n1 setlk 0 w set 0 100\\n1 setlk 0 r set 40 20\\n' | lockreplay
-  1#1 open 0 rw | 1#1 fd 0
-  1#2 setlk 0 w set 0 100 | 1#2 ok
-  1#3 setlk 0 r set 40 20 | 1#3 ok
-  lock 0 process 1 w 0 39
-  lock 0 process 1 r 40 59
-  lock 0 process 1 w 60 99
-  proc 1 sent 3 taken 3 answered 3 live
+  Before all requests, each once at most:
+  policy held|queue      under queue a request waits behind earlier waits too;
+                         held where not said
+  limits small|wide      wide has processes 1 to 64, with the descriptors 0 to
+                         255 each; small where not said
 
-Exit status:
-  0  the script was replayed
-  1  reading or writing failed, or memory or a thread was refused
-  2  the command line or the script is refused; also with --help";
+Output:
+  A line for each event, with its answers; 2#1 is request 1 of process 2:
+    1#1 open 0 rw | 1#1 fd 0                  the descriptor that it gives
+    1#2 fork 2 | 1#2 ok                       done
+    1#3 setlk 0 w set 0 9 | 1#3 ok            done
+    2#1 setlkw 0 w set 5 1 | 2#1 waits        blocked: answered later, or never
+    1#4 setlk 0 u set 5 4 | 1#4 ok | 2#1 ok   done, and the wait is granted
+    1#5 getlk 0 r set 6 1 | 1#5 free          nothing is in the way
+    1#6 getlk 0 r set 0 0 | 1#6 held w 5 1 2  held MODE START LENGTH PID is in
+                                              the way; LENGTH 0 reaches to the
+                                              largest offset, PID -1 is OFD
+    1#7 setlk 0 w set 5 1 | 1#7 EAGAIN        refused, by the error's name
+  Then what is held, who waits, and each process, such as:
+    lock 0 process 1 w 0 4                    file, owner, mode, first and last
+    lock 0 description 3 r 0 99               an OFD lock, of the third open
+    flock 0 description 3 sh                  sh or ex, on the whole file
+    wait 3#1 0 process 3 w 5 5                3#1 still waits for this lock
+    wait 4#2 0 flock description 4 ex         and 4#2 for this one
+    proc 1 sent 7 taken 7 answered 7 live     its requests in the script, those
+                                              taken, those answered; then live,
+                                              waiting, ended or unborn
+
+Faults, on standard error:
+  lockreplay: line 2: 3 Count tells the first faulty line, and nothing is run;
+  line 0 is the script as a whole.
+  1 Byte     a byte that isn't printable ASCII
+  2 Word     a word that isn't one of those that may stand there
+  3 Count    too few or too many words
+  4 Number   a word that isn't a number in its range
+  5 Process  a word that should be the number of a process; also a header line
+             behind a request, or behind another of its kind
+  6 TooLong  a line of more than 120 bytes, or a script of more than 1 MiB
+  7 Memory   no memory; told as lockreplay: no memory
+  Or lockreplay: and read failed, write failed, no memory or no thread.";

@@ -13,7 +13,7 @@ use thiserror::Error;
 /// Why the program ends with another status than 0. Its text is what goes to standard error.
 #[derive(Debug, Drop, Error)]
 pub enum Fault {
-    /// The command line is refused, or asks for help. The text is clap's.
+    /// The command line is refused, or asks for help or the version. The text is clap's.
     #[error("{0}")]
     CommandLine(clap::Error),
     /// The run has no output, or only a front of it.

@@ -37,7 +37,7 @@ fn main(rt: HostRuntime) -> ExitCode {
     }
 }
 
-/// Judges the command line, and then replays its file, or standard input where it has none, to standard output.
+/// Judges the command line, and then replays its file, or standard input where it names none, to standard output.
 fn run(
     rt: &(impl AllocGlobal + Clock + Env + Files + Input + Print + Sync + Threads + Wait),
 ) -> Result<(), Fault> {
@@ -46,7 +46,7 @@ fn run(
         .collect(rt.alloc())
         .map_err(|_| RunFault::Memory)?;
     let options = command_line::options(rt.alloc(), &words).map_err(Fault::of_command_line)?;
-    match options.file {
+    match options.path() {
         Some(path) => replay_from(
             rt,
             options.threads,

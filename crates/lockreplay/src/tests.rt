@@ -1,5 +1,6 @@
 mod command_line;
 mod devices;
+mod example;
 mod in_threads;
 mod limits_rows;
 mod policy_rows;

@@ -55,6 +55,26 @@ fn takes_one_file_or_none(rt: HostRuntime) -> Result<(), Fail> {
     asks(&rt, alloc, &[], None)
 }
 
+/// FILE is standard input where it is `-`, and nowhere else.
+#[test]
+fn a_hyphen_is_standard_input(rt: HostRuntime) -> Result<(), Fail> {
+    let paths = [
+        (None, None),
+        (Some("-"), None),
+        (Some("--"), Some("--")),
+        (Some("./-"), Some("./-")),
+        (Some(""), Some("")),
+    ];
+    for (file, path) in paths {
+        let options = Options {
+            threads: false,
+            file,
+        };
+        assert_eq!(rt; options.path(), path);
+    }
+    Ok(())
+}
+
 #[test]
 fn takes_threads(rt: HostRuntime) -> Result<(), Fail> {
     let alloc = rt.alloc();
@@ -97,6 +117,10 @@ fn refuses_other_words(rt: HostRuntime) -> Result<(), Fail> {
         &["lockreplay", "script", "-h"],
         ErrorKind::DisplayHelp,
     )?;
+    let version = ["lockreplay", "--version"];
+    refuses(&rt, alloc, &version, ErrorKind::DisplayVersion)?;
+    let short = ["lockreplay", "-V", "script"];
+    refuses(&rt, alloc, &short, ErrorKind::DisplayVersion)?;
     refuses(
         &rt,
         alloc,
