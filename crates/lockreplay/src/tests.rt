@@ -1,4 +1,5 @@
 mod command_line;
+mod cuts;
 mod devices;
 mod in_threads;
 mod limits_rows;
