@@ -1,6 +1,10 @@
 //! Replays a script of requests to the lock manager: prints each event, and then what is held.
 #![tactic(auto)]
 
+ghost use Rattle.std.specs.Prelude.{◌≡◌, ◌≢◌, OnOk, IfErr, Err, IsTrue};
+ghost use Rattle.lockreplay.specs.Interleaving.{outputs_of};
+ghost use Rattle.lockreplay.specs.Replays.{WritesOutput, WritesFront, ReadsFaulty};
+
 mod caller;
 mod command_line;
 mod devices;
@@ -13,13 +17,13 @@ mod replay;
 mod tests;
 mod threads;
 
-use devices::{FromReader, ToWriter};
+use devices::{FromReader, Sink, Source, ToWriter};
 use faults::Fault;
 use in_threads::replay_in_threads;
 use replay::{RunFault, replay};
+use script_core::ScriptFault;
 use std::env::Env;
 use std::fs::Files;
-use std::io::Read;
 use std::process::ExitCode;
 use std::sync::Wait;
 use std::thread::Threads;
@@ -46,28 +50,41 @@ fn run(
         .collect(rt.alloc())
         .map_err(|_| RunFault::Memory)?;
     let options = command_line::options(rt.alloc(), &words).map_err(Fault::of_command_line)?;
-    match options.path() {
-        Some(path) => replay_from(
-            rt,
-            options.threads,
-            fs::open(rt, path).map_err(Fault::of_input)?,
-        ),
-        None => replay_from(rt, options.threads, rt.reader()),
-    }
-}
-
-/// Replays what the reader gives to standard output, in threads or not.
-fn replay_from(
-    rt: &(impl AllocGlobal + Clock + Print + Sync + Threads + Wait),
-    threads: bool,
-    reader: impl Read + Drop,
-) -> Result<(), Fault> {
-    let mut source = FromReader::new(reader);
     let mut sink = ToWriter::new(io::writer(rt));
-    if threads {
-        replay_in_threads(rt, rt.alloc(), &mut source, &mut sink)?;
-    } else {
-        replay(rt.alloc(), &mut source, &mut sink)?;
+    match options.path() {
+        Some(path) => {
+            let mut source = FromReader::new(fs::open(rt, path).map_err(Fault::of_input)?);
+            replay_from(rt, options.threads, &mut source, &mut sink)?;
+        }
+        None => {
+            let mut source = FromReader::new(rt.reader());
+            replay_from(rt, options.threads, &mut source, &mut sink)?;
+        }
     }
     Ok(())
+}
+
+/// Replays what the source gives to the sink, in threads or not.
+fn replay_from<T: AllocGlobal + Clock + Sync + Threads + Wait, R: Source, W: Sink>(
+    rt: &T,
+    threads: bool,
+    source: &mut R,
+    sink: &mut W,
+) -> Result<(), RunFault>
+    // All that the source had was read, and just an output of that was written.
+    ensures ok { OnOk result (WritesOutput (outputs_of threads) (R.remaining source.old) (R.remaining source.new) (W.written sink.old) (W.written sink.new)) }
+
+    // Else it is told what went wrong, and nothing was written, or where writing failed a front of an output.
+    ensures script { (fault : ScriptFault) → result ≡ Err (RunFault.Script fault) →
+        ReadsFaulty (R.remaining source.old) (R.remaining source.new) fault }
+    ensures read { result ≡ Err RunFault.Read → IsTrue (R.failed source.new) }
+    ensures write { result ≡ Err RunFault.Write → IsTrue (W.failed sink.new)
+        × WritesFront (outputs_of threads) (R.remaining source.old) (R.remaining source.new) (W.written sink.old) (W.written sink.new) }
+    ensures unwritten { IfErr result (λ fault. fault ≢ RunFault.Write → sink.new ≡ sink.old) }
+{
+    if threads {
+        replay_in_threads(rt, rt.alloc(), source, sink)
+    } else {
+        replay(rt.alloc(), source, sink)
+    }
 }

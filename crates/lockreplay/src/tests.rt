@@ -1,4 +1,5 @@
 mod command_line;
+mod cuts;
 mod devices;
 mod example;
 mod in_threads;

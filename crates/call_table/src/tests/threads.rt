@@ -1,4 +1,6 @@
 //! The table with a thread for each side.
+mod many;
+
 ghost use Rattle.call_table.specs.Desks.{IsDeskOf};
 ghost use Rattle.call_table.specs.Shown.{IsClientOf};
 

@@ -7,6 +7,7 @@ use script_core::{Cause, SCRIPT_MAX, ScriptFault};
 use std::alloc::Global;
 use std::io;
 use std::io::{Read, Write};
+use std::process::Abort;
 use std::test::Fail;
 
 const SCRIPT: &str = "1 open 0 rw
@@ -177,6 +178,77 @@ impl Write for InterruptedWriter {
     }
 }
 
+/// A reader that gives one byte at a time, and fails at its call number `fails_at`, from 1.
+#[derive(Drop)]
+struct FailingReader {
+    bytes: &'static [u8],
+    fails_at: u64,
+    calls: u64,
+}
+
+impl Read for FailingReader {
+    fn read(&mut self, buf: &mut [u8]) -> io::Result<usize> {
+        self.calls = self.calls.saturating_add(1);
+        if self.calls == self.fails_at {
+            return Err(io::Error::from(io::ErrorKind::Other));
+        }
+        match (self.bytes.split_first(), buf.first_mut()) {
+            (Some((first, rest)), Some(place)) => {
+                *place = *first;
+                self.bytes = rest;
+                Ok(1)
+            }
+            _ => Ok(0),
+        }
+    }
+}
+
+/// What a writer does that takes no more bytes.
+#[derive(Clone, Copy, Debug, PartialEq, Eq)]
+enum Refusal {
+    Fails,
+    TakesNothing,
+}
+
+/// A writer that takes one byte at a time, and so many in all.
+#[derive(Drop)]
+struct FailingWriter {
+    written: Vec<u8>,
+    takes: usize,
+    refusal: Refusal,
+}
+
+impl Write for FailingWriter {
+    fn write(&mut self, buf: &[u8]) -> io::Result<usize> {
+        let Some(first) = buf.first() else {
+            return Ok(0);
+        };
+        if self.written.len() < self.takes {
+            self.written.push(*first).map_err(io::Error::from)?;
+            return Ok(1);
+        }
+        match self.refusal {
+            Refusal::Fails => Err(io::Error::from(io::ErrorKind::Other)),
+            Refusal::TakesNothing => Ok(0),
+        }
+    }
+
+    fn flush(&mut self) -> io::Result<()> {
+        Ok(())
+    }
+}
+
+/// A reader that gives line feeds without end.
+#[derive(Drop)]
+struct EndlessReader;
+
+impl Read for EndlessReader {
+    fn read(&mut self, buf: &mut [u8]) -> io::Result<usize> {
+        buf.fill(b'\n');
+        Ok(buf.len())
+    }
+}
+
 /// Where a source fails, the run is told so, and nothing is written: at each byte, and where the end would come.
 #[test]
 fn tells_a_source_that_fails(rt: HostRuntime) -> Result<(), Fail> {
@@ -314,6 +386,72 @@ fn accepts_the_longest_script(rt: HostRuntime) -> Result<(), Fail> {
         &mut sink,
     );
     assert_eq!(rt; longer, Err(RunFault::Script(fault)));
+    assert!(rt; sink.into_inner().is_empty());
+    Ok(())
+}
+
+/// A reader that fails at whatever read is told, and nothing is written; where only a later read would fail, the script is run.
+#[test]
+fn tells_a_reader_that_fails(rt: HostRuntime) -> Result<(), Fail> {
+    let end = SCRIPT.len() as u64 + 1;
+    for fails_at in 1..=end + 1 {
+        let reader = FailingReader {
+            bytes: SCRIPT.as_bytes(),
+            fails_at,
+            calls: 0,
+        };
+        let mut sink = ToWriter::new(Vec::new(rt.alloc()));
+        let result = replay(rt.alloc(), &mut FromReader::new(reader), &mut sink);
+        let (due, output) = if fails_at <= end {
+            (Err(RunFault::Read), "")
+        } else {
+            (Ok(()), OUTPUT)
+        };
+        assert_eq!(rt; result, due, "read {fails_at} fails");
+        assert_eq!(rt; sink.into_inner().as_slice(), output.as_bytes());
+    }
+    Ok(())
+}
+
+/// What comes of a writer that takes so many bytes, and then this.
+fn check_writer(rt: &impl Abort, alloc: Global, takes: usize, refusal: Refusal) {
+    let mut sink = ToWriter::new(FailingWriter {
+        written: Vec::new(alloc),
+        takes,
+        refusal,
+    });
+    let result = replay(alloc, &mut FromReader::new(SCRIPT.as_bytes()), &mut sink);
+    let due = if takes < OUTPUT.len() {
+        Err(RunFault::Write)
+    } else {
+        Ok(())
+    };
+    assert_eq!(rt; result, due, "{refusal:?} after {takes} bytes");
+    let written = sink.into_inner().written;
+    let front = &OUTPUT.as_bytes()[..takes.min(OUTPUT.len())];
+    assert_eq!(rt; written.as_slice(), front, "{refusal:?} after {takes} bytes");
+}
+
+/// A writer that fails, or takes nothing, after whatever bytes has just these; one that takes all has the whole output, a byte at a time.
+#[test]
+fn tells_a_writer_that_fails(rt: HostRuntime) -> Result<(), Fail> {
+    for takes in 0..=OUTPUT.len() {
+        check_writer(&rt, rt.alloc(), takes, Refusal::Fails);
+        check_writer(&rt, rt.alloc(), takes, Refusal::TakesNothing);
+    }
+    Ok(())
+}
+
+/// A reader without end has too long a script, whatever its lines are.
+#[test]
+fn refuses_a_reader_without_end(rt: HostRuntime) -> Result<(), Fail> {
+    let mut sink = ToWriter::new(Vec::new(rt.alloc()));
+    let fault = ScriptFault {
+        line: 0,
+        cause: Cause::TooLong,
+    };
+    let result = replay(rt.alloc(), &mut FromReader::new(EndlessReader), &mut sink);
+    assert_eq!(rt; result, Err(RunFault::Script(fault)));
     assert!(rt; sink.into_inner().is_empty());
     Ok(())
 }
