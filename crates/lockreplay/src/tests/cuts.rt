@@ -24,8 +24,10 @@ const CUTS: [Cut; 17] = [
     Cut {
         first: 0,
         last: 0,
-        comes: Ok("proc 1 sent 0 taken 0 answered 0 live
-"),
+        comes: Ok(
+            "proc 1 sent 0 taken 0 answered 0 live
+",
+        ),
     },
     Cut {
         first: 1,
@@ -45,16 +47,20 @@ const CUTS: [Cut; 17] = [
     Cut {
         first: 10,
         last: 10,
-        comes: Ok("1#1 open 0 r | 1#1 fd 0
+        comes: Ok(
+            "1#1 open 0 r | 1#1 fd 0
 proc 1 sent 1 taken 1 answered 1 live
-"),
+",
+        ),
     },
     Cut {
         first: 11,
         last: 12,
-        comes: Ok("1#1 open 0 rw | 1#1 fd 0
+        comes: Ok(
+            "1#1 open 0 rw | 1#1 fd 0
 proc 1 sent 1 taken 1 answered 1 live
-"),
+",
+        ),
     },
     Cut {
         first: 13,
@@ -74,29 +80,35 @@ proc 1 sent 1 taken 1 answered 1 live
     Cut {
         first: 31,
         last: 31,
-        comes: Ok("1#1 open 0 rw | 1#1 fd 0
+        comes: Ok(
+            "1#1 open 0 rw | 1#1 fd 0
 1#2 setlk 0 w set 0 1 | 1#2 ok
 lock 0 process 1 w 0 0
 proc 1 sent 2 taken 2 answered 2 live
-"),
+",
+        ),
     },
     Cut {
         first: 32,
         last: 32,
-        comes: Ok("1#1 open 0 rw | 1#1 fd 0
+        comes: Ok(
+            "1#1 open 0 rw | 1#1 fd 0
 1#2 setlk 0 w set 0 10 | 1#2 ok
 lock 0 process 1 w 0 9
 proc 1 sent 2 taken 2 answered 2 live
-"),
+",
+        ),
     },
     Cut {
         first: 33,
         last: 34,
-        comes: Ok("1#1 open 0 rw | 1#1 fd 0
+        comes: Ok(
+            "1#1 open 0 rw | 1#1 fd 0
 1#2 setlk 0 w set 0 100 | 1#2 ok
 lock 0 process 1 w 0 99
 proc 1 sent 2 taken 2 answered 2 live
-"),
+",
+        ),
     },
     Cut {
         first: 35,
@@ -116,26 +128,30 @@ proc 1 sent 2 taken 2 answered 2 live
     Cut {
         first: 54,
         last: 54,
-        comes: Ok("1#1 open 0 rw | 1#1 fd 0
+        comes: Ok(
+            "1#1 open 0 rw | 1#1 fd 0
 1#2 setlk 0 w set 0 100 | 1#2 ok
 1#3 setlk 0 r set 40 2 | 1#3 ok
 lock 0 process 1 w 0 39
 lock 0 process 1 r 40 41
 lock 0 process 1 w 42 99
 proc 1 sent 3 taken 3 answered 3 live
-"),
+",
+        ),
     },
     Cut {
         first: 55,
         last: 56,
-        comes: Ok("1#1 open 0 rw | 1#1 fd 0
+        comes: Ok(
+            "1#1 open 0 rw | 1#1 fd 0
 1#2 setlk 0 w set 0 100 | 1#2 ok
 1#3 setlk 0 r set 40 20 | 1#3 ok
 lock 0 process 1 w 0 39
 lock 0 process 1 r 40 59
 lock 0 process 1 w 60 99
 proc 1 sent 3 taken 3 answered 3 live
-"),
+",
+        ),
     },
 ];
 
@@ -150,7 +166,11 @@ fn check(rt: &impl Abort, alloc: Global, len: usize, cut: &Cut) {
     };
     assert_eq!(rt; result, due, "the cut behind {len} bytes");
     let written = sink.into_inner();
-    assert_eq!(rt; written.as_slice(), output.as_bytes(), "the cut behind {len} bytes");
+    assert_eq!(rt;
+        written.as_slice(),
+        output.as_bytes(),
+        "the cut behind {len} bytes"
+    );
 }
 
 /// Wherever the script is cut, what is left is run or refused, and never a part of it alone.

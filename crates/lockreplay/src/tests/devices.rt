@@ -429,7 +429,11 @@ fn check_writer(rt: &impl Abort, alloc: Global, takes: usize, refusal: Refusal) 
     assert_eq!(rt; result, due, "{refusal:?} after {takes} bytes");
     let written = sink.into_inner().written;
     let front = &OUTPUT.as_bytes()[..takes.min(OUTPUT.len())];
-    assert_eq!(rt; written.as_slice(), front, "{refusal:?} after {takes} bytes");
+    assert_eq!(rt;
+        written.as_slice(),
+        front,
+        "{refusal:?} after {takes} bytes"
+    );
 }
 
 /// A writer that fails, or takes nothing, after whatever bytes has just these; one that takes all has the whole output, a byte at a time.
