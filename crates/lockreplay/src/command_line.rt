@@ -61,7 +61,7 @@ what, what is then held, and who still waits. No file of the machine is locked."
 const GUIDE: &str = "Exit status:
   0  the script was replayed
   1  FILE can't be opened, reading or writing failed, or no memory or thread
-  2  the script or the command line is refused; also --help and --version
+  2  the script or the command line is refused; --help, --version (on stderr)
 
 Example:
   $ printf '1 open 0 rw\\n1 setlk 0 w set 0 100\\n' | lockreplay
@@ -72,16 +72,17 @@ Example:
 
 Script:
   A line for each request: the number of a process, 1 to 16, and one of those
-  below. Process 1 lives at the start. Requests of a process that was never born
-  or has ended stay untaken; those of one that waits stay until its wait ends.
-  Blank lines and those that begin with # are skipped. A line ends with LF and
-  has 120 bytes at most; CR, tab and BOM are refused. 1 MiB a script at most.
+  below. Process 1 lives at the start, another from its fork on. What a process
+  requests before that, or while it waits, is taken later; what is never taken,
+  as of one that has ended, has no line in the output. Blank lines and those
+  that begin with # are skipped. A line ends with LF and has 120 bytes at most;
+  CR, tab and BOM are refused, in comments too. 1 MiB a script at most.
 
   open FILE ACCESS       FILE is 0 to 63, ACCESS r, w or rw; gives the lowest
                          free descriptor, 0 to 31
   dup FD                 gives the lowest free descriptor
   dup2 FD FD             the second then refers to what the first does
-  close FD
+  close FD               also removes the process' setlk locks on its file
   seek FD OFFSET         from the start of the file
   resize FD SIZE
   getlk FD KIND WHENCE START LENGTH [PID]
@@ -92,17 +93,17 @@ Script:
                          the same for a lock of the open file description
   flock FD OP [nb]       OP is sh, ex or un; with nb it doesn't wait
   fork PROCESS           the process then lives, as a child
-  signal PROCESS         ends its wait
+  signal PROCESS         ends its wait, with EINTR
   kill PROCESS           ends the process
-  exit                   so does this, for the one that requests it
+  exit                   ends the one that requests it; it is never answered
 
-  KIND is r, w or u (unlock), WHENCE set, cur or end. LENGTH 0 reaches to the
-  largest offset, a negative LENGTH names the bytes before the start. PID is 0
-  where it isn't written, and has to be 0 for ogetlk, osetlk and osetlkw.
+  KIND is r, w or u (unlock), WHENCE set, cur or end. LENGTH is so many bytes; 0
+  reaches to the largest offset, 2^63 - 1; -5 is the 5 bytes before START. PID
+  is 0 where not written, and has to be 0 for ogetlk, osetlk and osetlkw.
 
   Before all requests, each once at most:
-  policy held|queue      under queue a request waits behind earlier waits too;
-                         held where not said
+  policy held|queue      held is as on Linux; under queue a request waits behind
+                         earlier waits too; held where not said
   limits small|wide      wide has processes 1 to 64, with the descriptors 0 to
                          255 each; small where not said
 
@@ -120,23 +121,25 @@ Output:
     1#7 setlk 0 w set 5 1 | 1#7 EAGAIN        refused, by the error's name
   Then what is held, who waits, and each process, such as:
     lock 0 process 1 w 0 4                    file, owner, mode, first and last
-    lock 0 description 3 r 0 99               an OFD lock, of the third open
-    flock 0 description 3 sh                  sh or ex, on the whole file
+    lock 1 description 3 r 0 99               an OFD lock, of the third open
+    flock 1 description 3 sh                  sh or ex, on the whole file
     wait 3#1 0 process 3 w 5 5                3#1 still waits for this lock
-    wait 4#2 0 flock description 4 ex         and 4#2 for this one
+    wait 4#2 1 flock description 4 ex         and 4#2 for this one
     proc 1 sent 7 taken 7 answered 7 live     its requests in the script, those
                                               taken, those answered; then live,
-                                              waiting, ended or unborn
+                                              waiting, ended, or unborn: no fork
+                                              made it
 
 Faults, on standard error:
-  lockreplay: line 2: 3 Count tells the first faulty line, and nothing is run;
-  line 0 is the script as a whole.
-  1 Byte     a byte that isn't printable ASCII
+  A faulty script isn't run. The first faulty line is told, here by fault 3:
+    lockreplay: line 2: 3 Count               line 0 is the script as a whole
+  1 Byte     a byte that isn't printable ASCII, as CR; comments are judged too
   2 Word     a word that isn't one of those that may stand there
   3 Count    too few or too many words
   4 Number   a word that isn't a number in its range
-  5 Process  a word that should be the number of a process; also a header line
-             behind a request, or behind another of its kind
+  5 Process  not the number of a process; also policy or limits where it comes
+             after a request or for the second time
   6 TooLong  a line of more than 120 bytes, or a script of more than 1 MiB
   7 Memory   no memory; told as lockreplay: no memory
-  Or lockreplay: and read failed, write failed, no memory or no thread.";
+  Other faults: lockreplay: read failed, no memory, no thread (nothing went to
+  standard output), or write failed (part of the output may have).";
