@@ -30,9 +30,12 @@ while read -r command; do
     awk -v shown="    \$ $command" '$0 == shown { on = 1; next } !/^    / || /^    \$ / { on = 0 } on { print substr($0, 5) }' README.md > "$work/shown"
     $command < /dev/null > "$work/seen"
     case $command in *--threads*)
-        for run in "${command##* }".first "${command##* }".second; do
-            if cmp -s "$work/shown" "$run"; then cp "$run" "$work/seen"; fi
-        done ;;
+        name=${command##* }
+        if cmp -s "$work/seen" "$name.first" || cmp -s "$work/seen" "$name.second"; then
+            for run in "$name.first" "$name.second"; do
+                if cmp -s "$work/shown" "$run"; then cp "$run" "$work/seen"; fi
+            done
+        fi ;;
     esac
     judge "$command" "$work/shown" "$work/seen"
 done < "$work/commands"

@@ -21,7 +21,7 @@ pub fn options<'a>(alloc: Global, words: &'a [String]) -> Result<Options<'a>, cl
     ensures taken { IfErr result (λ error. takes command_line (map string_bytes words.entry.now) ≡ true → kind_of error ≡ ErrorKind.OutOfMemory) }
 
     // So one word is the file, without one there is none, and two are refused, where they begin with no hyphen; --threads before or
-    // behind them asks for threads, and is refused twice.
+    // behind them asks for threads, and is refused twice in front.
     ensures usage { FollowsUsage (map string_bytes words.entry.now) result }
 {
     let matches = command(alloc)?.try_get_matches_from(words)?;

@@ -1,7 +1,8 @@
 //! Replays a script of requests to the lock manager: prints each event, and then what is held.
 #![tactic(auto)]
 
-ghost use Rattle.std.specs.Prelude.{◌≡◌, ◌≢◌, OnOk, IfErr, Err, IsTrue};
+ghost use Rattle.std.specs.Prelude.{◌≡◌, ◌≢◌, ◌≤◌, ◌+◌, OnOk, IfErr, Err, IsTrue};
+ghost use Rattle.script_core.specs.declared.TheConstants.{SCRIPT_MAX};
 ghost use Rattle.lockreplay.specs.Interleaving.{outputs_of};
 ghost use Rattle.lockreplay.specs.Replays.{WritesOutput, WritesFront, ReadsFaulty};
 
@@ -81,6 +82,9 @@ fn replay_from<T: AllocGlobal + Clock + Sync + Threads + Wait, R: Source, W: Sin
     ensures write { result ≡ Err RunFault.Write → IsTrue (W.failed sink.new)
         × WritesFront (outputs_of threads) (R.remaining source.old) (R.remaining source.new) (W.written sink.old) (W.written sink.new) }
     ensures unwritten { IfErr result (λ fault. fault ≢ RunFault.Write → sink.new ≡ sink.old) }
+    ensures source { result ≢ Err RunFault.Read → R.failed source.new ≡ R.failed source.old }
+    ensures sink { result ≢ Err RunFault.Write → W.failed sink.new ≡ W.failed sink.old }
+    ensures calls { R.calls source.new ≤ R.calls source.old + (SCRIPT_MAX + 1) }
 {
     if threads {
         replay_in_threads(rt, rt.alloc(), source, sink)

@@ -1,3 +1,4 @@
+//! What a command line asks for.
 ghost use Rattle.std.specs.Prelude.{◌≡◌, ◌≢◌, Some, None, codes, option_map};
 
 /// What a command line asks for.

@@ -1,3 +1,4 @@
+//! What a side of a table does while it finds nothing.
 use std::thread;
 use std::time::{Clock, Duration};
 

@@ -1,3 +1,4 @@
+//! A script with a thread for each process that requests something, at a table whose desk is served here.
 ghost use Rattle.std.specs.Prelude.{◌≡◌, ◌≤◌, ◌<◌, ◌⊎◌, IfOk, IfErr, OnOk, length, map, vec_items, vec_len, vec_capacity, [], true};
 ghost use Rattle.session_core.specs.SessionView.{events_in, SessionHolds};
 ghost use Rattle.call_table.specs.Shown.{client_view, hub_setup, IsClientOf};
@@ -290,7 +291,7 @@ fn gather_all<R: Threads + Wait + Clock, W: Watch>(
         collected.push_reserved(answers);
     }
     let session = desk.into_session();
-    // The journal tells what holds of each session.
+    // Called for its clause `holds`; there is nothing to run.
     let _ = session.journal();
     ThreadReport { session, collected }
 }

@@ -1,3 +1,4 @@
+//! Where a caller is while the desk serves: in its thread, or here.
 ghost use Rattle.std.specs.Prelude.{◌≡◌, IfOk, IfErr};
 
 use crate::caller::{Caller, Ends, Watch};
