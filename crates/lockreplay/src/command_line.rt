@@ -108,7 +108,7 @@ Script:
                          255 each; small where not said
 
 Output:
-  A line for each event, with its answers; 2#1 is request 1 of process 2:
+  A line for each event, with its answers; 2#1 is the first of process 2:
     1#1 open 0 rw | 1#1 fd 0                  the descriptor that it gives
     1#2 fork 2 | 1#2 ok                       done
     1#3 setlk 0 w set 0 9 | 1#3 ok            done
