@@ -229,3 +229,36 @@ conflict_counted count description wanted places sorted shared exclusive = (
       (subst (λ (held : Option Mode). HeldConflicts held wanted) mode.1 conflict.conflicts)
       (lock_counted mode.0 description conflict.description places sorted (λ e. conflict.another (ap (λ (n : ℕ). Description n) e)) mode.1),
 )
+
+-- a description has one lock at most
+one_own : (own : Option Mode) → locks_in Read own + locks_in Write own ≤ 1
+one_own None = omega arith
+one_own (Some Read) = omega arith
+one_own (Some Write) = omega arith
+
+-- of the counted locks of all, one at most isn't another description's
+pub conflict_near : (count : LockCount) (description : ℕ) (wanted : Mode) (places : Places) → IsStrictlySortedBy nat_cmp (keys_of places)
+    → count.shared ≡ locks_among Read places → count.exclusive ≡ locks_among Write places
+    → (FlockConflict (flock_modes_among places) (Description description) wanted → 0 < conflicting count wanted)
+    × (2 ≤ conflicting count wanted → FlockConflict (flock_modes_among places) (Description description) wanted)
+conflict_near count description wanted places sorted shared exclusive = (
+  λ conflict. (let some = counted.1 conflict in let near = near_by wanted in omega (arith, some, near.0)),
+  λ two. counted.0 (let near = near_by wanted in omega (arith, two, near.1)),
+)
+  where
+    rest : LockCount
+    rest = record { shared = locks_among Read (others description places); exclusive = locks_among Write (others description places) }
+
+    counted : (0 < conflicting rest wanted) ↔ FlockConflict (flock_modes_among places) (Description description) wanted
+    counted = conflict_counted rest description wanted places sorted refl refl
+
+    near_by : (mode : Mode) → (conflicting rest mode ≤ conflicting count mode) × (conflicting count mode ≤ conflicting rest mode + 1)
+    near_by Read =
+        let all = count_apart Write description places in
+        let own = one_own (flock_modes_among places description) in
+        (omega (arith, all, exclusive), omega (arith, all, exclusive, own))
+    near_by Write =
+        let all = count_apart Write description places in
+        let shared_all = count_apart Read description places in
+        let own = one_own (flock_modes_among places description) in
+        (omega (arith, all, shared_all, exclusive, shared), omega (arith, all, shared_all, exclusive, shared, own))

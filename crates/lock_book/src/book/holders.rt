@@ -60,6 +60,16 @@ impl LockCount {
             Mode::Write => self.exclusive > 0 || self.shared > 0,
         }
     }
+
+    /// Whether two of these locks of one mode conflict with one of the wanted mode.
+    fn conflict_twice(self, wanted: Mode) -> bool
+        ensures { IsTrue result → 2 ≤ conflicting self wanted }
+    {
+        match wanted {
+            Mode::Read => self.exclusive > 1,
+            Mode::Write => self.exclusive > 1 || self.shared > 1,
+        }
+    }
 }
 
 /// The places that are kept for the flock locks on one file, by description, with the mode that stands in each, and how
@@ -126,9 +136,18 @@ impl FlockHolders {
         self.locks = self.locks.without(old.flatten());
     }
 
-    /// Whether a lock of another description conflicts with one of the wanted mode. It looks at no place but the
-    /// description's own.
+    /// Whether a lock of another description conflicts with one of the wanted mode. It looks for the description's own place only
+    /// where one lock conflicts, which may be its own.
     pub fn blocked(&self, description: u64, wanted: Mode) -> bool
+        ensures { IsTrue result
+            ↔ FlockConflict (flock_modes_among self.now.places.entries) (Owner.Description description) wanted }
+    {
+        self.locks.conflict_twice(wanted)
+            || self.locks.conflicts_with(wanted) && self.blocked_by_others(description, wanted)
+    }
+
+    /// The same, by the count of all locks but the description's own.
+    fn blocked_by_others(&self, description: u64, wanted: Mode) -> bool
         ensures { IsTrue result
             ↔ FlockConflict (flock_modes_among self.now.places.entries) (Owner.Description description) wanted }
     {
