@@ -5,8 +5,6 @@ mod laws;
 mod releases;
 mod rows;
 mod tables;
-#[cfg(test)]
-mod tests;
 
 pub use laws::tables_stand_for_some;
 pub use releases::Releases;

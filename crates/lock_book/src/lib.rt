@@ -5,8 +5,6 @@
 #[tactic(auto, unfolding(crate::specs::Books::list_of, crate::specs::Books::place_of, crate::specs::Books::byte_modes_of, crate::specs::Books::room_in, crate::specs::Books::flock_modes_of, crate::specs::Books::has_flock_place))]
 mod book;
 mod laws;
-#[cfg(test)]
-mod tests;
 
 pub use book::Book;
 pub use laws::{conflicts_are_decided, locks_have_one_file_report, locks_have_one_report};

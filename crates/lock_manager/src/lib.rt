@@ -13,8 +13,6 @@ mod manager;
 mod opening;
 mod releasing;
 mod request;
-#[cfg(test)]
-mod tests;
 
 pub use laws::{step_has_one_outcome, step_has_some_outcome};
 pub use manager::Manager;

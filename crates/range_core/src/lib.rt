@@ -6,8 +6,6 @@ mod list;
 mod replacement;
 mod resolving;
 mod splice;
-#[cfg(test)]
-mod tests;
 
 pub use list::RangeList;
 pub use resolving::resolve;

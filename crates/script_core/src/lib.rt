@@ -9,8 +9,6 @@ mod numbers;
 mod pieces;
 mod reader;
 mod script;
-#[cfg(test)]
-mod tests;
 mod text;
 mod words;
 mod write;

@@ -8,8 +8,6 @@ mod laws;
 mod mailbox;
 mod run;
 mod session;
-#[cfg(test)]
-mod tests;
 mod window;
 
 pub use check::{CheckFault, Expected, JournalChecker, check_journal};

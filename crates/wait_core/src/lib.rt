@@ -6,8 +6,6 @@ mod files;
 mod laws;
 mod pairs;
 mod processes;
-#[cfg(test)]
-mod tests;
 mod waits;
 
 pub use laws::stay_free_of_cycles;

@@ -1,0 +1,338 @@
+ghost use Rattle.std.specs.Prelude.{◌≡◌};
+
+use lock_book::{Blocker, Book, Held, Owner};
+use range_core::{Memory, Mode, OFFMAX, Span};
+use std::test::Fail;
+
+/// The bytes of a range by its first and its last one.
+fn bytes(first: u64, last: u64) -> Span
+    ensures { (result.first ≡ first) × (result.last ≡ last) }
+{
+    Span { first, last }
+}
+
+/// The line of a byte lock on file 3.
+fn byte_line(owner: Owner, mode: Mode, first: u64, last: u64) -> Held {
+    Held {
+        file: 3,
+        whole: false,
+        owner,
+        mode,
+        span: bytes(first, last),
+    }
+}
+
+/// The line of a flock lock on file 3.
+fn flock_line(description: u64, mode: Mode) -> Held {
+    Held {
+        file: 3,
+        whole: true,
+        owner: Owner::Description(description),
+        mode,
+        span: bytes(0, OFFMAX),
+    }
+}
+
+/// Of three readers the one on the least byte is told, and of two on one byte the least owner, with its whole run.
+#[test]
+fn tells_the_first_blocker(rt: HostRuntime) -> Result<(), Fail> {
+    let mut book = Book::new(rt.alloc());
+    book.set(Owner::Process(4), bytes(5, 14), Some(Mode::Read))?;
+    book.set(Owner::Process(3), bytes(8, 11), Some(Mode::Read))?;
+    book.set(Owner::Process(2), bytes(8, 107), Some(Mode::Read))?;
+    let asker = Owner::Process(1);
+    for (span, number, first, last) in [
+        (bytes(8, OFFMAX), 2, 8, 107),
+        (bytes(0, OFFMAX), 4, 5, 14),
+        (bytes(15, 15), 2, 8, 107),
+    ] {
+        let blocker = Blocker {
+            owner: Owner::Process(number),
+            mode: Mode::Read,
+            span: bytes(first, last),
+        };
+        assert_eq!(rt; book.first_blocker(asker, span, Mode::Write), Some(blocker));
+        assert!(rt; book.blocked(asker, span, Mode::Write));
+        assert!(rt; !book.blocked(asker, span, Mode::Read), "readers share");
+    }
+    assert_eq!(rt; book.first_blocker(asker, bytes(0, 4), Mode::Write), None);
+    assert!(rt; book.process_blocks(3, asker, bytes(0, 8), Mode::Write));
+    assert!(rt; !book.process_blocks(3, asker, bytes(0, 7), Mode::Write));
+    assert!(rt; !book.process_blocks(3, Owner::Process(3), bytes(0, 8), Mode::Write));
+    book.release_owner(Owner::Process(2));
+    assert!(rt; !book.blocked(asker, bytes(15, 15), Mode::Write));
+    assert!(rt; book.blocked(asker, bytes(5, 5), Mode::Write));
+    Ok(())
+}
+
+/// Of all processes at once it is told which ones have a lock in the way: not the asker itself, and no description.
+#[test]
+fn tells_which_processes_block(rt: HostRuntime) -> Result<(), Fail> {
+    let mut book = Book::new(rt.alloc());
+    for number in [0, 4, 7, 64, 255] {
+        book.set(Owner::Process(number), bytes(5, 14), Some(Mode::Read))?;
+    }
+    book.set(Owner::Process(9), bytes(15, 15), Some(Mode::Write))?;
+    book.set(Owner::Description(3), bytes(5, 5), Some(Mode::Write))?;
+    book.reserve(Owner::Process(8), 1)?;
+    let blocking = book.blocking_processes(Owner::Process(7), bytes(0, 14), Mode::Write);
+    for (number, blocks) in blocking.iter().enumerate() {
+        assert_eq!(rt;
+            *blocks,
+            matches!(number, 0 | 4 | 64 | 255),
+            "process {number}"
+        );
+    }
+    let sharing = book.blocking_processes(Owner::Description(3), bytes(0, 15), Mode::Read);
+    for (number, blocks) in sharing.iter().enumerate() {
+        assert_eq!(rt; *blocks, number == 9, "process {number}");
+    }
+    Ok(())
+}
+
+/// A traditional and an OFD lock conflict, also from one process, and an owner's own lock doesn't block it.
+#[test]
+fn both_kinds_of_owner_meet(rt: HostRuntime) -> Result<(), Fail> {
+    let mut book = Book::new(rt.alloc());
+    let process = Owner::Process(1);
+    let description = Owner::Description(1);
+    book.set(process, bytes(0, 9), Some(Mode::Write))?;
+    let blocker = Blocker {
+        owner: process,
+        mode: Mode::Write,
+        span: bytes(0, 9),
+    };
+    assert_eq!(rt;
+        book.first_blocker(description, bytes(5, 5), Mode::Read),
+        Some(blocker)
+    );
+    book.set(description, bytes(20, 24), Some(Mode::Read))?;
+    assert!(rt; book.blocked(process, bytes(0, OFFMAX), Mode::Write));
+    assert!(rt; !book.blocked(process, bytes(0, 19), Mode::Write));
+    assert!(rt; !book.blocked(process, bytes(20, 24), Mode::Read));
+    assert!(rt; !book.process_blocks(1, process, bytes(0, 9), Mode::Write));
+    assert!(rt; book.process_blocks(1, description, bytes(0, 9), Mode::Write));
+    Ok(())
+}
+
+/// `LOCK_SH` shares with `LOCK_SH` and `LOCK_EX` excludes every other description; byte locks don't matter.
+#[test]
+fn flock_locks_keep_apart(rt: HostRuntime) -> Result<(), Fail> {
+    let mut book = Book::new(rt.alloc());
+    book.set(Owner::Description(9), bytes(0, OFFMAX), Some(Mode::Write))?;
+    book.flock_set(1, Some(Mode::Read))?;
+    book.flock_set(2, Some(Mode::Read))?;
+    assert_eq!(rt; book.flock_mode(1), Some(Mode::Read));
+    assert_eq!(rt; book.flock_mode(9), None);
+    assert!(rt; !book.flock_blocked(3, Mode::Read));
+    assert!(rt; book.flock_blocked(1, Mode::Write));
+    book.flock_set(2, None)?;
+    assert!(rt; !book.flock_blocked(1, Mode::Write));
+    book.flock_set(1, Some(Mode::Write))?;
+    assert!(rt; book.flock_blocked(2, Mode::Read));
+    book.release_flock(1);
+    assert!(rt; !book.flock_blocked(2, Mode::Write));
+    Ok(())
+}
+
+/// Processes come before descriptions, runs are the largest and in order, and flock locks stand last.
+#[test]
+fn reports_what_is_held(rt: HostRuntime) -> Result<(), Fail> {
+    let mut book = Book::new(rt.alloc());
+    book.flock_set(7, Some(Mode::Write))?;
+    book.flock_set(2, Some(Mode::Read))?;
+    book.flock_reserve(5)?;
+    book.set(Owner::Description(1), bytes(9, OFFMAX), Some(Mode::Read))?;
+    book.set(Owner::Process(2), bytes(0, 99), Some(Mode::Write))?;
+    book.set(Owner::Process(2), bytes(40, 59), Some(Mode::Read))?;
+    book.set(Owner::Process(2), bytes(100, 109), Some(Mode::Write))?;
+    book.set(Owner::Process(1), bytes(0, OFFMAX), Some(Mode::Read))?;
+    book.set(Owner::Process(1), bytes(5, 5), None)?;
+    let wanted = [
+        byte_line(Owner::Process(1), Mode::Read, 0, 4),
+        byte_line(Owner::Process(1), Mode::Read, 6, OFFMAX),
+        byte_line(Owner::Process(2), Mode::Write, 0, 39),
+        byte_line(Owner::Process(2), Mode::Read, 40, 59),
+        byte_line(Owner::Process(2), Mode::Write, 60, 109),
+        byte_line(Owner::Description(1), Mode::Read, 9, OFFMAX),
+        flock_line(2, Mode::Read),
+        flock_line(7, Mode::Write),
+    ];
+    assert_eq!(rt; book.held(3)?.as_slice(), wanted.as_slice());
+    Ok(())
+}
+
+/// Room and places that are held serve the reserved sets, and go with their owner.
+#[test]
+fn holds_room_and_places(rt: HostRuntime) -> Result<(), Fail> {
+    let mut book = Book::new(rt.alloc());
+    let owner = Owner::Description(1);
+    book.reserve(owner, 2)?;
+    book.set(owner, bytes(0, 9), Some(Mode::Read))?;
+    assert!(rt; book.room(owner) >= 2);
+    assert_eq!(rt; book.room(Owner::Process(1)), 0);
+    book.set_reserved(owner, bytes(5, 9), Some(Mode::Write));
+    assert!(rt; book.room(owner) >= 1);
+    assert!(rt; book.blocked(Owner::Process(1), bytes(9, 9), Mode::Read));
+    assert_eq!(rt; book.reserve(owner, usize::MAX), Err(Memory));
+    assert_eq!(rt; book.reserve(Owner::Process(1), usize::MAX), Err(Memory));
+    book.release_owner(owner);
+    assert_eq!(rt; book.room(owner), 0);
+
+    book.flock_reserve(1)?;
+    book.flock_set(1, Some(Mode::Write))?;
+    book.flock_set(1, None)?;
+    assert!(rt; book.flock_room(1));
+    book.flock_set_reserved(1, Some(Mode::Read));
+    assert_eq!(rt; book.flock_mode(1), Some(Mode::Read));
+    book.release_flock(1);
+    assert!(rt; !book.flock_room(1));
+    Ok(())
+}
+
+/// A call that may grow.
+#[derive(Clone, Copy, Debug)]
+enum Growth {
+    Set(Owner),
+    Reserve(Owner),
+    FlockSet(u64),
+    FlockReserve(u64),
+}
+
+impl Growth {
+    fn apply(self, book: &mut Book) -> Result<(), Memory> {
+        match self {
+            Growth::Set(owner) => book.set(owner, bytes(2, 5), Some(Mode::Write)),
+            Growth::Reserve(owner) => book.reserve(owner, 100),
+            Growth::FlockSet(description) => book.flock_set(description, Some(Mode::Read)),
+            Growth::FlockReserve(description) => book.flock_reserve(description),
+        }
+    }
+}
+
+/// What is held, asked once more where memory was refused.
+fn held_again(book: &Book) -> Result<Vec<Held>, Memory> {
+    book.held(3).or_else(|_| book.held(3))
+}
+
+/// How many changes more the byte locks of process 1 and of description 1 have room for, and whether the flock locks of the
+/// descriptions have a place.
+fn rooms_of(book: &Book) -> ([usize; 2], [bool; 2]) {
+    (
+        [Owner::Process(1), Owner::Description(1)].map(|owner| book.room(owner)),
+        [1, 2].map(|description| book.flock_room(description)),
+    )
+}
+
+/// Where a growth is refused, as by a test run with one allocation failing, the book is as before and the next try goes
+/// through.
+#[test]
+fn refused_growth_changes_nothing(rt: HostRuntime) -> Result<(), Fail> {
+    let mut book = Book::new(rt.alloc());
+    for growth in [
+        Growth::Set(Owner::Process(1)),
+        Growth::Reserve(Owner::Process(1)),
+        Growth::Reserve(Owner::Description(1)),
+        Growth::Set(Owner::Description(1)),
+        Growth::FlockReserve(1),
+        Growth::FlockSet(1),
+        Growth::FlockSet(2),
+    ] {
+        let before = held_again(&book)?;
+        let rooms = rooms_of(&book);
+        if growth.apply(&mut book).is_err() {
+            assert_eq!(rt;
+                held_again(&book)?.as_slice(),
+                before.as_slice(),
+                "{growth:?}"
+            );
+            assert!(rt; rooms_of(&book) == rooms);
+            growth.apply(&mut book)?;
+        }
+    }
+    let wanted = [
+        byte_line(Owner::Process(1), Mode::Write, 2, 5),
+        byte_line(Owner::Description(1), Mode::Write, 2, 5),
+        flock_line(1, Mode::Read),
+        flock_line(2, Mode::Read),
+    ];
+    assert_eq!(rt; held_again(&book)?.as_slice(), wanted.as_slice());
+    assert!(rt; book.room(Owner::Process(1)) >= 100);
+    Ok(())
+}
+
+/// Whether a walk over the modes of all descriptions finds one, of another, that conflicts.
+fn walk_finds(held: &[Option<Mode>], description: usize, wanted: Mode) -> bool {
+    for (other, place) in held.iter().enumerate() {
+        if let Some(mode) = *place {
+            if other != description && mode.conflicts_with(wanted) {
+                return true;
+            }
+        }
+    }
+    false
+}
+
+/// Flock locks of more descriptions than a small limit allows, each set, changed and removed: who is blocked is what a walk
+/// over all of them finds.
+#[test]
+fn counts_flock_locks_as_a_walk_does(rt: HostRuntime) -> Result<(), Fail> {
+    let mut book = Book::new(rt.alloc());
+    let mut held = [None; 700];
+    for turn in 0..1500usize {
+        let description = turn * 37 % 700;
+        let mode = [
+            Some(Mode::Read),
+            None,
+            Some(Mode::Write),
+            Some(Mode::Read),
+            None,
+        ][turn % 5];
+        book.flock_set(description as u64, mode)?;
+        held[description] = mode;
+    }
+    for description in 0..700usize {
+        for wanted in [Mode::Read, Mode::Write] {
+            assert!(rt;
+                book.flock_blocked(description as u64, wanted)
+                    == walk_finds(&held, description, wanted)
+            );
+        }
+        book.flock_set(description as u64, None)?;
+        held[description] = None;
+    }
+    assert!(rt; !book.flock_blocked(0, Mode::Write));
+    Ok(())
+}
+
+/// More owners than a small limit allows, each with a byte of its own, that come and go.
+#[test]
+fn many_owners_come_and_go(rt: HostRuntime) -> Result<(), Fail> {
+    let mut book = Book::new(rt.alloc());
+    let asker = Owner::Process(1);
+    for number in 0..700u64 {
+        book.set(
+            Owner::Description(number),
+            bytes(number, number),
+            Some(Mode::Read),
+        )?;
+    }
+    assert!(rt; book.held(3)?.len() == 700);
+    assert!(rt; !book.blocked(asker, bytes(0, OFFMAX), Mode::Read));
+    for number in 0..700u64 {
+        let blocker = Blocker {
+            owner: Owner::Description(number),
+            mode: Mode::Read,
+            span: bytes(number, number),
+        };
+        assert!(rt; book.blocked(asker, bytes(0, OFFMAX), Mode::Write));
+        assert_eq!(rt;
+            book.first_blocker(asker, bytes(0, OFFMAX), Mode::Write),
+            Some(blocker)
+        );
+        book.set(Owner::Description(number), bytes(0, OFFMAX), None)?;
+        assert!(rt; !book.blocked(asker, bytes(0, number), Mode::Write));
+    }
+    assert!(rt; book.held(3)?.is_empty());
+    Ok(())
+}

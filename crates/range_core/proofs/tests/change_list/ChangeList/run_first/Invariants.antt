@@ -1,4 +1,0 @@
-use Rattle.range_core.proofs.tests.change_list.ChangeList.run_first.Given as goal
-
-abbrev pub decreases-loop-first : goal.decreases-loop-first
-decreases-loop-first l = l.first

@@ -1,0 +1,268 @@
+//! The waits against a plain list of them, on sequences made by a written rule, and at full size.
+ghost use Rattle.std.specs.Prelude.{◌≡◌, ◌<◌, ◌≤◌, vec_len};
+ghost use Rattle.range_core.specs.Ranges.{IsByteRange};
+ghost use Rattle.wait_core.specs.Cycles.{IsTraditional};
+ghost use Rattle.wait_core.specs.Locks.{locks_of};
+ghost use Rattle.wait_core.specs.Settled.{AreBlockedElsewhere};
+ghost use Rattle.wait_core.specs.WellFormed.{IsWellFormed};
+ghost use Rattle.wait_core.specs.WaitsView.{processes_of, AreTold};
+
+use super::listed::ListedWaits;
+use super::{bytes, empty_books};
+use wait_core::{Family, Policy, Wait, Waits};
+use lock_book::{Book, Owner};
+use range_core::{Mode, OFFMAX, Span};
+use std::alloc::Global;
+use std::process::Abort;
+use std::test::Fail;
+
+/// Numbers by the rule `x * 6364136223846793005 + 1442695040888963407`, of which the upper half is told.
+#[derive(Drop)]
+struct Rule {
+    x: u64,
+}
+
+impl Rule {
+    /// The next number below the bound.
+    fn below(&mut self, bound: u64) -> u64
+        requires { 0 < bound }
+        ensures { result < bound }
+    {
+        self.x = self
+            .x
+            .wrapping_mul(6_364_136_223_846_793_005)
+            .wrapping_add(1_442_695_040_888_963_407);
+        (self.x >> 32) % bound
+    }
+}
+
+/// The books of all files, the waits on them, and the same waits as a list that keeps nothing.
+#[derive(Drop)]
+struct Both {
+    books: Vec<Book>,
+    waits: Waits,
+    listed: ListedWaits,
+    ghost files: { vec_len books ≡ 64 },
+    ghost processes: { processes_of waits ≡ 64 },
+    ghost told: { ∥ AreTold waits (locks_of books.items) ∥₁ },
+    ghost blocked: { ∥ AreBlockedElsewhere waits (locks_of books.items) ∥₁ },
+}
+
+impl Both {
+    /// No lock and no wait; the list looks at so many processes.
+    fn new(alloc: Global, policy: Policy, processes: u8) -> Result<Both, Fail> {
+        let books = empty_books(alloc)?;
+        let waits = Waits::new(alloc, 64, policy)?;
+        let listed = ListedWaits {
+            waits: Vec::new(alloc),
+            policy,
+            processes,
+        };
+        Ok(Both {
+            books,
+            waits,
+            listed,
+        })
+    }
+
+    /// The owner has this mode on the range of file 0 or 1.
+    fn lock(&mut self, file: u8, owner: Owner, span: Span, mode: Option<Mode>) -> Result<(), Fail>
+        requires file { file < 64 }
+        requires span { IsByteRange span }
+    {
+        let done = self.books[usize::from(file)].set(owner, span, mode);
+        self.waits.refresh(file, &self.books);
+        Ok(done?)
+    }
+
+    /// The process waits, if it doesn't yet.
+    fn join(&mut self, wait: Wait) -> Result<(), Fail>
+        requires { IsWellFormed 64 wait }
+    {
+        if self.waits.of(wait.p).is_none() {
+            self.waits.join(wait, &self.books);
+            self.listed.waits.push(wait)?;
+        }
+        Ok(())
+    }
+
+    /// The process waits no more.
+    fn leave(&mut self, p: u8) {
+        self.waits.leave(p);
+        self.listed.waits.retain(|wait| wait.p != p);
+    }
+
+    /// Whether the wait would close a cycle, of which both tell the same.
+    fn would_cycle(&self, rt: &impl Abort, wait: &Wait) -> bool
+        requires traditional { IsTraditional wait.now }
+        requires well_formed { IsWellFormed 64 wait.now }
+    {
+        let cycle = self.waits.would_cycle(wait, &self.books);
+        assert_eq!(rt;
+            cycle,
+            self.listed.would_cycle(wait, &self.books),
+            "{wait:?}"
+        );
+        cycle
+    }
+
+    /// The next wait to be granted, of which both tell the same, as of the list; where there is none, no file counts as changed.
+    fn next_ready(&mut self, rt: &impl Abort) -> Option<Wait> {
+        let next = self.waits.next_ready_on_changed(&self.books);
+        assert_eq!(rt; next, self.waits.next_ready(&self.books));
+        assert_eq!(rt; next, self.listed.next_ready(&self.books));
+        assert!(rt; self.waits.list() == self.listed.waits.as_slice());
+        match next {
+            Some(_) => {},
+            None => self.waits.forget_changes(),
+        }
+        next
+    }
+}
+
+/// The traditional wait of a process on these bytes of the file.
+fn traditional(p: u8, file: u8, span: Span, mode: Mode) -> Wait
+    requires from_one { 1 ≤ p }
+    requires process { p ≤ 64 }
+    requires file { file < 64 }
+    requires span { IsByteRange span }
+    ensures traditional { IsTraditional result }
+    ensures well_formed { IsWellFormed 64 result }
+{
+    Wait {
+        p,
+        n: 1,
+        file,
+        family: Family::Bytes,
+        owner: Owner::Process(p),
+        span,
+        mode,
+    }
+}
+
+/// Process 1 to 64 hold a byte each, and each but the last waits for the next one's: the last closes a cycle, and no more
+/// where one of the chain has left.
+#[test]
+fn follows_a_chain_of_64(rt: HostRuntime) -> Result<(), Fail> {
+    for policy in [Policy::Held, Policy::Queue] {
+        let mut both = Both::new(rt.alloc(), policy, 64)?;
+        for p in 1..=64u8 {
+            let byte = u64::from(p);
+            both.lock(0, Owner::Process(p), bytes(byte, byte), Some(Mode::Write))?;
+        }
+        for p in 1..64u8 {
+            let byte = u64::from(p) + 1;
+            both.join(traditional(p, 0, bytes(byte, byte), Mode::Write))?;
+        }
+        let first = traditional(64, 0, bytes(1, 1), Mode::Read);
+        assert!(rt; both.would_cycle(&rt, &first));
+        assert!(rt; !both.would_cycle(&rt, &traditional(64, 0, bytes(65, 65), Mode::Write)));
+        assert!(rt; !both.would_cycle(&rt, &traditional(64, 1, bytes(1, 1), Mode::Write)));
+        both.join(first)?;
+        assert_eq!(rt; both.next_ready(&rt), None);
+        assert_eq!(rt; both.waits.list().len(), 64);
+        both.leave(64);
+        both.leave(32);
+        assert!(rt; !both.would_cycle(&rt, &first));
+        both.lock(0, Owner::Process(64), bytes(64, 64), None)?;
+        assert_eq!(rt; both.next_ready(&rt).map(|wait| wait.p), Some(63));
+    }
+    Ok(())
+}
+
+/// A wait by the rule: of one of 6 processes, on file 0 or 1, for a lock of the process or of a description.
+fn next_wait(rule: &mut Rule) -> Wait
+    ensures { IsWellFormed 64 result }
+{
+    let p = rule.below(6) as u8 + 1;
+    let file = rule.below(2) as u8;
+    let mode = next_mode(rule);
+    let wait = traditional(p, file, next_span(rule), mode);
+    match rule.below(8) {
+        0 => Wait {
+            owner: Owner::Description(rule.below(3)),
+            ..wait
+        },
+        1 => Wait {
+            family: Family::Whole,
+            owner: Owner::Description(rule.below(3)),
+            ..wait
+        },
+        _ => wait,
+    }
+}
+
+/// One or more of the bytes from 0 to 11, by the rule.
+fn next_span(rule: &mut Rule) -> Span
+    ensures { IsByteRange result }
+{
+    let first = rule.below(8);
+    bytes(first, first + rule.below(4))
+}
+
+/// A mode by the rule.
+fn next_mode(rule: &mut Rule) -> Mode {
+    if rule.below(3) == 0 {
+        Mode::Read
+    } else {
+        Mode::Write
+    }
+}
+
+/// One step by the rule: a lock is set or removed, or a process begins to wait or waits no more.
+fn step(both: &mut Both, rule: &mut Rule) -> Result<(), Fail> {
+    let Wait {
+        p,
+        file,
+        owner,
+        span,
+        mode,
+        ..
+    } = next_wait(rule);
+    match rule.below(8) {
+        0..=2 => both.lock(file, owner, span, Some(mode)),
+        3 => both.lock(file, owner, span, None),
+        4 => {
+            both.leave(p);
+            Ok(())
+        },
+        _ => both.join(next_wait(rule)),
+    }
+}
+
+/// On 500 sequences of 40 steps both tell the same list, the same next wait and the same of cycles, of which there are some.
+#[test]
+fn answers_as_a_plain_list(rt: HostRuntime) -> Result<(), Fail> {
+    let mut cycles = 0u64;
+    let mut ready = 0u64;
+    for x in 0..500u64 {
+        let policy = if x % 2 == 0 {
+            Policy::Held
+        } else {
+            Policy::Queue
+        };
+        let mut rule = Rule { x };
+        let mut both = Both::new(rt.alloc(), policy, 6)?;
+        for _step in 0..40u8 {
+            step(&mut both, &mut rule)?;
+            let probe = traditional(
+                rule.below(6) as u8 + 1,
+                0,
+                next_span(&mut rule),
+                Mode::Write,
+            );
+            if both.would_cycle(&rt, &probe) {
+                cycles = cycles.saturating_add(1);
+            }
+            if both.next_ready(&rt).is_some() {
+                ready = ready.saturating_add(1);
+            }
+        }
+    }
+    assert!(rt; cycles > 1000, "{cycles} cycles");
+    assert!(rt;
+        ready > 1000 && ready < 19000,
+        "{ready} times a wait is ready"
+    );
+    Ok(())
+}
