@@ -1,9 +1,9 @@
 mod flocks;
 mod waits;
 
-use lock_manager::{Errno, LkCmd, Lock, Manager, Note, ProcState, Reply, Request, Rules};
 use fd_table::{Access, Limits};
 use lock_book::{Held, Owner};
+use lock_manager::{Errno, LkCmd, Lock, Manager, Note, ProcState, Reply, Request, Rules};
 use range_core::{Kind, Memory, Mode, OFFMAX, Span, Whence};
 use std::alloc::Global;
 use std::process::Abort;

@@ -1,9 +1,9 @@
 mod header_lines;
 
-use script_core::{Cause, Script, ScriptFault, parse, write_entry, write_report};
 use fd_table::Access;
 use lock_manager::{Errno, FlockOp, LkCmd, Lock, Note, Reply, Request};
 use range_core::{Kind, Mode, Whence};
+use script_core::{Cause, Script, ScriptFault, parse, write_entry, write_report};
 use session_core::{Entry, Notes, run_all};
 use std::alloc::Global;
 use std::process::Abort;

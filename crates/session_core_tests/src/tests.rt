@@ -2,11 +2,11 @@ mod check;
 
 ghost use Rattle.std.specs.Prelude.{◌≤◌, All};
 
-use session_core::{ArriveFault, N_MAX, RunAllFault, Session, run_all};
 use fd_table::{Access, Limits};
 use lock_book::{Held, Owner};
 use lock_manager::{Errno, FlockOp, LkCmd, Lock, Note, ProcState, Reply, Request, Rules};
 use range_core::{Kind, Memory, Mode, OFFMAX, Span, Whence};
+use session_core::{ArriveFault, N_MAX, RunAllFault, Session, run_all};
 use std::alloc::Global;
 use std::process::Abort;
 use std::test::Fail;

@@ -8,12 +8,12 @@ ghost use Rattle.wait_core.specs.WaitsView.{processes_of, AreTold};
 mod listed;
 mod sequences;
 
-use wait_core::{Family, Policy, Wait, Waits};
 use lock_book::{Book, Owner};
 use range_core::{Mode, OFFMAX, Span};
 use std::alloc::{AllocError, Global};
 use std::process::Abort;
 use std::test::Fail;
+use wait_core::{Family, Policy, Wait, Waits};
 
 /// A book without locks for each of the 64 files.
 fn empty_books(alloc: Global) -> Result<Vec<Book>, AllocError>

@@ -1,9 +1,9 @@
 //! flock: the notes of each event, and what is held and who waits at the end.
 use super::waits::{Event, OPEN, error, events_in_turn, fork, ok, opened, waits};
 use super::{all_held, all_waits, command, set};
-use lock_manager::{Errno, FlockOp, LkCmd, Reply, Request};
 use fd_table::Access;
 use lock_book::{Held, Owner};
+use lock_manager::{Errno, FlockOp, LkCmd, Reply, Request};
 use range_core::{Kind, Mode, OFFMAX, Span, Whence};
 use std::test::Fail;
 use wait_core::{Family, Wait};

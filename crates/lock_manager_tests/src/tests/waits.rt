@@ -1,8 +1,8 @@
 //! Waits, grants, deadlocks, signals and kills: the notes of each event, and what is held and who waits at the end.
 use super::{RULES, all_held, all_waits, answer, command, set};
-use lock_manager::{Errno, LkCmd, Manager, Note, ProcState, Reply, Request};
 use fd_table::Access;
 use lock_book::{Held, Owner};
+use lock_manager::{Errno, LkCmd, Manager, Note, ProcState, Reply, Request};
 use range_core::{Kind, Memory, Mode, Span, Whence};
 use std::alloc::Global;
 use std::process::Abort;

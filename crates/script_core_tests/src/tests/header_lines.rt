@@ -1,8 +1,8 @@
 //! Header lines: what they say, where they may stand, and their faults.
 use super::{assert_arrivals, assert_fault, read};
-use script_core::{Cause, ScriptFault};
 use fd_table::Limits;
 use lock_manager::{Request, Rules};
+use script_core::{Cause, ScriptFault};
 use std::test::Fail;
 use wait_core::Policy;
 

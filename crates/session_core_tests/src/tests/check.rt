@@ -2,9 +2,9 @@
 ghost use Rattle.std.specs.Prelude.{◌≤◌};
 
 use super::{FORK, OPEN, RULES, answer, set, wait};
-use session_core::{CheckFault, Entry, Expected, JournalChecker, Notes, check_journal};
 use lock_manager::{Note, ProcState, Reply, Request};
 use range_core::{Kind, Memory};
+use session_core::{CheckFault, Entry, Expected, JournalChecker, Notes, check_journal};
 use std::alloc::Global;
 use std::test::Fail;
 

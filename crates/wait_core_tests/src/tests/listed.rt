@@ -2,9 +2,9 @@
 ghost use Rattle.std.specs.Prelude.{IsTrue};
 ghost use Rattle.range_core.specs.Ranges.{IsByteRange};
 
-use wait_core::{Family, Policy, Wait};
 use lock_book::{Book, Owner};
 use range_core::{OFFMAX, Span};
+use wait_core::{Family, Policy, Wait};
 
 /// The pending requests of at most so many processes, in order of arrival.
 #[derive(Drop)]

@@ -9,12 +9,12 @@ ghost use Rattle.wait_core.specs.WaitsView.{processes_of, AreTold};
 
 use super::listed::ListedWaits;
 use super::{bytes, empty_books};
-use wait_core::{Family, Policy, Wait, Waits};
 use lock_book::{Book, Owner};
 use range_core::{Mode, OFFMAX, Span};
 use std::alloc::Global;
 use std::process::Abort;
 use std::test::Fail;
+use wait_core::{Family, Policy, Wait, Waits};
 
 /// Numbers by the rule `x * 6364136223846793005 + 1442695040888963407`, of which the upper half is told.
 #[derive(Drop)]
