@@ -1,4 +1,5 @@
 -- Where the callers are while a desk serves (the words are this project's choice).
+use Rattle.std.specs.Prelude.{⊤}
 use Rattle.lockreplay.specs.declared.caller.Caller.{Caller}
 use Rattle.lockreplay.specs.declared.threads.place.Place.{Place}
 use Rattle.lockreplay.specs.declared.threads.place.Place.TheVariants.{There, Here}
@@ -7,3 +8,8 @@ use Rattle.lockreplay.specs.declared.threads.place.Place.TheVariants.{There, Her
 abbrev pub started : Place → Caller
 started (There handle) = handle.promise.0.value
 started (Here caller) = caller
+
+-- the caller is in a thread of its own
+abbrev pub HasThread : Place → Type 0
+HasThread (There handle) = ⊤
+HasThread (Here caller) = ⊥

@@ -156,13 +156,13 @@ comes_within number reading (line ∷ lines) at_hand (said, gives, inr later) =
     let rest = comes_within (number + 1) (reading_after reading said) lines at_hand later in omega (arith, rest)
 
 -- the line at hand of the pieces is that of the lines
-pub at_hand_from_pieces : (bytes body : List ℕ) (at_hand : ℕ)
+pub at_hand_from_pieces : (bytes body : List ℕ) (at_hand : ℕ) → length bytes ≤ script_limit
     → (bytes ≡ body ++ 10 ∷ []) ⊎ ((body ≡ bytes) × ((front : List ℕ) → bytes ≢ front ++ 10 ∷ []))
     → ComesTo 1 start (slice_split (λ byte. byte == 10) body) at_hand → IsAtHand bytes at_hand
-at_hand_from_pieces bytes body at_hand cut given =
+at_hand_from_pieces bytes body at_hand short cut given =
     let read = of_lines (λ lines. ComesTo 1 start lines at_hand) (no_arrival at_hand) bytes body cut given in
     let within = comes_within 1 start (lines_of bytes) at_hand read in
-    record { read = read; within = omega (arith, within) }
+    record { fits = short; read = read; within = omega (arith, within) }
 
 pub reads_from_pieces : (bytes body : List ℕ) (result : Result Meaning ScriptFault) → length bytes ≤ script_limit
     → (bytes ≡ body ++ 10 ∷ []) ⊎ ((body ≡ bytes) × ((front : List ℕ) → bytes ≢ front ++ 10 ∷ []))

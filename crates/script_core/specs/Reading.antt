@@ -138,8 +138,9 @@ ComesTo number reading (line ∷ lines) at_hand =
     (said : Line) × LineGives reading line (Ok said)
     × (((at_hand ≡ number) × IsArrival said) ⊎ ComesTo (number + 1) (reading_after reading said) lines at_hand)
 
--- the line at hand is one of the script's: all before it were read, and it is an arrival, to be taken down
+-- the line at hand is one of a script that isn't too long: all before it were read, and it is an arrival, to be taken down
 pub record IsAtHand (bytes : List ℕ) (at_hand : ℕ) : Type 0 where
+  pub fits : length bytes ≤ script_limit
   pub read : ComesTo 1 start (lines_of bytes) at_hand
   pub within : at_hand ≤ length (lines_of bytes)
 

@@ -15,11 +15,15 @@ use Rattle.session_core.specs.Legality.{IsIllegal}
 unfoldable pub expected_by : JournalChecker → Option Expected
 expected_by checker = checker.expected
 
+-- the steps that the checker has made are those of these events
+unfoldable pub HasRepeated : Rules → ℕ → JournalChecker → List Event → Type 0
+HasRepeated rules processes checker events = HasMade rules processes checker.replay events
+
 -- the checker accepted these events and found none illegal: they are a run of so many processes under these rules
 pub record HasAccepted (rules : Rules) (processes : ℕ) (checker : JournalChecker) (events : List Event) : Type 0 where
   pub run : (T : State) × IsRun rules processes events T
   pub none_illegal : expected_by checker ≡ None
-  pub made : HasMade rules processes checker.replay events
+  pub repeated : HasRepeated rules processes checker events
 
 -- where these events were accepted, and then this one came, the checker accepted it too, or it is illegal and the checker tells what
 -- was expected; or memory was refused, and what was accepted stays

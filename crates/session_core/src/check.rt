@@ -1,3 +1,4 @@
+//! Whether entries are a run: each step is made again.
 ghost use Rattle.std.specs.Prelude.{◌≡◌, ◌≤◌, ◌↔◌, ℕ, List, [], Err, IfOk, IsSome, IsTrue, MatchOption, OnErr, length, option_copied};
 ghost use Rattle.fd_table.specs.Descriptors.{process_limit};
 ghost use Rattle.lock_manager.specs.State.{State};
@@ -69,7 +70,7 @@ pub struct JournalChecker {
     expected: Option<Expected>,
 }
 
-#[tactic(auto, unfolding(crate::specs::Checking::expected_by))]
+#[tactic(auto, unfolding(crate::specs::Checking::expected_by, crate::specs::Checking::HasRepeated))]
 impl JournalChecker {
     ghost use Rattle.session_core.specs.Checking.{Checks, HasAccepted, expected_by};
 

@@ -1,3 +1,4 @@
+//! Mail, waits, signals, kills and flock in a session, each call made again where a growth was refused.
 mod check;
 
 ghost use Rattle.std.specs.Prelude.{◌≤◌, All};
@@ -10,7 +11,7 @@ use session_core::{ArriveFault, N_MAX, RunAllFault, Session, run_all};
 use std::alloc::Global;
 use std::process::Abort;
 use std::test::Fail;
-use wait_core::Policy;
+use wait_core::{Policy, Wait};
 
 // Each call that may grow is made again where a growth was refused, so that these tests pass whichever growth is: a run
 // that refuses none meets no `Memory`.
@@ -146,6 +147,13 @@ fn all_held(session: &Session) -> Result<Vec<Held>, Memory> {
     }
 }
 
+fn all_waits(session: &Session) -> Result<Vec<Wait>, Memory> {
+    match session.manager().waits() {
+        Ok(report) => Ok(report),
+        Err(Memory) => session.manager().waits(),
+    }
+}
+
 /// Looks that just these locks are held.
 fn assert_held(rt: &impl Abort, session: &Session, wanted: &[Held]) -> Result<(), Fail> {
     let locks = all_held(session)?;
@@ -176,6 +184,38 @@ fn assert_answer(rt: &impl Abort, session: &Session, p: u8, n: u64, wanted: Opti
     assert_eq!(rt; session.answer_of(p, n), wanted, "request {n} of {p}");
 }
 
+/// What a call that was refused a growth leaves as it was.
+#[derive(Drop)]
+struct Standing {
+    counts: [u64; 7],
+    states: [ProcState; 3],
+    locks: Vec<Held>,
+    waits: Vec<Wait>,
+}
+
+fn standing_of(session: &Session) -> Result<Standing, Memory> {
+    let manager = session.manager();
+    Ok(Standing {
+        counts: counts(session),
+        states: [
+            manager.state_of(1),
+            manager.state_of(2),
+            manager.state_of(3),
+        ],
+        locks: all_held(session)?,
+        waits: all_waits(session)?,
+    })
+}
+
+/// The session stands as it did before.
+fn assert_stands(rt: &impl Abort, session: &Session, before: &Standing) -> Result<(), Memory> {
+    let after = standing_of(session)?;
+    assert!(rt; after.counts == before.counts && after.states == before.states);
+    assert!(rt; after.locks.as_slice() == before.locks.as_slice());
+    assert!(rt; after.waits.as_slice() == before.waits.as_slice());
+    Ok(())
+}
+
 /// The process stands there.
 fn assert_state(rt: &impl Abort, session: &Session, p: u8, wanted: ProcState) {
     assert_eq!(rt; session.manager().state_of(p), wanted, "process {p}");
@@ -188,33 +228,30 @@ fn arrive(
     p: u8,
     request: Request,
 ) -> Result<u64, ArriveFault> {
-    let before = counts(session);
+    let before = standing_of(session).map_err(|_| ArriveFault::Memory)?;
     assert!(rt; 1 <= p && p <= session.manager().processes());
     let first = session.arrive(p, request);
     if first != Err(ArriveFault::Memory) {
         return first;
     }
-    assert_counts(rt, session, before);
+    assert_stands(rt, session, &before).map_err(|_| ArriveFault::Memory)?;
     assert!(rt; 1 <= p && p <= session.manager().processes());
     session.arrive(p, request)
 }
 
 /// `take_next`, likewise.
 fn take_next(rt: &impl Abort, session: &mut Session) -> Result<Option<u64>, Memory> {
-    let before = counts(session);
-    let locks = all_held(session)?;
+    let before = standing_of(session)?;
     match session.take_next() {
         Ok(place) => Ok(place),
         Err(Memory) => {
-            assert_counts(rt, session, before);
-            let after = all_held(session)?;
-            assert!(rt; after.as_slice() == locks.as_slice());
+            assert_stands(rt, session, &before)?;
             session.take_next()
         }
     }
 }
 
-/// `take_one`, likewise: one that is refused leaves what was sent and what was taken.
+/// `take_one`, likewise.
 fn take_one(
     rt: &impl Abort,
     session: &mut Session,
@@ -223,10 +260,10 @@ fn take_one(
 ) -> Result<u64, Memory> {
     assert!(rt; 1 <= p && p <= session.manager().processes() && session.manager().able(p));
     assert!(rt; session.sent(p) == session.taken(p) && session.sent(p) < N_MAX);
-    let before = counts(session);
+    let before = standing_of(session)?;
     match session.take_one(p, request) {
         Err(Memory) => {
-            assert_counts(rt, session, before);
+            assert_stands(rt, session, &before)?;
             assert!(rt; 1 <= p && p <= session.manager().processes() && session.manager().able(p));
             assert!(rt; session.sent(p) == session.taken(p) && session.sent(p) < N_MAX);
             session.take_one(p, request)

@@ -1,3 +1,4 @@
+//! Waits and cycles beside a list that is searched anew, and as many waits as there are processes.
 ghost use Rattle.std.specs.Prelude.{◌≡◌, ◌<◌, ◌≤◌, length, vec_len, IfOk};
 ghost use Rattle.range_core.specs.declared.TheConstants.{OFFMAX};
 ghost use Rattle.wait_core.specs.Locks.{locks_of};

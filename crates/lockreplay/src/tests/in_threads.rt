@@ -6,7 +6,7 @@ use super::rows::{ROWS, Row};
 use super::waiting_rows::WAITING_ROWS;
 use crate::caller::{Answer, Watch};
 use crate::devices::{FromReader, ToWriter};
-use crate::in_threads::replay_in_threads;
+use crate::in_threads::{Nobody, replay_in_threads};
 use crate::threads::replay_threads;
 use lock_manager::Note;
 use script_core::{Script, parse};
@@ -25,13 +25,6 @@ const TURNS: u32 = 1000000;
 
 /// How often each script is run.
 const RUNS: u32 = 20;
-
-/// A watch that does nothing.
-struct Nobody;
-
-impl Watch for Nobody {
-    fn posted(&self, _p: u8, _n: u64) {}
-}
 
 /// A watch at which two processes wait for each other.
 #[derive(Drop)]

@@ -1,5 +1,5 @@
 //! Where a caller is while the desk serves: in its thread, or here.
-ghost use Rattle.std.specs.Prelude.{◌≡◌, IfOk, IfErr};
+ghost use Rattle.std.specs.Prelude.{◌≡◌, ◌≢◌, ◌↔◌, IfOk, IfErr, []};
 
 use crate::caller::{Caller, Ends, Watch};
 use crate::replay::RunFault;
@@ -20,7 +20,7 @@ pub enum Place {
 impl Place {
     ghost use Rattle.call_table.specs.Shown.{IsClientOf};
     ghost use Rattle.lockreplay.specs.Callers.{HasEnded};
-    ghost use Rattle.lockreplay.specs.Places.{started};
+    ghost use Rattle.lockreplay.specs.Places.{started, HasThread};
 
     /// Starts a thread for a caller that requests something.
     pub fn start<'s, 'e: 's, R: Threads + Wait + Clock + Sync, W: Watch + Sync>(
@@ -32,6 +32,7 @@ impl Place {
     ) -> Result<Place, RunFault>
         requires { IsClientOf hub.now caller.client }
         ensures started { IfOk result (λ place. started place ≡ caller) }
+        ensures there { IfOk result (λ place. HasThread place ↔ (caller.requests.items ≢ [])) }
         ensures fault { IfErr result (λ fault. fault ≡ RunFault.Thread) }
     {
         if caller.is_silent() {

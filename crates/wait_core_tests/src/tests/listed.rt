@@ -3,7 +3,7 @@ ghost use Rattle.std.specs.Prelude.{IsTrue};
 ghost use Rattle.range_core.specs.Ranges.{IsByteRange};
 
 use lock_book::{Book, Owner};
-use range_core::{OFFMAX, Span};
+use range_core::{Mode, OFFMAX, Span};
 use wait_core::{Family, Policy, Wait};
 
 /// The pending requests of at most so many processes, in order of arrival.
@@ -31,7 +31,7 @@ impl ListedWaits {
         self.reach(wait, self.waits.len(), books, &mut reached);
         for _round in 0..self.processes {
             for (i, other) in self.waits.iter().enumerate() {
-                if reached[usize::from(other.p)] && other.is_traditional() {
+                if reached[usize::from(other.p)] && is_traditional(other) {
                     self.reach(other, i, books, &mut reached);
                 }
             }
@@ -46,7 +46,7 @@ impl ListedWaits {
                 .waits
                 .iter()
                 .take(earlier)
-                .any(|other| other.conflicts_with(wait))
+                .any(|other| conflict(other, wait))
     }
 
     /// Marks the processes that block the wait, which has so many waits before it.
@@ -57,14 +57,25 @@ impl ListedWaits {
             }
         }
         for other in self.waits.iter().take(earlier) {
-            if self.policy == Policy::Queue
-                && other.is_traditional()
-                && other.conflicts_with(wait)
-            {
+            if self.policy == Policy::Queue && is_traditional(other) && conflict(other, wait) {
                 reached[usize::from(other.p)] = true;
             }
         }
     }
+}
+
+/// Whether the wait is for a lock of its process.
+fn is_traditional(wait: &Wait) -> bool {
+    wait.owner == Owner::Process(wait.p)
+}
+
+/// Whether the two waits are for locks that can't both be held: of two owners, on one file, one at least to write, and with a byte in
+/// common where they are byte locks.
+fn conflict(one: &Wait, other: &Wait) -> bool {
+    let writes = one.mode == Mode::Write || other.mode == Mode::Write;
+    let meet = one.span.first <= other.span.last && other.span.first <= one.span.last;
+    let on_one_file = one.file == other.file && one.family == other.family;
+    on_one_file && one.owner != other.owner && writes && (one.family == Family::Whole || meet)
 }
 
 /// Whether a lock of another owner blocks the wait.

@@ -13,7 +13,7 @@ returns-clause-refused c =
 
 pub returns-clause-memory : goal.returns-clause-memory
 returns-clause-memory c =
-    IfErr-weaker c.read_lines.result _ _ (λ fault given is. at_hand_from_pieces c.args.bytes.now c.without_last_feed.result.now fault.line c.without_last_feed.ensures (given.1 is)) c.read_lines.ensures.fault
+    IfErr-weaker c.read_lines.result _ _ (λ fault given is. at_hand_from_pieces c.args.bytes.now c.without_last_feed.result.now fault.line c.if-bytes-gt-SCRIPT_MAX.false c.without_last_feed.ensures (given.1 is)) c.read_lines.ensures.fault
 
 pub returns-clause-processes : goal.returns-clause-processes
 returns-clause-processes c =
