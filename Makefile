@@ -15,7 +15,8 @@ build:
 	    || { cat crates/lockreplay/out/build.log >&2; exit 1; }
 
 # The gate, and then the command lines, the large scripts and the samples on the program as two compilers built it in the gate, what the
-# README shows, and the conformance tools' tests but for those that a busy machine can upset.
+# README shows, the files and names that the documents point to, and the conformance tools' tests but for those that a busy machine can
+# upset.
 test:
 	rt ci
 	sh tests/command-line.sh $(PROGRAM)
@@ -25,6 +26,7 @@ test:
 	sh tests/samples.sh $(PROGRAM)
 	sh tests/samples.sh $(PROGRAM).by-rattle
 	sh tests/readme.sh $(PROGRAM)
+	sh tests/signposts.sh
 	cd conformance && LOCKREPLAY=$(abspath $(PROGRAM)) python3 -m unittest tests.test_corpus tests.test_judging tests.test_lies tests.test_trace
 
 # Says of each must-fail edit what refuses it, and fails where that is a name alone; `make edits EDITS='CRATE EDIT'` tries some.
@@ -33,16 +35,16 @@ edits:
 	tests/edit-reasons $(EDITS)
 
 # Refuses each growth of runs on the sample in turn, and of the tests that look what a refusal leaves, on what was built.
-TESTED := lock_book fd_table lock_manager session_core call_table
+TESTED := lock_book_tests fd_table_tests lock_manager_tests session_core_tests call_table
 memory: build
 	sh tests/refuse-growths.sh $(PROGRAM)
 	sh tests/refuse-growths.sh $(PROGRAM) crates/lockreplay/stdin
 	sh tests/refuse-growths.sh $(PROGRAM) --help
 	sh tests/refuse-growths.sh $(PROGRAM) --threads tests/command-line/handed-over
-	@for crate in $(TESTED) script_core; do (cd crates/$$crate && rt test) > crates/$$crate/out/test.log 2>&1 \
+	@for crate in $(TESTED) script_core_tests; do (cd crates/$$crate && rt test) > crates/$$crate/out/test.log 2>&1 \
 	    || { cat crates/$$crate/out/test.log >&2; exit 1; }; done
 	@for crate in $(TESTED); do sh tests/refuse-growths-in-tests.sh crates/$$crate/out/$${crate}_tests || exit 1; done
-	sh tests/refuse-growths-in-tests.sh crates/script_core/out/script_core_tests memory
+	sh tests/refuse-growths-in-tests.sh crates/script_core_tests/out/script_core_tests_tests memory
 
 # Refuses each thread and each growth of runs in threads in turn, and runs scripts in threads TIMES times: each order is judged by a run
 # without threads.

@@ -1,3 +1,4 @@
+//! What the desk and a client knew of each other before they met: in proofs alone.
 use session_core::Entry;
 use std::collections::LinkedList;
 

@@ -1,3 +1,4 @@
+//! The refusal of a client that has no room, with the request.
 use lock_manager::Request;
 
 /// There is no room for this request: as many wait to be collected as the table has cells, or no more may be posted.

@@ -1,3 +1,4 @@
+//! What a client knows: in proofs alone.
 use crate::setup::Setup;
 use lock_manager::Request;
 use session_core::Entry;

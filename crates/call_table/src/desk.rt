@@ -1,3 +1,4 @@
+//! The side of the table that takes the requests.
 ghost use Rattle.std.specs.Prelude.{ℕ, ◌≡◌, ◌≤◌, true, false};
 ghost use Rattle.session_core.specs.SessionView.{events_in};
 ghost use Rattle.call_table.specs.Seats.{SitsAsDesk};

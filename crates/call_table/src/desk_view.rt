@@ -1,3 +1,4 @@
+//! What the desk knows: in proofs alone.
 use crate::setup::Setup;
 use crate::tally::Tally;
 use session_core::Entry;

@@ -1,3 +1,4 @@
+//! What stands between the taking of a request and its answers, for tests that stop there.
 ghost use Rattle.std.specs.Prelude.{ℕ};
 
 /// What stands between the taking of a request and its answers (this project's choice).

@@ -1,3 +1,4 @@
+//! The steps on the words: what each stores or loads, and what it tells its side.
 // What each kind of step tells its caller, and how views are split and joined. These types are for the proofs alone.
 ghost use Rattle.call_table.specs.Steps.{Compares, Fills, Posts, Looks, Reads, Finds, Gets, Collects, Marks, Publishes, Closes};
 ghost use Rattle.call_table.specs.Steps.{desk_before, client_made, joined, desk_parted, client_parted};

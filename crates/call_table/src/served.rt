@@ -1,3 +1,5 @@
+//! What the desk did in one call.
+
 /// What the desk did in one call.
 #[derive(Clone, Copy, Debug, PartialEq, Eq)]
 pub enum Served {

@@ -1,3 +1,4 @@
+//! What a table is made with.
 use lock_manager::Rules;
 
 /// What the table is made with.

@@ -1,3 +1,5 @@
+//! What the desk knows of one process: in proofs alone.
+
 /// What the desk knows of one process. No such value is made: seats have it in the proofs.
 pub struct Tally {
     /// How many answers to it were published.

@@ -1,3 +1,4 @@
+//! Clients and a desk, in one thread and in several: what no clause says of a table.
 mod threads;
 
 ghost use Rattle.std.specs.Prelude.{◌≡◌, ◌≤◌, IfOk};

@@ -1,3 +1,4 @@
+//! What a seat knows: in proofs alone.
 use crate::before::Before;
 use crate::client_view::ClientView;
 use crate::desk_view::DeskView;

@@ -1,3 +1,4 @@
+//! What a close or an end released.
 use crate::{FILE_COUNT, FILES, MOST_DESCRIPTORS};
 use arrayvec::ArrayVec;
 use std::marker::Model;

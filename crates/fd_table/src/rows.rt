@@ -1,3 +1,4 @@
+//! The descriptors of one process.
 ghost use Rattle.std.specs.Prelude.{ℕ, ◌≡◌, ◌<◌, ◌+◌, ◌==◌, IfOk, IfSome, IfNone, Some, None, [], length, slice_index_or, slice_set, replicate};
 ghost use Rattle.fd_table.specs.Rows.{row_at, with_key, opening_row, IsLowestClosed, AreAllOpen};
 

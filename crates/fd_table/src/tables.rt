@@ -1,3 +1,4 @@
+//! The descriptors of all processes, and the open file descriptions that they refer to.
 ghost use Rattle.std.specs.Prelude.{ℕ, ◌≡◌, ◌≤◌, ◌<◌, ◌+◌, ◌^◌, Some, length, option_map, replicate, false, IfSome, IfNone, ◌<ℤ◌, pos};
 ghost use Rattle.fd_table.specs.declared.TheConstants.{DESCRIPTIONS};
 ghost use Rattle.fd_table.specs.declared.tables.Opened.{Opened};

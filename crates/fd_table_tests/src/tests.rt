@@ -1,3 +1,4 @@
+//! Descriptors call by call, each growth refused once, and the wide limits.
 use fd_table::{Access, FdFault, Limits, Look, Releases, Tables};
 use range_core::Memory;
 use std::alloc::Global;

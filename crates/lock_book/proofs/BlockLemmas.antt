@@ -1,3 +1,4 @@
+-- Who blocks a lock, read off the lists of owners: for `blocked`, `process_blocks` and `blocking_processes`.
 use Rattle.std.proofs.Common.{ℕ, ◌≡◌, ◌≢◌, ◌<◌, ◌≤◌, ◌↔◌, ◌∙◌, sym, ap, refl, subst, arith, true, false, Option, Some, None, List, [], ◌∷◌, ◌++◌, All, Any, map}
 use Rattle.std.specs.Prelude.{is_some, nat_lt, IsTrue, IfSome, IfNone, MatchOption}
 use Rattle.std.specs.Borrow.{Bor}

@@ -1,3 +1,4 @@
+-- What a change of one owner's list, or of one description's place, means to the whole book: for each call that sets, reserves or releases.
 use Rattle.std.proofs.Common.{ℕ, ◌≡◌, ◌≢◌, ◌==◌, ◌∙◌, sym, ap, refl, subst, true, false, cond, Bool, arith, ◌≤◌, ◌+◌, Option, Some, None, Result, Ok, Err, inl, inr, List}
 use Rattle.std.specs.Prelude.{if◌then◌else◌, ◌||◌, is_some, is_ok, OnOk, OnErr, IsTrue}
 use Rattle.std.specs.Ordering.{nat_cmp}

@@ -1,3 +1,4 @@
+-- The flock modes of a book, read off a loop over its places: for the report (`held`).
 use Rattle.std.proofs.Common.{ℕ, ◌≡◌, ◌<◌, ◌==◌, ◌∙◌, sym, ap, subst, Option, Some, None, List, All, map}
 use Rattle.std.specs.Borrow.{Bor}
 use Rattle.std.specs.Iterator.{Yields}

@@ -1,3 +1,4 @@
+-- The byte locks of a file, owner by owner and run by run: for the report (`held`).
 use Rattle.std.proofs.Common.{ℕ, ◌≡◌, ◌<◌, ◌∙◌, sym, ap, refl, subst, arith, true, Option, Some, None, List, [], ◌∷◌, ◌++◌, All, Any, map, inl, inr}
 use Rattle.std.specs.List.{AllPairs}
 use Rattle.std.specs.Prelude.{◌⊎◌, IsFalse}

@@ -1,3 +1,4 @@
+-- Some and all elements of lists that are put together.
 use Rattle.std.proofs.Common.{◌≡◌, ◌+◌, ◌-◌, ◌∙◌, sym, ap, subst, arith, append_assoc, Bool, true, cond, List, [], ◌∷◌, ◌++◌, All, Any, length, inl, inr}
 use Rattle.std.specs.Prelude.{if◌then◌else◌}
 use Rattle.std.specs.List.{AllPairs}

@@ -1,3 +1,4 @@
+//! The locks of one file: who holds which mode on which bytes, and who has locked the whole file.
 ghost use Rattle.std.specs.Prelude.{ℕ, ◌≡◌, None, false};
 ghost use Rattle.lock_book.specs.OwnerLists.{AreInUse};
 ghost use Rattle.lock_book.specs.Covering.{AreCovered, AreCovered-prop};

@@ -1,3 +1,4 @@
+//! Books of many owners, runs and rooms, beyond any plausible cap, and what the worked rules say of them.
 ghost use Rattle.std.specs.Prelude.{◌≡◌};
 
 use lock_book::{Blocker, Book, Held, Owner};

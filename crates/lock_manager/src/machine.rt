@@ -1,3 +1,4 @@
+//! The state behind a manager, and each request on it; settling stands apart.
 ghost use Rattle.std.specs.Prelude.{ℕ, ◌≡◌, ◌≢◌, ◌≤◌, ◌<◌, ◌↔◌, List, [], true, vec_len, All, IfOk, OnOk, OnErr, IsTrue};
 ghost use Rattle.fd_table.specs.declared.TheConstants.{FILES};
 ghost use Rattle.fd_table.specs.TablesView.{processes_of as processes_in, limits_of, ever_alive};

@@ -1,3 +1,4 @@
+//! The lock manager: one event is one request and the settling after it.
 ghost use Rattle.std.specs.Prelude.{ℕ, ◌≡◌, ◌≢◌, ◌≤◌, ◌↔◌, List, [], IfOk, OnErr, IsTrue};
 ghost use Rattle.lock_manager.specs.Safety.{IsSafe};
 ghost use Rattle.lock_manager.specs.MachineView.{machine_rules, machine_locks, machine_waits};

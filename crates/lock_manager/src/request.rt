@@ -1,3 +1,4 @@
+//! The words of the surface: requests, replies, notes, rules.
 use fd_table::{Access, Limits};
 use range_core::{Kind, Mode, Whence};
 use wait_core::Policy;

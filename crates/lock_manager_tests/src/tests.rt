@@ -1,3 +1,4 @@
+//! Requests in turn, with the replies that the rules give.
 mod flocks;
 mod waits;
 

@@ -1,3 +1,4 @@
+//! Where bytes come from and go to, as the program sees std's readers and writers.
 ghost use Rattle.std.specs.Prelude.{ℕ, ◌≡◌, ◌≤◌, ◌<◌, ◌+◌, Bool, false, Option, List, IfOk, OnOk, OnErr, length};
 ghost use Rattle.lockreplay.specs.Devices.{GivesByte, GivesSome, TakesSome, Fails};
 

@@ -1,3 +1,4 @@
+//! Scripts, sources and sinks, readers and writers, bad and good, as the program runs them.
 mod command_line;
 mod cuts;
 mod devices;

@@ -1,3 +1,4 @@
+//! Which modes conflict.
 ghost use Rattle.std.specs.Prelude.{◌↔◌, IsTrue};
 ghost use Rattle.range_core.specs.Ranges.{Conflict};
 

@@ -1,3 +1,4 @@
+//! What stands in the place of the runs that a set touches.
 ghost use Rattle.std.specs.Prelude.{◌≡◌, ◌↔◌, All, IsTrue, Some};
 ghost use Rattle.std.specs.Option.{option_to_list};
 ghost use Rattle.range_core.specs.Ranges.{IsByteRange};

@@ -1,3 +1,4 @@
+//! The range that a lock description names.
 ghost use Rattle.std.specs.Prelude.{◌≡◌, ◌≤◌, ◌+ℤ◌, ◌≤ℤ◌, pos, IfOk};
 ghost use Rattle.range_core.specs.Ranges.{IsByteRange};
 ghost use Rattle.range_core.specs.Resolving.{resolution, IsNearFile, base_of, first_byte as first_byte_of, last_byte as last_byte_of, range_between as range_between_of};

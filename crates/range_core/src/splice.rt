@@ -1,3 +1,4 @@
+//! Writing over a stretch of a list, and taking out or putting in the rest.
 ghost use Rattle.std.specs.Prelude.{◌≡◌, ◌+◌, ◌-◌, ◌≤◌, ◌++◌, length, take, drop};
 ghost use Rattle.smallvec.specs.SmallVec.{small_vec_len};
 

@@ -1,3 +1,4 @@
+//! Ranges by the table of the rules, and lists against one that keeps every change.
 ghost use Rattle.std.specs.Prelude.{◌≡◌, ◌≤◌};
 ghost use Rattle.range_core.specs.declared.TheConstants.{OFFMAX};
 ghost use Rattle.range_core.specs.Ranges.{IsByteRange};

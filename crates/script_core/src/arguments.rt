@@ -1,3 +1,4 @@
+//! The arguments of a command, each as its type.
 ghost use Rattle.std.specs.Prelude.{◌≡◌, ◌<◌, ◌^◌, MatchResult, codes, decimal};
 ghost use Rattle.std.specs.Fmt.{signed_decimal};
 ghost use Rattle.script_core.specs.Arguments.{FileNumber, DescriptorNumber, AnyNumber, ProcessNumber, AccessWord, KindWord, WhenceWord, OpWord, NbWord, PolicyWord, LimitsWord, IsBad};

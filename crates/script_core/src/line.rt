@@ -1,3 +1,4 @@
+//! What a line says.
 ghost use Rattle.std.specs.Prelude.{◌≡◌, [], ◌∷◌, MatchResult};
 ghost use Rattle.script_core.specs.Words.{texts};
 ghost use Rattle.script_core.specs.HeaderText.{policy_word, limits_word};

@@ -1,3 +1,4 @@
+//! Decimal numbers without leading zeros.
 ghost use Rattle.std.specs.Prelude.{◌≡◌, ◌≢◌, ◌↔◌, ℕ, ◌^◌, ◌<◌, ℤ, FitsSigned, IsTrue, MatchOption, decimal};
 ghost use Rattle.std.specs.Int.{w64};
 ghost use Rattle.std.specs.Fmt.{signed_decimal};

@@ -1,3 +1,4 @@
+//! Reading line by line: what was said so far, and what the next line says.
 ghost use Rattle.std.specs.Prelude.{◌≡◌, ◌≢◌, OnOk, IfErr, Ok, Err};
 ghost use Rattle.script_core.specs.Words.{texts, words_of};
 

@@ -1,3 +1,4 @@
+//! The texts of requests, entries and reports.
 ghost use Rattle.std.specs.Prelude.{◌≡◌, ◌∷◌, ◌++◌, MatchResult, codes, decimal, flat_map};
 ghost use Rattle.std.specs.List.{join_with_byte};
 ghost use Rattle.lock_manager.specs.declared.request.Request.TheVariants.{Flock};

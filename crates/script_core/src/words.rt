@@ -1,3 +1,4 @@
+//! The words of a line.
 ghost use Rattle.std.specs.Prelude.{◌≡◌, IsTrue, IsFalse, MatchOption, take};
 ghost use Rattle.script_core.specs.Words.{texts};
 ghost use Rattle.script_core.specs.Words as spec;

@@ -1,3 +1,4 @@
+//! Entries and reports behind the text that there is, or the text as it was.
 ghost use Rattle.std.specs.Prelude.{◌≡◌, ℕ, ◌≤◌, List, ◌++◌, MatchResult, OnOk, OnErr, length, flat_map};
 ghost use Rattle.lock_manager.specs.State.{State};
 ghost use Rattle.lock_manager.specs.ManagerView.{StandsFor, processes_of, state_at};

@@ -1,3 +1,4 @@
+//! Scripts and their faults line by line, and the texts of entries and reports.
 mod header_lines;
 
 use fd_table::Access;

@@ -1,3 +1,4 @@
+//! The last answer to each process.
 ghost use Rattle.std.specs.Prelude.{◌≡◌, ◌≤◌, ℕ, ◌==◌, Some, None, IfOk, if◌then◌else◌};
 ghost use Rattle.session_core.specs.Mail.{answers_in};
 

@@ -1,3 +1,4 @@
+//! An entry of the journal: an event and what it told.
 ghost use Rattle.std.specs.Prelude.{◌≡◌};
 ghost use Rattle.session_core.specs.Mail.{answers_in, reply_of as reply_of_lem, reply_among};
 

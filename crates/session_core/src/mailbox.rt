@@ -1,3 +1,4 @@
+//! The requests that a process sent, in order.
 ghost use Rattle.std.specs.Prelude.{◌≡◌, ◌+◌, ◌-◌, ◌<◌, ◌≤◌, ◌↔◌, [], ◌∷◌, ◌++◌, Err, IfOk, OnOk, OnErr, length, slice_get, take, drop};
 ghost use Rattle.session_core.specs.declared.TheConstants.{N_MAX};
 

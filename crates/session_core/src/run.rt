@@ -1,3 +1,4 @@
+//! A list of arrivals, run to its end.
 ghost use Rattle.std.specs.Prelude.{ℕ, ◌≡◌, ◌<◌, ◌≤◌, All, IfOk, OnOk, Err, length};
 ghost use Rattle.fd_table.specs.Descriptors.{process_limit};
 ghost use Rattle.lock_manager.specs.State.{State};

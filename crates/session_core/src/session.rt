@@ -1,3 +1,4 @@
+//! A lock manager with a mailbox for each process, and the journal of what was taken.
 ghost use Rattle.std.specs.Prelude.{ℕ, ◌≡◌, ◌+◌, ◌-◌, ◌<◌, ◌≤◌, ◌==◌, ◌↔◌, All, IfOk, OnErr, IfSome, IfNone, Err, None, Some, if◌then◌else◌, length, option_copied, take};
 ghost use Rattle.fd_table.specs.Descriptors.{process_limit};
 ghost use Rattle.lock_manager.specs.ManagerView.{processes_of, state_at};

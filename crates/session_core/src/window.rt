@@ -1,3 +1,4 @@
+//! The stretch of process numbers outside which nobody has mail.
 ghost use Rattle.std.specs.Prelude.{ℕ, ◌≤◌};
 ghost use Rattle.session_core.specs.Mailboxes.{IsInside};
 

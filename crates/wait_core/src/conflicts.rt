@@ -1,3 +1,4 @@
+//! What blocks a wait, and which waits conflict.
 ghost use Rattle.std.specs.Prelude.{ℕ, ◌≡◌, ◌<◌, ◌≤◌, ◌↔◌, false, IsTrue, All, Any, length, slice_index_or};
 ghost use Rattle.range_core.specs.Ranges.{IsByteRange};
 ghost use Rattle.lock_book.specs.Conflicts.{ProcessBlocks};

@@ -1,3 +1,4 @@
+//! Sets of files.
 ghost use Rattle.std.specs.Prelude.{ℕ, ◌≡◌, ◌<◌, ◌==◌, ◌||◌, false, true, IfNone, IfSome, IsFalse, IsTrue};
 ghost use Rattle.wait_core.specs.Files.{has_file};
 

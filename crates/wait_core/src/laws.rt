@@ -1,3 +1,4 @@
+//! Laws of waits. Each is the contract of a function that does nothing.
 ghost use Rattle.wait_core.specs.FreeOfCycles.{FreeWhenDescriptionLocksChange, FreeWhenLocksChange, FreeWhenOneJoins, FreeWhenOneLeaves};
 
 /// A law, and nothing to run: waits that are free of cycles stay so when one joins that closes none, when a process

@@ -1,3 +1,4 @@
+//! Which process waits for which by a lock.
 ghost use Rattle.std.specs.Prelude.{◌≡◌, ◌≢◌, ℕ, suc, ◌<◌, ◌≤◌, ◌↔◌, IsFalse, All, AllPairs, IfOk, IsTrue, length, vec_len};
 ghost use Rattle.wait_core.specs.declared.pairs.TheConstants.{ROWS};
 ghost use Rattle.lock_book.specs.declared.Owner.TheVariants.{Process};

@@ -1,3 +1,4 @@
+//! Sets of processes.
 ghost use Rattle.std.specs.Prelude.{ℕ, suc, ◌≡◌, ◌<◌, ◌≤◌, ◌==◌, ◌||◌, if◌then◌else◌, false, IfNone, IfSome, IsFalse, IsTrue};
 ghost use Rattle.wait_core.specs.Processes.{IsBeyond, IsWithin, is_member, lacking, no_process};
 

@@ -1,3 +1,4 @@
+//! The pending requests, in order of arrival.
 ghost use Rattle.std.specs.Prelude.{ℕ, ◌⊎◌, ◌≡◌, ◌≢◌, ◌<◌, ◌≤◌, ◌↔◌, List, [], ◌∷◌, ◌++◌, length, vec_capacity, IfOk, IfSome, IfNone, IsTrue, IsFalse, All, AllPairs, slice_get, None, Some, take};
 ghost use Rattle.wait_core.specs.declared.files.TheConstants.{FILES};
 ghost use Rattle.wait_core.specs.declared.processes.TheConstants.{PROCESSES};

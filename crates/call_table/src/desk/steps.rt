@@ -1,3 +1,4 @@
+//! The loops of the desk over processes and over the words of a cell.
 ghost use Rattle.std.specs.Prelude.{ℕ, ◌≡◌, ◌+◌, ◌<◌, ◌≤◌, length, true, false, IsTrue, [], IfSome, IfNone};
 ghost use Rattle.session_core.specs.SessionView.{events_in};
 ghost use Rattle.call_table.specs.Serving.{FindsNext, LooksUpTo, HasAllTakenBelow, IsBetween, IsUntold, IsTold};

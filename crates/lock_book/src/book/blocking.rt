@@ -1,3 +1,4 @@
+//! Who blocks a lock.
 ghost use Rattle.std.specs.Prelude.{ℕ, ◌≡◌, ◌<◌, ◌↔◌, false, nat_lt, slice_index_or, IfSome, IfNone, IsTrue, MatchOption};
 ghost use Rattle.range_core.specs.Ranges.{IsByteRange};
 ghost use Rattle.lock_book.specs.Conflicts.{ByteConflict, IsFirstBlocked, IsFirstBlocker, ProcessBlocks};

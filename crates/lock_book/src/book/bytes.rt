@@ -1,3 +1,4 @@
+//! Setting, reserving and releasing byte locks.
 ghost use Rattle.std.specs.Prelude.{◌≡◌, ◌≤◌, ◌+◌, ◌↔◌, IsTrue, IsOk, OnOk, OnErr};
 ghost use Rattle.range_core.specs.Ranges.{IsByteRange};
 ghost use Rattle.lock_book.specs.OwnerLists.{IsIdle};

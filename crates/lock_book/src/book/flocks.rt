@@ -1,3 +1,4 @@
+//! Setting, reserving and releasing whole-file locks.
 ghost use Rattle.std.specs.Prelude.{◌≡◌, ◌↔◌, IsTrue, IsSome, IsOk, OnOk, OnErr};
 ghost use Rattle.lock_book.specs.Conflicts.{FlockConflict};
 ghost use Rattle.lock_book.specs.Books.{flock_modes_of, has_flock_place, ReleasesFlock, ReservesFlock, SameBook, SetsFlock};

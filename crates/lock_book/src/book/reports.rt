@@ -1,3 +1,4 @@
+//! All that is held on a file.
 ghost use Rattle.std.specs.Prelude.{◌≡◌, true, IfOk, OnOk, All};
 ghost use Rattle.range_core.specs.Ranges.{IsByteRange};
 ghost use Rattle.range_core.specs.Changes.{modes_of};

@@ -1,3 +1,4 @@
+//! Whether a wait would close a cycle.
 ghost use Rattle.std.specs.Prelude.{ℕ, ◌≡◌, ◌<◌, ◌≤◌, ◌↔◌, Some, length, slice_get, IsTrue};
 ghost use Rattle.wait_core.specs.Locks.{Locks, locks_of};
 ghost use Rattle.wait_core.specs.Cycles.{ClosesCycle, IsBlockedByProcess, IsTraditional, WaitsFor};
