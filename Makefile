@@ -15,8 +15,8 @@ build:
 	    || { cat crates/lockreplay/out/build.log >&2; exit 1; }
 
 # The gate, and then the command lines, the large scripts and the samples on the program as two compilers built it in the gate, what the
-# README shows, the files and names that the documents point to, and the conformance tools' tests but for those that a busy machine can
-# upset.
+# README shows, the files and names that the documents point to, that want of memory is made at one place, and the conformance tools'
+# tests but for those that a busy machine can upset.
 test:
 	rt ci
 	sh tests/command-line.sh $(PROGRAM)
@@ -27,6 +27,7 @@ test:
 	sh tests/samples.sh $(PROGRAM).by-rattle
 	sh tests/readme.sh $(PROGRAM)
 	sh tests/signposts.sh
+	tests/memory-is-passed-on
 	cd conformance && LOCKREPLAY=$(abspath $(PROGRAM)) python3 -m unittest tests.test_corpus tests.test_judging tests.test_lies tests.test_trace
 
 # Says of each must-fail edit what refuses it, and fails where that is a name alone; `make edits EDITS='CRATE EDIT'` tries some.

@@ -56,7 +56,7 @@ fn serve<G: Gate>(desk: &mut Desk, hub: &Hub, gate: &G) -> Result<Served, Memory
     ensures { SameDesk desk.old desk.new }
 {
     match desk.serve_one(hub, gate) {
-        Err(Memory) => desk.serve_one(hub, gate),
+        Err(_) => desk.serve_one(hub, gate),
         first => first,
     }
 }
@@ -74,7 +74,7 @@ fn open_table(
         made.0 made.1.items made.2) }
 {
     match open_hub(alloc, processes, depth, rules) {
-        Err(Memory) => open_hub(alloc, processes, depth, rules),
+        Err(_) => open_hub(alloc, processes, depth, rules),
         first => first,
     }
 }

@@ -7,7 +7,9 @@ mod rows;
 mod tables;
 
 pub use laws::tables_stand_for_some;
+use range_core::Memory;
 pub use releases::Releases;
+use std::alloc::{AllocError, AllocFailed};
 pub use tables::{Look, Tables};
 use thiserror::Error;
 
@@ -74,17 +76,52 @@ impl Limits {
 pub enum FdFault {
     /// The descriptor isn't open, or is no number of a descriptor, `EBADF`.
     #[error("the descriptor is not open")]
-    BadFd = 1,
+    BadFd,
     /// Each number of a descriptor is taken, or too many descriptions were made, `EMFILE`.
     #[error("no descriptor is free, or too many files were opened")]
-    TooMany = 2,
+    TooMany,
     /// A file number, an offset or a size out of range, `EINVAL`.
     #[error("the file, offset or size is out of range")]
-    Invalid = 3,
+    Invalid,
     /// The number of the child is taken or out of range, `EAGAIN`.
     #[error("the process number is taken or out of range")]
-    Taken = 4,
+    Taken,
     /// Want of memory.
-    #[error("no memory")]
-    Memory = 5,
+    #[error(transparent)]
+    Memory(Memory),
+}
+
+impl From<Memory> for FdFault {
+    ghost use Rattle.std.specs.Prelude.{◌≡◌};
+    ghost use Rattle.fd_table.specs.declared.FdFault.{FdFault};
+
+    ghost from_gives = { λ memory fault. fault ≡ FdFault.Memory memory };
+
+    fn from(memory: Memory) -> FdFault {
+        FdFault::Memory(memory)
+    }
+}
+
+impl From<AllocError> for FdFault {
+    ghost use Rattle.std.specs.Prelude.{◌≡◌};
+    ghost use Rattle.range_core.specs.declared.Memory.{Memory as Want};
+    ghost use Rattle.fd_table.specs.declared.FdFault.{FdFault};
+
+    ghost from_gives = { λ refused fault. (memory : Want) × (fault ≡ FdFault.Memory memory) };
+
+    fn from(refused: AllocError) -> FdFault {
+        FdFault::Memory(Memory::from(refused))
+    }
+}
+
+impl<T: Drop> From<AllocFailed<T>> for FdFault {
+    ghost use Rattle.std.specs.Prelude.{◌≡◌};
+    ghost use Rattle.range_core.specs.declared.Memory.{Memory as Want};
+    ghost use Rattle.fd_table.specs.declared.FdFault.{FdFault};
+
+    ghost from_gives = { λ refused fault. (memory : Want) × (fault ≡ FdFault.Memory memory) };
+
+    fn from(refused: AllocFailed<T>) -> FdFault {
+        FdFault::Memory(Memory::from(refused))
+    }
 }

@@ -60,7 +60,7 @@ pub struct Tables {
 impl Tables {
     ghost use Rattle.std.specs.Prelude.{◌==◌, ◌||◌, OnOk, ◌≢◌, IsSome, IsTrue, IfOk, OnErr, Ok, Err, None};
     ghost use Rattle.fd_table.specs.Descriptors.{Descriptors, AreOpening, opening_descriptors, process_limit, look_at, with_descriptor};
-    ghost use Rattle.fd_table.specs.Calls.{OpenGives, OnlyLacksMemory, IsFreeProcess, DupGives, DupToGives, CloseGives, EndGives, ForkGives, SeekGives, ResizeGives};
+    ghost use Rattle.fd_table.specs.Calls.{OpenGives, HadMemory, LackedMemory, OnlyLacksMemory, IsFreeProcess, DupGives, DupToGives, CloseGives, EndGives, ForkGives, SeekGives, ResizeGives};
     ghost use Rattle.fd_table.specs.Closing.{IsClosing, without_one};
     ghost use Rattle.fd_table.specs.Rows.{row_at, key_at, IsLowestClosed, AreAllOpen, WithKey};
     ghost use Rattle.fd_table.specs.TablesView.{SameLimits, StandFor, processes_of, limits_of, ever_alive, SameProcesses, IsInRange, opened_in};
@@ -73,9 +73,7 @@ impl Tables {
         ensures processes { IfOk result (λ tables. processes_of tables ≡ processes) }
         ensures limits { IfOk result (λ tables. limits_of tables ≡ limits) }
     {
-        let Ok(rows) = opening_rows(alloc, processes, limits.descriptors() as usize) else {
-            return Err(Memory);
-        };
+        let rows = opening_rows(alloc, processes, limits.descriptors() as usize)?;
         Ok(Tables {
             rows,
             opened: Slab::new(alloc),
@@ -103,9 +101,9 @@ impl Tables {
     /// were ever made, then `Memory`.
     pub fn open_file(&mut self, p: u8, file: u8, access: Access) -> Result<u32, FdFault>
         requires { IsTrue (ever_alive self.old p) }
-        ensures step { result ≢ Err FdFault.Memory → (D : Descriptors) → StandFor self.old D →
+        ensures step { HadMemory result → (D : Descriptors) → StandFor self.old D →
             (E : Descriptors) × OpenGives (limits_of self.old) D p file access result E × StandFor self.new E }
-        ensures memory { result ≡ Err FdFault.Memory → (D : Descriptors) → StandFor self.old D →
+        ensures memory { LackedMemory result → (D : Descriptors) → StandFor self.old D →
             OnlyLacksMemory (limits_of self.old) D p file × StandFor self.new D }
         ensures refused { OnErr result ((D : Descriptors) → StandFor self.old D → StandFor self.new D) }
         ensures kept { SameProcesses self.old self.new }
@@ -127,9 +125,7 @@ impl Tables {
             offset: 0,
             users: 1,
         };
-        let Ok(key) = self.opened.insert(opened) else {
-            return Err(FdFault::Memory);
-        };
+        let key = self.opened.insert(opened)?;
         self.made = number;
         set_key(&mut self.rows, p, fd, Some(key));
         Ok(fd)
@@ -197,9 +193,9 @@ impl Tables {
     /// `Taken` where the child isn't 1 to the number of processes or was ever alive, then `Memory`.
     pub fn fork(&mut self, p: u8, child: u8) -> Result<(), FdFault>
         requires { IsTrue (ever_alive self.old p) }
-        ensures step { result ≢ Err FdFault.Memory → (D : Descriptors) → StandFor self.old D →
+        ensures step { HadMemory result → (D : Descriptors) → StandFor self.old D →
             (E : Descriptors) × ForkGives (processes_of self.old) D p child result E × StandFor self.new E }
-        ensures memory { result ≡ Err FdFault.Memory → (D : Descriptors) → StandFor self.old D →
+        ensures memory { LackedMemory result → (D : Descriptors) → StandFor self.old D →
             IsFreeProcess (processes_of self.old) D child × StandFor self.new D }
         ensures refused { OnErr result ((D : Descriptors) → StandFor self.old D → StandFor self.new D) }
         ensures kept { SameLimits self.old self.new }
@@ -211,9 +207,7 @@ impl Tables {
         if child == 0 || child > self.processes || self.born(child) {
             return Err(FdFault::Taken);
         }
-        let Ok(row) = self.rows[usize::from(p)].copied() else {
-            return Err(FdFault::Memory);
-        };
+        let row = self.rows[usize::from(p)].copied()?;
         add_users(&mut self.opened, &row);
         self.rows[usize::from(child)] = row;
         Ok(())

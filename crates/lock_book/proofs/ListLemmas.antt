@@ -42,7 +42,5 @@ AllPairs-append R xs ys first second across i j d before within =
     ]
 
 -- a push that succeeded, onto a list with some more behind the old one
-pub pushed : {X : Type 0} (old now new more : List X) (x : X) (ok : Bool) → new ≡ (if ok then now ++ x ∷ [] else now) → true ≡ ok → now ≡ old ++ more → new ≡ old ++ (more ++ x ∷ [])
-pushed {X} old now new more x ok items success added =
-    items ∙ ap (λ (b : Bool). cond b (now ++ x ∷ []) now) (sym success) ∙ ap (λ (l : List X). l ++ x ∷ []) added
-    ∙ append_assoc old more (x ∷ [])
+pub pushed : {X : Type 0} (old now new more : List X) (x : X) → new ≡ now ++ x ∷ [] → now ≡ old ++ more → new ≡ old ++ (more ++ x ∷ [])
+pushed {X} old now new more x items added = items ∙ ap (λ (l : List X). l ++ x ∷ []) added ∙ append_assoc old more (x ∷ [])

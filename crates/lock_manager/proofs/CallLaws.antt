@@ -20,10 +20,10 @@ pub DupGives-unique : (limits : Limits) (old : Descriptors) (p fd : ℕ) (result
     → DupGives limits old p fd result D → DupGives limits old p fd other E → (result ≡ other) × (D ≡ E)
 DupGives-unique limits old p fd (Err Invalid) D other E h k = absurd h
 DupGives-unique limits old p fd (Err Taken) D other E h k = absurd h
-DupGives-unique limits old p fd (Err Memory) D other E h k = absurd h
+DupGives-unique limits old p fd (Err (Memory memory)) D other E h k = absurd h
 DupGives-unique limits old p fd result D (Err Invalid) E h k = absurd k
 DupGives-unique limits old p fd result D (Err Taken) E h k = absurd k
-DupGives-unique limits old p fd result D (Err Memory) E h k = absurd k
+DupGives-unique limits old p fd result D (Err (Memory memory)) E h k = absurd k
 DupGives-unique limits old p fd (Err BadFd) D (Err BadFd) E h k = (refl, both_same D E old h.1 k.1)
 DupGives-unique limits old p fd (Err BadFd) D (Err TooMany) E h k = absurd (open_not_free old p fd k.0 h.0)
 DupGives-unique limits old p fd (Err BadFd) D (Ok other) E h k = absurd (cc)
@@ -59,11 +59,11 @@ pub DupToGives-unique : (limits : Limits) (old : Descriptors) (p fd to : ℕ) (r
 DupToGives-unique limits old p fd to (Err TooMany) D other E h k = absurd h
 DupToGives-unique limits old p fd to (Err Invalid) D other E h k = absurd h
 DupToGives-unique limits old p fd to (Err Taken) D other E h k = absurd h
-DupToGives-unique limits old p fd to (Err Memory) D other E h k = absurd h
+DupToGives-unique limits old p fd to (Err (Memory memory)) D other E h k = absurd h
 DupToGives-unique limits old p fd to result D (Err TooMany) E h k = absurd k
 DupToGives-unique limits old p fd to result D (Err Invalid) E h k = absurd k
 DupToGives-unique limits old p fd to result D (Err Taken) E h k = absurd k
-DupToGives-unique limits old p fd to result D (Err Memory) E h k = absurd k
+DupToGives-unique limits old p fd to result D (Err (Memory memory)) E h k = absurd k
 DupToGives-unique limits old p fd to (Err BadFd) D (Err BadFd) E h k = (refl, both_same D E old h.1 k.1)
 DupToGives-unique limits old p fd to (Err BadFd) D (Ok other) E h k = absurd (not_bad_fd limits old p fd to k.0 k.1 k.2 h.0)
 DupToGives-unique limits old p fd to (Ok answer) D (Err BadFd) E h k = absurd (not_bad_fd limits old p fd to h.0 h.1 h.2 k.0)
@@ -78,11 +78,11 @@ pub CloseGives-unique : (old : Descriptors) (p fd : ℕ) (result : Result Releas
 CloseGives-unique old p fd (Err TooMany) D other E h k = absurd h
 CloseGives-unique old p fd (Err Invalid) D other E h k = absurd h
 CloseGives-unique old p fd (Err Taken) D other E h k = absurd h
-CloseGives-unique old p fd (Err Memory) D other E h k = absurd h
+CloseGives-unique old p fd (Err (Memory memory)) D other E h k = absurd h
 CloseGives-unique old p fd result D (Err TooMany) E h k = absurd k
 CloseGives-unique old p fd result D (Err Invalid) E h k = absurd k
 CloseGives-unique old p fd result D (Err Taken) E h k = absurd k
-CloseGives-unique old p fd result D (Err Memory) E h k = absurd k
+CloseGives-unique old p fd result D (Err (Memory memory)) E h k = absurd k
 CloseGives-unique old p fd (Err BadFd) D (Err BadFd) E h k = (refl, both_same D E old h.1 k.1)
 CloseGives-unique old p fd (Err BadFd) D (Ok other) E h k = absurd (open_not_free old p fd k.0 h.0)
 CloseGives-unique old p fd (Ok released) D (Err BadFd) E h k = absurd (open_not_free old p fd h.0 k.0)
@@ -101,11 +101,11 @@ pub ForkGives-unique : (processes : ℕ) (old : Descriptors) (p child : ℕ) (re
 ForkGives-unique processes old p child (Err BadFd) D other E h k = absurd h
 ForkGives-unique processes old p child (Err TooMany) D other E h k = absurd h
 ForkGives-unique processes old p child (Err Invalid) D other E h k = absurd h
-ForkGives-unique processes old p child (Err Memory) D other E h k = absurd h
+ForkGives-unique processes old p child (Err (Memory memory)) D other E h k = absurd h
 ForkGives-unique processes old p child result D (Err BadFd) E h k = absurd k
 ForkGives-unique processes old p child result D (Err TooMany) E h k = absurd k
 ForkGives-unique processes old p child result D (Err Invalid) E h k = absurd k
-ForkGives-unique processes old p child result D (Err Memory) E h k = absurd k
+ForkGives-unique processes old p child result D (Err (Memory memory)) E h k = absurd k
 ForkGives-unique processes old p child (Err Taken) D (Err Taken) E h k = (refl, both_same D E old h.1 k.1)
 ForkGives-unique processes old p child (Err Taken) D (Ok other) E h k = absurd (h.0 k.0)
 ForkGives-unique processes old p child (Ok done) D (Err Taken) E h k = absurd (k.0 h.0)
@@ -125,10 +125,10 @@ pub SeekGives-unique : (old : Descriptors) (p fd : ℕ) (offset : ℤ) (result :
     → SeekGives old p fd offset result D → SeekGives old p fd offset other E → (result ≡ other) × (D ≡ E)
 SeekGives-unique old p fd offset (Err TooMany) D other E h k = absurd h
 SeekGives-unique old p fd offset (Err Taken) D other E h k = absurd h
-SeekGives-unique old p fd offset (Err Memory) D other E h k = absurd h
+SeekGives-unique old p fd offset (Err (Memory memory)) D other E h k = absurd h
 SeekGives-unique old p fd offset result D (Err TooMany) E h k = absurd k
 SeekGives-unique old p fd offset result D (Err Taken) E h k = absurd k
-SeekGives-unique old p fd offset result D (Err Memory) E h k = absurd k
+SeekGives-unique old p fd offset result D (Err (Memory memory)) E h k = absurd k
 SeekGives-unique old p fd offset (Err BadFd) D (Err BadFd) E h k = (refl, both_same D E old h.1 k.1)
 SeekGives-unique old p fd offset (Err BadFd) D (Err Invalid) E h k = absurd (open_not_free old p fd k.0 h.0)
 SeekGives-unique old p fd offset (Err BadFd) D (Ok other) E h k = absurd (cc)
@@ -150,10 +150,10 @@ pub ResizeGives-unique : (old : Descriptors) (p fd : ℕ) (size : ℤ) (result :
     → ResizeGives old p fd size result D → ResizeGives old p fd size other E → (result ≡ other) × (D ≡ E)
 ResizeGives-unique old p fd size (Err TooMany) D other E h k = absurd h
 ResizeGives-unique old p fd size (Err Taken) D other E h k = absurd h
-ResizeGives-unique old p fd size (Err Memory) D other E h k = absurd h
+ResizeGives-unique old p fd size (Err (Memory memory)) D other E h k = absurd h
 ResizeGives-unique old p fd size result D (Err TooMany) E h k = absurd k
 ResizeGives-unique old p fd size result D (Err Taken) E h k = absurd k
-ResizeGives-unique old p fd size result D (Err Memory) E h k = absurd k
+ResizeGives-unique old p fd size result D (Err (Memory memory)) E h k = absurd k
 ResizeGives-unique old p fd size (Err BadFd) D (Err BadFd) E h k = (refl, both_same D E old h.1 k.1)
 ResizeGives-unique old p fd size (Err BadFd) D (Err Invalid) E h k = absurd (open_not_free old p fd k.0 h.0)
 ResizeGives-unique old p fd size (Err BadFd) D (Ok other) E h k = absurd (cc)

@@ -9,7 +9,7 @@ use Rattle.fd_table.specs.declared.tables.Tables.{Tables}
 use Rattle.fd_table.specs.Descriptors.{Descriptors}
 use Rattle.fd_table.specs.TablesView.{StandFor, limits_of, processes_of as processes_in}
 use Rattle.fd_table.specs.declared.Access.{Access}
-use Rattle.fd_table.specs.Calls.{OpenGives, DupGives, ForkGives}
+use Rattle.fd_table.specs.Calls.{OpenGives, DupGives, ForkGives, HadMemory}
 use Rattle.wait_core.specs.declared.Wait.{Wait}
 use Rattle.wait_core.specs.Locks.{Locks}
 use Rattle.wait_core.specs.WaitsView.{waits_of}
@@ -60,16 +60,16 @@ abbrev pub fault_of : (X : Type 0) → FdFault → Result X FdFault
 fault_of X fault = Err fault
 
 -- a refusal isn't want of memory
-not_memory : (X : Type 0) (S : State) (p n : ℕ) (fault : FdFault) (outcome : Outcome) → IsRefusal S p n fault outcome → fault_of X fault ≢ fault_of X faults.Memory
-not_memory X S p n fault outcome refusal e =
-    let is_memory : fault ≡ faults.Memory = cc in
+not_memory : (X : Type 0) (S : State) (p n : ℕ) (fault : FdFault) (outcome : Outcome) → IsRefusal S p n fault outcome → HadMemory (fault_of X fault)
+not_memory X S p n fault outcome refusal memory e =
+    let is_memory : fault ≡ faults.Memory memory = cc in
     subst (λ f. IsRefusal S p n f outcome) is_memory refusal
 
 -- a call that is refused, or that lacks memory
 pub refused_by : {X : Type 0} (Gives : Giving X) (after : State → Descriptors → X → State) (reply : X → Reply) (old new : Machine) (p : ℕ) (request : Request) (fault : FdFault) (result : Result Reply Memory)
     → IsServedBy Gives after reply old p request
     → new.books ≡ old.books → new.states ≡ old.states → waits_of new.waits ≡ waits_of old.waits
-    → (fault_of X fault ≢ fault_of X faults.Memory → Gave Gives old.tables new.tables (Err fault))
+    → (HadMemory (fault_of X fault) → Gave Gives old.tables new.tables (Err fault))
     → ((D : Descriptors) → StandFor old.tables D → StandFor new.tables D)
     → IfOk result (λ told. (S : State) (q n : ℕ) → IsRefusal S q n fault (answered S q n told))
     → IfOk result (Answers old new p request)
@@ -117,7 +117,8 @@ served_by_fork old p child S n outcome h =
 
 -- a call that is never refused for want of memory isn't
 pub never_memory : {X : Type 0} (Gives : Giving X) (old new : Tables) (locks : Locks) (waits : List Wait) (fault : FdFault)
-    → AreOwned old locks waits → ((D E : Descriptors) → Gives D (Err faults.Memory) E → ⊥) → Gave Gives old new (Err fault) → fault ≡ faults.Memory → ⊥
-never_memory Gives old new locks waits fault owned never gave is_memory =
+    → AreOwned old locks waits → ((D E : Descriptors) (memory : Memory) → Gives D (Err (faults.Memory memory)) E → ⊥) → Gave Gives old new (Err fault)
+    → ((memory : Memory) × (fault ≡ faults.Memory memory)) → ⊥
+never_memory Gives old new locks waits fault owned never gave lacked =
     ∥∥₁_elim owned (λ x y. absurd x)
-    (λ some. let given = gave some.0 some.1 in never some.0 given.0 (subst (λ f. Gives some.0 (Err f) given.0) is_memory given.1))
+    (λ some. let given = gave some.0 some.1 in never some.0 given.0 lacked.0 (subst (λ f. Gives some.0 (Err f) given.0) lacked.1 given.1))

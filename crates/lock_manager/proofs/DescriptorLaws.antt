@@ -53,10 +53,10 @@ pub OpenGives-unique : (limits : Limits) (old : Descriptors) (p file : ℕ) (acc
     → OpenGives limits old p file access result D → OpenGives limits old p file access other E → (result ≡ other) × (D ≡ E)
 OpenGives-unique limits old p file access (Err BadFd) D other E h k = absurd h
 OpenGives-unique limits old p file access (Err Taken) D other E h k = absurd h
-OpenGives-unique limits old p file access (Err Memory) D other E h k = absurd h
+OpenGives-unique limits old p file access (Err (Memory memory)) D other E h k = absurd h
 OpenGives-unique limits old p file access result D (Err BadFd) E h k = absurd k
 OpenGives-unique limits old p file access result D (Err Taken) E h k = absurd k
-OpenGives-unique limits old p file access result D (Err Memory) E h k = absurd k
+OpenGives-unique limits old p file access result D (Err (Memory memory)) E h k = absurd k
 OpenGives-unique limits old p file access (Err Invalid) D (Err Invalid) E h k = (refl, both_same D E old h.1 k.1)
 OpenGives-unique limits old p file access (Err Invalid) D (Err TooMany) E h k = absurd (omega arith)
 OpenGives-unique limits old p file access (Err Invalid) D (Ok other) E h k = absurd (omega arith)

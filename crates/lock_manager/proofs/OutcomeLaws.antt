@@ -47,7 +47,7 @@ IsRefusal-unique S p n BadFd = one_value _
 IsRefusal-unique S p n TooMany = one_value _
 IsRefusal-unique S p n Invalid = one_value _
 IsRefusal-unique S p n Taken = one_value _
-IsRefusal-unique S p n Memory = λ x y h k. absurd h
+IsRefusal-unique S p n (Memory memory) = λ x y h k. absurd h
 
 -- the answer of a call on descriptors is one outcome, that of its result or the refusal
 answer-unique : {R : Type 0} (S : State) (p n : ℕ) (done : R → Outcome) (result : Result R FdFault)

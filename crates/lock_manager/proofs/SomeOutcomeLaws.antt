@@ -5,7 +5,7 @@ use Rattle.fd_table.specs.declared.Access.{Access}
 use Rattle.fd_table.specs.declared.FdFault.{FdFault}
 use Rattle.fd_table.specs.declared.FdFault.TheVariants.{BadFd, TooMany, Invalid, Taken, Memory}
 use Rattle.fd_table.specs.declared.tables.Look.{Look}
-use Rattle.fd_table.specs.Calls.{OpenGives, DupGives, DupToGives, CloseGives, SeekGives, ResizeGives, ForkGives, EndGives}
+use Rattle.fd_table.specs.Calls.{HadMemory, OpenGives, DupGives, DupToGives, CloseGives, SeekGives, ResizeGives, ForkGives, EndGives}
 use Rattle.wait_core.specs.declared.Policy.{Policy}
 use Rattle.wait_core.specs.declared.Wait.{Wait}
 use Rattle.wait_core.specs.Locks.{Locks}
@@ -40,45 +40,45 @@ use Rattle.lock_manager.proofs.SomeBlockerLaws.{bytes_below, AreBelow-changes, F
 use Rattle.lock_manager.proofs.SomeCallLaws.{some_or_none, OpenGives-some, DupGives-some, DupToGives-some, CloseGives-some, EndGives-some, ForkGives-some, SeekGives-some, ResizeGives-some}
 
 -- a call on descriptors that memory doesn't refuse is answered, or refused
-answer_some : {R : Type 0} (S : State) (p n : ℕ) (done : R → Outcome) (result : Result R FdFault) → result ≢ Err Memory
+answer_some : {R : Type 0} (S : State) (p n : ℕ) (done : R → Outcome) (result : Result R FdFault) → HadMemory result
     → AtLeastOne (λ outcome. MatchResult result (λ r. outcome ≡ done r) (λ fault. IsRefusal S p n fault outcome))
 answer_some S p n done (Ok r) never = this_value _ (done r) refl
 answer_some S p n done (Err BadFd) never = this_value _ (refused S p n EBADF) refl
 answer_some S p n done (Err TooMany) never = this_value _ (refused S p n EMFILE) refl
 answer_some S p n done (Err Invalid) never = this_value _ (refused S p n EINVAL) refl
 answer_some S p n done (Err Taken) never = this_value _ (refused S p n EAGAIN) refl
-answer_some S p n done (Err Memory) never = absurd (never refl)
+answer_some S p n done (Err (Memory memory)) never = absurd (never memory refl)
 
 OpenComesTo-some : (rules : Rules) (S : State) (p n file : ℕ) (access : Access) → AtLeastOne (OpenComesTo rules S p n file access)
 OpenComesTo-some rules S p n file access =
     some_by_two (OpenGives rules.limits S.descriptors p file access) _ (OpenGives-some rules.limits S.descriptors p file access)
     (λ result descriptors h.
     answer_some S p n (λ fd. answered (record S { descriptors = descriptors }) p n (replies.Fd fd)) result
-    (λ e. subst (λ r. OpenGives rules.limits S.descriptors p file access r descriptors) e h))
+    (λ memory e. subst (λ r. OpenGives rules.limits S.descriptors p file access r descriptors) e h))
 
 DupComesTo-some : (rules : Rules) (S : State) (p n fd : ℕ) → AtLeastOne (DupComesTo rules S p n fd)
 DupComesTo-some rules S p n fd =
     some_by_two (DupGives rules.limits S.descriptors p fd) _ (DupGives-some rules.limits S.descriptors p fd)
     (λ result descriptors h.
     answer_some S p n (λ free. answered (record S { descriptors = descriptors }) p n (replies.Fd free)) result
-    (λ e. subst (λ r. DupGives rules.limits S.descriptors p fd r descriptors) e h))
+    (λ memory e. subst (λ r. DupGives rules.limits S.descriptors p fd r descriptors) e h))
 
 DupToComesTo-some : (rules : Rules) (S : State) (p n fd to : ℕ) → IsWhole S → AtLeastOne (DupToComesTo rules S p n fd to)
 DupToComesTo-some rules S p n fd to whole =
     some_by_two (DupToGives rules.limits S.descriptors p fd to) _ (DupToGives-some rules.limits S.descriptors p fd to whole.made)
     (λ result descriptors h.
     answer_some S p n (λ answer. answered (with_released S descriptors p answer.1) p n (replies.Fd answer.0)) result
-    (λ e. subst (λ r. DupToGives rules.limits S.descriptors p fd to r descriptors) e h))
+    (λ memory e. subst (λ r. DupToGives rules.limits S.descriptors p fd to r descriptors) e h))
 
 CloseComesTo-some : (S : State) (p n fd : ℕ) → IsWhole S → AtLeastOne (CloseComesTo S p n fd)
 CloseComesTo-some S p n fd whole =
     some_by_two (CloseGives S.descriptors p fd) _ (CloseGives-some S.descriptors p fd whole.made)
     (λ result descriptors h.
     answer_some S p n (λ released. answered (with_released S descriptors p released) p n replies.Ok) result
-    (λ e. subst (λ r. CloseGives S.descriptors p fd r descriptors) e h))
+    (λ memory e. subst (λ r. CloseGives S.descriptors p fd r descriptors) e h))
 
 -- a call that answers nothing but that it is done
-done_some : (S T : State) (p n : ℕ) (result : Result (Unit {0}) FdFault) → result ≢ Err Memory
+done_some : (S T : State) (p n : ℕ) (result : Result (Unit {0}) FdFault) → HadMemory result
     → AtLeastOne (λ outcome. MatchResult result (λ done. outcome ≡ answered T p n replies.Ok) (λ fault. IsRefusal S p n fault outcome))
 done_some S T p n result never = answer_some S p n (λ done. answered T p n replies.Ok) result never
 
@@ -86,20 +86,20 @@ SeekComesTo-some : (S : State) (p n fd : ℕ) (offset : ℤ) → IsWhole S → A
 SeekComesTo-some S p n fd offset whole =
     some_by_two (SeekGives S.descriptors p fd offset) _ (SeekGives-some S.descriptors p fd offset whole.made)
     (λ result descriptors h.
-    done_some S (record S { descriptors = descriptors }) p n result (λ e. subst (λ r. SeekGives S.descriptors p fd offset r descriptors) e h))
+    done_some S (record S { descriptors = descriptors }) p n result (λ memory e. subst (λ r. SeekGives S.descriptors p fd offset r descriptors) e h))
 
 ResizeComesTo-some : (S : State) (p n fd : ℕ) (size : ℤ) → IsWhole S → AtLeastOne (ResizeComesTo S p n fd size)
 ResizeComesTo-some S p n fd size whole =
     some_by_two (ResizeGives S.descriptors p fd size) _ (ResizeGives-some S.descriptors p fd size whole.made)
     (λ result descriptors h.
-    done_some S (record S { descriptors = descriptors }) p n result (λ e. subst (λ r. ResizeGives S.descriptors p fd size r descriptors) e h))
+    done_some S (record S { descriptors = descriptors }) p n result (λ memory e. subst (λ r. ResizeGives S.descriptors p fd size r descriptors) e h))
 
 ForkComesTo-some : (processes : ℕ) (S : State) (p n child : ℕ) → AtLeastOne (ForkComesTo processes S p n child)
 ForkComesTo-some processes S p n child =
     some_by_two (ForkGives processes S.descriptors p child) _ (ForkGives-some processes S.descriptors p child)
     (λ result descriptors h.
     done_some S (with_process (record S { descriptors = descriptors }) child Live) p n result
-    (λ e. subst (λ r. ForkGives processes S.descriptors p child r descriptors) e h))
+    (λ memory e. subst (λ r. ForkGives processes S.descriptors p child r descriptors) e h))
 
 EndComesTo-some : (S : State) (p : ℕ) (told : List Note) → IsWhole S → AtLeastOne (EndComesTo S p told)
 EndComesTo-some S p told whole =

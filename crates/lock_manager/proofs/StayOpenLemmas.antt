@@ -10,7 +10,7 @@ use Rattle.fd_table.specs.declared.FdFault.TheVariants as faults
 use Rattle.fd_table.specs.declared.Limits.{Limits}
 use Rattle.fd_table.specs.declared.tables.Tables.{Tables}
 use Rattle.fd_table.specs.Descriptors.{Descriptors, OpenFileDescription, description_numbered}
-use Rattle.fd_table.specs.Calls.{OpenGives, DupGives, ForkGives, SeekGives, ResizeGives}
+use Rattle.fd_table.specs.Calls.{HadMemory, OpenGives, DupGives, ForkGives, SeekGives, ResizeGives}
 use Rattle.fd_table.specs.TablesView.{StandFor}
 use Rattle.wait_core.specs.declared.Wait.{Wait}
 use Rattle.wait_core.specs.Locks.{Locks}
@@ -133,11 +133,11 @@ forked_stays processes D E p child none gives f d q is =
 -- after a call that closes nothing, refused or not, locks and waits of descriptions are of open ones
 pub owned_call : {X : Type 0} (Gives : Giving X) (old new : Tables) (locks : Locks) (waits : List Wait) (result : Result X FdFault)
     → ((D E : Descriptors) (x : X) → result ≡ Ok x → StandFor old D → Gives D (Ok x) E → StayOpen D E)
-    → (result ≢ Err faults.Memory → Gave Gives old new result)
+    → (HadMemory result → Gave Gives old new result)
     → OnErr result ((D : Descriptors) → StandFor old D → StandFor new D)
     → AreOwned old locks waits → AreOwned new locks waits
 owned_call Gives old new locks waits (Ok x) stays step refused owned =
     owned_after old new locks waits owned
-    (λ D stands. let given = step (λ e. cc) D stands in (given.0, stays D given.0 x refl stands given.1, given.2))
+    (λ D stands. let given = step (λ memory e. cc) D stands in (given.0, stays D given.0 x refl stands given.1, given.2))
 owned_call Gives old new locks waits (Err fault) stays step refused owned =
     owned_after old new locks waits owned (λ D stands. (D, λ file d q is. is, refused D stands))

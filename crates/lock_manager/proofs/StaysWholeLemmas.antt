@@ -203,7 +203,7 @@ refusal_stays S p n BadFd outcome is h = stays_as _ outcome is h
 refusal_stays S p n TooMany outcome is h = stays_as _ outcome is h
 refusal_stays S p n Invalid outcome is h = stays_as _ outcome is h
 refusal_stays S p n Taken outcome is h = stays_as _ outcome is h
-refusal_stays S p n Memory outcome is h = absurd is
+refusal_stays S p n (Memory memory) outcome is h = absurd is
 
 -- the descriptors are others
 with_made : (S : State) (E : Descriptors) → AreMade E → IsWhole S → IsWhole (record S { descriptors = E })

@@ -53,4 +53,4 @@ IsRefusal S p n BadFd outcome = outcome ≡ refused S p n EBADF
 IsRefusal S p n TooMany outcome = outcome ≡ refused S p n EMFILE
 IsRefusal S p n Invalid outcome = outcome ≡ refused S p n EINVAL
 IsRefusal S p n Taken outcome = outcome ≡ refused S p n EAGAIN
-IsRefusal S p n Memory outcome = ⊥
+IsRefusal S p n (Memory memory) outcome = ⊥

@@ -66,14 +66,14 @@ pub fn held_reply(blocker: Blocker) -> Reply
 /// The reply to a call on descriptors that was refused; want of memory is no reply.
 pub fn refusal(fault: FdFault) -> Result<Reply, Memory>
     ensures refused { IfOk result (λ reply. (S : State) (p n : ℕ) → IsRefusal S p n fault (answered_outcome S p n reply)) }
-    ensures memory { OnErr result (fault ≡ FdFault.Memory) }
+    ensures memory { OnErr result ((memory : Memory) × (fault ≡ FdFault.Memory memory)) }
 {
     match fault {
         FdFault::BadFd => Ok(Reply::Err(Errno::EBADF)),
         FdFault::TooMany => Ok(Reply::Err(Errno::EMFILE)),
         FdFault::Invalid => Ok(Reply::Err(Errno::EINVAL)),
         FdFault::Taken => Ok(Reply::Err(Errno::EAGAIN)),
-        FdFault::Memory => Err(Memory),
+        FdFault::Memory(memory) => Err(memory),
     }
 }
 
@@ -142,6 +142,6 @@ pub fn answer(p: u8, n: u64, reply: Result<Reply, Memory>) -> Result<Told, Memor
 {
     match reply {
         Ok(reply) => Ok(Told::caller(answered(p, n, reply))),
-        Err(Memory) => Err(Memory),
+        Err(memory) => Err(memory),
     }
 }

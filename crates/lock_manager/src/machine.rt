@@ -97,7 +97,7 @@ impl Machine {
         let mut report = Vec::new(alloc);
         for file in 0..FILES {
             let mut locks = self.books[usize::from(file)].held(file)?;
-            report.append(&mut locks).map_err(|_| Memory)?;
+            report.append(&mut locks)?;
         }
         Ok(report)
     }
@@ -106,7 +106,7 @@ impl Machine {
     pub fn waits(&self, alloc: Global) -> Result<Vec<Wait>, Memory>
         ensures { IfOk result (λ waits. waits.items ≡ machine_waits self.now) }
     {
-        Vec::from_slice(alloc, self.waits.list()).map_err(|_| Memory)
+        Ok(Vec::from_slice(alloc, self.waits.list())?)
     }
 
     /// How many processes there are, numbered from 1.

@@ -58,7 +58,7 @@ impl Manager {
         ensures memory { OnErr result (SameManager self.old self.new) }
     {
         let most = self.machine.most_notes();
-        let mut notes = Vec::with_capacity(self.alloc, most).map_err(|_| Memory)?;
+        let mut notes = Vec::with_capacity(self.alloc, most)?;
         self.machine.serve(p, n, request, &mut notes)?;
         self.machine.settle(&mut notes);
         Ok(notes)

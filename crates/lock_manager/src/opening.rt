@@ -18,7 +18,7 @@ pub fn empty_books(alloc: Global) -> Result<Vec<Book>, Memory>
 {
     let mut books = Vec::new(alloc);
     for _ in 0..FILES {
-        books.push(Book::new(alloc)).map_err(|_| Memory)?;
+        books.push(Book::new(alloc))?;
     }
     Ok(books)
 }
@@ -30,7 +30,7 @@ pub fn opening_states(alloc: Global, processes: u8) -> Result<Vec<ProcState>, Me
     ensures states { IfOk result (λ states. (p : ℕ) → state_numbered states.items p ≡ (if p == 1 then Live else Unborn)) }
 {
     let count = usize::from(processes);
-    let mut states = vec![in alloc; ProcState::Unborn; count].map_err(|_| Memory)?;
+    let mut states = vec![in alloc; ProcState::Unborn; count]?;
     states[0] = ProcState::Live;
     Ok(states)
 }

@@ -53,7 +53,7 @@ fn held(file: u8, mode: Mode, first: u64, last: u64) -> Held {
 fn all_held(manager: &Manager) -> Result<Vec<Held>, Memory> {
     match manager.held() {
         Ok(report) => Ok(report),
-        Err(Memory) => manager.held(),
+        Err(_) => manager.held(),
     }
 }
 
@@ -61,7 +61,7 @@ fn all_held(manager: &Manager) -> Result<Vec<Held>, Memory> {
 fn all_waits(manager: &Manager) -> Result<Vec<Wait>, Memory> {
     match manager.waits() {
         Ok(waits) => Ok(waits),
-        Err(Memory) => manager.waits(),
+        Err(_) => manager.waits(),
     }
 }
 
@@ -89,7 +89,7 @@ fn answer(
     assert!(rt; manager.able(p));
     match manager.take(p, n, request) {
         Ok(notes) => Ok(notes),
-        Err(Memory) => {
+        Err(_) => {
             let after = all_held(manager)?;
             assert_eq!(rt;
                 after.as_slice(),
@@ -112,7 +112,7 @@ fn replies_in_turn(
 ) -> Result<Manager, Fail> {
     let mut manager = match Manager::new(alloc, 16, RULES) {
         Ok(manager) => manager,
-        Err(Memory) => Manager::new(alloc, 16, RULES)?,
+        Err(_) => Manager::new(alloc, 16, RULES)?,
     };
     for (index, &(p, request, reply)) in turns.iter().enumerate() {
         let n = index as u64;
@@ -467,7 +467,7 @@ fn nobody_waits(rt: HostRuntime) -> Result<(), Fail> {
     let manager = replies_in_turn(&rt, rt.alloc(), &turns)?;
     let waits = match manager.waits() {
         Ok(waits) => waits,
-        Err(Memory) => manager.waits()?,
+        Err(_) => manager.waits()?,
     };
     assert!(rt; waits.is_empty());
     Ok(())

@@ -3,9 +3,11 @@ ghost use Rattle.std.specs.Prelude.{ℕ, ◌≡◌, ◌≤◌, ◌<◌, ◌+◌,
 ghost use Rattle.lockreplay.specs.Devices.{GivesByte, GivesSome, TakesSome, Fails};
 
 use std::io::{Read, Write};
+use thiserror::Error;
 
 /// A device that failed.
-#[derive(Clone, Copy, Debug, PartialEq, Eq)]
+#[derive(Clone, Copy, Debug, PartialEq, Eq, Error)]
+#[error("the device failed")]
 pub struct DeviceFault;
 
 /// Where a script is read from: byte by byte, or several at once.

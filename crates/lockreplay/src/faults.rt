@@ -16,6 +16,9 @@ pub enum Fault {
     /// The command line is refused, or asks for help or the version. The text is clap's.
     #[error("{0}")]
     CommandLine(clap::Error),
+    /// A growth was refused before the run, as clap or a call for input tells it. The text is that of a run.
+    #[error("lockreplay: no memory\n")]
+    OutOfMemory,
     /// The run has no output, or only a front of it.
     #[error("lockreplay: {0}\n")]
     Run(#[from] RunFault),
@@ -24,22 +27,22 @@ pub enum Fault {
 impl Fault {
     /// The fault where clap gives this error: want of memory is told as the program tells it elsewhere.
     pub fn of_command_line(error: clap::Error) -> Fault
-        ensures memory { kind_of error ≡ ErrorKind.OutOfMemory → result ≡ Fault.Run RunFault.Memory }
+        ensures memory { kind_of error ≡ ErrorKind.OutOfMemory → result ≡ Fault.OutOfMemory }
         ensures text { kind_of error ≢ ErrorKind.OutOfMemory → result ≡ Fault.CommandLine error }
     {
         match error.kind() {
-            ErrorKind::OutOfMemory => Fault::Run(RunFault::Memory),
+            ErrorKind::OutOfMemory => Fault::OutOfMemory,
             _ => Fault::CommandLine(error),
         }
     }
 
     /// The fault where a call for input gives this error: want of memory, or else that reading failed.
     pub fn of_input(error: io::Error) -> Fault
-        ensures memory { error_kind error ≡ InputErrorKind.OutOfMemory → result ≡ Fault.Run RunFault.Memory }
+        ensures memory { error_kind error ≡ InputErrorKind.OutOfMemory → result ≡ Fault.OutOfMemory }
         ensures read { error_kind error ≢ InputErrorKind.OutOfMemory → result ≡ Fault.Run RunFault.Read }
     {
         match error.kind() {
-            InputErrorKind::OutOfMemory => Fault::Run(RunFault::Memory),
+            InputErrorKind::OutOfMemory => Fault::OutOfMemory,
             _ => Fault::Run(RunFault::Read),
         }
     }
@@ -50,6 +53,7 @@ impl Fault {
     {
         match self {
             Fault::CommandLine(_) => 2,
+            Fault::OutOfMemory => 1,
             Fault::Run(fault) => fault.status(),
         }
     }

@@ -21,6 +21,7 @@ mod threads;
 use devices::{FromReader, Sink, Source, ToWriter};
 use faults::Fault;
 use in_threads::replay_in_threads;
+use range_core::Memory;
 use replay::{RunFault, replay};
 use script_core::ScriptFault;
 use std::env::Env;
@@ -49,7 +50,8 @@ fn run(
     let words: Vec<String> = env::args(rt)
         .map_err(Fault::of_input)?
         .collect(rt.alloc())
-        .map_err(|_| RunFault::Memory)?;
+        .map_err(Memory::from)
+        .map_err(RunFault::Memory)?;
     let options = command_line::options(rt.alloc(), &words).map_err(Fault::of_command_line)?;
     let mut sink = ToWriter::new(io::writer(rt));
     match options.path() {

@@ -8,6 +8,7 @@ ghost use Rattle.lockreplay.specs.Callers.{AreAtHub, AreNew, AreOf};
 ghost use Rattle.lockreplay.specs.Places.{started};
 ghost use Rattle.lockreplay.specs.Gathering.{AreGathered, AreAllTaken, IsGathered};
 ghost use Rattle.lockreplay.specs.Rooms.{IsRoomFor, IsServed};
+ghost use Rattle.lockreplay.specs.Faults.{IsWantOfMemory};
 ghost use Rattle.lockreplay.specs.Interleaving.{IsThreadReport};
 
 mod place;
@@ -18,6 +19,7 @@ use crate::pause::Pause;
 use crate::replay::{RunFault, sent_counts};
 use call_table::{Client, Desk, Gate, Hub, Served, open_hub};
 use lock_manager::{Request, Rules};
+use range_core::Memory;
 use script_core::Script;
 use session_core::Session;
 use std::alloc::Global;
@@ -49,7 +51,7 @@ pub fn replay_threads<R: Threads + Wait + Clock + Sync, W: Watch + Sync>(
     watch: &W,
 ) -> Result<ThreadReport, RunFault>
     ensures ok { IfOk result (IsThreadReport script.now) }
-    ensures fault { IfErr result (λ fault. (fault ≡ RunFault.Memory) ⊎ (fault ≡ RunFault.Thread)) }
+    ensures fault { IfErr result (λ fault. IsWantOfMemory fault ⊎ (fault ≡ RunFault.Thread)) }
 {
     let processes = script.rules.limits.processes();
     let counts = sent_counts(alloc, processes, &script.arrivals)?;
@@ -64,13 +66,12 @@ fn open_table(
     alloc: Global,
     processes: u8,
     rules: Rules,
-) -> Result<(Hub, Vec<Client>, Desk), RunFault>
+) -> Result<(Hub, Vec<Client>, Desk), Memory>
     requires { (1 ≤ processes) × (processes ≤ process_limit rules.limits) }
     ensures opened { IfOk result (λ made. IsOpened (record { processes = processes; depth = 4; rules = rules })
         made.0 made.1.items made.2) }
-    ensures fault { IfErr result (λ fault. fault ≡ RunFault.Memory) }
 {
-    open_hub(alloc, processes, DEPTH, rules).map_err(|_| RunFault::Memory)
+    open_hub(alloc, processes, DEPTH, rules)
 }
 
 /// A caller for each client, in order: the clients of the processes from 1 on, which did nothing yet.
@@ -78,19 +79,18 @@ fn make_callers(
     alloc: Global,
     clients: Vec<Client>,
     arrivals: &[(u8, Request)],
-) -> Result<Vec<Caller>, RunFault>
+) -> Result<Vec<Caller>, Memory>
     requires few { vec_len clients < 256 }
     requires new { AreNew clients.items }
     ensures clients { IfOk result (λ callers. map (λ caller. caller.client) callers.items ≡ clients.items) }
     ensures callers { IfOk result (λ callers. AreOf arrivals.now callers.items) }
-    ensures fault { IfErr result (λ fault. fault ≡ RunFault.Memory) }
 {
     let mut callers = Vec::new(alloc);
     let mut process = 0;
     for client in clients {
         process += 1;
-        let caller = Caller::new(alloc, process, client, arrivals).map_err(|_| RunFault::Memory)?;
-        callers.push(caller).map_err(|_| RunFault::Memory)?;
+        let caller = Caller::new(alloc, process, client, arrivals)?;
+        callers.push(caller)?;
     }
     Ok(callers)
 }
@@ -104,13 +104,12 @@ struct Room {
 
 impl Room {
     /// Room for so many callers.
-    fn new(alloc: Global, callers: usize) -> Result<Room, RunFault>
+    fn new(alloc: Global, callers: usize) -> Result<Room, Memory>
         ensures room { IfOk result (IsRoomFor callers) }
-        ensures fault { IfErr result (λ fault. fault ≡ RunFault.Memory) }
     {
         Ok(Room {
-            places: Vec::with_capacity(alloc, callers).map_err(|_| RunFault::Memory)?,
-            collected: Vec::with_capacity(alloc, callers).map_err(|_| RunFault::Memory)?,
+            places: Vec::with_capacity(alloc, callers)?,
+            collected: Vec::with_capacity(alloc, callers)?,
         })
     }
 }
@@ -130,7 +129,7 @@ fn serve_in_scope<R: Threads + Wait + Clock + Sync, W: Watch + Sync>(
     requires few { length counts.now < 256 }
     requires room { IsRoomFor (vec_len callers) room }
     ensures ok { IfOk result (IsServed hub.now callers.items counts.now) }
-    ensures fault { IfErr result (λ fault. (fault ≡ RunFault.Memory) ⊎ (fault ≡ RunFault.Thread)) }
+    ensures fault { IfErr result (λ fault. IsWantOfMemory fault ⊎ (fault ≡ RunFault.Thread)) }
 {
     thread::scope(
         thread::scope_env(),
@@ -141,7 +140,7 @@ fn serve_in_scope<R: Threads + Wait + Clock + Sync, W: Watch + Sync>(
             requires few { length counts.now < 256 }
             requires room { IsRoomFor (vec_len callers) room }
             ensures ok { IfOk result (IsServed hub.entry.now callers.items counts.entry.now) }
-            ensures fault { IfErr result (λ fault. (fault ≡ RunFault.Memory) ⊎ (fault ≡ RunFault.Thread)) }
+            ensures fault { IfErr result (λ fault. IsWantOfMemory fault ⊎ (fault ≡ RunFault.Thread)) }
         { serve_threads(rt, scope, hub, desk, callers, counts, room, watch) },
     )
 }
@@ -162,7 +161,7 @@ fn serve_threads<'s, 'e: 's, R: Threads + Wait + Clock + Sync, W: Watch + Sync>(
     requires few { length counts.now < 256 }
     requires room { IsRoomFor (vec_len callers) room }
     ensures ok { IfOk result (IsServed hub.now callers.items counts.now) }
-    ensures fault { IfErr result (λ fault. (fault ≡ RunFault.Memory) ⊎ (fault ≡ RunFault.Thread)) }
+    ensures fault { IfErr result (λ fault. IsWantOfMemory fault ⊎ (fault ≡ RunFault.Thread)) }
 {
     let Room { places, collected } = room;
     let served = start_and_serve(rt, scope, hub, &mut desk, callers, counts, places, watch);
@@ -190,7 +189,7 @@ fn start_and_serve<'s, 'e: 's, R: Threads + Wait + Clock + Sync, W: Watch + Sync
     ensures same { SameDesk desk.old desk.new }
     ensures started { IfOk result (λ places. map started places.items ≡ callers.items) }
     ensures taken { OnOk result (AreAllTaken (session_in desk.new) counts.now) }
-    ensures fault { IfErr result (λ fault. (fault ≡ RunFault.Memory) ⊎ (fault ≡ RunFault.Thread)) }
+    ensures fault { IfErr result (λ fault. IsWantOfMemory fault ⊎ (fault ≡ RunFault.Thread)) }
 {
     let places = start_all(rt, scope, hub, watch, callers, places)?;
     serve_all(rt, hub, desk, counts)?;
@@ -232,16 +231,15 @@ fn serve_all<R: Wait + Clock>(
     hub: &Hub,
     desk: &mut Desk,
     counts: &[u64],
-) -> Result<(), RunFault>
+) -> Result<(), Memory>
     requires desk { IsDeskOf hub.now desk.old }
     requires few { length counts.now < 256 }
     ensures same { SameDesk desk.old desk.new }
     ensures taken { OnOk result (AreAllTaken (session_in desk.new) counts.now) }
-    ensures fault { IfErr result (λ fault. fault ≡ RunFault.Memory) }
 {
     let mut pause = Pause::new();
     for _ in rt.forever() {
-        let served = desk.serve_one(hub, &Open).map_err(|_| RunFault::Memory)?;
+        let served = desk.serve_one(hub, &Open)?;
         let idle = served == Served::Idle;
         if idle && has_all_taken(desk.session(), counts) {
             return Ok(());

@@ -3,12 +3,15 @@
 
 mod conflicts;
 mod list;
+mod memory;
 mod replacement;
 mod resolving;
 mod splice;
 
 pub use list::RangeList;
+pub use memory::Memory;
 pub use resolving::resolve;
+use thiserror::Error;
 
 /// The largest offset of a file, in bytes: the largest value of a 64-bit `off_t` (this project's choice).
 pub const OFFMAX: u64 = 9223372036854775807;
@@ -57,15 +60,12 @@ pub struct Span {
 }
 
 /// Why a lock description names no range (POSIX.1-2017 fcntl, ERRORS).
-#[derive(Clone, Copy, Debug, PartialEq, Eq)]
+#[derive(Clone, Copy, Debug, PartialEq, Eq, Error)]
 pub enum RangeFault {
     /// The first byte would lie before the file, `EINVAL`.
+    #[error("the first byte would lie before the file")]
     Invalid = 1,
     /// A byte would lie past the largest offset, `EOVERFLOW`.
+    #[error("a byte would lie past the largest offset")]
     Overflow = 2,
 }
-
-/// Want of memory: a growth was refused (this project's choice: every call that may grow answers it, and is then as if
-/// it had not been made, where its documentation doesn't say otherwise).
-#[derive(Clone, Copy, Debug, PartialEq, Eq)]
-pub struct Memory;

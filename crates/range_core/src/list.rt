@@ -4,6 +4,7 @@ ghost use Rattle.std.specs.List.Sorted.{IsPartitionPoint};
 ghost use Rattle.smallvec.specs.SmallVec.{small_vec_len};
 ghost use Rattle.range_core.specs.Ranges.{IsApart, IsByteRange};
 
+use crate::memory::doubled;
 use crate::replacement::replacement;
 use crate::splice::splice;
 use crate::{Memory, Mode, Span};
@@ -69,8 +70,7 @@ impl RangeList {
     {
         if self.room < sets {
             // A set adds two runs at most: a piece on either side of its own.
-            let places = sets.checked_mul(2).ok_or(Memory)?;
-            self.runs.reserve(places).map_err(|_| Memory)?;
+            self.runs.reserve(doubled(sets)?)?;
             self.room = sets;
         }
         Ok(())

@@ -131,7 +131,7 @@ fn holds_room(rt: HostRuntime) -> Result<(), Fail> {
     set(&rt, &mut list, bytes(5, 6), Some(Mode::Read))?;
     let room = list.room();
     assert!(rt; room >= 2);
-    assert_eq!(rt; list.reserve(usize::MAX), Err(Memory));
+    assert!(rt; list.reserve(usize::MAX).is_err());
     assert!(rt; list.room() == room);
     assert_run_at(&rt, &list, 5, Some((Mode::Read, bytes(5, 6))));
     list.set_reserved(bytes(6, 6), None);

@@ -1,5 +1,5 @@
 -- The words of a line are never refused for want of memory.
-use Rattle.std.proofs.Common.{◌≡◌, ◌≢◌, ℕ, ◌==◌, ◌∙◌, refl, sym, subst, inl, inr, List, [], ◌∷◌, length, Option, Some, None, Result, Ok, Err, MatchOption}
+use Rattle.std.proofs.Common.{◌≡◌, ℕ, ◌==◌, ◌∙◌, sym, subst, inl, inr, List, [], ◌∷◌, length, Option, Some, None, Result, Ok, Err, IfErr, MatchOption}
 use Rattle.fd_table.specs.declared.Limits.{Limits}
 use Rattle.lock_manager.specs.declared.request.Request.{Request}
 use Rattle.script_core.specs.declared.line.Line.{Line}
@@ -7,42 +7,42 @@ use Rattle.script_core.specs.declared.line.Line.TheVariants as lines
 use Rattle.script_core.specs.declared.script.Cause.{Cause}
 use Rattle.script_core.specs.declared.script.Cause.TheVariants.{Word, Count, Process, Memory}
 use Rattle.script_core.specs.Arguments.{Argument, FileNumber, DescriptorNumber, AnyNumber, ProcessNumber, AccessWord, KindWord, WhenceWord, OpWord, NbWord, PolicyWord, LimitsWord, cause_of, IsFirstBad, AreRefused, Command, command_named, has_count}
-use Rattle.script_core.specs.Reading.{Reading, limits_of, is_comment, says_policy, says_limits, PolicyGives, LimitsGive, ArgumentsGive, CommandGives, RequestGives, ArrivalGives, ProcessGives, WordsGive}
+use Rattle.script_core.specs.Reading.{Reading, limits_of, is_comment, says_policy, says_limits, PolicyGives, LimitsGive, ArgumentsGive, CommandGives, RequestGives, ArrivalGives, ProcessGives, WordsGive, IsOfScript}
 use Rattle.script_core.proofs.HeaderLemmas.{MatchBool-join}
 
 -- not refused for want of memory
 IsSaid : {X : Type 0} → Result X Cause → Type 0
 IsSaid (Ok x) = Unit {0}
-IsSaid (Err cause) = cause ≢ Memory
+IsSaid (Err cause) = IsOfScript cause
 
 said_by : {X : Type 0} (expected result : Result X Cause) → IsSaid expected → result ≡ expected → IsSaid result
 said_by expected result is e = subst IsSaid (sym e) is
 
-of_argument : (argument : Argument) → cause_of argument ≢ Memory
-of_argument FileNumber e = cc
-of_argument DescriptorNumber e = cc
-of_argument AnyNumber e = cc
-of_argument (ProcessNumber limits) e = cc
-of_argument AccessWord e = cc
-of_argument KindWord e = cc
-of_argument WhenceWord e = cc
-of_argument OpWord e = cc
-of_argument NbWord e = cc
-of_argument PolicyWord e = cc
-of_argument LimitsWord e = cc
+of_argument : (argument : Argument) → IsOfScript (cause_of argument)
+of_argument FileNumber memory e = cc
+of_argument DescriptorNumber memory e = cc
+of_argument AnyNumber memory e = cc
+of_argument (ProcessNumber limits) memory e = cc
+of_argument AccessWord memory e = cc
+of_argument KindWord memory e = cc
+of_argument WhenceWord memory e = cc
+of_argument OpWord memory e = cc
+of_argument NbWord memory e = cc
+of_argument PolicyWord memory e = cc
+of_argument LimitsWord memory e = cc
 
-of_first_bad : (arguments : List Argument) (words : List (List ℕ)) (cause : Cause) → IsFirstBad arguments words cause → cause ≢ Memory
-of_first_bad [] words cause bad e = absurd bad
-of_first_bad (argument ∷ arguments) [] cause bad e = absurd bad
-of_first_bad (argument ∷ arguments) (word ∷ words) cause (inl good) e = of_first_bad arguments words cause good.1 e
-of_first_bad (argument ∷ arguments) (word ∷ words) cause (inr bad) e = of_argument argument (sym bad.1 ∙ e)
+of_first_bad : (arguments : List Argument) (words : List (List ℕ)) (cause : Cause) → IsFirstBad arguments words cause → IsOfScript cause
+of_first_bad [] words cause bad memory e = absurd bad
+of_first_bad (argument ∷ arguments) [] cause bad memory e = absurd bad
+of_first_bad (argument ∷ arguments) (word ∷ words) cause (inl good) memory e = of_first_bad arguments words cause good.1 memory e
+of_first_bad (argument ∷ arguments) (word ∷ words) cause (inr bad) memory e = of_argument argument memory (sym bad.1 ∙ e)
 
-of_count : (cause : Cause) → cause ≡ Count → cause ≢ Memory
-of_count cause is e = absurd (let other : Count ≡ Memory = sym is ∙ e in cc)
+of_count : (cause : Cause) → cause ≡ Count → IsOfScript cause
+of_count cause is memory e = absurd (let other : Count ≡ Memory memory = sym is ∙ e in cc)
 
-of_refused : (arguments : List Argument) (words : List (List ℕ)) (cause : Cause) → AreRefused arguments words cause → cause ≢ Memory
+of_refused : (arguments : List Argument) (words : List (List ℕ)) (cause : Cause) → AreRefused arguments words cause → IsOfScript cause
 of_refused arguments words cause refused =
-    MatchBool-join (length words == length arguments) _ _ (cause ≢ Memory) (of_first_bad arguments words cause) (of_count cause) refused
+    MatchBool-join (length words == length arguments) _ _ (IsOfScript cause) (of_first_bad arguments words cause) (of_count cause) refused
 
 of_policy : (words : List (List ℕ)) (result : Result Line Cause) → PolicyGives words result → IsSaid result
 unfolding IsSaid
@@ -63,13 +63,13 @@ of_arguments limits words command arguments result (inr (request, are, is)) = sa
 of_command : (limits : Limits) (words arguments : List (List ℕ)) (result : Result Request Cause) (command : Option Command)
     → MatchOption command (result ≡ Err Word) (λ command. CommandGives limits words command arguments result) → IsSaid result
 unfolding IsSaid
-of_command limits words arguments result None is = said_by (Err Word) result (λ e. cc) is
+of_command limits words arguments result None is = said_by (Err Word) result (λ memory e. cc) is
 of_command limits words arguments result (Some command) gives =
-    MatchBool-join (has_count command (length arguments)) _ _ (IsSaid result) (of_arguments limits words command arguments result) (said_by (Err Count) result (λ e. cc)) gives
+    MatchBool-join (has_count command (length arguments)) _ _ (IsSaid result) (of_arguments limits words command arguments result) (said_by (Err Count) result (λ memory e. cc)) gives
 
 of_request : (limits : Limits) (words : List (List ℕ)) (result : Result Request Cause) → RequestGives limits words result → IsSaid result
 unfolding IsSaid
-of_request limits [] result is = said_by (Err Count) result (λ e. cc) is
+of_request limits [] result is = said_by (Err Count) result (λ memory e. cc) is
 of_request limits (name ∷ arguments) result gives = of_command limits (name ∷ arguments) arguments result (command_named limits name) gives
 
 of_arrival : (p : ℕ) (next : Result Request Cause) (result : Result Line Cause) → IsSaid next → ArrivalGives p next result → IsSaid result
@@ -80,7 +80,7 @@ of_arrival p (Err cause) result said is = said_by (Err cause) result said is
 of_process : (limits : Limits) (first : List ℕ) (rest : List (List ℕ)) (result : Result Line Cause) → ProcessGives limits first rest result → IsSaid result
 unfolding IsSaid
 of_process limits first rest result (inl arrival) = of_arrival arrival.0 arrival.3 result (of_request limits rest arrival.3 arrival.4) arrival.5
-of_process limits first rest result (inr fault) = said_by (Err Process) result (λ e. cc) fault.1
+of_process limits first rest result (inr fault) = said_by (Err Process) result (λ memory e. cc) fault.1
 
 of_words : (reading : Reading) (words : List (List ℕ)) (result : Result Line Cause) → WordsGive reading words result → IsSaid result
 unfolding IsSaid
@@ -92,6 +92,7 @@ of_words reading (first ∷ rest) result gives =
     gives
 
 -- no words of a line are refused for want of memory
-pub never_memory : (reading : Reading) (words : List (List ℕ)) (result : Result Line Cause) → WordsGive reading words result → result ≢ Err Memory
+pub never_memory : (reading : Reading) (words : List (List ℕ)) (result : Result Line Cause) → WordsGive reading words result → IfErr result IsOfScript
 unfolding IsSaid
-never_memory reading words result gives e = subst IsSaid e (of_words reading words result gives) refl
+never_memory reading words (Ok said) gives = tt
+never_memory reading words (Err cause) gives = of_words reading words (Err cause) gives

@@ -1,5 +1,6 @@
 -- How a script is read: line by line, up to the first fault (this project's choice).
-use Rattle.std.specs.Prelude.{◌≡◌, ℕ, ◌+◌, ◌≤◌, ◌==◌, ◌⊎◌, Bool, true, false, ◌&&◌, nat_lt, MatchBool, MatchOption, MatchResult, Option, None, Some, is_none, unwrap_or, Result, Ok, Err, List, [], ◌∷◌, ◌++◌, length, codes, decimal, bytes_eq}
+use Rattle.std.specs.Prelude.{◌≡◌, ◌≢◌, ℕ, ◌+◌, ◌≤◌, ◌==◌, ◌⊎◌, Bool, true, false, ◌&&◌, nat_lt, MatchBool, MatchOption, MatchResult, Option, None, Some, is_none, unwrap_or, Result, Ok, Err, List, [], ◌∷◌, ◌++◌, length, codes, decimal, bytes_eq}
+use Rattle.range_core.specs.declared.Memory.{Memory as Want}
 use Rattle.fd_table.specs.declared.Limits.{Limits}
 use Rattle.fd_table.specs.declared.Limits.TheVariants.{Small}
 use Rattle.wait_core.specs.declared.Policy.{Policy}
@@ -8,7 +9,7 @@ use Rattle.lock_manager.specs.declared.request.Request.{Request}
 use Rattle.script_core.specs.declared.line.Line.{Line}
 use Rattle.script_core.specs.declared.line.Line.TheVariants as lines
 use Rattle.script_core.specs.declared.script.Cause.{Cause}
-use Rattle.script_core.specs.declared.script.Cause.TheVariants.{Byte, Word, Count, Process, TooLong}
+use Rattle.script_core.specs.declared.script.Cause.TheVariants.{Byte, Word, Count, Process, TooLong, Memory}
 use Rattle.script_core.specs.declared.script.ScriptFault.{ScriptFault}
 use Rattle.script_core.specs.HeaderText.{policy_word, limits_word}
 use Rattle.script_core.specs.RequestText.{request_text}
@@ -123,6 +124,14 @@ LinesGive number reading (line ∷ lines) result =
     (next : Result Line Cause) × LineGives reading line next
     × MatchResult next (λ said. LinesGive (number + 1) (reading_after reading said) lines result)
     (λ cause. result ≡ Err (record { line = number; cause = cause }))
+
+-- the cause is want of memory
+abbrev pub IsWantOfMemory : Cause → Type 0
+IsWantOfMemory cause = (memory : Want) × (cause ≡ Memory memory)
+
+-- the cause is one that a script has: any but want of memory
+abbrev pub IsOfScript : Cause → Type 0
+IsOfScript cause = (memory : Want) → cause ≢ Memory memory
 
 -- the line is an arrival
 abbrev pub IsArrival : Line → Type 0

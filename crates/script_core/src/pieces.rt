@@ -4,42 +4,42 @@ ghost use Rattle.std.specs.Fmt.{signed_decimal};
 ghost use Rattle.script_core.specs.Output.{Extends};
 
 use itoa::{Buffer, write_digits};
-use std::alloc::AllocError;
+use range_core::Memory;
 
 /// The most bytes of a number of 64 bits: its digits, a minus sign and the byte before it.
 const NUMBER_MAX: usize = 22;
 
 /// Appends bytes.
-fn push_bytes(text: &mut Vec<u8>, piece: &[u8]) -> Result<(), AllocError>
+fn push_bytes(text: &mut Vec<u8>, piece: &[u8]) -> Result<(), Memory>
     ensures { MatchResult result (λ unit. text.new.items ≡ text.old.items ++ piece.now) (λ error. Extends text.old.items text.new.items) }
 {
-    text.extend_from_slice(piece)
+    Ok(text.extend_from_slice(piece)?)
 }
 
 /// Appends a piece.
-pub fn push_str(text: &mut Vec<u8>, piece: &str) -> Result<(), AllocError>
+pub fn push_str(text: &mut Vec<u8>, piece: &str) -> Result<(), Memory>
     ensures { MatchResult result (λ unit. text.new.items ≡ text.old.items ++ piece.now) (λ error. Extends text.old.items text.new.items) }
 {
     push_bytes(text, piece.as_bytes())
 }
 
 /// Appends a space and a word.
-pub fn push_word(text: &mut Vec<u8>, word: &str) -> Result<(), AllocError>
+pub fn push_word(text: &mut Vec<u8>, word: &str) -> Result<(), Memory>
     ensures { MatchResult result (λ unit. text.new.items ≡ text.old.items ++ 32 ∷ word.now) (λ error. Extends text.old.items text.new.items) }
 {
-    text.push(b' ').map_err(|_| AllocError)?;
+    text.push(b' ')?;
     push_str(text, word)
 }
 
 /// Appends a natural number, with no byte before it.
-pub fn push_first_number(text: &mut Vec<u8>, n: u64) -> Result<(), AllocError>
+pub fn push_first_number(text: &mut Vec<u8>, n: u64) -> Result<(), Memory>
     ensures { MatchResult result (λ unit. text.new.items ≡ text.old.items ++ decimal n) (λ error. Extends text.old.items text.new.items) }
 {
     push_str(text, Buffer::new().format(n))
 }
 
 /// Appends a byte and a natural number.
-pub fn push_number(text: &mut Vec<u8>, before: u8, n: u64) -> Result<(), AllocError>
+pub fn push_number(text: &mut Vec<u8>, before: u8, n: u64) -> Result<(), Memory>
     ensures { MatchResult result (λ unit. text.new.items ≡ text.old.items ++ before ∷ decimal n) (λ error. Extends text.old.items text.new.items) }
 {
     let mut number = [0; NUMBER_MAX];
@@ -49,12 +49,12 @@ pub fn push_number(text: &mut Vec<u8>, before: u8, n: u64) -> Result<(), AllocEr
 }
 
 /// Appends a space and an integer.
-pub fn push_integer(text: &mut Vec<u8>, z: i64) -> Result<(), AllocError>
+pub fn push_integer(text: &mut Vec<u8>, z: i64) -> Result<(), Memory>
     ensures { MatchResult result (λ unit. text.new.items ≡ text.old.items ++ 32 ∷ signed_decimal z) (λ error. Extends text.old.items text.new.items) }
 {
     if z >= 0 {
         return push_number(text, b' ', z.unsigned_abs());
     }
-    text.push(b' ').map_err(|_| AllocError)?;
+    text.push(b' ')?;
     push_number(text, b'-', z.unsigned_abs())
 }

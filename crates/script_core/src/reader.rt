@@ -1,5 +1,5 @@
 //! Reading line by line: what was said so far, and what the next line says.
-ghost use Rattle.std.specs.Prelude.{◌≡◌, ◌≢◌, OnOk, IfErr, Ok, Err};
+ghost use Rattle.std.specs.Prelude.{◌≡◌, OnOk, IfErr, Ok, Err};
 ghost use Rattle.script_core.specs.Words.{texts, words_of};
 
 use crate::line::{Line, read_arrival, read_limits_line, read_policy_line};
@@ -7,6 +7,7 @@ use crate::words::{first_words, is_comment, printable_text};
 use crate::{Cause, LINE_MAX, Script};
 use fd_table::Limits;
 use lock_manager::{Request, Rules};
+use range_core::Memory;
 use std::alloc::Global;
 use std::marker::Model;
 use wait_core::Policy;
@@ -29,7 +30,7 @@ impl Model for Reader {
 
 impl Reader {
     ghost use Rattle.script_core.specs.declared.line.Line.{Line};
-    ghost use Rattle.script_core.specs.Reading.{start, limits_of, meaning_of, reading_after, says_policy, says_limits, WordsGive, LineGives, IsArrival};
+    ghost use Rattle.script_core.specs.Reading.{start, limits_of, meaning_of, reading_after, says_policy, says_limits, WordsGive, LineGives, IsArrival, IsOfScript, IsWantOfMemory};
 
     /// Nothing was read.
     pub fn new(alloc: Global) -> Reader
@@ -45,8 +46,8 @@ impl Reader {
     /// Reads one more line.
     pub fn read_line(&mut self, line: &[u8]) -> Result<(), Cause>
         ensures read { OnOk result ((said : Line) × LineGives self.old line.now (Ok said) × (self.new ≡ reading_after self.old said)) }
-        ensures refused { IfErr result (λ cause. cause ≢ Cause.Memory → LineGives self.old line.now (Err cause)) }
-        ensures memory { IfErr result (λ cause. cause ≡ Cause.Memory → (said : Line) × LineGives self.old line.now (Ok said) × IsArrival said) }
+        ensures refused { IfErr result (λ cause. IsOfScript cause → LineGives self.old line.now (Err cause)) }
+        ensures memory { IfErr result (λ cause. IsWantOfMemory cause → (said : Line) × LineGives self.old line.now (Ok said) × IsArrival said) }
     {
         let said = self.parse_line(line)?;
         self.apply(said)
@@ -68,7 +69,7 @@ impl Reader {
     /// Takes down what a line says.
     fn apply(&mut self, said: Line) -> Result<(), Cause>
         ensures read { OnOk result (self.new ≡ reading_after self.old said) }
-        ensures refused { IfErr result (λ cause. (cause ≡ Cause.Memory) × IsArrival said) }
+        ensures refused { IfErr result (λ cause. IsWantOfMemory cause × IsArrival said) }
     {
         match said {
             Line::Skipped => Ok(()),
@@ -80,17 +81,17 @@ impl Reader {
                 self.limits = Some(limits);
                 Ok(())
             }
-            Line::Arrival(p, request) => self
-                .arrivals
-                .push((p, request))
-                .map_err(|_| Cause::Memory),
+            Line::Arrival(p, request) => {
+                self.arrivals.push((p, request)).map_err(Memory::from)?;
+                Ok(())
+            }
         }
     }
 
     /// What the line says.
     fn parse_line(&self, line: &[u8]) -> Result<Line, Cause>
         ensures gives { LineGives self.now line.now result }
-        ensures told { result ≢ Err Cause.Memory }
+        ensures told { IfErr result IsOfScript }
     {
         if line.len() > LINE_MAX {
             return Err(Cause::TooLong);

@@ -2,12 +2,13 @@
 ghost use Rattle.std.specs.Prelude.{◌≡◌, ◌≢◌, ◌≤◌, ◌+◌, ◌⊎◌, ◌==◌, ℕ, List, [], ◌∷◌, ◌++◌, All, Ok, Err, IfOk, IfErr, length};
 ghost use Rattle.script_core.specs.declared.TheConstants.{SCRIPT_MAX};
 ghost use Rattle.std.specs.List.{slice_split};
-ghost use Rattle.script_core.specs.Reading.{Reads, HasOneReading, LinesGive, IsAtHand, ComesTo, start};
+ghost use Rattle.script_core.specs.Reading.{Reads, HasOneReading, LinesGive, IsAtHand, ComesTo, IsOfScript, IsWantOfMemory, start};
 ghost use Rattle.script_core.specs.ScriptText.{IsProcess};
 
 use crate::SCRIPT_MAX;
 use crate::reader::Reader;
 use lock_manager::{Request, Rules};
+use range_core::Memory;
 use std::alloc::Global;
 use std::marker::Model;
 use thiserror::Error;
@@ -17,25 +18,35 @@ use thiserror::Error;
 pub enum Cause {
     /// A byte that isn't printable ASCII.
     #[error("1 Byte")]
-    Byte = 1,
+    Byte,
     /// A word that isn't one of those that may stand there.
     #[error("2 Word")]
-    Word = 2,
+    Word,
     /// A wrong number of words.
     #[error("3 Count")]
-    Count = 3,
+    Count,
     /// A word that doesn't spell a number in its range.
     #[error("4 Number")]
-    Number = 4,
+    Number,
     /// A word that doesn't spell the number of a process.
     #[error("5 Process")]
-    Process = 5,
+    Process,
     /// A line or a script that is too long.
     #[error("6 TooLong")]
-    TooLong = 6,
+    TooLong,
     /// A growth was refused.
     #[error("7 Memory")]
-    Memory = 7,
+    Memory(Memory),
+}
+
+impl From<Memory> for Cause {
+    ghost use Rattle.script_core.specs.declared.script.Cause.{Cause};
+
+    ghost from_gives = { λ memory cause. cause ≡ Cause.Memory memory };
+
+    fn from(memory: Memory) -> Cause {
+        Cause::Memory(memory)
+    }
 }
 
 /// The first faulty line of a script, counted from 1, and what is wrong with it; line 0 is the script as a whole.
@@ -73,10 +84,10 @@ impl Model for Script {
 #[tactic(auto, using(crate::proofs::ReadingLemmas::one_reading))]
 pub fn parse(alloc: Global, bytes: &[u8]) -> Result<Script, ScriptFault>
     ensures accepted { IfOk result (λ script. Reads bytes.now (Ok script)) }
-    ensures refused { IfErr result (λ fault. fault.cause ≢ Cause.Memory → Reads bytes.now (Err fault)) }
+    ensures refused { IfErr result (λ fault. IsOfScript fault.cause → Reads bytes.now (Err fault)) }
 
     // Want of memory is told of the line at hand.
-    ensures memory { IfErr result (λ fault. fault.cause ≡ Cause.Memory → IsAtHand bytes.now fault.line) }
+    ensures memory { IfErr result (λ fault. IsWantOfMemory fault.cause → IsAtHand bytes.now fault.line) }
 
     // Each arrival is of a process that the script's limits have.
     ensures processes { IfOk result (λ script. All (λ arrival. IsProcess script.rules.limits arrival.0) script.arrivals) }
@@ -100,8 +111,8 @@ pub fn parse(alloc: Global, bytes: &[u8]) -> Result<Script, ScriptFault>
 fn read_lines(alloc: Global, bytes: &[u8]) -> Result<Script, ScriptFault>
     ensures accepted { IfOk result (λ script. LinesGive 1 start (slice_split (λ byte. byte == 10) bytes.now) (Ok script)) }
     ensures fault { IfErr result (λ fault.
-        (fault.cause ≢ Cause.Memory → LinesGive 1 start (slice_split (λ byte. byte == 10) bytes.now) (Err fault))
-        × (fault.cause ≡ Cause.Memory → ComesTo 1 start (slice_split (λ byte. byte == 10) bytes.now) fault.line)) }
+        (IsOfScript fault.cause → LinesGive 1 start (slice_split (λ byte. byte == 10) bytes.now) (Err fault))
+        × (IsWantOfMemory fault.cause → ComesTo 1 start (slice_split (λ byte. byte == 10) bytes.now) fault.line)) }
 {
     let mut reader = Reader::new(alloc);
     for (index, line) in bytes.split(|byte| *byte == b'\n').enumerate() {

@@ -14,13 +14,12 @@ use crate::pieces::{push_first_number, push_integer, push_number, push_str, push
 use fd_table::Access;
 use lock_book::{Held, Owner};
 use lock_manager::{Errno, FlockOp, LkCmd, Lock, Note, ProcState, Reply, Request};
-use range_core::{Kind, Mode, Span, Whence};
+use range_core::{Kind, Memory, Mode, Span, Whence};
 use session_core::Entry;
-use std::alloc::AllocError;
 use wait_core::{Family, Wait};
 
 /// Appends the line of an entry: the request with its process and number, and then each note.
-pub fn push_entry(text: &mut Vec<u8>, entry: &Entry) -> Result<(), AllocError>
+pub fn push_entry(text: &mut Vec<u8>, entry: &Entry) -> Result<(), Memory>
     ensures { MatchResult result (λ unit. text.new.items ≡ text.old.items ++ entry_line entry.now) (λ error. Extends text.old.items text.new.items) }
 {
     push_first_number(text, u64::from(entry.p))?;
@@ -33,7 +32,7 @@ pub fn push_entry(text: &mut Vec<u8>, entry: &Entry) -> Result<(), AllocError>
 }
 
 /// Appends a space, and a request: its command and its arguments, with one space between words.
-fn push_request(text: &mut Vec<u8>, request: &Request) -> Result<(), AllocError>
+fn push_request(text: &mut Vec<u8>, request: &Request) -> Result<(), Memory>
     ensures { MatchResult result (λ unit. text.new.items ≡ text.old.items ++ 32 ∷ request_text request.now) (λ error. Extends text.old.items text.new.items) }
 {
     match request {
@@ -68,7 +67,7 @@ fn push_request(text: &mut Vec<u8>, request: &Request) -> Result<(), AllocError>
 }
 
 /// Appends a piece, and a natural number behind a space.
-fn push_numbered(text: &mut Vec<u8>, piece: &str, n: u64) -> Result<(), AllocError>
+fn push_numbered(text: &mut Vec<u8>, piece: &str, n: u64) -> Result<(), Memory>
     ensures { MatchResult result (λ unit. text.new.items ≡ text.old.items ++ (piece.now ++ 32 ∷ decimal n)) (λ error. Extends text.old.items text.new.items) }
 {
     push_str(text, piece)?;
@@ -76,7 +75,7 @@ fn push_numbered(text: &mut Vec<u8>, piece: &str, n: u64) -> Result<(), AllocErr
 }
 
 /// Appends the words of a lock command behind its name, each behind a space.
-fn push_lock(text: &mut Vec<u8>, fd: u32, lock: &Lock) -> Result<(), AllocError>
+fn push_lock(text: &mut Vec<u8>, fd: u32, lock: &Lock) -> Result<(), Memory>
     ensures { MatchResult result (λ unit. text.new.items ≡ text.old.items ++ 32 ∷ join_with_byte 32 (lock_words fd lock.now ++ pid_words lock.now.pid)) (λ error. Extends text.old.items text.new.items) }
 {
     push_number(text, b' ', u64::from(fd))?;
@@ -88,7 +87,7 @@ fn push_lock(text: &mut Vec<u8>, fd: u32, lock: &Lock) -> Result<(), AllocError>
 }
 
 /// The pid is written only where it isn't 0.
-fn push_pid(text: &mut Vec<u8>, pid: i64) -> Result<(), AllocError>
+fn push_pid(text: &mut Vec<u8>, pid: i64) -> Result<(), Memory>
     ensures { MatchResult result (λ unit. text.new.items ≡ text.old.items ++ flat_map (λ word. 32 ∷ word) (pid_words pid)) (λ error. Extends text.old.items text.new.items) }
 {
     if pid == 0 {
@@ -98,7 +97,7 @@ fn push_pid(text: &mut Vec<u8>, pid: i64) -> Result<(), AllocError>
 }
 
 /// Appends a space and a request of flock.
-fn push_flock_request(text: &mut Vec<u8>, fd: u32, op: FlockOp, nb: bool) -> Result<(), AllocError>
+fn push_flock_request(text: &mut Vec<u8>, fd: u32, op: FlockOp, nb: bool) -> Result<(), Memory>
     ensures { MatchResult result (λ unit. text.new.items ≡ text.old.items ++ 32 ∷ request_text (Flock fd op nb)) (λ error. Extends text.old.items text.new.items) }
 {
     push_numbered(text, " flock", u64::from(fd))?;
@@ -107,14 +106,14 @@ fn push_flock_request(text: &mut Vec<u8>, fd: u32, op: FlockOp, nb: bool) -> Res
 }
 
 /// `nb` is written only where it is set.
-fn push_nb(text: &mut Vec<u8>, nb: bool) -> Result<(), AllocError>
+fn push_nb(text: &mut Vec<u8>, nb: bool) -> Result<(), Memory>
     ensures { MatchResult result (λ unit. text.new.items ≡ text.old.items ++ flat_map (λ word. 32 ∷ word) (nb_words nb)) (λ error. Extends text.old.items text.new.items) }
 {
     if nb { push_str(text, " nb") } else { Ok(()) }
 }
 
 /// Appends a note: the request that it is about, and what it tells of it.
-fn push_note(text: &mut Vec<u8>, note: &Note) -> Result<(), AllocError>
+fn push_note(text: &mut Vec<u8>, note: &Note) -> Result<(), Memory>
     ensures { MatchResult result (λ unit. text.new.items ≡ text.old.items ++ note_text note.now) (λ error. Extends text.old.items text.new.items) }
 {
     match note {
@@ -130,7 +129,7 @@ fn push_note(text: &mut Vec<u8>, note: &Note) -> Result<(), AllocError>
 }
 
 /// Appends the request that a note is about.
-fn push_noted(text: &mut Vec<u8>, p: u8, n: u64) -> Result<(), AllocError>
+fn push_noted(text: &mut Vec<u8>, p: u8, n: u64) -> Result<(), Memory>
     ensures { MatchResult result (λ unit. text.new.items ≡ text.old.items ++ (codes " | " ++ tag p n)) (λ error. Extends text.old.items text.new.items) }
 {
     push_numbered(text, " |", u64::from(p))?;
@@ -138,7 +137,7 @@ fn push_noted(text: &mut Vec<u8>, p: u8, n: u64) -> Result<(), AllocError>
 }
 
 /// Appends a space and a reply.
-fn push_reply(text: &mut Vec<u8>, reply: Reply) -> Result<(), AllocError>
+fn push_reply(text: &mut Vec<u8>, reply: Reply) -> Result<(), Memory>
     ensures { MatchResult result (λ unit. text.new.items ≡ text.old.items ++ 32 ∷ reply_text reply) (λ error. Extends text.old.items text.new.items) }
 {
     match reply {
@@ -162,7 +161,7 @@ fn push_reply(text: &mut Vec<u8>, reply: Reply) -> Result<(), AllocError>
 }
 
 /// Appends the line of a lock that is held.
-pub fn push_held(text: &mut Vec<u8>, held: &Held) -> Result<(), AllocError>
+pub fn push_held(text: &mut Vec<u8>, held: &Held) -> Result<(), Memory>
     ensures { MatchResult result (λ unit. text.new.items ≡ text.old.items ++ held_line held.now) (λ error. Extends text.old.items text.new.items) }
 {
     push_held_text(text, held)?;
@@ -170,7 +169,7 @@ pub fn push_held(text: &mut Vec<u8>, held: &Held) -> Result<(), AllocError>
 }
 
 /// Appends what is held, without the end of the line.
-fn push_held_text(text: &mut Vec<u8>, held: &Held) -> Result<(), AllocError>
+fn push_held_text(text: &mut Vec<u8>, held: &Held) -> Result<(), Memory>
     ensures { MatchResult result (λ unit. text.new.items ≡ text.old.items ++ held_text held.now) (λ error. Extends text.old.items text.new.items) }
 {
     if held.whole {
@@ -183,7 +182,7 @@ fn push_held_text(text: &mut Vec<u8>, held: &Held) -> Result<(), AllocError>
 }
 
 /// Appends the line of a wait.
-pub fn push_wait(text: &mut Vec<u8>, wait: &Wait) -> Result<(), AllocError>
+pub fn push_wait(text: &mut Vec<u8>, wait: &Wait) -> Result<(), Memory>
     ensures { MatchResult result (λ unit. text.new.items ≡ text.old.items ++ wait_line wait.now) (λ error. Extends text.old.items text.new.items) }
 {
     push_numbered(text, "wait", u64::from(wait.p))?;
@@ -193,7 +192,7 @@ pub fn push_wait(text: &mut Vec<u8>, wait: &Wait) -> Result<(), AllocError>
 }
 
 /// Appends a space and the lock that a wait is for.
-fn push_wanted(text: &mut Vec<u8>, wait: &Wait) -> Result<(), AllocError>
+fn push_wanted(text: &mut Vec<u8>, wait: &Wait) -> Result<(), Memory>
     ensures { MatchResult result (λ unit. text.new.items ≡ text.old.items ++ 32 ∷ wanted_text wait.now.family wait.now) (λ error. Extends text.old.items text.new.items) }
 {
     let file = wait.file;
@@ -214,7 +213,7 @@ fn push_byte_lock(
     owner: Owner,
     mode: Mode,
     span: Span,
-) -> Result<(), AllocError>
+) -> Result<(), Memory>
     ensures { MatchResult result (λ unit. text.new.items ≡ text.old.items ++ 32 ∷ byte_lock_text file owner mode span) (λ error. Extends text.old.items text.new.items) }
 {
     push_number(text, b' ', u64::from(file))?;
@@ -225,7 +224,7 @@ fn push_byte_lock(
 }
 
 /// Appends a space and a flock lock: description and mode.
-fn push_flock(text: &mut Vec<u8>, owner: Owner, mode: Mode) -> Result<(), AllocError>
+fn push_flock(text: &mut Vec<u8>, owner: Owner, mode: Mode) -> Result<(), Memory>
     ensures { MatchResult result (λ unit. text.new.items ≡ text.old.items ++ 32 ∷ flock_text owner mode) (λ error. Extends text.old.items text.new.items) }
 {
     push_owner(text, owner)?;
@@ -233,7 +232,7 @@ fn push_flock(text: &mut Vec<u8>, owner: Owner, mode: Mode) -> Result<(), AllocE
 }
 
 /// Appends a space and an owner: a process or an open file description, with its number.
-fn push_owner(text: &mut Vec<u8>, owner: Owner) -> Result<(), AllocError>
+fn push_owner(text: &mut Vec<u8>, owner: Owner) -> Result<(), Memory>
     ensures { MatchResult result (λ unit. text.new.items ≡ text.old.items ++ 32 ∷ owner_text owner) (λ error. Extends text.old.items text.new.items) }
 {
     match owner {
@@ -258,7 +257,7 @@ pub struct ProcessLine {
 }
 
 /// Appends the line of a process.
-pub fn push_process(text: &mut Vec<u8>, line: &ProcessLine) -> Result<(), AllocError>
+pub fn push_process(text: &mut Vec<u8>, line: &ProcessLine) -> Result<(), Memory>
     ensures { MatchResult result (λ unit. text.new.items ≡ text.old.items ++ process_line line.now) (λ error. Extends text.old.items text.new.items) }
 {
     push_numbered(text, "proc", u64::from(line.p))?;
@@ -268,7 +267,7 @@ pub fn push_process(text: &mut Vec<u8>, line: &ProcessLine) -> Result<(), AllocE
 }
 
 /// Appends a space, and how many requests of the process were sent, taken and answered.
-fn push_counts(text: &mut Vec<u8>, line: &ProcessLine) -> Result<(), AllocError>
+fn push_counts(text: &mut Vec<u8>, line: &ProcessLine) -> Result<(), Memory>
     ensures { MatchResult result (λ unit. text.new.items ≡ text.old.items ++ 32 ∷ counts_text line.now) (λ error. Extends text.old.items text.new.items) }
 {
     push_numbered(text, " sent", line.sent)?;

@@ -14,7 +14,6 @@ use lock_book::Held;
 use lock_manager::ProcState;
 use range_core::Memory;
 use session_core::{Entry, Session};
-use std::alloc::AllocError;
 use wait_core::Wait;
 
 /// Appends the line of an entry. After `Memory` the vector has its old bytes and a front of the text.
@@ -28,9 +27,9 @@ pub fn write_entry(entry: &Entry, out: &mut Vec<u8>) -> Result<(), Memory>
     ensures read_back { IsReadBack entry.now.p entry.now.request }
 {
     let len = out.len();
-    if let Err(AllocError) = push_entry(out, entry) {
+    if let Err(memory) = push_entry(out, entry) {
         out.truncate(len);
-        return Err(Memory);
+        return Err(memory);
     }
     Ok(())
 }
@@ -50,9 +49,9 @@ pub fn write_report(session: &Session, sent: &[u64], out: &mut Vec<u8>) -> Resul
     let locks = session.manager().held()?;
     let waits = session.manager().waits()?;
     let len = out.len();
-    if let Err(AllocError) = push_report(out, session, sent, &locks, &waits) {
+    if let Err(memory) = push_report(out, session, sent, &locks, &waits) {
         out.truncate(len);
-        return Err(Memory);
+        return Err(memory);
     }
     Ok(())
 }
@@ -64,7 +63,7 @@ fn push_report(
     sent: &[u64],
     locks: &[Held],
     waits: &[Wait],
-) -> Result<(), AllocError>
+) -> Result<(), Memory>
     requires { length sent.now ≡ processes_of (manager_of session.now) }
     ensures { MatchResult result (λ unit. (counts : ℕ → ℕ) → AreCounts sent.now counts → text.new.items ≡ text.old.items
         ++ (flat_map held_line locks.now ++ flat_map wait_line waits.now
@@ -77,7 +76,7 @@ fn push_report(
 }
 
 /// Appends a line for each lock that is held.
-fn push_locks(text: &mut Vec<u8>, locks: &[Held]) -> Result<(), AllocError>
+fn push_locks(text: &mut Vec<u8>, locks: &[Held]) -> Result<(), Memory>
     ensures { MatchResult result (λ unit. text.new.items ≡ text.old.items ++ flat_map held_line locks.now) (λ error. Extends text.old.items text.new.items) }
 {
     for held in locks {
@@ -87,7 +86,7 @@ fn push_locks(text: &mut Vec<u8>, locks: &[Held]) -> Result<(), AllocError>
 }
 
 /// Appends a line for each request that waits.
-fn push_waits(text: &mut Vec<u8>, waits: &[Wait]) -> Result<(), AllocError>
+fn push_waits(text: &mut Vec<u8>, waits: &[Wait]) -> Result<(), Memory>
     ensures { MatchResult result (λ unit. text.new.items ≡ text.old.items ++ flat_map wait_line waits.now) (λ error. Extends text.old.items text.new.items) }
 {
     for wait in waits {
@@ -97,7 +96,7 @@ fn push_waits(text: &mut Vec<u8>, waits: &[Wait]) -> Result<(), AllocError>
 }
 
 /// Appends a line for each process that was ever alive or has sent something.
-fn push_processes(text: &mut Vec<u8>, session: &Session, sent: &[u64]) -> Result<(), AllocError>
+fn push_processes(text: &mut Vec<u8>, session: &Session, sent: &[u64]) -> Result<(), Memory>
     requires { length sent.now ≡ processes_of (manager_of session.now) }
     ensures { MatchResult result (λ unit. (counts : ℕ → ℕ) → AreCounts sent.now counts → text.new.items ≡ text.old.items
         ++ process_lines (state_at (manager_of session.now)) (events_in session.now) counts 1 (processes_of (manager_of session.now)))
@@ -125,7 +124,7 @@ fn line_of(session: &Session, p: u8, sent: u64) -> ProcessLine
 }
 
 /// Appends the line of a process, where the report has one.
-fn push_reported(text: &mut Vec<u8>, line: &ProcessLine) -> Result<(), AllocError>
+fn push_reported(text: &mut Vec<u8>, line: &ProcessLine) -> Result<(), Memory>
     ensures { MatchResult result (λ unit. text.new.items ≡ text.old.items ++ reported_line line.now) (λ error. Extends text.old.items text.new.items) }
 {
     if is_reported(line) {

@@ -580,7 +580,7 @@ fn check_parse(rt: &impl Abort, alloc: Global, script: &[u8], expected: Option<S
             assert_eq!(rt; expected, None);
             assert_eq!(rt; read.arrivals.len(), 3);
         }
-        Err(fault) if fault.cause == Cause::Memory => {
+        Err(fault) if matches!(fault.cause, Cause::Memory(_)) => {
             assert!(rt; (1..=3).contains(&fault.line), "{fault}");
         }
         Err(fault) => assert_eq!(rt; Some(fault), expected),

@@ -1,5 +1,5 @@
 -- Draining: one more event taken, how much mail is left, and one more arrival.
-use Rattle.std.proofs.Common.{ℕ, zero, suc, ◌≡◌, ◌≢◌, ◌+◌, ◌-◌, ◌<◌, ◌≤◌, refl, sym, ◌∙◌, ap, subst, arith, eq-eqb, ne_eqb, length, length-append, List, [], ◌∷◌, ◌++◌, ⊎_elim, true, false, Option, Some, None, Result, Ok, Err, OnOk, is_some, is_ok, slice_get, get_or, take, drop, map, filter}
+use Rattle.std.proofs.Common.{ℕ, zero, suc, ◌≡◌, ◌≢◌, ◌+◌, ◌-◌, ◌<◌, ◌≤◌, refl, sym, ◌∙◌, ap, subst, arith, eq-eqb, ne_eqb, length, length-append, List, [], ◌∷◌, ◌++◌, ⊎_elim, true, false, Option, Some, None, Result, Err, is_some, slice_get, get_or, take, drop, map, filter}
 use Rattle.std.specs.Prelude.{◌==◌, if◌then◌else◌}
 use Rattle.std.proofs.lemmas.Bool.{cases_eq}
 use Rattle.std.proofs.lemmas.List.{append-nil, append_assoc, map-append, take-append-drop, drop_more, take_more}
@@ -267,14 +267,6 @@ pub TakesNext-none : (old new : Session) (result : Option ℕ) → is_some resul
     → IsDrained (state_at (manager_of old)) (sent_of old) (events_in old) × SameSession old new
 TakesNext-none old new None none takes = takes
 TakesNext-none old new (Some place) none takes = cc
-
--- what holds on success of one answer follows on success of another that succeeds alike
-pub OnOk-along : {T U E F P Q : Type 0} (first : Result T E) (second : Result U F) → is_ok second ≡ is_ok first → (P → Q)
-    → OnOk first P → OnOk second Q
-OnOk-along (Ok x) (Ok y) alike follows h = follows h
-OnOk-along (Err e) (Ok y) alike follows h = cc
-OnOk-along (Ok x) (Err f) alike follows h = tt
-OnOk-along (Err e) (Err f) alike follows h = tt
 
 -- what was sent with one arrival more
 pub requests_sent-push : (p : ℕ) (arrivals : List (ℕ × Request)) (q : ℕ) (request : Request)

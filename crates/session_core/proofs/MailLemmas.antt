@@ -1,5 +1,5 @@
 -- Mailboxes by process: what is written to one of them, and what stays.
-use Rattle.std.proofs.Common.{ℕ, zero, suc, ◌≡◌, ◌≢◌, ◌+◌, ◌-◌, ◌<◌, ◌≤◌, refl, sym, ◌∙◌, ap, subst, arith, length, length-append, take, slice_get, set, get_or, List, [], ◌∷◌, ◌++◌, Some, Option, Result, Ok, Err, is_ok, IfOk, eq-eqb, ne_eqb, ⊎_elim}
+use Rattle.std.proofs.Common.{ℕ, zero, suc, ◌≡◌, ◌≢◌, ◌+◌, ◌-◌, ◌<◌, ◌≤◌, refl, sym, ◌∙◌, ap, subst, arith, length, length-append, take, slice_get, set, get_or, List, [], ◌∷◌, ◌++◌, Some, Option, Result, Ok, Err, IfOk, eq-eqb, ne_eqb, ⊎_elim}
 use Rattle.std.specs.Prelude.{◌==◌, if◌then◌else◌, IsNone}
 use Rattle.std.proofs.lemmas.List.{get_or-set_same, length-set, length-map, append-nil, append_assoc}
 use Rattle.std.proofs.lemmas.Option.{slice_get-get_or}
@@ -164,13 +164,6 @@ mail_sent-withdrawn mailboxes journal place p old new at some shorter q =
     ∙ ap (λ l. take (length (requests_taken p journal ++ l) - 1) (requests_taken p journal ++ l)) (sym there)))
     (λ other. rw (ne_eqb q p other) refl)
     (cases_eq q p)
-
--- one success follows another
-pub IfOk-found : {T E F : Type 0} (first : Result T E) (second : Result T F) (P : T → Type 0) (x : T) → is_ok second ≡ is_ok first
-    → second ≡ Ok x → IfOk first P → (y : T) × P y
-IfOk-found (Ok y) second P x alike is h = (y, h)
-IfOk-found (Err fault) (Ok y) P x alike is h = cc
-IfOk-found (Err fault) (Err other) P x alike is h = cc
 
 -- what a process sent, where its mailbox got one more request
 pub mail_sent-pushed : (mailboxes : List Mailbox) (journal : List Event) (place p : ℕ) (old new : Mailbox) (request : Request)

@@ -44,7 +44,7 @@ told_refusal processes S taken counts p n faults.Invalid outcome h is =
     told_answer processes S S taken counts p n _ outcome h (SameProcesses-refl S) is
 told_refusal processes S taken counts p n faults.Taken outcome h is =
     told_answer processes S S taken counts p n _ outcome h (SameProcesses-refl S) is
-told_refusal processes S taken counts p n faults.Memory outcome h is = absurd is
+told_refusal processes S taken counts p n (faults.Memory memory) outcome h is = absurd is
 
 -- the lock that was asked for is set
 pub told_locked : (processes : ℕ) (S : State) (taken counts : ℕ → ℕ) (wanted : Wait) (outcome : Outcome)

@@ -178,7 +178,7 @@ comes_refusal S p n request faults.BadFd outcome is = comes_refused S p n reques
 comes_refusal S p n request faults.TooMany outcome is = comes_refused S p n request _ outcome is
 comes_refusal S p n request faults.Invalid outcome is = comes_refused S p n request _ outcome is
 comes_refusal S p n request faults.Taken outcome is = comes_refused S p n request _ outcome is
-comes_refusal S p n request faults.Memory outcome is = absurd is
+comes_refusal S p n request (faults.Memory memory) outcome is = absurd is
 
 -- a call that moves no wait
 comes_call : {X : Type 0} (S : State) (p n : ℕ) (request : Request) (T : X → State) (reply : X → Reply) (result : Result X FdFault)

@@ -31,4 +31,4 @@ abbrev pub Checks : Rules → ℕ → JournalChecker → List Event → Event �
 Checks rules processes checker events event (Ok done) = HasAccepted rules processes checker (events ++ event ∷ [])
 Checks rules processes checker events event (Err Illegal) =
     (expected : Expected) × (expected_by checker ≡ Some expected) × IsIllegal rules processes events event expected
-Checks rules processes checker events event (Err Memory) = HasAccepted rules processes checker events
+Checks rules processes checker events event (Err (Memory memory)) = HasAccepted rules processes checker events

@@ -30,7 +30,7 @@ impl LastAnswers {
         ensures processes { IfOk result (λ last. processes_in last ≡ processes) }
         ensures none { IfOk result (λ last. (p : ℕ) → last_of last p ≡ None) }
     {
-        let answers = vec![in alloc; None; usize::from(processes)].map_err(|_| Memory)?;
+        let answers = vec![in alloc; None; usize::from(processes)]?;
         Ok(LastAnswers { answers })
     }
 

@@ -10,6 +10,7 @@ use crate::Entry;
 use lock_manager::{Manager, Note, ProcState, Rules, step_has_one_outcome};
 use range_core::Memory;
 use std::alloc::Global;
+use thiserror::Error;
 
 /// Whether the entries are a run from the opening state, numbers and notes included, of `processes` processes, numbered from 1
 /// and at most [`fd_table::Limits::processes`] (this project's choice).
@@ -31,20 +32,32 @@ pub fn check_journal(
         match checker.next(entry) {
             Ok(()) => {}
             Err(CheckFault::Illegal) => return Ok(false),
-            Err(CheckFault::Memory) => return Err(Memory),
+            Err(CheckFault::Memory(memory)) => return Err(memory),
         }
     }
     Ok(true)
 }
 
 /// Why an entry isn't accepted.
-#[derive(Clone, Copy, Debug, PartialEq, Eq)]
+#[derive(Clone, Copy, Debug, PartialEq, Eq, Error)]
 pub enum CheckFault {
     /// No run begins with what was accepted and then this entry, or an earlier one that came in its place. What a run would have
     /// there is [`JournalChecker::expected`].
-    Illegal = 1,
+    #[error("no run goes on with this entry")]
+    Illegal,
     /// A growth was refused.
-    Memory = 2,
+    #[error(transparent)]
+    Memory(Memory),
+}
+
+impl From<Memory> for CheckFault {
+    ghost use Rattle.session_core.specs.declared.check.CheckFault.{CheckFault};
+
+    ghost from_gives = { λ memory fault. fault ≡ CheckFault.Memory memory };
+
+    fn from(memory: Memory) -> CheckFault {
+        CheckFault::Memory(memory)
+    }
 }
 
 /// What a run would have in place of an entry with which none goes on (this project's choice).
@@ -102,13 +115,12 @@ impl JournalChecker {
         if self.expected.is_some() {
             return Err(CheckFault::Illegal);
         }
-        match self.replay.repeats(entry) {
-            Ok(None) => Ok(()),
-            Ok(Some(expected)) => {
+        match self.replay.repeats(entry)? {
+            None => Ok(()),
+            Some(expected) => {
                 self.expected = Some(expected);
                 Err(CheckFault::Illegal)
             }
-            Err(Memory) => Err(CheckFault::Memory),
         }
     }
 
@@ -138,7 +150,7 @@ impl Replay {
         ensures { IfOk result (λ replay. HasMade rules processes replay []) }
     {
         let manager = Manager::new(alloc, processes, rules)?;
-        let taken = vec![in alloc; 0; usize::from(processes)].map_err(|_| Memory)?;
+        let taken = vec![in alloc; 0; usize::from(processes)]?;
         Ok(Replay { manager, taken })
     }
 

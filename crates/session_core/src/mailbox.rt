@@ -4,6 +4,7 @@ ghost use Rattle.session_core.specs.declared.TheConstants.{N_MAX};
 
 use crate::{ArriveFault, N_MAX};
 use lock_manager::Request;
+use range_core::Memory;
 use std::alloc::Global;
 use std::collections::VecDeque;
 
@@ -62,9 +63,7 @@ impl Mailbox {
         if sent == N_MAX {
             return Err(ArriveFault::Full);
         }
-        self.waiting
-            .push_back(request)
-            .map_err(|_| ArriveFault::Memory)?;
+        self.waiting.push_back(request).map_err(Memory::from)?;
         Ok(sent + 1)
     }
 

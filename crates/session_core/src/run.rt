@@ -12,14 +12,27 @@ use crate::{ArriveFault, N_MAX, Session};
 use lock_manager::{Request, Rules};
 use range_core::Memory;
 use std::alloc::Global;
+use thiserror::Error;
 
 /// Why a list of arrivals can't be run.
-#[derive(Clone, Copy, Debug, PartialEq, Eq)]
+#[derive(Clone, Copy, Debug, PartialEq, Eq, Error)]
 pub enum RunAllFault {
     /// Some process sends more than [`N_MAX`] requests.
-    Full = 1,
+    #[error("a process sends more requests than it may")]
+    Full,
     /// A growth was refused.
-    Memory = 2,
+    #[error(transparent)]
+    Memory(Memory),
+}
+
+impl From<Memory> for RunAllFault {
+    ghost use Rattle.session_core.specs.declared.run.RunAllFault.{RunAllFault};
+
+    ghost from_gives = { λ memory fault. fault ≡ RunAllFault.Memory memory };
+
+    fn from(memory: Memory) -> RunAllFault {
+        RunAllFault::Memory(memory)
+    }
 }
 
 /// Runs the arrivals in turn: after each, all that can be taken is taken. There are `processes` processes, numbered from 1,
@@ -42,7 +55,7 @@ pub fn run_all(
     ensures holds { IfOk result (λ session. SessionHolds session) }
     ensures full { result ≡ Err RunAllFault.Full → (p : ℕ) × (N_MAX < length (requests_sent p arrivals.now)) }
 {
-    let mut session = Session::new(alloc, processes, rules).map_err(|_| RunAllFault::Memory)?;
+    let mut session = Session::new(alloc, processes, rules)?;
     for (p, request) in arrivals {
         deliver(&mut session, *p, *request)?;
     }
@@ -56,9 +69,9 @@ fn deliver(session: &mut Session, p: u8, request: Request) -> Result<(), RunAllF
     ensures full { result ≡ Err RunAllFault.Full → length (sent_of session.old p) ≡ N_MAX }
 {
     match session.arrive(p, request) {
-        Ok(_) => drain(session).map_err(|_| RunAllFault::Memory),
+        Ok(_) => Ok(drain(session)?),
         Err(ArriveFault::Full) => Err(RunAllFault::Full),
-        Err(ArriveFault::Memory) => Err(RunAllFault::Memory),
+        Err(ArriveFault::Memory(memory)) => Err(RunAllFault::Memory(memory)),
     }
 }
 

@@ -17,14 +17,27 @@ use lock_manager::{Manager, ProcState, Reply, Request, Rules};
 use range_core::Memory;
 use std::alloc::Global;
 use std::cmp::Ordering;
+use thiserror::Error;
 
 /// Why a request can't arrive.
-#[derive(Clone, Copy, Debug, PartialEq, Eq)]
+#[derive(Clone, Copy, Debug, PartialEq, Eq, Error)]
 pub enum ArriveFault {
     /// The process has sent [`N_MAX`] requests.
-    Full = 1,
+    #[error("the process has sent as many requests as it may")]
+    Full,
     /// A growth was refused.
-    Memory = 2,
+    #[error(transparent)]
+    Memory(Memory),
+}
+
+impl From<Memory> for ArriveFault {
+    ghost use Rattle.session_core.specs.declared.session.ArriveFault.{ArriveFault};
+
+    ghost from_gives = { λ memory fault. fault ≡ ArriveFault.Memory memory };
+
+    fn from(memory: Memory) -> ArriveFault {
+        ArriveFault::Memory(memory)
+    }
 }
 
 /// A lock manager with the mail of its processes, and the journal of what was taken (this project's choice). Neither is ever cut,
@@ -107,8 +120,12 @@ impl Session {
         ensures memory { OnErr result (SameSession self.old self.new) }
         ensures holds { SessionHolds self.new }
     {
-        // No mailbox is full that has sent fewer than it may.
-        self.arrive(p, request).map_err(|_| Memory)?;
+        match self.arrive(p, request) {
+            Ok(_) => {}
+            Err(ArriveFault::Memory(memory)) => return Err(memory),
+            // No mailbox is full that has sent fewer than it may.
+            Err(ArriveFault::Full) => unreachable!(),
+        }
         let taken = self.take(p, request);
         if taken.is_err() {
             self.withdraw(p);
@@ -236,7 +253,7 @@ impl Session {
     {
         let n = self.taken(p) + 1;
         // The journal's place is there before the manager takes, so that nothing can fail afterwards.
-        self.journal.reserve(1).map_err(|_| Memory)?;
+        self.journal.reserve(1)?;
         let notes = self.manager.take(p, n, request)?;
         self.answers.tell(&notes);
         let entry = Entry {
@@ -278,7 +295,7 @@ fn empty_mailboxes(alloc: Global, processes: u8) -> Result<Vec<Mailbox>, Memory>
 {
     let mut mailboxes = Vec::new(alloc);
     for _ in 0..processes {
-        mailboxes.push(Mailbox::new(alloc)).map_err(|_| Memory)?;
+        mailboxes.push(Mailbox::new(alloc))?;
     }
     Ok(mailboxes)
 }

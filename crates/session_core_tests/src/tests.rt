@@ -104,7 +104,7 @@ fn assert_told(rt: &impl Abort, session: &Session, place: usize, notes: &[Note])
 fn two_processes(alloc: Global) -> Result<Session, Memory> {
     match Session::new(alloc, 2, RULES) {
         Ok(session) => Ok(session),
-        Err(Memory) => Session::new(alloc, 2, RULES),
+        Err(_) => Session::new(alloc, 2, RULES),
     }
 }
 
@@ -115,7 +115,7 @@ fn three_processes(alloc: Global) -> Result<Session, Memory> {
 fn three_under(alloc: Global, rules: Rules) -> Result<Session, Memory> {
     match Session::new(alloc, 3, rules) {
         Ok(session) => Ok(session),
-        Err(Memory) => Session::new(alloc, 3, rules),
+        Err(_) => Session::new(alloc, 3, rules),
     }
 }
 
@@ -134,7 +134,7 @@ fn reader_behind_a_writer(
         (2, wait(Kind::Write, 0, 10)),
         (3, wait(Kind::Read, 0, 10)),
     ];
-    let mut session = three_under(alloc, rules).map_err(|_| ArriveFault::Memory)?;
+    let mut session = three_under(alloc, rules)?;
     deliver(rt, &mut session, &arrivals)?;
     assert_told(rt, &session, 5, &[Note::Waits { p: 2, n: 1 }]);
     Ok(session)
@@ -143,14 +143,14 @@ fn reader_behind_a_writer(
 fn all_held(session: &Session) -> Result<Vec<Held>, Memory> {
     match session.manager().held() {
         Ok(report) => Ok(report),
-        Err(Memory) => session.manager().held(),
+        Err(_) => session.manager().held(),
     }
 }
 
 fn all_waits(session: &Session) -> Result<Vec<Wait>, Memory> {
     match session.manager().waits() {
         Ok(report) => Ok(report),
-        Err(Memory) => session.manager().waits(),
+        Err(_) => session.manager().waits(),
     }
 }
 
@@ -228,13 +228,13 @@ fn arrive(
     p: u8,
     request: Request,
 ) -> Result<u64, ArriveFault> {
-    let before = standing_of(session).map_err(|_| ArriveFault::Memory)?;
+    let before = standing_of(session)?;
     assert!(rt; 1 <= p && p <= session.manager().processes());
     let first = session.arrive(p, request);
-    if first != Err(ArriveFault::Memory) {
+    if !matches!(first, Err(ArriveFault::Memory(_))) {
         return first;
     }
-    assert_stands(rt, session, &before).map_err(|_| ArriveFault::Memory)?;
+    assert_stands(rt, session, &before)?;
     assert!(rt; 1 <= p && p <= session.manager().processes());
     session.arrive(p, request)
 }
@@ -244,7 +244,7 @@ fn take_next(rt: &impl Abort, session: &mut Session) -> Result<Option<u64>, Memo
     let before = standing_of(session)?;
     match session.take_next() {
         Ok(place) => Ok(place),
-        Err(Memory) => {
+        Err(_) => {
             assert_stands(rt, session, &before)?;
             session.take_next()
         }
@@ -262,7 +262,7 @@ fn take_one(
     assert!(rt; session.sent(p) == session.taken(p) && session.sent(p) < N_MAX);
     let before = standing_of(session)?;
     match session.take_one(p, request) {
-        Err(Memory) => {
+        Err(_) => {
             assert_stands(rt, session, &before)?;
             assert!(rt; 1 <= p && p <= session.manager().processes() && session.manager().able(p));
             assert!(rt; session.sent(p) == session.taken(p) && session.sent(p) < N_MAX);
@@ -276,7 +276,7 @@ fn run(alloc: Global, arrivals: &[(u8, Request)]) -> Result<Session, RunAllFault
     requires { All (λ arrival. (1 ≤ arrival.0) × (arrival.0 ≤ 2)) arrivals.now }
 {
     match run_all(alloc, 2, RULES, arrivals) {
-        Err(RunAllFault::Memory) => run_all(alloc, 2, RULES, arrivals),
+        Err(RunAllFault::Memory(_)) => run_all(alloc, 2, RULES, arrivals),
         first => first,
     }
 }
@@ -299,7 +299,7 @@ fn deliver(
 ) -> Result<(), ArriveFault> {
     for (p, request) in arrivals {
         arrive(rt, session, *p, *request)?;
-        take_all(rt, session, arrivals.len()).map_err(|_| ArriveFault::Memory)?;
+        take_all(rt, session, arrivals.len())?;
     }
     Ok(())
 }

@@ -32,9 +32,7 @@ impl Pairs {
     pub fn new(alloc: Global) -> Result<Pairs, Memory>
         ensures { IfOk result (λ pairs. (p q : ℕ) → ¬ IsTrue (pair_in pairs p q)) }
     {
-        let Ok(rows) = Vec::from_elem(alloc, ProcessSet::empty(), ROWS) else {
-            return Err(Memory);
-        };
+        let rows = Vec::from_elem(alloc, ProcessSet::empty(), ROWS)?;
         Ok(Pairs { rows })
     }
 

@@ -53,9 +53,7 @@ impl Waits {
         ensures told { IfOk result (λ waits. (locks : Locks) → AreTold waits locks) }
         ensures blocked { IfOk result (λ waits. (locks : Locks) → AreBlockedElsewhere waits locks) }
     {
-        let Ok(waits) = Vec::with_capacity(alloc, usize::from(processes)) else {
-            return Err(Memory);
-        };
+        let waits = Vec::with_capacity(alloc, usize::from(processes))?;
         Ok(Waits {
             waits,
             pairs: Pairs::new(alloc)?,

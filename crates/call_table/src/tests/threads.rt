@@ -235,11 +235,9 @@ fn serve_while_a_client_acts<R: Threads + Wait + Abort + Sync>(
     mut server: Server,
     flags: &Flags,
     act: Act,
-) -> Result<(Served, Option<Came>), Memory> {
+) -> Result<(Served, Option<Came>), Fail> {
     thread::scope(thread::scope_env(), rt, |scope| {
-        let Ok(acting) = scope.spawn(move || act_between(first, flags, act)) else {
-            return Err(Memory);
-        };
+        let acting = scope.spawn(move || act_between(first, flags, act))?;
         let served = server.serve(&Waiting { flags });
         flags.served.store(true, Ordering::SeqCst);
         let came = acting.join(rt);
@@ -253,7 +251,7 @@ fn act_at_the_gate<R: Threads + Wait + Abort + Sync>(
     acting: Caller,
     server: Server,
     act: Act,
-) -> Result<Option<Came>, Memory> {
+) -> Result<Option<Came>, Fail> {
     let flags = Flags::new();
     let (served, came) = serve_while_a_client_acts(rt, acting, server, &flags, act)?;
     assert_eq!(rt; served, Served::Took(4));
@@ -318,15 +316,11 @@ fn unlock_for_who_waits<R: Threads + Wait + Abort + Sync>(
 ) -> Result<Option<Answer>, Fail> {
     thread::scope(thread::scope_env(), rt, |scope| {
         let wait = lock(LkCmd::SetLkW, Kind::Write, 0);
-        let Ok(waiting) = scope.spawn(move || ask(second, wait)) else {
-            return Err(Fail::from(Memory));
-        };
+        let waiting = scope.spawn(move || ask(second, wait))?;
         assert_eq!(rt; server.serve_soon()?, Served::Took(4));
         assert_eq!(rt; server.state_of(2), ProcState::Waiting);
         let unlock = lock(LkCmd::SetLk, Kind::Unlock, 0);
-        let Ok(unlocking) = scope.spawn(move || first.post(unlock)) else {
-            return Err(Fail::from(Memory));
-        };
+        let unlocking = scope.spawn(move || first.post(unlock))?;
         assert_eq!(rt; server.serve_soon()?, Served::Took(5));
         assert_eq!(rt; unlocking.join(rt), Ok(4));
         Ok(waiting.join(rt)?)
@@ -359,10 +353,8 @@ fn the_desk_takes_what_a_thread_posts(rt: HostRuntime) -> Result<(), Fail> {
     let (hub, first, second, desk) = table_of_two(&rt, rt.alloc(), 2)?;
     let (first, _second, mut server) = with_hub(&hub, first, second, desk);
     let handle = &rt;
-    let posted = thread::scope(thread::scope_env(), &rt, |scope| {
-        let Ok(posting) = scope.spawn(move || post_both(first)) else {
-            return Err(Fail::from(Memory));
-        };
+    let posted = thread::scope(thread::scope_env(), &rt, |scope| -> Result<_, Fail> {
+        let posting = scope.spawn(move || post_both(first))?;
         assert_eq!(handle; server.serve_soon()?, Served::Took(1));
         assert_eq!(handle; server.serve_soon()?, Served::Took(2));
         let session = server.desk.session();
@@ -390,7 +382,7 @@ fn converse(
         }
         let closed = caller.closed();
         if let Some(answer) = caller.collect() {
-            answers.push(answer).map_err(|_| Memory)?;
+            answers.push(answer)?;
         } else if closed {
             return Ok(Some(answers));
         } else {
@@ -443,17 +435,11 @@ fn run_both<R: Threads + Wait + Abort + Sync>(
     second: Caller,
     server: &mut Server,
 ) -> Result<(Option<Vec<Answer>>, Option<Vec<Answer>>), Fail> {
-    let to_first = Vec::with_capacity(alloc, 4).map_err(|_| Memory)?;
-    let to_second = Vec::with_capacity(alloc, 3).map_err(|_| Memory)?;
+    let to_first = Vec::with_capacity(alloc, 4)?;
+    let to_second = Vec::with_capacity(alloc, 3)?;
     thread::scope(thread::scope_env(), rt, |scope| {
-        let one = move || converse(first, &requests_of_first(), to_first);
-        let Ok(one) = scope.spawn(one) else {
-            return Err(Fail::from(Memory));
-        };
-        let two = move || converse(second, &requests_of_second(), to_second);
-        let Ok(two) = scope.spawn(two) else {
-            return Err(Fail::from(Memory));
-        };
+        let one = scope.spawn(move || converse(first, &requests_of_first(), to_first))?;
+        let two = scope.spawn(move || converse(second, &requests_of_second(), to_second))?;
         let served = serve_all(server, [4, 3]);
         let both = (one.join(rt), two.join(rt));
         assert!(rt; served?);
@@ -485,7 +471,7 @@ fn look_at_answers(rt: &impl Abort, session: &Session, process: u8, answers: Opt
 fn is_run(alloc: Global, session: &Session) -> Result<bool, Memory> {
     let journal = session.journal();
     match check_journal(alloc, 2, RULES, journal) {
-        Err(Memory) => check_journal(alloc, 2, RULES, journal),
+        Err(_) => check_journal(alloc, 2, RULES, journal),
         first => first,
     }
 }

@@ -36,7 +36,7 @@ impl Book {
                 }
                 let mut added = RangeList::new(self.alloc);
                 added.set(span, mode)?;
-                self.owners.insert(owner, added).map_err(|_| Memory)?;
+                self.owners.insert(owner, added)?;
                 Ok(())
             }
         }
@@ -61,7 +61,7 @@ impl Book {
                 }
                 let mut list = RangeList::new(self.alloc);
                 list.reserve(sets)?;
-                self.owners.insert(owner, list).map_err(|_| Memory)?;
+                self.owners.insert(owner, list)?;
                 Ok(())
             }
         }

@@ -120,9 +120,7 @@ impl FlockHolders {
         ensures absent { OnErr result (place_among self.old.places.entries description ≡ None) }
         ensures err { OnErr result (self.new.places.entries ≡ self.old.places.entries) }
     {
-        let Ok(old) = self.places.insert(description, mode) else {
-            return Err(Memory);
-        };
+        let old = self.places.insert(description, mode)?;
         // A count is at most the number of places.
         prove!(self.places.len() < usize::MAX);
         self.locks = self.locks.without(old.flatten()).with(mode);

@@ -18,9 +18,7 @@ impl Book {
         ensures ranges { IfOk result (λ report. All (λ line. IsByteRange line.span) report.items) }
     {
         let mut report = self.held_bytes(file)?;
-        report
-            .append(&mut self.held_flocks(file)?)
-            .map_err(|_| Memory)?;
+        report.append(&mut self.held_flocks(file)?)?;
         Ok(report)
     }
 
@@ -43,9 +41,7 @@ impl Book {
         let mut locks = Vec::new(self.alloc);
         for (description, place) in self.flocks.places() {
             let Some(mode) = *place else { continue };
-            locks
-                .push(flock_line(file, *description, mode))
-                .map_err(|_| Memory)?;
+            locks.push(flock_line(file, *description, mode))?;
         }
         Ok(locks)
     }
@@ -72,15 +68,13 @@ fn push_runs(locks: &mut Vec<Held>, file: u8, owner: Owner, list: &RangeList) ->
     ensures { OnOk result (AddsOwnerLocks file owner (modes_of list.now) locks.old.items locks.new.items) }
 {
     for (mode, span) in list.runs() {
-        locks
-            .push(Held {
-                file,
-                whole: false,
-                owner,
-                mode: *mode,
-                span: *span,
-            })
-            .map_err(|_| Memory)?;
+        locks.push(Held {
+            file,
+            whole: false,
+            owner,
+            mode: *mode,
+            span: *span,
+        })?;
     }
     Ok(())
 }

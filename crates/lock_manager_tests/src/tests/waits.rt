@@ -89,7 +89,7 @@ fn wait(p: u8, n: u64, owner: Owner, byte: u64) -> Wait {
 pub fn events_in_turn(rt: &impl Abort, alloc: Global, events: &[Event]) -> Result<Manager, Fail> {
     let mut manager = match Manager::new(alloc, 16, RULES) {
         Ok(manager) => manager,
-        Err(Memory) => Manager::new(alloc, 16, RULES)?,
+        Err(_) => Manager::new(alloc, 16, RULES)?,
     };
     for &(p, n, request, wanted) in events {
         let notes = answer(rt, &mut manager, p, n, request)?;

@@ -18,7 +18,8 @@ impl ChangeList {
     }
 
     pub fn set(&mut self, span: Span, mode: Option<Mode>) -> Result<(), Memory> {
-        self.changes.push((span, mode)).map_err(|_| Memory)
+        self.changes.push((span, mode))?;
+        Ok(())
     }
 
     /// The mode of the last change that covers the byte.

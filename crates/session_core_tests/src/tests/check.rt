@@ -14,7 +14,7 @@ fn unlock() -> Request {
 }
 
 fn entry(alloc: Global, p: u8, n: u64, request: Request, notes: &[Note]) -> Result<Entry, Memory> {
-    let notes = Notes::of(Vec::from_slice(alloc, notes).map_err(|_| Memory)?);
+    let notes = Notes::of(Vec::from_slice(alloc, notes)?);
     Ok(Entry {
         p,
         n,
@@ -64,7 +64,7 @@ fn is_run(alloc: Global, processes: u8, entries: &[Entry]) -> Result<bool, Memor
     requires { (1 ≤ processes) × (processes ≤ 16) }
 {
     match check_journal(alloc, processes, RULES, entries) {
-        Err(Memory) => check_journal(alloc, processes, RULES, entries),
+        Err(_) => check_journal(alloc, processes, RULES, entries),
         first => first,
     }
 }
@@ -169,7 +169,7 @@ fn checker_of(alloc: Global, processes: u8) -> Result<JournalChecker, Memory>
     requires { (1 ≤ processes) × (processes ≤ 16) }
 {
     match JournalChecker::new(alloc, processes, RULES) {
-        Err(Memory) => JournalChecker::new(alloc, processes, RULES),
+        Err(_) => JournalChecker::new(alloc, processes, RULES),
         first => first,
     }
 }
@@ -178,15 +178,14 @@ fn checker_of(alloc: Global, processes: u8) -> Result<JournalChecker, Memory>
 fn accepted(checker: &mut JournalChecker, entries: &[Entry]) -> Result<usize, Memory> {
     for (place, entry) in entries.iter().enumerate() {
         let first = checker.next(entry);
-        let answer = if first == Err(CheckFault::Memory) {
-            checker.next(entry)
-        } else {
-            first
+        let answer = match first {
+            Err(CheckFault::Memory(_)) => checker.next(entry),
+            first => first,
         };
         match answer {
             Ok(()) => {}
             Err(CheckFault::Illegal) => return Ok(place),
-            Err(CheckFault::Memory) => return Err(Memory),
+            Err(CheckFault::Memory(memory)) => return Err(memory),
         }
     }
     Ok(entries.len())

@@ -1,5 +1,4 @@
 use Rattle.std.proofs.Common.{◌∙◌, ap, subst, ℕ, List, length}
-use Rattle.std.proofs.lemmas.Result.{IfOk-weaker}
 use Rattle.lock_manager.specs.State.{State}
 use Rattle.lock_manager.specs.ManagerView.{StandsFor}
 use Rattle.lock_manager.specs.declared.request.Request.{Request}
@@ -19,8 +18,8 @@ returns-clause-output g c =
     let counts : AreCounts sent.items (λ p. length (requests_sent p script.arrivals)) =
     subst (λ (arrivals : List (ℕ × Request)). AreCounts sent.items (λ p. length (requests_sent p arrivals)))
     (c.deref.ensures.value ∙ ap (λ (m : Meaning). m.arrivals) c.script.view_is) c.in_ok-sent.ensures.counts in
-    IfOk-weaker c.text_of.result _ _
-    (λ text told. tells c.args.bytes.now text.items script report sent.items c.in_ok-script.ensures.accepted c.in_ok-report.ensures.ok counts
+    let text = c.in_ok-text_of.field-0 in
+    let told = c.in_ok-text_of.ensures.text in
+    tells c.args.bytes.now text.items script report sent.items c.in_ok-script.ensures.accepted c.in_ok-report.ensures.ok counts
     (subst (λ (l : List ℕ). (count : ℕ → ℕ) → AreCounts l count → (S : State) → StandsFor (manager_of report.session) S
-    → IsTextOf report.session count S text.items) c.deref-2.ensures.value told))
-    c.text_of.ensures.text
+    → IsTextOf report.session count S text.items) c.deref-2.ensures.value told)

@@ -16,16 +16,16 @@ pub add_users-requires : goal.add_users-requires
 unfolding view_of
 add_users-requires c = λ key entry is.
     let t = c.args.self.now in
-    let row : c.in-Ok.row ≡ row_at t.rows.items c.args.p = row_read t.rows.items c.from.result c.args.p c.in-Ok.row c.index.result.now c.from.ensures (row_of_alive t.rows.items c.args.p c.requires) c.index.ensures c.in-Ok.ensures in
+    let row : c.in_ok-row.row ≡ row_at t.rows.items c.args.p = row_read t.rows.items c.from.result c.args.p c.in_ok-row.row c.index.result.now c.from.ensures (row_of_alive t.rows.items c.args.p c.requires) c.index.ensures c.in_ok-row.ensures in
     omega (arith, few_users t.processes t.limits t.rows.items t.opened t.made key entry t.rowed t.entered is, ap length row, row-short t.processes t.limits t.rows.items t.rowed c.args.p)
 
 pub invariant_of-self-clause-rowed : goal.invariant_of-self-clause-rowed
 unfolding view_of
 invariant_of-self-clause-rowed c =
     let t = c.args.self.now in
-    let row : c.in-Ok.row ≡ row_at t.rows.items c.args.p = row_read t.rows.items c.from.result c.args.p c.in-Ok.row c.index.result.now c.from.ensures (row_of_alive t.rows.items c.args.p c.requires) c.index.ensures c.in-Ok.ensures in
-    let after : set t.rows.items c.from-2.result c.in-Ok.row ≡ set t.rows.items c.args.child (row_at t.rows.items c.args.p) =
-    ap (λ place. set t.rows.items place c.in-Ok.row) c.from-2.ensures ∙ ap (set t.rows.items c.args.child) row in
+    let row : c.in_ok-row.row ≡ row_at t.rows.items c.args.p = row_read t.rows.items c.from.result c.args.p c.in_ok-row.row c.index.result.now c.from.ensures (row_of_alive t.rows.items c.args.p c.requires) c.index.ensures c.in_ok-row.ensures in
+    let after : set t.rows.items c.from-2.result c.in_ok-row.row ≡ set t.rows.items c.args.child (row_at t.rows.items c.args.p) =
+    ap (λ place. set t.rows.items place c.in_ok-row.row) c.from-2.ensures ∙ ap (set t.rows.items c.args.child) row in
     subst (λ (rows : List Keys). AreRows t.processes t.limits rows) (sym after)
     (AreRows-forked t.processes t.limits t.rows.items c.args.p c.args.child (omega (arith, t.rowed.count)) (omega arith) c.requires t.rowed)
 
@@ -34,9 +34,9 @@ unfolding view_of
 invariant_of-self-clause-entered c =
     let t = c.args.self.now in
     let unborn : has_row t.rows.items c.args.child ≡ false = sym c.born.ensures ∙ c.if-born.false in
-    let row : c.in-Ok.row ≡ row_at t.rows.items c.args.p = row_read t.rows.items c.from.result c.args.p c.in-Ok.row c.index.result.now c.from.ensures (row_of_alive t.rows.items c.args.p c.requires) c.index.ensures c.in-Ok.ensures in
-    let after : set t.rows.items c.from-2.result c.in-Ok.row ≡ set t.rows.items c.args.child (row_at t.rows.items c.args.p) =
-    ap (λ place. set t.rows.items place c.in-Ok.row) c.from-2.ensures ∙ ap (set t.rows.items c.args.child) row in
+    let row : c.in_ok-row.row ≡ row_at t.rows.items c.args.p = row_read t.rows.items c.from.result c.args.p c.in_ok-row.row c.index.result.now c.from.ensures (row_of_alive t.rows.items c.args.p c.requires) c.index.ensures c.in_ok-row.ensures in
+    let after : set t.rows.items c.from-2.result c.in_ok-row.row ≡ set t.rows.items c.args.child (row_at t.rows.items c.args.p) =
+    ap (λ place. set t.rows.items place c.in_ok-row.row) c.from-2.ensures ∙ ap (set t.rows.items c.args.child) row in
     subst (λ (rows : List Keys). AreEntries rows c.add_users.new.opened t.made) (sym after)
     (entries_forked t.rows.items t.opened c.add_users.new.opened t.made c.args.p c.args.child (omega (arith, t.rowed.count)) (row_of_unborn t.rows.items c.args.child unborn)
     (subst (λ (keys : Keys). AreCounted t.opened c.add_users.new.opened keys) row c.add_users.ensures) t.entered)
@@ -46,9 +46,9 @@ unfolding view_of processes_of
 returns-clause-step c = λ n D h.
     let t = c.args.self.now in
     let unborn : has_row t.rows.items c.args.child ≡ false = sym c.born.ensures ∙ c.if-born.false in
-    let row : c.in-Ok.row ≡ row_at t.rows.items c.args.p = row_read t.rows.items c.from.result c.args.p c.in-Ok.row c.index.result.now c.from.ensures (row_of_alive t.rows.items c.args.p c.requires) c.index.ensures c.in-Ok.ensures in
-    let after : set t.rows.items c.from-2.result c.in-Ok.row ≡ set t.rows.items c.args.child (row_at t.rows.items c.args.p) =
-    ap (λ place. set t.rows.items place c.in-Ok.row) c.from-2.ensures ∙ ap (set t.rows.items c.args.child) row in
+    let row : c.in_ok-row.row ≡ row_at t.rows.items c.args.p = row_read t.rows.items c.from.result c.args.p c.in_ok-row.row c.index.result.now c.from.ensures (row_of_alive t.rows.items c.args.p c.requires) c.index.ensures c.in_ok-row.ensures in
+    let after : set t.rows.items c.from-2.result c.in_ok-row.row ≡ set t.rows.items c.args.child (row_at t.rows.items c.args.p) =
+    ap (λ place. set t.rows.items place c.in_ok-row.row) c.from-2.ensures ∙ ap (set t.rows.items c.args.child) row in
     let inside : c.args.child < length t.rows.items = omega (arith, t.rowed.count) in (
       with_child D c.args.p c.args.child,
       ((omega arith, omega arith, h.ever_alive c.args.child ∙ unborn), same (with_child D c.args.p c.args.child)),

@@ -6,8 +6,8 @@ use Rattle.fd_table.proofs.tables.Tables.new.Goals as goal
 
 pub invariant_of-result : goal.invariant_of-result
 invariant_of-result c =
-    let made : AreOpeningRows c.in-Ok.rows.items c.args.processes c.descriptors.result = record { count = c.in-Ok.ensures.count; each = c.in-Ok.ensures.rows } in
-    let rows : AreOpeningRows c.in-Ok.rows.items c.args.processes (descriptor_limit c.args.limits) = rw c.descriptors.ensures at made in
+    let made : AreOpeningRows c.in_ok-rows.rows.items c.args.processes c.descriptors.result = record { count = c.in_ok-rows.ensures.count; each = c.in_ok-rows.ensures.rows } in
+    let rows : AreOpeningRows c.in_ok-rows.rows.items c.args.processes (descriptor_limit c.args.limits) = rw c.descriptors.ensures at made in
     record {
       rowed = opening_are_rows _ _ _ (omega arith) c.requires.0 rows;
       entered = opening_are_entries _ _ (opening_keys _ _ _ c.requires.0 rows) c.new.ensures.empty;
@@ -18,7 +18,7 @@ invariant_of-result c =
 pub returns-clause-opening : goal.returns-clause-opening
 unfolding view_of
 returns-clause-opening c =
-    let made : AreOpeningRows c.in-Ok.rows.items c.args.processes c.descriptors.result = record { count = c.in-Ok.ensures.count; each = c.in-Ok.ensures.rows } in
-    let rows : AreOpeningRows c.in-Ok.rows.items c.args.processes (descriptor_limit c.args.limits) = rw c.descriptors.ensures at made in
+    let made : AreOpeningRows c.in_ok-rows.rows.items c.args.processes c.descriptors.result = record { count = c.in_ok-rows.ensures.count; each = c.in_ok-rows.ensures.rows } in
+    let rows : AreOpeningRows c.in_ok-rows.rows.items c.args.processes (descriptor_limit c.args.limits) = rw c.descriptors.ensures at made in
     opening_stands _ c.new.result _ _ refl (opening_keys _ _ _ c.requires.0 rows) (opening_born _ _ c.args.limits c.requires.0 rows)
     (λ file. opening_size _ file c.empty_files.ensures)

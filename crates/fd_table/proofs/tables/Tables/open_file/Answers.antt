@@ -24,15 +24,15 @@ returns-in_default-clause-step c = λ n D h.
 pub invariant_of-self-2-clause-rowed : goal.invariant_of-self-2-clause-rowed
 invariant_of-self-2-clause-rowed c =
     let t = c.args.self.now in
-    rw c.set_key.ensures (AreRows-with_key t.processes t.limits t.rows.items c.args.p c.in-Some.fd (Some c.in-Ok.key) t.rowed)
+    rw c.set_key.ensures (AreRows-with_key t.processes t.limits t.rows.items c.args.p c.in-Some.fd (Some c.in_ok-key.key) t.rowed)
 
 pub invariant_of-self-2-clause-entered : goal.invariant_of-self-2-clause-entered
 invariant_of-self-2-clause-entered c =
     let t = c.args.self.now in
     let least = c.in-Some.ensures.some in
     rw c.set_key.ensures
-    (entries_opened t.rows.items t.opened c.insert.new.self t.made c.args.p c.in-Some.fd c.in-Ok.key c.args.file c.args.access t.entered
-    (row_inside t.rows.items c.args.p c.in-Some.fd least.within) least.within least.closed (omega arith) c.in-Ok.ensures.was_vacant c.in-Ok.ensures.updates)
+    (entries_opened t.rows.items t.opened c.insert.new.self t.made c.args.p c.in-Some.fd c.in_ok-key.key c.args.file c.args.access t.entered
+    (row_inside t.rows.items c.args.p c.in-Some.fd least.within) least.within least.closed (omega arith) c.in_ok-key.ensures.was_vacant c.in_ok-key.ensures.updates)
 
 pub returns-clause-step : goal.returns-clause-step
 unfolding view_of limits_of
@@ -48,14 +48,14 @@ returns-clause-step c = λ n D h.
       ),
       opened_new (view_of t) _ D c.args.p c.in-Some.fd c.args.file c.args.access
           (λ q k. rw c.set_key.ensures
-          (seen_opened t.rows.items t.opened c.insert.new.self t.made c.args.p c.in-Some.fd c.in-Ok.key (new_entry (t.made + 1) c.args.file c.args.access) t.entered
-          least.within c.in-Ok.ensures.was_vacant c.in-Ok.ensures.updates q k))
-          refl (λ x. refl) (λ q. rw c.set_key.ensures (has_row-with_key t.rows.items c.args.p c.in-Some.fd (Some c.in-Ok.key) q)) h,
+          (seen_opened t.rows.items t.opened c.insert.new.self t.made c.args.p c.in-Some.fd c.in_ok-key.key (new_entry (t.made + 1) c.args.file c.args.access) t.entered
+          least.within c.in_ok-key.ensures.was_vacant c.in_ok-key.ensures.updates q k))
+          refl (λ x. refl) (λ q. rw c.set_key.ensures (has_row-with_key t.rows.items c.args.p c.in-Some.fd (Some c.in_ok-key.key) q)) h,
     )
 
-pub returns-in_default-insert-clause-memory : goal.returns-in_default-insert-clause-memory
+pub returns-in_err-key-clause-memory : goal.returns-in_err-key-clause-memory
 unfolding view_of limits_of
-returns-in_default-insert-clause-memory c = λ n D h.
+returns-in_err-key-clause-memory c = λ n D h.
     let t = c.args.self.now in
     let least = c.in-Some.ensures.some in (
       (
@@ -64,6 +64,6 @@ returns-in_default-insert-clause-memory c = λ n D h.
         c.in-Some.fd,
         lowest_free t.processes t.limits t.rows.items t.opened t.made c.args.p c.in-Some.fd (view_of t) D t.rowed t.entered (λ q k. refl) h least,
       ),
-      stands_for_view (view_of t) _ D (λ q k. ap (λ (s : Slab Opened). seen_in t.rows.items s q k) c.in_default-insert.ensures.err)
+      stands_for_view (view_of t) _ D (λ q k. ap (λ (s : Slab Opened). seen_in t.rows.items s q k) c.in_err-key.ensures.err)
           (record { made = refl; sizes = λ file. refl; born = λ q. refl }) h,
     )

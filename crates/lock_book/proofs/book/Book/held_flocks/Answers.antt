@@ -13,11 +13,10 @@ loop-description-preserved c =
     let mode = flock_mode_in_loop c.args.self.now c.places-description-items.result.now c.loop-description.yielded _ _ _ _ (c.in-Some.description, c.in-Some.place)
     c.places-description-items.ensures gives.0 c.loop-description.yielded_by c.in-Some.is c.next.ensures.steps gives.6 in
     let earlier = earlier_flocks c.places-description-items.result.now c.loop-description.yielded _ _ _ _ (c.in-Some.description, c.in-Some.place)
-    gives.0 c.loop-description.yielded_by c.in-Some.is c.next.ensures.steps gives.5 in
-    let items = c.push.ensures.items in (
+    gives.0 c.loop-description.yielded_by c.in-Some.is c.next.ensures.steps gives.5 in (
       tt,
       tt,
-      rw (items, sym c.in_ok-map_err.ensures.variant)
+      rw c.in_ok-push.ensures.items
           (flocks_of_more _ _ c.loop-description.yielded (c.in-Some.description, c.in-Some.place) c.in-Some-place.mode _ c.flock_line.result
           c.loop-description.invariant.2 mode c.in-Some-place.is earlier c.flock_line.ensures),
     )

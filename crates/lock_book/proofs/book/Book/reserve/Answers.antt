@@ -12,8 +12,8 @@ returns-in_err-reserve-in-None-clause-there c there =
     list_of-not_lent _ _ _ c.get_mut.ensures.value c.in-None.is in
     let none = room_in-list _ _ _ was in absurd (omega arith)
 
-pub returns-in_err-map_err-in-None-clause-there : goal.returns-in_err-map_err-in-None-clause-there
-returns-in_err-map_err-in-None-clause-there c there =
+pub returns-in_err-insert-in-None-clause-there : goal.returns-in_err-insert-in-None-clause-there
+returns-in_err-insert-in-None-clause-there c there =
     let was : list_of c.args.self.now c.args.owner ≡ None =
     list_of-not_lent _ _ _ c.get_mut.ensures.value c.in-None.is in
     let none = room_in-list _ _ _ was in absurd (omega arith)
@@ -44,13 +44,13 @@ returns-in-Some-clause-err c =
     (λ same. SameBook-puts book _ c.args.owner _ list (PutsList-puts book _ _ _ refl written.1) written.0 same.modes same.room)
     c.reserve.ensures.err
 
-pub returns-in_ok-map_err-in-None-clause-ok : goal.returns-in_ok-map_err-in-None-clause-ok
-returns-in_ok-map_err-in-None-clause-ok c =
+pub returns-in_ok-insert-in-None-clause-ok : goal.returns-in_ok-insert-in-None-clause-ok
+returns-in_ok-insert-in-None-clause-ok c =
     let book = c.args.self.now in
     SameButRoom-puts book _ c.args.owner None c.reserve-in-None.new.self
     (PutsList-puts book _ _ _ refl
     (PutsAt-adds book _ c.insert.new.self c.args.owner (Some c.reserve-in-None.new.self) c.get_mut.follows.holds-at-none
-    (OnOk-at_ok c.insert.result (sym c.in_ok-map_err-in-None.ensures.variant) c.insert.ensures.updates)))
+    c.in_ok-insert-in-None.ensures.updates))
     (list_of-not_lent _ _ _ c.get_mut.ensures.value c.in-None.is)
     (λ byte. c.reserve-in-None.ensures.modes byte ∙ c.new-list.ensures.modes byte)
 

@@ -87,13 +87,13 @@ invariant_of-self-in-None c =
     c.raise.ensures.raised c.in_ok-set-in-None.ensures.ok) in
     record { in_use = kept.in_use; covered = kept.covered }
 
-pub returns-in_ok-map_err-in-None-clause-ok : goal.returns-in_ok-map_err-in-None-clause-ok
-returns-in_ok-map_err-in-None-clause-ok c =
+pub returns-in_ok-insert-in-None-clause-ok : goal.returns-in_ok-insert-in-None-clause-ok
+returns-in_ok-insert-in-None-clause-ok c =
     let book = c.args.self.now in
     SetsOwnerMode-puts book _ c.args.owner None (Some c.set-in-None.new.self) _ _
     (PutsList-puts book _ _ _ refl
     (PutsAt-adds book _ c.insert.new.self c.args.owner (Some c.set-in-None.new.self) c.get_mut.follows.holds-at-none
-    (OnOk-at_ok c.insert.result (sym c.in_ok-map_err-in-None.ensures.variant) c.insert.ensures.updates)))
+    c.in_ok-insert-in-None.ensures.updates))
     (list_of-not_lent _ _ _ c.get_mut.ensures.value c.in-None.is)
     (λ byte. c.in_ok-set-in-None.ensures.ok byte
     ∙ ap (λ (other : Option Mode). if is_covered c.args.span byte then c.args.mode else other) (c.new-added.ensures.modes byte))

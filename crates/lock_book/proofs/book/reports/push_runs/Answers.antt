@@ -12,7 +12,7 @@ pub loop-mode-preserved : goal.loop-mode-preserved
 loop-mode-preserved c =
     let runs = c.runs-mode-items.result.now in
     pushed c.args.locks.now.items c.loop-mode.locks.items c.push.new.self.items
-    (map (run_line c.args.file c.args.owner) (take c.loop-mode.mode-index runs)) _ _ c.push.ensures.items c.in_ok-map_err.ensures.variant c.loop-mode.invariant
+    (map (run_line c.args.file c.args.owner) (take c.loop-mode.mode-index runs)) _ c.in_ok-push.ensures.items c.loop-mode.invariant
     ∙ ap (λ (l : List Held). c.args.locks.now.items ++ l)
     (sym (map_more (run_line c.args.file c.args.owner) runs c.loop-mode.mode-index _ c.loop-mode-test.true))
 

@@ -92,4 +92,4 @@ pub returns-in-Err-clause-sure : goal.returns-in-Err-clause-sure
 returns-in-Err-clause-sure c =
     let machine = c.args.self.now in
     OnErr-map _ _ c.refusal.result c.refusal.ensures.memory
-    (never_memory (DupsTo machine c.args.p c.args.fd c.args.to) machine.tables c.dup2.new.self (locks_of machine.books.items) (waits_of machine.waits) c.in-Err.fault machine.owned (λ D E gives. gives) c.in-Err.ensures.step)
+    (never_memory (DupsTo machine c.args.p c.args.fd c.args.to) machine.tables c.dup2.new.self (locks_of machine.books.items) (waits_of machine.waits) c.in-Err.fault machine.owned (λ D E memory gives. gives) c.in-Err.ensures.step)

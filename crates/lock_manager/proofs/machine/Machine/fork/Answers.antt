@@ -37,7 +37,7 @@ invariant_of-self-clause-suspended c =
     let place : c.args.child ≡ c.from.result - 1 + 1 = omega (arith, c.in-Ok.ensures.child) in
     let within : c.from.result - 1 < length states = omega (arith, c.in-Ok.ensures.child) in
     let never = never_alive machine.tables (locks_of machine.books.items) (waits_of machine.waits) c.args.child machine.owned
-    (λ D stands. (c.in-Ok.ensures.step (λ e. cc) D stands).1.0.2) in
+    (λ D stands. (c.in-Ok.ensures.step (λ memory e. cc) D stands).1.0.2) in
     suspended_after machine.tables c.fork.new.self states (slice_set states (c.from.result - 1) Live) (waits_of machine.waits)
     (alive_still was is c.args.child c.in-Ok.ensures.alive)
     (λ q born waits. waiting_still states c.args.child (c.from.result - 1) Live place within q
@@ -85,7 +85,7 @@ returns-in-Ok-clause-answers c =
     done_by (Forks machine c.args.p c.args.child) (with_child_alive c.args.child) (λ done. replies.Ok) machine _ c.args.p (Fork c.args.child) tt
     (served_by_fork machine c.args.p c.args.child)
     (λ S E h gives tables. with_tables_and_process machine _ S E c.args.child (c.from.result - 1) Live refl refl place within refl h tables)
-    (c.in-Ok.ensures.step (λ e. cc))
+    (c.in-Ok.ensures.step (λ memory e. cc))
 
 pub returns-in-Err-clause-answers : goal.returns-in-Err-clause-answers
 returns-in-Err-clause-answers c =

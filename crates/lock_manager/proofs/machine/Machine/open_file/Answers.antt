@@ -29,7 +29,7 @@ returns-in-Ok-clause-answers c =
     done_by (Opens c.args.self.now c.args.p c.args.file c.args.access) with_descriptors replies.Fd c.args.self.now _ c.args.p (OpenFile c.args.file c.args.access) c.in-Ok.fd
     (served_by_open c.args.self.now c.args.p c.args.file c.args.access)
     (λ S E h gives tables. with_tables c.args.self.now _ S E refl refl refl h tables)
-    (c.in-Ok.ensures.step (λ e. cc))
+    (c.in-Ok.ensures.step (λ memory e. cc))
 
 pub returns-in-Err-clause-answers : goal.returns-in-Err-clause-answers
 returns-in-Err-clause-answers c =
