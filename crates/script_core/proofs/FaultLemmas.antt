@@ -1,13 +1,19 @@
--- The words of a line are never refused for want of memory.
-use Rattle.std.proofs.Common.{◌≡◌, ℕ, ◌==◌, ◌∙◌, sym, subst, inl, inr, List, [], ◌∷◌, length, Option, Some, None, Result, Ok, Err, IfErr, MatchOption}
+-- The words of a line, and of the pieces of an entry's line, are never refused for want of memory.
+use Rattle.std.proofs.Common.{◌≡◌, ℕ, ◌==◌, ◌∙◌, sym, subst, inl, inr, List, [], ◌∷◌, length, Option, Some, None, Result, Ok, Err, IfErr, MatchOption, MatchResult, codes, ◌⊎◌}
+use Rattle.std.specs.Prelude.{bytes_eq}
 use Rattle.fd_table.specs.declared.Limits.{Limits}
 use Rattle.lock_manager.specs.declared.request.Request.{Request}
+use Rattle.lock_manager.specs.declared.request.Reply.{Reply}
+use Rattle.lock_manager.specs.declared.request.Note.{Note}
+use Rattle.lock_manager.specs.declared.request.Note.TheVariants.{Answer, Waits}
+use Rattle.script_core.specs.declared.entry.Taken.{Taken}
 use Rattle.script_core.specs.declared.line.Line.{Line}
 use Rattle.script_core.specs.declared.line.Line.TheVariants as lines
 use Rattle.script_core.specs.declared.script.Cause.{Cause}
-use Rattle.script_core.specs.declared.script.Cause.TheVariants.{Word, Count, Process, Memory}
-use Rattle.script_core.specs.Arguments.{Argument, FileNumber, DescriptorNumber, AnyNumber, ProcessNumber, AccessWord, KindWord, WhenceWord, OpWord, NbWord, PolicyWord, LimitsWord, cause_of, IsFirstBad, AreRefused, Command, command_named, has_count}
+use Rattle.script_core.specs.declared.script.Cause.TheVariants.{Word, Count, Process, Memory, Tag}
+use Rattle.script_core.specs.Arguments.{Argument, FileNumber, DescriptorNumber, AnyNumber, UnsignedNumber, ProcessNumber, AccessWord, ModeWord, KindWord, WhenceWord, OpWord, NbWord, ErrorWord, PolicyWord, LimitsWord, cause_of, Spells, IsFirstBad, AreRefused, Command, command_named, has_count}
 use Rattle.script_core.specs.Reading.{Reading, limits_of, is_comment, says_policy, says_limits, PolicyGives, LimitsGive, ArgumentsGive, CommandGives, RequestGives, ArrivalGives, ProcessGives, WordsGive, IsOfScript}
+use Rattle.script_core.specs.EntryReading.{TagGives, RequestIsTaken, TakenGives, reply_named, ReplyWordsGive, WaitGives, ToldGives, NoteGives}
 use Rattle.script_core.proofs.HeaderLemmas.{MatchBool-join}
 
 -- not refused for want of memory
@@ -22,12 +28,15 @@ of_argument : (argument : Argument) → IsOfScript (cause_of argument)
 of_argument FileNumber memory e = cc
 of_argument DescriptorNumber memory e = cc
 of_argument AnyNumber memory e = cc
+of_argument UnsignedNumber memory e = cc
 of_argument (ProcessNumber limits) memory e = cc
 of_argument AccessWord memory e = cc
+of_argument ModeWord memory e = cc
 of_argument KindWord memory e = cc
 of_argument WhenceWord memory e = cc
 of_argument OpWord memory e = cc
 of_argument NbWord memory e = cc
+of_argument ErrorWord memory e = cc
 of_argument PolicyWord memory e = cc
 of_argument LimitsWord memory e = cc
 
@@ -96,3 +105,76 @@ pub never_memory : (reading : Reading) (words : List (List ℕ)) (result : Resul
 unfolding IsSaid
 never_memory reading words (Ok said) gives = tt
 never_memory reading words (Err cause) gives = of_words reading words (Err cause) gives
+
+of_tag : (limits : Limits) (word : List ℕ) (cause : Cause) → TagGives limits word (Err cause) → IsOfScript cause
+of_tag limits word cause gives memory e = absurd (let other : Tag ≡ Memory memory = sym gives.1 ∙ e in cc)
+
+of_request_taken : (p n : ℕ) (next : Result Request Cause) (result : Result Taken Cause) → IsSaid next → RequestIsTaken p n next result → IsSaid result
+unfolding IsSaid
+of_request_taken p n (Ok request) result said is = said_by (Ok (record { p = p; n = n; request = request })) result tt is
+of_request_taken p n (Err cause) result said is = said_by (Err cause) result said is
+
+of_tagged : (limits : Limits) (word : List ℕ) (rest : List (List ℕ)) (tagged : Result (ℕ × ℕ) Cause) (result : Result Taken Cause) → TagGives limits word tagged
+    → MatchResult tagged (λ pair. (next : Result Request Cause) × RequestGives limits rest next × RequestIsTaken pair.0 pair.1 next result) (λ cause. result ≡ Err cause)
+    → IsSaid result
+unfolding IsSaid
+of_tagged limits word rest (Ok pair) result tag given = of_request_taken pair.0 pair.1 given.0 result (of_request limits rest given.0 given.1) given.2
+of_tagged limits word rest (Err cause) result tag is = said_by (Err cause) result (of_tag limits word cause tag) is
+
+of_taken : (limits : Limits) (words : List (List ℕ)) (result : Result Taken Cause) → TakenGives limits words result → IsSaid result
+unfolding IsSaid
+of_taken limits [] result is = said_by (Err Count) result (λ memory e. cc) is
+of_taken limits (first ∷ rest) result gives = of_tagged limits first rest gives.0 result gives.1 gives.2
+
+of_reply_words : (expected : List Argument) (name : List ℕ) (arguments : List (List ℕ)) (result : Result Reply Cause) → ReplyWordsGive expected name arguments result → IsSaid result
+unfolding IsSaid
+of_reply_words expected name arguments result (inl (cause, refused, is)) = said_by (Err cause) result (of_refused expected arguments cause refused) is
+of_reply_words expected name arguments result (inr (reply, are, is)) = said_by (Ok reply) result tt is
+
+of_found : (name : List ℕ) (arguments : List (List ℕ)) (found : Option Command) (result : Result Reply Cause)
+    → MatchOption found ((Spells ErrorWord name × ReplyWordsGive [] name arguments result) ⊎ ((¬ (Spells ErrorWord name)) × (result ≡ Err Word)))
+    (λ form. ReplyWordsGive form.required name arguments result)
+    → IsSaid result
+unfolding IsSaid
+of_found name arguments None result (inl given) = of_reply_words [] name arguments result given.1
+of_found name arguments None result (inr given) = said_by (Err Word) result (λ memory e. cc) given.1
+of_found name arguments (Some form) result given = of_reply_words form.required name arguments result given
+
+of_answer : (p n : ℕ) (next : Result Reply Cause) (result : Result Note Cause) → IsSaid next
+    → MatchResult next (λ reply. result ≡ Ok (Answer p n reply)) (λ cause. result ≡ Err cause) → IsSaid result
+unfolding IsSaid
+of_answer p n (Ok reply) result said is = said_by (Ok (Answer p n reply)) result tt is
+of_answer p n (Err cause) result said is = said_by (Err cause) result said is
+
+of_wait : (p n : ℕ) (words : List (List ℕ)) (result : Result Note Cause) → WaitGives p n words result → IsSaid result
+unfolding IsSaid
+of_wait p n [] result is = said_by (Ok (Waits p n)) result tt is
+of_wait p n (word ∷ words) result is = said_by (Err Count) result (λ memory e. cc) is
+
+of_told : (p n : ℕ) (words : List (List ℕ)) (result : Result Note Cause) → ToldGives p n words result → IsSaid result
+unfolding IsSaid
+of_told p n [] result is = said_by (Err Count) result (λ memory e. cc) is
+of_told p n (name ∷ arguments) result gives =
+    MatchBool-join (bytes_eq name (codes "waits")) _ _ (IsSaid result) (of_wait p n arguments result)
+    (λ given. of_answer p n given.0 result (of_found name arguments (reply_named name) given.0 given.1) given.2) gives
+
+of_noted : (limits : Limits) (word : List ℕ) (rest : List (List ℕ)) (tagged : Result (ℕ × ℕ) Cause) (result : Result Note Cause) → TagGives limits word tagged
+    → MatchResult tagged (λ pair. ToldGives pair.0 pair.1 rest result) (λ cause. result ≡ Err cause) → IsSaid result
+unfolding IsSaid
+of_noted limits word rest (Ok pair) result tag given = of_told pair.0 pair.1 rest result given
+of_noted limits word rest (Err cause) result tag is = said_by (Err cause) result (of_tag limits word cause tag) is
+
+of_note : (limits : Limits) (words : List (List ℕ)) (result : Result Note Cause) → NoteGives limits words result → IsSaid result
+unfolding IsSaid
+of_note limits [] result is = said_by (Err Count) result (λ memory e. cc) is
+of_note limits (first ∷ rest) result gives = of_noted limits first rest gives.0 result gives.1 gives.2
+
+-- no request behind its tag is refused for want of memory
+pub taken_never_memory : (limits : Limits) (words : List (List ℕ)) (cause : Cause) → TakenGives limits words (Err cause) → IsOfScript cause
+unfolding IsSaid
+taken_never_memory limits words cause gives = of_taken limits words (Err cause) gives
+
+-- and no note is
+pub note_never_memory : (limits : Limits) (words : List (List ℕ)) (cause : Cause) → NoteGives limits words (Err cause) → IsOfScript cause
+unfolding IsSaid
+note_never_memory limits words cause gives = of_note limits words (Err cause) gives

@@ -13,7 +13,7 @@ use Rattle.script_core.specs.Arguments.{Argument, Command, PolicyWord, LimitsWor
 use Rattle.script_core.specs.Reading.{Reading, PolicyGives, LimitsGive, CommandGives, RequestGives, ProcessGives, WordsGive, is_comment, says_policy, says_limits, limits_of}
 
 -- one of two facts for another
-MatchBool-map : (b : Bool) (P Q P' Q' : Type 0) → (P → P') → (Q → Q') → MatchBool b P Q → MatchBool b P' Q'
+pub MatchBool-map : (b : Bool) (P Q P' Q' : Type 0) → (P → P') → (Q → Q') → MatchBool b P Q → MatchBool b P' Q'
 MatchBool-map true P Q P' Q' f g h = f h
 MatchBool-map false P Q P' Q' f g h = g h
 
@@ -68,7 +68,7 @@ each_has_few limits = (
   ),
 )
 
-found_has : {X : Type 0} (P : X → Type 0) (test : X → Bool) (xs : List X) → Each P xs → IfSome (find test xs) P
+pub found_has : {X : Type 0} (P : X → Type 0) (test : X → Bool) (xs : List X) → Each P xs → IfSome (find test xs) P
 found_has P test [] all = tt
 found_has P test (x ∷ xs) all =
     elim (test x) as (λ b. IfSome (if b then Some x else find test xs) P) [ true ↦ all.0 | false ↦ found_has P test xs all.1 ]
@@ -88,7 +88,7 @@ many_found limits name arguments others result (Some command) many more few give
     let is : result ≡ Err Count = rw (too_many command (length arguments) few many) at given in
     rw (too_many command (length others) few more) is
 
-many_arguments : (limits : Limits) (name : List ℕ) (arguments others : List (List ℕ)) (result : Result Request Cause) → 6 < length arguments → 6 < length others
+pub many_arguments : (limits : Limits) (name : List ℕ) (arguments others : List (List ℕ)) (result : Result Request Cause) → 6 < length arguments → 6 < length others
     → RequestGives limits (name ∷ arguments) result → RequestGives limits (name ∷ others) result
 many_arguments limits name arguments others result many more given =
     many_found limits name arguments others result (command_named limits name) many more (found_has HasFew (λ command. bytes_eq command.name name) (commands limits) (each_has_few limits)) given

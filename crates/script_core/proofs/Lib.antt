@@ -12,3 +12,6 @@ pub mod ReportLemmas
 pub mod OutputLaws
 pub mod ConstantLaws
 pub mod FaultLemmas
+pub mod EntryLemmas
+pub mod NoteLemmas
+pub mod EntryRoundTripLemmas

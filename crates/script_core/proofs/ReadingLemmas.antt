@@ -34,11 +34,11 @@ use Rattle.script_core.specs.ScriptText.{Meaning, HasZeroPid, Says, IsRequest, I
 use Rattle.script_core.specs.Reading.{Reading, ArgumentsGive, CommandGives, RequestGives, ArrivalGives, ProcessGives, PolicyGives, LimitsGive, WordsGive, LineGives, LinesGive, HasOneReading, is_comment, says_policy, says_limits, limits_of, meaning_of, reading_after, start}
 use Rattle.script_core.proofs.NumberLemmas.{number_in, number_in-zero, digits_value-spelled, number_in-spelled}
 
-same_value : {X : Type 0} (value a b : X) → a ≡ value → b ≡ value → a ≡ b
+pub same_value : {X : Type 0} (value a b : X) → a ≡ value → b ≡ value → a ≡ b
 same_value value a b first second = first ∙ sym second
 
 -- a choice by a test is settled where both sides are
-MatchBool-unique : {X : Type 0} (P Q : X → Type 0) (test : Bool) → ((a b : X) → P a → P b → a ≡ b) → ((a b : X) → Q a → Q b → a ≡ b)
+pub MatchBool-unique : {X : Type 0} (P Q : X → Type 0) (test : Bool) → ((a b : X) → P a → P b → a ≡ b) → ((a b : X) → Q a → Q b → a ≡ b)
     → (a b : X) → MatchBool test (P a) (Q a) → MatchBool test (P b) (Q b) → a ≡ b
 MatchBool-unique P Q true here there a b first second = here a b first second
 MatchBool-unique P Q false here there a b first second = there a b first second
@@ -129,10 +129,10 @@ nb_in-words true = refl
 nb_in-words false = refl
 
 -- the numbers at a place of the words
-natural_at : ℕ → List (List ℕ) → ℕ
+unfoldable pub natural_at : ℕ → List (List ℕ) → ℕ
 natural_at place words = digits_value 10 (get_or words place [])
 
-number_at : ℕ → List (List ℕ) → ℤ
+unfoldable pub number_at : ℕ → List (List ℕ) → ℤ
 number_at place words = number_in (get_or words place (codes "0"))
 
 -- the lock that the words of a lock command describe
@@ -240,13 +240,13 @@ IsRequest-unique limits words a b first second =
     sym (said_is limits words a first.says first.writable) ∙ said_is limits words b second.says second.writable
 
 -- each word spells the argument of its place
-AllSpell : List Argument → List (List ℕ) → Type 0
+unfoldable pub AllSpell : List Argument → List (List ℕ) → Type 0
 AllSpell arguments [] = Unit {0}
 AllSpell [] (word ∷ words) = Unit {0}
 AllSpell (argument ∷ arguments) (word ∷ words) = Spells argument word × AllSpell arguments words
 
 -- where each word spells its argument, none is the first bad one
-not_bad : (arguments : List Argument) (words : List (List ℕ)) (cause : Cause) → AllSpell arguments words → IsFirstBad arguments words cause → ⊥
+pub not_bad : (arguments : List Argument) (words : List (List ℕ)) (cause : Cause) → AllSpell arguments words → IsFirstBad arguments words cause → ⊥
 unfolding AllSpell
 not_bad [] words cause all bad = bad
 not_bad (argument ∷ arguments) [] cause all bad = bad
@@ -371,7 +371,7 @@ named_unique limits name arguments (Some command) named a b first second =
     MatchBool-unique (λ result. ArgumentsGive limits (name ∷ arguments) command arguments result) (λ result. result ≡ Err Count) (has_count command (length arguments))
     (ArgumentsGive-unique limits name arguments command named) (same_value (Err Count)) a b first second
 
-RequestGives-unique : (limits : Limits) (words : List (List ℕ)) (a b : Result Request Cause) → RequestGives limits words a → RequestGives limits words b → a ≡ b
+pub RequestGives-unique : (limits : Limits) (words : List (List ℕ)) (a b : Result Request Cause) → RequestGives limits words a → RequestGives limits words b → a ≡ b
 RequestGives-unique limits [] a b first second = same_value (Err Count) a b first second
 RequestGives-unique limits (name ∷ arguments) a b first second = named_unique limits name arguments (command_named limits name) refl a b first second
 
@@ -390,7 +390,7 @@ ProcessGives-unique limits word rest a b (inr first) (inl second) = absurd (firs
 ProcessGives-unique limits word rest a b (inr first) (inr second) = first.1 ∙ sym second.1
 
 -- words that are refused have one cause
-AreRefused-unique : (arguments : List Argument) (words : List (List ℕ)) (a b : Cause) → AreRefused arguments words a → AreRefused arguments words b → a ≡ b
+pub AreRefused-unique : (arguments : List Argument) (words : List (List ℕ)) (a b : Cause) → AreRefused arguments words a → AreRefused arguments words b → a ≡ b
 AreRefused-unique arguments words a b first second =
     MatchBool-unique (IsFirstBad arguments words) (λ cause. cause ≡ Count) (length words == length arguments) (IsFirstBad-unique arguments words) (same_value Count) a b first second
 

@@ -34,31 +34,31 @@ use Rattle.script_core.proofs.NumberLemmas.{BeginsPlainly-decimal}
 use Rattle.script_core.proofs.ReadingLemmas.{lock_named, small_process}
 use Rattle.script_core.proofs.HeaderLemmas.{IsNoHeaderWord-decimal}
 
--- each byte is printable, and no space
-AreVisible : List ℕ → Type 0
+-- each byte is one that the words of a text have: printable, no space, and none behind the letters
+unfoldable pub AreVisible : List ℕ → Type 0
 AreVisible [] = Unit {0}
-AreVisible (byte ∷ bytes) = (33 ≤ byte) × (byte ≤ 126) × AreVisible bytes
+AreVisible (byte ∷ bytes) = (33 ≤ byte) × (byte ≤ 122) × AreVisible bytes
 
 -- one visible byte or more
-record IsWord (word : List ℕ) : Type 0 where
-  some : 0 < length word
-  visible : AreVisible word
+pub record IsWord (word : List ℕ) : Type 0 where
+  pub some : 0 < length word
+  pub visible : AreVisible word
 
-AreWords : List (List ℕ) → Type 0
+unfoldable pub AreWords : List (List ℕ) → Type 0
 AreWords [] = Unit {0}
 AreWords (word ∷ words) = IsWord word × AreWords words
 
 -- whether the bytes are a word
 abbrev is_word : List ℕ → Bool
-is_word word = nat_lt 0 (length word) && list_all (λ byte. nat_le 33 byte && nat_le byte 126) word
+is_word word = nat_lt 0 (length word) && list_all (λ byte. nat_le 33 byte && nat_le byte 122) word
 
-AreVisible-tested : (bytes : List ℕ) → list_all (λ byte. nat_le 33 byte && nat_le byte 126) bytes ≡ true → AreVisible bytes
+AreVisible-tested : (bytes : List ℕ) → list_all (λ byte. nat_le 33 byte && nat_le byte 122) bytes ≡ true → AreVisible bytes
 unfolding AreVisible
 AreVisible-tested [] tested = tt
 AreVisible-tested (byte ∷ bytes) tested =
     (grind (arith, tests), grind (arith, tests), AreVisible-tested bytes (grind (arith, tests)))
 
-IsWord-tested : (word : List ℕ) → is_word word ≡ true → IsWord word
+pub IsWord-tested : (word : List ℕ) → is_word word ≡ true → IsWord word
 IsWord-tested word tested = record { some = grind (arith, tests); visible = AreVisible-tested word (grind (arith, tests)) }
 
 AreVisible-digits : (bytes : List ℕ) → AllDigits 10 bytes → AreVisible bytes
@@ -68,7 +68,7 @@ AreVisible-digits (byte ∷ bytes) digits =
     let digit : IsInRange 48 57 byte = digit_from_value byte digits.0 in
     (omega arith, omega arith, AreVisible-digits bytes digits.1)
 
-IsWord-decimal : (n : ℕ) → n < 2 ^ 64 → IsWord (decimal n)
+pub IsWord-decimal : (n : ℕ) → n < 2 ^ 64 → IsWord (decimal n)
 IsWord-decimal n small =
     let numeral = (decimal_is_IsNumeral n small).0 in
     record { some = numeral.0; visible = AreVisible-digits (decimal n) numeral.1 }
@@ -77,14 +77,14 @@ IsWord-minus : (word : List ℕ) → IsWord word → IsWord (45 ∷ word)
 unfolding AreVisible
 IsWord-minus word is = record { some = omega arith; visible = (lit≤ tt, lit≤ tt, is.visible) }
 
-IsWord-signed_decimal : (z : ℤ) → FitsSigned w64 z → IsWord (signed_decimal z)
+pub IsWord-signed_decimal : (z : ℤ) → FitsSigned w64 z → IsWord (signed_decimal z)
 IsWord-signed_decimal (pos n) fits = IsWord-decimal n (omega (arith, fits.sfits))
 IsWord-signed_decimal (negsuc n) fits = IsWord-minus (decimal (suc n)) (IsWord-decimal (suc n) (omega (arith, fits.sfits)))
 
-IsWord-descriptor : (fd : ℕ) → IsDescriptor fd → IsWord (decimal fd)
+pub IsWord-descriptor : (fd : ℕ) → IsDescriptor fd → IsWord (decimal fd)
 IsWord-descriptor fd small = IsWord-decimal fd (omega (arith, small))
 
-IsWord-process : (limits : Limits) (p : ℕ) → IsProcess limits p → IsWord (decimal p)
+pub IsWord-process : (limits : Limits) (p : ℕ) → IsProcess limits p → IsWord (decimal p)
 IsWord-process limits p is = IsWord-decimal p (small_process limits p is)
 
 not_space : (byte : ℕ) → 33 ≤ byte → (byte == 32) ≡ false
@@ -95,7 +95,7 @@ unfolding AreVisible
 slice_split-word [] visible = refl
 slice_split-word (byte ∷ bytes) visible = rw (not_space byte visible.0, slice_split-word bytes visible.2) refl
 
-slice_split-words : (word rest : List ℕ) → AreVisible word → slice_split (λ byte. byte == 32) (word ++ 32 ∷ rest) ≡ word ∷ slice_split (λ byte. byte == 32) rest
+pub slice_split-words : (word rest : List ℕ) → AreVisible word → slice_split (λ byte. byte == 32) (word ++ 32 ∷ rest) ≡ word ∷ slice_split (λ byte. byte == 32) rest
 unfolding AreVisible
 slice_split-words [] rest visible = refl
 slice_split-words (byte ∷ bytes) rest visible = rw (not_space byte visible.0, slice_split-words bytes rest visible.2) refl
@@ -106,7 +106,7 @@ slice_split-join word [] are = slice_split-word word are.0.visible
 slice_split-join word (next ∷ words) are =
     slice_split-words word (join_with_byte 32 (next ∷ words)) are.0.visible ∙ ap (λ ws. word ∷ ws) (slice_split-join next words are.1)
 
-not_empty : (n : ℕ) → 0 < n → not (n == 0) ≡ true
+pub not_empty : (n : ℕ) → 0 < n → not (n == 0) ≡ true
 not_empty n some = grind (arith, nat_tests)
 
 filter-words : (words : List (List ℕ)) → AreWords words → filter (λ word. not (length word == 0)) words ≡ words
@@ -115,11 +115,11 @@ filter-words [] are = refl
 filter-words (word ∷ words) are = rw (not_empty (length word) are.0.some, filter-words words are.1) refl
 
 -- words with one space between each two are the words of their line
-words_of-join : (word : List ℕ) (words : List (List ℕ)) → AreWords (word ∷ words) → words_of (join_with_byte 32 (word ∷ words)) ≡ word ∷ words
+pub words_of-join : (word : List ℕ) (words : List (List ℕ)) → AreWords (word ∷ words) → words_of (join_with_byte 32 (word ∷ words)) ≡ word ∷ words
 words_of-join word words are =
     ap (λ pieces. filter (λ word. not (length word == 0)) pieces) (slice_split-join word words are) ∙ filter-words (word ∷ words) are
 
-printable_byte : (byte : ℕ) → 33 ≤ byte → byte ≤ 126 → (nat_le 32 byte && nat_le byte 126) ≡ true
+printable_byte : (byte : ℕ) → 33 ≤ byte → byte ≤ 122 → (nat_le 32 byte && nat_le byte 126) ≡ true
 printable_byte byte low high = grind (arith, nat_tests)
 
 is_printable-word : (word : List ℕ) → AreVisible word → is_printable word ≡ true
@@ -132,17 +132,17 @@ unfolding AreVisible
 is_printable-words [] rest visible printable = printable
 is_printable-words (byte ∷ bytes) rest visible printable = rw (printable_byte byte visible.0 visible.1) (is_printable-words bytes rest visible.2 printable)
 
-is_printable-join : (word : List ℕ) (words : List (List ℕ)) → AreWords (word ∷ words) → is_printable (join_with_byte 32 (word ∷ words)) ≡ true
+pub is_printable-join : (word : List ℕ) (words : List (List ℕ)) → AreWords (word ∷ words) → is_printable (join_with_byte 32 (word ∷ words)) ≡ true
 unfolding AreWords
 is_printable-join word [] are = is_printable-word word are.0.visible
 is_printable-join word (next ∷ words) are = is_printable-words word (join_with_byte 32 (next ∷ words)) are.0.visible (is_printable-join next words are.1)
 
 -- how many bytes further words take, each behind its space
-more_length : List (List ℕ) → ℕ
+unfoldable pub more_length : List (List ℕ) → ℕ
 more_length [] = 0
 more_length (word ∷ words) = 1 + length word + more_length words
 
-length-join : (word : List ℕ) (words : List (List ℕ)) → length (join_with_byte 32 (word ∷ words)) ≡ length word + more_length words
+pub length-join : (word : List ℕ) (words : List (List ℕ)) → length (join_with_byte 32 (word ∷ words)) ≡ length word + more_length words
 unfolding more_length
 length-join word [] = omega arith
 length-join word (next ∷ words) = omega (arith, length-append word (32 ∷ join_with_byte 32 (next ∷ words)), length-join next words)
@@ -190,7 +190,7 @@ unfolding AreWords
 AreWords-nb_words true = (IsWord-tested (codes "nb") refl, tt)
 AreWords-nb_words false = tt
 
-AreWords-request_words : (limits : Limits) (request : Request) → IsWritable limits request → AreWords (request_words request)
+pub AreWords-request_words : (limits : Limits) (request : Request) → IsWritable limits request → AreWords (request_words request)
 unfolding AreWords
 AreWords-request_words limits (OpenFile file access) writable = (IsWord-tested (codes "open") refl, (IsWord-decimal file (omega (arith, writable)), (IsWord-access_word access, tt)))
 AreWords-request_words limits (Dup fd) writable = (IsWord-tested (codes "dup") refl, (IsWord-descriptor fd writable, tt))
@@ -245,14 +245,14 @@ length-lock_command_word OGetLk = lit≤ tt
 length-lock_command_word OSetLk = lit≤ tt
 length-lock_command_word OSetLkW = lit≤ tt
 
-length-descriptor : (fd : ℕ) → IsDescriptor fd → length (decimal fd) ≤ 10
+pub length-descriptor : (fd : ℕ) → IsDescriptor fd → length (decimal fd) ≤ 10
 length-descriptor fd small = length-decimal-le 10 fd (lit< tt) (omega (arith, small)) (omega (arith, small))
 
-length-process : (limits : Limits) (p : ℕ) → IsProcess limits p → length (decimal p) ≤ 2
+pub length-process : (limits : Limits) (p : ℕ) → IsProcess limits p → length (decimal p) ≤ 2
 length-process Small p is = length-decimal-le 2 p (lit< tt) (omega (arith, is.1)) (omega (arith, is.1))
 length-process Wide p is = length-decimal-le 2 p (lit< tt) (omega (arith, is.1)) (omega (arith, is.1))
 
-length-signed_decimal : (z : ℤ) → FitsSigned w64 z → length (signed_decimal z) ≤ 20
+pub length-signed_decimal : (z : ℤ) → FitsSigned w64 z → length (signed_decimal z) ≤ 20
 length-signed_decimal z fits = length_signed_le 19 z (omega (arith, fits.sfits)) (omega (arith, fits.sfits))
 
 more_length-pid_words : (z : ℤ) → FitsSigned w64 z → more_length (pid_words z) ≤ 21
@@ -266,7 +266,7 @@ unfolding more_length
 more_length-nb_words true = lit≤ tt
 more_length-nb_words false = lit≤ tt
 
-more_length-request_words : (limits : Limits) (request : Request) → IsWritable limits request → more_length (request_words request) ≤ 118
+pub more_length-request_words : (limits : Limits) (request : Request) → IsWritable limits request → more_length (request_words request) ≤ 118
 unfolding more_length
 more_length-request_words limits (OpenFile file access) writable =
     omega (arith, length-decimal-le 2 file (lit< tt) (omega (arith, writable)) (omega (arith, writable)), length-access_word access)
@@ -313,7 +313,7 @@ flock_counted fd op false = refl
 is_written : (limits : Limits) (request : Request) → IsWritable limits request → IsRequest limits (request_words request) request
 is_written limits request writable = record { says = inl refl; writable = writable }
 
-gives_request : (limits : Limits) (request : Request) → IsWritable limits request → RequestGives limits (request_words request) (Ok request)
+pub gives_request : (limits : Limits) (request : Request) → IsWritable limits request → RequestGives limits (request_words request) (Ok request)
 gives_request limits (OpenFile file access) writable = inr (OpenFile file access, is_written limits (OpenFile file access) writable, refl)
 gives_request limits (Dup fd) writable = inr (Dup fd, is_written limits (Dup fd) writable, refl)
 gives_request limits (DupTo fd to) writable = inr (DupTo fd to, is_written limits (DupTo fd to) writable, refl)
@@ -345,19 +345,20 @@ reads_line : (reading : Reading) (line : List ℕ) (words : List (List ℕ)) (sa
 reads_line reading line words said short printable are gives =
     rw (le-ltb line_limit (length line) short, printable, are) gives
 
-join_cons : (p : ℕ) (request : Request) → decimal p ++ codes " " ++ request_text request ≡ join_with_byte 32 (decimal p ∷ request_words request)
-join_cons p (OpenFile file access) = append_assoc (decimal p) (codes " ") (request_text (OpenFile file access))
-join_cons p (Dup fd) = append_assoc (decimal p) (codes " ") (request_text (Dup fd))
-join_cons p (DupTo fd to) = append_assoc (decimal p) (codes " ") (request_text (DupTo fd to))
-join_cons p (CloseFd fd) = append_assoc (decimal p) (codes " ") (request_text (CloseFd fd))
-join_cons p (Seek fd offset) = append_assoc (decimal p) (codes " ") (request_text (Seek fd offset))
-join_cons p (Resize fd size) = append_assoc (decimal p) (codes " ") (request_text (Resize fd size))
-join_cons p (Flock fd op nb) = append_assoc (decimal p) (codes " ") (request_text (Flock fd op nb))
-join_cons p (Fork child) = append_assoc (decimal p) (codes " ") (request_text (Fork child))
-join_cons p Exit = append_assoc (decimal p) (codes " ") (request_text Exit)
-join_cons p (Signal target) = append_assoc (decimal p) (codes " ") (request_text (Signal target))
-join_cons p (Kill target) = append_assoc (decimal p) (codes " ") (request_text (Kill target))
-join_cons p (Lk fd cmd lock) = append_assoc (decimal p) (codes " ") (request_text (Lk fd cmd lock))
+-- a word, a space and the text of a request are the words in one text
+pub join_cons : (word : List ℕ) (request : Request) → word ++ codes " " ++ request_text request ≡ join_with_byte 32 (word ∷ request_words request)
+join_cons word (OpenFile file access) = append_assoc word (codes " ") (request_text (OpenFile file access))
+join_cons word (Dup fd) = append_assoc word (codes " ") (request_text (Dup fd))
+join_cons word (DupTo fd to) = append_assoc word (codes " ") (request_text (DupTo fd to))
+join_cons word (CloseFd fd) = append_assoc word (codes " ") (request_text (CloseFd fd))
+join_cons word (Seek fd offset) = append_assoc word (codes " ") (request_text (Seek fd offset))
+join_cons word (Resize fd size) = append_assoc word (codes " ") (request_text (Resize fd size))
+join_cons word (Flock fd op nb) = append_assoc word (codes " ") (request_text (Flock fd op nb))
+join_cons word (Fork child) = append_assoc word (codes " ") (request_text (Fork child))
+join_cons word Exit = append_assoc word (codes " ") (request_text Exit)
+join_cons word (Signal target) = append_assoc word (codes " ") (request_text (Signal target))
+join_cons word (Kill target) = append_assoc word (codes " ") (request_text (Kill target))
+join_cons word (Lk fd cmd lock) = append_assoc word (codes " ") (request_text (Lk fd cmd lock))
 
 -- the text of a request, behind its process and a space, is a line that is read as this arrival
 pub reads_back : (p : ℕ) (request : Request) → IsReadBack p request
@@ -368,6 +369,6 @@ reads_back p request = λ reading process writable.
     let are : AreWords (decimal p ∷ words) = (IsWord-process limits p process, AreWords-request_words limits request writable) in
     let short : length (join_with_byte 32 (decimal p ∷ words)) ≤ line_limit =
     omega (arith, length-join (decimal p) words, length-process limits p process, more_length-request_words limits request writable) in
-    rw (join_cons p request)
+    rw (join_cons (decimal p) request)
     (reads_line reading (join_with_byte 32 (decimal p ∷ words)) (decimal p ∷ words) (lines.Arrival p request) short (is_printable-join (decimal p) words are)
     (words_of-join (decimal p) words are) (reads_words reading p words request process (gives_request limits request writable)))

@@ -3,6 +3,7 @@ use Rattle.std.specs.Prelude.{◌≡◌, ℕ, ◌+◌, ◌^◌, ◌<◌, ◌≤�
 use Rattle.std.specs.Int.{w64}
 use Rattle.std.specs.Fmt.{signed_decimal}
 use Rattle.range_core.specs.declared.Kind.{Kind}
+use Rattle.range_core.specs.declared.Mode.{Mode}
 use Rattle.range_core.specs.declared.Whence.{Whence}
 use Rattle.fd_table.specs.declared.TheConstants.{FILES}
 use Rattle.fd_table.specs.declared.Access.{Access}
@@ -10,15 +11,17 @@ use Rattle.fd_table.specs.declared.Limits.{Limits}
 use Rattle.wait_core.specs.declared.Policy.{Policy}
 use Rattle.range_core.specs.Facts.{MatchFact}
 use Rattle.fd_table.specs.Descriptors.{process_limit}
+use Rattle.lock_manager.specs.declared.request.Errno.{Errno}
 use Rattle.lock_manager.specs.declared.request.FlockOp.{FlockOp}
 use Rattle.script_core.specs.declared.script.Cause.{Cause}
 use Rattle.script_core.specs.declared.script.Cause.TheVariants.{Word, Count, Number, Process}
+use Rattle.script_core.specs.EntryText.{error_name}
 use Rattle.script_core.specs.HeaderText.{policy_word, limits_word}
-use Rattle.script_core.specs.RequestText.{access_word, kind_word, whence_word, op_word}
+use Rattle.script_core.specs.RequestText.{access_word, mode_word, kind_word, whence_word, op_word}
 
 -- what may stand in the place of an argument
 pub data Argument : Type 0 where
-  FileNumber DescriptorNumber AnyNumber AccessWord KindWord WhenceWord OpWord NbWord PolicyWord LimitsWord : Argument
+  FileNumber DescriptorNumber AnyNumber UnsignedNumber AccessWord ModeWord KindWord WhenceWord OpWord NbWord ErrorWord PolicyWord LimitsWord : Argument
   ProcessNumber : Limits → Argument
 
 -- the word is a spelling of such an argument
@@ -26,12 +29,15 @@ abbrev pub Spells : Argument → List ℕ → Type 0
 Spells FileNumber word = (n : ℕ) × (n < FILES) × (word ≡ decimal n)
 Spells DescriptorNumber word = (n : ℕ) × (n < 2 ^ 32) × (word ≡ decimal n)
 Spells AnyNumber word = (z : ℤ) × FitsSigned w64 z × (word ≡ signed_decimal z)
+Spells UnsignedNumber word = (n : ℕ) × (n < 2 ^ 64) × (word ≡ decimal n)
 Spells (ProcessNumber limits) word = (n : ℕ) × (1 ≤ n) × (n ≤ process_limit limits) × (word ≡ decimal n)
 Spells AccessWord word = (access : Access) × (word ≡ access_word access)
+Spells ModeWord word = (mode : Mode) × (word ≡ mode_word mode)
 Spells KindWord word = (kind : Kind) × (word ≡ kind_word kind)
 Spells WhenceWord word = (whence : Whence) × (word ≡ whence_word whence)
 Spells OpWord word = (op : FlockOp) × (word ≡ op_word op)
 Spells NbWord word = word ≡ codes "nb"
+Spells ErrorWord word = (error : Errno) × (word ≡ error_name error)
 Spells PolicyWord word = (policy : Policy) × (word ≡ policy_word policy)
 Spells LimitsWord word = (limits : Limits) × (word ≡ limits_word limits)
 
@@ -40,12 +46,15 @@ abbrev pub cause_of : Argument → Cause
 cause_of FileNumber = Number
 cause_of DescriptorNumber = Number
 cause_of AnyNumber = Number
+cause_of UnsignedNumber = Number
 cause_of (ProcessNumber limits) = Process
 cause_of AccessWord = Word
+cause_of ModeWord = Word
 cause_of KindWord = Word
 cause_of WhenceWord = Word
 cause_of OpWord = Word
 cause_of NbWord = Word
+cause_of ErrorWord = Word
 cause_of PolicyWord = Word
 cause_of LimitsWord = Word
 

@@ -7,5 +7,6 @@ pub mod ScriptText
 pub mod Reading
 pub mod WithoutHeaders
 pub mod EntryText
+pub mod EntryReading
 pub mod ReportText
 pub mod Output

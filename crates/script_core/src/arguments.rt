@@ -1,16 +1,17 @@
 //! The arguments of a command, each as its type.
 ghost use Rattle.std.specs.Prelude.{◌≡◌, ◌<◌, ◌^◌, MatchResult, codes, decimal};
 ghost use Rattle.std.specs.Fmt.{signed_decimal};
-ghost use Rattle.script_core.specs.Arguments.{FileNumber, DescriptorNumber, AnyNumber, ProcessNumber, AccessWord, KindWord, WhenceWord, OpWord, NbWord, PolicyWord, LimitsWord, IsBad};
+ghost use Rattle.script_core.specs.Arguments.{FileNumber, DescriptorNumber, AnyNumber, UnsignedNumber, ProcessNumber, AccessWord, ModeWord, KindWord, WhenceWord, OpWord, NbWord, ErrorWord, PolicyWord, LimitsWord, IsBad};
+ghost use Rattle.script_core.specs.EntryText.{error_name};
 ghost use Rattle.script_core.specs.HeaderText.{policy_word, limits_word};
-ghost use Rattle.script_core.specs.RequestText.{access_word, kind_word, whence_word, op_word};
+ghost use Rattle.script_core.specs.RequestText.{access_word, mode_word, kind_word, whence_word, op_word};
 ghost use Rattle.script_core.specs.ScriptText.{IsProcess};
 
 use crate::Cause;
 use crate::numbers::{integer_of, natural_of};
 use fd_table::{Access, FILES, Limits};
-use lock_manager::FlockOp;
-use range_core::{Kind, Whence};
+use lock_manager::{Errno, FlockOp};
+use range_core::{Kind, Mode, Whence};
 use wait_core::Policy;
 
 /// The number of a process, of which there are as many as the limits say.
@@ -53,6 +54,13 @@ pub fn read_number(word: &str) -> Result<i64, Cause>
     integer_of(word).ok_or(Cause::Number)
 }
 
+/// A natural number of 64 bits.
+pub fn read_unsigned(word: &str) -> Result<u64, Cause>
+    ensures { MatchResult result (λ n. word.now ≡ decimal n) (IsBad UnsignedNumber word.now) }
+{
+    natural_of(word).ok_or(Cause::Number)
+}
+
 /// An access mode.
 pub fn read_access(word: &str) -> Result<Access, Cause>
     ensures { MatchResult result (λ access. word.now ≡ access_word access) (IsBad AccessWord word.now) }
@@ -61,6 +69,17 @@ pub fn read_access(word: &str) -> Result<Access, Cause>
         "r" => Ok(Access::R),
         "w" => Ok(Access::W),
         "rw" => Ok(Access::Rw),
+        _ => Err(Cause::Word),
+    }
+}
+
+/// The mode of a byte lock.
+pub fn read_mode(word: &str) -> Result<Mode, Cause>
+    ensures { MatchResult result (λ mode. word.now ≡ mode_word mode) (IsBad ModeWord word.now) }
+{
+    match word {
+        "r" => Ok(Mode::Read),
+        "w" => Ok(Mode::Write),
         _ => Err(Cause::Word),
     }
 }
@@ -107,6 +126,23 @@ pub fn read_nb(word: &str) -> Result<(), Cause>
 {
     match word {
         "nb" => Ok(()),
+        _ => Err(Cause::Word),
+    }
+}
+
+/// The error of this name in `<errno.h>`.
+pub fn read_error(word: &str) -> Result<Errno, Cause>
+    ensures { MatchResult result (λ error. word.now ≡ error_name error) (IsBad ErrorWord word.now) }
+{
+    match word {
+        "EBADF" => Ok(Errno::EBADF),
+        "EINVAL" => Ok(Errno::EINVAL),
+        "EOVERFLOW" => Ok(Errno::EOVERFLOW),
+        "EAGAIN" => Ok(Errno::EAGAIN),
+        "EDEADLK" => Ok(Errno::EDEADLK),
+        "EINTR" => Ok(Errno::EINTR),
+        "EMFILE" => Ok(Errno::EMFILE),
+        "ESRCH" => Ok(Errno::ESRCH),
         _ => Err(Cause::Word),
     }
 }

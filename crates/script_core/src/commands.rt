@@ -61,7 +61,7 @@ fn read_open(arguments: &[&str]) -> Result<Request, Cause>
 }
 
 /// The arguments of a command on a descriptor alone.
-fn read_descriptor_alone(arguments: &[&str]) -> Result<u32, Cause>
+pub fn read_descriptor_alone(arguments: &[&str]) -> Result<u32, Cause>
     ensures { MatchResult result (λ fd. texts arguments.now ≡ decimal fd ∷ [])
         (AreRefused (DescriptorNumber ∷ []) (texts arguments.now)) }
 {

@@ -3,8 +3,10 @@
 
 mod arguments;
 mod commands;
+mod entry;
 mod laws;
 mod line;
+mod note;
 mod numbers;
 mod pieces;
 mod reader;
@@ -13,12 +15,17 @@ mod text;
 mod words;
 mod write;
 
+pub use entry::parse_entry;
 pub use laws::{headers_change_nothing_else, scripts_have_one_output};
 pub use script::{Cause, Script, ScriptFault, parse};
 pub use write::{write_entry, write_report};
 
 /// The most bytes that a line may have, without its line feed (this project's choice).
 pub const LINE_MAX: usize = 120;
+
+/// The most bytes that the line of an entry may have, without its line feed (this project's choice). One with a note to each of 64
+/// processes has 6285 at most.
+pub const ENTRY_MAX: usize = 8192;
 
 /// The most bytes that a script may have (this project's choice).
 pub const SCRIPT_MAX: usize = 1048576;

@@ -57,7 +57,7 @@ pub fn read_arrival(limits: Limits, process: &str, words: &[&str]) -> Result<Lin
 }
 
 /// What stands behind the process: a command and its arguments.
-fn read_request(limits: Limits, words: &[&str]) -> Result<Request, Cause>
+pub fn read_request(limits: Limits, words: &[&str]) -> Result<Request, Cause>
     ensures { RequestGives limits (texts words.now) result }
 {
     let [name, arguments @ ..] = words else {

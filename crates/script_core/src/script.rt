@@ -37,6 +37,9 @@ pub enum Cause {
     /// A growth was refused.
     #[error("7 Memory")]
     Memory(Memory),
+    /// In a journal alone: a word that isn't a process and the number of a request of it, as `2#1`.
+    #[error("8 Tag")]
+    Tag,
 }
 
 impl From<Memory> for Cause {

@@ -5,6 +5,7 @@ ghost use Rattle.lock_manager.specs.ManagerView.{StandsFor, processes_of, state_
 ghost use Rattle.session_core.specs.SessionView.{manager_of, events_in};
 ghost use Rattle.script_core.specs.Reading.{IsReadBack};
 ghost use Rattle.script_core.specs.EntryText.{entry_line};
+ghost use Rattle.script_core.specs.EntryReading.{IsEntryReadBack};
 ghost use Rattle.script_core.specs.ReportText.{held_line, wait_line, reported_line, process_lines, AreCounts, IsReportOf};
 ghost use Rattle.script_core.specs.ReportText as spec;
 ghost use Rattle.script_core.specs.Output.{AppendsPartOf, Extends};
@@ -17,7 +18,7 @@ use session_core::{Entry, Session};
 use wait_core::Wait;
 
 /// Appends the line of an entry. After `Memory` the vector has its old bytes and a front of the text.
-#[tactic(auto, using(crate::proofs::RoundTripLemmas::reads_back))]
+#[tactic(auto, using(crate::proofs::RoundTripLemmas::reads_back, crate::proofs::EntryRoundTripLemmas::entry_reads_back))]
 pub fn write_entry(entry: &Entry, out: &mut Vec<u8>) -> Result<(), Memory>
     ensures ok { OnOk result (out.new.items ≡ out.old.items ++ entry_line entry.now) }
     ensures err { OnErr result (AppendsPartOf out.old.items out.new.items (entry_line entry.now)) }
@@ -25,6 +26,9 @@ pub fn write_entry(entry: &Entry, out: &mut Vec<u8>) -> Result<(), Memory>
     // What is written of a request is what a script writes: behind its process it is a line that is read as this arrival,
     // in each script whose limits have its numbers.
     ensures read_back { IsReadBack entry.now.p entry.now.request }
+
+    // The line of an entry with at most 64 notes is read back as this entry, under all limits that have its numbers.
+    ensures entry_read_back { IsEntryReadBack entry.now }
 {
     let len = out.len();
     if let Err(memory) = push_entry(out, entry) {

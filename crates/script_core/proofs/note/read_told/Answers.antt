@@ -1,0 +1,38 @@
+use Rattle.std.proofs.Common.{◌≡◌, ℕ, ◌-◌, ◌≤◌, [], ◌∷◌, List, length, drop, take, get_or, false, codes, Result, Ok, Err, MatchResult, Bor, refl, sym, ap, arith, take_all}
+use Rattle.std.specs.Prelude.{bytes_eq}
+use Rattle.std.proofs.lemmas.Result.{err_from_is_err_and}
+use Rattle.lock_manager.specs.declared.request.Reply.{Reply}
+use Rattle.lock_manager.specs.declared.request.Note.{Note}
+use Rattle.lock_manager.specs.declared.request.Note.TheVariants.{Answer}
+use Rattle.script_core.specs.declared.script.Cause.{Cause}
+use Rattle.script_core.specs.Words.{texts}
+use Rattle.script_core.specs.EntryReading.{ReplyGives, ToldGives}
+use Rattle.script_core.proofs.note.read_told.Goals as goal
+
+nothing : Bor (List ℕ)
+nothing = record { ref_ptr = (0, 0); now = [] }
+
+-- the first of the texts, and those behind it
+first_text : (xs : List (Bor (List ℕ))) (d : Bor (List ℕ)) → 1 ≤ length xs → texts xs ≡ (get_or xs 0 d).now ∷ texts (take (length xs - 1) (drop 1 xs))
+first_text [] d some = absurd (omega (arith, some))
+first_text (x ∷ xs) d some = ap (λ (l : List (Bor (List ℕ))). x.now ∷ texts l) (sym (take_all (length (x ∷ xs) - 1) xs (omega arith)))
+
+-- words of which the first isn't `waits` tell a reply
+tells_reply : (p n : ℕ) (words : List (List ℕ)) (name : List ℕ) (arguments : List (List ℕ)) (next : Result Reply Cause) (result : Result Note Cause)
+    → words ≡ name ∷ arguments → bytes_eq name (codes "waits") ≡ false → ReplyGives name arguments next
+    → MatchResult next (λ reply. result ≡ Ok (Answer p n reply)) (λ cause. result ≡ Err cause) → ToldGives p n words result
+tells_reply p n words name arguments next result are other gives then = rw (are, other) (next, gives, then)
+
+pub returns-in_err-reply : goal.returns-in_err-reply
+unfolding nothing
+returns-in_err-reply c =
+    let failed = err_from_is_err_and c.from_residual.result c.from_residual.ensures.1 in
+    rw (failed.1, failed.2)
+    (tells_reply c.args.p c.args.n (texts c.args.words.now) _ _ (Err c.in_err-reply.field-0.0) _ (first_text c.args.words.now nothing c.in-len1-up.len_at_least)
+    (sym c.if-eq.ensures) c.in_err-reply.ensures refl)
+
+pub returns : goal.returns
+unfolding nothing
+returns c =
+    tells_reply c.args.p c.args.n (texts c.args.words.now) _ _ (Ok c.in_ok-reply.reply) _ (first_text c.args.words.now nothing c.in-len1-up.len_at_least)
+    (sym c.if-eq.ensures) c.in_ok-reply.ensures refl
