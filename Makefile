@@ -44,7 +44,8 @@ memory: build
 	sh tests/refuse-growths.sh $(PROGRAM) --threads tests/command-line/handed-over
 	@for crate in $(TESTED) script_core_tests; do (cd crates/$$crate && rt test) > crates/$$crate/out/test.log 2>&1 \
 	    || { cat crates/$$crate/out/test.log >&2; exit 1; }; done
-	@for crate in $(TESTED); do sh tests/refuse-growths-in-tests.sh crates/$$crate/out/$${crate}_tests || exit 1; done
+	@for crate in $(filter %_tests,$(TESTED)); do sh tests/refuse-growths-in-tests.sh crates/$$crate/out/$${crate}_tests || exit 1; done
+	sh tests/refuse-growths-in-tests.sh crates/call_table/out/call_table_tests . 'Memory|SpawnError'
 	sh tests/refuse-growths-in-tests.sh crates/script_core_tests/out/script_core_tests_tests memory
 
 # Refuses each thread and each growth of runs in threads in turn, and runs scripts in threads TIMES times: each order is judged by a run

@@ -1,12 +1,13 @@
 #!/bin/sh
 # Refuses each growth of each test of a crate in turn. A test takes a refusal as it comes: it looks that everything is as before
-# and makes the call again, or ends with the error of a refused growth: Memory, AllocError or, of a new thread's, SpawnError. So no
-# assertion may fail.
+# and makes the call again, or ends with the error Memory. So no assertion may fail.
 # A test whose name ends in _often makes many times what another one makes once, and is left out.
-# Usage: refuse-growths-in-tests.sh TESTS [PATTERN], the built tests of a crate, and which of them
+# Usage: refuse-growths-in-tests.sh TESTS [PATTERN [ERRORS]], the built tests of a crate, which of them, and the errors that one may
+# end with: Memory, where a test starts no thread
 set -eu
 tests=$1
 pattern=${2:-.}
+errors=${3:-Memory}
 work=$(mktemp -d)
 trap 'rm -rf "$work"' EXIT
 cc -shared -fPIC -O1 -o "$work/refuse.so" "$(dirname "$0")/refuse.c" -ldl
@@ -26,11 +27,11 @@ for test in $("$tests" --list | sed -n 's/: test$//p' | grep -E "$pattern" | gre
         refused=$((refused + 1))
         if [ "$status" -eq 0 ]; then
             passed=$((passed + 1))
-        elif ! grep -qE '^error: (Memory|AllocError|SpawnError)' "$work/out"; then
+        elif ! grep -qE "^error: ($errors)" "$work/out"; then
             echo "$test with growth $n refused:" >&2
             cat "$work/out" >&2
             exit 1
         fi
     done
 done
-echo "$(basename "$tests"): $refused growths refused in turn; $passed runs went on to their end, the rest ended with the error of a refused growth"
+echo "$(basename "$tests"): $refused growths refused in turn; $passed runs went on to their end, the rest ended with the error $errors"

@@ -382,7 +382,7 @@ fn converse(
         }
         let closed = caller.closed();
         if let Some(answer) = caller.collect() {
-            answers.push(answer)?;
+            answers.push(answer).map_err(Memory::from)?;
         } else if closed {
             return Ok(Some(answers));
         } else {
@@ -435,8 +435,8 @@ fn run_both<R: Threads + Wait + Abort + Sync>(
     second: Caller,
     server: &mut Server,
 ) -> Result<(Option<Vec<Answer>>, Option<Vec<Answer>>), Fail> {
-    let to_first = Vec::with_capacity(alloc, 4)?;
-    let to_second = Vec::with_capacity(alloc, 3)?;
+    let to_first = Vec::with_capacity(alloc, 4).map_err(Memory::from)?;
+    let to_second = Vec::with_capacity(alloc, 3).map_err(Memory::from)?;
     thread::scope(thread::scope_env(), rt, |scope| {
         let one = scope.spawn(move || converse(first, &requests_of_first(), to_first))?;
         let two = scope.spawn(move || converse(second, &requests_of_second(), to_second))?;
