@@ -2,7 +2,7 @@
 FILE ?= crates/lockreplay/stdin
 PROGRAM := crates/lockreplay/out/lockreplay
 
-.PHONY: run test build memory threads edits conformance conformance-tests docs install
+.PHONY: run test build format memory threads edits conformance conformance-tests docs install library install-library embed lockfs fuse-test
 
 run: build
 	@$(PROGRAM) $(if $(FILE),'$(FILE)')
@@ -15,7 +15,7 @@ build:
 	    || { cat crates/lockreplay/out/build.log >&2; exit 1; }
 
 # The gate, and then the command lines, the large scripts and the samples on the program as two compilers built it in the gate, what the
-# README shows, the files and names that the documents point to, that want of memory is made at one place, and the conformance tools'
+# README, the help and the manual page show, the files and names that the documents point to, that want of memory is made at one place, and the conformance tools'
 # tests but for those that a busy machine can upset.
 test:
 	rt ci
@@ -30,13 +30,17 @@ test:
 	tests/memory-is-passed-on
 	cd conformance && LOCKREPLAY=$(abspath $(PROGRAM)) python3 -m unittest tests.test_corpus tests.test_judging tests.test_lies tests.test_trace
 
+# Lays each crate out as the gate wants it.
+format:
+	@for crate in crates/*/; do (cd $$crate && rt fmt) || exit 1; done
+
 # Says of each must-fail edit what refuses it, and fails where that is a name alone; `make edits EDITS='CRATE EDIT'` tries some.
 edits:
 	rt all check
 	tests/edit-reasons $(EDITS)
 
 # Refuses each growth of runs on the sample in turn, and of the tests that look what a refusal leaves, on what was built.
-TESTED := lock_book_tests fd_table_tests lock_manager_tests session_core_tests call_table
+TESTED := lock_book_tests fd_table_tests lock_server_tests lock_manager_tests session_core_tests call_table
 memory: build
 	sh tests/refuse-growths.sh $(PROGRAM)
 	sh tests/refuse-growths.sh $(PROGRAM) crates/lockreplay/stdin
@@ -69,9 +73,43 @@ conformance-tests:
 docs:
 	mandoc -T lint -W warning docs/lockreplay.1
 
-# Puts the program and its manual page in place, below PREFIX.
+# Puts the program and its manual page in place, and the library for C, below PREFIX.
 PREFIX ?= /usr/local
-install: build
+install: build install-library
 	install -d '$(DESTDIR)$(PREFIX)/bin' '$(DESTDIR)$(PREFIX)/share/man/man1'
 	install -m 755 $(PROGRAM) '$(DESTDIR)$(PREFIX)/bin/lockreplay'
 	install -m 644 docs/lockreplay.1 '$(DESTDIR)$(PREFIX)/share/man/man1/lockreplay.1'
+
+# The library for C: the static library, proved and built where it has changed, and in the same archive the toolchain's three C functions
+# that it allocates by.
+LIBRARY := embedding/out/libdehokuna.a
+library:
+	@mkdir -p embedding/out
+	@(cd crates/lock_server_c && rt lib) < /dev/null > embedding/out/build.log 2>&1 || { cat embedding/out/build.log >&2; exit 1; }
+	@printf 'create %s\naddlib %s\naddlib %s\nsave\nend\n' $(LIBRARY) crates/lock_server_c/out/liblock_server_c.a \
+	    "$$(dirname "$$(rt doc)")/c/liblibc_c.a" | ar -M
+
+# Puts the library, its header and its pkg-config file in place, below PREFIX.
+VERSION = $(shell sed -n 's/^## //p' CHANGELOG.md | head -n 1)
+install-library: library
+	install -d '$(DESTDIR)$(PREFIX)/lib/pkgconfig' '$(DESTDIR)$(PREFIX)/include'
+	install -m 644 $(LIBRARY) '$(DESTDIR)$(PREFIX)/lib/libdehokuna.a'
+	install -m 644 embedding/dehokuna.h '$(DESTDIR)$(PREFIX)/include/dehokuna.h'
+	sed 's,@PREFIX@,$(PREFIX),; s,@VERSION@,$(VERSION),' embedding/dehokuna.pc.in > '$(DESTDIR)$(PREFIX)/lib/pkgconfig/dehokuna.pc'
+
+# Calls the library from C and from Rust; wants a C compiler with its sanitizers, and valgrind, pkg-config, C++ and rustc where they are.
+embed: library
+	@$(MAKE) --no-print-directory install-library DESTDIR= PREFIX='$(abspath embedding/out/installed)' > embedding/out/install.log
+	sh embedding/tests/embed.sh '$(abspath $(LIBRARY))' '$(abspath embedding/out)' '$(abspath embedding/out/installed)'
+
+# The file system that has its locks answered by the library; wants libfuse3.
+LOCKFS := embedding/out/lockfs
+lockfs: library
+	$(CC) -std=gnu11 -O2 -g -Wall -Wextra -Wshadow -Iembedding embedding/lockfs/lockfs.c $(LIBRARY) $$(pkg-config --cflags --libs fuse3) -o $(LOCKFS)
+
+# Programs and the corpus on a mount of it, beside a tmpfs, and what takes no corpus again under valgrind. Skips where there is no FUSE.
+fuse-test:
+	@if ! pkg-config --exists fuse3; then echo 'fuse-test: skipped: libfuse3 is not there (package libfuse3-dev)'; \
+	else $(MAKE) --no-print-directory build lockfs && LOCKREPLAY='$(abspath $(PROGRAM))' embedding/fuse-test $(LOCKFS) \
+	    && { ! command -v valgrind > /dev/null \
+	        || embedding/fuse-test -- valgrind -q --error-exitcode=9 --leak-check=full --show-leak-kinds=all $(LOCKFS); }; fi

@@ -1,6 +1,6 @@
 #!/bin/sh
-# Runs each `lockreplay` command that the README shows with its output, and compares the two; and looks that the lines of Rattle which
-# it shows are those of a test, one after another.
+# Runs each command that the README, the help and the manual page show with its output, and compares the two; and looks that the lines
+# of Rattle which the README shows are those of a test, one after another.
 # Usage: readme.sh PROGRAM
 set -eu
 program=$(cd "$(dirname "$1")" && pwd)/$(basename "$1")
@@ -18,7 +18,7 @@ judge() {
         passed=$((passed + 1))
     else
         failed=$((failed + 1))
-        echo "$1: the README shows something else:" >&2
+        echo "$1: something else is shown:" >&2
         diff "$2" "$3" >&2 || true
     fi
 }
@@ -40,11 +40,22 @@ while read -r command; do
     judge "$command" "$work/shown" "$work/seen"
 done < "$work/commands"
 
+# The example of the help, up to a blank line, and that of the manual page, up to the end of its display.
+lockreplay --help 2> "$work/help" || true
+sed -n '/^  \$ /,/^$/s/^  //p' "$work/help" > "$work/help-example"
+sed -n '/^\.Sh EXAMPLES/,/^\.Ed/p' docs/lockreplay.1 | sed -n '/^\$ /,/^\.Ed/{ /^\.Ed/d; s/\\e/\\/g; p; }' > "$work/manual-example"
+for page in help manual; do
+    tail -n +2 "$work/$page-example" > "$work/shown"
+    sed -n '1s/^\$ //p' "$work/$page-example" > "$work/command"
+    sh "$work/command" > "$work/seen" < /dev/null || true
+    judge "the example of the $page" "$work/shown" "$work/seen"
+done
+
 # The block that begins with the test's first line, against as many lines of the test.
-awk '/^    let open = / { on = 1 } on && !/^    / { exit } on' README.md > "$work/shown"
+awk '/^    let mut server = / { on = 1 } on && !/^    / { exit } on' README.md > "$work/shown"
 lines=$(wc -l < "$work/shown")
-awk -v lines="$lines" '/^    let open = / { on = 1 } on && count++ < lines' crates/lockreplay/src/tests/example.rt > "$work/seen"
+awk -v lines="$lines" '/^    let mut server = / { on = 1 } on && count++ < lines' crates/lock_server_tests/src/tests/example.rt > "$work/seen"
 judge 'the lines of Rattle' "$work/shown" "$work/seen"
 
 echo "$passed passed, $failed failed"
-[ "$failed" -eq 0 ] && [ "$passed" -gt 2 ]
+[ "$failed" -eq 0 ] && [ "$passed" -gt 4 ]

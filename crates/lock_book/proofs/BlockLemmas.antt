@@ -175,6 +175,13 @@ owner_in book items P whole all other list found =
     let entry = found_in_loop (λ e. P e.0) book.owners.entries items whole all (is_same_owner other) list found in
     subst P (sym (same_owner other entry.0 entry.1)) entry.2
 
+-- and no owner has a mode where no entry's has
+pub no_modes : (book : Book) (items : List Item) → map deref_pair items ≡ book.owners.entries → All (λ x. (byte : ℕ) → byte_modes_of book x.0.now byte ≡ None) items → (owner : Owner) (byte : ℕ) → byte_modes_of book owner byte ≡ None
+no_modes book items whole none owner byte = elim (list_of book owner) as (λ l. list_of book owner ≡ l → byte_modes_of book owner byte ≡ None) [
+  | None ↦ λ is. ap (λ (modes : ℕ → Option Mode). modes byte) (byte_modes_of-list book owner None is)
+  | Some list ↦ λ is. owner_in book items (λ o. (b : ℕ) → byte_modes_of book o b ≡ None) whole none owner list is byte
+] refl
+
 -- an owner whose mode conflicts has a list
 pub list_in : (list : Option RangeList) (byte : ℕ) (wanted : Mode) → HeldConflicts (modes_in_list list byte) wanted → (some : RangeList) × (list ≡ Some some)
 list_in None byte wanted conflicts = absurd conflicts

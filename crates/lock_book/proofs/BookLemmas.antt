@@ -15,7 +15,7 @@ use Rattle.range_core.specs.Ranges.{Modes, IsByteRange}
 use Rattle.lock_book.specs.declared.Owner.{Owner}
 use Rattle.lock_book.specs.declared.book.Book.{Book}
 use Rattle.lock_book.specs.Owners.{is_same_owner}
-use Rattle.lock_book.specs.Books.{list_of, place_of, byte_modes_of, room_in, flock_modes_of, has_flock_place, SameBook, SameButRoom, SetsOwnerMode, ReleasesOwner, SetsFlock, ReservesFlock, ReleasesFlock}
+use Rattle.lock_book.specs.Books.{list_of, place_of, byte_modes_of, room_in, flock_modes_of, has_flock_place, SameBook, SameButRoom, SetsOwnerMode, ReleasesOwner, ClearsOwner, SetsFlock, ReservesFlock, ReleasesFlock}
 use Rattle.lock_book.specs.OwnerLists.{modes_in_list, room_in_list, EachList, IsIdle}
 use Rattle.lock_book.specs.declared.book.holders.FlockHolders.{FlockHolders}
 use Rattle.lock_book.specs.Holders.{place_among, mode_in_place, PutsAmong}
@@ -383,3 +383,34 @@ owner_released old new owner same updates = ReleasesOwner-puts _ _ _ (PutsList-p
 
 pub flock_released : (old new : Book) (description : ℕ) → new.owners ≡ old.owners → PutsAmong old.flocks.places.entries new.flocks.places.entries description None → ReleasesFlock old new description
 flock_released old new description same puts = ReleasesFlock-puts _ _ _ (PutsPlace-puts old new description None same puts)
+
+-- a list without a mode, with the room that there was, put for the owner clears it
+pub ClearsOwner-puts : (old new : Book) (owner : Owner) (before after : Option RangeList) → PutsList old new owner after → list_of old owner ≡ before → ((byte : ℕ) → modes_in_list after byte ≡ None) → room_in_list after ≡ room_in_list before → ClearsOwner old new owner
+unfolding byte_modes_of room_in flock_modes_of has_flock_place
+ClearsOwner-puts old new owner before after puts was free room = record {
+  bytes = λ other byte. elim (cases_Bool (is_same_owner owner other)) [
+    | inl same ↦ rw (puts.lists other, same) (free byte)
+    | inr apart ↦ rw (puts.lists other, apart) refl
+  ];
+  rooms = λ other. elim (cases_Bool (is_same_owner owner other)) [
+    | inl same ↦
+        let there : list_of old other ≡ before = ap (list_of old) (sym (same_owner owner other same)) ∙ was in
+        rw (puts.lists other, same, there) room
+    | inr apart ↦ rw (puts.lists other, apart) refl
+  ];
+  flocks = λ description. ap mode_in_place (puts.places description);
+  places = λ description. ap is_some (puts.places description);
+}
+
+-- an owner without a list is clear
+pub ClearsOwner-nothing : (old new : Book) (owner : Owner) → new.owners ≡ old.owners → new.flocks ≡ old.flocks → list_of old owner ≡ None → ClearsOwner old new owner
+unfolding list_of place_of
+ClearsOwner-nothing old new owner owners flocks none =
+    ClearsOwner-puts old new owner None None
+    (record {
+      lists = λ other. elim (cases_Bool (is_same_owner owner other)) [
+        | inl same ↦ rw same (ap (λ (m : BTreeMap Owner RangeList). lookup (is_same_owner other) m.entries) owners ∙ ap (list_of old) (sym (same_owner owner other same)) ∙ none)
+        | inr apart ↦ rw apart (ap (λ (m : BTreeMap Owner RangeList). lookup (is_same_owner other) m.entries) owners)
+      ];
+      places = λ description. ap (λ (f : FlockHolders). place_among f.places.entries description) flocks;
+    }) none (λ byte. refl) refl

@@ -262,3 +262,29 @@ conflict_near count description wanted places sorted shared exclusive = (
         let shared_all = count_apart Read description places in
         let own = one_own (flock_modes_among places description) in
         (omega (arith, all, shared_all, exclusive, shared), omega (arith, all, shared_all, exclusive, shared, own))
+
+-- no lock stands in any place where none is counted that conflicts with a write lock
+pub none_counted : (count : LockCount) (places : Places) → IsStrictlySortedBy nat_cmp (keys_of places)
+    → count.shared ≡ locks_among Read places → count.exclusive ≡ locks_among Write places
+    → (conflicting count Write ≡ 0) ↔ ((description : ℕ) → flock_modes_among places description ≡ None)
+none_counted count places sorted shared exclusive = (
+  λ none description. no_lock description none (flock_modes_among places description) refl,
+  λ all. none_of_others all,
+)
+  where
+    no_lock : (description : ℕ) → conflicting count Write ≡ 0 → (own : Option Mode) → own ≡ flock_modes_among places description → flock_modes_among places description ≡ None
+    no_lock description none None is = sym is
+    no_lock description none (Some Read) is = absurd (let some = own_counted Read description (Some Read) places count.shared is shared in omega (arith, some))
+    no_lock description none (Some Write) is = absurd (let some = own_counted Write description (Some Write) places count.exclusive is exclusive in omega (arith, some))
+
+    none_of_others : ((description : ℕ) → flock_modes_among places description ≡ None) → conflicting count Write ≡ 0
+    none_of_others all =
+        let reads : locks_in Read (flock_modes_among places 0) ≡ 0 = ap (locks_in Read) (all 0) in
+        let writes : locks_in Write (flock_modes_among places 0) ≡ 0 = ap (locks_in Write) (all 0) in
+        let counted = conflict_counted count 0 Write places sorted
+        (let apart = count_apart Read 0 places in omega (arith, apart, shared, reads))
+        (let apart = count_apart Write 0 places in omega (arith, apart, exclusive, writes)) in
+        elim (cases_lt 0 (conflicting count Write)) [
+          | inl some ↦ absurd (let conflict = counted.0 some in subst (λ (held : Option Mode). HeldConflicts held Write) (all conflict.description) conflict.conflicts)
+          | inr none ↦ omega arith
+        ]

@@ -35,6 +35,14 @@ idle_without_runs list (run ∷ runs) are room told none empty test = (
   λ idle. absurd (let h : Some run.0 ≡ None = sym (run_has_byte (modes_of list) run runs are) ∙ idle.free run.1.first in cc),
 )
 
+-- a list has no mode on any byte where it has no runs
+pub free_by_runs : (modes : Modes) (runs : List (Mode × Span)) → AreRuns modes runs → (empty : Bool) → empty ≡ (length runs == 0) → IsTrue empty ↔ ((byte : ℕ) → modes byte ≡ None)
+free_by_runs modes [] are empty test = (λ yes. free_without_runs modes are, λ free. test)
+free_by_runs modes (run ∷ runs) are empty test = (
+  λ yes. absurd (let none_left : length (run ∷ runs) ≡ 0 = eqb-true (length (run ∷ runs)) 0 (sym test ∙ yes) in omega arith),
+  λ free. absurd (let h : Some run.0 ≡ None = sym (run_has_byte modes run runs are) ∙ free run.1.first in cc),
+)
+
 module _ (file : ℕ) (owner : Owner) where
   -- the line that tells a run
   abbrev pub run_line : Mode × Span → Held

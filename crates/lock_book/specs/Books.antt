@@ -67,6 +67,19 @@ pub record ReleasesOwner (old new : Book) (owner : Owner) : Type 0 where
   pub flocks : (description : ℕ) → flock_modes_of new description ≡ flock_modes_of old description
   pub places : (description : ℕ) → has_flock_place new description ≡ has_flock_place old description
 
+-- the owner has no mode on any byte, and all else stays, its room too (POSIX.1-2017 close; fcntl_locking(2))
+pub record ClearsOwner (old new : Book) (owner : Owner) : Type 0 where
+  pub bytes : (other : Owner) (byte : ℕ) → byte_modes_of new other byte
+      ≡ (if is_same_owner owner other then None else byte_modes_of old other byte)
+  pub rooms : (other : Owner) → room_in new other ≡ room_in old other
+  pub flocks : (description : ℕ) → flock_modes_of new description ≡ flock_modes_of old description
+  pub places : (description : ℕ) → has_flock_place new description ≡ has_flock_place old description
+
+-- nobody has a mode on any byte, nor a flock mode, however much room there is (this project's choice)
+pub record IsUnlocked (book : Book) : Type 0 where
+  pub bytes : (owner : Owner) (byte : ℕ) → byte_modes_of book owner byte ≡ None
+  pub flocks : (description : ℕ) → flock_modes_of book description ≡ None
+
 -- the description has this flock mode, and all else stays; a description has a place where it had one, or is the one that
 -- was set to a mode (flock(2))
 pub record SetsFlock (old new : Book) (description : ℕ) (mode : Option Mode) : Type 0 where

@@ -32,7 +32,8 @@ pub struct Book {
 }
 
 impl Book {
-    ghost use Rattle.lock_book.specs.Books.{byte_modes_of, room_in, flock_modes_of, has_flock_place};
+    ghost use Rattle.std.specs.Prelude.{◌↔◌, IsTrue};
+    ghost use Rattle.lock_book.specs.Books.{byte_modes_of, room_in, flock_modes_of, has_flock_place, IsUnlocked};
 
     /// No lock, no room and no place. It takes no memory.
     pub fn new(alloc: Global) -> Book
@@ -47,5 +48,23 @@ impl Book {
             flocks: FlockHolders::new(alloc),
             alloc,
         }
+    }
+    /// Whether nobody has a lock on the file, however much room is held. It takes no memory.
+    pub fn is_empty(&self) -> bool
+        ensures { IsTrue result ↔ IsUnlocked self.now }
+    {
+        self.flocks.is_empty() && self.has_no_byte_lock()
+    }
+
+    /// Whether nobody has a byte lock.
+    fn has_no_byte_lock(&self) -> bool
+        ensures { IsTrue result ↔ ((owner : Owner) (byte : ℕ) → byte_modes_of self.now owner byte ≡ None) }
+    {
+        for (_, list) in &self.owners {
+            if !list.runs().is_empty() {
+                return false;
+            }
+        }
+        true
     }
 }

@@ -191,6 +191,29 @@ fn holds_room_and_places(rt: HostRuntime) -> Result<(), Fail> {
     Ok(())
 }
 
+/// A file without a lock is empty, whatever room is held, and an owner that is cleared keeps its room.
+#[test]
+fn is_empty_without_locks(rt: HostRuntime) -> Result<(), Fail> {
+    let mut book = Book::new(rt.alloc());
+    let owner = Owner::Description(7);
+    assert!(rt; book.is_empty());
+    book.reserve(owner, 3)?;
+    book.flock_reserve(7)?;
+    assert!(rt; book.is_empty());
+
+    book.set(owner, bytes(0, 4), Some(Mode::Read))?;
+    book.set(Owner::Process(2), bytes(3, 4), Some(Mode::Read))?;
+    book.clear_owner(owner);
+    assert!(rt; book.room(owner) >= 3);
+    assert!(rt; !book.is_empty());
+    book.clear_owner(Owner::Process(2));
+    assert!(rt; book.is_empty());
+
+    book.flock_set(7, Some(Mode::Read))?;
+    assert!(rt; !book.is_empty());
+    Ok(())
+}
+
 /// A call that may grow.
 #[derive(Clone, Copy, Debug)]
 enum Growth {

@@ -1,14 +1,14 @@
 -- What holds of the machine after it has released what a call closed.
-use Rattle.std.proofs.Common.{ℕ, ◌≡◌, ◌≢◌, All, ◌<◌, ◌+◌, ◌==◌, refl, sym, ◌∙◌, ap, subst, List, Some, None, Option, Bool, true, false, length}
+use Rattle.std.proofs.Common.{ℕ, ◌≡◌, ◌≢◌, All, ◌==◌, refl, sym, ◌∙◌, ap, subst, List, Some, None, Option, Bool, true, false}
 use Rattle.std.proofs.Math.Logic.{∥∥₁_map}
-use Rattle.std.specs.Prelude.{◌&&◌, if◌then◌else◌, slice_set}
+use Rattle.std.specs.Prelude.{◌&&◌, ◌||◌, if◌then◌else◌}
 use Rattle.range_core.specs.declared.Mode.{Mode}
 use Rattle.lock_book.specs.declared.Owner.TheVariants.{Description}
 use Rattle.fd_table.specs.declared.tables.Tables.{Tables}
 use Rattle.fd_table.specs.Released.{Released}
 use Rattle.fd_table.specs.Descriptors.{Descriptors, IsOpen}
 use Rattle.fd_table.specs.Calls.{CloseGives, DupToGives, EndGives}
-use Rattle.fd_table.specs.TablesView.{StandFor, limits_of}
+use Rattle.fd_table.specs.TablesView.{StandFor, limits_of, ever_alive}
 use Rattle.wait_core.specs.declared.Wait.{Wait}
 use Rattle.wait_core.specs.Locks.{Locks, locks_of}
 use Rattle.wait_core.specs.WaitsView.{waits_of, without_wait_of}
@@ -16,8 +16,8 @@ use Rattle.lock_manager.specs.declared.machine.Machine.{Machine}
 use Rattle.lock_manager.specs.declared.request.Reply.TheVariants as replies
 use Rattle.lock_manager.specs.declared.request.Request.TheVariants.{DupTo, CloseFd}
 use Rattle.lock_manager.specs.declared.request.ProcState.{ProcState}
-use Rattle.lock_manager.specs.declared.request.ProcState.TheVariants.{Live, Ended}
-use Rattle.lock_manager.specs.State.{State, with_process, state_numbered}
+use Rattle.lock_manager.specs.declared.request.ProcState.TheVariants.{Live, Waiting, Ended}
+use Rattle.lock_manager.specs.State.{State, with_process, state_numbered, StandsSo}
 use Rattle.lock_manager.specs.Safety.{AreCompatible}
 use Rattle.lock_manager.specs.declared.request.Note.{Note}
 use Rattle.lock_manager.specs.DescriptorCalls.{with_released}
@@ -29,7 +29,9 @@ use Rattle.lock_manager.proofs.AfterReleaseLemmas.{bytes_after, flocks_after}
 use Rattle.lock_manager.proofs.CallLemmas.{Giving, IsServedBy}
 use Rattle.lock_manager.proofs.ClosingLemmas.{Closing, open_after, file_released, not_closed, end_closes}
 use Rattle.lock_manager.proofs.OwnedLemmas.{owned_in}
-use Rattle.lock_manager.proofs.ProcessLemmas.{state_numbered-set}
+use Rattle.lock_manager.proofs.ProcessLemmas.{alive_with, alive_still, lived_before, waiting_still, waited_before}
+use Rattle.lock_manager.proofs.WaitLemmas.{suspended_after}
+use Rattle.lock_manager.specs.WaitsKept.{AreStanding}
 use Rattle.lock_manager.proofs.ProcessCallLemmas.{without_absent}
 use Rattle.lock_manager.proofs.WaitCloseLemmas.{holders_closed}
 
@@ -102,9 +104,9 @@ with_release_and_states : (old new : Machine) (S : State) (E : Descriptors) (p :
     → ((q : ℕ) → machine_state new q ≡ states q) → waits_of new.waits ≡ waits_of old.waits → Shows old S → StandFor new.tables E → Shows new (record (with_released S E p released) { states = states })
 unfolding machine_locks machine_waits
 with_release_and_states old new S E p released states closing releases at waits h tables =
-    let owned = owned_in old.tables (locks_of old.books.items) (waits_of old.waits) S.descriptors old.owned h.descriptors in
+    let owned = owned_in old.tables (locks_of old.books.items) (waits_of old.waits) S.descriptors old.kept.owned h.descriptors in
     record {
-      bytes = bytes_after (locks_of old.books.items) (locks_of new.books.items) S E p released h.bytes owned old.within closing releases;
+      bytes = bytes_after (locks_of old.books.items) (locks_of new.books.items) S E p released h.bytes owned old.kept.within closing releases;
       flocks = flocks_after (locks_of old.books.items) (locks_of new.books.items) S E p released h.flocks owned closing releases;
       descriptors = tables;
       waits = waits ∙ h.waits;
@@ -120,14 +122,14 @@ with_release old new S E p released closing releases states waits h tables =
     with_release_and_states old new S E p released S.states closing releases (λ q. rw states (h.states q)) waits h tables
 
 -- and where the process ends, for that in which it has ended
-with_end : (old new : Machine) (S : State) (E : Descriptors) (p place : ℕ) (released : Released) → Closing S.descriptors E p released
+with_end : (old new : Machine) (S : State) (E : Descriptors) (p : ℕ) (released : Released) → Closing S.descriptors E p released
     → ReleasesLocks (locks_of old.books.items) (locks_of new.books.items) p released.files released.descriptions
-    → new.states.items ≡ slice_set old.states.items place Ended → p ≡ place + 1 → place < length old.states.items → waits_of new.waits ≡ waits_of old.waits
+    → StandsSo old.states.items new.states.items p Ended → waits_of new.waits ≡ waits_of old.waits
     → Shows old S → StandFor new.tables E → Shows new (with_process (with_released S E p released) p Ended)
 unfolding machine_state
-with_end old new S E p place released closing releases states at within waits h tables =
+with_end old new S E p released closing releases states waits h tables =
     with_release_and_states old new S E p released (λ q. if q == p then Ended else S.states q) closing releases
-    (λ q. rw states (state_numbered-set old.states.items p place Ended at within q ∙ ap (λ s. if q == p then Ended else s) (h.states q))) waits h tables
+    (λ q. states q ∙ ap (λ s. if q == p then Ended else s) (h.states q)) waits h tables
 
 -- close
 abbrev pub Closes : ℕ → ℕ → Giving Released
@@ -152,34 +154,40 @@ served_by_dup2 old p fd to S n outcome h =
     (h.0, h.1, subst (λ limits. DupToGives limits S.descriptors p fd to h.0 h.1) old.limited h.2, h.3)
 
 -- the end of a process, which has no wait
-pub ended : (old new : Machine) (p place : ℕ) (released : Released)
+pub ended : (old new : Machine) (p : ℕ) (released : Released)
     → ((D : Descriptors) → StandFor old.tables D → (E : Descriptors) × EndGives D p released E × StandFor new.tables E)
     → ReleasesLocks (locks_of old.books.items) (locks_of new.books.items) p released.files released.descriptions
-    → new.states.items ≡ slice_set old.states.items place Ended → p ≡ place + 1 → place < length old.states.items → waits_of new.waits ≡ waits_of old.waits
+    → StandsSo old.states.items new.states.items p Ended → waits_of new.waits ≡ waits_of old.waits
     → All (λ wait. wait.p ≢ p) (waits_of old.waits)
     → (told : List Note) (S : State) → Shows old S → (T : State) × EndComesTo S p told (record { told = told; after = T }) × Shows new T
 unfolding machine_waits
-ended old new p place released call releases states at within waits others told S h =
+ended old new p released call releases states waits others told S h =
     let given = call S.descriptors h.descriptors in
     let none : without_wait_of S.waits p ≡ S.waits = without_absent S.waits p (subst (λ ws. All (λ wait. wait.p ≢ p) ws) h.waits others) in
-    let shown = with_end old new S given.0 p place released (end_closes S.descriptors given.0 p released given.1) releases states at within waits h given.2 in (
+    let shown = with_end old new S given.0 p released (end_closes S.descriptors given.0 p released given.1) releases states waits h given.2 in (
       with_process (with_released (without_wait S p) given.0 p released) p Ended,
       (released, given.0, given.1, refl),
       subst (λ ws. Shows new (with_process (with_released (record S { waits = ws }) given.0 p released) p Ended)) (sym none) shown,
     )
 
--- who lives after another one's end lived before
-pub lived_before : (states : List ProcState) (p place : ℕ) → p ≡ place + 1 → place < length states
-    → (q : ℕ) → state_numbered (slice_set states place Ended) q ≡ Live → state_numbered states q ≡ Live
-lived_before states p place at within q live =
-    lived (q == p) (state_numbered states q) (sym (state_numbered-set states p place Ended at within q) ∙ live)
-  where
-    lived : (b : Bool) (was : ProcState) → (if b then Ended else was) ≡ Live → was ≡ Live
-    lived true was e = cc
-    lived false was e = e
+-- whoever lives or waits after another one's end does so as before
+pub standing_ended : (old new : Tables) (states states' : List ProcState) (before after : List Wait) (p : ℕ) → StandsSo states states' p Ended → state_numbered states p ≡ Live
+    → ((q : ℕ) → ever_alive new q ≡ ever_alive old q) → after ≡ before → AreStanding old states before → AreStanding new states' after
+standing_ended old new states states' before after p set live alive same h = subst (AreStanding new states') (sym same) (record {
+  alive = λ q lives. alive q ∙ h.alive q (lived_before states states' p Ended set (λ e. cc) q lives);
+  suspended = suspended_after old new states states' before (λ q born. alive q ∙ born)
+      (λ q born waits. waiting_still states states' p Ended set q (λ same. (let both : Waiting ≡ Live = sym waits ∙ ap (state_numbered states) same ∙ live in cc)) waits)
+      h.suspended;
+  awaited = λ q waits. h.awaited q (waited_before states states' p Ended set (λ e. cc) q waits).1;
+})
 
--- and was ever alive
-pub alive_without : (states : List ProcState) (alive : ℕ → Bool) (p place : ℕ) → p ≡ place + 1 → place < length states
-    → ((q : ℕ) → state_numbered states q ≡ Live → alive q ≡ true)
-    → (q : ℕ) → state_numbered (slice_set states place Ended) q ≡ Live → alive q ≡ true
-alive_without states alive p place at within before q live = before q (lived_before states p place at within q live)
+-- and after another one's birth, that was never alive
+pub standing_forked : (old new : Tables) (states states' : List ProcState) (waits : List Wait) (child : ℕ) → StandsSo states states' child Live
+    → ((q : ℕ) → ever_alive new q ≡ ((q == child) || ever_alive old q)) → ¬ (ever_alive old child ≡ true) → AreStanding old states waits → AreStanding new states' waits
+standing_forked old new states states' waits child set more never h = record {
+  alive = alive_with states states' (λ q. ever_alive old q) (λ q. ever_alive new q) child set more h.alive;
+  suspended = suspended_after old new states states' waits (alive_still (λ q. ever_alive old q) (λ q. ever_alive new q) child more)
+      (λ q born waits. waiting_still states states' child Live set q (λ same. never (subst (λ r. ever_alive old r ≡ true) same born)) waits)
+      h.suspended;
+  awaited = λ q waits. h.awaited q (waited_before states states' child Live set (λ e. cc) q waits).1;
+}

@@ -10,7 +10,7 @@ use Rattle.lock_book.specs.declared.Owner.{Owner}
 use Rattle.lock_book.specs.declared.book.Book.{Book}
 use Rattle.lock_book.specs.Owners.{is_same_owner}
 use Rattle.lock_book.specs.Changes.{Change, sets_byte, mode_from}
-use Rattle.lock_book.specs.Books.{flock_modes_of, SetsOwnerMode, SameBook}
+use Rattle.lock_book.specs.Books.{byte_modes_of, flock_modes_of, SetsOwnerMode, SameBook}
 use Rattle.wait_core.specs.Locks.{Locks, locks_of, byte_modes_at, flock_modes_at}
 use Rattle.std.proofs.lemmas.Bool.Decides.{eqb_tells}
 use Rattle.std.proofs.lemmas.Bool.{eqb-true}
@@ -83,18 +83,27 @@ set_flocks books file old new within was same f d =
     rw (slice_get-set books file f new within)
     (flocks_at (file == f) (slice_get books f) old new d (entry_is books file f old was) (same d))
 
--- a refused change of one book leaves all modes
-same_at : (is_it : Bool) (entry : Option Book) (old new : Book) (o : Owner) (byte : ℕ) → (is_it ≡ true → entry ≡ Some old) → SameBook old new
+-- nor do the byte modes change where the owners have the same in the two books
+same_at : (is_it : Bool) (entry : Option Book) (old new : Book) (o : Owner) (byte : ℕ) → (is_it ≡ true → entry ≡ Some old) → byte_modes_of new o byte ≡ byte_modes_of old o byte
     → byte_modes_at (if is_it then Some new else entry) o byte ≡ byte_modes_at entry o byte
-same_at true entry old new o byte was same = same.bytes o byte ∙ ap (λ e. byte_modes_at e o byte) (sym (was refl))
+same_at true entry old new o byte was same = same ∙ ap (λ e. byte_modes_at e o byte) (sym (was refl))
 same_at false entry old new o byte was same = refl
 
 pub same_bytes : (books : List Book) (file : ℕ) (old new : Book)
-    → file < length books → slice_get books file ≡ Some old → SameBook old new
+    → file < length books → slice_get books file ≡ Some old → ((o : Owner) (byte : ℕ) → byte_modes_of new o byte ≡ byte_modes_of old o byte)
     → (f : ℕ) (o : Owner) (byte : ℕ) → (locks_of (slice_set books file new)).bytes f o byte ≡ (locks_of books).bytes f o byte
 same_bytes books file old new within was same f o byte =
     rw (slice_get-set books file f new within)
-    (same_at (file == f) (slice_get books f) old new o byte (entry_is books file f old was) same)
+    (same_at (file == f) (slice_get books f) old new o byte (entry_is books file f old was) (same o byte))
+
+-- where a book is replaced by one with the same locks, all locks stay
+pub locks_stay : (books : List Book) (file : ℕ) (old new : Book) → file < length books → slice_get books file ≡ Some old
+    → ((o : Owner) (byte : ℕ) → byte_modes_of new o byte ≡ byte_modes_of old o byte) → ((d : ℕ) → flock_modes_of new d ≡ flock_modes_of old d)
+    → locks_of (slice_set books file new) ≡ locks_of books
+locks_stay books file old new within was bytes flocks i = record {
+  bytes = λ f o byte. same_bytes books file old new within was bytes f o byte i;
+  flocks = λ f d. set_flocks books file old new within was flocks f d i;
+}
 
 -- one owner's mode of a change, or what stood there
 abbrev pub changed : Locks → ℕ → Owner → Span → Option Mode → ℕ → Owner → ℕ → Option Mode
@@ -113,7 +122,7 @@ pub after_set : (P : Locks → Type 0) (books : List Book) (file : ℕ) (old new
 after_set P books file old new owner span mode (Ok done) within was sets same then_changed then_same =
     then_changed (set_bytes books file old new owner span mode within was sets) (set_flocks books file old new within was sets.flocks)
 after_set P books file old new owner span mode (Err memory) within was sets same then_changed then_same =
-    then_same (same_bytes books file old new within was same) (set_flocks books file old new within was same.flocks)
+    then_same (same_bytes books file old new within was same.bytes) (set_flocks books file old new within was same.flocks)
 
 -- the book that a mutable loan of an element of the list reads
 pub book_at : (books : List Book) (i file : ℕ) (book : Book) → i ≡ file → file < length books → book ≡ get_or books i book → slice_get books file ≡ Some book

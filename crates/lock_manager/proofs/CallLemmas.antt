@@ -1,5 +1,5 @@
 -- From a call on descriptors to what the request comes to.
-use Rattle.std.proofs.Common.{ℕ, ◌≡◌, ◌≢◌, refl, subst, Ok, Err, Result, IfOk, List}
+use Rattle.std.proofs.Common.{ℕ, ◌≡◌, refl, subst, Ok, Err, Result, IfOk, List}
 use Rattle.std.proofs.Math.Logic.{∥∥₁_elim}
 use Rattle.std.specs.Prelude.{MatchResult}
 use Rattle.range_core.specs.declared.Memory.{Memory}

@@ -9,7 +9,7 @@ use Rattle.range_core.specs.Ranges.{Conflict, HeldConflicts}
 use Rattle.lock_book.specs.declared.Owner.{Owner}
 use Rattle.lock_book.specs.declared.Owner.TheVariants.{Process, Description}
 use Rattle.lock_book.specs.declared.book.Book.{Book}
-use Rattle.lock_book.specs.Books.{byte_modes_of, flock_modes_of, room_in, has_flock_place, SetsFlock, ReservesFlock, SameBook}
+use Rattle.lock_book.specs.Books.{flock_modes_of, room_in, has_flock_place, SetsFlock, ReservesFlock, SameBook}
 use Rattle.lock_book.specs.Changes.{FlockChange, flock_mode_from}
 use Rattle.lock_book.specs.Conflicts.{FlockConflict}
 use Rattle.fd_table.specs.declared.tables.Tables.{Tables}
@@ -19,39 +19,31 @@ use Rattle.wait_core.specs.declared.waits.Waits.{Waits}
 use Rattle.wait_core.specs.WellFormed.{IsWellFormed}
 use Rattle.fd_table.specs.declared.tables.Look.{Look}
 use Rattle.lock_manager.specs.FlockCalls.{wanted_flock}
-use Rattle.wait_core.specs.Locks.{Locks, locks_of, byte_modes_at, flock_modes_at}
+use Rattle.wait_core.specs.Locks.{Locks, locks_of, flock_modes_at}
 use Rattle.wait_core.specs.Cycles.{IsFreeOfCycles}
-use Rattle.wait_core.specs.Settled.{AreBlockedElsewhere, AgreeElsewhere}
-use Rattle.wait_core.specs.WaitsView.{waits_of, policy_of, processes_of, AreTold}
-use Rattle.wait_core.specs.FreeOfCycles.{FreeWhenDescriptionLocksChange, FreeWhenOneJoins}
+use Rattle.wait_core.specs.Blocking.{IsBlockedIn}
+use Rattle.wait_core.specs.Settled.{AreBlockedElsewhere}
+use Rattle.wait_core.specs.WaitsView.{waits_of, AreTold}
+use Rattle.wait_core.specs.FreeOfCycles.{FreeWhenDescriptionLocksChange}
 use Rattle.lock_manager.specs.declared.machine.Machine.{Machine}
-use Rattle.lock_manager.specs.State.{State, with_flock_mode, with_process, state_numbered}
-use Rattle.lock_manager.specs.declared.request.ProcState.{ProcState}
-use Rattle.lock_manager.specs.declared.request.ProcState.TheVariants.{Live, Waiting}
-use Rattle.lock_manager.proofs.ProcessLemmas.{state_numbered-set}
+use Rattle.lock_manager.specs.State.{State, with_flock_mode}
 use Rattle.lock_manager.specs.Safety.{AreCompatible}
-use Rattle.lock_manager.specs.DescriptionLocks.{IsOpenOn, AreOwned, AreWithinFiles, MayLock, MayWait}
-use Rattle.lock_manager.specs.MachineView.{Shows, SameMachine, machine_rules, machine_processes, machine_locks, machine_state, machine_waits}
-use Rattle.lock_manager.specs.WaitsKept.{AreApart, HaveRoom, is_byte_wait, is_flock_wait, is_of_bytes, is_of_whole, has_place_at, SameWaits, StayKnown}
-use Rattle.lock_manager.proofs.BookLemmas.{slice_get-set, slice_get-set_same, entry_is}
+use Rattle.lock_manager.specs.DescriptionLocks.{IsOpenOn, AreOwned, AreWithinFiles, MayLock}
+use Rattle.lock_manager.specs.MachineView.{Shows, machine_locks, machine_state, machine_waits}
+use Rattle.lock_manager.specs.WaitsKept.{AreKept, AreApart, HaveRoom, is_byte_wait, is_flock_wait, is_of_bytes, is_of_whole, has_place_at, SameWaits, StayBlocked}
+use Rattle.lock_manager.proofs.BookLemmas.{slice_get-set, slice_get-set_same, entry_is, same_bytes}
 use Rattle.lock_manager.proofs.SafetyLemmas.{both, conflict_back, same_owner}
 use Rattle.lock_manager.proofs.OwnedLemmas.{none_but_set}
-use Rattle.lock_manager.proofs.WaitLemmas.{rooms_at, told_by_bytes, waits_of_others, agree_elsewhere}
-use Rattle.lock_manager.proofs.SuspendLemmas.{locks_stay, counted, owned_joined}
+use Rattle.lock_manager.proofs.WaitLemmas.{told_by_bytes, room_with, same_room, KeepsLocks, keeps_same}
+use Rattle.lock_manager.proofs.SuspendLemmas.{counted}
 use Rattle.std.specs.List.{list_any}
+use Rattle.std.specs.Option.{is_some}
 use Rattle.std.proofs.lemmas.List.Folds.{list_any-append}
-use Rattle.std.proofs.lemmas.List.Quantifiers.{all_pairs_push}
 use Rattle.lock_book.specs.Owners.{is_same_owner}
-use Rattle.wait_core.specs.declared.Family.TheVariants.{Whole}
-use Rattle.lock_manager.proofs.KeptLemmas.{AreKept}
+use Rattle.wait_core.specs.declared.Family.{Family}
+use Rattle.wait_core.specs.declared.Family.TheVariants.{Bytes, Whole}
 
--- the byte locks of a book that was changed, or of another one
-bytes_at : (is_it : Bool) (entry : Option Book) (old new : Book) (o : Owner) (byte : ℕ) → (is_it ≡ true → entry ≡ Some old) → byte_modes_of new o byte ≡ byte_modes_of old o byte
-    → byte_modes_at (if is_it then Some new else entry) o byte ≡ byte_modes_at entry o byte
-bytes_at true entry old new o byte was same = same ∙ ap (λ e. byte_modes_at e o byte) (sym (was refl))
-bytes_at false entry old new o byte was same = refl
-
--- and its flock locks
+-- the flock locks of a book that was changed, or of another one
 flocks_at : (is_it : Bool) (entry : Option Book) (old new : Book) (description : ℕ) (mode : Option Mode) (d : ℕ) → (is_it ≡ true → entry ≡ Some old) → SetsFlock old new description mode
     → flock_modes_at (if is_it then Some new else entry) d ≡ (if is_it && (description == d) then mode else flock_modes_at entry d)
 flocks_at true entry old new description mode d was sets = sets.flocks d ∙ ap (λ e. if description == d then mode else flock_modes_at e d) (sym (was refl))
@@ -62,8 +54,7 @@ flock_set_bytes : (books : List Book) (file : ℕ) (old new : Book) (description
     → file < length books → slice_get books file ≡ Some old → SetsFlock old new description mode
     → (f : ℕ) (o : Owner) (byte : ℕ) → (locks_of (slice_set books file new)).bytes f o byte ≡ (locks_of books).bytes f o byte
 flock_set_bytes books file old new description mode within was sets f o byte =
-    rw (slice_get-set books file f new within)
-    (bytes_at (file == f) (slice_get books f) old new o byte (entry_is books file f old was) (sets.bytes o byte))
+    same_bytes books file old new within was sets.bytes f o byte
 
 -- and of the flock locks all but the one
 flock_set_flocks : (books : List Book) (file : ℕ) (old new : Book) (description : ℕ) (mode : Option Mode)
@@ -150,42 +141,14 @@ pub flock_place_kept : (old new : Book) (description : ℕ) (mode : Option Mode)
     → has_flock_place old d ≡ true → has_flock_place new d ≡ true
 flock_place_kept old new description mode sets d there = sets.places d ∙ or_right _ (has_flock_place old d) there
 
-place_at : (is_it : Bool) (entry : Option Book) (old new : Book) (d : ℕ) → (is_it ≡ true → entry ≡ Some old) → (has_flock_place old d ≡ true → has_flock_place new d ≡ true)
-    → has_place_at entry d ≡ true → has_place_at (if is_it then Some new else entry) d ≡ true
-place_at true entry old new d was kept there = kept (subst (λ e. has_place_at e d ≡ true) (was refl) there)
-place_at false entry old new d was kept there = there
-
--- a book in whose place one stands that keeps its places
-pub places_kept : (books : List Book) (file : ℕ) (old new : Book) → file < length books → slice_get books file ≡ Some old
-    → ((d : ℕ) → has_flock_place old d ≡ true → has_flock_place new d ≡ true)
-    → (f d : ℕ) → has_place_at (slice_get books f) d ≡ true → has_place_at (slice_get (slice_set books file new) f) d ≡ true
-places_kept books file old new within was kept f d there =
-    rw (slice_get-set books file f new within)
-    (place_at (file == f) (slice_get books f) old new d (entry_is books file f old was) (kept d) there)
-
-same_number : (n k : ℕ) → k ≡ n → n ≤ k
-same_number n k e = omega (arith, e)
-
--- it has room for the waits, where it also has the same room
-pub room_in_places : (books : List Book) (waits : List Wait) (file : ℕ) (old new : Book) → file < length books → slice_get books file ≡ Some old
-    → ((o : Owner) → room_in new o ≡ room_in old o) → ((d : ℕ) → has_flock_place old d ≡ true → has_flock_place new d ≡ true)
-    → HaveRoom books waits → HaveRoom (slice_set books file new) waits
-room_in_places books waits file old new within was same kept h =
-    record {
-      rooms = λ f o. rw (slice_get-set books file f new within)
-          (rooms_at (file == f) (slice_get books f) old new o (length (filter (is_byte_wait f o) waits)) (entry_is books file f old was)
-          (same_number (room_in old o) (room_in new o) (same o)) (h.rooms f o));
-      places = λ f d asked. places_kept books file old new within was kept f d (h.places f d asked);
-    }
-
 -- what holds of the machine holds after a change of a flock lock that nothing blocks
 pub kept_by_flock : FreeWhenDescriptionLocksChange → (m : Machine) (books : List Book) (waits : Waits) (file : ℕ) (old new : Book) (description : ℕ) (mode : Option Mode)
     → books ≡ slice_set m.books.items file new → file < length m.books.items → slice_get m.books.items file ≡ Some old
     → MayLock m.tables file (Description description)
     → ((k : Mode) → mode ≡ Some k → ¬ FlockConflict ((locks_of m.books.items).flocks file) (Description description) k)
     → SetsFlock old new description mode → SameWaits m.waits waits → ((locks : Locks) → AreTold m.waits locks → AreTold waits locks)
-    → ((before after : Locks) → AreBlockedElsewhere m.waits before → AgreeElsewhere file before after → AreBlockedElsewhere waits after)
-    → AreKept m.rules m.processes m.tables books waits
+    → (AreBlockedElsewhere m.waits (locks_of m.books.items) → AreBlockedElsewhere waits (locks_of (slice_set m.books.items file new)))
+    → AreKept m.rules.policy m.tables books waits
 kept_by_flock all m books waits file old new description mode is within was may free sets waits_same told blocked =
     let before = m.books.items in
     let after = slice_set before file new in
@@ -193,24 +156,22 @@ kept_by_flock all m books waits file old new description mode is within was may 
     let bytes = flock_set_bytes before file old new description mode within was sets in
     let flocks = flock_set_flocks before file old new description mode within was sets in
     record {
-      compatible = subst (λ bs. AreCompatible (locks_of bs)) (sym is) (compatible_flock (locks_of before) (locks_of after) file description mode m.compatible free bytes flocks);
+      compatible = subst (λ bs. AreCompatible (locks_of bs)) (sym is) (compatible_flock (locks_of before) (locks_of after) file description mode m.kept.compatible free bytes flocks);
       owned = subst (λ bs. AreOwned m.tables (locks_of bs) (waits_of waits)) (sym is)
           (subst (AreOwned m.tables (locks_of after)) (sym waits_same.waits)
-          (owned_flock m.tables list (locks_of before) (locks_of after) file description mode may bytes flocks m.owned));
-      within = subst (λ bs. AreWithinFiles (locks_of bs)) (sym is) (λ f o byte past. bytes f o byte ∙ m.within f o byte past);
-      policy = waits_same.policy ∙ m.policy;
-      counted = waits_same.processes ∙ m.counted;
+          (owned_flock m.tables list (locks_of before) (locks_of after) file description mode may bytes flocks m.kept.owned));
+      within = subst (λ bs. AreWithinFiles (locks_of bs)) (sym is) (λ f o byte past. bytes f o byte ∙ m.kept.within f o byte past);
       told = subst (λ bs. ∥ AreTold waits (locks_of bs) ∥₁) (sym is)
-          (∥∥₁_map m.told (λ known. told (locks_of after) (told_by_bytes m.waits (locks_of before) (locks_of after) bytes known)));
+          (∥∥₁_map m.kept.told (λ known. told (locks_of after) (told_by_bytes m.waits (locks_of before) (locks_of after) bytes known)));
       blocked = subst (λ bs. ∥ AreBlockedElsewhere waits (locks_of bs) ∥₁) (sym is)
-          (∥∥₁_map m.blocked (λ known. blocked (locks_of before) (locks_of after) known (agree_elsewhere before file new)));
-      apart = subst AreApart (sym waits_same.waits) m.apart;
+          (∥∥₁_map m.kept.blocked blocked);
+      apart = subst AreApart (sym waits_same.waits) m.kept.apart;
       room = subst (λ bs. HaveRoom bs (waits_of waits)) (sym is)
           (subst (HaveRoom after) (sym waits_same.waits)
-          (room_in_places before list file old new within was sets.rooms (flock_place_kept old new description mode sets) m.room));
+          (room_with before list file old new within was (λ o. same_room (room_in old o) (room_in new o) (sets.rooms o)) (flock_place_kept old new description mode sets) m.kept.room));
       free_of_cycles = subst (λ bs. IsFreeOfCycles m.rules.policy (locks_of bs) (waits_of waits)) (sym is)
           (subst (IsFreeOfCycles m.rules.policy (locks_of after)) (sym waits_same.waits)
-          (all m.rules.policy (locks_of before) (locks_of after) list m.free_of_cycles (λ f q byte. bytes f (Process q) byte)));
+          (all m.rules.policy (locks_of before) (locks_of after) list m.kept.free_of_cycles (λ f q byte. bytes f (Process q) byte)));
     }
 
 -- the machine shows the state with the changed flock lock
@@ -232,76 +193,66 @@ with_flock_change old new S file book changed description mode books tables stat
       states = λ p. rw states (h.states p);
     }
 
--- who lives lives on where another one begins to
-pub live_still : (states : List ProcState) (p place : ℕ) → p ≡ place + 1 → place < length states → (q : ℕ) → state_numbered states q ≡ Live
-    → state_numbered (slice_set states place Live) q ≡ Live
-live_still states p place at within q live = state_numbered-set states p place Live at within q ∙ either (q == p)
-  where
-    either : (b : Bool) → (if b then Live else state_numbered states q) ≡ Live
-    either true = refl
-    either false = live
+pub none_from_test : (mode : Option Mode) → is_some mode ≡ false → mode ≡ None
+none_from_test None test = refl
+none_from_test (Some mode) test = (let differ : true ≡ false = test in cc)
 
--- at most a place for a flock lock was taken
-pub record PlaceTaken (old new : Book) : Type 0 where
-  pub bytes : (o : Owner) (byte : ℕ) → byte_modes_of new o byte ≡ byte_modes_of old o byte
-  pub rooms : (o : Owner) → room_in new o ≡ room_in old o
-  pub flocks : (d : ℕ) → flock_modes_of new d ≡ flock_modes_of old d
-  pub kept : (d : ℕ) → has_flock_place old d ≡ true → has_flock_place new d ≡ true
+-- a lock that conflicts stands where there was none only if it stood there before
+conflict_still : (is_it : Bool) (mode held : Option Mode) (wanted : Mode) → (is_it ≡ true → held ≡ None) → HeldConflicts held wanted → HeldConflicts (if is_it then mode else held) wanted
+conflict_still true mode held wanted none conflict = absurd (subst (λ h. HeldConflicts h wanted) (none refl) conflict)
+conflict_still false mode held wanted none conflict = conflict
+
+-- where a description without a flock lock gets one, or none, whoever was blocked stays so
+pub flock_frees_none : (books : List Book) (file : ℕ) (old new : Book) (description : ℕ) (mode : Option Mode)
+    → file < length books → slice_get books file ≡ Some old → SetsFlock old new description mode → flock_modes_of old description ≡ None
+    → StayBlocked (locks_of books) (locks_of (slice_set books file new))
+flock_frees_none books file old new description mode within was sets none wait blocked = of_family wait.family blocked
+  where
+    before : Locks
+    before = locks_of books
+
+    after : Locks
+    after = locks_of (slice_set books file new)
+
+    held : ℕ → ℕ → Option Mode
+    held f d = flock_modes_at (slice_get books f) d
+
+    there : held file description ≡ None
+    there = rw was none
+
+    of_family : (family : Family) → IsBlockedIn family before wait → IsBlockedIn family after wait
+    of_family Bytes h = record {
+      byte = h.byte;
+      covered = h.covered;
+      other = h.other;
+      blocks = record {
+        another = h.blocks.another;
+        conflicts = subst (λ m. HeldConflicts m wait.mode) (sym (flock_set_bytes books file old new description mode within was sets wait.file h.other h.byte)) h.blocks.conflicts;
+      };
+    }
+    of_family Whole h = record {
+      description = h.description;
+      another = h.another;
+      conflicts = subst (λ m. HeldConflicts m wait.mode) (sym (flock_set_flocks books file old new description mode within was sets wait.file h.description))
+          (conflict_still ((file == wait.file) && (description == h.description)) mode (held wait.file h.description) wait.mode
+          (λ is. let is_both = is_of file description wait.file h.description is in
+          subst (λ (n : ℕ). held n h.description ≡ None) is_both.0 (subst (λ (n : ℕ). held file n ≡ None) is_both.1 there)) h.conflicts);
+    }
 
 or_else : (a b : Bool) → b ≡ true → (a || b) ≡ true
 or_else true b is = refl
 or_else false b is = is
 
--- so it is after a place was asked for, refused or not
+-- a book in which a place was asked for, refused or not, keeps its locks
 pub place_taken : (old new : Book) (description : ℕ) (result : Result (Unit {0}) Memory) → OnOk result (ReservesFlock old new description) → OnErr result (SameBook old new)
-    → PlaceTaken old new
-place_taken old new description (Ok done) reserves same =
-    record { bytes = reserves.bytes; rooms = reserves.rooms; flocks = reserves.flocks; kept = λ d there. reserves.places d ∙ or_else (description == d) (has_flock_place old d) there }
-place_taken old new description (Err memory) reserves same =
-    record { bytes = same.bytes; rooms = same.rooms; flocks = same.flocks; kept = λ d there. same.places d ∙ there }
-
--- what holds of the machine holds after that
-pub kept_by_place : (m : Machine) (books : List Book) (file : ℕ) (old new : Book) → books ≡ slice_set m.books.items file new → file < length m.books.items
-    → slice_get m.books.items file ≡ Some old → PlaceTaken old new → AreKept m.rules m.processes m.tables books m.waits
-kept_by_place m books file old new is within was taken =
-    let before = m.books.items in
-    let locks : locks_of books ≡ locks_of before = ap (λ bs. locks_of bs) is ∙ locks_stay before file old new within was taken.bytes taken.flocks in
-    record {
-      compatible = subst AreCompatible (sym locks) m.compatible;
-      owned = subst (λ ls. AreOwned m.tables ls (waits_of m.waits)) (sym locks) m.owned;
-      within = subst AreWithinFiles (sym locks) m.within;
-      policy = m.policy;
-      counted = m.counted;
-      told = subst (λ ls. ∥ AreTold m.waits ls ∥₁) (sym locks) m.told;
-      blocked = subst (λ ls. ∥ AreBlockedElsewhere m.waits ls ∥₁) (sym locks) m.blocked;
-      apart = m.apart;
-      room = subst (λ bs. HaveRoom bs (waits_of m.waits)) (sym is) (room_in_places before (waits_of m.waits) file old new within was taken.rooms taken.kept m.room);
-      free_of_cycles = subst (λ ls. IsFreeOfCycles m.rules.policy ls (waits_of m.waits)) (sym locks) m.free_of_cycles;
-    }
-
--- and the machine shows the same states
-pub same_by_place : (old new : Machine) (file : ℕ) (book after : Book)
-    → new.books.items ≡ slice_set old.books.items file after → new.tables ≡ old.tables → new.states ≡ old.states → new.rules ≡ old.rules → new.processes ≡ old.processes
-    → waits_of new.waits ≡ waits_of old.waits → file < length old.books.items → slice_get old.books.items file ≡ Some book → PlaceTaken book after → SameMachine old new
-unfolding machine_locks machine_state machine_waits machine_rules machine_processes
-same_by_place old new file book after books tables states rules processes waits within was taken =
-    let locks : locks_of new.books.items ≡ locks_of old.books.items =
-    ap (λ bs. locks_of bs) books ∙ locks_stay old.books.items file book after within was taken.bytes taken.flocks in
-    record {
-      bytes = λ f o byte. ap (λ (ls : Locks). ls.bytes f o byte) locks;
-      flocks = λ f d. ap (λ (ls : Locks). ls.flocks f d) locks;
-      waits = waits;
-      shows = λ S h. record {
-        bytes = λ f o byte. ap (λ (ls : Locks). ls.bytes f o byte) locks ∙ h.bytes f o byte;
-        flocks = λ f d. ap (λ (ls : Locks). ls.flocks f d) locks ∙ h.flocks f d;
-        descriptors = subst (λ t. StandFor t S.descriptors) (sym tables) h.descriptors;
-        waits = waits ∙ h.waits;
-        states = λ p. rw states (h.states p);
-      };
-      states = λ p. rw states refl;
-      rules = rules;
-      processes = processes;
-    }
+    → KeepsLocks old new
+place_taken old new description (Ok done) reserves same = record {
+  bytes = reserves.bytes;
+  rooms = λ o. same_room (room_in old o) (room_in new o) (reserves.rooms o);
+  flocks = reserves.flocks;
+  places = λ d there. reserves.places d ∙ or_else (description == d) (has_flock_place old d) there;
+}
+place_taken old new description (Err memory) reserves same = keeps_same old new same
 
 -- the place is there then
 pub placed : (before books : List Book) (file : ℕ) (old new : Book) (description : ℕ) (result : Result (Unit {0}) Memory)
@@ -342,44 +293,6 @@ room_joined_flock books waits wait description family owner there h = record {
         subst (λ g. has_place_at (slice_get books g) d ≡ true) file (subst (λ k. has_place_at (slice_get books wait.file) k ≡ true) same there)
     at f d false e asked =
         h.places f d (before (list_any (is_flock_wait f d) waits) (is_flock_wait f d wait) e (sym (list_any-append (is_flock_wait f d) waits (wait ∷ [])) ∙ asked))
-
--- what holds of the machine holds after a process has begun to wait for a flock lock
-pub kept_by_wait : FreeWhenOneJoins → (m : Machine) (waits : Waits) (wait : Wait) (description : ℕ)
-    → wait.family ≡ Whole → wait.owner ≡ Description description → has_place_at (slice_get m.books.items wait.file) description ≡ true
-    → MayWait m.tables wait.p wait.file wait.owner → state_numbered m.states.items wait.p ≡ Live
-    → waits_of waits ≡ waits_of m.waits ++ wait ∷ [] → policy_of waits ≡ policy_of m.waits → processes_of waits ≡ processes_of m.waits
-    → StayKnown m.waits waits (locks_of m.books.items) (locks_of m.books.items) → AreKept m.rules m.processes m.tables m.books.items waits
-kept_by_wait joins m waits wait description family owner there may live list policy processes known =
-    let books = m.books.items in
-    record {
-      compatible = m.compatible;
-      owned = subst (AreOwned m.tables (locks_of books)) (sym list) (owned_joined m.tables (locks_of books) (waits_of m.waits) wait may m.owned);
-      within = m.within;
-      policy = policy ∙ m.policy;
-      counted = processes ∙ m.counted;
-      told = ∥∥₁_map m.told known.told;
-      blocked = ∥∥₁_map m.blocked known.blocked;
-      apart = subst AreApart (sym list)
-          (all_pairs_push (λ (v w : Wait). v.p ≢ w.p) (waits_of m.waits) wait m.apart (waits_of_others m.tables m.states.items (waits_of m.waits) wait.p m.suspended live));
-      room = subst (HaveRoom books) (sym list) (room_joined_flock books (waits_of m.waits) wait description family owner there m.room);
-      free_of_cycles = subst (IsFreeOfCycles m.rules.policy (locks_of books)) (sym list)
-          (joins m.rules.policy (locks_of books) (waits_of m.waits) wait m.free_of_cycles (λ (is : wait.owner ≡ Process wait.p). absurd (let no : Description description ≡ Process wait.p = sym owner ∙ is in cc)));
-    }
-
--- the machine shows the state in which the process waits
-pub with_flock_wait : (old new : Machine) (S : State) (wait : Wait) (place : ℕ)
-    → new.books ≡ old.books → new.tables ≡ old.tables → waits_of new.waits ≡ waits_of old.waits ++ wait ∷ []
-    → new.states.items ≡ slice_set old.states.items place Waiting → wait.p ≡ place + 1 → place < length old.states.items
-    → Shows old S → Shows new (with_process (record S { waits = S.waits ++ wait ∷ [] }) wait.p Waiting)
-unfolding machine_locks machine_state machine_waits
-with_flock_wait old new S wait place books tables waits states at there h =
-    record {
-      bytes = λ f o byte. rw books (h.bytes f o byte);
-      flocks = λ f d. rw books (h.flocks f d);
-      descriptors = subst (λ t. StandFor t S.descriptors) (sym tables) h.descriptors;
-      waits = waits ∙ ap (λ ws. ws ++ wait ∷ []) h.waits;
-      states = λ q. rw states (state_numbered-set old.states.items wait.p place Waiting at there q ∙ ap (λ s. if q == wait.p then Waiting else s) (h.states q));
-    }
 
 -- a request for a flock lock of a process that there is, on a file that there is, can be asked for
 pub well_formed_flock : {processes : ℕ} (wanted : Wait) (look : Look) → wanted ≡ wanted_flock wanted.p wanted.n look wanted.mode → 1 ≤ wanted.p → wanted.p ≤ processes → look.file < 64

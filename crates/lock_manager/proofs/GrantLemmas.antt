@@ -73,7 +73,7 @@ room_granted books waits wait old new found family within was sets kept h =
     record {
       rooms = λ f o. rw (slice_get-set books wait.file f new within) (rooms f o (wait.file == f) refl);
       places = λ f d asked. rw (slice_get-set books wait.file f new within)
-          (places_at (wait.file == f) (slice_get books f) old new d (entry_is books wait.file f old was) (sets.places d)
+          (places_at (wait.file == f) (slice_get books f) old new d (entry_is books wait.file f old was) (λ there. sets.places d ∙ there)
           (h.places f d (found_without (is_flock_wait f d) waits wait.p asked)));
     }
   where

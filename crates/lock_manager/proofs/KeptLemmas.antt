@@ -24,17 +24,16 @@ use Rattle.wait_core.specs.declared.Policy.{Policy}
 use Rattle.wait_core.specs.declared.waits.Waits.{Waits}
 use Rattle.wait_core.specs.Locks.{Locks, byte_modes_at, locks_of}
 use Rattle.wait_core.specs.Cycles.{IsFreeOfCycles}
-use Rattle.wait_core.specs.WaitsView.{waits_of, policy_of, processes_of, AreTold, AgreeButOwner}
+use Rattle.wait_core.specs.WaitsView.{waits_of, AreTold, AgreeButOwner}
 use Rattle.wait_core.specs.Settled.{AreBlockedElsewhere, AgreeElsewhere}
 use Rattle.wait_core.specs.FreeOfCycles.{FreeWhenLocksChange, FreeWhenDescriptionLocksChange}
 use Rattle.lock_manager.specs.declared.machine.Machine.{Machine}
-use Rattle.lock_manager.specs.declared.request.Rules.{Rules}
 use Rattle.lock_manager.specs.declared.request.ProcState.TheVariants.{Live}
 use Rattle.lock_manager.specs.State.{state_numbered}
 use Rattle.lock_manager.specs.Safety.{AreCompatible}
 use Rattle.lock_manager.specs.DescriptionLocks.{AreOwned, AreWithinFiles, MayLock}
 use Rattle.lock_manager.specs.LockReleases.{ReleasesInBook, ReleasesLocks, ReleasesRoom}
-use Rattle.lock_manager.specs.WaitsKept.{AreApart, HaveRoom, SameWaits, StayKnown}
+use Rattle.lock_manager.specs.WaitsKept.{AreKept, AreApart, HaveRoom, SameWaits, StayKnown}
 use Rattle.lock_manager.proofs.BookLemmas.{after_set, slice_get-set_same, slice_get-set_other}
 use Rattle.lock_manager.proofs.SafetyLemmas.{compatible_after, same_owner}
 use Rattle.lock_manager.proofs.OwnedLemmas.{owned_set, within_files_set}
@@ -42,19 +41,6 @@ use Rattle.lock_manager.proofs.ClosingLemmas.{Closing}
 use Rattle.lock_manager.proofs.AfterCloseLemmas.{compatible_released, owned_released, within_released}
 use Rattle.lock_manager.proofs.WaitLemmas.{waits_of_others, not_owned_by, agree_elsewhere, free_after, room_after}
 use Rattle.lock_manager.proofs.WaitCloseLemmas.{none_of_released, room_released}
-
--- what holds of these tables, books and waits
-pub record AreKept (rules : Rules) (processes : ℕ) (tables : Tables) (books : List Book) (waits : Waits) : Type 0 where
-  pub compatible : AreCompatible (locks_of books)
-  pub owned : AreOwned tables (locks_of books) (waits_of waits)
-  pub within : AreWithinFiles (locks_of books)
-  pub policy : policy_of waits ≡ rules.policy
-  pub counted : processes_of waits ≡ processes
-  pub told : ∥ AreTold waits (locks_of books) ∥₁
-  pub blocked : ∥ AreBlockedElsewhere waits (locks_of books) ∥₁
-  pub apart : AreApart (waits_of waits)
-  pub room : HaveRoom books (waits_of waits)
-  pub free_of_cycles : IsFreeOfCycles rules.policy (locks_of books) (waits_of waits)
 
 -- a byte that is tested to lie in a range does
 covers_by_test : (span : Span) (byte : ℕ) → is_covered span byte ≡ true → Covers span byte
@@ -115,7 +101,7 @@ pub kept_in_room : FreeWhenLocksChange → FreeWhenDescriptionLocksChange → (m
     → ((k : Mode) → mode ≡ Some k → ¬ ByteConflict ((locks_of m.books.items).bytes file) owner span k)
     → OnOk result (SetsOwnerMode old new owner span mode) → HaveRoom (slice_set m.books.items file new) (waits_of m.waits) → OnErr result (SameBook old new)
     → SameWaits m.waits waits → (AgreeElsewhere file (locks_of m.books.items) (locks_of books) → AgreeButOwner file owner span (locks_of m.books.items) (locks_of books) → StayKnown m.waits waits (locks_of m.books.items) (locks_of books))
-    → AreKept m.rules m.processes m.tables books waits
+    → AreKept m.rules.policy m.tables books waits
 kept_in_room one all m books waits file old new owner span mode result is within was may range live free sets room same waits_same known =
     let before = m.books.items in
     let after = slice_set before file new in
@@ -123,23 +109,21 @@ kept_in_room one all m books waits file old new owner span mode result is within
     let still = known (subst (λ bs. AgreeElsewhere file (locks_of before) (locks_of bs)) (sym is) (agree_elsewhere before file new))
     (subst (λ bs. AgreeButOwner file owner span (locks_of before) (locks_of bs)) (sym is) (owner_alone before file old new owner span mode result within was sets same)) in
     let idle : (p : ℕ) → owner ≡ Process p → All (λ wait. wait.owner ≢ Process p) list =
-    λ p e. not_owned_by m.tables (locks_of before) list p m.owned (waits_of_others m.tables m.states.items list p m.suspended (live p e)) in
+    λ p e. not_owned_by m.tables (locks_of before) list p m.kept.owned (waits_of_others m.tables m.states.items list p m.standing.suspended (live p e)) in
     record {
-      compatible = subst (λ bs. AreCompatible (locks_of bs)) (sym is) (compatible_after before file old new owner span mode result within was free sets same m.compatible);
+      compatible = subst (λ bs. AreCompatible (locks_of bs)) (sym is) (compatible_after before file old new owner span mode result within was free sets same m.kept.compatible);
       owned = subst (λ bs. AreOwned m.tables (locks_of bs) (waits_of waits)) (sym is)
           (subst (λ ws. AreOwned m.tables (locks_of after) ws) (sym waits_same.waits)
-          (owned_set m.tables list before file old new owner span mode result within was may sets same m.owned));
-      within = subst (λ bs. AreWithinFiles (locks_of bs)) (sym is) (within_files_set before file old new owner span mode result within was range sets same m.within);
-      policy = waits_same.policy ∙ m.policy;
-      counted = waits_same.processes ∙ m.counted;
-      told = ∥∥₁_map m.told still.told;
-      blocked = ∥∥₁_map m.blocked still.blocked;
-      apart = subst AreApart (sym waits_same.waits) m.apart;
+          (owned_set m.tables list before file old new owner span mode result within was may sets same m.kept.owned));
+      within = subst (λ bs. AreWithinFiles (locks_of bs)) (sym is) (within_files_set before file old new owner span mode result within was range sets same m.kept.within);
+      told = ∥∥₁_map m.kept.told still.told;
+      blocked = ∥∥₁_map m.kept.blocked still.blocked;
+      apart = subst AreApart (sym waits_same.waits) m.kept.apart;
       room = subst (λ bs. HaveRoom bs (waits_of waits)) (sym is)
           (subst (HaveRoom after) (sym waits_same.waits) room);
       free_of_cycles = subst (λ bs. IsFreeOfCycles m.rules.policy (locks_of bs) (waits_of waits)) (sym is)
           (subst (IsFreeOfCycles m.rules.policy (locks_of after)) (sym waits_same.waits)
-          (free_after one all m.rules.policy list before file old new owner span mode result within was idle sets same m.free_of_cycles));
+          (free_after one all m.rules.policy list before file old new owner span mode result within was idle sets same m.kept.free_of_cycles));
     }
 
 -- so it does where the change takes no room
@@ -149,10 +133,10 @@ pub kept_by_change : FreeWhenLocksChange → FreeWhenDescriptionLocksChange → 
     → ((k : Mode) → mode ≡ Some k → ¬ ByteConflict ((locks_of m.books.items).bytes file) owner span k)
     → OnOk result (SetsOwnerMode old new owner span mode) → OnOk result (room_in old owner ≤ room_in new owner) → OnErr result (SameBook old new)
     → SameWaits m.waits waits → (AgreeElsewhere file (locks_of m.books.items) (locks_of books) → AgreeButOwner file owner span (locks_of m.books.items) (locks_of books) → StayKnown m.waits waits (locks_of m.books.items) (locks_of books))
-    → AreKept m.rules m.processes m.tables books waits
+    → AreKept m.rules.policy m.tables books waits
 kept_by_change one all m books waits file old new owner span mode result is within was may range live free sets kept same waits_same known =
     kept_in_room one all m books waits file old new owner span mode result is within was may range live free sets
-    (room_after (waits_of m.waits) m.books.items file old new owner span mode result within was sets kept same m.room) same waits_same known
+    (room_after (waits_of m.waits) m.books.items file old new owner span mode result within was sets kept same m.kept.room) same waits_same known
 
 -- and after a release of what a live process closed
 pub kept_by_release : (m : Machine) (tables : Tables) (books : List Book) (waits : Waits) (p : ℕ) (released : Released)
@@ -163,22 +147,20 @@ pub kept_by_release : (m : Machine) (tables : Tables) (books : List Book) (waits
     → SameWaits m.waits waits → StayKnown m.waits waits (locks_of m.books.items) (locks_of books)
     → ((policy : Policy) → All (λ wait. wait.owner ≢ Process p) (waits_of m.waits) → IsFreeOfCycles policy (locks_of m.books.items) (waits_of m.waits)
     → IsFreeOfCycles policy (locks_of books) (waits_of waits))
-    → AreKept m.rules m.processes tables books waits
+    → AreKept m.rules.policy tables books waits
 kept_by_release m tables books waits p released live call locks room same known free =
     let old = locks_of m.books.items in
     let new = locks_of books in
     let list = waits_of m.waits in
-    let others : All (λ wait. wait.p ≢ p) list = waits_of_others m.tables m.states.items list p m.suspended live in
+    let others : All (λ wait. wait.p ≢ p) list = waits_of_others m.tables m.states.items list p m.standing.suspended live in
     record {
-      compatible = compatible_released old new p released.files released.descriptions locks m.compatible;
-      owned = subst (AreOwned tables new) (sym same.waits) (owned_released m.tables tables old new list p released call locks others m.owned);
-      within = within_released old new p released.files released.descriptions locks m.within;
-      policy = same.policy ∙ m.policy;
-      counted = same.processes ∙ m.counted;
-      told = ∥∥₁_map m.told known.told;
-      blocked = ∥∥₁_map m.blocked known.blocked;
-      apart = subst AreApart (sym same.waits) m.apart;
+      compatible = compatible_released old new p released.files released.descriptions locks m.kept.compatible;
+      owned = subst (AreOwned tables new) (sym same.waits) (owned_released m.tables tables old new list p released call locks others m.kept.owned);
+      within = within_released old new p released.files released.descriptions locks m.kept.within;
+      told = ∥∥₁_map m.kept.told known.told;
+      blocked = ∥∥₁_map m.kept.blocked known.blocked;
+      apart = subst AreApart (sym same.waits) m.kept.apart;
       room = subst (HaveRoom books) (sym same.waits)
-          (room_released m.books.items books list p released.files released.descriptions room (none_of_released m.tables tables old list p released call others m.owned) m.room);
-      free_of_cycles = free m.rules.policy (not_owned_by m.tables old list p m.owned others) m.free_of_cycles;
+          (room_released m.books.items books list p released.files released.descriptions room (none_of_released m.tables tables old list p released call others m.kept.owned) m.kept.room);
+      free_of_cycles = free m.rules.policy (not_owned_by m.tables old list p m.kept.owned others) m.kept.free_of_cycles;
     }

@@ -1,5 +1,6 @@
 pub mod AfterCloseLemmas
 pub mod AfterReleaseLemmas
+pub mod AskingLemmas
 pub mod AtLeastOneLemmas
 pub mod AtMostOneLemmas
 pub mod BlockerLaws
@@ -22,6 +23,7 @@ pub mod ProcessCallLemmas
 pub mod ProcessLemmas
 pub mod ReleaseLaws
 pub mod ReleaseLemmas
+pub mod ReplyLemmas
 pub mod ReportLemmas
 pub mod SafetyLemmas
 pub mod SettleLemmas
@@ -37,3 +39,4 @@ pub mod SuspendLemmas
 pub mod WaitCloseLemmas
 pub mod WaitLemmas
 pub mod WholeLemmas
+pub mod UnlockLemmas

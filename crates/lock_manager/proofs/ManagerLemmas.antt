@@ -39,7 +39,7 @@ same_manager old new same =
 pub safe_machine : (machine : Machine) → AllBlocked (machine_rules machine).policy (machine_locks machine) [] (machine_waits machine)
     → IsSafe (machine_rules machine).policy (machine_locks machine) (machine_waits machine)
 unfolding machine_rules machine_locks machine_waits
-safe_machine machine blocked = record { compatible = machine.compatible; settled = blocked; free_of_cycles = machine.free_of_cycles }
+safe_machine machine blocked = record { compatible = machine.kept.compatible; settled = blocked; free_of_cycles = machine.kept.free_of_cycles }
 
 -- and so is one with the same locks and waits
 pub safe_still : (old new : Machine) → SameMachine old new → IsSafe (machine_rules old).policy (machine_locks old) (machine_waits old)

@@ -1,21 +1,26 @@
 -- What fork, exit, signal and kill do to the waits and to the states that a machine shows.
-use Rattle.std.proofs.Common.{ℕ, suc, ◌≡◌, ◌≢◌, ◌<◌, ◌≤◌, ◌+◌, refl, sym, ◌∙◌, ap, subst, List, [], ◌∷◌, length, Some, Bool, true, false, All, get_or, inl, inr, arith}
+use Rattle.std.proofs.Common.{ℕ, suc, ◌≡◌, ◌≢◌, ◌≤◌, ◌+◌, refl, sym, ◌∙◌, ap, subst, List, [], ◌∷◌, length, Some, Bool, true, false, All, get_or, inl, inr, arith}
 use Rattle.std.proofs.Math.Logic.{∥∥₁_map}
 use Rattle.std.proofs.lemmas.Bool.{cases_Bool}
 use Rattle.std.proofs.lemmas.Bool.Decides.{eqb_tells}
 use Rattle.std.proofs.lemmas.List.Elements.{All-filter, filter_passes}
-use Rattle.std.specs.Prelude.{◌==◌, if◌then◌else◌, not, slice_set}
+use Rattle.std.proofs.lemmas.List.Kept.{AllPairs-filter}
+use Rattle.std.specs.Prelude.{◌==◌, if◌then◌else◌, not}
 use Rattle.std.specs.List.{filter, list_any}
 use Rattle.lock_book.specs.declared.book.Book.{Book}
 use Rattle.fd_table.specs.declared.tables.Tables.{Tables}
 use Rattle.fd_table.specs.TablesView.{StandFor, ever_alive}
 use Rattle.wait_core.specs.declared.Wait.{Wait}
-use Rattle.wait_core.specs.Locks.{Locks}
-use Rattle.wait_core.specs.WaitsView.{waits_of, wait_of, without_wait_of}
+use Rattle.wait_core.specs.declared.waits.Waits.{Waits}
+use Rattle.wait_core.specs.Cycles.{IsFreeOfCycles}
+use Rattle.wait_core.specs.FreeOfCycles.{FreeWhenOneLeaves}
+use Rattle.wait_core.specs.Locks.{Locks, locks_of}
+use Rattle.wait_core.specs.Settled.{AreBlockedElsewhere}
+use Rattle.wait_core.specs.WaitsView.{waits_of, wait_of, without_wait_of, AreTold}
 use Rattle.lock_manager.specs.declared.machine.Machine.{Machine}
 use Rattle.lock_manager.specs.declared.request.ProcState.{ProcState}
-use Rattle.lock_manager.specs.declared.request.ProcState.TheVariants.{Live, Waiting, Ended}
-use Rattle.lock_manager.specs.State.{State, state_numbered, with_process}
+use Rattle.lock_manager.specs.declared.request.ProcState.TheVariants.{Live, Ended}
+use Rattle.lock_manager.specs.State.{State, state_numbered, with_process, StandsSo}
 use Rattle.lock_manager.specs.ProcessCalls.{EndComesTo, KillOtherComesTo, without_wait}
 use Rattle.lock_manager.specs.DescriptorCalls.{with_released}
 use Rattle.lock_manager.specs.Outcomes.{Outcome}
@@ -23,8 +28,8 @@ use Rattle.lock_manager.specs.declared.request.Note.{Note}
 use Rattle.lock_manager.specs.declared.request.Request.TheVariants.{Kill}
 use Rattle.lock_manager.specs.DescriptionLocks.{MayWaitAs, AreOwned}
 use Rattle.lock_manager.specs.MachineView.{Shows, Tells, machine_state, machine_locks, machine_waits}
-use Rattle.lock_manager.specs.WaitsKept.{IsSuspended, AreAwaited, HaveRoom, is_byte_wait, is_flock_wait}
-use Rattle.lock_manager.proofs.ProcessLemmas.{state_numbered-set, waiting_still, waited_before}
+use Rattle.lock_manager.specs.WaitsKept.{AreKept, AreApart, IsSuspended, AreStanding, HaveRoom, is_byte_wait, is_flock_wait}
+use Rattle.lock_manager.proofs.ProcessLemmas.{waiting_still, waited_before}
 
 -- no wait of a process is left without it
 pub without_passes : (waits : List Wait) (p : ℕ) → All (λ wait. wait.p ≢ p) (without_wait_of waits p)
@@ -143,55 +148,57 @@ owned_without tables locks waits p owned =
       All-filter (λ (wait : Wait). not (wait.p == p)) (λ wait. MayWaitAs given.0 wait wait.owner) waits given.3,
     ))
 
--- and their processes stay suspended, whatever becomes of the one whose wait is gone
-pub suspended_without : (tables : Tables) (states : List ProcState) (waits : List Wait) (p place : ℕ) (state : ProcState) → p ≡ place + 1 → place < length states
-    → All (IsSuspended tables states) waits → All (IsSuspended tables (slice_set states place state)) (without_wait_of waits p)
-suspended_without tables states waits p place state at within h k d inside =
-    let wait = get_or (without_wait_of waits p) k d in
-    let was = All-filter (λ (wait : Wait). not (wait.p == p)) (IsSuspended tables states) waits h k d inside in
+-- the process whose wait is over lives, and the others wait on
+pub standing_left : (tables : Tables) (states states' : List ProcState) (waits : List Wait) (p : ℕ) (found : Wait) → StandsSo states states' p Live
+    → wait_of waits p ≡ Some found → AreStanding tables states waits → AreStanding tables states' (without_wait_of waits p)
+standing_left tables states states' waits p found set is h = record {
+  alive = λ q live. elim (eqb_tells q p) [
+    | inl same ↦
+        let born : ever_alive tables found.p ≡ true = (found_holds (IsSuspended tables states) waits p found is h.suspended).born in
+        subst (λ r. ever_alive tables r ≡ true) (found_of waits p found is ∙ sym same.1) born
+    | inr other ↦ h.alive q (ap (λ b. if b then Live else state_numbered states q) (sym other.0) ∙ sym (set q) ∙ live)
+  ];
+  suspended = λ k d inside.
+      let wait = get_or (without_wait_of waits p) k d in
+      let was = All-filter (λ (wait : Wait). not (wait.p == p)) (IsSuspended tables states) waits h.suspended k d inside in
+      record { born = was.born; waiting = waiting_still states states' p Live set wait.p (without_passes waits p k d inside) was.waiting };
+  awaited = λ q waits_on none.
+      let before = waited_before states states' p Live set (λ e. cc) q waits_on in
+      h.awaited q before.1 (sym (other_found waits p q before.0) ∙ none);
+}
+
+-- what is kept stays where a wait is over
+pub kept_by_leave : FreeWhenOneLeaves → (m : Machine) (waits : Waits) (p : ℕ) → waits_of waits ≡ without_wait_of (waits_of m.waits) p
+    → ((locks : Locks) → AreTold m.waits locks → AreTold waits locks) → ((locks : Locks) → AreBlockedElsewhere m.waits locks → AreBlockedElsewhere waits locks)
+    → AreKept m.rules.policy m.tables m.books.items waits
+kept_by_leave leaves m waits p rest told blocked =
+    let books = m.books.items in
+    let locks = locks_of books in
+    let before = waits_of m.waits in
     record {
-      born = was.born;
-      waiting = waiting_still states p place state at within wait.p (without_passes waits p k d inside) was.waiting;
+      compatible = m.kept.compatible;
+      owned = subst (AreOwned m.tables locks) (sym rest) (owned_without m.tables locks before p m.kept.owned);
+      within = m.kept.within;
+      told = ∥∥₁_map m.kept.told (told locks);
+      blocked = ∥∥₁_map m.kept.blocked (blocked locks);
+      apart = subst AreApart (sym rest) (AllPairs-filter (λ (v w : Wait). v.p ≢ w.p) (λ (wait : Wait). not (wait.p == p)) before m.kept.apart);
+      room = subst (HaveRoom books) (sym rest) (room_without books before p m.kept.room);
+      free_of_cycles = subst (IsFreeOfCycles m.rules.policy locks) (sym rest) (leaves m.rules.policy locks before p m.kept.free_of_cycles);
     }
 
--- whoever waits on is awaited in what is left
-pub awaited_without : (states : List ProcState) (waits : List Wait) (p place : ℕ) (state : ProcState) → p ≡ place + 1 → place < length states → state ≢ Waiting
-    → AreAwaited states waits → AreAwaited (slice_set states place state) (without_wait_of waits p)
-awaited_without states waits p place state at within other h q waits_on none =
-    let before = waited_before states p place state at within other q waits_on in
-    h q before.1 (sym (other_found waits p q before.0) ∙ none)
-
--- whoever lives after a wait is over was ever alive
-pub alive_without_wait : (tables : Tables) (states : List ProcState) (waits : List Wait) (p place : ℕ) (found : Wait) → p ≡ place + 1 → place < length states
-    → wait_of waits p ≡ Some found → All (IsSuspended tables states) waits → ((q : ℕ) → state_numbered states q ≡ Live → ever_alive tables q ≡ true)
-    → (q : ℕ) → state_numbered (slice_set states place Live) q ≡ Live → ever_alive tables q ≡ true
-alive_without_wait tables states waits p place found at within is suspended before q live = elim (eqb_tells q p) [
-  | inl same ↦
-      let born : ever_alive tables found.p ≡ true = (found_holds (IsSuspended tables states) waits p found is suspended).born in
-      subst (λ r. ever_alive tables r ≡ true) (found_of waits p found is ∙ sym same.1) born
-  | inr other ↦ before q (ap (λ b. if b then Live else state_numbered states q) (sym other.0) ∙ sym (state_numbered-set states p place Live at within q) ∙ live)
-]
-
--- the process that was changed stands as it was told to
-pub stands_set : (states : List ProcState) (p place : ℕ) (state : ProcState) → p ≡ place + 1 → place < length states → state_numbered (slice_set states place state) p ≡ state
-stands_set states p place state at within = elim (eqb_tells p p) [
-  | inl same ↦ state_numbered-set states p place state at within p ∙ ap (λ b. if b then state else state_numbered states p) same.0
-  | inr other ↦ absurd (other.1 refl)
-]
-
 -- with the same books and tables the machine shows the state without the wait, in which the process stands so
-pub with_wait_gone : (old new : Machine) (S : State) (p place : ℕ) (state : ProcState) → new.books ≡ old.books → new.tables ≡ old.tables
-    → new.states.items ≡ slice_set old.states.items place state → p ≡ place + 1 → place < length old.states.items
+pub with_wait_gone : (old new : Machine) (S : State) (p : ℕ) (state : ProcState) → new.books ≡ old.books → new.tables ≡ old.tables
+    → StandsSo old.states.items new.states.items p state
     → waits_of new.waits ≡ without_wait_of (waits_of old.waits) p
     → Shows old S → Shows new (with_process (without_wait S p) p state)
 unfolding machine_locks machine_state machine_waits
-with_wait_gone old new S p place state books tables states at within waits h =
+with_wait_gone old new S p state books tables states waits h =
     record {
       bytes = λ file owner byte. rw books (h.bytes file owner byte);
       flocks = λ file description. rw books (h.flocks file description);
       descriptors = subst (λ t. StandFor t S.descriptors) (sym tables) h.descriptors;
       waits = waits ∙ ap (λ ws. without_wait_of ws p) h.waits;
-      states = λ q. rw states (state_numbered-set old.states.items p place state at within q ∙ ap (λ s. if q == p then state else s) (h.states q));
+      states = λ q. states q ∙ ap (λ s. if q == p then state else s) (h.states q);
     }
 
 -- the end of a process right after its wait is over is the end of one that waits

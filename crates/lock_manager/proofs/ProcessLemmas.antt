@@ -6,7 +6,7 @@ use Rattle.std.proofs.lemmas.Option.{slice_get_past}
 use Rattle.std.proofs.lemmas.Bool.Decides.{eqb_tells}
 use Rattle.lock_manager.specs.declared.request.ProcState.{ProcState}
 use Rattle.lock_manager.specs.declared.request.ProcState.TheVariants.{Unborn, Live, Waiting}
-use Rattle.lock_manager.specs.State.{state_numbered}
+use Rattle.lock_manager.specs.State.{state_numbered, StandsSo}
 use Rattle.lock_manager.proofs.BookLemmas.{slice_get-set_same, slice_get-set_other}
 
 -- one process' state is replaced, and every other one stays
@@ -23,11 +23,10 @@ state_numbered-set states p place state at within (suc k) = elim (eqb_tells (suc
 ]
 
 -- where one process more was ever alive, and that one lives from now on, whoever lives was ever alive
-pub alive_with : (states : List ProcState) (was is : ℕ → Bool) (child place : ℕ) → child ≡ place + 1 → place < length states
+pub alive_with : (states states' : List ProcState) (was is : ℕ → Bool) (child : ℕ) → StandsSo states states' child Live
     → ((q : ℕ) → is q ≡ ((q == child) || was q)) → ((q : ℕ) → state_numbered states q ≡ Live → was q ≡ true)
-    → (q : ℕ) → state_numbered (slice_set states place Live) q ≡ Live → is q ≡ true
-alive_with states was is child place at within more before q live =
-    more q ∙ counted (q == child) (sym (state_numbered-set states child place Live at within q) ∙ live)
+    → (q : ℕ) → state_numbered states' q ≡ Live → is q ≡ true
+alive_with states states' was is child set more before q live = more q ∙ counted (q == child) (sym (set q) ∙ live)
   where
     counted : (b : Bool) → (if b then Live else state_numbered states q) ≡ Live → (b || was q) ≡ true
     counted true lives = refl
@@ -50,20 +49,44 @@ pub place_of_waiting : (states : List ProcState) (p : ℕ) → state_numbered st
 place_of_waiting states p waits = place_of_born states p (λ unborn. cc)
 
 -- whoever waits waits on while the state of another process changes
-pub waiting_still : (states : List ProcState) (p place : ℕ) (state : ProcState) → p ≡ place + 1 → place < length states → (q : ℕ) → q ≢ p
-    → state_numbered states q ≡ Waiting → state_numbered (slice_set states place state) q ≡ Waiting
-waiting_still states p place state at within q other waits = elim (eqb_tells q p) [
+pub waiting_still : (states states' : List ProcState) (p : ℕ) (state : ProcState) → StandsSo states states' p state → (q : ℕ) → q ≢ p
+    → state_numbered states q ≡ Waiting → state_numbered states' q ≡ Waiting
+waiting_still states states' p state set q other waits = elim (eqb_tells q p) [
   | inl same ↦ absurd (other same.1)
-  | inr differs ↦ state_numbered-set states p place state at within q ∙ rw differs.0 waits
+  | inr differs ↦ set q ∙ rw differs.0 waits
 ]
 
 -- where one process' state becomes another than Waiting, whoever waits is another one, and waited before
-pub waited_before : (states : List ProcState) (p place : ℕ) (state : ProcState) → p ≡ place + 1 → place < length states → state ≢ Waiting
-    → (q : ℕ) → state_numbered (slice_set states place state) q ≡ Waiting → (q ≢ p) × (state_numbered states q ≡ Waiting)
-waited_before states p place state at within other q waits = elim (eqb_tells q p) [
-  | inl same ↦ absurd (other (ap (λ b. if b then state else state_numbered states q) (sym same.0) ∙ sym (state_numbered-set states p place state at within q) ∙ waits))
-  | inr differs ↦ (differs.1, ap (λ b. if b then state else state_numbered states q) (sym differs.0) ∙ sym (state_numbered-set states p place state at within q) ∙ waits)
+pub waited_before : (states states' : List ProcState) (p : ℕ) (state : ProcState) → StandsSo states states' p state → state ≢ Waiting
+    → (q : ℕ) → state_numbered states' q ≡ Waiting → (q ≢ p) × (state_numbered states q ≡ Waiting)
+waited_before states states' p state set other q waits = elim (eqb_tells q p) [
+  | inl same ↦ absurd (other (ap (λ b. if b then state else state_numbered states q) (sym same.0) ∙ sym (set q) ∙ waits))
+  | inr differs ↦ (differs.1, ap (λ b. if b then state else state_numbered states q) (sym differs.0) ∙ sym (set q) ∙ waits)
 ]
+
+-- the process that was changed stands as it was told to
+pub stands_set : (states states' : List ProcState) (p : ℕ) (state : ProcState) → StandsSo states states' p state → state_numbered states' p ≡ state
+stands_set states states' p state set = elim (eqb_tells p p) [
+  | inl same ↦ set p ∙ ap (λ b. if b then state else state_numbered states p) same.0
+  | inr other ↦ absurd (other.1 refl)
+]
+
+-- who lives lives on where another one begins to
+pub live_still : (states states' : List ProcState) (p : ℕ) → StandsSo states states' p Live → (q : ℕ) → state_numbered states q ≡ Live → state_numbered states' q ≡ Live
+live_still states states' p set q live = set q ∙ either (q == p)
+  where
+    either : (b : Bool) → (if b then Live else state_numbered states q) ≡ Live
+    either true = refl
+    either false = live
+
+-- who lives where another one doesn't lived before
+pub lived_before : (states states' : List ProcState) (p : ℕ) (state : ProcState) → StandsSo states states' p state → state ≢ Live
+    → (q : ℕ) → state_numbered states' q ≡ Live → state_numbered states q ≡ Live
+lived_before states states' p state set other q live = lived (q == p) (sym (set q) ∙ live)
+  where
+    lived : (b : Bool) → (if b then state else state_numbered states q) ≡ Live → state_numbered states q ≡ Live
+    lived true e = absurd (other e)
+    lived false e = e
 
 -- whoever was ever alive was so after one process more
 pub alive_still : (was is : ℕ → Bool) (child : ℕ) → ((q : ℕ) → is q ≡ ((q == child) || was q)) → (q : ℕ) → was q ≡ true → is q ≡ true

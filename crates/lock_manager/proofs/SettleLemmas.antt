@@ -1,9 +1,16 @@
 -- The grants of a settling, one after another.
 use Rattle.std.proofs.Common.{◌≡◌, refl, sym, ◌∙◌, subst, List, [], ◌∷◌, ◌++◌, append-nil, inl}
 use Rattle.std.proofs.lemmas.List.{append_assoc}
+use Rattle.std.proofs.Math.Logic.{∥∥₁_map}
 use Rattle.wait_core.specs.declared.Policy.{Policy}
 use Rattle.wait_core.specs.declared.Wait.{Wait}
-use Rattle.wait_core.specs.Locks.{Locks}
+use Rattle.wait_core.specs.declared.waits.Waits.{Waits}
+use Rattle.wait_core.specs.Cycles.{IsFreeOfCycles}
+use Rattle.wait_core.specs.Locks.{Locks, locks_of}
+use Rattle.wait_core.specs.Settled.{AreBlockedElsewhere}
+use Rattle.wait_core.specs.WaitsView.{waits_of, AreTold}
+use Rattle.lock_manager.specs.DescriptionLocks.{AreOwned}
+use Rattle.lock_manager.specs.WaitsKept.{AreKept, AreApart, HaveRoom}
 use Rattle.wait_core.specs.Blocking.{AllBlocked, IsBlockedByLock, IsNextBetween, IsNextReady}
 use Rattle.wait_core.specs.declared.Policy.TheVariants.{Held, Queue}
 use Rattle.lock_manager.specs.declared.machine.Machine.{Machine}
@@ -65,3 +72,19 @@ settled_here old new grants rules blocked leads S h =
     (subst (λ ws. AllBlocked (machine_rules old).policy (machine_locks new) [] ws) given.1.waits
     (subst (λ rs. AllBlocked rs.policy (machine_locks new) [] (machine_waits new)) rules blocked)) in
     (T, subst (λ notes. Settles (machine_rules old).policy S notes T) (append-nil grants) (given.2 [] T (all, refl)), given.1)
+
+-- what is kept stays where each wait is blocked, and no file counts as changed any more
+pub kept_at_rest : (m : Machine) (waits : Waits) → waits_of waits ≡ waits_of m.waits → (AreTold m.waits (locks_of m.books.items) → AreTold waits (locks_of m.books.items))
+    → AreBlockedElsewhere waits (locks_of m.books.items) → AreKept m.rules.policy m.tables m.books.items waits
+kept_at_rest m waits same told blocked =
+    let locks = locks_of m.books.items in
+    record {
+      compatible = m.kept.compatible;
+      owned = subst (AreOwned m.tables locks) (sym same) m.kept.owned;
+      within = m.kept.within;
+      told = ∥∥₁_map m.kept.told told;
+      blocked = ∣ blocked ∣₁;
+      apart = subst AreApart (sym same) m.kept.apart;
+      room = subst (HaveRoom m.books.items) (sym same) m.kept.room;
+      free_of_cycles = subst (IsFreeOfCycles m.rules.policy locks) (sym same) m.kept.free_of_cycles;
+    }

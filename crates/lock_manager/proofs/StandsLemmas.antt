@@ -1,29 +1,25 @@
 -- From one machine and a state that it stands for to the next.
-use Rattle.std.proofs.Common.{ℕ, ◌≡◌, ◌<◌, ◌≤◌, ◌+◌, arith, refl, sym, ◌∙◌, ap, subst, Option, Some, None, length, List, [], All, Bool, true, false, Result, Ok, Err, IfOk, OnErr}
+use Rattle.std.proofs.Common.{ℕ, ◌≡◌, ◌<◌, refl, sym, ◌∙◌, ap, subst, Option, Some, None, length, List, [], All, Bool, true, false}
 use Rattle.std.specs.Prelude.{slice_get, slice_set, ◌==◌, if◌then◌else◌}
-use Rattle.range_core.specs.declared.Memory.{Memory}
 use Rattle.range_core.specs.declared.Mode.{Mode}
 use Rattle.range_core.specs.declared.Span.{Span}
 use Rattle.lock_book.specs.declared.Owner.{Owner}
 use Rattle.lock_book.specs.declared.book.Book.{Book}
 use Rattle.lock_book.specs.Changes.{Change, sets_byte}
-use Rattle.lock_book.specs.Books.{SetsOwnerMode, SameBook}
+use Rattle.lock_book.specs.Books.{SetsOwnerMode}
 use Rattle.fd_table.specs.Descriptors.{Descriptors, opening_descriptors}
 use Rattle.fd_table.specs.TablesView.{StandFor, ever_alive}
 use Rattle.fd_table.specs.declared.tables.Tables.{Tables}
+use Rattle.wait_core.specs.Locks.{Locks, locks_of}
 use Rattle.wait_core.specs.WaitsView.{waits_of}
 use Rattle.lock_manager.specs.declared.machine.Machine.{Machine}
-use Rattle.lock_manager.specs.declared.request.Request.{Request}
-use Rattle.lock_manager.specs.declared.request.Reply.{Reply}
-use Rattle.lock_manager.specs.State.{State, with_byte_mode, opening_state, state_numbered, with_process}
+use Rattle.lock_manager.specs.State.{State, with_byte_mode, opening_state, state_numbered, with_process, StandsSo}
 use Rattle.lock_manager.specs.Opening.{HoldsNothing}
-use Rattle.lock_manager.specs.Notes.{notes_told, told_of}
-use Rattle.lock_manager.specs.declared.answers.Told.{Told}
 use Rattle.lock_manager.specs.declared.request.ProcState.{ProcState}
 use Rattle.lock_manager.specs.declared.request.ProcState.TheVariants.{Live, Unborn, Waiting}
-use Rattle.lock_manager.specs.MachineView.{Shows, SameMachine, Answers, Tells, machine_rules, machine_processes, machine_state, machine_locks, machine_waits}
-use Rattle.lock_manager.proofs.ProcessLemmas.{state_numbered-set}
-use Rattle.lock_manager.proofs.BookLemmas.{unlocked_bytes, unlocked_flocks, mode_from-push, set_bytes, set_flocks, same_bytes}
+use Rattle.lock_manager.specs.MachineView.{Shows, SameMachine, machine_rules, machine_processes, machine_state, machine_locks, machine_waits}
+use Rattle.lock_manager.proofs.BookLemmas.{unlocked_bytes, unlocked_flocks, mode_from-push, set_bytes, set_flocks, locks_stay}
+use Rattle.lock_manager.proofs.WaitLemmas.{KeepsLocks}
 
 -- other tables, with all else as it was, stand for the state with other descriptors
 pub with_tables : (old new : Machine) (S : State) (E : Descriptors) → new.books ≡ old.books → new.states ≡ old.states → waits_of new.waits ≡ waits_of old.waits
@@ -39,17 +35,17 @@ with_tables old new S E books states waits h tables =
     }
 
 -- other tables and another state of one process, with all else as it was
-pub with_tables_and_process : (old new : Machine) (S : State) (E : Descriptors) (p place : ℕ) (state : ProcState) → new.books ≡ old.books
-    → new.states.items ≡ slice_set old.states.items place state → p ≡ place + 1 → place < length old.states.items → waits_of new.waits ≡ waits_of old.waits
+pub with_tables_and_process : (old new : Machine) (S : State) (E : Descriptors) (p : ℕ) (state : ProcState) → new.books ≡ old.books
+    → StandsSo old.states.items new.states.items p state → waits_of new.waits ≡ waits_of old.waits
     → Shows old S → StandFor new.tables E → Shows new (with_process (record S { descriptors = E }) p state)
 unfolding machine_locks machine_state machine_waits
-with_tables_and_process old new S E p place state books states at within waits h tables =
+with_tables_and_process old new S E p state books states waits h tables =
     record {
       bytes = λ file owner byte. rw books (h.bytes file owner byte);
       flocks = λ file description. rw books (h.flocks file description);
       descriptors = tables;
       waits = waits ∙ h.waits;
-      states = λ q. rw states (state_numbered-set old.states.items p place state at within q ∙ ap (λ s. if q == p then state else s) (h.states q));
+      states = λ q. states q ∙ ap (λ s. if q == p then state else s) (h.states q);
     }
 
 -- after a change of one book the machine stands for the state with that change
@@ -71,45 +67,29 @@ with_change old new S file book changed owner span mode books tables states with
       states = λ p. rw states (h.states p);
     }
 
--- after a refused change of one book the machine stands for the same states
-pub without_change : (old new : Machine) (file : ℕ) (book same : Book)
+-- after a change of one book that keeps its locks the machine stands for the same states
+pub same_by_book : (old new : Machine) (file : ℕ) (book same : Book)
     → new.books.items ≡ slice_set old.books.items file same → new.tables ≡ old.tables → new.states ≡ old.states → new.rules ≡ old.rules → new.processes ≡ old.processes
-    → file < length old.books.items → slice_get old.books.items file ≡ Some book → SameBook book same → waits_of new.waits ≡ waits_of old.waits → SameMachine old new
+    → waits_of new.waits ≡ waits_of old.waits → file < length old.books.items → slice_get old.books.items file ≡ Some book → KeepsLocks book same → SameMachine old new
 unfolding machine_locks machine_state machine_waits machine_rules machine_processes
-without_change old new file book same books tables states rules processes within was keeps waits = record {
-  bytes = λ f o byte. rw books (same_bytes old.books.items file book same within was keeps f o byte);
-  flocks = λ f d. rw books (set_flocks old.books.items file book same within was keeps.flocks f d);
-  waits = waits;
-  shows = λ S h. record {
-    bytes = λ f o byte. rw books (same_bytes old.books.items file book same within was keeps f o byte ∙ h.bytes f o byte);
-    flocks = λ f d. rw books (set_flocks old.books.items file book same within was keeps.flocks f d ∙ h.flocks f d);
-    descriptors = subst (λ t. StandFor t S.descriptors) (sym tables) h.descriptors;
-    waits = waits ∙ h.waits;
-    states = λ p. rw states (h.states p);
-  };
-  states = λ p. rw states refl;
-  rules = rules;
-  processes = processes;
-}
-
--- a reply is told by its note
-pub told_by : (old new : Machine) (p n : ℕ) (request asked : Request) (reply : Result Reply Memory) (result : Result Told Memory)
-    → result ≡ told_of p n reply → request ≡ asked → IfOk reply (Answers old new p asked) → IfOk result (λ told. Tells old new p n request (notes_told told))
-told_by old new p n request asked (Ok reply) result is same answers = rw (is, same) (answers n)
-told_by old new p n request asked (Err memory) result is same answers = rw is tt
-
--- a reply leaves room for a note to each wait
-pub few_by : (old new : Machine) (p n : ℕ) (reply : Result Reply Memory) (result : Result Told Memory)
-    → result ≡ told_of p n reply → machine_waits new ≡ machine_waits old
-    → IfOk result (λ told. length (notes_told told) + length (machine_waits new) ≤ length (machine_waits old) + 2)
-few_by old new p n (Ok reply) result is same = rw (is, same) (omega arith)
-few_by old new p n (Err memory) result is same = rw is tt
-
--- where there is no reply nobody is told
-pub untold_by : (old new : Machine) (p n : ℕ) (reply : Result Reply Memory) (result : Result Told Memory)
-    → result ≡ told_of p n reply → OnErr reply (SameMachine old new) → OnErr result (SameMachine old new)
-untold_by old new p n (Ok reply) result is same = rw is tt
-untold_by old new p n (Err memory) result is same = rw is same
+same_by_book old new file book same books tables states rules processes waits within was keeps =
+    let locks : locks_of new.books.items ≡ locks_of old.books.items =
+    ap (λ bs. locks_of bs) books ∙ locks_stay old.books.items file book same within was keeps.bytes keeps.flocks in
+    record {
+      bytes = λ f o byte. ap (λ (ls : Locks). ls.bytes f o byte) locks;
+      flocks = λ f d. ap (λ (ls : Locks). ls.flocks f d) locks;
+      waits = waits;
+      shows = λ S h. record {
+        bytes = λ f o byte. ap (λ (ls : Locks). ls.bytes f o byte) locks ∙ h.bytes f o byte;
+        flocks = λ f d. ap (λ (ls : Locks). ls.flocks f d) locks ∙ h.flocks f d;
+        descriptors = subst (λ t. StandFor t S.descriptors) (sym tables) h.descriptors;
+        waits = waits ∙ h.waits;
+        states = λ p. rw states (h.states p);
+      };
+      states = λ p. rw states refl;
+      rules = rules;
+      processes = processes;
+    }
 
 -- a machine without locks, in which process 1 alone lives, stands for the opening state
 pub at_opening : (m : Machine) → All HoldsNothing m.books.items → StandFor m.tables opening_descriptors

@@ -1,19 +1,20 @@
 -- What is open stays open in the calls that close nothing.
-use Rattle.std.proofs.Common.{ℕ, zero, suc, ◌≡◌, ◌≢◌, ◌+◌, pred, refl, sym, ◌∙◌, ap, subst, List, [], ◌∷◌, ◌++◌, length, Some, None, Option, Bool, true, false, Result, Ok, Err, OnErr, inl, inr, ℤ}
+use Rattle.std.proofs.Common.{ℕ, zero, suc, ◌≡◌, ◌+◌, pred, refl, sym, ◌∙◌, ap, subst, List, [], ◌∷◌, ◌++◌, length, Some, None, Option, Bool, true, false, Result, Ok, Err, OnErr, inl, inr, ℤ}
 use Rattle.std.proofs.lemmas.Option.{slice_get_within}
 use Rattle.std.proofs.lemmas.Bool.{eqb-true}
 use Rattle.std.proofs.lemmas.Bool.Decides.{eqb_tells}
 use Rattle.std.specs.Prelude.{◌==◌, ◌&&◌, if◌then◌else◌, slice_get, slice_set, option_map}
 use Rattle.fd_table.specs.declared.Access.{Access}
 use Rattle.fd_table.specs.declared.FdFault.{FdFault}
-use Rattle.fd_table.specs.declared.FdFault.TheVariants as faults
 use Rattle.fd_table.specs.declared.Limits.{Limits}
 use Rattle.fd_table.specs.declared.tables.Tables.{Tables}
 use Rattle.fd_table.specs.Descriptors.{Descriptors, OpenFileDescription, description_numbered}
 use Rattle.fd_table.specs.Calls.{HadMemory, OpenGives, DupGives, ForkGives, SeekGives, ResizeGives}
 use Rattle.fd_table.specs.TablesView.{StandFor}
-use Rattle.wait_core.specs.declared.Wait.{Wait}
-use Rattle.wait_core.specs.Locks.{Locks}
+use Rattle.wait_core.specs.Locks.{locks_of}
+use Rattle.wait_core.specs.WaitsView.{waits_of}
+use Rattle.lock_manager.specs.declared.machine.Machine.{Machine}
+use Rattle.lock_manager.specs.WaitsKept.{AreKept}
 use Rattle.lock_manager.specs.DescriptionLocks.{AreOwned}
 use Rattle.lock_manager.proofs.BookLemmas.{slice_get-set_same, slice_get-set_other}
 use Rattle.lock_manager.proofs.CallLemmas.{Giving, Gave}
@@ -130,14 +131,31 @@ forked_stays processes D E p child none gives f d q is =
       of_file = same_files D.descriptions E.descriptions gives.1.descriptions d f is.of_file;
     }
 
--- after a call that closes nothing, refused or not, locks and waits of descriptions are of open ones
-pub owned_call : {X : Type 0} (Gives : Giving X) (old new : Tables) (locks : Locks) (waits : List Wait) (result : Result X FdFault)
-    → ((D E : Descriptors) (x : X) → result ≡ Ok x → StandFor old D → Gives D (Ok x) E → StayOpen D E)
-    → (HadMemory result → Gave Gives old new result)
-    → OnErr result ((D : Descriptors) → StandFor old D → StandFor new D)
-    → AreOwned old locks waits → AreOwned new locks waits
-owned_call Gives old new locks waits (Ok x) stays step refused owned =
-    owned_after old new locks waits owned
-    (λ D stands. let given = step (λ memory e. cc) D stands in (given.0, stays D given.0 x refl stands given.1, given.2))
-owned_call Gives old new locks waits (Err fault) stays step refused owned =
-    owned_after old new locks waits owned (λ D stands. (D, λ file d q is. is, refused D stands))
+-- what is kept stays under other tables, where locks and waits of descriptions are of open ones
+kept_in : (m : Machine) (tables : Tables) → AreOwned tables (locks_of m.books.items) (waits_of m.waits) → AreKept m.rules.policy tables m.books.items m.waits
+kept_in m tables owned = record {
+  compatible = m.kept.compatible;
+  owned = owned;
+  within = m.kept.within;
+  told = m.kept.told;
+  blocked = m.kept.blocked;
+  apart = m.kept.apart;
+  room = m.kept.room;
+  free_of_cycles = m.kept.free_of_cycles;
+}
+
+-- so it does after a call that is refused
+pub kept_by_refusal : (m : Machine) (tables : Tables) → ((D : Descriptors) → StandFor m.tables D → StandFor tables D) → AreKept m.rules.policy tables m.books.items m.waits
+kept_by_refusal m tables refused =
+    kept_in m tables (owned_after m.tables tables (locks_of m.books.items) (waits_of m.waits) m.kept.owned (λ D stands. (D, λ file d q is. is, refused D stands)))
+
+-- and after one that closes nothing, refused or not
+pub kept_by_call : {X : Type 0} (Gives : Giving X) (m : Machine) (tables : Tables) (result : Result X FdFault)
+    → ((D E : Descriptors) (x : X) → result ≡ Ok x → StandFor m.tables D → Gives D (Ok x) E → StayOpen D E)
+    → (HadMemory result → Gave Gives m.tables tables result)
+    → OnErr result ((D : Descriptors) → StandFor m.tables D → StandFor tables D)
+    → AreKept m.rules.policy tables m.books.items m.waits
+kept_by_call Gives m tables (Ok x) stays step refused =
+    kept_in m tables (owned_after m.tables tables (locks_of m.books.items) (waits_of m.waits) m.kept.owned
+    (λ D stands. let given = step (λ memory e. cc) D stands in (given.0, stays D given.0 x refl stands given.1, given.2)))
+kept_by_call Gives m tables (Err fault) stays step refused = kept_by_refusal m tables refused

@@ -1,5 +1,5 @@
 -- What holds of the waits stays so while locks, descriptors and processes change.
-use Rattle.std.proofs.Common.{ℕ, ◌≡◌, ◌≢◌, ◌<◌, ◌≤◌, refl, sym, ◌∙◌, ap, subst, List, [], length, Some, Option, Bool, true, false, Result, Ok, Err, OnOk, OnErr, All, get_or, inl, inr, arith}
+use Rattle.std.proofs.Common.{ℕ, ◌≡◌, ◌≢◌, ◌<◌, ◌≤◌, refl, sym, ◌∙◌, ap, subst, List, [], ◌∷◌, ◌++◌, length, Some, Option, Bool, true, false, Result, Ok, Err, OnOk, OnErr, All, get_or, inl, inr, arith}
 use Rattle.std.proofs.Math.Logic.{∥∥₁_elim}
 use Rattle.std.proofs.lemmas.Bool.{cases_Bool}
 use Rattle.std.specs.Prelude.{◌==◌, ◌&&◌, if◌then◌else◌, slice_get, slice_set, IsFalse}
@@ -11,25 +11,26 @@ use Rattle.lock_book.specs.declared.Owner.{Owner}
 use Rattle.lock_book.specs.declared.Owner.TheVariants.{Process, Description}
 use Rattle.lock_book.specs.declared.book.Book.{Book}
 use Rattle.lock_book.specs.Owners.{is_same_owner}
-use Rattle.lock_book.specs.Books.{SetsOwnerMode, SameBook, room_in, has_flock_place}
+use Rattle.lock_book.specs.Books.{SetsOwnerMode, SameBook, byte_modes_of, flock_modes_of, room_in, has_flock_place}
 use Rattle.range_core.specs.Changes.{is_covered}
 use Rattle.fd_table.specs.declared.tables.Tables.{Tables}
 use Rattle.fd_table.specs.Descriptors.{Descriptors}
 use Rattle.fd_table.specs.TablesView.{StandFor, ever_alive}
 use Rattle.wait_core.specs.declared.Policy.{Policy}
-use Rattle.wait_core.specs.declared.Policy.TheVariants.{Held}
+use Rattle.wait_core.specs.declared.Policy.TheVariants.{Held, Queue}
 use Rattle.wait_core.specs.declared.Wait.{Wait}
 use Rattle.wait_core.specs.Locks.{Locks, locks_of, byte_modes_at, flock_modes_at}
 use Rattle.wait_core.specs.declared.waits.Waits.{Waits}
 use Rattle.wait_core.specs.Cycles.{IsFreeOfCycles, WaitsFor}
-use Rattle.wait_core.specs.Settled.{AgreeElsewhere}
-use Rattle.wait_core.specs.WaitsView.{waits_of, AreTold}
+use Rattle.wait_core.specs.Blocking.{IsBlocked, IsBlockedByLock}
+use Rattle.wait_core.specs.Settled.{AllBlockedWhere, AgreeElsewhere, AreBlockedElsewhere}
+use Rattle.wait_core.specs.WaitsView.{waits_of, policy_of, AreTold}
 use Rattle.wait_core.specs.FreeOfCycles.{FreeWhenLocksChange, FreeWhenDescriptionLocksChange}
 use Rattle.lock_manager.specs.declared.request.ProcState.{ProcState}
 use Rattle.lock_manager.specs.declared.request.ProcState.TheVariants.{Live, Waiting}
 use Rattle.lock_manager.specs.State.{state_numbered}
 use Rattle.lock_manager.specs.DescriptionLocks.{MayWaitAs, AreOwned}
-use Rattle.lock_manager.specs.WaitsKept.{IsSuspended, AreAwaited, HaveRoom, is_byte_wait, room_at, has_place_at}
+use Rattle.lock_manager.specs.WaitsKept.{StayBlocked, IsSuspended, AreStanding, HaveRoom, is_byte_wait, room_at, has_place_at}
 use Rattle.lock_manager.proofs.BookLemmas.{slice_get-set, slice_get-set_other, entry_is, after_set, changed}
 use Rattle.lock_manager.proofs.SafetyLemmas.{same_owner, itself, hit}
 
@@ -49,9 +50,14 @@ pub waits_of_others : (tables : Tables) (states : List ProcState) (waits : List 
 waits_of_others tables states waits p h live k d within e =
     let both : Waiting ≡ Live = sym (h k d within).waiting ∙ ap (state_numbered states) e ∙ live in cc
 
--- who waits is awaited in the same list
-pub awaited_in : (states : List ProcState) (old new : List Wait) → new ≡ old → AreAwaited states old → AreAwaited states new
-awaited_in states old new same = subst (AreAwaited states) (sym same)
+-- whoever stands so still does, where the same processes were ever alive and the waits are the same
+pub standing_in : (old new : Tables) (states : List ProcState) (before after : List Wait) → ((q : ℕ) → ever_alive new q ≡ ever_alive old q) → after ≡ before
+    → AreStanding old states before → AreStanding new states after
+standing_in old new states before after alive same h = subst (AreStanding new states) (sym same) (record {
+  alive = λ q live. alive q ∙ h.alive q live;
+  suspended = suspended_after old new states states before (λ q born. alive q ∙ born) (λ q born waits. waits) h.suspended;
+  awaited = h.awaited;
+})
 
 -- nor is its process the owner of one
 pub not_owned_by : (tables : Tables) (locks : Locks) (waits : List Wait) (p : ℕ) → AreOwned tables locks waits → All (λ wait. wait.p ≢ p) waits
@@ -152,21 +158,28 @@ rooms_at true entry old new owner count was more enough =
     let here : count ≤ room_in old owner = subst (λ e. count ≤ room_at e owner) (was refl) enough in omega (arith, here, more)
 rooms_at false entry old new owner count was more enough = enough
 
-pub places_at : (is_it : Bool) (entry : Option Book) (old new : Book) (d : ℕ) → (is_it ≡ true → entry ≡ Some old) → has_flock_place new d ≡ has_flock_place old d
+pub places_at : (is_it : Bool) (entry : Option Book) (old new : Book) (d : ℕ) → (is_it ≡ true → entry ≡ Some old) → (has_flock_place old d ≡ true → has_flock_place new d ≡ true)
     → has_place_at entry d ≡ true → has_place_at (if is_it then Some new else entry) d ≡ true
-places_at true entry old new d was same there = same ∙ subst (λ e. has_place_at e d ≡ true) (was refl) there
-places_at false entry old new d was same there = there
+places_at true entry old new d was kept there = kept (subst (λ e. has_place_at e d ≡ true) (was refl) there)
+places_at false entry old new d was kept there = there
 
--- a book in whose place one stands with no less room and the same places
+-- a book in whose place one stands that keeps its places
+pub places_kept : (books : List Book) (file : ℕ) (old new : Book) → file < length books → slice_get books file ≡ Some old
+    → ((d : ℕ) → has_flock_place old d ≡ true → has_flock_place new d ≡ true)
+    → (f d : ℕ) → has_place_at (slice_get books f) d ≡ true → has_place_at (slice_get (slice_set books file new) f) d ≡ true
+places_kept books file old new within was kept f d there =
+    rw (slice_get-set books file f new within)
+    (places_at (file == f) (slice_get books f) old new d (entry_is books file f old was) (kept d) there)
+
+-- it has room for the waits, where it also has no less room
 pub room_with : (books : List Book) (waits : List Wait) (file : ℕ) (old new : Book) → file < length books → slice_get books file ≡ Some old
-    → ((o : Owner) → room_in old o ≤ room_in new o) → ((d : ℕ) → has_flock_place new d ≡ has_flock_place old d)
+    → ((o : Owner) → room_in old o ≤ room_in new o) → ((d : ℕ) → has_flock_place old d ≡ true → has_flock_place new d ≡ true)
     → HaveRoom books waits → HaveRoom (slice_set books file new) waits
-room_with books waits file old new within was more same h =
+room_with books waits file old new within was more kept h =
     record {
       rooms = λ f o. rw (slice_get-set books file f new within)
           (rooms_at (file == f) (slice_get books f) old new o (length (filter (is_byte_wait f o) waits)) (entry_is books file f old was) (more o) (h.rooms f o));
-      places = λ f d asked. rw (slice_get-set books file f new within)
-          (places_at (file == f) (slice_get books f) old new d (entry_is books file f old was) (same d) (h.places f d asked));
+      places = λ f d asked. places_kept books file old new within was kept f d (h.places f d asked);
     }
 
 -- a set of one owner leaves at least the room that was there
@@ -179,8 +192,24 @@ rooms_kept old new owner span mode sets kept o = elim (cases_Bool (is_same_owner
       omega (arith, there)
 ]
 
-same_room : (n m : ℕ) → m ≡ n → n ≤ m
+pub same_room : (n m : ℕ) → m ≡ n → n ≤ m
 same_room n m e = omega (arith, e)
+
+-- it has the same locks, no less room, and the places that there were
+pub record KeepsLocks (old new : Book) : Type 0 where
+  pub bytes : (o : Owner) (byte : ℕ) → byte_modes_of new o byte ≡ byte_modes_of old o byte
+  pub rooms : (o : Owner) → room_in old o ≤ room_in new o
+  pub flocks : (d : ℕ) → flock_modes_of new d ≡ flock_modes_of old d
+  pub places : (d : ℕ) → has_flock_place old d ≡ true → has_flock_place new d ≡ true
+
+-- so it is after a refusal
+pub keeps_same : (old new : Book) → SameBook old new → KeepsLocks old new
+keeps_same old new same = record {
+  bytes = same.bytes;
+  rooms = λ o. same_room (room_in old o) (room_in new o) (same.rooms o);
+  flocks = same.flocks;
+  places = λ d there. same.places d ∙ there;
+}
 
 -- one book's set, refused or not, leaves room for the waits
 pub room_after : (waits : List Wait) (books : List Book) (file : ℕ) (old new : Book) (owner : Owner) (span : Span) (mode : Option Mode) (result : Result (Unit {0}) Memory)
@@ -188,10 +217,26 @@ pub room_after : (waits : List Wait) (books : List Book) (file : ℕ) (old new :
     → OnOk result (SetsOwnerMode old new owner span mode) → OnOk result (room_in old owner ≤ room_in new owner) → OnErr result (SameBook old new)
     → HaveRoom books waits → HaveRoom (slice_set books file new) waits
 room_after waits books file old new owner span mode (Ok done) within was sets kept same h =
-    room_with books waits file old new within was (rooms_kept old new owner span mode sets kept) sets.places h
+    room_with books waits file old new within was (rooms_kept old new owner span mode sets kept) (λ d there. sets.places d ∙ there) h
 room_after waits books file old new owner span mode (Err memory) within was sets kept same h =
-    room_with books waits file old new within was (λ o. same_room (room_in old o) (room_in new o) (same.rooms o)) same.places h
+    let keeps = keeps_same old new same in room_with books waits file old new within was keeps.rooms keeps.places h
 
 -- where nobody waits no room is wanted
 pub room_for_none : (books : List Book) → HaveRoom books []
 room_for_none books = record { rooms = λ file owner. omega arith; places = λ file d asked. absurd (cc) }
+
+blocked_still : (policy : Policy) (old new : Locks) (earlier : List Wait) (wait : Wait) → (IsBlockedByLock old wait → IsBlockedByLock new wait)
+    → IsBlocked policy old earlier wait → IsBlocked policy new earlier wait
+blocked_still Held old new earlier wait still blocked = still blocked
+blocked_still Queue old new earlier wait still (inl by_lock) = inl (still by_lock)
+blocked_still Queue old new earlier wait still (inr behind) = inr behind
+
+all_blocked_still : (Holds : Wait → Type 0) (policy : Policy) (old new : Locks) → StayBlocked old new → (earlier waits : List Wait)
+    → AllBlockedWhere Holds policy old earlier waits → AllBlockedWhere Holds policy new earlier waits
+all_blocked_still Holds policy old new still earlier [] all = tt
+all_blocked_still Holds policy old new still earlier (wait ∷ waits) all =
+    (λ holds. blocked_still policy old new earlier wait (still wait) (all.0 holds), all_blocked_still Holds policy old new still (earlier ++ wait ∷ []) waits all.1)
+
+-- each wait that was known to be blocked is, where no lock went that blocked one
+pub elsewhere_still : (waits : Waits) (old new : Locks) → StayBlocked old new → AreBlockedElsewhere waits old → AreBlockedElsewhere waits new
+elsewhere_still waits old new still known = record { blocked = all_blocked_still _ (policy_of waits) old new still [] (waits_of waits) known.blocked }

@@ -29,7 +29,7 @@ unfolding state_at waits_of machine_state machine_waits
 whole manager S h =
     record {
       made = stood_made manager.machine.tables S.descriptors h.descriptors;
-      awaited = λ p waits. subst (λ ws. wait_of ws p ≢ None) h.waits (manager.machine.awaited p (h.states p ∙ waits));
+      awaited = λ p waits. subst (λ ws. wait_of ws p ≢ None) h.waits (manager.machine.standing.awaited p (h.states p ∙ waits));
     }
 
 -- so is each state that steps from the opening lead to, and from each there is a step

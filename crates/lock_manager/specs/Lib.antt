@@ -1,13 +1,14 @@
 pub mod State
 pub mod Settling
 pub mod Outcomes
-pub mod Notes
 pub mod DescriptorCalls
 pub mod LockWords
 pub mod LockCommands
 pub mod FlockCalls
 pub mod ProcessCalls
+pub mod Replies
 pub mod Step
+pub mod Asking
 pub mod Safety
 pub mod DescriptionLocks
 pub mod WaitsKept

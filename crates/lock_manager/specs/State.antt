@@ -1,5 +1,5 @@
 -- The state of the lock manager.
-use Rattle.std.specs.Prelude.{ℕ, zero, suc, ◌==◌, if◌then◌else◌, Option, Some, List, [], ◌∷◌, ◌++◌, slice_get, unwrap_or}
+use Rattle.std.specs.Prelude.{◌≡◌, ℕ, zero, suc, ◌==◌, if◌then◌else◌, Option, Some, List, [], ◌∷◌, ◌++◌, slice_get, unwrap_or}
 use Rattle.range_core.specs.declared.Mode.{Mode}
 use Rattle.range_core.specs.declared.Span.{Span}
 use Rattle.lock_book.specs.declared.Owner.{Owner}
@@ -35,6 +35,10 @@ opening_state =
 abbrev pub state_numbered : List ProcState → ℕ → ProcState
 state_numbered states zero = Unborn
 state_numbered states (suc place) = unwrap_or (slice_get states place) Unborn
+
+-- the process stands so from now on, and each other one as it did
+abbrev pub StandsSo : List ProcState → List ProcState → ℕ → ProcState → Type 0
+StandsSo old new p state = (q : ℕ) → state_numbered new q ≡ (if q == p then state else state_numbered old q)
 
 -- the process stands so from now on (this project's choice)
 abbrev pub with_process : State → ℕ → ProcState → State

@@ -1,5 +1,5 @@
 -- What holds of the waits at every moment, also inside an event.
-use Rattle.std.specs.Prelude.{◌≡◌, ◌≢◌, ℕ, ◌≤◌, ◌==◌, ◌&&◌, Bool, true, false, List, AllPairs, Option, Some, None, length, filter, slice_get}
+use Rattle.std.specs.Prelude.{All, ◌≡◌, ◌≢◌, ℕ, ◌≤◌, ◌==◌, ◌&&◌, Bool, true, false, List, AllPairs, Option, Some, None, length, filter, slice_get}
 use Rattle.std.specs.List.{list_any}
 use Rattle.lock_book.specs.declared.Owner.{Owner}
 use Rattle.lock_book.specs.declared.Owner.TheVariants.{Description}
@@ -12,12 +12,17 @@ use Rattle.wait_core.specs.declared.Family.{Family}
 use Rattle.wait_core.specs.declared.Family.TheVariants.{Bytes, Whole}
 use Rattle.wait_core.specs.declared.Wait.{Wait}
 use Rattle.wait_core.specs.declared.waits.Waits.{Waits}
-use Rattle.wait_core.specs.Locks.{Locks}
+use Rattle.wait_core.specs.declared.Policy.{Policy}
+use Rattle.wait_core.specs.Cycles.{IsFreeOfCycles}
+use Rattle.wait_core.specs.Locks.{Locks, locks_of}
+use Rattle.wait_core.specs.Blocking.{IsBlockedByLock}
 use Rattle.wait_core.specs.Settled.{AreBlockedElsewhere}
 use Rattle.wait_core.specs.WaitsView.{waits_of, policy_of, processes_of, wait_of, AreTold}
 use Rattle.lock_manager.specs.declared.request.ProcState.{ProcState}
-use Rattle.lock_manager.specs.declared.request.ProcState.TheVariants.{Waiting}
+use Rattle.lock_manager.specs.declared.request.ProcState.TheVariants.{Live, Waiting}
 use Rattle.lock_manager.specs.State.{state_numbered}
+use Rattle.lock_manager.specs.Safety.{AreCompatible}
+use Rattle.lock_manager.specs.DescriptionLocks.{AreOwned, AreWithinFiles}
 
 -- the waits are of different processes (this project's choice: a process that waits makes no request)
 abbrev pub AreApart : List Wait → Type 0
@@ -74,8 +79,31 @@ pub record SameWaits (old new : Waits) : Type 0 where
   pub policy : policy_of new ≡ policy_of old
   pub processes : processes_of new ≡ processes_of old
 
+-- a wait that a lock blocks before is blocked by one after too
+abbrev pub StayBlocked : Locks → Locks → Type 0
+StayBlocked before after = (wait : Wait) → IsBlockedByLock before wait → IsBlockedByLock after wait
+
 -- what was known of the waits under the locks before is known of them under those after: which process waits for which, and that
 -- each wait is blocked on a file that doesn't count as changed
 pub record StayKnown (old new : Waits) (before after : Locks) : Type 0 where
   pub told : AreTold old before → AreTold new after
   pub blocked : AreBlockedElsewhere old before → AreBlockedElsewhere new after
+
+-- what is kept of the locks and of the waits: no two locks conflict, descriptions that hold or wait are open, no lock is past the
+-- largest offset, each process has one wait at most, it is known who waits for whom and which wait is blocked, each wait has its
+-- room, and no process waits for itself
+pub record AreKept (policy : Policy) (tables : Tables) (books : List Book) (waits : Waits) : Type 0 where
+  pub compatible : AreCompatible (locks_of books)
+  pub owned : AreOwned tables (locks_of books) (waits_of waits)
+  pub within : AreWithinFiles (locks_of books)
+  pub told : ∥ AreTold waits (locks_of books) ∥₁
+  pub blocked : ∥ AreBlockedElsewhere waits (locks_of books) ∥₁
+  pub apart : AreApart (waits_of waits)
+  pub room : HaveRoom books (waits_of waits)
+  pub free_of_cycles : IsFreeOfCycles policy (locks_of books) (waits_of waits)
+
+-- whoever lives or waits was ever alive, and those that wait are those of the list
+pub record AreStanding (tables : Tables) (states : List ProcState) (waits : List Wait) : Type 0 where
+  pub alive : (p : ℕ) → state_numbered states p ≡ Live → ever_alive tables p ≡ true
+  pub suspended : All (IsSuspended tables states) waits
+  pub awaited : AreAwaited states waits

@@ -1,10 +1,10 @@
 //! Answers, and what a lock description asks for.
-ghost use Rattle.std.specs.Prelude.{◌≡◌, ℕ, ◌≤◌, ◌+◌, ◌++◌, length, vec_capacity, IfOk, OnErr};
+ghost use Rattle.std.specs.Prelude.{◌≡◌, ℕ, ◌≤◌, ◌+◌, length, vec_capacity, IfOk, OnErr};
 ghost use Rattle.range_core.specs.Ranges.{IsByteRange};
 ghost use Rattle.lock_manager.specs.LockWords.{held_reply as held_reply_of, permits as permits_of, wanted_mode as wanted_mode_of};
 ghost use Rattle.lock_manager.specs.Outcomes.{range_error as range_error_of, IsRefusal, answered as answered_outcome};
+ghost use Rattle.lock_manager.specs.Replies.{IsReplied};
 ghost use Rattle.lock_manager.specs.State.{State};
-ghost use Rattle.lock_manager.specs.Notes.{caller_told, nobody_told, notes_told, told_of};
 
 use crate::{Errno, Note, Reply};
 use fd_table::{Access, FdFault};
@@ -77,51 +77,6 @@ pub fn refusal(fault: FdFault) -> Result<Reply, Memory>
     }
 }
 
-/// What is told at once, before the waits are settled.
-#[derive(Clone, Copy)]
-pub struct Told {
-    /// The note to the caller, and none where it has ended.
-    pub caller: Option<Note>,
-    /// The note to the process whose wait a signal ended.
-    pub interrupted: Option<Note>,
-}
-
-impl Told {
-    /// The caller alone is told.
-    pub fn caller(note: Note) -> Told
-        ensures { result ≡ caller_told note }
-    {
-        Told {
-            caller: Some(note),
-            interrupted: None,
-        }
-    }
-
-    /// Nobody is told anything.
-    pub fn nobody() -> Told
-        ensures { result ≡ nobody_told }
-    {
-        Told {
-            caller: None,
-            interrupted: None,
-        }
-    }
-
-    /// Puts the notes behind those that there are. It takes no memory.
-    pub fn tell(self, notes: &mut Vec<Note>)
-        requires { length notes.old.items + length (notes_told self) ≤ vec_capacity notes.old }
-        ensures told { notes.new.items ≡ notes.old.items ++ notes_told self }
-        ensures room { vec_capacity notes.new ≡ vec_capacity notes.old }
-    {
-        if let Some(note) = self.caller {
-            notes.push_reserved(note);
-        }
-        if let Some(note) = self.interrupted {
-            notes.push_reserved(note);
-        }
-    }
-}
-
 /// Request number `n` of process `p` is answered.
 pub fn answered(p: u8, n: u64, reply: Reply) -> Note
     ensures { result ≡ Note.Answer p n reply }
@@ -136,12 +91,17 @@ pub fn refused(p: u8, n: u64, error: Errno) -> Note
     answered(p, n, Reply::Err(error))
 }
 
-/// The process is told the reply to its request number `n`.
-pub fn answer(p: u8, n: u64, reply: Result<Reply, Memory>) -> Result<Told, Memory>
-    ensures { result ≡ told_of p n reply }
+/// Tells the process the reply to its request number `n`, behind what was told. It takes no memory.
+pub fn tell(
+    p: u8,
+    n: u64,
+    reply: Result<Reply, Memory>,
+    notes: &mut Vec<Note>,
+) -> Result<(), Memory>
+    requires { length notes.old.items + 1 ≤ vec_capacity notes.old }
+    ensures told { IsReplied p n reply result notes.old.items notes.new.items }
+    ensures capacity { vec_capacity notes.new ≡ vec_capacity notes.old }
 {
-    match reply {
-        Ok(reply) => Ok(Told::caller(answered(p, n, reply))),
-        Err(memory) => Err(memory),
-    }
+    notes.push_reserved(answered(p, n, reply?));
+    Ok(())
 }

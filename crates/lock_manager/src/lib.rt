@@ -16,4 +16,4 @@ mod request;
 
 pub use laws::{step_has_one_outcome, step_has_some_outcome};
 pub use manager::Manager;
-pub use request::{Errno, FlockOp, LkCmd, Lock, Note, ProcState, Reply, Request, Rules};
+pub use request::{Errno, FlockOp, InTheWay, LkCmd, Lock, Note, ProcState, Reply, Request, Rules};

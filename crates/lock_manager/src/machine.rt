@@ -1,24 +1,18 @@
 //! The state behind a manager, and each request on it; settling stands apart.
-ghost use Rattle.std.specs.Prelude.{ℕ, ◌≡◌, ◌≢◌, ◌≤◌, ◌<◌, ◌↔◌, List, [], true, vec_len, All, IfOk, OnOk, OnErr, IsTrue};
+ghost use Rattle.std.specs.Prelude.{ℕ, ◌≡◌, ◌≢◌, ◌≤◌, ◌<◌, ◌↔◌, List, [], vec_len, IfOk, OnOk, OnErr, IsTrue};
 ghost use Rattle.fd_table.specs.declared.TheConstants.{FILES};
-ghost use Rattle.fd_table.specs.TablesView.{processes_of as processes_in, limits_of, ever_alive};
-ghost use Rattle.wait_core.specs.Locks.{locks_of};
-ghost use Rattle.wait_core.specs.Cycles.{IsFreeOfCycles};
-ghost use Rattle.wait_core.specs.Settled.{AreBlockedElsewhere};
-ghost use Rattle.wait_core.specs.WaitsView.{waits_of, policy_of, processes_of, AreTold};
-ghost use Rattle.lock_manager.specs.declared.request.ProcState.TheVariants.{Live};
-ghost use Rattle.lock_manager.specs.State.{state_numbered};
-ghost use Rattle.lock_manager.specs.Safety.{AreCompatible};
-ghost use Rattle.lock_manager.specs.DescriptionLocks.{AreOwned, AreWithinFiles};
-ghost use Rattle.lock_manager.specs.WaitsKept.{AreApart, IsSuspended, AreAwaited, HaveRoom};
+ghost use Rattle.fd_table.specs.TablesView.{processes_of as processes_in, limits_of};
+ghost use Rattle.wait_core.specs.WaitsView.{waits_of, policy_of, processes_of};
+ghost use Rattle.lock_manager.specs.WaitsKept.{AreKept, AreStanding};
 
+mod asking;
 mod descriptors;
 mod flocks;
 mod locks;
 mod processes;
 mod settling;
 
-use crate::answers::{Told, answer};
+use crate::answers::tell;
 use crate::opening::{empty_books, opening_states};
 use crate::{Note, ProcState, Request, Rules};
 use fd_table::{FILES, Tables};
@@ -42,28 +36,17 @@ pub struct Machine {
     ghost numbered: { vec_len states ≡ processes },
     ghost tabled: { processes_in tables ≡ processes },
     ghost limited: { limits_of tables ≡ rules.limits },
-    ghost alive: { (p : ℕ) → state_numbered states.items p ≡ Live → ever_alive tables p ≡ true },
-    ghost compatible: { AreCompatible (locks_of books.items) },
-    ghost owned: { AreOwned tables (locks_of books.items) (waits_of waits) },
-    ghost within: { AreWithinFiles (locks_of books.items) },
     ghost policy: { policy_of waits ≡ rules.policy },
     ghost counted: { processes_of waits ≡ processes },
-    ghost told: { ∥ AreTold waits (locks_of books.items) ∥₁ },
-    ghost blocked: { ∥ AreBlockedElsewhere waits (locks_of books.items) ∥₁ },
-    ghost apart: { AreApart (waits_of waits) },
-    ghost suspended: { All (IsSuspended tables states.items) (waits_of waits) },
-    ghost awaited: { AreAwaited states.items (waits_of waits) },
-    ghost room: { HaveRoom books.items (waits_of waits) },
-    ghost free_of_cycles: { IsFreeOfCycles rules.policy (locks_of books.items) (waits_of waits) },
+    ghost kept: { AreKept rules.policy tables books.items waits },
+    ghost standing: { AreStanding tables states.items (waits_of waits) },
 }
 
 impl Machine {
     ghost use Rattle.fd_table.specs.Descriptors.{process_limit};
-    ghost use Rattle.std.specs.Prelude.{Bool, ◌+◌, length, vec_capacity};
-    ghost use Rattle.lock_manager.specs.declared.request.FlockOp.{FlockOp};
+    ghost use Rattle.std.specs.Prelude.{◌+◌, length, vec_capacity};
     ghost use Rattle.lock_book.specs.Changes.{mode_in, flock_mode_in};
     ghost use Rattle.lock_book.specs.Reports.{IsHeldReport};
-    ghost use Rattle.lock_manager.specs.Notes.{notes_told};
     ghost use Rattle.lock_manager.specs.State.{State, opening_state};
     ghost use Rattle.lock_manager.specs.MachineView.{Shows, SameMachine, SameRules, Tells, machine_rules, machine_processes, machine_waits, machine_state};
 
@@ -135,6 +118,7 @@ impl Machine {
     }
 
     /// Serves a request of a live process, but for the settling with which the event ends: the notes are told here.
+    #[tactic(auto, using(crate::proofs::ReplyLemmas::untold_by, crate::proofs::ReplyLemmas::few_by))]
     pub fn serve(
         &mut self,
         p: u8,
@@ -152,44 +136,33 @@ impl Machine {
         ensures memory { OnErr result (SameMachine self.old self.new) }
         ensures same_rules { SameRules self.old self.new }
     {
-        if let Request::Flock { fd, op, nb } = request {
-            return self.flock(p, n, fd, op, nb, notes);
-        }
-        let told = self.call(p, n, request)?;
-        told.tell(notes);
-        Ok(())
-    }
-
-    /// Serves a request that grants no wait: any but flock.
-    #[tactic(auto, using(crate::proofs::StandsLemmas::untold_by, crate::proofs::StandsLemmas::few_by))]
-    fn call(&mut self, p: u8, n: u64, request: Request) -> Result<Told, Memory>
-        requires live { machine_state self.old p ≡ ProcState.Live }
-        requires other { (fd : ℕ) (op : FlockOp) (nb : Bool) → request ≢ Request.Flock fd op nb }
-        ensures told { IfOk result (λ told. Tells self.old self.new p n request (notes_told told)) }
-
-        // Each wait may be granted a note later, and there is room for two more.
-        ensures few { IfOk result (λ told. length (notes_told told) + length (machine_waits self.new) ≤ length (machine_waits self.old) + 2) }
-        ensures memory { OnErr result (SameMachine self.old self.new) }
-        ensures same_rules { SameRules self.old self.new }
-    {
         match request {
-            Request::OpenFile { file, access } => answer(p, n, self.open_file(p, file, access)),
-            Request::Dup { fd } => answer(p, n, self.dup(p, fd)),
-            Request::DupTo { fd, to } => answer(p, n, self.dup_to(p, fd, to)),
-            Request::CloseFd { fd } => answer(p, n, self.close_fd(p, fd)),
-            Request::Seek { fd, offset } => answer(p, n, self.seek(p, fd, offset)),
-            Request::Resize { fd, size } => answer(p, n, self.resize(p, fd, size)),
-            Request::Lk { fd, cmd, lock } => {
-                Ok(Told::caller(self.lock_command(p, n, fd, cmd, lock)?))
+            Request::OpenFile { file, access } => {
+                tell(p, n, self.open_file(p, file, access), notes)
             },
-            Request::Flock { .. } => unreachable!(),
-            Request::Fork { child } => answer(p, n, self.fork(p, child)),
+            Request::Dup { fd } => tell(p, n, self.dup(p, fd), notes),
+            Request::DupTo { fd, to } => tell(p, n, self.dup_to(p, fd, to), notes),
+            Request::CloseFd { fd } => tell(p, n, self.close_fd(p, fd), notes),
+            Request::Seek { fd, offset } => tell(p, n, self.seek(p, fd, offset), notes),
+            Request::Resize { fd, size } => tell(p, n, self.resize(p, fd, size), notes),
+            Request::Lk { fd, cmd, lock } => {
+                notes.push_reserved(self.lock_command(p, n, fd, cmd, lock)?);
+                Ok(())
+            },
+            Request::Flock { fd, op, nb } => self.flock(p, n, fd, op, nb, notes),
+            Request::Fork { child } => tell(p, n, self.fork(p, child), notes),
             Request::Exit => {
                 self.end(p);
-                Ok(Told::nobody())
+                Ok(())
             },
-            Request::Signal { target } => Ok(self.signal(p, n, target)),
-            Request::Kill { target } => Ok(self.kill(p, n, target)),
+            Request::Signal { target } => {
+                self.signal(p, n, target, notes);
+                Ok(())
+            },
+            Request::Kill { target } => {
+                self.kill(p, n, target, notes);
+                Ok(())
+            },
         }
     }
 }

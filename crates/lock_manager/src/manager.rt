@@ -1,10 +1,14 @@
 //! The lock manager: one event is one request and the settling after it.
-ghost use Rattle.std.specs.Prelude.{ℕ, ◌≡◌, ◌≢◌, ◌≤◌, ◌↔◌, List, [], IfOk, OnErr, IsTrue};
+ghost use Rattle.std.specs.Prelude.{ℕ, ◌≡◌, ◌≢◌, ◌<◌, ◌≤◌, ◌↔◌, List, [], IfOk, IfSome, OnErr, IsTrue, MatchOption};
+ghost use Rattle.fd_table.specs.declared.TheConstants.{FILES};
+ghost use Rattle.range_core.specs.Ranges.{IsByteRange};
+ghost use Rattle.wait_core.specs.Blocking.{IsBlocked};
+ghost use Rattle.lock_manager.specs.Asking.{AsksFor, IsFirstInTheWay};
 ghost use Rattle.lock_manager.specs.Safety.{IsSafe};
 ghost use Rattle.lock_manager.specs.MachineView.{machine_rules, machine_locks, machine_waits};
 
 use crate::machine::Machine;
-use crate::{Note, ProcState, Request, Rules};
+use crate::{InTheWay, Note, ProcState, Request, Rules};
 use lock_book::Held;
 use range_core::Memory;
 use std::alloc::Global;
@@ -22,7 +26,7 @@ impl Manager {
     ghost use Rattle.fd_table.specs.Descriptors.{process_limit};
     ghost use Rattle.lock_book.specs.Changes.{mode_in, flock_mode_in};
     ghost use Rattle.lock_book.specs.Reports.{IsHeldReport};
-    ghost use Rattle.lock_manager.specs.State.{State, opening_state};
+    ghost use Rattle.lock_manager.specs.State.{State, locks_held, opening_state};
     ghost use Rattle.lock_manager.specs.Step.{Step};
     ghost use Rattle.lock_manager.specs.ManagerView.{StandsFor, SameManager, IsSafeManager, rules_of, processes_of, state_at};
 
@@ -79,6 +83,31 @@ impl Manager {
         ensures { IfOk result (λ waits. (S : State) → StandsFor self.now S → waits.items ≡ S.waits) }
     {
         self.machine.waits(self.alloc)
+    }
+
+    /// The lock that request number `n` of process `p` asks for, as it would wait: by a lock command, also one that only asks, or by
+    /// flock. `None` where it unlocks, its descriptor isn't open, or there is no such range (POSIX.1-2017 fcntl; fcntl_locking(2);
+    /// flock(2)). Whether its access mode and its arguments allow the lock isn't asked.
+    pub fn wanted(&self, p: u8, n: u64, request: Request) -> Option<Wait>
+        ensures asks { (S : State) → StandsFor self.now S →
+            MatchOption result ((wait : Wait) → ¬ AsksFor S p n request wait) (AsksFor S p n request) }
+        ensures file { IfSome result (λ wait. wait.file < FILES) }
+        ensures range { IfSome result (λ wait. IsByteRange wait.span) }
+    {
+        self.machine.wanted(p, n, request)
+    }
+
+    /// What is the first in the way of a request for this lock: of the held locks the one that a get command would report, of flock
+    /// locks that of the least description; where no lock is in the way, the earliest wait that conflicts with it, under the queue
+    /// policy. `None` where the request isn't blocked (which is the first is this project's choice).
+    pub fn first_in_the_way(&self, wait: &Wait) -> Result<Option<InTheWay>, Memory>
+        requires file { wait.now.file < FILES }
+        requires range { IsByteRange wait.now.span }
+        ensures first { IfOk result (λ first. (S : State) → StandsFor self.now S → MatchOption first
+            (¬ IsBlocked (rules_of self.now).policy (locks_held S) S.waits wait.now)
+            (IsFirstInTheWay (rules_of self.now).policy (locks_held S) S.waits wait.now)) }
+    {
+        self.machine.first_in_the_way(wait)
     }
 
     /// How many processes there are, numbered from 1.

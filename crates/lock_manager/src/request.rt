@@ -1,7 +1,8 @@
 //! The words of the surface: requests, replies, notes, rules.
 use fd_table::{Access, Limits};
+use lock_book::Held;
 use range_core::{Kind, Mode, Whence};
-use wait_core::Policy;
+use wait_core::{Policy, Wait};
 
 /// The rules of a run (this project's choice).
 #[derive(Clone, Copy, Debug, PartialEq, Eq)]
@@ -151,4 +152,13 @@ pub enum ProcState {
     Waiting,
     /// It has ended: none of its requests is taken any more.
     Ended,
+}
+
+/// What stands in the way of a request for a lock (this project's choice).
+#[derive(Clone, Copy, Debug, PartialEq, Eq)]
+pub enum InTheWay {
+    /// A lock that is held, as the report tells it.
+    Lock(Held),
+    /// An earlier wait, under the queue policy.
+    Wait(Wait),
 }

@@ -1,4 +1,5 @@
 //! Requests in turn, with the replies that the rules give.
+mod asking;
 mod flocks;
 mod waits;
 

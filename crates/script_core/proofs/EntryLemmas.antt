@@ -322,7 +322,7 @@ BehindGives-unique limits pieces (Ok taken) a b first second =
     EventGives-unique taken second.0 a b (subst (λ notes. EventGives taken notes a) notes first.2) second.2
 BehindGives-unique limits pieces (Err cause) a b first second = first ∙ sym second
 
-PiecesGive-unique : (limits : Limits) (pieces : List (List ℕ)) (a b : Result Event Cause) → PiecesGive limits pieces a → PiecesGive limits pieces b → a ≡ b
+pub PiecesGive-unique : (limits : Limits) (pieces : List (List ℕ)) (a b : Result Event Cause) → PiecesGive limits pieces a → PiecesGive limits pieces b → a ≡ b
 PiecesGive-unique limits [] a b first second = same_value (Err Count) a b first second
 PiecesGive-unique limits (piece ∷ pieces) a b first second =
     let next : first.0 ≡ second.0 = TakenGives-unique limits (words_of piece) first.0 second.0 first.1 second.1 in

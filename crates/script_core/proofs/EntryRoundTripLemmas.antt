@@ -103,7 +103,7 @@ unfolding AreVisible
 visible_both [] more are rest = rest
 visible_both (byte ∷ bytes) more are rest = (are.0, are.1, visible_both bytes more are.2 rest)
 
-IsWord-tag : (limits : Limits) (p n : ℕ) → IsProcess limits p → n < 2 ^ 64 → IsWord (tag p n)
+pub IsWord-tag : (limits : Limits) (p n : ℕ) → IsProcess limits p → n < 2 ^ 64 → IsWord (tag p n)
 IsWord-tag limits p n process small =
     let first = IsWord-process limits p process in
     let last = IsWord-decimal n small in
@@ -248,10 +248,10 @@ bar_text : (bytes : List ℕ) (note : Note) (rest : List ℕ) → bytes ++ (note
 bar_text bytes note rest =
     ap (λ (t : List ℕ). bytes ++ (t ++ rest)) (text_of_note note) ∙ sym (append_assoc bytes (32 ∷ []) (124 ∷ ((32 ∷ note_body note) ++ rest)))
 
-all_first : {X : Type 0} (P : X → Type 0) (x : X) (xs : List X) → All P (x ∷ xs) → P x
+pub all_first : {X : Type 0} (P : X → Type 0) (x : X) (xs : List X) → All P (x ∷ xs) → P x
 all_first P x xs all = all 0 x (omega arith)
 
-all_later : {X : Type 0} (P : X → Type 0) (x : X) (xs : List X) → All P (x ∷ xs) → All P xs
+pub all_later : {X : Type 0} (P : X → Type 0) (x : X) (xs : List X) → All P (x ∷ xs) → All P xs
 all_later P x xs all k d within = all (suc k) d (omega (arith, within))
 
 -- the text of further notes is read as these

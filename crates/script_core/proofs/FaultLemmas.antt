@@ -49,7 +49,7 @@ of_first_bad (argument ∷ arguments) (word ∷ words) cause (inr bad) memory e 
 of_count : (cause : Cause) → cause ≡ Count → IsOfScript cause
 of_count cause is memory e = absurd (let other : Count ≡ Memory memory = sym is ∙ e in cc)
 
-of_refused : (arguments : List Argument) (words : List (List ℕ)) (cause : Cause) → AreRefused arguments words cause → IsOfScript cause
+pub of_refused : (arguments : List Argument) (words : List (List ℕ)) (cause : Cause) → AreRefused arguments words cause → IsOfScript cause
 of_refused arguments words cause refused =
     MatchBool-join (length words == length arguments) _ _ (IsOfScript cause) (of_first_bad arguments words cause) (of_count cause) refused
 

@@ -18,7 +18,7 @@ MatchBool-map true P Q P' Q' f g h = f h
 MatchBool-map false P Q P' Q' f g h = g h
 
 -- of words that are too many for a header line, others that are say the same
-many_refused : (argument : Argument) (words others : List (List ℕ)) (cause : Cause) → 1 < length words → 1 < length others
+pub many_refused : (argument : Argument) (words others : List (List ℕ)) (cause : Cause) → 1 < length words → 1 < length others
     → AreRefused (argument ∷ []) words cause → AreRefused (argument ∷ []) others cause
 many_refused argument words others cause many more refused =
     let is : cause ≡ Count = rw (ne_eqb (length words) 1 (λ e. omega (arith, e))) at refused in

@@ -13,5 +13,15 @@ pub mod OutputLaws
 pub mod ConstantLaws
 pub mod FaultLemmas
 pub mod EntryLemmas
+pub mod CommentLaws
+pub mod ExplainLemmas
 pub mod NoteLemmas
 pub mod EntryRoundTripLemmas
+pub mod ReportReadingLemmas
+pub mod ReportReadingLaws
+pub mod JournalLemmas
+pub mod JournalBackLemmas
+pub mod JournalViewLemmas
+pub mod JournalStageLemmas
+pub mod JournalReportLemmas
+pub mod JournalSeamLemmas

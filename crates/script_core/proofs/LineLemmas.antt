@@ -25,7 +25,7 @@ starts_comment byte (part ∷ parts) is =
     (byte ∷ part, filter (λ word. not (length word == 0)) parts, rw some refl, is)
 
 -- where the first byte that isn't a space is `#`, the first word begins with it
-comment_word : (line : List ℕ) → begins_with_hash line ≡ true
+pub comment_word : (line : List ℕ) → begins_with_hash line ≡ true
     → (first : List ℕ) × (rest : List (List ℕ)) × (words_of line ≡ first ∷ rest) × (is_comment first ≡ true)
 comment_word [] is = cc
 comment_word (byte ∷ bytes) is =

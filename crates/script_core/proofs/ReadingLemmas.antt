@@ -395,24 +395,24 @@ AreRefused-unique arguments words a b first second =
     MatchBool-unique (IsFirstBad arguments words) (λ cause. cause ≡ Count) (length words == length arguments) (IsFirstBad-unique arguments words) (same_value Count) a b first second
 
 -- one word that spells its argument isn't refused
-one_spelled : (argument : Argument) (word : List ℕ) (words : List (List ℕ)) (cause : Cause) → words ≡ word ∷ [] → Spells argument word → AreRefused (argument ∷ []) words cause → ⊥
+pub one_spelled : (argument : Argument) (word : List ℕ) (words : List (List ℕ)) (cause : Cause) → words ≡ word ∷ [] → Spells argument word → AreRefused (argument ∷ []) words cause → ⊥
 unfolding AllSpell
 one_spelled argument word words cause are spells refused =
     not_bad (argument ∷ []) (word ∷ []) cause (spells, tt) (subst (λ ws. AreRefused (argument ∷ []) ws cause) are refused)
 
 -- the word of a policy, or of limits, read back
-policy_in : List ℕ → Policy
+pub policy_in : List ℕ → Policy
 policy_in word = cond (bytes_eq word (codes "held")) Held Queue
 
-limits_in : List ℕ → Limits
+pub limits_in : List ℕ → Limits
 limits_in word = cond (bytes_eq word (codes "small")) Small Wide
 
-policy_in-word : (policy : Policy) → policy_in (policy_word policy) ≡ policy
+pub policy_in-word : (policy : Policy) → policy_in (policy_word policy) ≡ policy
 unfolding policy_in
 policy_in-word Held = refl
 policy_in-word Queue = refl
 
-limits_in-word : (limits : Limits) → limits_in (limits_word limits) ≡ limits
+pub limits_in-word : (limits : Limits) → limits_in (limits_word limits) ≡ limits
 unfolding limits_in
 limits_in-word Small = refl
 limits_in-word Wide = refl

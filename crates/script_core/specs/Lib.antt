@@ -8,5 +8,10 @@ pub mod Reading
 pub mod WithoutHeaders
 pub mod EntryText
 pub mod EntryReading
+pub mod JournalReading
 pub mod ReportText
+pub mod ReportReading
 pub mod Output
+pub mod ExpectedText
+pub mod JournalView
+pub mod Explaining

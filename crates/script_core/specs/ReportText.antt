@@ -57,9 +57,13 @@ abbrev pub wanted_text : Family → Wait → List ℕ
 wanted_text Bytes wait = byte_lock_text wait.file wait.owner wait.mode wait.span
 wanted_text Whole wait = decimal wait.file ++ codes " flock " ++ flock_text wait.owner wait.mode
 
--- the line of a wait: the request that waits, and the lock that it is for
+-- a wait: the request that waits, and the lock that it is for
+abbrev pub wait_text : Wait → List ℕ
+wait_text wait = codes "wait " ++ tag wait.p wait.n ++ codes " " ++ wanted_text wait.family wait
+
+-- the line of a wait
 abbrev pub wait_line : Wait → List ℕ
-wait_line wait = codes "wait " ++ tag wait.p wait.n ++ codes " " ++ wanted_text wait.family wait ++ 10 ∷ []
+wait_line wait = wait_text wait ++ 10 ∷ []
 
 -- where a process stands
 abbrev pub state_word : ProcState → List ℕ
@@ -74,8 +78,12 @@ counts_text line =
     codes "sent " ++ decimal line.sent ++ codes " taken " ++ decimal line.taken ++ codes " answered " ++ decimal line.answered
 
 -- a process, with its counts
+abbrev pub process_text : ProcessLine → List ℕ
+process_text line = codes "proc " ++ decimal line.p ++ codes " " ++ counts_text line ++ codes " " ++ state_word line.state
+
+-- the line of a process
 abbrev pub process_line : ProcessLine → List ℕ
-process_line line = codes "proc " ++ decimal line.p ++ codes " " ++ counts_text line ++ codes " " ++ state_word line.state ++ 10 ∷ []
+process_line line = process_text line ++ 10 ∷ []
 
 -- whether the report has a line for a process that stands so and sent so much: it isn't unborn, or has sent something
 abbrev pub is_reported : ProcState → ℕ → Bool

@@ -48,7 +48,7 @@ pub fn parse_entry(alloc: Global, limits: Limits, line: &[u8]) -> Result<Entry, 
 }
 
 /// What the pieces of a line say.
-fn read_pieces(alloc: Global, limits: Limits, text: &str) -> Result<Entry, Cause>
+pub fn read_pieces(alloc: Global, limits: Limits, text: &str) -> Result<Entry, Cause>
     ensures read { IfOk result (λ entry. PiecesGive limits (pieces_of text.now) (Ok entry)) }
     ensures refused { IfErr result (λ cause. IsOfScript cause → PiecesGive limits (pieces_of text.now) (Err cause)) }
     ensures memory { IfErr result (λ cause. IsWantOfMemory cause → HaveNote limits (pieces_of text.now)) }

@@ -1,5 +1,8 @@
 //! Laws of the definitions of a script and its output. Each is the contract of a function that does nothing.
+ghost use Rattle.script_core.specs.Explaining.{ExplanationsAreComments};
+ghost use Rattle.script_core.specs.JournalReading.{EntriesAreReadBack, JournalsAreReadBack, JournalsHaveOneEnd};
 ghost use Rattle.script_core.specs.Output.{ScriptsHaveOneOutput};
+ghost use Rattle.script_core.specs.ReportReading.{ReportsAreReadBack};
 ghost use Rattle.script_core.specs.WithoutHeaders.{HeadersChangeNothingElse};
 
 use lock_book::locks_have_one_report;
@@ -17,4 +20,28 @@ pub fn scripts_have_one_output()
 /// that this language refuses keeps its fault, where the first word of the faulty line isn't that of a header line.
 pub fn headers_change_nothing_else()
     ensures { HeadersChangeNothingElse }
+{}
+
+/// The lines of a report are read as they are written, with whatever counts of what was sent, and no other lines are.
+pub fn reports_are_read_back()
+    ensures { ReportsAreReadBack }
+{
+    locks_have_one_report();
+}
+
+/// A journal has one end: two ends of the same lines are equal.
+pub fn journals_have_one_end()
+    ensures { JournalsHaveOneEnd }
+{}
+
+/// What is written of entries with at most 64 notes, each on a line of its own, is read as just these entries, where their numbers are
+/// those of the limits and the report has not begun; and where they are a run behind the entries before, it is legal.
+pub fn journals_are_read_back()
+    ensures read { EntriesAreReadBack }
+    ensures legal { JournalsAreReadBack }
+{}
+
+/// What is explained of a script is its output and lines that begin with `#`: without these it is the output.
+pub fn explanations_are_comments()
+    ensures { ExplanationsAreComments }
 {}

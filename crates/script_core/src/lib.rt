@@ -4,20 +4,32 @@
 mod arguments;
 mod commands;
 mod entry;
+mod expected;
+mod explain;
+mod journal;
 mod laws;
 mod line;
 mod note;
 mod numbers;
 mod pieces;
+mod place;
 mod reader;
+mod report;
 mod script;
 mod text;
 mod words;
 mod write;
 
 pub use entry::parse_entry;
-pub use laws::{headers_change_nothing_else, scripts_have_one_output};
+pub use explain::{write_explained, write_unborn};
+pub use journal::{JournalFault, JournalReader};
+pub use laws::{
+    explanations_are_comments, headers_change_nothing_else, journals_are_read_back,
+    journals_have_one_end, reports_are_read_back, scripts_have_one_output,
+};
+pub use report::{ReportFault, ReportLine, ReportReader};
 pub use script::{Cause, Script, ScriptFault, parse};
+pub use text::ProcessLine;
 pub use write::{write_entry, write_report};
 
 /// The most bytes that a line may have, without its line feed (this project's choice).

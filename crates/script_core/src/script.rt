@@ -1,5 +1,5 @@
 //! A whole script: its meaning, or its first faulty line.
-ghost use Rattle.std.specs.Prelude.{◌≡◌, ◌≢◌, ◌≤◌, ◌+◌, ◌⊎◌, ◌==◌, ℕ, List, [], ◌∷◌, ◌++◌, All, Ok, Err, IfOk, IfErr, length};
+ghost use Rattle.std.specs.Prelude.{◌≡◌, ◌≢◌, ◌<◌, ◌≤◌, ◌+◌, ◌^◌, ◌⊎◌, ◌==◌, ℕ, List, [], ◌∷◌, ◌++◌, All, Ok, Err, IfOk, IfErr, length};
 ghost use Rattle.script_core.specs.declared.TheConstants.{SCRIPT_MAX};
 ghost use Rattle.std.specs.List.{slice_split};
 ghost use Rattle.script_core.specs.Reading.{Reads, HasOneReading, LinesGive, IsAtHand, ComesTo, IsOfScript, IsWantOfMemory, start};
@@ -120,11 +120,19 @@ fn read_lines(alloc: Global, bytes: &[u8]) -> Result<Script, ScriptFault>
     let mut reader = Reader::new(alloc);
     for (index, line) in bytes.split(|byte| *byte == b'\n').enumerate() {
         if let Err(cause) = reader.read_line(line) {
-            let line = index as u64 + 1;
-            return Err(ScriptFault { line, cause });
+            return Err(fault_at(index, cause));
         }
     }
     Ok(reader.into_script())
+}
+
+/// The fault of the line behind so many others.
+fn fault_at(before: usize, cause: Cause) -> ScriptFault
+    requires { before + 1 < 2 ^ 64 }
+    ensures { result ≡ record { line = before + 1; cause = cause } }
+{
+    let line = before as u64 + 1;
+    ScriptFault { line, cause }
 }
 
 /// The bytes without the line feed that ends them, where one does.

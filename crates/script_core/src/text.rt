@@ -4,9 +4,9 @@ ghost use Rattle.std.specs.List.{join_with_byte};
 ghost use Rattle.lock_manager.specs.declared.request.Request.TheVariants.{Flock};
 ghost use Rattle.script_core.specs.RequestText.{request_text, lock_words, pid_words, nb_words};
 ghost use Rattle.script_core.specs.RequestText as spec;
-ghost use Rattle.script_core.specs.EntryText.{entry_line, note_text, reply_text, tag};
+ghost use Rattle.script_core.specs.EntryText.{entry_line, entry_text, note_text, reply_text, tag};
 ghost use Rattle.script_core.specs.EntryText as entry_spec;
-ghost use Rattle.script_core.specs.ReportText.{held_line, held_text, wait_line, wanted_text, byte_lock_text, flock_text, owner_text, counts_text, process_line};
+ghost use Rattle.script_core.specs.ReportText.{held_line, held_text, wait_line, wait_text, wanted_text, byte_lock_text, flock_text, owner_text, counts_text, process_line, process_text};
 ghost use Rattle.script_core.specs.ReportText as report_spec;
 ghost use Rattle.script_core.specs.Output.{Extends};
 
@@ -22,13 +22,22 @@ use wait_core::{Family, Wait};
 pub fn push_entry(text: &mut Vec<u8>, entry: &Entry) -> Result<(), Memory>
     ensures { MatchResult result (λ unit. text.new.items ≡ text.old.items ++ entry_line entry.now) (λ error. Extends text.old.items text.new.items) }
 {
+    push_event(text, entry, entry.notes.as_slice())?;
+    push_str(text, "\n")
+}
+
+/// Appends the request of an entry with its process and number, and then each of these notes.
+pub fn push_event(text: &mut Vec<u8>, entry: &Entry, notes: &[Note]) -> Result<(), Memory>
+    ensures { MatchResult result (λ unit. text.new.items ≡ text.old.items ++ entry_text (record entry.now { notes = notes.now }))
+        (λ error. Extends text.old.items text.new.items) }
+{
     push_first_number(text, u64::from(entry.p))?;
     push_number(text, b'#', entry.n)?;
     push_request(text, &entry.request)?;
-    for note in entry.notes.as_slice() {
+    for note in notes {
         push_note(text, note)?;
     }
-    push_str(text, "\n")
+    Ok(())
 }
 
 /// Appends a space, and a request: its command and its arguments, with one space between words.
@@ -169,7 +178,7 @@ pub fn push_held(text: &mut Vec<u8>, held: &Held) -> Result<(), Memory>
 }
 
 /// Appends what is held, without the end of the line.
-fn push_held_text(text: &mut Vec<u8>, held: &Held) -> Result<(), Memory>
+pub fn push_held_text(text: &mut Vec<u8>, held: &Held) -> Result<(), Memory>
     ensures { MatchResult result (λ unit. text.new.items ≡ text.old.items ++ held_text held.now) (λ error. Extends text.old.items text.new.items) }
 {
     if held.whole {
@@ -185,10 +194,17 @@ fn push_held_text(text: &mut Vec<u8>, held: &Held) -> Result<(), Memory>
 pub fn push_wait(text: &mut Vec<u8>, wait: &Wait) -> Result<(), Memory>
     ensures { MatchResult result (λ unit. text.new.items ≡ text.old.items ++ wait_line wait.now) (λ error. Extends text.old.items text.new.items) }
 {
+    push_wait_text(text, wait)?;
+    push_str(text, "\n")
+}
+
+/// Appends a request that waits, and what it waits for, without the end of the line.
+pub fn push_wait_text(text: &mut Vec<u8>, wait: &Wait) -> Result<(), Memory>
+    ensures { MatchResult result (λ unit. text.new.items ≡ text.old.items ++ wait_text wait.now) (λ error. Extends text.old.items text.new.items) }
+{
     push_numbered(text, "wait", u64::from(wait.p))?;
     push_number(text, b'#', wait.n)?;
-    push_wanted(text, wait)?;
-    push_str(text, "\n")
+    push_wanted(text, wait)
 }
 
 /// Appends a space and the lock that a wait is for.
@@ -260,10 +276,17 @@ pub struct ProcessLine {
 pub fn push_process(text: &mut Vec<u8>, line: &ProcessLine) -> Result<(), Memory>
     ensures { MatchResult result (λ unit. text.new.items ≡ text.old.items ++ process_line line.now) (λ error. Extends text.old.items text.new.items) }
 {
+    push_process_text(text, line)?;
+    push_str(text, "\n")
+}
+
+/// Appends what there is to tell of a process, without the end of the line.
+pub fn push_process_text(text: &mut Vec<u8>, line: &ProcessLine) -> Result<(), Memory>
+    ensures { MatchResult result (λ unit. text.new.items ≡ text.old.items ++ process_text line.now) (λ error. Extends text.old.items text.new.items) }
+{
     push_numbered(text, "proc", u64::from(line.p))?;
     push_counts(text, line)?;
-    push_word(text, state_word(line.state))?;
-    push_str(text, "\n")
+    push_word(text, state_word(line.state))
 }
 
 /// Appends a space, and how many requests of the process were sent, taken and answered.
@@ -370,7 +393,7 @@ fn error_name(error: Errno) -> &'static str
 }
 
 /// The word of where a process stands.
-fn state_word(state: ProcState) -> &'static str
+pub fn state_word(state: ProcState) -> &'static str
     ensures { result.now ≡ report_spec.state_word state }
 {
     match state {

@@ -139,7 +139,7 @@ fn push_reported(text: &mut Vec<u8>, line: &ProcessLine) -> Result<(), Memory>
 }
 
 /// Whether the process was ever alive, or has sent something.
-fn is_reported(line: &ProcessLine) -> bool
+pub fn is_reported(line: &ProcessLine) -> bool
     ensures { result ≡ spec.is_reported line.now.state line.now.sent }
 {
     match line.state {

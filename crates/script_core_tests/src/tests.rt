@@ -1,6 +1,8 @@
 //! Scripts and their faults line by line, and the texts of entries and reports.
 mod header_lines;
 mod journal_entries;
+mod journals;
+mod report_lines;
 
 use fd_table::Access;
 use lock_manager::{Errno, FlockOp, LkCmd, Lock, Note, Reply, Request};

@@ -32,7 +32,8 @@ use Rattle.lock_manager.specs.Step.{ComesTo}
 use Rattle.lock_manager.specs.OneOutcome.{StepHasOneOutcome}
 use Rattle.session_core.specs.Event.{Event}
 use Rattle.session_core.specs.Runs.{IsStep, Leads, IsRun}
-use Rattle.session_core.specs.QueuePolicy.{AsksForBytes, AsksForWhole, WouldWaitAs, HasFlock, SetsAtOnce, IsTested, IsOver, notes_told, PassesNoneTold, NotesAreOfWaits, RequestsJoinTheQueue}
+use Rattle.lock_manager.specs.Asking.{AsksForBytes, AsksForWhole}
+use Rattle.session_core.specs.QueuePolicy.{WouldWaitAs, HasFlock, SetsAtOnce, IsTested, IsOver, notes_told, PassesNoneTold, NotesAreOfWaits, RequestsJoinTheQueue}
 use Rattle.session_core.proofs.Tally.{Each-append, Each-map}
 use Rattle.session_core.proofs.OutcomeLaws.{cases_fact, cases_bool}
 use Rattle.session_core.proofs.AnyLemmas.{Any-here, Any-there}

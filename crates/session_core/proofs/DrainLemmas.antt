@@ -1,6 +1,6 @@
 -- Draining: one more event taken, how much mail is left, and one more arrival.
 use Rattle.std.proofs.Common.{ℕ, zero, suc, ◌≡◌, ◌≢◌, ◌+◌, ◌-◌, ◌<◌, ◌≤◌, refl, sym, ◌∙◌, ap, subst, arith, eq-eqb, ne_eqb, length, length-append, List, [], ◌∷◌, ◌++◌, ⊎_elim, true, false, Option, Some, None, Result, Err, is_some, slice_get, get_or, take, drop, map, filter}
-use Rattle.std.specs.Prelude.{◌==◌, if◌then◌else◌}
+use Rattle.std.specs.Prelude.{◌==◌, if◌then◌else◌, IsNone}
 use Rattle.std.proofs.lemmas.Bool.{cases_eq}
 use Rattle.std.proofs.lemmas.List.{append-nil, append_assoc, map-append, take-append-drop, drop_more, take_more}
 use Rattle.std.proofs.lemmas.List.Elements.{filter-append}
@@ -8,6 +8,7 @@ use Rattle.std.proofs.lemmas.Option.{slice_get_within}
 use Rattle.lock_manager.specs.declared.request.Rules.{Rules}
 use Rattle.lock_manager.specs.declared.request.Request.{Request}
 use Rattle.lock_manager.specs.declared.request.ProcState.{ProcState}
+use Rattle.lock_manager.specs.declared.request.ProcState.TheVariants.{Live}
 use Rattle.lock_manager.specs.State.{State, opening_state}
 use Rattle.lock_manager.specs.ManagerView.{StandsFor, rules_of, processes_of, state_at}
 use Rattle.session_core.specs.declared.mailbox.Mailbox.{Mailbox}
@@ -18,7 +19,7 @@ use Rattle.session_core.specs.Mail.{requests_sent}
 use Rattle.session_core.specs.Mailboxes.{mail_waiting, mail_sent, waiting_in}
 use Rattle.session_core.specs.Draining.{next_untaken, IsNext, IsDrained, TakesMail, DrainsMail, DrainsFrom, IsDrain}
 use Rattle.session_core.specs.SessionView.{SameSession, Arrives, IsEmptySession, TakesOne, TakesNext, manager_of, events_in, sent_of}
-use Rattle.session_core.specs.Deliveries.{GoesOn, TakesSome, Drains, Delivers}
+use Rattle.session_core.specs.Deliveries.{GoesOn, TakesSome, Drains, Delivers, IsAtRest, IsAtRestBut}
 use Rattle.session_core.proofs.JournalLemmas.{length-events_of-push}
 use Rattle.session_core.proofs.MailLemmas.{next_untaken-waits}
 
@@ -267,6 +268,39 @@ pub TakesNext-none : (old new : Session) (result : Option ℕ) → is_some resul
     → IsDrained (state_at (manager_of old)) (sent_of old) (events_in old) × SameSession old new
 TakesNext-none old new None none takes = takes
 TakesNext-none old new (Some place) none takes = cc
+
+-- a session that shows the same is at rest too
+pub at_rest_still : (old new : Session) → SameSession old new → IsAtRest old → IsAtRest new
+at_rest_still old new same rest =
+    IsDrained-along (state_at (manager_of old)) (state_at (manager_of new)) (sent_of old) (sent_of new) (events_in old) (events_in new)
+    (λ p. sym (same.manager.states p)) (λ p. sym (same.sent p)) (sym same.journal) rest
+
+-- without mail it is at rest
+pub at_rest_empty : (rules : Rules) (processes : ℕ) (session : Session) → IsEmptySession rules processes session → IsAtRest session
+at_rest_empty rules processes session empty q live =
+    subst (λ l. IsNone (slice_get l (length (events_of q (events_in session))))) (sym (empty.sent q)) refl
+
+-- where a request arrives, no other process has mail to take
+pub at_rest_but : (old new : Session) (p n : ℕ) (request : Request) → Arrives old new p request n → IsAtRest old → IsAtRestBut new p
+at_rest_but old new p n request arrives rest q other live =
+    let sent : sent_of new q ≡ sent_of old q = arrives.sent q ∙ rw (ne_eqb q p other) refl in
+    let was : IsNone (next_untaken (sent_of old) (events_in old) q) = rest q (sym (arrives.manager.states q) ∙ live) in
+    subst (λ l. IsNone (slice_get l (length (events_of q (events_in new))))) (sym sent)
+    (subst (λ es. IsNone (slice_get (sent_of old q) (length (events_of q es)))) (sym arrives.journal) was)
+
+-- nor has that one where it isn't live
+pub at_rest_all : (session : Session) (p : ℕ) → state_at (manager_of session) p ≢ Live → IsAtRestBut session p → IsAtRest session
+at_rest_all session p out rest q live =
+    ⊎_elim (λ same. absurd (out (subst (λ n. state_at (manager_of session) n ≡ Live) same live))) (λ other. rest q other live) (cases_eq q p)
+
+-- where a session is at rest, there is nothing to take
+pub Drains-none : (session : Session) → IsAtRest session → Drains session session
+Drains-none session rest =
+    Drains-from session session session (TakesSome-none session) rest (record {
+      manager = record { stands = λ S stands. stands; states = λ p. refl; rules = refl; processes = refl };
+      journal = refl;
+      sent = λ p. refl;
+    })
 
 -- what was sent with one arrival more
 pub requests_sent-push : (p : ℕ) (arrivals : List (ℕ × Request)) (q : ℕ) (request : Request)

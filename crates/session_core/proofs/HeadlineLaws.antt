@@ -37,7 +37,7 @@ replayed_tallied manager journal some r =
     (opening_tallies (processes_of manager) some) (replayed_next manager journal r) r.run.leads
 
 -- the numbers of the answers to a process count from 1
-answers_counted : (processes : ℕ) (journal : List Event) (T : State) → IsTallied processes none none journal T → (p : ℕ)
+pub answers_counted : (processes : ℕ) (journal : List Event) (T : State) → IsTallied processes none none journal T → (p : ℕ)
     → AreCountedFrom 0 (map (λ answer. answer.0) (answers_to p journal))
 answers_counted processes journal T t p = subst (λ l. AreCountedFrom 0 l) (sym (answers_from-numbers p 1 journal)) (t.counted p)
 
@@ -96,7 +96,7 @@ in_turn manager journal some r p place event found =
     (last.0, subst (λ state. IsWaiting state ⊎ IsEnded state) (sym stands) last.1))
     (cases_lt place answered)
 
-before_birth : (manager : Manager) (journal : List Event) → 1 ≤ processes_of manager → IsReplayed manager journal → (p : ℕ)
+pub before_birth : (manager : Manager) (journal : List Event) → 1 ≤ processes_of manager → IsReplayed manager journal → (p : ℕ)
     → IsQuietBeforeBirth manager journal p
 before_birth manager journal some r p unborn =
     let t = replayed_tallied manager journal some r in

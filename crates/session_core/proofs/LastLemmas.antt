@@ -63,7 +63,7 @@ number_in None = 0
 number_in (Some answer) = answer.n
 
 -- the answers have the numbers behind this one, one by one
-abbrev AreNumberedFrom : ℕ → List (ℕ × Reply × ℕ) → Type 0
+abbrev pub AreNumberedFrom : ℕ → List (ℕ × Reply × ℕ) → Type 0
 AreNumberedFrom first answers = (place : ℕ) → IfSome (slice_get answers place) (λ answer. answer.0 ≡ first + place + 1)
 
 numbered_later : (first : ℕ) (x : ℕ × Reply × ℕ) (xs : List (ℕ × Reply × ℕ)) → AreNumberedFrom first (x ∷ xs) → AreNumberedFrom (first + 1) xs
@@ -72,7 +72,7 @@ numbered_later first x xs numbered place =
     subst (λ n. IfSome (slice_get xs place) (λ answer. answer.0 ≡ n)) e (numbered (suc place))
 
 -- the last one's number is how many there are
-latest_number : (first : ℕ) (known : Option declared.Answer) (answers : List (ℕ × Reply × ℕ)) → number_in known ≡ first → AreNumberedFrom first answers
+pub latest_number : (first : ℕ) (known : Option declared.Answer) (answers : List (ℕ × Reply × ℕ)) → number_in known ≡ first → AreNumberedFrom first answers
     → number_in (latest known answers) ≡ first + length answers
 latest_number first known [] is numbered = is ∙ omega arith
 latest_number first known (x ∷ xs) is numbered =
@@ -136,7 +136,7 @@ taken_past : (mailboxes : List Mailbox) (p : ℕ) → length mailboxes < p → m
 taken_past mailboxes zero past = refl
 taken_past mailboxes (suc place) past = ap taken_in (slice_get_past mailboxes place (omega arith))
 
-last_past : (last : LastAnswers) (p : ℕ) → processes_in last < p → last_of last p ≡ None
+pub last_past : (last : LastAnswers) (p : ℕ) → processes_in last < p → last_of last p ≡ None
 last_past last zero past = refl
 last_past last (suc place) past = index_past last.answers.items place (omega arith)
   where

@@ -1,13 +1,16 @@
 -- Runs made again: their fronts, the one state that they leave, and one more event.
-use Rattle.std.proofs.Common.{ℕ, zero, suc, ◌≡◌, ◌≢◌, ◌+◌, ◌-◌, ◌<◌, ◌≤◌, refl, sym, ◌∙◌, ap, subst, arith, length, List, [], ◌∷◌, ◌++◌, ⊎_elim, Some, IfSome, slice_get, get_or, set, get_or-set_same, get_or-set_other, replicate, take, drop, length-append}
+use Rattle.std.proofs.Common.{ℕ, zero, suc, ◌≡◌, ◌≢◌, ◌+◌, ◌-◌, ◌<◌, ◌≤◌, None, refl, sym, ◌∙◌, ap, subst, arith, length, List, [], ◌∷◌, ◌++◌, ⊎_elim, Some, IfSome, slice_get, get_or, set, get_or-set_same, get_or-set_other, replicate, take, drop, length-append}
 use Rattle.std.specs.Prelude.{◌==◌}
 use Rattle.std.specs.declared.vec.Vec.{Vec}
 use Rattle.std.specs.declared.alloc.Global.{Global}
-use Rattle.std.proofs.lemmas.Bool.{cases_eq}
+use Rattle.std.proofs.lemmas.Bool.{cases_eq, cases_lt}
 use Rattle.std.proofs.lemmas.List.{append_assoc, take-append-drop, take_more}
 use Rattle.std.proofs.lemmas.List.Elements.{filter-append}
+use Rattle.std.proofs.lemmas.Option.{IfSome_then}
 use Rattle.lock_manager.specs.declared.request.Rules.{Rules}
 use Rattle.lock_manager.specs.declared.request.Note.{Note}
+use Rattle.lock_manager.specs.declared.request.ProcState.{ProcState}
+use Rattle.lock_manager.specs.declared.request.ProcState.TheVariants.{Unborn, Live, Waiting, Ended}
 use Rattle.lock_manager.specs.State.{State, opening_state}
 use Rattle.lock_manager.specs.Step.{Step}
 use Rattle.lock_manager.specs.OneOutcome.{StepHasOneOutcome}
@@ -18,8 +21,14 @@ use Rattle.session_core.specs.Runs.{IsStep, IsRun, Leads, AreNumbered, events_of
 use Rattle.session_core.specs.declared.check.Expected.{Expected}
 use Rattle.session_core.specs.declared.check.Expected.TheVariants.{NoRequest, NumberAfter, Notes}
 use Rattle.session_core.specs.Legality.{WouldHave}
+use Rattle.session_core.specs.Mail.{answers_in, answers_to}
+use Rattle.session_core.specs.LastAnswers.{latest, last_of, processes_in}
+use Rattle.session_core.specs.Checking.{IsAfter}
 use Rattle.session_core.specs.Replaying.{HasMade, IsNextOf, IsOutOfTurn, Makes, Repeats, count_of}
-use Rattle.session_core.proofs.HeadlineLaws.{replayed_tallied}
+use Rattle.session_core.proofs.Tally.{Tallies}
+use Rattle.session_core.proofs.RunLaws.{counted_answers}
+use Rattle.session_core.proofs.HeadlineLaws.{replayed_tallied, answers_counted, before_birth}
+use Rattle.session_core.proofs.LastLemmas.{AreNumberedFrom, AreLastAnswers-push, last_past, latest_number, number_in}
 use Rattle.session_core.proofs.JournalLemmas.{events_of-push_own, events_of-push_other, IsReplayed-push}
 
 -- what leads through two lists of events leads through a state between them
@@ -170,8 +179,10 @@ pub Makes-told : (old new : Replay) (event : Event) (place : ℕ) (notes : List 
     → processes_of new.manager ≡ processes_of old.manager
     → ((S : State) → StandsFor old.manager S → (T : State)
     × Step (rules_of old.manager) (processes_of old.manager) S event.p event.n event.request notes T × StandsFor new.manager T)
+    → processes_in new.answers ≡ processes_in old.answers
+    → ((p : ℕ) → 1 ≤ p → p ≤ processes_in old.answers → last_of new.answers p ≡ latest (last_of old.answers p) (answers_in p 0 notes))
     → Makes old new (record event { notes = notes })
-Makes-told old new event place notes next at taken same_rules same_processes steps rules processes events made =
+Makes-told old new event place notes next at taken same_rules same_processes steps as_many latest_told rules processes events made =
     let told : Event = record event { notes = notes } in
     let number : event.n ≡ length (events_of event.p events) + 1 = next.number ∙ ap (λ k. k + 1) (made.counts event.p) in
     let low : 1 ≤ event.p = next.able.low in
@@ -187,6 +198,7 @@ Makes-told old new event place notes next at taken same_rules same_processes ste
       counts = λ p.
           subst (λ counts. count_of counts p ≡ length (events_of p (events ++ told ∷ []))) (sym taken)
           (count_of-push old.taken.items place events told there within next.number made.counts p);
+      answered = AreLastAnswers-push processes old.answers new.answers events (events ++ told ∷ []) told refl as_many latest_told made.answered;
     }
 
 -- the step of the event's request was made, and told other notes: the event is illegal
@@ -218,14 +230,16 @@ count_of-zeros (suc many) (suc (suc place)) = count_of-zeros many (suc place)
 -- at the opening no event was made
 pub HasMade-opening : (rules : Rules) (processes : ℕ) (replay : Replay) (many : ℕ) → 1 ≤ processes → rules_of replay.manager ≡ rules
     → processes_of replay.manager ≡ processes → StandsFor replay.manager opening_state → replay.taken.items ≡ replicate many 0
+    → processes_in replay.answers ≡ processes → ((p : ℕ) → last_of replay.answers p ≡ None)
     → HasMade rules processes replay []
-HasMade-opening rules processes replay many some rules_are processes_are opening zeros =
+HasMade-opening rules processes replay many some rules_are processes_are opening zeros as_many none =
     record {
       some = some;
       rules_are = rules_are;
       processes_are = processes_are;
       replayed = record { state = opening_state; run = record { leads = refl; numbered = λ q place. tt }; stands = opening };
       counts = λ p. ap (λ counts. count_of counts p) zeros ∙ count_of-zeros many p;
+      answered = record { one_each = as_many; latest_is = λ p low high. none p };
     }
 
 -- the events so far with this one are so many of all
@@ -241,3 +255,62 @@ no_run rules processes events i event within at none T run =
     let all : events ≡ take (i + 1) events ++ drop (i + 1) events = sym (take-append-drop (i + 1) events) in
     let front = IsRun-front rules processes (take (i + 1) events) (drop (i + 1) events) T (subst (λ l. IsRun rules processes l T) all run) in
     none front.0 (subst (λ l. IsRun rules processes l front.0) (take_next events i event within at) front.1)
+
+-- the manager of what was made stands for each state that the events leave
+pub after_made : StepHasOneOutcome → (rules : Rules) (processes : ℕ) (replay : Replay) (events : List Event) → HasMade rules processes replay events
+    → IsAfter rules processes events replay.manager
+after_made one rules processes replay events made =
+    let run = made_run rules processes replay events made in
+    record {
+      rules_are = made.rules_are;
+      processes_are = made.processes_are;
+      stands = λ T other.
+          subst (λ S. StandsFor replay.manager S) (Leads-unique one rules processes opening_state events made.replayed.state T run.leads other.leads)
+          made.replayed.stands;
+    }
+
+-- a process that isn't there is unborn
+unborn_outside : (processes : ℕ) (S : State) (taken answered : ℕ → ℕ) → Tallies processes S taken answered → (p : ℕ)
+    → (1 ≤ p → p ≤ processes → ⊥) → S.states p ≡ Unborn
+unborn_outside processes S taken answered t p outside = by_state (S.states p) refl
+  where
+    alive : S.states p ≢ Unborn → ⊥
+    alive some = let born = t.born p some in outside born.low born.high
+
+    by_state : (state : ProcState) → S.states p ≡ state → S.states p ≡ Unborn
+    by_state Unborn is = is
+    by_state Live is = absurd (alive (λ unborn. let no : Live ≡ Unborn = sym is ∙ unborn in cc))
+    by_state Waiting is = absurd (alive (λ unborn. let no : Waiting ≡ Unborn = sym is ∙ unborn in cc))
+    by_state Ended is = absurd (alive (λ unborn. let no : Ended ≡ Unborn = sym is ∙ unborn in cc))
+
+-- it was answered nothing
+answers_outside : (rules : Rules) (processes : ℕ) (replay : Replay) (events : List Event) (p : ℕ) → HasMade rules processes replay events
+    → (1 ≤ p → p ≤ processes → ⊥) → length (answers_to p events) ≡ 0
+answers_outside rules processes replay events p made outside =
+    let r = made.replayed in
+    let some : 1 ≤ processes_of replay.manager = rw made.processes_are made.some in
+    let tallied = replayed_tallied replay.manager events some r in
+    let unborn = unborn_outside (processes_of replay.manager) r.state _ _ tallied.tallies p (λ low high. outside low (subst (λ n. p ≤ n) made.processes_are high)) in
+    ap length (before_birth replay.manager events some r p (r.stands.states p ∙ unborn)).1
+
+-- the number of the last answer to a process, also of one that isn't there, is how many answers there are
+pub answered_made : (rules : Rules) (processes : ℕ) (replay : Replay) (events : List Event) (p : ℕ) → HasMade rules processes replay events
+    → number_in (last_of replay.answers p) ≡ length (answers_to p events)
+answered_made rules processes replay events zero made = sym (answers_outside rules processes replay events 0 made (λ low high. omega arith))
+answered_made rules processes replay events (suc place) made =
+    ⊎_elim
+    (λ (past : processes < suc place).
+    ap number_in (last_past replay.answers (suc place) (rw made.answered.one_each past))
+    ∙ sym (answers_outside rules processes replay events (suc place) made (λ low high. omega arith)))
+    (λ (within : suc place ≤ processes).
+    ap number_in (made.answered.latest_is (suc place) (omega arith) within)
+    ∙ latest_number 0 None (answers_to (suc place) events) refl numbered
+    ∙ omega arith)
+    (cases_lt processes (suc place))
+  where
+    numbered : AreNumberedFrom 0 (answers_to (suc place) events)
+    numbered at =
+        let r = made.replayed in
+        let some : 1 ≤ processes_of replay.manager = rw made.processes_are made.some in
+        let tallied = replayed_tallied replay.manager events some r in
+        counted_answers 0 (answers_to (suc place) events) (answers_counted (processes_of replay.manager) events r.state tallied (suc place)) at

@@ -29,7 +29,8 @@ use Rattle.lock_manager.specs.OneOutcome.{StepHasOneOutcome}
 use Rattle.session_core.specs.Event.{Event}
 use Rattle.session_core.specs.Runs.{IsStep, Leads, IsRun, events_of}
 use Rattle.session_core.specs.Headline.{EndsProcess}
-use Rattle.session_core.specs.QueuePolicy.{AsksForBytes, AsksForWhole, WouldWaitAs, WaitsAs, IsOver, notes_told, GrantsAreInTurn}
+use Rattle.lock_manager.specs.Asking.{AsksForBytes, AsksForWhole}
+use Rattle.session_core.specs.QueuePolicy.{WouldWaitAs, WaitsAs, IsOver, notes_told, GrantsAreInTurn}
 use Rattle.session_core.proofs.Tally.{numbers_in, AreCountedFrom, Tallies, Tells, one_more, one_more-same, Each-map}
 use Rattle.session_core.proofs.Moves.{live_apart}
 use Rattle.session_core.proofs.StepLaws.{Step-tells}

@@ -1,7 +1,9 @@
 -- What a `JournalChecker` has accepted (the words are this project's choice).
 use Rattle.std.specs.Prelude.{◌≡◌, ℕ, Option, Some, None, Result, Ok, Err, List, [], ◌∷◌, ◌++◌}
 use Rattle.lock_manager.specs.declared.request.Rules.{Rules}
+use Rattle.lock_manager.specs.declared.manager.Manager.{Manager}
 use Rattle.lock_manager.specs.State.{State}
+use Rattle.lock_manager.specs.ManagerView.{StandsFor, rules_of, processes_of}
 use Rattle.session_core.specs.declared.check.CheckFault.{CheckFault}
 use Rattle.session_core.specs.declared.check.CheckFault.TheVariants.{Illegal, Memory}
 use Rattle.session_core.specs.declared.check.Expected.{Expected}
@@ -32,3 +34,9 @@ Checks rules processes checker events event (Ok done) = HasAccepted rules proces
 Checks rules processes checker events event (Err Illegal) =
     (expected : Expected) × (expected_by checker ≡ Some expected) × IsIllegal rules processes events event expected
 Checks rules processes checker events event (Err (Memory memory)) = HasAccepted rules processes checker events
+
+-- the manager has these rules and so many processes, and stands for each state that these events leave
+pub record IsAfter (rules : Rules) (processes : ℕ) (events : List Event) (manager : Manager) : Type 0 where
+  pub rules_are : rules_of manager ≡ rules
+  pub processes_are : processes_of manager ≡ processes
+  pub stands : (T : State) → IsRun rules processes events T → StandsFor manager T

@@ -1,21 +1,14 @@
 -- What the queue policy promises of every run (the words are this project's choice).
-use Rattle.std.specs.Prelude.{◌≡◌, ℕ, ◌≤◌, ◌⊎◌, Some, Ok, IsTrue, IsFalse, List, [], ◌∷◌, ◌++◌, All, Any, Contains, flat_map}
+use Rattle.std.specs.Prelude.{◌≡◌, ℕ, ◌≤◌, ◌⊎◌, Some, IsTrue, IsFalse, List, [], ◌∷◌, ◌++◌, All, Any, Contains, flat_map}
 use Rattle.range_core.specs.declared.Mode.{Mode}
-use Rattle.range_core.specs.declared.Span.{Span}
-use Rattle.range_core.specs.Resolving.{resolution}
 use Rattle.lock_book.specs.declared.Owner.{Owner}
 use Rattle.lock_book.specs.declared.Owner.TheVariants.{Process, Description}
-use Rattle.fd_table.specs.declared.tables.Look.{Look}
-use Rattle.fd_table.specs.Descriptors.{look_at}
 use Rattle.wait_core.specs.declared.Family.{Family}
 use Rattle.wait_core.specs.declared.Family.TheVariants.{Bytes, Whole}
 use Rattle.wait_core.specs.declared.Policy.TheVariants.{Queue}
 use Rattle.wait_core.specs.declared.Wait.{Wait}
 use Rattle.wait_core.specs.Blocking.{WaitsConflict}
 use Rattle.lock_manager.specs.declared.request.Rules.{Rules}
-use Rattle.lock_manager.specs.declared.request.Lock.{Lock}
-use Rattle.lock_manager.specs.declared.request.LkCmd.{LkCmd}
-use Rattle.lock_manager.specs.declared.request.FlockOp.{FlockOp}
 use Rattle.lock_manager.specs.declared.request.Request.{Request}
 use Rattle.lock_manager.specs.declared.request.Request.TheVariants.{OpenFile, Dup, DupTo, CloseFd, Seek, Resize, Lk, Flock, Fork, Exit, Signal, Kill}
 use Rattle.lock_manager.specs.declared.request.Note.{Note}
@@ -23,30 +16,12 @@ use Rattle.lock_manager.specs.declared.request.Note.TheVariants.{Answer, Waits}
 use Rattle.lock_manager.specs.declared.request.Reply.{Reply}
 use Rattle.lock_manager.specs.declared.request.Reply.TheVariants as replies
 use Rattle.lock_manager.specs.State.{State, opening_state, locks_held}
-use Rattle.lock_manager.specs.LockWords.{may_wait, wanted_mode, wanted_lock}
-use Rattle.lock_manager.specs.FlockCalls.{flock_wanted_mode, wanted_flock, IsFlockTested}
+use Rattle.lock_manager.specs.Asking.{AsksForBytes, AsksForWhole}
+use Rattle.lock_manager.specs.LockWords.{may_wait}
+use Rattle.lock_manager.specs.FlockCalls.{IsFlockTested}
 use Rattle.session_core.specs.Event.{Event}
 use Rattle.session_core.specs.Runs.{Leads, IsRun}
 use Rattle.session_core.specs.Headline.{EndsProcess}
-
--- the lock command asks for a lock: on the file of its descriptor, for the range that it describes there
--- (POSIX.1-2017 fcntl, DESCRIPTION, F_SETLKW; fcntl_locking(2), F_OFD_SETLKW)
-pub record AsksForBytes (S : State) (p n fd : ℕ) (cmd : LkCmd) (lock : Lock) (wait : Wait) : Type 0 where
-  pub look : Look
-  pub of_open : look_at S.descriptors p fd ≡ Some look
-  pub span : Span
-  pub of_range : resolution lock.whence lock.start lock.len look.offset look.size ≡ Ok span
-  pub mode : Mode
-  pub of_kind : wanted_mode lock.kind ≡ Some mode
-  pub is : wait ≡ wanted_lock cmd p n look span mode
-
--- flock asks for a lock: of the open file description of its descriptor, on the whole file (flock(2))
-pub record AsksForWhole (S : State) (p n fd : ℕ) (op : FlockOp) (wait : Wait) : Type 0 where
-  pub look : Look
-  pub of_open : look_at S.descriptors p fd ≡ Some look
-  pub mode : Mode
-  pub of_op : flock_wanted_mode op ≡ Some mode
-  pub is : wait ≡ wanted_flock p n look mode
 
 -- in the state S the request number n of process p asks for this lock, and would wait for it were it blocked: it is a setlkw, an
 -- osetlkw, or a flock without LOCK_NB

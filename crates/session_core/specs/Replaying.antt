@@ -9,6 +9,7 @@ use Rattle.session_core.specs.declared.check.Expected.TheVariants.{NoRequest, Nu
 use Rattle.session_core.specs.Event.{Event}
 use Rattle.session_core.specs.Runs.{events_of}
 use Rattle.session_core.specs.Draining.{IsReplayed}
+use Rattle.session_core.specs.LastAnswers.{AreLastAnswers}
 use Rattle.session_core.specs.Legality.{IsIllegal}
 
 -- how many requests were taken of a process: the count of process p stands at place p - 1
@@ -17,13 +18,14 @@ count_of counts zero = 0
 count_of counts (suc place) = slice_index counts place
 
 -- the replay made these events: they are a run of so many processes under these rules, its manager stands for the state that
--- they leave, and its counts are those of the requests that were taken
+-- they leave, its counts are those of the requests that were taken, and its answers the last ones
 pub record HasMade (rules : Rules) (processes : ℕ) (replay : Replay) (events : List Event) : Type 0 where
   pub some : 1 ≤ processes
   pub rules_are : rules_of replay.manager ≡ rules
   pub processes_are : processes_of replay.manager ≡ processes
   pub replayed : IsReplayed replay.manager events
   pub counts : (p : ℕ) → count_of replay.taken.items p ≡ length (events_of p events)
+  pub answered : AreLastAnswers processes replay.answers events
 
 -- the process is one of the replay's, and live
 pub record IsAble (replay : Replay) (p : ℕ) : Type 0 where

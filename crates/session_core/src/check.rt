@@ -2,11 +2,13 @@
 ghost use Rattle.std.specs.Prelude.{◌≡◌, ◌≤◌, ◌↔◌, ℕ, List, [], Err, IfOk, IsSome, IsTrue, MatchOption, OnErr, length, option_copied};
 ghost use Rattle.fd_table.specs.Descriptors.{process_limit};
 ghost use Rattle.lock_manager.specs.State.{State};
-ghost use Rattle.lock_manager.specs.ManagerView.{processes_of};
+ghost use Rattle.lock_manager.specs.ManagerView.{StandsFor, rules_of, processes_of};
 ghost use Rattle.session_core.specs.Event.{Event};
-ghost use Rattle.session_core.specs.Runs.{IsRun};
+ghost use Rattle.session_core.specs.Runs.{IsRun, events_of};
+ghost use Rattle.session_core.specs.Mail.{answers_to};
 
 use crate::Entry;
+use crate::answers::LastAnswers;
 use lock_manager::{Manager, Note, ProcState, Rules, step_has_one_outcome};
 use range_core::Memory;
 use std::alloc::Global;
@@ -74,7 +76,7 @@ pub enum Expected {
 /// Takes the entries of a journal one after another, and tells the first with which they no longer begin a run from the opening
 /// state, numbers and notes included (this project's choice).
 ///
-/// It keeps no entry: its memory is that of the lock manager's state and of a count for each process, however many entries come. It
+/// It keeps no entry: its memory is that of the lock manager's state and of a count and an answer for each process, however many entries come. It
 /// makes the steps again, which is enough, since a step has one outcome.
 #[derive(Drop)]
 pub struct JournalChecker {
@@ -85,7 +87,7 @@ pub struct JournalChecker {
 
 #[tactic(auto, unfolding(crate::specs::Checking::expected_by, crate::specs::Checking::HasRepeated))]
 impl JournalChecker {
-    ghost use Rattle.session_core.specs.Checking.{Checks, HasAccepted, expected_by};
+    ghost use Rattle.session_core.specs.Checking.{Checks, HasAccepted, IsAfter, expected_by};
 
     /// At the opening, with `processes` processes, numbered from 1 and at most [`fd_table::Limits::processes`]. No entry was accepted.
     pub fn new(alloc: Global, processes: u8, rules: Rules) -> Result<JournalChecker, Memory>
@@ -130,6 +132,32 @@ impl JournalChecker {
     {
         self.expected.as_ref()
     }
+
+    /// The manager, in the state that the accepted entries leave: once an entry was illegal, in whatever state that left.
+    pub fn manager(&self) -> &Manager
+        ensures { (rules : Rules) (processes : ℕ) (accepted : List Event) → HasAccepted rules processes self.now accepted →
+            IsAfter rules processes accepted result.now }
+    {
+        // A law, and nothing to run.
+        step_has_one_outcome();
+        &self.replay.manager
+    }
+
+    /// How many requests of the process were taken in the accepted entries: 0 where there is no such process.
+    pub fn taken(&self, p: u8) -> u64
+        ensures { (rules : Rules) (processes : ℕ) (accepted : List Event) → HasAccepted rules processes self.now accepted →
+            result ≡ length (events_of p accepted) }
+    {
+        self.replay.taken(p)
+    }
+
+    /// How many requests of the process were answered in the accepted entries: 0 where there is no such process.
+    pub fn answered(&self, p: u8) -> u64
+        ensures { (rules : Rules) (processes : ℕ) (accepted : List Event) → HasAccepted rules processes self.now accepted →
+            result ≡ length (answers_to p accepted) }
+    {
+        self.replay.answered(p)
+    }
 }
 
 /// A run that is made again, step by step.
@@ -138,11 +166,12 @@ struct Replay {
     manager: Manager,
     /// How many requests of each process were taken, from process 1 on.
     taken: Vec<u64>,
+    answers: LastAnswers,
     ghost one_each: { length taken.items ≡ processes_of manager },
 }
 
 impl Replay {
-    ghost use Rattle.session_core.specs.Replaying.{HasMade, IsNextOf, IsOutOfTurn, Keeps, Makes, Repeats};
+    ghost use Rattle.session_core.specs.Replaying.{HasMade, IsNextOf, IsOutOfTurn, Keeps, Makes, Repeats, count_of};
 
     /// At the opening.
     fn new(alloc: Global, processes: u8, rules: Rules) -> Result<Replay, Memory>
@@ -151,7 +180,12 @@ impl Replay {
     {
         let manager = Manager::new(alloc, processes, rules)?;
         let taken = vec![in alloc; 0; usize::from(processes)]?;
-        Ok(Replay { manager, taken })
+        let answers = LastAnswers::new(alloc, processes)?;
+        Ok(Replay {
+            manager,
+            taken,
+            answers,
+        })
     }
 
     /// Makes the step of the entry's request, where that is the next of an able process, and answers what was expected in place
@@ -196,7 +230,27 @@ impl Replay {
     {
         let notes = self.manager.take(entry.p, entry.n, entry.request)?;
         self.taken[usize::from(entry.p) - 1] = entry.n;
+        self.answers.tell(&notes);
         Ok(notes)
+    }
+
+    /// How many requests of the process were taken: 0 where there is no such process.
+    fn taken(&self, p: u8) -> u64
+        ensures { result ≡ count_of self.now.taken.items p }
+    {
+        match usize::from(p).checked_sub(1) {
+            Some(place) => self.taken.get(place).copied().unwrap_or(0),
+            None => 0,
+        }
+    }
+
+    /// How many requests of the process were answered: 0 where there is no such process.
+    fn answered(&self, p: u8) -> u64
+        ensures { (rules : Rules) (processes : ℕ) (events : List Event) → HasMade rules processes self.now events →
+            result ≡ length (answers_to p events) }
+    {
+        // The answers to a process have the numbers 1, 2, and so on.
+        self.answers.of(p).map_or(0, |last| last.n)
     }
 }
 

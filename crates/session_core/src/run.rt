@@ -6,7 +6,7 @@ ghost use Rattle.lock_manager.specs.ManagerView.{StandsFor, rules_of, processes_
 ghost use Rattle.session_core.specs.Mail.{requests_sent};
 ghost use Rattle.session_core.specs.Draining.{IsDrain};
 ghost use Rattle.session_core.specs.SessionView.{manager_of, events_in, sent_of, SessionHolds};
-ghost use Rattle.session_core.specs.Deliveries.{Drains, Delivers};
+ghost use Rattle.session_core.specs.Deliveries.{Drains, Delivers, IsAtRest, IsAtRestBut};
 
 use crate::{ArriveFault, N_MAX, Session};
 use lock_manager::{Request, Rules};
@@ -64,20 +64,36 @@ pub fn run_all(
 
 /// The request arrives, and then all that can be taken is taken.
 fn deliver(session: &mut Session, p: u8, request: Request) -> Result<(), RunAllFault>
-    requires { (1 ≤ p) × (p ≤ processes_of (manager_of session.old)) }
+    requires process { (1 ≤ p) × (p ≤ processes_of (manager_of session.old)) }
+    requires rest { IsAtRest session.old }
     ensures ok { OnOk result (Delivers session.old session.new p request) }
+    ensures rest { OnOk result (IsAtRest session.new) }
     ensures full { result ≡ Err RunAllFault.Full → length (sent_of session.old p) ≡ N_MAX }
 {
     match session.arrive(p, request) {
-        Ok(_) => Ok(drain(session)?),
+        Ok(_) => Ok(drain_of(session, p)?),
         Err(ArriveFault::Full) => Err(RunAllFault::Full),
         Err(ArriveFault::Memory(memory)) => Err(RunAllFault::Memory(memory)),
     }
 }
 
+/// Takes until no able process has mail, where none but this one has any.
+fn drain_of(session: &mut Session, p: u8) -> Result<(), Memory>
+    requires { IsAtRestBut session.old p }
+    ensures drains { OnOk result (Drains session.old session.new) }
+    ensures rest { OnOk result (IsAtRest session.new) }
+{
+    // The mail of a process that waits stays, and most requests may be such mail.
+    if !session.manager().able(p) {
+        return Ok(());
+    }
+    drain(session)
+}
+
 /// Takes until no able process has mail.
 fn drain(session: &mut Session) -> Result<(), Memory>
-    ensures { OnOk result (Drains session.old session.new) }
+    ensures drains { OnOk result (Drains session.old session.new) }
+    ensures rest { OnOk result (IsAtRest session.new) }
 {
     while session.take_next()?.is_some() {}
     Ok(())

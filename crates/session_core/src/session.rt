@@ -211,8 +211,9 @@ impl Session {
     {
         for index in self.window.before..self.window.last {
             let p = index + 1;
-            if let Some(request) = self.untaken(p)
-                && self.manager.able(p)
+            // Most of those that have mail may wait, and who isn't able is told at once.
+            if self.manager.able(p)
+                && let Some(request) = self.untaken(p)
             {
                 return Some((p, request));
             }

@@ -29,7 +29,7 @@ use Rattle.wait_core.proofs.AnyLemmas.{Any-nil, Any-here, Any-there, Any-cons}
 use Rattle.wait_core.proofs.PairLemmas.{blocked_wait, waits_by_lock}
 
 -- two owners are one, or not
-same_or_other : (one other : Owner) → (one ≡ other) ⊎ (one ≢ other)
+pub same_or_other : (one other : Owner) → (one ≡ other) ⊎ (one ≢ other)
 same_or_other (Process p) (Process q) = elim (cases_eq p q) [ inl same ↦ inl (ap (λ (n : ℕ). Process n) same) | inr differs ↦ inr (λ e. differs cc) ]
 same_or_other (Process p) (Description e) = inr (λ same. cc)
 same_or_other (Description d) (Process q) = inr (λ same. cc)
@@ -43,7 +43,7 @@ conflict_or_not Write Read = inl tt
 conflict_or_not Write Write = inl tt
 
 -- whether something holds of some wait
-any_or_not : (P : Wait → Type 0) → ((wait : Wait) → P wait ⊎ ¬ P wait) → (waits : List Wait) → Any P waits ⊎ ¬ Any P waits
+pub any_or_not : (P : Wait → Type 0) → ((wait : Wait) → P wait ⊎ ¬ P wait) → (waits : List Wait) → Any P waits ⊎ ¬ Any P waits
 any_or_not P each [] = inr (Any-nil P)
 any_or_not P each (wait ∷ waits) = elim (each wait) [
   | inl here ↦ inl (Any-here P wait waits here)
@@ -124,7 +124,7 @@ same_family_or_not Whole Bytes = inr (λ e. cc)
 same_family_or_not Whole Whole = inl refl
 
 -- whether two waits conflict
-waits_conflict_or_not : (v w : Wait) → WaitsConflict v w ⊎ ¬ WaitsConflict v w
+pub waits_conflict_or_not : (v w : Wait) → WaitsConflict v w ⊎ ¬ WaitsConflict v w
 waits_conflict_or_not v w = elim (cases_eq v.file w.file) [
   | inr differs ↦ inr (λ conflict. differs conflict.file)
   | inl file ↦ elim (same_family_or_not v.family w.family) [

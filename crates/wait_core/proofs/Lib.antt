@@ -1,9 +1,11 @@
 pub mod AnyLemmas
+pub mod BehindLemmas
 pub mod BlockingLemmas
 pub mod CycleLaws
 pub mod DecideLemmas
 pub mod ListLemmas
 pub mod PairLemmas
 pub mod ProcessLemmas
+pub mod QueueLemmas
 pub mod ReachLemmas
 pub mod SettledLemmas

@@ -1,6 +1,6 @@
 -- What the table of pairs tells, and what a change of the list or of the locks leaves of it.
-use Rattle.std.proofs.Common.{ℕ, ◌≡◌, ◌≢◌, ◌+◌, ◌<◌, ◌≤◌, ◌↔◌, ◌∙◌, ◌⊎◌, inl, inr, sym, ap, subst, arith, Bool, true, not, Some, suc, List, [], ◌∷◌, ◌++◌, All, Any, length, get_or, set, get_or-set_same, replicate, take, drop}
-use Rattle.std.specs.Prelude.{IsTrue, ◌==◌, ◌||◌}
+use Rattle.std.proofs.Common.{ℕ, ◌≡◌, ◌≢◌, ◌+◌, ◌<◌, ◌≤◌, ◌↔◌, ◌∙◌, ◌⊎◌, inl, inr, sym, ap, subst, arith, Bool, refl, true, false, not, Some, suc, List, [], ◌∷◌, ◌++◌, All, Any, length, get_or, set, get_or-set_same, get_or-set_other, replicate, take, drop}
+use Rattle.std.specs.Prelude.{IsTrue, ◌==◌, ◌||◌, if◌then◌else◌}
 use Rattle.std.specs.List.{AllPairs}
 use Rattle.std.proofs.lemmas.Bool.{cases_eq, cases_lt, or_left}
 use Rattle.std.proofs.lemmas.Bool.Decides.{nat_tests}
@@ -20,7 +20,7 @@ use Rattle.wait_core.specs.declared.processes.ProcessSet.{ProcessSet}
 use Rattle.wait_core.specs.declared.waits.Waits.{Waits}
 use Rattle.wait_core.specs.Locks.{Locks}
 use Rattle.wait_core.specs.Cycles.{WaitsFor}
-use Rattle.wait_core.specs.Pairs.{IsBehind, IsBlockedWait, IsElsewhere, IsOff, IsOn, WaitsBehind}
+use Rattle.wait_core.specs.Pairs.{IsBlockedWait, IsElsewhere, IsOff, IsOn}
 use Rattle.wait_core.specs.PairsView.{pair_in, TellsPair}
 use Rattle.wait_core.specs.Processes.{is_member, no_process}
 use Rattle.wait_core.specs.WellFormed.{IsWellFormed}
@@ -65,10 +65,10 @@ tells waits locks told p q p_few q_one q_few = (
   λ any. (told.pairs p q p_few q_one q_few).1 (waits_by_lock locks (waits_of waits) p q any),
 )
 
-keeps_other : (w : Wait) (p : ℕ) → w.p ≢ p → not (w.p == p) ≡ true
+pub keeps_other : (w : Wait) (p : ℕ) → w.p ≢ p → not (w.p == p) ≡ true
 keeps_other w p other = grind (arith, nat_tests)
 
-other_kept : (w : Wait) (p : ℕ) → not (w.p == p) ≡ true → w.p ≢ p
+pub other_kept : (w : Wait) (p : ℕ) → not (w.p == p) ≡ true → w.p ≢ p
 other_kept w p kept = grind (arith, nat_tests)
 
 -- of the waits of all other processes none is the process' own
@@ -339,90 +339,6 @@ before_all P On waits before k d within on =
 pub tells_still : (old new : Pairs) (locks : Locks) (q : ℕ) (w : Wait) → pair_in new w.p q ≡ pair_in old w.p q → TellsPair old locks q w → TellsPair new locks q w
 tells_still old new locks q w same was = subst (λ (b : Bool). IsTrue b ↔ IsBlockedWait locks w.p q w) (sym same) was
 
--- under the queue policy a process waits by a lock or behind a wait
-pub waits_in_queue : (locks : Locks) (waits : List Wait) (p q : ℕ) → WaitsFor Held locks waits p q ⊎ WaitsBehind waits p q → WaitsFor Queue locks waits p q
-waits_in_queue locks waits p q (inl for) = record {
-  before = for.before;
-  wait = for.wait;
-  after = for.after;
-  place = for.place;
-  of_p = for.of_p;
-  traditional = for.traditional;
-  blocked = inl for.blocked;
-}
-waits_in_queue locks waits p q (inr behind) = record {
-  before = take behind.place waits;
-  wait = behind.wait;
-  after = drop (suc behind.place) waits;
-  place = split_at waits behind.place behind.wait (slice_get_within waits behind.place behind.wait behind.there)
-      (get_or_from_slice_get waits behind.place behind.wait behind.wait behind.there);
-  of_p = behind.is.of_p;
-  traditional = behind.is.traditional;
-  blocked = inr behind.is.behind;
-}
-
-pub queue_cases : (locks : Locks) (waits : List Wait) (p q : ℕ) → WaitsFor Queue locks waits p q → WaitsFor Held locks waits p q ⊎ WaitsBehind waits p q
-queue_cases locks waits p q for = elim for.blocked [
-  | inl by_lock ↦ inl (record {
-    before = for.before;
-    wait = for.wait;
-    after = for.after;
-    place = for.place;
-    of_p = for.of_p;
-    traditional = for.traditional;
-    blocked = by_lock;
-  })
-  | inr behind ↦
-      let within = split_within waits for.before for.wait for.after for.place in inr (record {
-        place = length for.before;
-        wait = for.wait;
-        there = slice_get-get_or waits (length for.before) for.wait within
-            ∙ ap (λ (w : Wait). Some w) (split_is waits for.before for.wait for.after for.place);
-        is = record {
-          of_p = for.of_p;
-          traditional = for.traditional;
-          behind = rw (split_take waits for.before for.wait for.after for.place) behind;
-        };
-      })
-]
-
--- the place of a wait that stands behind
-pub behind_at : (waits : List Wait) (p q i : ℕ) (wait : Wait) → AllPairs (λ v w. v.p ≢ w.p) waits → i < length waits → get_or waits i wait ≡ wait → wait.p ≡ p → WaitsBehind waits p q ↔ IsBehind waits wait.p q i wait
-behind_at waits p q i wait apart within is of_p = (
-  λ behind.
-      let inside = slice_get_within waits behind.place behind.wait behind.there in
-      let at = get_or_from_slice_get waits behind.place behind.wait behind.wait behind.there in
-      let place : behind.place ≡ i = one_place waits apart behind.place i behind.wait wait inside within at is (behind.is.of_p ∙ sym of_p) in
-      let same : behind.wait ≡ wait = one_wait waits apart behind.place i behind.wait wait inside within at is (behind.is.of_p ∙ sym of_p) in
-      subst (λ (n : ℕ). IsBehind waits n q i wait) (sym of_p)
-      (subst (λ (n : ℕ). IsBehind waits p q n wait) place (subst (λ (w : Wait). IsBehind waits p q behind.place w) same behind.is)),
-  λ behind. record {
-    place = i;
-    wait = wait;
-    there = slice_get-get_or waits i wait within ∙ ap (λ (w : Wait). Some w) is;
-    is = subst (λ (n : ℕ). IsBehind waits n q i wait) of_p behind;
-  },
-)
-
--- where no wait is of the process, it stands behind none
-pub none_behind : (waits : List Wait) (p q : ℕ) → ((k : ℕ) (wait : Wait) → k < length waits → get_or waits k wait ≡ wait → wait.p ≢ p) → ¬ WaitsBehind waits p q
-none_behind waits p q none behind =
-    none behind.place behind.wait (slice_get_within waits behind.place behind.wait behind.there)
-    (get_or_from_slice_get waits behind.place behind.wait behind.wait behind.there) behind.is.of_p
-
--- under the queue policy a process waits by a lock or behind a wait, as it is told
-pub told_in_queue : (waits : Waits) (locks : Locks) (p q : ℕ) (behind : Bool) → p ≤ 64 → 1 ≤ q → q ≤ 64 → IsTrue behind ↔ WaitsBehind (waits_of waits) p q → AreTold waits locks → IsTrue (has_pair waits p q || behind) ↔ WaitsFor Queue locks (waits_of waits) p q
-told_in_queue waits locks p q behind p_few q_one q_few list told = (
-  λ yes. elim (or_cases (has_pair waits p q) behind yes) [
-    | inl has ↦ waits_in_queue locks (waits_of waits) p q (inl ((told.pairs p q p_few q_one q_few).0 has))
-    | inr waiting ↦ waits_in_queue locks (waits_of waits) p q (inr (list.0 waiting))
-  ],
-  λ for. elim (queue_cases locks (waits_of waits) p q for) [
-    | inl by_lock ↦ or_left (has_pair waits p q) behind ((told.pairs p q p_few q_one q_few).1 by_lock)
-    | inr waiting ↦ or_right (has_pair waits p q) behind (list.1 waiting)
-  ],
-)
-
 -- where each row is the set of no process, there is no pair
 pub none_in_rows : (rows p q : ℕ) → ¬ IsTrue (is_member (get_or (replicate rows no_process) p no_process) q)
 none_in_rows rows p q has = elim (slice_get_cases (replicate rows no_process) p).1 [
@@ -443,3 +359,46 @@ put_row rows row i p q same within =
 pub none_past : (rows : List ProcessSet) (p q : ℕ) → length rows ≤ p → ¬ IsTrue (is_member (get_or rows p no_process) q)
 none_past rows p q past has =
     let is = get_or_past rows p no_process past in let no = none_in q in let yes = rw is at has in cc
+
+-- in the rows before this place the process is taken out
+abbrev pub IsClearedBefore : List ProcessSet → List ProcessSet → ℕ → ℕ → Type 0
+IsClearedBefore was now x i = (k q : ℕ) → k < i → q ≤ 64 → is_member (get_or now k no_process) q ≡ (if q == x then false else is_member (get_or was k no_process) q)
+
+-- and the others are as they were
+abbrev pub IsLeftFrom : List ProcessSet → List ProcessSet → ℕ → Type 0
+IsLeftFrom was now i = (k : ℕ) → i ≤ k → get_or now k no_process ≡ get_or was k no_process
+
+-- one row more is cleared
+pub cleared_more : (was now : List ProcessSet) (row : ProcessSet) (i x : ℕ) → i < length now
+    → ((q : ℕ) → q ≤ 64 → is_member row q ≡ (if q == x then false else is_member (get_or now i no_process) q))
+    → IsClearedBefore was now x i → IsLeftFrom was now i → IsClearedBefore was (set now i row) x (i + 1)
+cleared_more was now row i x within members cleared left k q below few = elim (cases_eq k i) [
+  | inl same ↦
+      let here : get_or (set now i row) k no_process ≡ row = rw same (get_or-set_same now i row no_process within) in
+      let old : get_or now i no_process ≡ get_or was k no_process = left i (omega arith) ∙ ap (λ (n : ℕ). get_or was n no_process) (sym same) in
+      rw here (members q few ∙ ap (λ (r : ProcessSet). if q == x then false else is_member r q) old)
+  | inr other ↦
+      let there : get_or (set now i row) k no_process ≡ get_or now k no_process = get_or-set_other now i k row no_process other in
+      rw there (cleared k q (omega arith) few)
+]
+
+pub left_more : (was now : List ProcessSet) (row : ProcessSet) (i : ℕ) → IsLeftFrom was now i → IsLeftFrom was (set now i row) (i + 1)
+left_more was now row i left k past =
+    let other : k ≢ i = omega arith in
+    let there : get_or (set now i row) k no_process ≡ get_or now k no_process = get_or-set_other now i k row no_process other in
+    rw there (left k (omega arith))
+
+-- and all are
+pub cleared_all : (was now : List ProcessSet) (x i : ℕ) → length now ≡ length was → length was ≤ i → IsClearedBefore was now x i
+    → (p q : ℕ) → q ≤ 64 → is_member (get_or now p no_process) q ≡ (if q == x then false else is_member (get_or was p no_process) q)
+cleared_all was now x i long past cleared p q few = elim (cases_lt p (length was)) [
+  | inl within ↦ cleared p q (omega arith) few
+  | inr beyond ↦
+      let one : get_or now p no_process ≡ no_process = get_or_past now p no_process (omega arith) in
+      let two : get_or was p no_process ≡ no_process = get_or_past was p no_process beyond in
+      rw (one, two, none_in q) (still_false (q == x))
+]
+  where
+    still_false : (b : Bool) → false ≡ (if b then false else false)
+    still_false true = refl
+    still_false false = refl

@@ -33,6 +33,11 @@ pub chain_start : (R : ℕ → ℕ → Type 0) (P : ℕ → Type 0) → ((p q : 
 chain_start R P start p [] q chain = start p q chain
 chain_start R P start p (next ∷ through) q chain = start p next chain.0
 
+-- and ends with one
+pub chain_end : (R : ℕ → ℕ → Type 0) (p : ℕ) (through : List ℕ) (q : ℕ) → IsChain R p through q → (r : ℕ) × R r q
+chain_end R p [] q chain = (p, chain)
+chain_end R p (next ∷ through) q chain = chain_end R next through q chain.1
+
 -- a process that waits is one of the processes that there are
 pub waiting_known : (policy : Policy) (locks : Locks) (waits : List Wait) (processes p q : ℕ) → All (IsWellFormed processes) waits → WaitsFor policy locks waits p q → (1 ≤ p) × (p ≤ processes)
 waiting_known policy locks waits processes p q each for =

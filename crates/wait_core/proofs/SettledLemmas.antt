@@ -90,11 +90,17 @@ elsewhere_more files more policy locks file is waits all =
     elsewhere_touched files more policy locks locks file is
     (record { bytes = λ other owner byte differs. refl; flocks = λ other description differs. refl }) waits all
 
--- a wait more, on one of the files
-pub elsewhere_joined : (files : FileSet) (policy : Policy) (locks : Locks) (earlier waits : List Wait) (wait : Wait) → IsTrue (has_file files wait.file)
+-- a wait more, on one of the files or blocked
+pub elsewhere_joined : (files : FileSet) (policy : Policy) (locks : Locks) (earlier waits : List Wait) (wait : Wait)
+    → (IsFalse (has_file files wait.file) → IsBlocked policy locks (earlier ++ waits) wait)
     → AllBlockedElsewhere files policy locks earlier waits → AllBlockedElsewhere files policy locks earlier (waits ++ wait ∷ [])
-elsewhere_joined files policy locks earlier [] wait among all = (λ elsewhere. absurd (let e : true ≡ false = sym among ∙ elsewhere in cc), tt)
-elsewhere_joined files policy locks earlier (v ∷ waits) wait among all = (all.0, elsewhere_joined files policy locks (earlier ++ v ∷ []) waits wait among all.1)
+elsewhere_joined files policy locks earlier [] wait blocked all =
+    (λ elsewhere. subst (λ (es : List Wait). IsBlocked policy locks es wait) (append-nil earlier) (blocked elsewhere), tt)
+elsewhere_joined files policy locks earlier (v ∷ waits) wait blocked all = (
+  all.0,
+  elsewhere_joined files policy locks (earlier ++ v ∷ []) waits wait
+      (λ elsewhere. subst (λ (es : List Wait). IsBlocked policy locks es wait) (sym (append_assoc earlier (v ∷ []) waits)) (blocked elsewhere)) all.1,
+)
 
 -- the file that was added is among the files
 pub among_more : (files more : FileSet) (file : ℕ) → ((f : ℕ) → has_file more f ≡ (f == file || has_file files f)) → IsTrue (has_file more file)
@@ -185,9 +191,10 @@ pub elsewhere_all : (files : FileSet) (policy : Policy) (locks : Locks) (earlier
 elsewhere_all files policy locks earlier [] all = tt
 elsewhere_all files policy locks earlier (wait ∷ waits) all = (λ elsewhere. all.0, elsewhere_all files policy locks (earlier ++ wait ∷ []) waits all.1)
 
-pub all_elsewhere : (files : FileSet) (policy : Policy) (locks : Locks) → ((f : ℕ) → IsFalse (has_file files f)) → (earlier waits : List Wait) → AllBlockedElsewhere files policy locks earlier waits → AllBlocked policy locks earlier waits
-all_elsewhere files policy locks none earlier [] all = tt
-all_elsewhere files policy locks none earlier (wait ∷ waits) all = (all.0 (none wait.file), all_elsewhere files policy locks none (earlier ++ wait ∷ []) waits all.1)
+pub all_where : (Holds : Wait → Type 0) (policy : Policy) (locks : Locks) → ((wait : Wait) → Holds wait) → (earlier waits : List Wait)
+    → AllBlockedWhere Holds policy locks earlier waits → AllBlocked policy locks earlier waits
+all_where Holds policy locks each earlier [] all = tt
+all_where Holds policy locks each earlier (wait ∷ waits) all = (all.0 (each wait), all_where Holds policy locks each (earlier ++ wait ∷ []) waits all.1)
 
 -- of each process: nothing is said
 pub none_but : (set : ProcessSet) (processes : ℕ) (policy : Policy) (locks : Locks) → processes ≤ 64 → ((p : ℕ) → 1 ≤ p → p ≤ 64 → IsTrue (is_member set p)) → (earlier waits : List Wait) → All (IsWellFormed processes) waits → AllBlockedBut set policy locks earlier waits

@@ -1,10 +1,10 @@
 -- What `Pairs` stands for (the words are this project's choice).
-use Rattle.std.specs.Prelude.{ℕ, ◌≤◌, ◌↔◌, Bool, slice_index_or, IsTrue}
+use Rattle.std.specs.Prelude.{ℕ, ◌≤◌, ◌↔◌, Bool, List, [], slice_index_or, IsTrue}
 use Rattle.wait_core.specs.declared.processes.TheConstants.{PROCESSES}
 use Rattle.wait_core.specs.declared.pairs.Pairs.{Pairs}
 use Rattle.wait_core.specs.declared.Wait.{Wait}
 use Rattle.wait_core.specs.Locks.{Locks}
-use Rattle.wait_core.specs.Pairs.{IsBlockedWait}
+use Rattle.wait_core.specs.Pairs.{IsBlockedWait, StandsBehind}
 use Rattle.wait_core.specs.Processes.{no_process, is_member}
 
 -- whether the first process is told to wait for the second: the second is in the row of the first
@@ -18,3 +18,7 @@ TellsPair pairs locks q wait = IsTrue (pair_in pairs wait.p q) ↔ IsBlockedWait
 -- and of each process
 abbrev pub TellsWait : Pairs → Locks → Wait → Type 0
 TellsWait pairs locks wait = (q : ℕ) → 1 ≤ q → q ≤ PROCESSES → TellsPair pairs locks q wait
+
+-- of each two processes it is told whether the first has a traditional wait behind one of the second that conflicts with it
+pub record TellsQueue (pairs : Pairs) (waits : List Wait) : Type 0 where
+  pub stands : (p q : ℕ) → p ≤ PROCESSES → 1 ≤ q → q ≤ PROCESSES → IsTrue (pair_in pairs p q) ↔ StandsBehind [] waits p q

@@ -22,15 +22,16 @@ impl Wait {
         self.owner == Owner::Process(self.p)
     }
 
-    /// Whether the two waits could not both be granted.
-    pub(crate) fn conflicts_with(&self, other: &Wait) -> bool
+    /// Whether the two waits could not both be granted (this project's choice).
+    pub fn conflicts_with(&self, other: &Wait) -> bool
         ensures { IsTrue result ↔ WaitsConflict self.now other.now }
     {
-        self.file == other.file
+        // Most waits are on other bytes, so these come first.
+        meet(other.family, self.span, other.span)
+            && self.file == other.file
+            && self.mode.conflicts_with(other.mode)
             && self.family == other.family
             && self.owner != other.owner
-            && self.mode.conflicts_with(other.mode)
-            && meet(other.family, self.span, other.span)
     }
 
     /// Whether the wait is on the file, and on a range that meets this one.
@@ -105,11 +106,23 @@ impl Wait {
     {
         let mut blocking = ProcessSet::empty();
         for other in earlier {
-            if other.is_traditional() && other.conflicts_with(self) {
+            if other.conflicts_with(self) && other.is_traditional() {
                 blocking = blocking.with(other.p);
             }
         }
         blocking
+    }
+
+    /// The same where the wait is traditional, and none where it isn't.
+    pub(crate) fn blocking_if_traditional(&self, earlier: &[Wait]) -> ProcessSet
+        requires { All (IsWellFormed PROCESSES) earlier.now }
+        ensures { (q : ℕ) → IsTrue (is_member result q) ↔ IsTraditional self.now × Any (IsConflictOf q self.now) earlier.now }
+    {
+        if self.is_traditional() {
+            self.blocking_by_wait(earlier)
+        } else {
+            ProcessSet::empty()
+        }
     }
 }
 

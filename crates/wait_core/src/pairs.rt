@@ -1,5 +1,5 @@
-//! Which process waits for which by a lock.
-ghost use Rattle.std.specs.Prelude.{◌≡◌, ◌≢◌, ℕ, suc, ◌<◌, ◌≤◌, ◌↔◌, IsFalse, All, AllPairs, IfOk, IsTrue, length, vec_len};
+//! Which process waits for which.
+ghost use Rattle.std.specs.Prelude.{◌≡◌, ◌≢◌, ℕ, suc, ◌<◌, ◌≤◌, ◌↔◌, ◌==◌, if◌then◌else◌, false, IsFalse, All, AllPairs, IfOk, IsTrue, length, vec_len};
 ghost use Rattle.wait_core.specs.declared.pairs.TheConstants.{ROWS};
 ghost use Rattle.lock_book.specs.declared.Owner.TheVariants.{Process};
 ghost use Rattle.wait_core.specs.Locks.{locks_of};
@@ -16,7 +16,7 @@ use std::alloc::Global;
 /// How many rows there are: one for each process, and a first one of no process, which stays empty.
 const ROWS: usize = PROCESSES as usize + 1;
 
-/// Which process waits for which by a lock.
+/// Which process waits for which: by a lock, or behind another wait, as its owner says.
 #[derive(Debug, Drop)]
 pub struct Pairs {
     /// Row `p` has the processes that process `p` waits for.
@@ -130,6 +130,46 @@ impl Pairs {
         ensures none { IsFalse result → (q : ℕ) → ¬ IsTrue (pair_in self.now process q) }
     {
         !self.row(process).is_empty()
+    }
+
+    /// Processes among which is each one that some process is told to wait for.
+    pub fn all_told(&self) -> ProcessSet
+        ensures { (p q : ℕ) → IsTrue (pair_in self.now p q) → IsTrue (is_member result q) }
+    {
+        let mut all = ProcessSet::empty();
+        for row in &self.rows {
+            all = all.union(*row);
+        }
+        all
+    }
+
+    /// Tells for which processes this one waits.
+    pub fn tell_row(&mut self, process: u8, row: ProcessSet)
+        requires { process ≤ PROCESSES }
+        ensures told { (q : ℕ) → pair_in self.new process q ≡ is_member row q }
+        ensures others { (p q : ℕ) → p ≢ process → pair_in self.new p q ≡ pair_in self.old p q }
+    {
+        self.rows[usize::from(process)] = row;
+    }
+
+    /// Forgets which processes wait for this one.
+    pub fn forget_blocker(&mut self, process: u8)
+        ensures { (p q : ℕ) → 1 ≤ q → q ≤ PROCESSES → pair_in self.new p q ≡ (if q == process then false else pair_in self.old p q) }
+    {
+        if (1..=PROCESSES).contains(&process) {
+            self.clear(process);
+        }
+    }
+
+    /// Takes the process out of each row.
+    fn clear(&mut self, process: u8)
+        requires from_one { 1 ≤ process }
+        requires few { process ≤ PROCESSES }
+        ensures { (p q : ℕ) → q ≤ PROCESSES → pair_in self.new p q ≡ (if q == process then false else pair_in self.old p q) }
+    {
+        for row in self.rows.iter_mut() {
+            *row = row.without(process);
+        }
     }
 
     /// Forgets for which processes this one waits.

@@ -66,7 +66,7 @@ impl ProcessSet {
     }
 
     /// The set without the process.
-    fn without(self, p: u8) -> ProcessSet
+    pub fn without(self, p: u8) -> ProcessSet
         requires from_one { 1 ≤ p }
         requires few { p ≤ PROCESSES }
         ensures { (q : ℕ) → q ≤ PROCESSES → is_member result q ≡ (if q == p then false else is_member self q) }

@@ -1,8 +1,12 @@
 //! The pending requests, in order of arrival.
-ghost use Rattle.std.specs.Prelude.{ℕ, ◌⊎◌, ◌≡◌, ◌≢◌, ◌<◌, ◌≤◌, ◌↔◌, List, [], ◌∷◌, ◌++◌, length, vec_capacity, IfOk, IfSome, IfNone, IsTrue, IsFalse, All, AllPairs, slice_get, None, Some, take};
+ghost use Rattle.std.specs.Prelude.{ℕ, ◌⊎◌, ◌≡◌, ◌≢◌, ◌<◌, ◌≤◌, ◌↔◌, List, [], ◌∷◌, ◌++◌, length, vec_capacity, IfOk, IfSome, IfNone, IsTrue, IsFalse, All, AllPairs, Any, slice_get, None, Some, take};
 ghost use Rattle.wait_core.specs.declared.files.TheConstants.{FILES};
 ghost use Rattle.wait_core.specs.declared.processes.TheConstants.{PROCESSES};
+ghost use Rattle.wait_core.specs.declared.Policy.TheVariants.{Queue};
 ghost use Rattle.wait_core.specs.Files.{has_file};
+ghost use Rattle.wait_core.specs.Cycles.{IsTraditional};
+ghost use Rattle.wait_core.specs.Pairs.{IsBehindNone, IsConflictOf};
+ghost use Rattle.wait_core.specs.PairsView.{TellsQueue};
 ghost use Rattle.wait_core.specs.Processes.{is_member};
 ghost use Rattle.wait_core.specs.WellFormed.{IsWellFormed};
 
@@ -27,6 +31,11 @@ use std::alloc::Global;
 pub struct Waits {
     waits: Vec<Wait>,
     pairs: Pairs,
+    /// The processes whose waits stood behind one that conflicts with theirs when they joined, under the queue policy.
+    behind: ProcessSet,
+    /// Row `p` has the processes of which a traditional wait stands before that of process `p`, a traditional one that conflicts with
+    /// it, under the queue policy.
+    queue: Pairs,
     changed: FileSet,
     policy: Policy,
     processes: u8,
@@ -34,12 +43,14 @@ pub struct Waits {
     ghost room: { processes ≤ vec_capacity waits },
     ghost well_formed: { All (IsWellFormed processes) waits.items },
     ghost apart: { AllPairs (λ v w. v.p ≢ w.p) waits.items },
+    ghost behind_none: { policy ≡ Queue → AllPairs (IsBehindNone behind) waits.items },
+    ghost queue_told: { policy ≡ Queue → ∥ TellsQueue queue waits.items ∥₁ },
 }
 
 #[tactic(auto, unfolding(crate::specs::WaitsView::waits_of, crate::specs::WaitsView::policy_of, crate::specs::WaitsView::processes_of, crate::specs::WaitsView::has_pair, crate::specs::Settled::changed_files))]
 impl Waits {
     ghost use Rattle.wait_core.specs.Locks.{Locks, locks_of};
-    ghost use Rattle.wait_core.specs.Blocking.{AllBlocked, IsBlocked, IsNextReady, IsQueued};
+    ghost use Rattle.wait_core.specs.Blocking.{AllBlocked, IsBlocked, IsNextReady, IsQueued, WaitsConflict};
     ghost use Rattle.wait_core.specs.Settled.{AllBlockedBut, AreBlockedElsewhere, AgreeElsewhere, changed_files};
     ghost use Rattle.wait_core.specs.WaitsView.{waits_of, policy_of, processes_of, wait_of, without_wait_of, AreTold, IsTold, AgreeBut, AgreeButOwner};
 
@@ -57,6 +68,8 @@ impl Waits {
         Ok(Waits {
             waits,
             pairs: Pairs::new(alloc)?,
+            behind: ProcessSet::empty(),
+            queue: Pairs::new(alloc)?,
             changed: FileSet::empty(),
             policy,
             processes,
@@ -75,9 +88,41 @@ impl Waits {
         ensures told { AreTold self.old (locks_of books.now) → AreTold self.new (locks_of books.now) }
         ensures blocked { (locks : Locks) → AreBlockedElsewhere self.old locks → AreBlockedElsewhere self.new locks }
     {
-        self.waits.push_reserved(wait);
-        self.pairs.tell(&wait, books);
+        self.push(wait, books);
         self.changed = self.changed.with(wait.file);
+    }
+
+    /// The same, of a wait that is blocked, so its file doesn't count as changed.
+    pub fn join_blocked(&mut self, wait: Wait, books: &[Book])
+        requires none { wait_of (waits_of self.old) wait.p ≡ None }
+        requires well_formed { IsWellFormed (processes_of self.old) wait }
+        requires books { length books.now ≡ 64 }
+        requires blocked { IsBlocked (policy_of self.old) (locks_of books.now) (waits_of self.old) wait }
+        ensures last { waits_of self.new ≡ waits_of self.old ++ wait ∷ [] }
+        ensures policy { policy_of self.new ≡ policy_of self.old }
+        ensures processes { processes_of self.new ≡ processes_of self.old }
+        ensures told { AreTold self.old (locks_of books.now) → AreTold self.new (locks_of books.now) }
+        ensures blocked { AreBlockedElsewhere self.old (locks_of books.now) → AreBlockedElsewhere self.new (locks_of books.now) }
+    {
+        self.push(wait, books);
+    }
+
+    /// Puts the wait at the end of the list, and says nothing of whether it is blocked.
+    fn push(&mut self, wait: Wait, books: &[Book])
+        requires none { wait_of (waits_of self.old) wait.p ≡ None }
+        requires well_formed { IsWellFormed (processes_of self.old) wait }
+        requires books { length books.now ≡ 64 }
+        ensures last { waits_of self.new ≡ waits_of self.old ++ wait ∷ [] }
+        ensures policy { policy_of self.new ≡ policy_of self.old }
+        ensures processes { processes_of self.new ≡ processes_of self.old }
+        ensures changed { changed_files self.new ≡ changed_files self.old }
+        ensures told { AreTold self.old (locks_of books.now) → AreTold self.new (locks_of books.now) }
+    {
+        let ahead = self.queued_behind(&wait);
+        self.behind = self.behind.put(wait.p, self.queued(&wait));
+        self.queue.tell_row(wait.p, ahead);
+        self.pairs.tell(&wait, books);
+        self.waits.push_reserved(wait);
     }
 
     /// Takes the wait of the process out of the list, where it has one.
@@ -94,6 +139,8 @@ impl Waits {
         self.changed = self.changed.with_file_of(wait);
         self.waits.retain(|wait| wait.p != p);
         self.pairs.forget(p);
+        self.queue.forget(p);
+        self.queue.forget_blocker(p);
         wait
     }
 
@@ -204,6 +251,11 @@ impl Waits {
         ensures well_formed { IfSome result (IsWellFormed (processes_of self.now)) }
         ensures settled { IfNone result (AllBlocked (policy_of self.now) (locks_of books.now) [] (waits_of self.now)) }
     {
+        // A law, and nothing to run.
+        conflicts_are_decided();
+        if unsure.is_empty() {
+            return None;
+        }
         for i in 0..self.waits.len() {
             if !self.is_blocked_among(i, unsure, books) {
                 return Some(self.waits[i]);
@@ -219,6 +271,18 @@ impl Waits {
         match self.policy {
             Policy::Held => false,
             Policy::Queue => wait.conflicts_with_any(&self.waits),
+        }
+    }
+
+    /// The processes that a traditional wait would stand behind under the queue policy, were it to join: those of which a traditional
+    /// wait conflicts with it.
+    fn queued_behind(&self, wait: &Wait) -> ProcessSet
+        ensures { policy_of self.now ≡ Queue → (q : ℕ) →
+            IsTrue (is_member result q) ↔ IsTraditional wait.now × Any (IsConflictOf q wait.now) (waits_of self.now) }
+    {
+        match self.policy {
+            Policy::Held => ProcessSet::empty(),
+            Policy::Queue => wait.blocking_if_traditional(&self.waits),
         }
     }
 
@@ -265,7 +329,17 @@ impl Waits {
         ensures { (wait : Wait) → slice_get (waits_of self.now) i ≡ Some wait → IsTrue result ↔ IsBlocked (policy_of self.now) (locks_of books.now) (take i (waits_of self.now)) wait }
     {
         let wait = &self.waits[i];
-        self.policy == Policy::Queue && wait.conflicts_with_any(&self.waits[..i])
-            || wait.is_blocked_by_lock(books)
+        self.policy == Policy::Queue && self.is_behind(i) || wait.is_blocked_by_lock(books)
+    }
+
+    /// Whether an earlier wait conflicts with the one at this place, under the queue policy. It looks at the earlier ones only
+    /// where one did when the wait joined.
+    fn is_behind(&self, i: usize) -> bool
+        requires policy { policy_of self.now ≡ Queue }
+        requires place { i < length (waits_of self.now) }
+        ensures { (wait : Wait) → slice_get (waits_of self.now) i ≡ Some wait → IsTrue result ↔ Any (λ v. WaitsConflict v wait) (take i (waits_of self.now)) }
+    {
+        let wait = &self.waits[i];
+        self.behind.has(wait.p) && wait.conflicts_with_any(&self.waits[..i])
     }
 }

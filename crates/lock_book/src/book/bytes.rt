@@ -2,7 +2,7 @@
 ghost use Rattle.std.specs.Prelude.{◌≡◌, ◌≤◌, ◌+◌, ◌↔◌, IsTrue, IsOk, OnOk, OnErr};
 ghost use Rattle.range_core.specs.Ranges.{IsByteRange};
 ghost use Rattle.lock_book.specs.OwnerLists.{IsIdle};
-ghost use Rattle.lock_book.specs.Books.{room_in, ReleasesOwner, SameBook, SameButRoom, SetsOwnerMode};
+ghost use Rattle.lock_book.specs.Books.{room_in, ClearsOwner, ReleasesOwner, SameBook, SameButRoom, SetsOwnerMode};
 
 use super::Book;
 use crate::Owner;
@@ -100,6 +100,22 @@ impl Book {
         ensures { ReleasesOwner self.old self.new owner }
     {
         self.owners.remove(&owner);
+    }
+
+    /// Removes all byte locks of the owner; its room stays, for a set that is still to come (POSIX.1-2017 close: the process'
+    /// locks on the file go). It takes no memory.
+    pub fn clear_owner(&mut self, owner: Owner)
+        ensures { ClearsOwner self.old self.new owner }
+    {
+        match self.owners.get_mut(&owner) {
+            Some(list) => {
+                list.clear();
+                if is_idle(list) {
+                    self.owners.remove(&owner);
+                }
+            }
+            None => {}
+        }
     }
 }
 

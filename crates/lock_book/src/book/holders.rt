@@ -135,6 +135,13 @@ impl FlockHolders {
         self.locks = self.locks.without(old.flatten());
     }
 
+    /// Whether no description has a lock, however many places are kept.
+    pub fn is_empty(&self) -> bool
+        ensures { IsTrue result ↔ ((description : ℕ) → flock_modes_among self.now.places.entries description ≡ None) }
+    {
+        !self.locks.conflicts_with(Mode::Write)
+    }
+
     /// Whether a lock of another description conflicts with one of the wanted mode. It looks for the description's own place only
     /// where one lock conflicts, which may be its own.
     pub fn blocked(&self, description: u64, wanted: Mode) -> bool

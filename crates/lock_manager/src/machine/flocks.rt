@@ -5,9 +5,12 @@ ghost use Rattle.range_core.specs.declared.Mode.{Mode};
 ghost use Rattle.lock_book.specs.Changes.{flock_mode_in};
 ghost use Rattle.lock_book.specs.Conflicts.{FlockConflict};
 ghost use Rattle.wait_core.specs.Blocking.{IsBlockedByLock, IsQueued};
+ghost use Rattle.wait_core.specs.Locks.{Locks};
+ghost use Rattle.wait_core.specs.Settled.{AreBlockedElsewhere, AgreeElsewhere};
+ghost use Rattle.wait_core.specs.WaitsView.{AreTold};
 ghost use Rattle.lock_manager.specs.DescriptionLocks.{MayLock};
-ghost use Rattle.lock_manager.specs.WaitsKept.{has_place_at};
-ghost use Rattle.lock_manager.specs.State.{State, with_flock_mode, with_process};
+ghost use Rattle.lock_manager.specs.WaitsKept.{has_place_at, SameWaits, StayBlocked};
+ghost use Rattle.lock_manager.specs.State.{State, with_flock_mode};
 ghost use Rattle.lock_manager.specs.FlockCalls.{flock_wanted_mode, wanted_flock as wanted_flock_of, FlockTestComesTo, FlockModeComesTo, ConversionComesTo};
 ghost use Rattle.lock_manager.specs.MachineView.{Shows, SameMachine, SameRules, IsFlockAsked, KeepPlaces, Tells, machine_rules, machine_waits, machine_state, machine_locks};
 
@@ -17,7 +20,7 @@ use crate::{Errno, FlockOp, Note, ProcState, Reply, Request};
 use fd_table::{FILES, Look};
 use lock_book::Owner;
 use range_core::{Memory, Mode, OFFMAX, Span};
-use wait_core::{Family, Wait, stay_free_of_cycles};
+use wait_core::{Family, Wait, Waits, stay_free_of_cycles};
 
 impl Machine {
     /// flock: EBADF for a descriptor that isn't open; `LOCK_UN` removes the lock of the description, and always succeeds
@@ -122,7 +125,7 @@ impl Machine {
         if nb {
             return refused(p, n, Errno::EAGAIN);
         }
-        self.await_flock(look, wanted);
+        self.join(wanted);
         Note::Waits { p, n }
     }
 
@@ -137,21 +140,6 @@ impl Machine {
         book.flock_blocked(look.desc, wanted.mode) || !nb && self.waits.queued(wanted)
     }
 
-    /// The process waits, last in order of arrival, for a flock lock for which a place is kept. It takes no memory (flock(2)).
-    fn await_flock(&mut self, look: Look, wanted: Wait)
-        requires asked { IsFlockAsked self.old look wanted }
-        requires place { has_place_at (slice_get self.old.books.items look.file) look.desc ≡ true }
-        ensures shows { (S : State) → Shows self.old S →
-            Shows self.new (with_process (record S { waits = S.waits ++ wanted ∷ [] }) wanted.p ProcState.Waiting) }
-        ensures one { machine_waits self.new ≡ machine_waits self.old ++ wanted ∷ [] }
-        ensures same_rules { SameRules self.old self.new }
-    {
-        // A law, and nothing to run.
-        stay_free_of_cycles();
-        self.waits.join(wanted, &self.books);
-        self.states[usize::from(wanted.p) - 1] = ProcState::Waiting;
-    }
-
     /// Keeps a place for the flock lock of the description.
     fn place_flock(&mut self, file: u8, description: u64) -> Result<(), Memory>
         requires file { file < FILES }
@@ -164,7 +152,8 @@ impl Machine {
     }
 
     /// The description has this flock mode from now on, in the place that is kept, or none. It takes no memory. No process
-    /// waits for another by a flock lock, so the waits are told no more than that the file has changed.
+    /// waits for another by a flock lock, so the waits are told no more than that the file has changed, and not even that where
+    /// the description had no lock, since nobody can be free then who was blocked.
     pub(super) fn change_flock(&mut self, file: u8, description: u64, mode: Option<Mode>)
         requires file { file < FILES }
         requires owner { MayLock self.old.tables file (Owner.Description description) }
@@ -179,14 +168,16 @@ impl Machine {
     {
         // A law, and nothing to run.
         stay_free_of_cycles();
-        self.books[usize::from(file)].flock_set_reserved(description, mode);
-        self.waits.touch(file);
+        let book = &mut self.books[usize::from(file)];
+        let had = book.flock_mode(description).is_some();
+        book.flock_set_reserved(description, mode);
+        touch_freed(&mut self.waits, file, had);
     }
 }
 
 impl FlockOp {
     /// The mode that it asks for, and none where it unlocks (flock(2)).
-    fn mode(self) -> Option<Mode>
+    pub(super) fn mode(self) -> Option<Mode>
         ensures { result ≡ flock_wanted_mode self }
     {
         match self {
@@ -197,8 +188,21 @@ impl FlockOp {
     }
 }
 
+/// The file counts as changed where a lock on it went or became another, so that a wait may be free.
+fn touch_freed(waits: &mut Waits, file: u8, freed: bool)
+    requires { file < FILES }
+    ensures same { SameWaits waits.old waits.new }
+    ensures told { (locks : Locks) → AreTold waits.old locks → AreTold waits.new locks }
+    ensures blocked { (before after : Locks) → AreBlockedElsewhere waits.old before → AgreeElsewhere file before after
+        → (IsFalse freed → StayBlocked before after) → AreBlockedElsewhere waits.new after }
+{
+    if freed {
+        waits.touch(file);
+    }
+}
+
 /// The request for a flock lock of this mode, as it would wait.
-fn wanted_flock(p: u8, n: u64, look: Look, mode: Mode) -> Wait
+pub(super) fn wanted_flock(p: u8, n: u64, look: Look, mode: Mode) -> Wait
     ensures { result ≡ wanted_flock_of p n look mode }
 {
     Wait {

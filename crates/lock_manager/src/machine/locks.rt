@@ -1,20 +1,21 @@
 //! The lock commands of fcntl.
-ghost use Rattle.std.specs.Prelude.{ℕ, ◌≡◌, ◌<◌, ◌≤◌, ◌+◌, ◌++◌, ◌↔◌, ◌⊎◌, Some, List, [], ◌∷◌, false, length, filter, IfOk, OnOk, OnErr, IsTrue, IsFalse};
+ghost use Rattle.std.specs.Prelude.{ℕ, ◌≡◌, ◌<◌, ◌≤◌, ◌+◌, ◌++◌, ◌↔◌, ◌⊎◌, None, Some, List, [], ◌∷◌, false, length, filter, slice_get, IfOk, OnOk, OnErr, IsTrue, IsFalse};
 ghost use Rattle.fd_table.specs.declared.TheConstants.{FILES};
 ghost use Rattle.range_core.specs.declared.Mode.{Mode};
-ghost use Rattle.range_core.specs.Ranges.{IsByteRange};
+ghost use Rattle.range_core.specs.Ranges.{Covers, IsByteRange};
 ghost use Rattle.lock_book.specs.Conflicts.{ByteConflict};
-ghost use Rattle.wait_core.specs.Blocking.{IsBlockedByLock, IsQueued};
+ghost use Rattle.wait_core.specs.Blocking.{IsBlocked, IsBlockedByLock, IsQueued};
 ghost use Rattle.wait_core.specs.Cycles.{IsTraditional, ClosesCycle};
 ghost use Rattle.wait_core.specs.WellFormed.{IsWellFormed};
 ghost use Rattle.lock_manager.specs.DescriptionLocks.{MayLock, MayWait};
-ghost use Rattle.lock_manager.specs.WaitsKept.{is_byte_wait};
+ghost use Rattle.lock_manager.specs.WaitsKept.{HaveRoom, is_byte_wait, room_at};
 ghost use Rattle.lock_manager.specs.State.{State, with_byte_mode, with_process};
 ghost use Rattle.lock_manager.specs.LockWords.{lock_owner, is_get, is_ofd, may_wait};
 ghost use Rattle.lock_manager.specs.LockCommands.{GetTells, RangeComesTo, CommandComesTo};
 ghost use Rattle.lock_manager.specs.MachineView.{Shows, SameMachine, SameRules, Tells, machine_rules, machine_processes, machine_waits, machine_state, machine_locks};
 
 use super::Machine;
+use super::processes::stand;
 use crate::answers::{answered, held_reply, permits, range_error, refused, wanted_mode};
 use crate::{Errno, LkCmd, Lock, Note, ProcState, Reply, Request};
 use fd_table::{FILES, Look};
@@ -55,6 +56,7 @@ impl Machine {
     /// A lock command on a range: an unlock is never refused, and a get command asks. A lock is refused where the access
     /// mode doesn't allow it (POSIX.1-2017 fcntl, `F_GETLK`, `F_SETLK` and `EBADF`; fcntl_locking(2), `F_OFD_GETLK` and
     /// `F_OFD_SETLK`).
+    #[tactic(auto, using(crate::proofs::CommandLemmas::may_lock_waiting))]
     fn range_command(
         &mut self,
         p: u8,
@@ -76,7 +78,7 @@ impl Machine {
     {
         let owner = cmd.owner(p, look);
         let Some(mode) = wanted_mode(kind) else {
-            self.change(look.file, owner, span, None)?;
+            self.unlock(look.file, owner, span)?;
             return Ok(answered(p, n, Reply::Ok));
         };
         if cmd.is_get() {
@@ -160,6 +162,41 @@ impl Machine {
         !cmd.is_ofd() && self.waits.would_cycle(wanted, &self.books)
     }
 
+    /// The owner has no lock on the range from now on. Where a process had none there, nothing changes, and nobody is looked for who
+    /// might be free (POSIX.1-2017 fcntl, `F_UNLCK`).
+    fn unlock(&mut self, file: u8, owner: Owner, span: Span) -> Result<(), Memory>
+        requires file { file < FILES }
+        requires span { IsByteRange span }
+        requires owner { MayLock self.old.tables file owner }
+        requires live { (p : ℕ) → owner ≡ Owner.Process p → machine_state self.old p ≡ ProcState.Live }
+        ensures ok { OnOk result ((S : State) → Shows self.old S → Shows self.new (with_byte_mode S file owner span None)) }
+        ensures memory { OnErr result (SameMachine self.old self.new) }
+        ensures same_rules { SameRules self.old self.new }
+        ensures waits { machine_waits self.new ≡ machine_waits self.old }
+    {
+        if self.may_hold(file, owner, span) {
+            self.change(file, owner, span, None)
+        } else {
+            Ok(())
+        }
+    }
+
+    /// Whether the owner may have a lock on the range, which of a description isn't asked.
+    fn may_hold(&self, file: u8, owner: Owner, span: Span) -> bool
+        requires file { file < FILES }
+        requires span { IsByteRange span }
+        ensures { IsFalse result → (byte : ℕ) → Covers span byte → (machine_locks self.now).bytes file owner byte ≡ None }
+    {
+        // Each lock of the process is in the way of a description that wants to write.
+        let other = Owner::Description(0);
+        match owner {
+            Owner::Process(process) => {
+                self.books[usize::from(file)].process_blocks(process, other, span, Mode::Write)
+            },
+            Owner::Description(_) => true,
+        }
+    }
+
     /// The owner has this mode on the range from now on, or none.
     fn change(
         &mut self,
@@ -185,13 +222,14 @@ impl Machine {
         done
     }
 
-    /// The process waits, last in order of arrival. The room for its lock is taken here, so that its grant needs no memory
+    /// The process waits for what blocks it, last in order of arrival. The room for its lock is taken here, so that its grant needs no memory
     /// (POSIX.1-2017 fcntl, `F_SETLKW`; fcntl_locking(2), `F_OFD_SETLKW`).
     fn suspend(&mut self, wanted: Wait) -> Result<(), Memory>
         requires family { wanted.family ≡ Family.Bytes }
         requires well_formed { IsWellFormed (machine_processes self.old) wanted }
         requires may_wait { MayWait self.old.tables wanted.p wanted.file wanted.owner }
         requires live { machine_state self.old wanted.p ≡ ProcState.Live }
+        requires blocked { IsBlocked (machine_rules self.old).policy (machine_locks self.old) (machine_waits self.old) wanted }
         requires free_of_cycles { IsTraditional wanted → ¬ ClosesCycle (machine_rules self.old).policy (machine_locks self.old) (machine_waits self.old) wanted }
         ensures ok { OnOk result ((S : State) → Shows self.old S →
             Shows self.new (with_process (record S { waits = S.waits ++ wanted ∷ [] }) wanted.p ProcState.Waiting)) }
@@ -199,13 +237,41 @@ impl Machine {
         ensures memory { OnErr result (SameMachine self.old self.new) }
         ensures same_rules { SameRules self.old self.new }
     {
+        let waits = self.pending(wanted.file, wanted.owner);
+        self.keep_room(wanted.file, wanted.owner, waits + 1)?;
+        self.join(wanted);
+        Ok(())
+    }
+
+    /// Keeps room for so many sets of byte locks by the owner.
+    fn keep_room(&mut self, file: u8, owner: Owner, sets: usize) -> Result<(), Memory>
+        requires file { file < FILES }
+        ensures room { OnOk result (sets ≤ room_at (slice_get self.new.books.items file) owner) }
+        ensures same { SameMachine self.old self.new }
+        ensures locks { machine_locks self.new ≡ machine_locks self.old }
+        ensures tables { self.new.tables ≡ self.old.tables }
+    {
+        self.books[usize::from(file)].reserve(owner, sets)
+    }
+
+    /// The process waits for what blocks it, last in order of arrival, for a lock for which there is room. It takes no memory
+    /// (POSIX.1-2017 fcntl, `F_SETLKW`; fcntl_locking(2), `F_OFD_SETLKW`; flock(2)).
+    pub(super) fn join(&mut self, wanted: Wait)
+        requires well_formed { IsWellFormed (machine_processes self.old) wanted }
+        requires may_wait { MayWait self.old.tables wanted.p wanted.file wanted.owner }
+        requires live { machine_state self.old wanted.p ≡ ProcState.Live }
+        requires room { HaveRoom self.old.books.items (machine_waits self.old ++ wanted ∷ []) }
+        requires blocked { IsBlocked (machine_rules self.old).policy (machine_locks self.old) (machine_waits self.old) wanted }
+        requires free_of_cycles { IsTraditional wanted → ¬ ClosesCycle (machine_rules self.old).policy (machine_locks self.old) (machine_waits self.old) wanted }
+        ensures shows { (S : State) → Shows self.old S →
+            Shows self.new (with_process (record S { waits = S.waits ++ wanted ∷ [] }) wanted.p ProcState.Waiting) }
+        ensures one { machine_waits self.new ≡ machine_waits self.old ++ wanted ∷ [] }
+        ensures same_rules { SameRules self.old self.new }
+    {
         // A law, and nothing to run.
         stay_free_of_cycles();
-        let waits = self.pending(wanted.file, wanted.owner);
-        self.books[usize::from(wanted.file)].reserve(wanted.owner, waits + 1)?;
-        self.waits.join(wanted, &self.books);
-        self.states[usize::from(wanted.p) - 1] = ProcState::Waiting;
-        Ok(())
+        self.waits.join_blocked(wanted, &self.books);
+        stand(&mut self.states, wanted.p, ProcState::Waiting);
     }
 
     /// How many waits there are for a byte lock of the owner on the file; while a process lives, fewer than processes.

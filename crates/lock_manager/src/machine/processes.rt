@@ -1,17 +1,15 @@
 //! fork, exit, signals and kill.
-ghost use Rattle.std.specs.Prelude.{ℕ, ◌≡◌, ◌+◌, ◌≤◌, Some, List, length, IfOk, OnErr};
+ghost use Rattle.std.specs.Prelude.{ℕ, ◌≡◌, ◌+◌, ◌≤◌, Some, List, [], length, vec_len, vec_capacity, IfOk, OnErr};
 ghost use Rattle.wait_core.specs.WaitsView.{wait_of, without_wait_of};
 ghost use Rattle.wait_core.specs.WellFormed.{IsWellFormed};
-ghost use Rattle.lock_manager.specs.State.{State, with_process};
+ghost use Rattle.lock_manager.specs.State.{State, StandsSo, with_process};
 ghost use Rattle.lock_manager.specs.ProcessCalls.{EndComesTo, without_wait};
-ghost use Rattle.lock_manager.specs.declared.request.Note.{Note};
-ghost use Rattle.lock_manager.specs.Notes.{notes_told};
 ghost use Rattle.lock_manager.specs.MachineView.{Shows, SameMachine, SameRules, Answers, Tells, machine_processes, machine_waits, machine_state};
 
 use super::Machine;
-use crate::answers::{Told, answered, refusal, refused};
+use crate::answers::{answered, refusal, refused};
 use crate::releasing::release;
-use crate::{Errno, ProcState, Reply, Request};
+use crate::{Errno, Note, ProcState, Reply, Request};
 use range_core::Memory;
 use wait_core::{Wait, stay_free_of_cycles};
 
@@ -26,7 +24,7 @@ impl Machine {
     {
         match self.tables.fork(p, child) {
             Ok(()) => {
-                self.states[usize::from(child) - 1] = ProcState::Live;
+                stand(&mut self.states, child, ProcState::Live);
                 Ok(Reply::Ok)
             },
             Err(fault) => refusal(fault),
@@ -44,7 +42,7 @@ impl Machine {
     {
         let released = self.tables.end_process(p);
         release(&mut self.books, &mut self.waits, p, &released);
-        self.states[usize::from(p) - 1] = ProcState::Ended;
+        stand(&mut self.states, p, ProcState::Ended);
     }
 
     /// The wait of the process is over, and it lives. It takes no memory.
@@ -64,42 +62,46 @@ impl Machine {
         // A law, and nothing to run.
         stay_free_of_cycles();
         let wait = self.waits.leave(p).unwrap();
-        self.states[usize::from(p) - 1] = ProcState::Live;
+        stand(&mut self.states, p, ProcState::Live);
         wait
     }
 
     /// A signal that is caught: it ends the wait of the process, which is told EINTR, and does nothing else. It takes no
     /// memory (POSIX.1-2017 kill, `ESRCH`; fcntl, `F_SETLKW` and `EINTR`).
-    pub(super) fn signal(&mut self, p: u8, n: u64, target: u8) -> Told
-        requires { machine_state self.old p ≡ ProcState.Live }
-        ensures told { Tells self.old self.new p n (Request.Signal target) (notes_told result) }
-        ensures few { length (notes_told result) + length (machine_waits self.new) ≤ length (machine_waits self.old) + 2 }
+    pub(super) fn signal(&mut self, p: u8, n: u64, target: u8, notes: &mut Vec<Note>)
+        requires live { machine_state self.old p ≡ ProcState.Live }
+        requires empty { notes.old.items ≡ [] }
+        requires room { length (machine_waits self.old) + 2 ≤ vec_capacity notes.old }
+        ensures told { Tells self.old self.new p n (Request.Signal target) notes.new.items }
+        ensures few { length notes.new.items + length (machine_waits self.new) ≤ vec_capacity notes.new }
         ensures same_rules { SameRules self.old self.new }
     {
         match self.state_of(target) {
-            ProcState::Unborn | ProcState::Ended => Told::caller(refused(p, n, Errno::ESRCH)),
-            ProcState::Live => Told::caller(answered(p, n, Reply::Ok)),
+            ProcState::Unborn | ProcState::Ended => {
+                notes.push_reserved(refused(p, n, Errno::ESRCH));
+            },
+            ProcState::Live => notes.push_reserved(answered(p, n, Reply::Ok)),
             ProcState::Waiting => {
                 let wait = self.interrupt(target);
-                Told {
-                    caller: Some(answered(p, n, Reply::Ok)),
-                    interrupted: Some(refused(target, wait.n, Errno::EINTR)),
-                }
+                notes.push_reserved(answered(p, n, Reply::Ok));
+                notes.push_reserved(refused(target, wait.n, Errno::EINTR));
             },
         }
     }
 
     /// `SIGKILL`: the process ends, and of itself it is an exit, of which nothing is told. It takes no memory (POSIX.1-2017
     /// kill, `ESRCH`).
-    pub(super) fn kill(&mut self, p: u8, n: u64, target: u8) -> Told
-        requires { machine_state self.old p ≡ ProcState.Live }
-        ensures told { Tells self.old self.new p n (Request.Kill target) (notes_told result) }
-        ensures few { length (notes_told result) + length (machine_waits self.new) ≤ length (machine_waits self.old) + 2 }
+    pub(super) fn kill(&mut self, p: u8, n: u64, target: u8, notes: &mut Vec<Note>)
+        requires live { machine_state self.old p ≡ ProcState.Live }
+        requires empty { notes.old.items ≡ [] }
+        requires room { length (machine_waits self.old) + 2 ≤ vec_capacity notes.old }
+        ensures told { Tells self.old self.new p n (Request.Kill target) notes.new.items }
+        ensures few { length notes.new.items + length (machine_waits self.new) ≤ vec_capacity notes.new }
         ensures same_rules { SameRules self.old self.new }
     {
         if target == p {
             self.end(p);
-            return Told::nobody();
+            return;
         }
         let reply = match self.state_of(target) {
             ProcState::Unborn | ProcState::Ended => Reply::Err(Errno::ESRCH),
@@ -113,6 +115,15 @@ impl Machine {
                 Reply::Ok
             },
         };
-        Told::caller(answered(p, n, reply))
+        notes.push_reserved(answered(p, n, reply));
     }
+}
+
+/// The process, of which there is one, stands so from now on.
+pub(super) fn stand(states: &mut Vec<ProcState>, p: u8, state: ProcState)
+    requires { (1 ≤ p) × (p ≤ vec_len states.old) }
+    ensures stands { StandsSo states.old.items states.new.items p state }
+    ensures count { vec_len states.new ≡ vec_len states.old }
+{
+    states[usize::from(p) - 1] = state;
 }

@@ -224,6 +224,27 @@ fn a_checker_accepts_a_worked_journal(rt: HostRuntime) -> Result<(), Fail> {
     Ok(())
 }
 
+/// Before the unlock two of the three processes wait, and behind it each is answered; a fourth isn't there.
+#[test]
+fn a_checker_tells_the_state_and_the_counts(rt: HostRuntime) -> Result<(), Fail> {
+    let entries = journal(rt.alloc())?;
+    let legal = &entries[..];
+    let mut checker = checker_of(rt.alloc(), 3)?;
+    assert_eq!(rt; accepted(&mut checker, &legal[..7])?, 7);
+    assert_eq!(rt; checker.manager().state_of(2), ProcState::Waiting);
+    assert_eq!(rt; checker.manager().state_of(3), ProcState::Live);
+    assert_eq!(rt; (checker.taken(1), checker.answered(1)), (4, 3));
+    assert_eq!(rt; (checker.taken(2), checker.answered(2)), (2, 1));
+    assert_eq!(rt; (checker.taken(3), checker.answered(3)), (1, 1));
+    assert_eq!(rt; (checker.taken(4), checker.answered(4)), (0, 0));
+    assert_eq!(rt; (checker.taken(0), checker.answered(0)), (0, 0));
+    assert_eq!(rt; accepted(&mut checker, &legal[7..])?, 1);
+    assert_eq!(rt; checker.manager().state_of(2), ProcState::Live);
+    assert_eq!(rt; (checker.taken(1), checker.answered(1)), (4, 4));
+    assert_eq!(rt; (checker.taken(3), checker.answered(3)), (2, 2));
+    Ok(())
+}
+
 /// Of a changed note the checker tells what the unlock granted, and each later entry is illegal for its sake.
 #[test]
 fn a_checker_is_spent_by_a_changed_note(rt: HostRuntime) -> Result<(), Fail> {

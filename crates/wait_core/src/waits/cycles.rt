@@ -1,8 +1,7 @@
 //! Whether a wait would close a cycle.
-ghost use Rattle.std.specs.Prelude.{ℕ, ◌≡◌, ◌<◌, ◌≤◌, ◌↔◌, Some, length, slice_get, IsTrue};
+ghost use Rattle.std.specs.Prelude.{ℕ, ◌≡◌, ◌≤◌, ◌↔◌, length, IsTrue};
 ghost use Rattle.wait_core.specs.Locks.{Locks, locks_of};
 ghost use Rattle.wait_core.specs.Cycles.{ClosesCycle, IsBlockedByProcess, IsTraditional, WaitsFor};
-ghost use Rattle.wait_core.specs.Pairs.{IsBehind, WaitsBehind};
 ghost use Rattle.wait_core.specs.Processes.{is_member};
 ghost use Rattle.wait_core.specs.WellFormed.{IsWellFormed};
 ghost use Rattle.wait_core.specs.WaitsView.{waits_of, policy_of, processes_of, AreTold};
@@ -20,6 +19,21 @@ impl Waits {
     ///
     /// The pairs are those of the books, a book for each of the 64 files.
     pub fn would_cycle(&self, wait: &Wait, books: &[Book]) -> bool
+        requires traditional { IsTraditional wait.now }
+        requires well_formed { IsWellFormed (processes_of self.now) wait.now }
+        requires books { length books.now ≡ 64 }
+        requires told { ∥ AreTold self.now (locks_of books.now) ∥₁ }
+        ensures { IsTrue result ↔ ClosesCycle (policy_of self.now) (locks_of books.now) (waits_of self.now) wait.now }
+    {
+        // A chain that comes to a process ends with one that waits for it.
+        if !self.all_waited_for().has(wait.p) {
+            return false;
+        }
+        self.is_led_back(wait, books)
+    }
+
+    /// The same, where it asks who blocks the wait, and follows each.
+    fn is_led_back(&self, wait: &Wait, books: &[Book]) -> bool
         requires traditional { IsTraditional wait.now }
         requires well_formed { IsWellFormed (processes_of self.now) wait.now }
         requires books { length books.now ≡ 64 }
@@ -50,6 +64,17 @@ impl Waits {
         }
     }
 
+    /// Processes among which is each one that some process waits for.
+    fn all_waited_for(&self) -> ProcessSet
+        ensures { (p q : ℕ) → 1 ≤ q → q ≤ PROCESSES → (locks : Locks) → AreTold self.now locks → WaitsFor (policy_of self.now) locks (waits_of self.now) p q → IsTrue (is_member result q) }
+    {
+        let by_lock = self.pairs.all_told();
+        match self.policy {
+            Policy::Held => by_lock,
+            Policy::Queue => by_lock.union(self.queue.all_told()),
+        }
+    }
+
     /// The processes that this one waits for.
     fn waited_for(&self, p: u8) -> ProcessSet
         requires { p ≤ PROCESSES }
@@ -58,32 +83,7 @@ impl Waits {
         let row = self.pairs.row(p);
         match self.policy {
             Policy::Held => row,
-            Policy::Queue => row.union(self.waited_for_in_queue(p)),
-        }
-    }
-
-    /// The processes that have a traditional wait before one of this process that conflicts with it.
-    fn waited_for_in_queue(&self, p: u8) -> ProcessSet
-        ensures { (q : ℕ) → IsTrue (is_member result q) ↔ WaitsBehind (waits_of self.now) p q }
-    {
-        for i in 0..self.waits.len() {
-            if self.waits[i].p == p {
-                return self.waited_for_at(i);
-            }
-        }
-        ProcessSet::empty()
-    }
-
-    /// The processes that have a traditional wait before the wait at this place, a traditional one that conflicts with it.
-    fn waited_for_at(&self, i: usize) -> ProcessSet
-        requires { i < length (waits_of self.now) }
-        ensures { (wait : Wait) (q : ℕ) → slice_get (waits_of self.now) i ≡ Some wait → IsTrue (is_member result q) ↔ IsBehind (waits_of self.now) wait.p q i wait }
-    {
-        let wait = &self.waits[i];
-        if wait.is_traditional() {
-            wait.blocking_by_wait(&self.waits[..i])
-        } else {
-            ProcessSet::empty()
+            Policy::Queue => row.union(self.queue.row(p)),
         }
     }
 }

@@ -1,11 +1,11 @@
 //! The waits against a plain list of them, on sequences made by a written rule, and at full size.
-ghost use Rattle.std.specs.Prelude.{◌≡◌, ◌<◌, ◌≤◌, vec_len};
+ghost use Rattle.std.specs.Prelude.{◌≡◌, ◌<◌, ◌≤◌, None, vec_len};
 ghost use Rattle.range_core.specs.Ranges.{IsByteRange};
 ghost use Rattle.wait_core.specs.Cycles.{IsTraditional};
 ghost use Rattle.wait_core.specs.Locks.{locks_of};
 ghost use Rattle.wait_core.specs.Settled.{AreBlockedElsewhere};
 ghost use Rattle.wait_core.specs.WellFormed.{IsWellFormed};
-ghost use Rattle.wait_core.specs.WaitsView.{processes_of, AreTold};
+ghost use Rattle.wait_core.specs.WaitsView.{waits_of, wait_of, processes_of, AreTold};
 
 use super::listed::ListedWaits;
 use super::{bytes, empty_books};
@@ -80,10 +80,22 @@ impl Both {
         requires { IsWellFormed 64 wait }
     {
         if self.waits.of(wait.p).is_none() {
-            self.waits.join(wait, &self.books);
+            self.put(wait);
             self.listed.waits.push(wait)?;
         }
         Ok(())
+    }
+
+    /// Puts the wait of a process that has none into the list: one that an earlier one blocks is known to be blocked.
+    fn put(&mut self, wait: Wait)
+        requires none { wait_of (waits_of self.old.waits) wait.p ≡ None }
+        requires well_formed { IsWellFormed 64 wait }
+    {
+        if self.waits.queued(&wait) {
+            self.waits.join_blocked(wait, &self.books);
+        } else {
+            self.waits.join(wait, &self.books);
+        }
     }
 
     /// The process waits no more.

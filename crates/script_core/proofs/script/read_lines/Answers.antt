@@ -45,7 +45,7 @@ returns-in-Err-clause-fault c =
     (YieldsList-at c.into_iter-index-iterator.ensures.into_iter_gives
     (YieldsList-from_enumerate (YieldsList-at c.enumerate-index-items.ensures.source
     (YieldsList-from_slice_split _ (λ (byte : ℕ). byte == 10) c.args.bytes.now c.split.ensures.rest c.split.ensures.done c.split.ensures.closure (λ x b q k. search (rules, tests)))) c.enumerate-index-items.ensures.count)) in
-    let cut = cut_at lines (length c.loop-index.yielded) c.in-Some.index c.in-Some.line.now turn in (
+    let cut = cut_at lines (length c.loop-index.yielded) c.in-Some.index c.in-Some.line.now turn in rw c.fault_at.ensures (
       λ other. rw cut.0 (fault_at lines (length c.loop-index.yielded) c.in-Some.line.now c.loop-index.reader c.in-Err.cause c.loop-index.invariant cut.1 (c.in-Err.ensures.refused other)),
       λ is. let said = c.in-Err.ensures.memory is in
           rw cut.0 (memory_at lines (length c.loop-index.yielded) c.in-Some.line.now c.loop-index.reader said.0 c.loop-index.invariant cut.1 said.1 said.2),

@@ -1,35 +1,31 @@
-use Rattle.std.proofs.Common.{◌<◌, sym, ap, subst, refl, length, All, arith}
+use Rattle.std.proofs.Common.{◌<◌, sym, ap, subst, refl, length, arith}
 use Rattle.std.specs.Prelude.{slice_set}
-use Rattle.wait_core.specs.WaitsView.{waits_of}
-use Rattle.lock_manager.specs.WaitsKept.{IsSuspended}
+use Rattle.lock_manager.specs.WaitsKept.{AreStanding}
 use Rattle.lock_manager.specs.MachineView.{machine_locks, machine_state}
 use Rattle.lock_manager.proofs.BookLemmas.{book_at, OnOk-map, OnErr-map}
 use Rattle.lock_manager.proofs.KeptLemmas.{kept_by_change, stays_known}
-use Rattle.lock_manager.proofs.WaitLemmas.{awaited_in}
-use Rattle.lock_manager.proofs.StandsLemmas.{with_change, without_change}
+use Rattle.lock_manager.proofs.WaitLemmas.{keeps_same}
+use Rattle.lock_manager.proofs.StandsLemmas.{with_change, same_by_book}
 use Rattle.lock_manager.proofs.machine.Machine.change.Goals as goal
 
-pub invariant_of-self : goal.invariant_of-self
+pub invariant_of-self-clause-kept : goal.invariant_of-self-clause-kept
 unfolding machine_locks machine_state
-invariant_of-self c =
+invariant_of-self-clause-kept c =
     let machine = c.args.self.now in
     let books = machine.books.items in
     let within : c.args.file < length books = omega arith in
     let laws = c.stay_free_of_cycles.ensures in
-    let kept = kept_by_change laws.locks_change laws.description_locks_change machine (slice_set books c.from.result c.set-done.new.self) c.refresh_owner.new.self
+    kept_by_change laws.locks_change laws.description_locks_change machine (slice_set books c.from.result c.set-done.new.self) c.refresh_owner.new.self
     c.args.file c.index_mut.result.now c.set-done.new.self c.args.owner c.args.span c.args.mode c.set-done.result
     (ap (λ i. slice_set books i c.set-done.new.self) c.from.ensures) within
     (book_at books c.from.result c.args.file _ c.from.ensures within c.index_mut.ensures.value)
     c.requires.owner c.requires.span c.requires.live c.requires.free c.set-done.ensures.ok c.set-done.ensures.room c.set-done.ensures.err
     (record { waits = c.refresh_owner.ensures.waits; policy = c.refresh_owner.ensures.policy; processes = c.refresh_owner.ensures.processes })
     (λ agree alone. stays_known machine.waits c.refresh_owner.new.self books (slice_set books c.from.result c.set-done.new.self) c.deref.result.now c.args.file c.args.owner c.args.span c.deref.ensures.value c.requires.file
-    c.refresh_owner.ensures.told c.refresh_owner.ensures.blocked agree alone) in
-    assumption (
-      machine,
-      kept,
-      subst (All (IsSuspended machine.tables machine.states.items)) (sym c.refresh_owner.ensures.waits) machine.suspended,
-      awaited_in machine.states.items (waits_of machine.waits) (waits_of c.refresh_owner.new.self) c.refresh_owner.ensures.waits machine.awaited,
-    )
+    c.refresh_owner.ensures.told c.refresh_owner.ensures.blocked agree alone)
+
+pub invariant_of-self-clause-standing : goal.invariant_of-self-clause-standing
+invariant_of-self-clause-standing c = subst (AreStanding c.args.self.now.tables c.args.self.now.states.items) (sym c.refresh_owner.ensures.waits) c.args.self.now.standing
 
 pub returns-clause-ok : goal.returns-clause-ok
 returns-clause-ok c =
@@ -47,6 +43,6 @@ returns-clause-memory c =
     let books = machine.books.items in
     let within : c.args.file < length books = omega arith in
     OnErr-map _ _ c.set-done.result c.set-done.ensures.err
-    (λ same. without_change machine _ c.args.file c.index_mut.result.now c.set-done.new.self
-    (ap (λ i. slice_set books i c.set-done.new.self) c.from.ensures) refl refl refl refl within
-    (book_at books c.from.result c.args.file _ c.from.ensures within c.index_mut.ensures.value) same c.refresh_owner.ensures.waits)
+    (λ same. same_by_book machine _ c.args.file c.index_mut.result.now c.set-done.new.self
+    (ap (λ i. slice_set books i c.set-done.new.self) c.from.ensures) refl refl refl refl c.refresh_owner.ensures.waits within
+    (book_at books c.from.result c.args.file _ c.from.ensures within c.index_mut.ensures.value) (keeps_same c.index_mut.result.now c.set-done.new.self same))

@@ -1,28 +1,26 @@
-use Rattle.lock_manager.proofs.WaitLemmas.{suspended_after}
-use Rattle.std.proofs.Common.{◌∙◌, refl}
+use Rattle.lock_manager.proofs.WaitLemmas.{standing_in}
+use Rattle.std.proofs.Common.{refl}
 use Rattle.lock_manager.proofs.CallLemmas.{Dups, with_descriptors, served_by_dup}
 use Rattle.lock_manager.proofs.StandsLemmas.{with_tables}
 use Rattle.lock_manager.specs.declared.request.Reply.TheVariants as replies
 use Rattle.lock_manager.specs.declared.request.Request.TheVariants.{Dup}
 use Rattle.lock_manager.proofs.CallLemmas.{done_by, refused_by}
 use Rattle.fd_table.specs.TablesView.{limits_of}
-use Rattle.wait_core.specs.Locks.{locks_of}
 use Rattle.wait_core.specs.WaitsView.{waits_of}
-use Rattle.lock_manager.proofs.StayOpenLemmas.{dupped_stays, owned_call}
+use Rattle.lock_manager.proofs.StayOpenLemmas.{dupped_stays, kept_by_call}
 use Rattle.lock_manager.proofs.machine.Machine.dup.Goals as goal
 
-pub invariant_of-self-clause-owned : goal.invariant_of-self-clause-owned
-invariant_of-self-clause-owned c =
+pub invariant_of-self-clause-kept : goal.invariant_of-self-clause-kept
+invariant_of-self-clause-kept c =
     let machine = c.args.self.now in
-    owned_call (Dups machine c.args.p c.args.fd) machine.tables c.dup.new.self (locks_of machine.books.items) (waits_of machine.waits) c.dup.result
+    kept_by_call (Dups machine c.args.p c.args.fd) machine c.dup.new.self c.dup.result
     (λ D E free is stands gives. dupped_stays (limits_of machine.tables) D E c.args.p c.args.fd free gives)
-    (λ other. c.dup.ensures.step) c.dup.ensures.refused machine.owned
+    (λ other. c.dup.ensures.step) c.dup.ensures.refused
 
-pub invariant_of-self-clause-suspended : goal.invariant_of-self-clause-suspended
-invariant_of-self-clause-suspended c =
+pub invariant_of-self-clause-standing : goal.invariant_of-self-clause-standing
+invariant_of-self-clause-standing c =
     let machine = c.args.self.now in
-    suspended_after machine.tables c.dup.new.self machine.states.items machine.states.items (waits_of machine.waits)
-    (λ q born. c.dup.ensures.kept.alive q ∙ born) (λ q born live. live) machine.suspended
+    standing_in machine.tables c.dup.new.self machine.states.items (waits_of machine.waits) (waits_of machine.waits) c.dup.ensures.kept.alive refl machine.standing
 
 pub returns-in-Ok-clause-answers : goal.returns-in-Ok-clause-answers
 returns-in-Ok-clause-answers c =

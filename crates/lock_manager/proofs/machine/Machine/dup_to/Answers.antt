@@ -1,4 +1,4 @@
-use Rattle.std.proofs.Common.{refl, sym, subst, ◌∙◌, All}
+use Rattle.std.proofs.Common.{◌∙◌, refl}
 use Rattle.fd_table.specs.TablesView.{limits_of}
 use Rattle.wait_core.specs.Locks.{locks_of}
 use Rattle.wait_core.specs.WaitsView.{waits_of}
@@ -8,43 +8,26 @@ use Rattle.lock_manager.proofs.BookLemmas.{OnErr-map}
 use Rattle.lock_manager.proofs.CallLemmas.{done_by, refused_by, never_memory}
 use Rattle.lock_manager.proofs.ClosingLemmas.{dup2_closes}
 use Rattle.lock_manager.proofs.AfterCloseLemmas.{DupsTo, after_dup2, served_by_dup2, with_release}
-use Rattle.lock_manager.proofs.OwnedLemmas.{owned_after}
+use Rattle.lock_manager.proofs.StayOpenLemmas.{kept_by_refusal}
 use Rattle.lock_manager.specs.MachineView.{machine_state}
-use Rattle.lock_manager.specs.WaitsKept.{IsSuspended}
 use Rattle.lock_manager.proofs.KeptLemmas.{kept_by_release}
-use Rattle.lock_manager.proofs.WaitLemmas.{suspended_after, awaited_in}
+use Rattle.lock_manager.proofs.WaitLemmas.{standing_in}
 use Rattle.lock_manager.proofs.machine.Machine.dup_to.Goals as goal
 
-pub invariant_of-self : goal.invariant_of-self
+pub invariant_of-self-clause-kept : goal.invariant_of-self-clause-kept
 unfolding machine_state
-invariant_of-self c =
+invariant_of-self-clause-kept c =
     let machine = c.args.self.now in
     let released = c.in-Ok.released in
     let after = c.release.ensures in
-    let kept = kept_by_release machine c.dup2.new.self c.release.new.books.items c.release.new.waits c.args.p released c.requires
+    kept_by_release machine c.dup2.new.self c.release.new.books.items c.release.new.waits c.args.p released c.requires
     (λ D stands. let given = c.in-Ok.ensures.step D stands in (given.0, dup2_closes (limits_of machine.tables) D given.0 c.args.p c.args.fd c.args.to (c.in-Ok.number, released) given.1, given.2))
-    after.locks after.room after.waits after.known after.free in
-    record {
-      files = after.count;
-      numbered = machine.numbered;
-      tabled = c.dup2.ensures.kept.processes ∙ machine.tabled;
-      limited = c.dup2.ensures.kept.limits ∙ machine.limited;
-      alive = λ p live. c.dup2.ensures.kept.alive p ∙ machine.alive p live;
-      compatible = kept.compatible;
-      owned = kept.owned;
-      within = kept.within;
-      policy = kept.policy;
-      counted = kept.counted;
-      told = kept.told;
-      blocked = kept.blocked;
-      apart = kept.apart;
-      suspended = subst (All (IsSuspended c.dup2.new.self machine.states.items)) (sym after.waits.waits)
-          (suspended_after machine.tables c.dup2.new.self machine.states.items machine.states.items (waits_of machine.waits)
-          (λ q born. c.dup2.ensures.kept.alive q ∙ born) (λ q born live. live) machine.suspended);
-      awaited = awaited_in machine.states.items (waits_of machine.waits) (waits_of c.release.new.waits) after.waits.waits machine.awaited;
-      room = kept.room;
-      free_of_cycles = kept.free_of_cycles;
-    }
+    after.locks after.room after.waits after.known after.free
+
+pub invariant_of-self-clause-standing : goal.invariant_of-self-clause-standing
+invariant_of-self-clause-standing c =
+    let machine = c.args.self.now in
+    standing_in machine.tables c.dup2.new.self machine.states.items (waits_of machine.waits) (waits_of c.release.new.waits) c.dup2.ensures.kept.alive c.release.ensures.waits.waits machine.standing
 
 pub invariant_of-self-in-Err-1 : goal.invariant_of-self-in-Err-1
 invariant_of-self-in-Err-1 c =
@@ -54,21 +37,10 @@ invariant_of-self-in-Err-1 c =
       numbered = machine.numbered;
       tabled = c.dup2.ensures.kept.processes ∙ machine.tabled;
       limited = c.dup2.ensures.kept.limits ∙ machine.limited;
-      alive = λ p live. c.dup2.ensures.kept.alive p ∙ machine.alive p live;
-      compatible = machine.compatible;
-      owned = owned_after machine.tables c.dup2.new.self (locks_of machine.books.items) (waits_of machine.waits) machine.owned
-          (λ D stands. (D, λ file d q is. is, c.in-Err.ensures.refused D stands));
-      within = machine.within;
       policy = machine.policy;
       counted = machine.counted;
-      told = machine.told;
-      blocked = machine.blocked;
-      apart = machine.apart;
-      suspended = suspended_after machine.tables c.dup2.new.self machine.states.items machine.states.items (waits_of machine.waits)
-          (λ q born. c.dup2.ensures.kept.alive q ∙ born) (λ q born live. live) machine.suspended;
-      awaited = machine.awaited;
-      room = machine.room;
-      free_of_cycles = machine.free_of_cycles;
+      kept = kept_by_refusal machine c.dup2.new.self c.in-Err.ensures.refused;
+      standing = standing_in machine.tables c.dup2.new.self machine.states.items (waits_of machine.waits) (waits_of machine.waits) c.dup2.ensures.kept.alive refl machine.standing;
     }
 
 pub returns-in-Ok-clause-answers : goal.returns-in-Ok-clause-answers
@@ -92,4 +64,4 @@ pub returns-in-Err-clause-sure : goal.returns-in-Err-clause-sure
 returns-in-Err-clause-sure c =
     let machine = c.args.self.now in
     OnErr-map _ _ c.refusal.result c.refusal.ensures.memory
-    (never_memory (DupsTo machine c.args.p c.args.fd c.args.to) machine.tables c.dup2.new.self (locks_of machine.books.items) (waits_of machine.waits) c.in-Err.fault machine.owned (λ D E memory gives. gives) c.in-Err.ensures.step)
+    (never_memory (DupsTo machine c.args.p c.args.fd c.args.to) machine.tables c.dup2.new.self (locks_of machine.books.items) (waits_of machine.waits) c.in-Err.fault machine.kept.owned (λ D E memory gives. gives) c.in-Err.ensures.step)

@@ -1,4 +1,4 @@
-use Rattle.std.proofs.Common.{refl, ◌≡◌, ◌<◌, sym, ◌∙◌, ap, subst, length, Some, All, Ok, arith, true}
+use Rattle.std.proofs.Common.{refl, ◌≡◌, ◌<◌, sym, ◌∙◌, ap, subst, length, Some, Ok, arith, true}
 use Rattle.std.proofs.lemmas.Option.{same_Some}
 use Rattle.std.specs.Prelude.{slice_get, slice_set}
 use Rattle.lock_manager.specs.DescriptionLocks.{MayLock}
@@ -9,22 +9,21 @@ use Rattle.wait_core.specs.WaitsView.{waits_of}
 use Rattle.lock_manager.specs.State.{with_process}
 use Rattle.lock_manager.specs.ProcessCalls.{without_wait}
 use Rattle.lock_manager.specs.declared.request.ProcState.TheVariants.{Live}
-use Rattle.lock_manager.specs.WaitsKept.{AreApart, IsSuspended, HaveRoom, has_place_at}
-use Rattle.lock_manager.proofs.FlockLemmas.{places_kept}
+use Rattle.lock_manager.specs.WaitsKept.{AreApart, IsSuspended, AreStanding, HaveRoom, has_place_at}
 use Rattle.lock_manager.specs.MachineView.{machine_locks, machine_state, machine_waits, machine_rules, machine_processes}
 use Rattle.lock_manager.proofs.BookLemmas.{book_at}
 use Rattle.lock_manager.proofs.GrantLemmas.{room_for_grant, room_granted, may_lock_granted, owner_granted, shows_granted}
 use Rattle.lock_manager.proofs.ProcessCallLemmas.{found_holds}
 use Rattle.lock_manager.proofs.KeptLemmas.{kept_in_room, stays_known}
 use Rattle.lock_manager.proofs.StandsLemmas.{with_change}
-use Rattle.lock_manager.proofs.WaitLemmas.{awaited_in}
+use Rattle.lock_manager.proofs.WaitLemmas.{places_kept}
 use Rattle.lock_manager.proofs.machine.Machine.grant_bytes.Goals as goal
 
 pub interrupt-requires : goal.interrupt-requires
 unfolding machine_state machine_waits
 interrupt-requires c =
     let machine = c.args.self.now in
-    (found_holds (IsSuspended machine.tables machine.states.items) (waits_of machine.waits) c.args.wait.p c.args.wait c.requires.grantable.waits machine.suspended).waiting
+    (found_holds (IsSuspended machine.tables machine.states.items) (waits_of machine.waits) c.args.wait.p c.args.wait c.requires.grantable.waits machine.standing.suspended).waiting
 
 pub set_reserved-requires-clause-room : goal.set_reserved-requires-clause-room
 unfolding machine_waits
@@ -34,11 +33,11 @@ set_reserved-requires-clause-room c =
     let within : c.args.wait.file < length books = (let few = c.requires.grantable.well_formed.file in omega arith) in
     let was = book_at books c.from.result c.args.wait.file c.index_mut-book.result.now c.from.ensures within c.index_mut-book.ensures.value in
     room_for_grant books (waits_of machine.waits) c.args.wait c.index_mut-book.result.now c.requires.grantable.waits c.requires.family was
-    (subst (λ bs. HaveRoom bs (waits_of machine.waits)) (ap (λ bs. bs.items) (sym c.interrupt.ensures.books)) machine.room)
+    (subst (λ bs. HaveRoom bs (waits_of machine.waits)) (ap (λ bs. bs.items) (sym c.interrupt.ensures.books)) machine.kept.room)
 
-pub invariant_of-self : goal.invariant_of-self
+pub invariant_of-self-clause-kept : goal.invariant_of-self-clause-kept
 unfolding machine_locks machine_state machine_waits
-invariant_of-self c =
+invariant_of-self-clause-kept c =
     let machine = c.interrupt.new.self in
     let books = machine.books.items in
     let wait = c.args.wait in
@@ -50,28 +49,25 @@ invariant_of-self c =
     let room : HaveRoom (slice_set books wait.file c.set_reserved.new.self) (waits_of machine.waits) =
     subst (HaveRoom (slice_set books wait.file c.set_reserved.new.self)) (sym c.interrupt.ensures.waits)
     (room_granted books before wait c.index_mut-book.result.now c.set_reserved.new.self c.requires.grantable.waits c.requires.family within was c.set_reserved.ensures.sets c.set_reserved.ensures.room
-    (subst (λ bs. HaveRoom bs before) (sym same_books) c.args.self.now.room)) in
+    (subst (λ bs. HaveRoom bs before) (sym same_books) c.args.self.now.kept.room)) in
     let free : ¬ ByteConflict ((locks_of books).bytes wait.file) wait.owner wait.span wait.mode =
     subst (λ bs. ¬ ByteConflict ((locks_of bs).bytes wait.file) wait.owner wait.span wait.mode) (sym same_books)
     (subst (λ f. ¬ IsBlockedIn f (machine_locks c.args.self.now) wait) c.requires.family c.requires.grantable.free) in
     let tables : c.args.self.now.tables ≡ machine.tables = sym c.interrupt.ensures.tables in
     let laws = c.stay_free_of_cycles.ensures in
-    let kept = kept_in_room laws.locks_change laws.description_locks_change machine (slice_set books c.from.result c.set_reserved.new.self) c.refresh_owner.new.self
+    kept_in_room laws.locks_change laws.description_locks_change machine (slice_set books c.from.result c.set_reserved.new.self) c.refresh_owner.new.self
     wait.file c.index_mut-book.result.now c.set_reserved.new.self wait.owner wait.span (Some wait.mode) (Ok tt) is within was
-    (subst (λ t. MayLock t wait.file wait.owner) tables (may_lock_granted c.args.self.now.tables (locks_of c.args.self.now.books.items) before wait c.args.self.now.owned c.requires.grantable.waits))
+    (subst (λ t. MayLock t wait.file wait.owner) tables (may_lock_granted c.args.self.now.tables (locks_of c.args.self.now.books.items) before wait c.args.self.now.kept.owned c.requires.grantable.waits))
     c.requires.grantable.well_formed.range
-    (λ q e. subst (λ p. machine_state machine p ≡ Live) (sym (owner_granted c.args.self.now.tables (locks_of c.args.self.now.books.items) before wait c.args.self.now.owned c.requires.grantable.waits q e)) c.interrupt.ensures.live)
+    (λ q e. subst (λ p. machine_state machine p ≡ Live) (sym (owner_granted c.args.self.now.tables (locks_of c.args.self.now.books.items) before wait c.args.self.now.kept.owned c.requires.grantable.waits q e)) c.interrupt.ensures.live)
     (λ k e. subst (λ m. ¬ ByteConflict ((locks_of books).bytes wait.file) wait.owner wait.span m) (same_Some wait.mode k e) free)
     c.set_reserved.ensures.sets room tt
     (record { waits = c.refresh_owner.ensures.waits; policy = c.refresh_owner.ensures.policy; processes = c.refresh_owner.ensures.processes })
     (λ agree alone. stays_known machine.waits c.refresh_owner.new.self books (slice_set books c.from.result c.set_reserved.new.self) c.deref.result.now wait.file wait.owner wait.span c.deref.ensures.value c.requires.grantable.well_formed.file
-    c.refresh_owner.ensures.told c.refresh_owner.ensures.blocked agree alone) in
-    assumption (
-      machine,
-      kept,
-      subst (All (IsSuspended machine.tables machine.states.items)) (sym c.refresh_owner.ensures.waits) machine.suspended,
-      awaited_in machine.states.items (waits_of machine.waits) (waits_of c.refresh_owner.new.self) c.refresh_owner.ensures.waits machine.awaited,
-    )
+    c.refresh_owner.ensures.told c.refresh_owner.ensures.blocked agree alone)
+
+pub invariant_of-self-clause-standing : goal.invariant_of-self-clause-standing
+invariant_of-self-clause-standing c = subst (AreStanding c.interrupt.new.self.tables c.interrupt.new.self.states.items) (sym c.refresh_owner.ensures.waits) c.interrupt.new.self.standing
 
 pub returns : goal.returns
 unfolding machine_waits machine_state machine_rules machine_processes
@@ -83,7 +79,7 @@ returns c =
     let was = book_at books c.from.result wait.file c.index_mut-book.result.now c.from.ensures within c.index_mut-book.ensures.value in
     record {
       shows = λ S before after h place.
-          shows_granted _ S before wait after c.requires.family (subst AreApart h.waits c.args.self.now.apart) place
+          shows_granted _ S before wait after c.requires.family (subst AreApart h.waits c.args.self.now.kept.apart) place
           (with_change machine _ (with_process (without_wait S wait.p) wait.p Live) wait.file c.index_mut-book.result.now c.set_reserved.new.self wait.owner wait.span (Some wait.mode)
           (ap (λ i. slice_set books i c.set_reserved.new.self) c.from.ensures) refl refl within was c.set_reserved.ensures.sets c.refresh_owner.ensures.waits
           (c.interrupt.ensures.shows S h));

@@ -17,7 +17,7 @@ pub interrupt-requires : goal.interrupt-requires
 unfolding machine_state machine_waits
 interrupt-requires c =
     let machine = c.args.self.now in
-    (found_holds (IsSuspended machine.tables machine.states.items) (waits_of machine.waits) c.args.wait.p c.args.wait c.requires.grantable.waits machine.suspended).waiting
+    (found_holds (IsSuspended machine.tables machine.states.items) (waits_of machine.waits) c.args.wait.p c.args.wait c.requires.grantable.waits machine.standing.suspended).waiting
 
 pub change_flock-requires-clause-owner : goal.change_flock-requires-clause-owner
 unfolding machine_waits
@@ -25,7 +25,7 @@ change_flock-requires-clause-owner c =
     let machine = c.args.self.now in
     subst (λ t. MayLock t c.args.wait.file (Description c.args.description)) (sym c.interrupt.ensures.tables)
     (subst (λ o. MayLock machine.tables c.args.wait.file o) c.requires.owner
-    (may_lock_granted machine.tables (locks_of machine.books.items) (waits_of machine.waits) c.args.wait machine.owned c.requires.grantable.waits))
+    (may_lock_granted machine.tables (locks_of machine.books.items) (waits_of machine.waits) c.args.wait machine.kept.owned c.requires.grantable.waits))
 
 pub change_flock-requires-clause-place : goal.change_flock-requires-clause-place
 unfolding machine_waits
@@ -33,14 +33,14 @@ change_flock-requires-clause-place c m e =
     let machine = c.args.self.now in
     let wait = c.args.wait in
     subst (λ bs. has_place_at (slice_get bs wait.file) c.args.description ≡ true) (ap (λ bs. bs.items) (sym c.interrupt.ensures.books))
-    (machine.room.places wait.file c.args.description
+    (machine.kept.room.places wait.file c.args.description
     (found_asks (is_flock_wait wait.file c.args.description) (waits_of machine.waits) wait.p wait c.requires.grantable.waits (is_its_own_flock wait c.args.description c.requires.family c.requires.owner)))
 
 pub returns : goal.returns
 unfolding machine_waits machine_state
 returns c = record {
   shows = λ S before after h place.
-      shows_granted_flock _ S before c.args.wait after c.args.description c.requires.family c.requires.owner (subst AreApart h.waits c.args.self.now.apart) place
+      shows_granted_flock _ S before c.args.wait after c.args.description c.requires.family c.requires.owner (subst AreApart h.waits c.args.self.now.kept.apart) place
       (c.change_flock.ensures.shows _ (c.interrupt.ensures.shows S h));
   fewer = rw c.change_flock.ensures.waits c.interrupt.ensures.fewer;
   lives = λ q live. subst (λ st. state_numbered st.items q ≡ Live) (sym c.change_flock.ensures.states) (c.interrupt.ensures.others q live);

@@ -1,4 +1,4 @@
-use Rattle.std.proofs.Common.{◌≡◌, List, sym, ap, subst, refl, ◌∙◌, [], ◌∷◌, inl, inr}
+use Rattle.std.proofs.Common.{◌≡◌, List, sym, ap, subst, refl, ◌∙◌, [], ◌∷◌, ◌++◌, inl, inr}
 use Rattle.lock_manager.specs.declared.machine.Machine.{Machine}
 use Rattle.lock_manager.specs.declared.request.Errno.TheVariants.{ESRCH}
 use Rattle.lock_manager.specs.declared.request.Request.TheVariants.{Kill}
@@ -9,7 +9,6 @@ use Rattle.lock_manager.specs.declared.request.Reply.TheVariants as replies
 use Rattle.lock_manager.specs.declared.request.ProcState.TheVariants.{Unborn, Live, Waiting, Ended}
 use Rattle.lock_manager.specs.State.{with_process}
 use Rattle.lock_manager.specs.ProcessCalls.{without_wait}
-use Rattle.lock_manager.specs.Notes.{notes_told}
 use Rattle.lock_manager.specs.MachineView.{Tells}
 use Rattle.lock_manager.proofs.ProcessCallLemmas.{kills_itself, kills_other, ends_waiting}
 use Rattle.lock_manager.proofs.machine.Machine.kill.Goals as goal
@@ -17,7 +16,7 @@ use Rattle.lock_manager.proofs.machine.Machine.kill.Goals.{in-Unborn, in-Live, i
 
 pub returns-then-target-p-clause-told : goal.returns-then-target-p-clause-told
 returns-then-target-p-clause-told c =
-    rw c.nobody.ensures
+    rw c.requires.empty
     (kills_itself c.args.self.now c.end.new.self c.args.p c.args.n c.args.target c.if-target-p.true
     (c.end.ensures.ends []))
 
@@ -28,8 +27,8 @@ returns-clause-told c =
     let n = c.args.n in
     let target = c.args.target in
     let tells = λ (new : Machine) (told : List Note). Tells old new p n (Kill target) told in
-    let told : notes_told c.caller.result ≡ Answer p n c.match-state_of.reply ∷ [] =
-    ap notes_told c.caller.ensures ∙ ap (λ (note : Note). note ∷ []) c.answered.ensures in
+    let told : c.push_reserved.new.self.items ≡ Answer p n c.match-state_of.reply ∷ [] =
+    c.push_reserved.ensures.items ∙ ap (λ (notes : List Note). notes ++ c.answered.result ∷ []) c.requires.empty ∙ ap (λ (note : Note). note ∷ []) c.answered.ensures in
     let answer = λ (reply : Reply). Answer p n reply ∷ [] in
     elim c.match-state_of.branch [
       | in-Unborn w ↦

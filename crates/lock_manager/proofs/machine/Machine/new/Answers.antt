@@ -10,29 +10,27 @@ use Rattle.lock_manager.proofs.SafetyLemmas.{compatible_without_locks, free_with
 use Rattle.lock_manager.proofs.StandsLemmas.{at_opening, first_lives, none_waits}
 use Rattle.lock_manager.proofs.machine.Machine.new.Goals as goal
 
-pub invariant_of-result : goal.invariant_of-result
-invariant_of-result c =
+pub invariant_of-result-clause-kept : goal.invariant_of-result-clause-kept
+invariant_of-result-clause-kept c =
     let none = c.in_ok-waits.ensures.empty in
     record {
-      files = c.in_ok-books.ensures.len;
-      numbered = c.in_ok-states.ensures.len;
-      tabled = c.in_ok-tables.ensures.processes;
-      limited = c.in_ok-tables.ensures.limits;
-      alive = λ p live. first_lives c.in_ok-tables.tables c.in_ok-states.states.items c.in_ok-tables.ensures.opening c.in_ok-states.ensures.states p live;
       compatible = compatible_without_locks c.in_ok-books.books.items c.in_ok-books.ensures.empty;
       owned = owned_at_opening c.in_ok-tables.tables c.in_ok-books.books.items (waits_of c.in_ok-waits.waits) c.in_ok-tables.ensures.opening c.in_ok-books.ensures.empty none;
       within = λ file owner byte past. unlocked_bytes c.in_ok-books.books.items c.in_ok-books.ensures.empty file owner byte;
-      policy = c.in_ok-waits.ensures.policy;
-      counted = c.in_ok-waits.ensures.processes;
       told = ∣ c.in_ok-waits.ensures.told (locks_of c.in_ok-books.books.items) ∣₁;
       blocked = ∣ c.in_ok-waits.ensures.blocked (locks_of c.in_ok-books.books.items) ∣₁;
       apart = subst AreApart (sym none) (λ i j d before within. absurd (omega (arith, within)));
-      suspended = of_no_wait (IsSuspended c.in_ok-tables.tables c.in_ok-states.states.items) (waits_of c.in_ok-waits.waits) none;
-      awaited = λ p waiting. absurd (none_waits c.in_ok-states.states.items c.in_ok-states.ensures.states p waiting);
       room = subst (HaveRoom c.in_ok-books.books.items) (sym none) (room_for_none c.in_ok-books.books.items);
       free_of_cycles = subst (IsFreeOfCycles c.args.rules.policy (locks_of c.in_ok-books.books.items)) (sym none)
           (free_without_waits c.args.rules.policy (locks_of c.in_ok-books.books.items));
     }
+
+pub invariant_of-result-clause-standing : goal.invariant_of-result-clause-standing
+invariant_of-result-clause-standing c = record {
+  alive = λ p live. first_lives c.in_ok-tables.tables c.in_ok-states.states.items c.in_ok-tables.ensures.opening c.in_ok-states.ensures.states p live;
+  suspended = of_no_wait (IsSuspended c.in_ok-tables.tables c.in_ok-states.states.items) (waits_of c.in_ok-waits.waits) c.in_ok-waits.ensures.empty;
+  awaited = λ p waiting. absurd (none_waits c.in_ok-states.states.items c.in_ok-states.ensures.states p waiting);
+}
 
 pub returns-clause-opening : goal.returns-clause-opening
 returns-clause-opening c =

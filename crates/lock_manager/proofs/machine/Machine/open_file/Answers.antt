@@ -3,26 +3,24 @@ use Rattle.lock_manager.proofs.StandsLemmas.{with_tables}
 use Rattle.lock_manager.specs.declared.request.Reply.TheVariants as replies
 use Rattle.lock_manager.specs.declared.request.Request.TheVariants.{OpenFile}
 use Rattle.lock_manager.proofs.CallLemmas.{done_by, refused_by}
-use Rattle.lock_manager.proofs.WaitLemmas.{suspended_after}
-use Rattle.std.proofs.Common.{◌∙◌, refl}
+use Rattle.lock_manager.proofs.WaitLemmas.{standing_in}
+use Rattle.std.proofs.Common.{refl}
 use Rattle.fd_table.specs.TablesView.{limits_of}
-use Rattle.wait_core.specs.Locks.{locks_of}
 use Rattle.wait_core.specs.WaitsView.{waits_of}
-use Rattle.lock_manager.proofs.StayOpenLemmas.{opened_stays, owned_call}
+use Rattle.lock_manager.proofs.StayOpenLemmas.{opened_stays, kept_by_call}
 use Rattle.lock_manager.proofs.machine.Machine.open_file.Goals as goal
 
-pub invariant_of-self-clause-owned : goal.invariant_of-self-clause-owned
-invariant_of-self-clause-owned c =
+pub invariant_of-self-clause-kept : goal.invariant_of-self-clause-kept
+invariant_of-self-clause-kept c =
     let machine = c.args.self.now in
-    owned_call (Opens machine c.args.p c.args.file c.args.access) machine.tables c.open_file.new.self (locks_of machine.books.items) (waits_of machine.waits) c.open_file.result
+    kept_by_call (Opens machine c.args.p c.args.file c.args.access) machine c.open_file.new.self c.open_file.result
     (λ D E fd is stands gives. opened_stays (limits_of machine.tables) D E c.args.p c.args.file c.args.access fd gives)
-    c.open_file.ensures.step c.open_file.ensures.refused machine.owned
+    c.open_file.ensures.step c.open_file.ensures.refused
 
-pub invariant_of-self-clause-suspended : goal.invariant_of-self-clause-suspended
-invariant_of-self-clause-suspended c =
+pub invariant_of-self-clause-standing : goal.invariant_of-self-clause-standing
+invariant_of-self-clause-standing c =
     let machine = c.args.self.now in
-    suspended_after machine.tables c.open_file.new.self machine.states.items machine.states.items (waits_of machine.waits)
-    (λ q born. c.open_file.ensures.kept.alive q ∙ born) (λ q born live. live) machine.suspended
+    standing_in machine.tables c.open_file.new.self machine.states.items (waits_of machine.waits) (waits_of machine.waits) c.open_file.ensures.kept.alive refl machine.standing
 
 pub returns-in-Ok-clause-answers : goal.returns-in-Ok-clause-answers
 returns-in-Ok-clause-answers c =

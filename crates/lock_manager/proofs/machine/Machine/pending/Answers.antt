@@ -18,5 +18,5 @@ returns-clause-few c p live =
     c.count_for_bytes.ensures ∙ ap (λ ws. length (filter (is_byte_wait c.args.file c.args.owner) ws)) c.list.ensures.waits in
     let all : length (filter (is_byte_wait c.args.file c.args.owner) list) ≤ length list = some_of (is_byte_wait c.args.file c.args.owner) list in
     let few : length list < processes_of machine.waits =
-    c.list.ensures.few p there.0 (omega arith) (no_wait list p (waits_of_others machine.tables machine.states.items list p machine.suspended live)) in
+    c.list.ensures.few p there.0 (omega arith) (no_wait list p (waits_of_others machine.tables machine.states.items list p machine.standing.suspended live)) in
     omega arith

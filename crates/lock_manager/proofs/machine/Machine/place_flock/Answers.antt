@@ -1,19 +1,20 @@
 use Rattle.std.proofs.Common.{◌<◌, ap, refl, length, arith}
 use Rattle.std.specs.Prelude.{slice_set}
 use Rattle.lock_manager.proofs.BookLemmas.{book_at}
-use Rattle.lock_manager.proofs.FlockLemmas.{kept_by_place, place_taken, placed, same_by_place}
+use Rattle.lock_manager.proofs.FlockLemmas.{place_taken, placed}
+use Rattle.lock_manager.proofs.StandsLemmas.{same_by_book}
+use Rattle.lock_manager.proofs.SuspendLemmas.{kept_by_book}
 use Rattle.lock_manager.proofs.machine.Machine.place_flock.Goals as goal
 
-pub invariant_of-self : goal.invariant_of-self
-invariant_of-self c =
+pub invariant_of-self-clause-kept : goal.invariant_of-self-clause-kept
+invariant_of-self-clause-kept c =
     let machine = c.args.self.now in
     let books = machine.books.items in
     let within : c.args.file < length books = omega arith in
     let was = book_at books c.from.result c.args.file c.index_mut.result.now c.from.ensures within c.index_mut.ensures.value in
-    let kept = kept_by_place machine (slice_set books c.from.result c.flock_reserve.new.self) c.args.file c.index_mut.result.now c.flock_reserve.new.self
+    kept_by_book machine (slice_set books c.from.result c.flock_reserve.new.self) c.args.file c.index_mut.result.now c.flock_reserve.new.self
     (ap (λ i. slice_set books i c.flock_reserve.new.self) c.from.ensures) within was
-    (place_taken c.index_mut.result.now c.flock_reserve.new.self c.args.description c.flock_reserve.result c.flock_reserve.ensures.ok c.flock_reserve.ensures.err) in
-    assumption (machine, kept)
+    (place_taken c.index_mut.result.now c.flock_reserve.new.self c.args.description c.flock_reserve.result c.flock_reserve.ensures.ok c.flock_reserve.ensures.err)
 
 pub returns-clause-place : goal.returns-clause-place
 returns-clause-place c =
@@ -29,6 +30,6 @@ returns-clause-same c =
     let books = machine.books.items in
     let within : c.args.file < length books = omega arith in
     let was = book_at books c.from.result c.args.file c.index_mut.result.now c.from.ensures within c.index_mut.ensures.value in
-    same_by_place machine _ c.args.file c.index_mut.result.now c.flock_reserve.new.self
+    same_by_book machine _ c.args.file c.index_mut.result.now c.flock_reserve.new.self
     (ap (λ i. slice_set books i c.flock_reserve.new.self) c.from.ensures) refl refl refl refl refl within was
     (place_taken c.index_mut.result.now c.flock_reserve.new.self c.args.description c.flock_reserve.result c.flock_reserve.ensures.ok c.flock_reserve.ensures.err)

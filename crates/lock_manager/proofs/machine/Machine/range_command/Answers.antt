@@ -1,8 +1,17 @@
-use Rattle.std.proofs.Common.{sym, ◌∙◌}
+use Rattle.std.proofs.Common.{◌≤◌, refl, sym, ◌∙◌, length, arith}
+use Rattle.lock_manager.specs.MachineView.{machine_processes, machine_state}
 use Rattle.lock_manager.proofs.CommandLemmas.{asked}
+use Rattle.lock_manager.proofs.ProcessLemmas.{place_of_live}
 use Rattle.lock_manager.proofs.machine.Machine.range_command.Goals as goal
 
 pub returns-then-is_get-clause-told : goal.returns-then-is_get-clause-told
 returns-then-is_get-clause-told c =
     asked c.args.self.now c.args.p c.args.n c.args.cmd c.args.kind c.args.look c.args.span c.in-Some.mode c.owner-owner.result c.get_reply.result c.answered-then-is_get.result
     c.in-Some.ensures (sym c.is_get.ensures ∙ c.if-is_get.true) c.owner-owner.ensures c.answered-then-is_get.ensures c.get_reply.ensures
+
+pub set_command-requires-clause-well_formed : goal.set_command-requires-clause-well_formed
+unfolding machine_state machine_processes
+set_command-requires-clause-well_formed c =
+    let machine = c.args.self.now in
+    let there : (1 ≤ c.args.p) × (c.args.p ≤ length machine.states.items) = place_of_live machine.states.items c.args.p c.requires.live in
+    record { from_one = there.0; process = omega arith; file = omega arith; range = c.requires.span; owner = refl }

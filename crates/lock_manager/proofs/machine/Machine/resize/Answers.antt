@@ -1,28 +1,26 @@
-use Rattle.lock_manager.proofs.WaitLemmas.{suspended_after}
-use Rattle.std.proofs.Common.{◌∙◌, refl, subst, Ok, Err, rules, FitsSigned, to_z, of_z, w64}
+use Rattle.lock_manager.proofs.WaitLemmas.{standing_in}
+use Rattle.std.proofs.Common.{refl, subst, Ok, Err, rules, FitsSigned, to_z, of_z, w64}
 use Rattle.std.proofs.lemmas.Int.{to_z-of_z}
 use Rattle.fd_table.specs.Calls.{ResizeGives}
 use Rattle.lock_manager.specs.declared.request.Reply.TheVariants as replies
 use Rattle.lock_manager.specs.declared.request.Request.TheVariants.{Resize}
 use Rattle.lock_manager.proofs.CallLemmas.{Gave, with_descriptors, done_by, refused_by}
 use Rattle.lock_manager.proofs.StandsLemmas.{with_tables}
-use Rattle.wait_core.specs.Locks.{locks_of}
 use Rattle.wait_core.specs.WaitsView.{waits_of}
-use Rattle.lock_manager.proofs.StayOpenLemmas.{resized_stays, owned_call}
+use Rattle.lock_manager.proofs.StayOpenLemmas.{resized_stays, kept_by_call}
 use Rattle.lock_manager.proofs.machine.Machine.resize.Goals as goal
 
-pub invariant_of-self-clause-owned : goal.invariant_of-self-clause-owned
-invariant_of-self-clause-owned c =
+pub invariant_of-self-clause-kept : goal.invariant_of-self-clause-kept
+invariant_of-self-clause-kept c =
     let machine = c.args.self.now in
-    owned_call (λ D result E. ResizeGives D c.args.p c.args.fd (to_z w64 (of_z w64 c.args.size)) result E) machine.tables c.resize.new.self (locks_of machine.books.items) (waits_of machine.waits) c.resize.result
+    kept_by_call (λ D result E. ResizeGives D c.args.p c.args.fd (to_z w64 (of_z w64 c.args.size)) result E) machine c.resize.new.self c.resize.result
     (λ D E done is stands gives. resized_stays D E c.args.p c.args.fd (to_z w64 (of_z w64 c.args.size)) gives)
-    (λ other. c.resize.ensures.step) c.resize.ensures.refused machine.owned
+    (λ other. c.resize.ensures.step) c.resize.ensures.refused
 
-pub invariant_of-self-clause-suspended : goal.invariant_of-self-clause-suspended
-invariant_of-self-clause-suspended c =
+pub invariant_of-self-clause-standing : goal.invariant_of-self-clause-standing
+invariant_of-self-clause-standing c =
     let machine = c.args.self.now in
-    suspended_after machine.tables c.resize.new.self machine.states.items machine.states.items (waits_of machine.waits)
-    (λ q born. c.resize.ensures.kept.alive q ∙ born) (λ q born live. live) machine.suspended
+    standing_in machine.tables c.resize.new.self machine.states.items (waits_of machine.waits) (waits_of machine.waits) c.resize.ensures.kept.alive refl machine.standing
 
 pub returns-in-Ok-clause-answers : goal.returns-in-Ok-clause-answers
 returns-in-Ok-clause-answers c =

@@ -1,6 +1,12 @@
-use Rattle.std.proofs.Common.{sym, ◌∙◌}
-use Rattle.lock_manager.proofs.SetLemmas.{locked, deadlocked, waiting}
+use Rattle.std.proofs.Common.{inl, inr, sym, ◌∙◌}
+use Rattle.lock_manager.specs.MachineView.{machine_rules, machine_locks, machine_waits}
+use Rattle.lock_manager.proofs.CommandLemmas.{may_lock_waiting}
+use Rattle.lock_manager.proofs.SetLemmas.{is_blocked, locked, deadlocked, waiting}
 use Rattle.lock_manager.proofs.machine.Machine.set_command.Goals as goal
+
+pub change-requires-clause-owner : goal.change-requires-clause-owner
+change-requires-clause-owner c =
+    may_lock_waiting c.args.self.now.tables c.args.wanted.p c.args.wanted.file c.args.wanted.owner c.requires.may_wait
 
 pub returns-then-not-is_blocked-clause-told : goal.returns-then-not-is_blocked-clause-told
 returns-then-not-is_blocked-clause-told c =
@@ -15,6 +21,12 @@ returns-then-would_deadlock-clause-told c =
 pub suspend-requires-clause-free_of_cycles : goal.suspend-requires-clause-free_of_cycles
 suspend-requires-clause-free_of_cycles c traditional cycle =
     let is = c.would_deadlock.ensures.1 (c.requires.traditional.1 traditional, cycle) in cc
+
+pub suspend-requires-clause-blocked : goal.suspend-requires-clause-blocked
+suspend-requires-clause-blocked c =
+    let machine = c.args.self.now in
+    is_blocked (machine_rules machine).policy (machine_locks machine) (machine_waits machine) c.args.wanted
+    (elim (c.is_blocked.ensures.0 c.if-not-is_blocked.false) [ inl by_lock ↦ inl by_lock | inr behind ↦ inr behind.1 ])
 
 pub returns-clause-told : goal.returns-clause-told
 returns-clause-told c =

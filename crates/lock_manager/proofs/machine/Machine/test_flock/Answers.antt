@@ -1,5 +1,20 @@
+use Rattle.std.proofs.Common.{◌≡◌, ◌≤◌, ◌∙◌, true, inl, inr, sym, ap, subst, length, arith}
+use Rattle.std.specs.Prelude.{slice_get}
+use Rattle.wait_core.specs.declared.Wait.{Wait}
+use Rattle.lock_manager.specs.DescriptionLocks.{MayWait}
+use Rattle.lock_manager.specs.WaitsKept.{has_place_at}
+use Rattle.lock_manager.proofs.FlockLemmas.{room_joined_flock, well_formed_flock}
+use Rattle.lock_manager.proofs.ProcessLemmas.{place_of_live}
+use Rattle.lock_manager.specs.MachineView.{machine_rules, machine_processes, machine_state, machine_locks, machine_waits}
+use Rattle.lock_book.specs.declared.Owner.TheVariants.{Process, Description}
+use Rattle.lock_manager.proofs.CommandLemmas.{may_lock_waiting}
+use Rattle.lock_manager.proofs.SetLemmas.{is_blocked}
 use Rattle.lock_manager.proofs.FlockCallLemmas.{flock_locked, flock_held_off, flock_waiting}
 use Rattle.lock_manager.proofs.machine.Machine.test_flock.Goals as goal
+
+pub change_flock-requires-clause-owner : goal.change_flock-requires-clause-owner
+change_flock-requires-clause-owner c =
+    may_lock_waiting c.args.self.now.tables c.args.wanted.p c.args.look.file (Description c.args.look.desc) c.requires.asked.may_wait
 
 pub returns-then-not-is_flock_blocked-clause-told : goal.returns-then-not-is_flock_blocked-clause-told
 returns-then-not-is_flock_blocked-clause-told c =
@@ -10,6 +25,34 @@ pub returns-then-nb-clause-told : goal.returns-then-nb-clause-told
 returns-then-nb-clause-told c =
     flock_held_off c.args.self.now c.args.nb c.args.wanted c.refused.result c.if-nb.true c.refused.ensures (c.is_flock_blocked.ensures.0 c.if-not-is_flock_blocked.false)
 
+pub join-requires-clause-well_formed : goal.join-requires-clause-well_formed
+unfolding machine_state machine_processes
+join-requires-clause-well_formed c =
+    let machine = c.args.self.now in
+    let there : (1 ≤ c.args.wanted.p) × (c.args.wanted.p ≤ length machine.states.items) = place_of_live machine.states.items c.args.wanted.p c.requires.asked.live in
+    well_formed_flock c.args.wanted c.args.look c.requires.asked.is there.0 (omega arith) c.requires.asked.file
+
+pub join-requires-clause-may_wait : goal.join-requires-clause-may_wait
+join-requires-clause-may_wait c =
+    subst (λ (w : Wait). MayWait c.args.self.now.tables w.p w.file w.owner) (sym c.requires.asked.is) c.requires.asked.may_wait
+
+pub join-requires-clause-room : goal.join-requires-clause-room
+unfolding machine_waits
+join-requires-clause-room c =
+    let machine = c.args.self.now in
+    room_joined_flock machine.books.items (machine_waits machine) c.args.wanted c.args.look.desc (ap (λ (w : Wait). w.family) c.requires.asked.is) (ap (λ (w : Wait). w.owner) c.requires.asked.is)
+    (subst (λ (w : Wait). has_place_at (slice_get machine.books.items w.file) c.args.look.desc ≡ true) (sym c.requires.asked.is) c.requires.place)
+    machine.kept.room
+
+pub join-requires-clause-free_of_cycles : goal.join-requires-clause-free_of_cycles
+join-requires-clause-free_of_cycles c is = absurd (let no : Description c.args.look.desc ≡ Process c.args.wanted.p = sym (ap (λ (w : Wait). w.owner) c.requires.asked.is) ∙ is in cc)
+
+pub join-requires-clause-blocked : goal.join-requires-clause-blocked
+join-requires-clause-blocked c =
+    let machine = c.args.self.now in
+    is_blocked (machine_rules machine).policy (machine_locks machine) (machine_waits machine) c.args.wanted
+    (elim (c.is_flock_blocked.ensures.0 c.if-not-is_flock_blocked.false) [ inl by_lock ↦ inl by_lock | inr behind ↦ inr behind.1 ])
+
 pub returns-clause-told : goal.returns-clause-told
 returns-clause-told c =
-    flock_waiting c.args.self.now c.await_flock.new.self c.args.nb c.args.wanted c.if-nb.false (c.is_flock_blocked.ensures.0 c.if-not-is_flock_blocked.false) c.await_flock.ensures.shows
+    flock_waiting c.args.self.now c.join.new.self c.args.nb c.args.wanted c.if-nb.false (c.is_flock_blocked.ensures.0 c.if-not-is_flock_blocked.false) c.join.ensures.shows

@@ -7,3 +7,4 @@ returns c =
     let manager = c.in_ok-manager.ensures in
     let zeros : c.in_ok-taken.taken.items ≡ replicate c.from.result 0 = search rules in
     HasMade-opening c.args.rules c.args.processes _ c.from.result c.requires.0 manager.rules manager.processes manager.opening zeros
+    c.in_ok-answers.ensures.processes c.in_ok-answers.ensures.none

@@ -3,6 +3,8 @@ use Rattle.lock_manager.specs.State.{State}
 use Rattle.lock_manager.specs.Step.{Step}
 use Rattle.lock_manager.specs.ManagerView.{StandsFor, rules_of, processes_of}
 use Rattle.session_core.specs.Event.{Event}
+use Rattle.session_core.specs.Mail.{answers_in}
+use Rattle.session_core.specs.LastAnswers.{latest, last_of}
 use Rattle.session_core.proofs.ReplayLemmas.{Makes-told}
 use Rattle.session_core.proofs.check.Replay.take.Goals as goal
 
@@ -22,4 +24,5 @@ returns-clause-ok c =
     × Step (rules_of old.manager) (processes_of old.manager) S e.p e.n e.request notes T × StandsFor c.take.new.self T)
     same c.in_ok-notes.ensures.step in
     Makes-told old _ event place notes c.requires at (ap (λ e. set old.taken.items place e.n) same) c.take.ensures.rules
-    c.take.ensures.processes steps
+    c.take.ensures.processes steps c.tell.ensures.processes
+    (λ p low high. c.tell.ensures.latest p low high ∙ ap (λ l. latest (last_of old.answers p) (answers_in p 0 l)) c.deref.ensures.value)

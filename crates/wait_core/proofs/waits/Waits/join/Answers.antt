@@ -1,48 +1,8 @@
-use Rattle.std.proofs.Common.{◌≡◌, ◌≢◌, ◌<◌, ◌≤◌, [], subst, sym, arith, length}
-use Rattle.std.specs.Vec.{vec_len, vec_capacity}
-use Rattle.std.proofs.lemmas.List.Elements.{All-push}
-use Rattle.std.proofs.lemmas.List.Quantifiers.{all_pairs_push}
-use Rattle.wait_core.specs.declared.Wait.{Wait}
-use Rattle.wait_core.specs.Locks.{locks_of}
-use Rattle.wait_core.specs.WellFormed.{IsWellFormed}
-use Rattle.wait_core.specs.WaitsView.{waits_of, policy_of, processes_of, has_pair}
+use Rattle.std.proofs.Common.{◌≡◌, ◌∙◌, [], true, false, subst, sym}
+use Rattle.wait_core.specs.WaitsView.{waits_of, policy_of}
 use Rattle.wait_core.specs.Settled.{AllBlockedElsewhere, changed_files}
-use Rattle.wait_core.proofs.ListLemmas.{none_of, room_for}
-use Rattle.wait_core.proofs.PairLemmas.{told-join}
 use Rattle.wait_core.proofs.SettledLemmas.{among_more, elsewhere_joined, elsewhere_more}
 use Rattle.wait_core.proofs.waits.Waits.join.Goals as goal
-
-pub push_reserved-requires : goal.push_reserved-requires
-unfolding waits_of processes_of
-push_reserved-requires c =
-    let self = c.args.self.now in
-    let few : length self.waits.items < self.processes =
-    room_for self.processes self.waits.items c.args.wait.p self.well_formed self.apart c.requires.well_formed.from_one c.requires.well_formed.process c.requires.none in
-    let room : self.processes ≤ vec_capacity self.waits = self.room in
-    let len : vec_len self.waits ≡ length self.waits.items = self.waits.ok.0 in
-    omega arith
-
-pub invariant_of-self : goal.invariant_of-self
-unfolding waits_of processes_of
-invariant_of-self c =
-    let self = c.args.self.now in record {
-      few = self.few;
-      room = (let room : self.processes ≤ vec_capacity c.push_reserved.new.self = rw c.push_reserved.ensures.capacity self.room in room);
-      well_formed = (λ k d within. let items = c.push_reserved.ensures.items in
-          let all = All-push (IsWellFormed self.processes) self.waits.items c.args.wait self.well_formed c.requires.well_formed in
-          rw items (all k d (rw items at within)));
-      apart = (λ i j d before within. let items = c.push_reserved.ensures.items in
-          let all = all_pairs_push (λ (v w : Wait). v.p ≢ w.p) self.waits.items c.args.wait self.apart
-          (λ k e inside. none_of self.waits.items c.args.wait.p c.requires.none k e inside) in
-          rw items (all i j d before (rw items at within)));
-    }
-
-pub returns-clause-told : goal.returns-clause-told
-unfolding waits_of has_pair
-returns-clause-told c was =
-    let self = c.args.self.now in
-    told-join self _ (locks_of c.args.books.now) c.args.wait c.push_reserved.ensures.items
-    (none_of self.waits.items c.args.wait.p c.requires.none) c.tell.ensures.told c.tell.ensures.others was
 
 pub returns-clause-blocked : goal.returns-clause-blocked
 unfolding waits_of policy_of changed_files
@@ -50,8 +10,10 @@ returns-clause-blocked c locks was =
     let self = c.args.self.now in
     let more = c.with-self.result in
     let file = c.args.wait.file in
+    let members = rw c.push.ensures.changed at c.with-self.ensures in
     record {
-      blocked = subst (AllBlockedElsewhere more self.policy locks []) (sym c.push_reserved.ensures.items)
-          (elsewhere_joined more self.policy locks [] self.waits.items c.args.wait (among_more self.changed more file c.with-self.ensures)
-          (elsewhere_more self.changed more self.policy locks file c.with-self.ensures self.waits.items was.blocked));
+      blocked = rw c.push.ensures.policy (subst (AllBlockedElsewhere more self.policy locks []) (sym c.push.ensures.last)
+          (elsewhere_joined more self.policy locks [] self.waits.items c.args.wait
+          (λ elsewhere. absurd (let e : true ≡ false = sym (among_more self.changed more file members) ∙ elsewhere in cc))
+          (elsewhere_more self.changed more self.policy locks file members self.waits.items was.blocked)));
     }

@@ -2,14 +2,17 @@ use Rattle.std.proofs.Common.{◌≡◌, ◌≢◌, ◌≤◌, [], rules, not, s
 use Rattle.std.specs.Prelude.{◌==◌}
 use Rattle.std.specs.List.{filter}
 use Rattle.std.specs.Vec.{vec_capacity}
+use Rattle.std.proofs.Math.Logic.{∥∥₁_map}
 use Rattle.std.proofs.lemmas.Fn.{filter_same}
 use Rattle.std.proofs.lemmas.List.Elements.{All-filter}
 use Rattle.std.proofs.lemmas.List.Kept.{AllPairs-filter}
 use Rattle.wait_core.specs.declared.Wait.{Wait}
+use Rattle.wait_core.specs.Pairs.{IsBehindNone}
 use Rattle.wait_core.specs.WellFormed.{IsWellFormed}
 use Rattle.wait_core.specs.WaitsView.{waits_of, policy_of, has_pair}
 use Rattle.wait_core.specs.Settled.{AllBlockedElsewhere, changed_files}
 use Rattle.wait_core.proofs.PairLemmas.{told-leave}
+use Rattle.wait_core.proofs.QueueLemmas.{queue_left}
 use Rattle.wait_core.proofs.SettledLemmas.{elsewhere_without}
 use Rattle.wait_core.proofs.waits.Waits.leave.Goals as goal
 
@@ -23,6 +26,10 @@ invariant_of-self c =
       room = (let room : self.processes ≤ vec_capacity c.retain.new.self = rw c.retain.ensures.capacity self.room in room);
       well_formed = (λ k d within. rw rest (All-filter (λ (wait : Wait). not (wait.p == c.args.p)) (IsWellFormed self.processes) self.waits.items self.well_formed k d (rw rest at within)));
       apart = (λ i j d before within. rw rest (AllPairs-filter (λ (v w : Wait). v.p ≢ w.p) (λ (wait : Wait). not (wait.p == c.args.p)) self.waits.items self.apart i j d before (rw rest at within)));
+      behind_none = (λ queue i j d before within. rw rest (AllPairs-filter (IsBehindNone self.behind) (λ (wait : Wait). not (wait.p == c.args.p)) self.waits.items (self.behind_none queue) i j d before (rw rest at within)));
+      queue_told = (λ queue. ∥∥₁_map (self.queue_told queue) (λ told.
+          queue_left self.queue c.forget-2.new.self c.forget_blocker.new.self c.args.p self.waits.items c.retain.new.self.items rest
+          c.forget-2.ensures.forgotten c.forget-2.ensures.others c.forget_blocker.ensures told));
     }
 
 pub returns-clause-rest : goal.returns-clause-rest

@@ -9,7 +9,7 @@ use Rattle.wait_core.specs.Processes.{is_member}
 use Rattle.wait_core.specs.Settled.{changed_files}
 use Rattle.wait_core.specs.WaitsView.{waits_of, policy_of}
 use Rattle.wait_core.proofs.DecideLemmas.{blocked_known, told_known}
-use Rattle.wait_core.proofs.SettledLemmas.{all_elsewhere, blocked_more, told_blocked}
+use Rattle.wait_core.proofs.SettledLemmas.{all_where, blocked_more, told_blocked}
 use Rattle.wait_core.proofs.waits.Waits.next_ready_on_changed.Goals as goal
 
 pub returns-then-is_empty-clause-settled : goal.returns-then-is_empty-clause-settled
@@ -17,7 +17,7 @@ unfolding waits_of policy_of changed_files
 returns-then-is_empty-clause-settled c =
     let self = c.args.self.now in
     let laws = c.conflicts_are_decided.ensures in
-    all_elsewhere self.changed self.policy (locks_of c.args.books.now) (c.is_empty.ensures.none c.if-is_empty.true) [] self.waits.items
+    all_where (λ wait. IsFalse (has_file self.changed wait.file)) self.policy (locks_of c.args.books.now) (λ wait. c.is_empty.ensures.none c.if-is_empty.true wait.file) [] self.waits.items
     (blocked_known laws.bytes laws.flocks (λ wait. IsFalse (has_file self.changed wait.file)) self.policy c.args.books.now [] self.waits.items (∥∥₁_map c.requires.blocked (λ known. known.blocked)))
 
 pub next_ready_among-requires-clause-others : goal.next_ready_among-requires-clause-others

@@ -1,0 +1,7 @@
+use Rattle.std.proofs.Common.{ℕ, ◌<◌, get_or}
+use Rattle.lock_book.specs.declared.Held.{Held}
+use Rattle.lock_manager.specs.Asking.{IsFlockAgainst}
+use Rattle.lock_manager.proofs.machine.asking.first_flock.Given as goal
+
+abbrev pub invariant-loop-line : goal.invariant-loop-line
+invariant-loop-line l = (k : ℕ) (d : Held) → k < l.line-index → ¬ IsFlockAgainst l.wait (get_or l.lines k d)

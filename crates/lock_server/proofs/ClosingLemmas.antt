@@ -1,0 +1,231 @@
+-- A last close, owner by owner: for `close` and the server's `release`.
+use Rattle.std.proofs.Common.{ℕ, ◌≡◌, ◌≢◌, ◌+◌, ◌<◌, ◌≤◌, ◌∙◌, inl, inr, sym, ap, refl, subst, arith, cond, Bool, true, false, Option, Some, None, List, []}
+use Rattle.std.specs.Prelude.{◌==◌, ◌&&◌, ◌||◌, if◌then◌else◌, Any}
+use Rattle.std.proofs.lemmas.Bool.{cases_eq, cases_lt, eq-eqb, ne_eqb}
+use Rattle.range_core.specs.declared.Mode.{Mode}
+use Rattle.lock_book.specs.declared.Owner.{Owner}
+use Rattle.lock_book.specs.declared.Owner.TheVariants.{Process, Description}
+use Rattle.lock_book.specs.Owners.{is_same_owner}
+use Rattle.wait_core.specs.declared.Family.TheVariants.{Bytes, Whole}
+use Rattle.lock_server.specs.declared.Pending.{Pending}
+use Rattle.lock_server.specs.Calls.{ReleasesOn}
+use Rattle.lock_server.specs.Closing.{ClosesOn, is_through}
+use Rattle.lock_server.specs.Files.{SameFile}
+use Rattle.lock_server.specs.Openings.{ForgetsThrough, SeesOn, is_number}
+use Rattle.lock_server.specs.States.{State, IsDetectedOf, HasDetected, Crosses}
+use Rattle.lock_server.proofs.CompatibleLemmas.{still_held}
+use Rattle.lock_server.proofs.SafeLemmas.{Moves, fewer_move, same_waits}
+use Rattle.lock_server.proofs.SettleLemmas.{crosses_then}
+use Rattle.lock_server.proofs.StateLemmas.{SameFile-itself, SameFile-then}
+
+-- nobody loses a lock where nothing changes
+pub closes_nobody : (S : State) (file : ℕ) → Crosses S [] S → ClosesOn S file (λ other. false) None S
+closes_nobody S file crossed = record {
+  closes = record { bytes = λ other byte. refl; flocks = λ other. refl };
+  waits = refl;
+  changes = record { others = λ other differs. SameFile-itself (S.files other); grants = refl; crossed = crossed };
+}
+
+-- one owner is released
+pub closes_one : (S : State) (file owner : ℕ) (T : State) → ReleasesOn S file Bytes owner T → ClosesOn S file (is_same_owner (Description owner)) None T
+closes_one S file owner T releases = record {
+  closes = record { bytes = releases.unlocks.bytes; flocks = releases.unlocks.flocks };
+  waits = releases.waits;
+  changes = releases.changes;
+}
+
+-- one flock owner is released
+pub closes_flock : (S : State) (file owner : ℕ) (T : State) → ReleasesOn S file Whole owner T → ClosesOn S file (λ other. false) (Some owner) T
+closes_flock S file owner T releases = record {
+  closes = record { bytes = releases.unlocks.bytes; flocks = releases.unlocks.flocks };
+  waits = releases.waits;
+  changes = releases.changes;
+}
+
+-- the same owners, by another test
+pub closes_for : (S : State) (file : ℕ) (gone same : Owner → Bool) (flock_owner : Option ℕ) (T : State) → ((owner : Owner) → same owner ≡ gone owner) → ClosesOn S file gone flock_owner T → ClosesOn S file same flock_owner T
+closes_for S file gone same flock_owner T is closes = subst (λ (test : Owner → Bool). ClosesOn S file test flock_owner T) (λ i owner. sym (is owner) i) closes
+
+either_gone : (one more : Bool) (held : Option Mode) → (if more then None else (if one then None else held)) ≡ (if one || more then None else held)
+either_gone true true held = refl
+either_gone true false held = refl
+either_gone false true held = refl
+either_gone false false held = refl
+
+-- who has a detected wait after a close had it before
+detected_still : (M : State) (file : ℕ) (gone : Owner → Bool) (flock_owner : Option ℕ) (T : State) → ClosesOn M file gone flock_owner T → (owner : ℕ) → HasDetected T owner → HasDetected M owner
+detected_still M file gone flock_owner T closes owner has = elim (cases_eq has.file file) [
+  | inl here ↦ record {
+    file = file;
+    among = subst (λ (waits : List Pending). Any (IsDetectedOf owner) waits) (ap (λ (f : ℕ). (T.files f).waits) here ∙ closes.waits) has.among;
+  }
+  | inr differs ↦ record { file = has.file; among = subst (λ (waits : List Pending). Any (IsDetectedOf owner) waits) (closes.changes.others has.file differs).waits has.among }
+]
+
+-- one close behind another
+pub closes_then : (S : State) (file : ℕ) (one more : Owner → Bool) (flock_owner : Option ℕ) (M T : State) → ClosesOn S file one flock_owner M → ClosesOn M file more None T
+    → ClosesOn S file (λ other. one other || more other) flock_owner T
+closes_then S file one more flock_owner M T first next = record {
+  closes = record {
+    bytes = λ other byte.
+        next.closes.bytes other byte
+        ∙ ap (λ (held : Option Mode). if more other then None else held) (first.closes.bytes other byte)
+        ∙ either_gone (one other) (more other) ((S.files file).bytes other byte);
+    flocks = λ other. next.closes.flocks other ∙ first.closes.flocks other;
+  };
+  waits = next.waits ∙ first.waits;
+  changes = record {
+    others = λ other differs. SameFile-then (S.files other) (M.files other) (T.files other) (first.changes.others other differs) (next.changes.others other differs);
+    grants = next.changes.grants ∙ first.changes.grants;
+    crossed = crosses_then S M T [] [] (detected_still M file more None T next) first.changes.crossed next.changes.crossed;
+  };
+}
+
+-- what an owner was seen through, unless it was the open file
+abbrev pub left_of : ℕ → Option ℕ → Option ℕ
+left_of open_file through = if is_number open_file through then None else through
+
+-- the owners below this one that were seen through the open file have lost their byte locks, and are seen there no more
+pub record IsClosing (S : State) (was : ℕ → ℕ → Option ℕ) (file open_file next : ℕ) (T : State) (now : ℕ → ℕ → Option ℕ) : Type 0 where
+  pub gone : Owner → Bool
+  pub closes : ClosesOn S file gone None T
+  pub processes : (number : ℕ) → gone (Process number) ≡ false
+  pub earlier : (owner : ℕ) → owner < next → gone (Description owner) ≡ is_number open_file (was file owner)
+  pub later : (owner : ℕ) → next ≤ owner → gone (Description owner) ≡ false
+  pub seen_earlier : (owner : ℕ) → owner < next → now file owner ≡ left_of open_file (was file owner)
+  pub seen_later : (owner : ℕ) → next ≤ owner → now file owner ≡ was file owner
+  pub elsewhere : (other_file owner : ℕ) → other_file ≢ file → now other_file owner ≡ was other_file owner
+
+-- at first none
+pub closing_none : (S : State) (was : ℕ → ℕ → Option ℕ) (file open_file : ℕ) → Crosses S [] S → IsClosing S was file open_file 0 S was
+closing_none S was file open_file crossed = record {
+  gone = λ other. false;
+  closes = closes_nobody S file crossed;
+  processes = λ number. refl;
+  earlier = λ owner none. absurd (omega (arith, none));
+  later = λ owner from. refl;
+  seen_earlier = λ owner none. absurd (omega (arith, none));
+  seen_later = λ owner from. refl;
+  elsewhere = λ other_file owner differs. refl;
+}
+
+or_false : (a b : Bool) → b ≡ false → (a || b) ≡ a
+or_false true b none = refl
+or_false false b none = none
+
+and_true : (a b : Bool) → a ≡ true → (a && b) ≡ b
+and_true a b is = ap (λ (t : Bool). t && b) is
+
+and_false : (a b : Bool) → a ≡ false → (a && b) ≡ false
+and_false a b isnt = ap (λ (t : Bool). t && b) isnt
+
+or_left_false : (a b : Bool) → a ≡ false → (a || b) ≡ b
+or_left_false a b isnt = ap (λ (t : Bool). t || b) isnt
+
+-- who loses locks where one owner is looked at
+abbrev pub closed_one : ℕ → Bool → Owner → Bool
+closed_one owner came other = is_same_owner (Description owner) other && came
+
+-- the next owner that is known
+pub closing_more : (S : State) (was : ℕ → ℕ → Option ℕ) (file open_file next : ℕ) (M : State) (now : ℕ → ℕ → Option ℕ) (owner : ℕ) (T : State) (new : ℕ → ℕ → Option ℕ)
+    → IsClosing S was file open_file next M now → next ≤ owner → ((other : ℕ) → next ≤ other → other < owner → now file other ≡ None)
+    → ClosesOn M file (closed_one owner (is_number open_file (now file owner))) None T → SeesOn now new file owner (left_of open_file (now file owner)) → IsClosing S was file open_file (owner + 1) T new
+closing_more S was file open_file next M now owner T new so_far from none closes sees = record {
+  gone = λ other. so_far.gone other || closed_one owner came other;
+  closes = closes_then S file so_far.gone (closed_one owner came) None M T so_far.closes closes;
+  processes = λ number. or_false (so_far.gone (Process number)) false refl ∙ so_far.processes number;
+  earlier = λ other before. elim (cases_lt other next) [
+    | inl below ↦ another other (omega arith) ∙ so_far.earlier other below
+    | inr past ↦ elim (cases_eq other owner) [
+      | inl is ↦
+          subst (λ (o : ℕ). (so_far.gone (Description o) || closed_one owner came (Description o)) ≡ is_number open_file (was file o)) (sym is)
+          (or_left_false (so_far.gone (Description owner)) (closed_one owner came (Description owner)) (so_far.later owner from)
+          ∙ and_true (owner == owner) came (eq-eqb owner owner refl) ∙ ap (is_number open_file) (so_far.seen_later owner from))
+      | inr differs ↦ another other differs ∙ so_far.later other past ∙ ap (is_number open_file) (sym (none other past (omega arith)) ∙ so_far.seen_later other past)
+    ]
+  ];
+  later = λ other past. another other (omega arith) ∙ so_far.later other (omega arith);
+  seen_earlier = λ other before. elim (cases_lt other next) [
+    | inl below ↦ sees.others other (omega arith) ∙ so_far.seen_earlier other below
+    | inr past ↦ elim (cases_eq other owner) [
+      | inl is ↦ subst (λ (o : ℕ). new file o ≡ left_of open_file (was file o)) (sym is) (sees.here ∙ ap (left_of open_file) (so_far.seen_later owner from))
+      | inr differs ↦
+          (let unknown = none other past (omega arith) in
+          sees.others other differs ∙ unknown ∙ ap (left_of open_file) (sym unknown ∙ so_far.seen_later other past))
+    ]
+  ];
+  seen_later = λ other past. sees.others other (omega arith) ∙ so_far.seen_later other (omega arith);
+  elsewhere = λ other_file other differs. sees.elsewhere other_file other differs ∙ so_far.elsewhere other_file other differs;
+}
+  where
+    came : Bool
+    came = is_number open_file (now file owner)
+
+    another : (other : ℕ) → other ≢ owner → (so_far.gone (Description other) || closed_one owner came (Description other)) ≡ so_far.gone (Description other)
+    another other differs =
+        or_false (so_far.gone (Description other)) (closed_one owner came (Description other))
+        (and_false (owner == other) came (ne_eqb owner other (λ is. differs (sym is))))
+
+-- from here on no owner is known on the file
+pub all_closed : (S : State) (was : ℕ → ℕ → Option ℕ) (file open_file next : ℕ) (T : State) (now : ℕ → ℕ → Option ℕ) → IsClosing S was file open_file next T now
+    → ((owner : ℕ) → next ≤ owner → now file owner ≡ None) → ClosesOn S file (is_through (was file) open_file) None T
+all_closed S was file open_file next T now so_far none = closes_for S file so_far.gone (is_through (was file) open_file) None T same so_far.closes
+  where
+    same : (owner : Owner) → is_through (was file) open_file owner ≡ so_far.gone owner
+    same (Process number) = sym (so_far.processes number)
+    same (Description owner) = elim (cases_lt owner next) [
+      | inl below ↦ sym (so_far.earlier owner below)
+      | inr past ↦ ap (is_number open_file) (sym (so_far.seen_later owner past) ∙ none owner past) ∙ sym (so_far.later owner past)
+    ]
+
+pub all_forgotten_through : (S : State) (was : ℕ → ℕ → Option ℕ) (file open_file next : ℕ) (T : State) (now : ℕ → ℕ → Option ℕ) → IsClosing S was file open_file next T now
+    → ((owner : ℕ) → next ≤ owner → now file owner ≡ None) → ForgetsThrough was now file open_file
+all_forgotten_through S was file open_file next T now so_far none = record {
+  here = λ owner. elim (cases_lt owner next) [
+    | inl below ↦ so_far.seen_earlier owner below
+    | inr past ↦ none owner past ∙ ap (left_of open_file) (sym (none owner past) ∙ so_far.seen_later owner past)
+  ];
+  elsewhere = so_far.elsewhere;
+}
+
+and_right_true : (a b : Bool) → b ≡ true → (a && b) ≡ a
+and_right_true true b is = is
+and_right_true false b is = refl
+
+and_right_false : (a b : Bool) → b ≡ false → (a && b) ≡ false
+and_right_false true b isnt = isnt
+and_right_false false b isnt = refl
+
+-- an owner that came through the open file is released
+pub closed_owner : (S : State) (file owner : ℕ) (came : Bool) (T : State) → came ≡ true → ReleasesOn S file Bytes owner T → ClosesOn S file (closed_one owner came) None T
+closed_owner S file owner came T is releases =
+    closes_for S file (is_same_owner (Description owner)) (closed_one owner came) None T (λ other. and_right_true (is_same_owner (Description owner) other) came is) (closes_one S file owner T releases)
+
+-- and one that came through another one isn't
+pub spared_owner : (S : State) (file owner : ℕ) (came : Bool) → came ≡ false → Crosses S [] S → ClosesOn S file (closed_one owner came) None S
+spared_owner S file owner came isnt crossed =
+    closes_for S file (λ other. false) (closed_one owner came) None S (λ other. and_right_false (is_same_owner (Description owner) other) came isnt) (closes_nobody S file crossed)
+
+pub unseen_owner : (was new : ℕ → ℕ → Option ℕ) (file owner open_file : ℕ) → is_number open_file (was file owner) ≡ true → SeesOn was new file owner None → SeesOn was new file owner (left_of open_file (was file owner))
+unseen_owner was new file owner open_file is sees =
+    subst (λ (through : Option ℕ). SeesOn was new file owner through) (sym (ap (λ (b : Bool). if b then None else was file owner) is)) sees
+
+pub still_seen : (was : ℕ → ℕ → Option ℕ) (file owner open_file : ℕ) → is_number open_file (was file owner) ≡ false → SeesOn was was file owner (left_of open_file (was file owner))
+still_seen was file owner open_file isnt = record {
+  here = sym (ap (λ (b : Bool). if b then None else was file owner) isnt);
+  others = λ other differs. refl;
+  elsewhere = λ other_file other differs. refl;
+}
+
+-- a close gives no lock and makes no conflict
+pub moves_closed : (S : State) (file : ℕ) (gone : Owner → Bool) (flock_owner : Option ℕ) (T : State) → ClosesOn S file gone flock_owner T → Moves [] S file T
+moves_closed S file gone flock_owner T closes = record {
+  here = fewer_move [] (S.files file) (T.files file)
+      (record {
+        bytes = λ owner byte mode is. still_held (gone owner) ((S.files file).bytes owner byte) mode (sym (closes.closes.bytes owner byte) ∙ is);
+        flocks = λ owner mode is. still_held (is_number owner flock_owner) ((S.files file).flocks owner) mode (sym (closes.closes.flocks owner) ∙ is);
+      })
+      (same_waits (S.files file) (T.files file) closes.waits);
+  others = closes.changes.others;
+  crossed = closes.changes.crossed;
+}

@@ -1,0 +1,189 @@
+-- No owners conflict after a change that nothing blocked.
+use Rattle.std.proofs.Common.{ℕ, ◌≡◌, ◌≢◌, ◌∙◌, ◌⊎◌, inl, inr, sym, ap, subst, refl, Bool, true, false, Option, Some, None, List}
+use Rattle.std.specs.Prelude.{◌==◌, ◌&&◌, nat_le, if◌then◌else◌}
+use Rattle.std.proofs.lemmas.Bool.{eqb-true, leb-true}
+use Rattle.range_core.specs.declared.Mode.{Mode}
+use Rattle.range_core.specs.declared.Mode.TheVariants.{Read, Write}
+use Rattle.range_core.specs.declared.Span.{Span}
+use Rattle.range_core.specs.Ranges.{Conflict, Covers, HeldConflicts}
+use Rattle.range_core.specs.Changes.{is_covered}
+use Rattle.lock_book.specs.declared.Owner.{Owner}
+use Rattle.lock_book.specs.declared.Owner.TheVariants.{Process, Description}
+use Rattle.lock_book.specs.Owners.{is_same_owner}
+use Rattle.wait_core.specs.declared.Family.{Family}
+use Rattle.wait_core.specs.declared.Family.TheVariants.{Bytes, Whole}
+use Rattle.wait_core.specs.declared.Policy.{Policy}
+use Rattle.wait_core.specs.declared.Policy.TheVariants.{Held, Queue}
+use Rattle.wait_core.specs.Blocking.{IsBlockedIn}
+use Rattle.lock_server.specs.declared.Pending.{Pending}
+use Rattle.lock_server.specs.Pendings.{as_wait}
+use Rattle.lock_server.specs.Files.{FileState, SetsLock, GetsLock, Unlocks, locks_on}
+use Rattle.lock_server.specs.Settling.{IsHeldBack, IsWaitBlocked}
+use Rattle.lock_server.specs.Safety.{IsCompatible}
+use Rattle.lock_server.proofs.StepLemmas.{LocksFrom}
+
+-- two owners that are found the same are the same
+same_owner : (a b : Owner) → is_same_owner a b ≡ true → a ≡ b
+same_owner (Process p) (Process q) e = ap Process (eqb-true p q e)
+same_owner (Process p) (Description d) e = let h : false ≡ true = e in cc
+same_owner (Description d) (Process p) e = let h : false ≡ true = e in cc
+same_owner (Description d) (Description c) e = ap Description (eqb-true d c e)
+
+conflict_back : (m k : Mode) → Conflict m k → Conflict k m
+conflict_back Read Read h = h
+conflict_back Read Write h = tt
+conflict_back Write Read h = tt
+conflict_back Write Write h = tt
+
+both : (a b : Bool) → (a && b) ≡ true → (a ≡ true) × (b ≡ true)
+both true b e = (refl, e)
+both false b e = let h : false ≡ true = e in cc
+
+-- a change of this owner on this range is one of the other on the byte
+record Hits (owner : Owner) (span : Span) (other : Owner) (byte : ℕ) : Type 0 where
+  is : owner ≡ other
+  covered : Covers span byte
+
+hit : (owner : Owner) (span : Span) (other : Owner) (byte : ℕ) → (is_same_owner owner other && is_covered span byte) ≡ true → Hits owner span other byte
+hit owner span other byte e =
+    let outer = both (is_same_owner owner other) (is_covered span byte) e in
+    let ends : (nat_le span.first byte ≡ true) × (nat_le byte span.last ≡ true) = both (nat_le span.first byte) (nat_le byte span.last) outer.1 in
+    record { is = same_owner owner other outer.0; covered = (leb-true span.first byte ends.0, leb-true byte span.last ends.1) }
+
+module _ (F : FileState) (wait : Pending) (before : IsCompatible F) where
+  -- of two owners with conflicting modes after a set, the one that was given its mode was blocked
+  no_conflict : ¬ IsBlockedIn Bytes (locks_on F) (as_wait wait) → (one other : Owner) (byte : ℕ) (m k : Mode) (a b : Bool) → one ≢ other
+      → (is_same_owner (Description wait.owner) one && is_covered wait.span byte) ≡ a → (is_same_owner (Description wait.owner) other && is_covered wait.span byte) ≡ b
+      → (if a then Some wait.mode else F.bytes one byte) ≡ Some m → (if b then Some wait.mode else F.bytes other byte) ≡ Some k → ¬ Conflict m k
+  no_conflict free one other byte m k true true distinct a_is b_is m_is k_is conflict =
+      distinct (sym (hit (Description wait.owner) wait.span one byte a_is).is ∙ (hit (Description wait.owner) wait.span other byte b_is).is)
+  no_conflict free one other byte m k true false distinct a_is b_is m_is k_is conflict =
+      let here = hit (Description wait.owner) wait.span one byte a_is in
+      let given : Some wait.mode ≡ Some m = m_is in
+      let mode : wait.mode ≡ m = cc in
+      free (record {
+        byte = byte;
+        covered = here.covered;
+        other = other;
+        blocks = record {
+          another = λ e. distinct (sym here.is ∙ sym e);
+          conflicts = subst (λ (held : Option Mode). HeldConflicts held wait.mode) (sym k_is) (conflict_back wait.mode k (subst (λ (n : Mode). Conflict n k) (sym mode) conflict));
+        };
+      })
+  no_conflict free one other byte m k false true distinct a_is b_is m_is k_is conflict =
+      let here = hit (Description wait.owner) wait.span other byte b_is in
+      let given : Some wait.mode ≡ Some k = k_is in
+      let mode : wait.mode ≡ k = cc in
+      free (record {
+        byte = byte;
+        covered = here.covered;
+        other = one;
+        blocks = record {
+          another = λ e. distinct (e ∙ here.is);
+          conflicts = subst (λ (held : Option Mode). HeldConflicts held wait.mode) (sym m_is) (subst (λ (n : Mode). Conflict m n) (sym mode) conflict);
+        };
+      })
+  no_conflict free one other byte m k false false distinct a_is b_is m_is k_is conflict = before.bytes one other byte m k distinct m_is k_is conflict
+
+  -- and the same by flock
+  no_flock_conflict : ¬ IsBlockedIn Whole (locks_on F) (as_wait wait) → (one other : ℕ) (m k : Mode) (a b : Bool) → one ≢ other
+      → (wait.owner == one) ≡ a → (wait.owner == other) ≡ b
+      → (if a then Some wait.mode else F.flocks one) ≡ Some m → (if b then Some wait.mode else F.flocks other) ≡ Some k → ¬ Conflict m k
+  no_flock_conflict free one other m k true true distinct a_is b_is m_is k_is conflict = distinct (sym (eqb-true wait.owner one a_is) ∙ eqb-true wait.owner other b_is)
+  no_flock_conflict free one other m k true false distinct a_is b_is m_is k_is conflict =
+      let here = eqb-true wait.owner one a_is in
+      let given : Some wait.mode ≡ Some m = m_is in
+      let mode : wait.mode ≡ m = cc in
+      free (record {
+        description = other;
+        another = λ e. distinct (let same : Description other ≡ Description wait.owner = e in let is : other ≡ wait.owner = cc in sym here ∙ sym is);
+        conflicts = subst (λ (held : Option Mode). HeldConflicts held wait.mode) (sym k_is) (conflict_back wait.mode k (subst (λ (n : Mode). Conflict n k) (sym mode) conflict));
+      })
+  no_flock_conflict free one other m k false true distinct a_is b_is m_is k_is conflict =
+      let here = eqb-true wait.owner other b_is in
+      let given : Some wait.mode ≡ Some k = k_is in
+      let mode : wait.mode ≡ k = cc in
+      free (record {
+        description = one;
+        another = λ e. distinct (let same : Description one ≡ Description wait.owner = e in let is : one ≡ wait.owner = cc in is ∙ here);
+        conflicts = subst (λ (held : Option Mode). HeldConflicts held wait.mode) (sym m_is) (subst (λ (n : Mode). Conflict m n) (sym mode) conflict);
+      })
+  no_flock_conflict free one other m k false false distinct a_is b_is m_is k_is conflict = before.flocks one other m k distinct m_is k_is conflict
+
+  gets_compatible : (family : Family) (G : FileState) → ¬ IsBlockedIn family (locks_on F) (as_wait wait) → SetsLock family F wait.owner wait.span (Some wait.mode) G → IsCompatible G
+  gets_compatible Bytes G free sets = record {
+    bytes = λ one other byte m k distinct m_is k_is.
+        no_conflict free one other byte m k _ _ distinct refl refl (sym (sets.bytes one byte) ∙ m_is) (sym (sets.bytes other byte) ∙ k_is);
+    flocks = λ one other m k distinct m_is k_is. before.flocks one other m k distinct (sym (sets.flocks one) ∙ m_is) (sym (sets.flocks other) ∙ k_is);
+  }
+  gets_compatible Whole G free sets = record {
+    bytes = λ one other byte m k distinct m_is k_is. before.bytes one other byte m k distinct (sym (sets.bytes one byte) ∙ m_is) (sym (sets.bytes other byte) ∙ k_is);
+    flocks = λ one other m k distinct m_is k_is.
+        no_flock_conflict free one other m k _ _ distinct refl refl (sym (sets.flocks one) ∙ m_is) (sym (sets.flocks other) ∙ k_is);
+  }
+
+  -- a lock that nothing held back conflicts with none
+  pub compatible_gets : (G : FileState) → ¬ IsHeldBack F wait → GetsLock F wait G → IsCompatible G
+  compatible_gets G free gets = gets_compatible wait.family G free gets
+
+-- each lock of G stood in F
+pub record FewerLocks (F G : FileState) : Type 0 where
+  pub bytes : (owner : Owner) (byte : ℕ) (mode : Mode) → G.bytes owner byte ≡ Some mode → F.bytes owner byte ≡ Some mode
+  pub flocks : (owner : ℕ) (mode : Mode) → G.flocks owner ≡ Some mode → F.flocks owner ≡ Some mode
+
+pub compatible_fewer : (F G : FileState) → FewerLocks F G → IsCompatible F → IsCompatible G
+compatible_fewer F G fewer before = record {
+  bytes = λ one other byte m k distinct m_is k_is. before.bytes one other byte m k distinct (fewer.bytes one byte m m_is) (fewer.bytes other byte k k_is);
+  flocks = λ one other m k distinct m_is k_is. before.flocks one other m k distinct (fewer.flocks one m m_is) (fewer.flocks other k k_is);
+}
+
+pub from_fewer : (Given : ℕ → Type 0) (F G : FileState) → FewerLocks F G → LocksFrom Given F G
+from_fewer Given F G fewer = record {
+  bytes = λ owner byte mode is. inl (fewer.bytes (Description owner) byte mode is);
+  flocks = λ owner mode is. inl (fewer.flocks owner mode is);
+}
+
+pub still_held : (a : Bool) (held : Option Mode) (mode : Mode) → (if a then None else held) ≡ Some mode → held ≡ Some mode
+still_held true held mode is = let h : None ≡ Some mode = is in cc
+still_held false held mode is = is
+
+-- a lock that goes leaves fewer
+pub fewer_unlocked : (family : Family) (F : FileState) (owner : ℕ) (G : FileState) → Unlocks family F owner G → FewerLocks F G
+fewer_unlocked Bytes F owner G unlocks = record {
+  bytes = λ other byte mode is. still_held (is_same_owner (Description owner) other) (F.bytes other byte) mode (sym (unlocks.bytes other byte) ∙ is);
+  flocks = λ other mode is. sym (unlocks.flocks other) ∙ is;
+}
+fewer_unlocked Whole F owner G unlocks = record {
+  bytes = λ other byte mode is. sym (unlocks.bytes other byte) ∙ is;
+  flocks = λ other mode is. still_held (owner == other) (F.flocks other) mode (sym (unlocks.flocks other) ∙ is);
+}
+
+pub fewer_unset : (family : Family) (F : FileState) (owner : ℕ) (span : Span) (G : FileState) → SetsLock family F owner span None G → FewerLocks F G
+fewer_unset Bytes F owner span G sets = record {
+  bytes = λ other byte mode is. still_held (is_same_owner (Description owner) other && is_covered span byte) (F.bytes other byte) mode (sym (sets.bytes other byte) ∙ is);
+  flocks = λ other mode is. sym (sets.flocks other) ∙ is;
+}
+fewer_unset Whole F owner span G sets = fewer_unlocked Whole F owner G sets
+
+-- what is there after a set was there, or is the owner's
+from_either : (a : Bool) (new held : Option Mode) (mode : Mode) (Given : Type 0) → (a ≡ true → Given) → (if a then new else held) ≡ Some mode → (held ≡ Some mode) ⊎ Given
+from_either true new held mode Given given is = inr (given refl)
+from_either false new held mode Given given is = inl is
+
+pub from_set : (family : Family) (F : FileState) (owner : ℕ) (span : Span) (mode : Option Mode) (G : FileState) → SetsLock family F owner span mode G → LocksFrom (λ other. other ≡ owner) F G
+from_set Bytes F owner span mode G sets = record {
+  bytes = λ other byte held is.
+      from_either (is_same_owner (Description owner) (Description other) && is_covered span byte) mode (F.bytes (Description other) byte) held (other ≡ owner)
+      (λ e. (let here : Description owner ≡ Description other = (hit (Description owner) span (Description other) byte e).is in let is : owner ≡ other = cc in sym is))
+      (sym (sets.bytes (Description other) byte) ∙ is);
+  flocks = λ other held is. inl (sym (sets.flocks other) ∙ is);
+}
+from_set Whole F owner span mode G sets = record {
+  bytes = λ other byte held is. inl (sym (sets.bytes (Description other) byte) ∙ is);
+  flocks = λ other held is. from_either (owner == other) mode (F.flocks other) held (other ≡ owner) (λ e. sym (eqb-true owner other e)) (sym (sets.flocks other) ∙ is);
+}
+
+-- a wait that isn't blocked isn't held back by a lock
+pub free_from_open : (policy : Policy) (F : FileState) (earlier : List Pending) (wait : Pending) → ¬ IsWaitBlocked policy F earlier wait → ¬ IsHeldBack F wait
+free_from_open Held F earlier wait ready held = ready held
+free_from_open Queue F earlier wait ready held = ready (inl held)

@@ -1,0 +1,171 @@
+-- An owner that is forgotten, on one file and then on all: for `dismiss` and `forget`.
+use Rattle.std.proofs.Common.{ℕ, ◌≡◌, ◌≢◌, ◌+◌, ◌<◌, ◌≤◌, ◌∙◌, inl, inr, sym, ap, refl, subst, arith, cond, Bool, false, not, Option, Some, None, List, [], ◌∷◌, ◌++◌, All, Contains, length, length-append}
+use Rattle.std.specs.Prelude.{IsTrue, AllPairs, MatchOption, filter}
+use Rattle.std.proofs.lemmas.Bool.{cases_eq, cases_lt}
+use Rattle.std.proofs.lemmas.List.Elements.{All-head, All-nil, All-push, All-tail, All-weaker, Contains-append_left, Contains-push, filter-append}
+use Rattle.std.proofs.lemmas.List.Quantifiers.{all_pairs_push}
+use Rattle.lock_book.specs.declared.Owner.TheVariants.{Description}
+use Rattle.wait_core.specs.declared.Family.TheVariants.{Bytes}
+use Rattle.wait_core.specs.declared.Policy.{Policy}
+use Rattle.lock_server.specs.declared.Pending.{Pending}
+use Rattle.lock_server.specs.Calls.{DismissesOn, Forgets, ForgetsIn, ForgetsOn, IsStrangerOn, ReleasesOn, is_other_wait}
+use Rattle.lock_server.specs.Files.{FileState, SameFile, Unlocks, untouched}
+use Rattle.lock_server.specs.States.{ChangesFile, SameState, SettlesFile, State}
+use Rattle.lock_server.proofs.SettleLemmas.{crosses_then, detected_before}
+use Rattle.lock_server.proofs.StateLemmas.{SameFile-itself, SameFile-then, state_from_same}
+
+-- the owner's byte locks have left the file, and some of its waits for byte locks
+pub record IsDismissing (S : State) (file owner : ℕ) (T : State) : Type 0 where
+  pub unlocks : Unlocks Bytes (S.files file) owner (T.files file)
+  pub kept : filter (is_other_wait owner) (T.files file).waits ≡ filter (is_other_wait owner) (S.files file).waits
+  pub changes : ChangesFile S file [] T
+
+-- at first none of its waits
+pub dismissing_none : (S : State) (file owner : ℕ) (T : State) → ReleasesOn S file Bytes owner T → IsDismissing S file owner T
+dismissing_none S file owner T releases = record {
+  unlocks = releases.unlocks;
+  kept = ap (λ (waits : List Pending). filter (is_other_wait owner) waits) releases.waits;
+  changes = releases.changes;
+}
+
+-- what a filter drops doesn't count
+filter_without : (p : Pending → Bool) (before after : List Pending) (wait : Pending) → p wait ≡ false → filter p (before ++ wait ∷ after) ≡ filter p (before ++ after)
+filter_without p before after wait drops =
+    filter-append p before (wait ∷ after)
+    ∙ ap (λ (b : Bool). filter p before ++ cond b (wait ∷ filter p after) (filter p after)) drops
+    ∙ sym (filter-append p before after)
+
+-- a filter that all pass drops nothing
+filter_all : (p : Pending → Bool) (waits : List Pending) → All (λ wait. IsTrue (p wait)) waits → filter p waits ≡ waits
+filter_all p [] all = refl
+filter_all p (wait ∷ waits) all =
+    let Passes : Pending → Type 0 = λ w. IsTrue (p w) in
+    ap (λ (b : Bool). cond b (wait ∷ filter p waits) (filter p waits)) (All-head Passes wait waits all)
+    ∙ ap (λ (ws : List Pending). wait ∷ ws) (filter_all p waits (All-tail Passes wait waits all))
+
+-- one of its waits more
+pub dismissing_more : (S : State) (file owner : ℕ) (M T : State) → IsDismissing S file owner M → DismissesOn M file owner T → IsDismissing S file owner T
+dismissing_more S file owner M T so_far one =
+    let other = is_other_wait owner in
+    let before = one.before in let after = one.after in
+    let without : filter other (T.files file).waits ≡ filter other (M.files file).waits =
+    ap (λ (waits : List Pending). filter other waits) one.leaves.waits
+    ∙ sym (filter_without other before after one.wait (ap not one.of_owner))
+    ∙ sym (ap (λ (waits : List Pending). filter other waits) one.leaves.place) in
+    record {
+      unlocks = record {
+        bytes = λ any byte. one.leaves.locks.bytes any byte ∙ so_far.unlocks.bytes any byte;
+        flocks = λ any. one.leaves.locks.flocks any ∙ so_far.unlocks.flocks any;
+      };
+      kept = without ∙ so_far.kept;
+      changes = record {
+        others = λ any differs. SameFile-then (S.files any) (M.files any) (T.files any) (so_far.changes.others any differs) (one.changes.others any differs);
+        grants = one.changes.grants ∙ so_far.changes.grants;
+        crossed = crosses_then S M T [] [] (detected_before M file T before after one.wait one.changes.others one.leaves.place one.leaves.waits)
+            so_far.changes.crossed one.changes.crossed;
+      };
+    }
+
+-- none of its waits is left
+pub all_dismissed : (S : State) (file owner : ℕ) (M T : State) → IsDismissing S file owner M → All (λ wait. IsTrue (is_other_wait owner wait)) (M.files file).waits → SameState M T → ForgetsOn S file owner T
+all_dismissed S file owner M T so_far all same =
+    subst (λ (U : State). ForgetsOn S file owner U) (sym (state_from_same M T same))
+    (record { unlocks = so_far.unlocks; waits = sym (filter_all (is_other_wait owner) (M.files file).waits all) ∙ so_far.kept; changes = so_far.changes })
+
+-- one wait that is dismissed is one wait less
+pub fewer_after : (M : State) (file owner : ℕ) (T : State) → DismissesOn M file owner T → length (T.files file).waits < length (M.files file).waits
+fewer_after M file owner T one =
+    let was = ap (λ (waits : List Pending). length waits) one.leaves.place in
+    let now = ap (λ (waits : List Pending). length waits) one.leaves.waits in
+    omega (arith, was, now, length-append one.before one.after, length-append one.before (one.wait ∷ one.after))
+
+-- the least file that is not looked at, where those up to this one are
+abbrev pub next_of : Option ℕ → ℕ
+next_of None = 0
+next_of (Some file) = file + 1
+
+pub above_from_next : (above : Option ℕ) (file : ℕ) → next_of above ≤ file → MatchOption above (Unit {0}) (λ least. least < file)
+above_from_next None file from = tt
+above_from_next (Some least) file from = omega arith
+
+pub next_from_above : (above : Option ℕ) (file : ℕ) → MatchOption above (Unit {0}) (λ least. least < file) → next_of above ≤ file
+next_from_above None file above = omega arith
+next_from_above (Some least) file above = omega arith
+
+-- the owner is forgotten on all files below this one, and from it on nothing has changed
+pub record IsForgetting (policy : Policy) (S : State) (owner next : ℕ) (T : State) : Type 0 where
+  pub done : List ℕ
+  pub rising : AllPairs (λ one other. one < other) done
+  pub below : All (λ file. file < next) done
+  pub strangers : (file : ℕ) → file < next → (¬ Contains done file) → IsStrangerOn (S.files file) owner
+  pub later : (file : ℕ) → next ≤ file → SameFile (S.files file) (T.files file)
+  pub forgets : ForgetsIn policy done S owner T
+
+-- an untouched file knows no owner
+stranger : (F : FileState) (owner : ℕ) → SameFile untouched F → IsStrangerOn F owner
+stranger F owner same = record {
+  bytes = λ byte. same.locks.bytes (Description owner) byte;
+  waits = subst (λ (waits : List Pending). All (λ wait. IsTrue (is_other_wait owner wait)) waits) (sym same.waits) (All-nil (λ (wait : Pending). IsTrue (is_other_wait owner wait)));
+}
+
+SameFile-back : (F G : FileState) → SameFile F G → SameFile G F
+SameFile-back F G same = record {
+  locks = record { bytes = λ owner byte. sym (same.locks.bytes owner byte); flocks = λ owner. sym (same.locks.flocks owner) };
+  waits = sym same.waits;
+}
+
+stranger_still : (F G : FileState) (owner : ℕ) → SameFile F G → SameFile untouched G → IsStrangerOn F owner
+stranger_still F G owner same none = stranger F owner (SameFile-then untouched G F none (SameFile-back F G same))
+
+-- at first no file is looked at
+pub forgetting_none : (policy : Policy) (S : State) (owner : ℕ) → IsForgetting policy S owner 0 S
+forgetting_none policy S owner = record {
+  done = [];
+  rising = λ i j d before within. absurd (let none : j < 0 = within in omega arith);
+  below = All-nil (λ (file : ℕ). file < 0);
+  strangers = λ file none. absurd (omega arith);
+  later = λ file from. SameFile-itself (S.files file);
+  forgets = record { files = λ file. SameFile-itself (S.files file); grants = refl; crossed = λ owner. refl };
+}
+
+forgets_more : (policy : Policy) (files : List ℕ) (S : State) (owner file : ℕ) (M between after T : State) → ForgetsIn policy files S owner M → ForgetsOn M file owner between → SettlesFile policy between file after
+    → SameState after T → ForgetsIn policy (files ++ file ∷ []) S owner T
+forgets_more policy [] S owner file M between after T same forgets settles still =
+    (between, after, subst (λ (U : State). ForgetsOn U file owner between) (state_from_same S M same) forgets, settles, still)
+forgets_more policy (first ∷ files) S owner file M between after T (b, n, here, settled, rest) forgets settles still =
+    (b, n, here, settled, forgets_more policy files n owner file M between after T rest forgets settles still)
+
+-- the next file that is not untouched
+pub forgetting_more : (policy : Policy) (S : State) (owner next : ℕ) (M : State) (file : ℕ) (between after T : State) → IsForgetting policy S owner next M → next ≤ file
+    → ((other : ℕ) → next ≤ other → other < file → SameFile untouched (M.files other)) → ForgetsOn M file owner between → SettlesFile policy between file after → SameState after T
+    → IsForgetting policy S owner (file + 1) T
+forgetting_more policy S owner next M file between after T so_far from least forgets settles still = record {
+  done = so_far.done ++ file ∷ [];
+  rising = all_pairs_push (λ one other. one < other) so_far.done file so_far.rising (λ k d within. let earlier = so_far.below k d within in omega arith);
+  below = All-push (λ any. any < file + 1) so_far.done file (All-weaker (λ any. any < next) (λ any. any < file + 1) (λ any earlier. omega arith) so_far.done so_far.below) (omega arith);
+  strangers = λ any before apart. elim (cases_lt any next) [
+    | inl earlier ↦ so_far.strangers any earlier (λ among. apart (Contains-append_left so_far.done (file ∷ []) any among))
+    | inr past ↦ elim (cases_eq any file) [
+      | inl here ↦ absurd (apart (subst (λ (n : ℕ). Contains (so_far.done ++ file ∷ []) n) (sym here) (Contains-push so_far.done file)))
+      | inr differs ↦ stranger_still (S.files any) (M.files any) owner (so_far.later any past) (least any past (omega arith))
+    ]
+  ];
+  later = λ any past.
+      (let differs : any ≢ file = omega arith in
+      SameFile-then (S.files any) (M.files any) (T.files any) (so_far.later any (omega arith))
+      (SameFile-then (M.files any) (between.files any) (T.files any) (forgets.changes.others any differs)
+      (SameFile-then (between.files any) (after.files any) (T.files any) (settles.others any differs) (still.files any))));
+  forgets = forgets_more policy so_far.done S owner file M between after T so_far.forgets forgets settles still;
+}
+
+-- from here on all files are untouched
+pub all_forgotten : (policy : Policy) (S : State) (owner next : ℕ) (T : State) → IsForgetting policy S owner next T → ((file : ℕ) → next ≤ file → SameFile untouched (T.files file)) → Forgets policy S owner T
+all_forgotten policy S owner next T so_far none = record {
+  files = so_far.done;
+  rising = so_far.rising;
+  others = λ file apart. elim (cases_lt file next) [
+    | inl earlier ↦ so_far.strangers file earlier apart
+    | inr past ↦ stranger_still (S.files file) (T.files file) owner (so_far.later file past) (none file past)
+  ];
+  forgets = so_far.forgets;
+}

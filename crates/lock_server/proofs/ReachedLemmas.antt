@@ -1,0 +1,213 @@
+-- The owners that are put behind those that were reached: for `add_going_on`, `add_steps` of a table, `would_cycle`.
+use Rattle.std.proofs.Common.{ℕ, ◌≡◌, ◌≢◌, ◌==◌, ◌+◌, ◌<◌, ◌≤◌, ◌∙◌, inl, inr, sym, ap, refl, subst, arith, suc, cond, Bool, true, Option, Some, None, List, [], ◌∷◌, ◌++◌, Contains, length, get_or}
+use Rattle.std.specs.Prelude.{◌↔◌, ◌&&◌, IsTrue, MatchOption, slice_get}
+use Rattle.std.specs.Borrow.{Bor}
+use Rattle.std.specs.List.{HoldsAt, IsAnyAnswer}
+use Rattle.std.specs.Option.{option_copied}
+use Rattle.std.proofs.lemmas.Bool.{cases_lt, cases_eq, eqb-true, eq-eqb, ne_eqb}
+use Rattle.std.proofs.lemmas.List.{append_assoc, append-nil, length-append}
+use Rattle.std.proofs.lemmas.List.Elements.{Contains-append_left, Contains-push, Contains-push_cases}
+use Rattle.std.proofs.lemmas.List.Sums.{sum_by-cons}
+use Rattle.std.proofs.lemmas.Option.{none-some, same_Some, slice_get-get_or, slice_get_within, get_or_from_slice_get}
+use Rattle.wait_core.specs.declared.Family.{Family}
+use Rattle.wait_core.specs.declared.Family.TheVariants.{Bytes, Whole}
+use Rattle.wait_core.specs.declared.Policy.{Policy}
+use Rattle.wait_core.specs.declared.Policy.TheVariants.{Held, Queue}
+use Rattle.lock_book.specs.declared.Owner.TheVariants.{Description}
+use Rattle.lock_server.specs.declared.Pending.{Pending}
+use Rattle.lock_server.specs.declared.file.LockFile.{LockFile}
+use Rattle.lock_server.specs.declared.table.Table.{Table}
+use Rattle.lock_server.specs.declared.tickets.Tickets.{Tickets}
+use Rattle.lock_server.specs.declared.waiters.Waiters.{Waiters}
+use Rattle.lock_server.specs.Deadlock.{BlocksIn, ClosesCycle, IsBlockedByOwner, WaitsFor, WaitsForOn}
+use Rattle.lock_server.specs.Files.{FileState, untouched}
+use Rattle.lock_server.specs.Index.{IsIndexed, detected_waits, state_in}
+use Rattle.lock_server.specs.TableView.{entry_of, table_policy, table_state}
+use Rattle.std.specs.BTreeMap.{BTreeMap}
+use Rattle.lock_server.specs.Blockers.{AddsGoingOn, AddsOwners, IsGoingOn, SomeLeadsTo}
+use Rattle.lock_server.specs.WaitersView.{files_of, times}
+use Rattle.lock_server.proofs.ChainLemmas.{first_step}
+use Rattle.lock_server.proofs.GatherLemmas.{IsGivenBefore, gathered_all}
+use Rattle.lock_server.proofs.LeaveLemmas.{counted_with}
+
+-- of the first so many owners those that go on were added
+pub record IsAddedBefore (waiters : Waiters) (target : ℕ) (owners old new : List ℕ) (n : ℕ) : Type 0 where
+  pub more : List ℕ
+  pub is : new ≡ old ++ more
+  pub only : (other : ℕ) → Contains more other → Contains owners other
+  pub all : (other place : ℕ) → place < n → slice_get owners place ≡ Some other → IsGoingOn waiters target other → Contains new other
+
+module _ (waiters : Waiters) (target : ℕ) (owners old : List ℕ) where
+  pub added_none : IsAddedBefore waiters target owners old old 0
+  added_none = record {
+    more = [];
+    is = sym (append-nil old);
+    only = λ other among. absurd (let none : among.0 < 0 = among.1 in omega arith);
+    all = λ other place before. absurd (omega arith);
+  }
+
+  -- this one is there, or doesn't go on
+  pub added_skip : (new : List ℕ) (i owner : ℕ) → slice_get owners i ≡ Some owner → IsAddedBefore waiters target owners old new i → (IsGoingOn waiters target owner → Contains new owner)
+      → IsAddedBefore waiters target owners old new (i + 1)
+  added_skip new i owner at before there = record {
+    more = before.more;
+    is = before.is;
+    only = before.only;
+    all = λ other place early is goes. elim (cases_lt place i) [
+      | inl earlier ↦ before.all other place earlier is goes
+      | inr past ↦
+          (let here : place ≡ i = omega arith in
+          let same : owner ≡ other = same_Some owner other (sym at ∙ subst (λ (k : ℕ). slice_get owners k ≡ Some other) here is) in
+          subst (λ (n : ℕ). Contains new n) same (there (subst (λ (n : ℕ). IsGoingOn waiters target n) (sym same) goes)))
+    ];
+  }
+
+  -- this one is put behind
+  pub added_push : (new after : List ℕ) (i owner : ℕ) → slice_get owners i ≡ Some owner → after ≡ new ++ owner ∷ [] → IsAddedBefore waiters target owners old new i → IsAddedBefore waiters target owners old after (i + 1)
+  added_push new after i owner at items before =
+      let among : Contains owners owner = (i, slice_get_within owners i owner at, get_or_from_slice_get owners i owner owner at) in
+      added_skip after i owner at
+      (record {
+        more = before.more ++ owner ∷ [];
+        is = items ∙ ap (λ (l : List ℕ). l ++ owner ∷ []) before.is ∙ append_assoc old before.more (owner ∷ []);
+        only = λ other h. elim (Contains-push_cases before.more owner other h) [
+          | inl early ↦ before.only other early
+          | inr is ↦ subst (λ (n : ℕ). Contains owners n) is among
+        ];
+        all = λ other place early is goes. rw items (Contains-append_left new (owner ∷ []) other (before.all other place early is goes));
+      })
+      (λ goes. rw items (Contains-push new owner))
+
+  -- all were looked at
+  pub added_all : (new : List ℕ) (i : ℕ) → length owners ≤ i → IsAddedBefore waiters target owners old new i → AddsGoingOn waiters target owners old new
+  added_all new i past before = record {
+    more = before.more;
+    is = before.is;
+    only = before.only;
+    all = λ other among goes.
+        before.all other among.0 (let within = among.1 in omega arith) (slice_get-get_or owners among.0 other among.1 ∙ ap (λ (n : ℕ). Some n) among.2) goes;
+  }
+
+-- an owner that a look through the list found
+pub found_among : (xs : List ℕ) (x : ℕ) (found : Bool) → IsAnyAnswer (λ y b. (y == x) ≡ b) xs found → found ≡ true → Contains xs x
+found_among xs x found says is =
+    let there : (k : ℕ) × (k < length xs) × HoldsAt (λ y. (y == x) ≡ true) xs k = rw is at says in
+    (there.0, there.1, eqb-true (get_or xs there.0 x) x (there.2 x))
+
+-- what stands at a place of the list, and where its end is
+pub read_at : (xs : List ℕ) (i : ℕ) (lent : Option (Bor ℕ)) (x : ℕ) → MatchOption lent (length xs ≤ i) (λ y. (i < length xs) × HoldsAt (λ z. y.now ≡ z) xs i) → option_copied lent ≡ Some x → (i < length xs) × (x ≡ get_or xs i x)
+read_at xs i None x says is = absurd (none-some x is)
+read_at xs i (Some y) x says is = (says.0, sym (same_Some y.now x is) ∙ says.1 x)
+
+pub read_past : (xs : List ℕ) (i : ℕ) (lent : Option (Bor ℕ)) → MatchOption lent (length xs ≤ i) (λ y. (i < length xs) × HoldsAt (λ z. y.now ≡ z) xs i) → option_copied lent ≡ None → length xs ≤ i
+read_past xs i None says is = says
+read_past xs i (Some y) says is = absurd (none-some y.now (sym is))
+
+-- what was gathered from nothing
+pub gathered_from_none : (old new : List ℕ) (P : ℕ → Type 0) → old ≡ [] → AddsOwners old new P → (other : ℕ) → Contains new other ↔ P other
+gathered_from_none old new P empty adds other = (
+  λ among. elim (adds.only other among) [
+    | inl before ↦ absurd (let none = ap (λ (l : List ℕ). length l) empty in let within = before.1 in omega arith)
+    | inr holds ↦ holds
+  ],
+  λ holds. adds.added other holds,
+)
+
+-- a file that counts stands somewhere
+pub times_place : (file : ℕ) (files : List ℕ) → times file files ≢ 0 → Contains files file
+times_place file [] some = absurd (some refl)
+times_place file (other ∷ files) some = elim (cases_eq other file) [
+  | inl same ↦ (0, (let n = length files in omega arith), same)
+  | inr differs ↦
+      (let head : times file (other ∷ files) ≡ cond (other == file) 1 0 + times file files = sum_by-cons (λ (any : ℕ). cond (any == file) 1 0) other files in
+      let apart : times file (other ∷ files) ≡ 0 + times file files =
+      subst (λ (b : Bool). times file (other ∷ files) ≡ cond b 1 0 + times file files) (ne_eqb other file differs) head in
+      let there = times_place file files (λ none. some (omega arith)) in
+      (suc there.0, (let within = there.1 in omega arith), there.2))
+]
+
+-- an owner that waits on the file has it among its files
+file_of_step : (policy : Policy) (files : BTreeMap ℕ LockFile) (tickets : Tickets) (waiters : Waiters) → IsIndexed files tickets waiters → (owner file other : ℕ)
+    → WaitsForOn policy (state_in files file) owner other → Contains (files_of waiters owner) file
+file_of_step policy files tickets waiters known owner file other step =
+    let test = λ (wait : Pending). wait.detect && (wait.owner == owner) in
+    let passes : test step.wait ≡ true = rw step.detected (eq-eqb step.wait.owner owner step.of_one) in
+    let split : detected_waits (state_in files file).waits owner ≡ detected_waits (step.before ++ step.wait ∷ step.after) owner = ap (λ (waits : List Pending). detected_waits waits owner) step.place in
+    let counted : detected_waits (step.before ++ step.wait ∷ step.after) owner ≡ detected_waits (step.before ++ step.after) owner + 1 =
+    subst (λ (b : Bool). detected_waits (step.before ++ step.wait ∷ step.after) owner ≡ detected_waits (step.before ++ step.after) owner + cond b 1 0) passes
+    (counted_with test step.before step.after step.wait) in
+    let times_there : times file (files_of waiters owner) ≡ detected_waits (state_in files file).waits owner = known.detected owner file in
+    times_place file (files_of waiters owner) (λ none. omega arith)
+
+-- an owner that waits goes on
+pub waits_goes_on : (policy : Policy) (files : BTreeMap ℕ LockFile) (tickets : Tickets) (waiters : Waiters) → IsIndexed files tickets waiters → (target owner file other : ℕ)
+    → WaitsForOn policy (state_in files file) owner other → IsGoingOn waiters target owner
+waits_goes_on policy files tickets waiters known target owner file other step =
+    let among = file_of_step policy files tickets waiters known owner file other step in
+    inr (λ none. let empty : length (files_of waiters owner) ≡ 0 = ap (λ (fs : List ℕ). length fs) none in let within = among.1 in omega arith)
+
+module _ (table : Table) where
+  -- the files of an owner gave all for which it waits
+  pub all_files : (owner : ℕ) (old new : List ℕ) (i : ℕ) → length (files_of table.waiters owner) ≤ i
+      → AddsOwners old new (IsGivenBefore (λ place file other. WaitsForOn table.policy (state_in table.files file) owner other) (files_of table.waiters owner) i)
+      → AddsOwners old new (WaitsFor (table_policy table) (table_state table) owner)
+  unfolding table_policy table_state entry_of
+  all_files owner old new i past adds =
+      gathered_all (λ place file other. WaitsForOn table.policy (state_in table.files file) owner other) (files_of table.waiters owner) old new i
+      (WaitsFor (table_policy table) (table_state table) owner) past (λ other place file at step. record { file = file; on_file = step })
+      (λ other step.
+      let among = file_of_step table.policy table.files table.tickets table.waiters table.indexed owner step.file other step.on_file in
+      (among.0, step.file, slice_get-get_or (files_of table.waiters owner) among.0 step.file among.1 ∙ ap (λ (n : ℕ). Some n) among.2, step.on_file))
+      adds
+
+  -- an owner that waits for another goes on
+  pub step_goes_on : (target one other : ℕ) → WaitsFor (table_policy table) (table_state table) one other → IsGoingOn table.waiters target one
+  unfolding table_policy table_state entry_of
+  step_goes_on target one other step =
+      waits_goes_on table.policy table.files table.tickets table.waiters table.indexed target one step.file other step.on_file
+
+-- nobody waits on an untouched file
+pub no_step_there : (policy : Policy) (one other : ℕ) → ¬ WaitsForOn policy untouched one other
+no_step_there policy one other step =
+    let sum = length-append step.before (step.wait ∷ step.after) in
+    let none : 0 ≡ length (step.before ++ step.wait ∷ step.after) = ap (λ (waits : List Pending). length waits) step.place in omega arith
+
+blocks_in_another : (family : Family) (F : FileState) (wait : Pending) (other : ℕ) → BlocksIn family F wait other → other ≢ wait.owner
+blocks_in_another Bytes F wait other blocks same = blocks.blocks.another (ap (λ (n : ℕ). Description n) same)
+blocks_in_another Whole F wait other blocks same = blocks.another same
+
+-- who blocks a wait is another owner
+pub another_blocks : (policy : Policy) (F : FileState) (earlier : List Pending) (wait : Pending) (other : ℕ) → IsBlockedByOwner policy F earlier wait other → other ≢ wait.owner
+another_blocks Held F earlier wait other blocked = blocks_in_another wait.family F wait other blocked
+another_blocks Queue F earlier wait other blocked = elim blocked [
+  | inl lock ↦ blocks_in_another wait.family F wait other lock
+  | inr way ↦ λ same. way.4.1.owners (ap (λ (n : ℕ). Description n) (way.4.0 ∙ same))
+]
+
+-- some owner that was reached from those that block the wait leads to its own, just where the wait closes a cycle
+pub closes_cycle : (table : Table) (file : ℕ) (wanted : Pending) (blockers reached : List ℕ) (answer : Bool)
+    → AddsOwners [] blockers (IsBlockedByOwner (table_policy table) ((table_state table).files file) ((table_state table).files file).waits wanted) → AddsGoingOn table.waiters wanted.owner blockers [] reached
+    → IsTrue answer ↔ SomeLeadsTo (table_policy table) (table_state table) reached wanted.owner → IsTrue answer ↔ ClosesCycle (table_policy table) (table_state table) file wanted
+closes_cycle table file wanted blockers reached answer adds going says = (
+  λ yes. to_cycle (says.0 yes),
+  λ cycle. says.1 (record { owner = cycle.blocker; among = in_reached cycle; leads = inr cycle.led }),
+)
+  where
+    nothing : (other : ℕ) → ¬ Contains [] other
+    nothing other among = let within : among.0 < 0 = among.1 in omega arith
+
+    to_cycle : SomeLeadsTo (table_policy table) (table_state table) reached wanted.owner → ClosesCycle (table_policy table) (table_state table) file wanted
+    to_cycle some =
+        let blocked : IsBlockedByOwner (table_policy table) ((table_state table).files file) ((table_state table).files file).waits wanted some.owner = elim (adds.only some.owner (going.only some.owner (subst (λ (l : List ℕ). Contains l some.owner) going.is some.among))) [
+          | inl none ↦ absurd (nothing some.owner none)
+          | inr blocks ↦ blocks
+        ] in
+        elim some.leads [
+          | inl same ↦ absurd (another_blocks (table_policy table) ((table_state table).files file) ((table_state table).files file).waits wanted some.owner blocked same)
+          | inr led ↦ record { blocker = some.owner; blocked = blocked; led = led }
+        ]
+
+    in_reached : (cycle : ClosesCycle (table_policy table) (table_state table) file wanted) → Contains reached cycle.blocker
+    in_reached cycle =
+        let on = first_step (WaitsFor (table_policy table) (table_state table)) cycle.blocker cycle.led.0 wanted.owner cycle.led.1 in
+        going.all cycle.blocker (adds.added cycle.blocker cycle.blocked) (step_goes_on table wanted.owner cycle.blocker on.0 on.1)

@@ -1,0 +1,118 @@
+-- The room of a file, and what keeps it.
+use Rattle.std.proofs.Common.{ℕ, ◌≡◌, ◌∙◌, ◌+◌, ◌≤◌, ◌<◌, sym, ap, inl, inr, refl, subst, arith, true, false, cond, Bool, Option, Result, Ok, Err, List, ◌∷◌, ◌++◌}
+use Rattle.std.specs.Prelude.{OnOk, OnErr, IsTrue, ◌||◌, ◌&&◌, ◌==◌, is_some}
+use Rattle.std.proofs.lemmas.Bool.{cases_eq, eq-eqb}
+use Rattle.range_core.specs.declared.Mode.{Mode}
+use Rattle.range_core.specs.declared.Span.{Span}
+use Rattle.lock_book.specs.declared.Owner.{Owner}
+use Rattle.lock_book.specs.declared.Owner.TheVariants.{Description}
+use Rattle.lock_book.specs.declared.book.Book.{Book}
+use Rattle.lock_book.specs.Books.{room_in, has_flock_place, ReservesFlock, SameBook, SameButRoom, SetsFlock, SetsOwnerMode}
+use Rattle.wait_core.specs.declared.Family.{Family}
+use Rattle.wait_core.specs.declared.Family.TheVariants.{Bytes, Whole}
+use Rattle.lock_server.specs.declared.Pending.{Pending}
+use Rattle.lock_server.specs.Pendings.{is_of_bytes, is_of_whole, is_byte_wait, is_flock_wait}
+use Rattle.lock_server.specs.Room.{HasRoom, byte_waits}
+use Rattle.lock_server.proofs.LeaveLemmas.{counted_with, Any-with, Any-at}
+
+-- each owner has the room that it had at least, and the places that were kept still are
+pub record KeepsRoom (old new : Book) : Type 0 where
+  pub rooms : (owner : ℕ) → room_in old (Description owner) ≤ room_in new (Description owner)
+  pub places : (owner : ℕ) → IsTrue (has_flock_place old owner) → IsTrue (has_flock_place new owner)
+
+pub HasRoom-kept : (old new : Book) (waits : List Pending) → KeepsRoom old new → HasRoom old waits → HasRoom new waits
+HasRoom-kept old new waits keeps room = record {
+  bytes = λ owner. (let had = room.bytes owner in let kept = keeps.rooms owner in omega arith);
+  places = λ owner waits_for. keeps.places owner (room.places owner waits_for);
+}
+
+-- the same room is as much
+room_from_same : (old new : Book) → ((owner : Owner) → room_in new owner ≡ room_in old owner) → (owner : ℕ) → room_in old (Description owner) ≤ room_in new (Description owner)
+room_from_same old new same owner = let e = same (Description owner) in omega arith
+
+or_there : (a b : Bool) → IsTrue b → IsTrue (a || b)
+or_there true b there = refl
+or_there false b there = there
+
+-- a place that is kept, or refused, keeps the room
+pub KeepsRoom-reserves : {T E : Type 0} (r : Result T E) (old new : Book) (owner : ℕ) → OnOk r (ReservesFlock old new owner) → OnErr r (SameBook old new) → KeepsRoom old new
+KeepsRoom-reserves (Ok x) old new owner ok err = record {
+  rooms = room_from_same old new ok.rooms;
+  places = λ other there. rw (ok.places other) (or_there (owner == other) (has_flock_place old other) there);
+}
+KeepsRoom-reserves (Err e) old new owner ok err = record { rooms = room_from_same old new err.rooms; places = λ other there. rw (err.places other) there }
+
+-- and so does a flock mode that is set in its place
+pub KeepsRoom-sets : (old new : Book) (owner : ℕ) (mode : Option Mode) → SetsFlock old new owner mode → KeepsRoom old new
+KeepsRoom-sets old new owner mode sets = record {
+  rooms = room_from_same old new sets.rooms;
+  places = λ other there. rw (sets.places other) (or_there (owner == other && is_some mode) (has_flock_place old other) there);
+}
+
+-- a set of bytes, made or refused, keeps the room
+pub KeepsRoom-set : {T E : Type 0} (r : Result T E) (old new : Book) (owner : ℕ) (span : Span) (mode : Option Mode) → OnOk r (SetsOwnerMode old new (Description owner) span mode)
+    → OnOk r (room_in old (Description owner) ≤ room_in new (Description owner)) → OnErr r (SameBook old new) → KeepsRoom old new
+KeepsRoom-set (Ok x) old new owner span mode ok room err = record {
+  rooms = λ other. elim (cases_eq other owner) [
+    | inl same ↦ subst (λ n. room_in old (Description n) ≤ room_in new (Description n)) (sym same) room
+    | inr differs ↦ (let kept = ok.rooms (Description other) (λ e. differs (let one : other ≡ owner = cc in one)) in omega (arith, kept))
+  ];
+  places = λ other there. rw (ok.places other) there;
+}
+KeepsRoom-set (Err e) old new owner span mode ok room err = record { rooms = room_from_same old new err.rooms; places = λ other there. rw (err.places other) there }
+
+-- and so does room that is held, or refused
+pub KeepsRoom-holds : {T E : Type 0} (r : Result T E) (old new : Book) (owner : ℕ) → OnOk r (SameButRoom old new (Description owner)) → OnOk r (room_in old (Description owner) ≤ room_in new (Description owner))
+    → OnErr r (SameBook old new) → KeepsRoom old new
+KeepsRoom-holds (Ok x) old new owner ok room err = record {
+  rooms = λ other. elim (cases_eq other owner) [
+    | inl same ↦ subst (λ n. room_in old (Description n) ≤ room_in new (Description n)) (sym same) room
+    | inr differs ↦ (let kept = ok.rooms (Description other) (λ e. differs (let one : other ≡ owner = cc in one)) in omega (arith, kept))
+  ];
+  places = λ other there. rw (ok.places other) there;
+}
+KeepsRoom-holds (Err e) old new owner ok room err = record { rooms = room_from_same old new err.rooms; places = λ other there. rw (err.places other) there }
+
+-- a wait that leaves leaves its room to the others
+pub HasRoom-left : (book : Book) (before after : List Pending) (wait : Pending) → HasRoom book (before ++ wait ∷ after) → HasRoom book (before ++ after)
+HasRoom-left book before after wait room = record {
+  bytes = λ owner. (let had = room.bytes owner in let more = counted_with (is_byte_wait owner) before after wait in omega arith);
+  places = λ owner waits_for. room.places owner (Any-with (λ other. IsTrue (is_flock_wait owner other)) before after wait waits_for);
+}
+
+-- a wait for bytes is one of its owner, and so is a wait for a flock lock
+byte_wait_passes : (owner : ℕ) (family : Family) → family ≡ Bytes → (is_of_bytes family && (owner == owner)) ≡ true
+byte_wait_passes owner family of_bytes = subst (λ (f : Family). (is_of_bytes f && (owner == owner)) ≡ true) (sym of_bytes) (eq-eqb owner owner refl)
+
+flock_wait_passes : (owner : ℕ) (family : Family) → family ≡ Whole → (is_of_whole family && (owner == owner)) ≡ true
+flock_wait_passes owner family of_whole = subst (λ (f : Family). (is_of_whole f && (owner == owner)) ≡ true) (sym of_whole) (eq-eqb owner owner refl)
+
+one_room_left : (with_it without room : ℕ) → with_it ≤ room → with_it ≡ without + 1 → without < room
+one_room_left with_it without room had more = omega arith
+
+-- and, as long as it is not granted, holds one place more than they need
+pub byte_room_left : (book : Book) (before after : List Pending) (wait : Pending) → HasRoom book (before ++ wait ∷ after) → wait.family ≡ Bytes → byte_waits (before ++ after) wait.owner < room_in book (Description wait.owner)
+byte_room_left book before after wait room of_bytes =
+    let had : byte_waits (before ++ wait ∷ after) wait.owner ≤ room_in book (Description wait.owner) = room.bytes wait.owner in
+    let one : cond (is_byte_wait wait.owner wait) 1 0 ≡ 1 = ap (λ b. cond b 1 0) (byte_wait_passes wait.owner wait.family of_bytes) in
+    let more : byte_waits (before ++ wait ∷ after) wait.owner ≡ byte_waits (before ++ after) wait.owner + 1 =
+    counted_with (is_byte_wait wait.owner) before after wait ∙ ap (λ n. byte_waits (before ++ after) wait.owner + n) one in
+    one_room_left _ _ _ had more
+
+pub flock_place_left : (book : Book) (before after : List Pending) (wait : Pending) → HasRoom book (before ++ wait ∷ after) → wait.family ≡ Whole → IsTrue (has_flock_place book wait.owner)
+flock_place_left book before after wait room of_whole =
+    let passes : is_flock_wait wait.owner wait ≡ true = flock_wait_passes wait.owner wait.family of_whole in
+    room.places wait.owner (Any-at (λ other. IsTrue (is_flock_wait wait.owner other)) before after wait passes)
+
+-- which its grant uses up
+pub HasRoom-granted : (old new : Book) (waits : List Pending) (owner : ℕ) (span : Span) (mode : Option Mode) → HasRoom old waits → byte_waits waits owner < room_in old (Description owner)
+    → SetsOwnerMode old new (Description owner) span mode → room_in old (Description owner) ≤ room_in new (Description owner) + 1 → HasRoom new waits
+HasRoom-granted old new waits owner span mode room more sets used = record {
+  bytes = λ other. elim (cases_eq other owner) [
+    | inl same ↦ subst (λ n. byte_waits waits n ≤ room_in new (Description n)) (sym same) (omega arith)
+    | inr differs ↦
+        (let kept = sets.rooms (Description other) (λ e. differs (let one : other ≡ owner = cc in one)) in
+        let had = room.bytes other in omega arith)
+  ];
+  places = λ other waits_for. rw (sets.places other) (room.places other waits_for);
+}

@@ -1,0 +1,46 @@
+-- The entries of files.
+use Rattle.std.proofs.Common.{ℕ, ◌≡◌, ◌∙◌, sym, ap, Option, Some, None}
+use Rattle.std.specs.Ordering.{nat_cmp}
+use Rattle.std.specs.BTreeMap.{get}
+use Rattle.std.specs.Borrow.{Bor}
+use Rattle.std.specs.Option.{option_copied}
+use Rattle.std.proofs.Common.{inl, inr, []}
+use Rattle.wait_core.specs.declared.Family.{Family}
+use Rattle.wait_core.specs.declared.Family.TheVariants.{Bytes, Whole}
+use Rattle.wait_core.specs.declared.Policy.{Policy}
+use Rattle.wait_core.specs.declared.Policy.TheVariants.{Held, Queue}
+use Rattle.wait_core.specs.Blocking.{IsBlockedIn}
+use Rattle.lock_server.specs.declared.Pending.{Pending}
+use Rattle.lock_server.specs.Pendings.{as_wait}
+use Rattle.lock_server.specs.Files.{locks_on}
+use Rattle.lock_server.specs.Settling.{IsHeldBack, IsWaitBlocked}
+use Rattle.lock_server.proofs.ListLemmas.{Any-nil}
+use Rattle.lock_server.specs.declared.file.LockFile.{LockFile}
+use Rattle.lock_server.specs.declared.table.Table.{Table}
+use Rattle.lock_server.specs.Files.{untouched}
+use Rattle.lock_server.specs.FileView.{file_state, state_at}
+use Rattle.lock_server.specs.TableView.{table_state, entry_of}
+
+-- a file with an entry has its state
+pub found_state : (table : Table) (file : ℕ) (found : Option (Bor LockFile)) (locks : Bor LockFile) → option_copied found ≡ get nat_cmp table.files file → found ≡ Some locks
+    → (table_state table).files file ≡ file_state locks.now
+unfolding table_state entry_of
+found_state table file found locks value is = ap state_at (sym value ∙ ap option_copied is)
+
+-- and one without an entry is untouched
+pub not_found_state : (table : Table) (file : ℕ) (found : Option (Bor LockFile)) → option_copied found ≡ get nat_cmp table.files file → found ≡ None
+    → (table_state table).files file ≡ untouched
+unfolding table_state entry_of
+not_found_state table file found value is = ap state_at (sym value ∙ ap option_copied is)
+
+free_in : (family : Family) (wait : Pending) → ¬ IsBlockedIn family (locks_on untouched) (as_wait wait)
+free_in Bytes wait conflict = conflict.blocks.conflicts
+free_in Whole wait conflict = conflict.conflicts
+
+-- on an untouched file nothing is in the way
+pub untouched_free : (wait : Pending) → ¬ IsHeldBack untouched wait
+untouched_free wait held = free_in wait.family wait held
+
+pub untouched_open : (policy : Policy) (wait : Pending) → ¬ IsWaitBlocked policy untouched [] wait
+untouched_open Held wait blocked = untouched_free wait blocked
+untouched_open Queue wait blocked = elim blocked [ inl held ↦ untouched_free wait held | inr any ↦ Any-nil _ any ]

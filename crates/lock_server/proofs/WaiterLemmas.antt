@@ -1,0 +1,131 @@
+-- The entries of owners with detected waits.
+use Rattle.std.proofs.Common.{ℕ, ◌≡◌, ◌≢◌, ◌==◌, ◌+◌, ◌<◌, ◌∙◌, sym, ap, subst, inl, inr, refl, arith, cond, suc, Option, Some, None, List, [], ◌∷◌, ◌++◌, All, length, get_or, take, drop, false}
+use Rattle.std.specs.Ordering.{nat_cmp}
+use Rattle.std.specs.BTreeMap.{UpdatesBy, WritesThrough}
+use Rattle.std.specs.Borrow.{MutBor}
+use Rattle.std.specs.Option.{option_copied_mut}
+use Rattle.std.specs.Prelude.{position}
+use Rattle.std.proofs.lemmas.Bool.{cases_eq, eqb-true, eq-eqb, ne_eqb}
+use Rattle.std.proofs.lemmas.List.Elements.{All-head, All-tail}
+use Rattle.std.proofs.lemmas.List.Quantifiers.{position-Some}
+use Rattle.std.proofs.lemmas.List.Sums.{sum_by-append, sum_by-cons}
+use Rattle.lock_server.specs.declared.waiters.Waiter.{Waiter}
+use Rattle.lock_server.specs.declared.waiters.Waiters.{Waiters}
+use Rattle.lock_server.specs.WaitersView.{waiter_of, files_of, crossed_of, files_in, crossed_in, times, Ends, LeavesFile, Sweeps}
+use Rattle.lock_server.proofs.GrantLemmas.{none_passes}
+use Rattle.lock_server.proofs.LeaveLemmas.{split_at}
+use Rattle.lock_server.proofs.TicketLemmas.{is_at-other}
+
+-- new has this entry for the owner, and all others as old does
+pub record PutsWaiter (old new : Waiters) (owner : ℕ) (waiter : Option Waiter) : Type 0 where
+  pub here : waiter_of new owner ≡ waiter
+  pub others : (other : ℕ) → other ≢ owner → waiter_of new other ≡ waiter_of old other
+
+pub PutsWaiter-updates : (old new : Waiters) (owner : ℕ) (waiter : Option Waiter) → UpdatesBy nat_cmp (nat_cmp owner) old.owners new.owners waiter → PutsWaiter old new owner waiter
+unfolding waiter_of
+PutsWaiter-updates old new owner waiter updates = record { here = updates.1; others = λ other differs. updates.2 other (is_at-other owner other differs) }
+
+-- what the entries tell of every owner
+pub files-puts : (old new : Waiters) (owner : ℕ) (waiter : Option Waiter) → PutsWaiter old new owner waiter → files_of old owner ≡ files_in waiter → (other : ℕ) → files_of new other ≡ files_of old other
+unfolding files_of
+files-puts old new owner waiter puts same other = elim (cases_eq other owner) [
+  | inl is ↦ rw is (ap files_in puts.here ∙ sym same)
+  | inr differs ↦ ap files_in (puts.others other differs)
+]
+
+pub crossed-puts : (old new : Waiters) (owner : ℕ) (waiter : Option Waiter) → PutsWaiter old new owner waiter → crossed_of old owner ≡ crossed_in waiter → (other : ℕ) → crossed_of new other ≡ crossed_of old other
+unfolding crossed_of
+crossed-puts old new owner waiter puts same other = elim (cases_eq other owner) [
+  | inl is ↦ rw is (ap crossed_in puts.here ∙ sym same)
+  | inr differs ↦ ap crossed_in (puts.others other differs)
+]
+
+pub nil_from : (xs : List ℕ) → ¬ (xs ≢ []) → xs ≡ []
+nil_from [] none = refl
+nil_from (x ∷ xs) none = absurd (none (λ e. cc))
+
+-- a file counts once more with one of its places
+times_with : (files rest : List ℕ) (place there : ℕ) → place < length files → get_or files place there ≡ there → rest ≡ take place files ++ drop (suc place) files
+    → (file : ℕ) → times file files ≡ times file rest + cond (there == file) 1 0
+times_with files rest place there within is left file =
+    let one = λ (other : ℕ). cond (other == file) 1 0 in
+    let front = take place files in let back = drop (suc place) files in
+    let split : times file files ≡ times file (front ++ there ∷ back) = ap (times file) (split_at files place there within is) in
+    let whole : times file (front ++ there ∷ back) ≡ times file front + times file (there ∷ back) = sum_by-append one front (there ∷ back) in
+    let head : times file (there ∷ back) ≡ cond (there == file) 1 0 + times file back = sum_by-cons one there back in
+    let others : times file rest ≡ times file (front ++ back) = ap (times file) left in
+    let sum : times file (front ++ back) ≡ times file front + times file back = sum_by-append one front back in
+    omega arith
+
+-- and not at all where it stands nowhere
+times_none : (file : ℕ) (files : List ℕ) → All (λ other. (other == file) ≡ false) files → times file files ≡ 0
+times_none file [] none = refl
+times_none file (other ∷ files) none =
+    let Differs : ℕ → Type 0 = λ any. (any == file) ≡ false in
+    let one = λ (any : ℕ). cond (any == file) 1 0 in
+    let head : times file (other ∷ files) ≡ cond (other == file) 1 0 + times file files = sum_by-cons one other files in
+    let not_here : times file (other ∷ files) ≡ 0 + times file files =
+    subst (λ b. times file (other ∷ files) ≡ cond b 1 0 + times file files) (All-head Differs other files none) head in
+    let rest = times_none file files (All-tail Differs other files none) in
+    omega arith
+
+-- an entry from which one place of the file is removed
+pub LeavesFile-removes : (old new : Waiter) (file place there : ℕ) → position (λ other. other == file) old.files.items ≡ Some place → get_or old.files.items place there ≡ there
+    → new.files.items ≡ take place old.files.items ++ drop (suc place) old.files.items → new.crossed ≡ old.crossed → LeavesFile old new file
+LeavesFile-removes old new file place there found is left crossed =
+    let stands = position-Some (λ other. other == file) old.files.items place there found in
+    let same : there ≡ file = sym is ∙ eqb-true (get_or old.files.items place there) file stands.1 in
+    let counted = times_with old.files.items new.files.items place there stands.0 is left in
+    record {
+      on_file = λ some. (let one : times file old.files.items ≡ times file new.files.items + 1 =
+          subst (λ b. times file old.files.items ≡ times file new.files.items + cond b 1 0) (eq-eqb there file same) (counted file) in omega arith);
+      elsewhere = λ other differs.
+          (let none : times other old.files.items ≡ times other new.files.items + 0 =
+          subst (λ b. times other old.files.items ≡ times other new.files.items + cond b 1 0) (ne_eqb there other (λ e. differs (sym e ∙ same)))
+          (counted other) in omega arith);
+      crossed = crossed;
+    }
+
+-- and one where the file has no place
+pub LeavesFile-none : (entry : Waiter) (file : ℕ) → position (λ other. other == file) entry.files.items ≡ None → LeavesFile entry entry file
+LeavesFile-none entry file none = record {
+  on_file = λ some. absurd (some (times_none file entry.files.items (none_passes (λ other. other == file) entry.files.items none)));
+  elsewhere = λ other differs. refl;
+  crossed = refl;
+}
+
+-- an owner without a detected wait has no entry any more
+pub Sweeps-drops : (old new : Waiters) (owner : ℕ) → PutsWaiter old new owner None → files_of old owner ≡ [] → Sweeps old new owner
+unfolding files_of crossed_of
+Sweeps-drops old new owner puts none = record {
+  files = files-puts old new owner None puts none;
+  others = λ other differs. ap crossed_in (puts.others other differs);
+  still = λ some. absurd (some none);
+  none = λ nothing. ap crossed_in puts.here;
+}
+
+-- an owner whose entry lost one place of a file, and was then swept
+pub Ends-left : (old mid new : Waiters) (owner file : ℕ) (was now : Waiter) → waiter_of old owner ≡ Some was → PutsWaiter old mid owner (Some now) → LeavesFile was now file → Sweeps mid new owner → Ends old new owner file
+unfolding files_of crossed_of
+Ends-left old mid new owner file was now is puts left swept =
+    let had : files_of old owner ≡ was.files.items = ap files_in is in
+    let has : files_of new owner ≡ now.files.items = swept.files owner ∙ ap files_in puts.here in
+    record {
+      others = λ other differs. swept.files other ∙ ap files_in (puts.others other differs);
+      on_file = λ some.
+          (let before : times file (files_of old owner) ≡ times file was.files.items = ap (times file) had in
+          let after : times file (files_of new owner) ≡ times file now.files.items = ap (times file) has in
+          let less = left.on_file (λ none. some (before ∙ none)) in omega arith);
+      elsewhere = λ other differs. ap (times other) has ∙ left.elsewhere other differs ∙ sym (ap (times other) had);
+      crossed = λ other differs. swept.others other differs ∙ ap crossed_in (puts.others other differs);
+      still = λ some. swept.still (λ none. some (swept.files owner ∙ none)) ∙ ap crossed_in puts.here ∙ left.crossed ∙ sym (ap crossed_in is);
+      none = λ none. swept.none (sym (swept.files owner) ∙ none);
+    }
+
+-- what a write through the entry that a map lent puts there
+pub waiter_written : (old new : Waiters) (owner : ℕ) (lent : Option (MutBor Waiter)) (was : MutBor Waiter) (now : Waiter) → option_copied_mut lent ≡ waiter_of old owner → lent ≡ Some was
+    → WritesThrough nat_cmp (nat_cmp owner) old.owners now new.owners → (waiter_of old owner ≡ Some was.now) × PutsWaiter old new owner (Some now)
+unfolding waiter_of
+waiter_written old new owner lent was now value is writes =
+    let had : waiter_of old owner ≡ Some was.now = sym value ∙ ap option_copied_mut is in
+    (had, PutsWaiter-updates old new owner (Some now) (writes.3 (rw had refl)))

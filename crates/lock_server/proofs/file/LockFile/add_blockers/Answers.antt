@@ -1,0 +1,18 @@
+use Rattle.std.proofs.Common.{sym, subst}
+use Rattle.std.proofs.lemmas.Result.{on_ok_weaker}
+use Rattle.wait_core.specs.declared.Policy.{Policy}
+use Rattle.lock_server.specs.Blockers.{AddsOwners}
+use Rattle.lock_server.specs.Deadlock.{IsBlockedByOwner}
+use Rattle.lock_server.specs.FileView.{file_state}
+use Rattle.lock_server.proofs.GatherLemmas.{AddsOwners-both}
+use Rattle.lock_server.proofs.file.LockFile.add_blockers.Goals as goal
+
+pub returns-in-Queue : goal.returns-in-Queue
+returns-in-Queue c =
+    let old = c.args.owners.now.items in
+    let new = c.add_conflicting.new.owners.items in
+    on_ok_weaker c.add_conflicting.result
+    (λ added.
+    subst (λ (policy : Policy). AddsOwners old new (IsBlockedByOwner policy (file_state c.args.self.now) c.args.earlier.now c.args.wait.now)) (sym c.in-Queue.is)
+    (AddsOwners-both old c.add_holders.new.owners.items new _ _ c.in_ok-add_holders.ensures added))
+    c.add_conflicting.ensures

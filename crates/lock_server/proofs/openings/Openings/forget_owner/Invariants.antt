@@ -1,0 +1,12 @@
+use Rattle.std.proofs.Common.{◌-◌, ◌^◌}
+use Rattle.lock_server.specs.OpeningsView.{through_at}
+use Rattle.lock_server.proofs.ForgetLemmas.{next_of}
+use Rattle.lock_server.proofs.OpeningsLemmas.{IsUnseeing}
+use Rattle.lock_server.proofs.openings.Openings.forget_owner.Given as goal
+
+abbrev pub invariant-loop-file : goal.invariant-loop-file
+invariant-loop-file l = IsUnseeing (through_at l.initial.self) l.owner (next_of l.above) (through_at l.self)
+
+-- each file is above the one before
+abbrev pub decreases-loop-file : goal.decreases-loop-file
+decreases-loop-file l = 2 ^ 64 - next_of l.above

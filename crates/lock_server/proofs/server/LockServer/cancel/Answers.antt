@@ -1,0 +1,29 @@
+use Rattle.std.proofs.Common.{◌∙◌, inl, refl, []}
+use Rattle.lock_server.specs.ServerView.{policy_of, state_of}
+use Rattle.lock_server.specs.TableView.{table_policy, table_state}
+use Rattle.lock_server.proofs.SafeLemmas.{moves_left}
+use Rattle.lock_server.proofs.ServerLemmas.{rests, safe_rested, swept}
+use Rattle.lock_server.proofs.server.LockServer.cancel.Goals as goal
+
+pub invariant_of-self-2 : goal.invariant_of-self-2
+invariant_of-self-2 c =
+    let table = c.args.self.now.table in
+    let file = c.in-Some.file in
+    let rest = swept (table_policy table) (table_state c.cancel.new.self) file (table_state c.settle.new.self) (table_state c.sweep.new.self)
+    (rests (table_policy table) c.cancel.new.self c.settle.new.self file c.cancel.ensures.policy c.settle.ensures.policy c.settle.ensures.settles c.settle.ensures.settled)
+    c.sweep.ensures.same in
+    record {
+      safe = safe_rested table c.sweep.new.self [] (table_state c.cancel.new.self) file c.args.self.now.safe
+          (c.sweep.ensures.policy ∙ c.settle.ensures.policy ∙ c.cancel.ensures.policy)
+          (moves_left (table_state table) file c.args.ticket (table_state c.cancel.new.self) c.in-Some.ensures.some) rest;
+    }
+
+pub returns-clause-comes_to : goal.returns-clause-comes_to
+unfolding policy_of state_of
+returns-clause-comes_to c =
+    let table = c.args.self.now.table in
+    let file = c.in-Some.file in
+    let rest = swept (table_policy table) (table_state c.cancel.new.self) file (table_state c.settle.new.self) (table_state c.sweep.new.self)
+    (rests (table_policy table) c.cancel.new.self c.settle.new.self file c.cancel.ensures.policy c.settle.ensures.policy c.settle.ensures.settles c.settle.ensures.settled)
+    c.sweep.ensures.same in
+    inl (refl, record { file = file; between = table_state c.cancel.new.self; leaves = c.in-Some.ensures.some; settles = rest.settles })

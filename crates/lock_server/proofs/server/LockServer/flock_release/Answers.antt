@@ -1,0 +1,28 @@
+use Rattle.std.proofs.Common.{◌∙◌}
+use Rattle.wait_core.specs.declared.Family.TheVariants.{Whole}
+use Rattle.lock_server.specs.ServerView.{policy_of, state_of}
+use Rattle.lock_server.specs.TableView.{table_policy, table_state}
+use Rattle.lock_server.proofs.SafeLemmas.{moves_released}
+use Rattle.lock_server.proofs.ServerLemmas.{releases_at_rest, rests, safe_rested, swept}
+use Rattle.lock_server.proofs.server.LockServer.flock_release.Goals as goal
+
+pub invariant_of-self : goal.invariant_of-self
+invariant_of-self c =
+    let table = c.args.self.now.table in
+    let rest = swept (table_policy table) (table_state c.release_flock.new.self) c.args.file (table_state c.settle.new.self) (table_state c.sweep.new.self)
+    (rests (table_policy table) c.release_flock.new.self c.settle.new.self c.args.file c.release_flock.ensures.policy c.settle.ensures.policy c.settle.ensures.settles c.settle.ensures.settled)
+    c.sweep.ensures.same in
+    record {
+      safe = safe_rested table c.sweep.new.self _ (table_state c.release_flock.new.self) c.args.file c.args.self.now.safe
+          (c.sweep.ensures.policy ∙ c.settle.ensures.policy ∙ c.release_flock.ensures.policy)
+          (moves_released (table_state table) c.args.file Whole c.args.owner (table_state c.release_flock.new.self) c.release_flock.ensures.releases) rest;
+    }
+
+pub returns-clause-releases : goal.returns-clause-releases
+unfolding policy_of state_of
+returns-clause-releases c =
+    let table = c.args.self.now.table in
+    let rest = swept (table_policy table) (table_state c.release_flock.new.self) c.args.file (table_state c.settle.new.self) (table_state c.sweep.new.self)
+    (rests (table_policy table) c.release_flock.new.self c.settle.new.self c.args.file c.release_flock.ensures.policy c.settle.ensures.policy c.settle.ensures.settles c.settle.ensures.settled)
+    c.sweep.ensures.same in
+    releases_at_rest (table_policy table) (table_state table) c.args.file Whole c.args.owner (table_state c.release_flock.new.self) (table_state c.sweep.new.self) c.release_flock.ensures.releases rest

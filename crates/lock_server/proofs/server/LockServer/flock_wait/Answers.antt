@@ -1,0 +1,36 @@
+use Rattle.std.proofs.Common.{◌∙◌, ap, subst}
+use Rattle.lock_server.specs.declared.Pending.{Pending}
+use Rattle.wait_core.specs.declared.Policy.{Policy}
+use Rattle.lock_server.specs.Calls.{ConvertsFrom, WaitComesTo, flock_request}
+use Rattle.lock_server.specs.ServerView.{policy_of, state_of}
+use Rattle.lock_server.specs.TableRoom.{HasFlockPlace}
+use Rattle.lock_server.specs.TableView.{table_state}
+use Rattle.lock_server.proofs.FlockLemmas.{apart_by_test, flock_waits_by_halves, place_from_room}
+use Rattle.lock_server.proofs.server.LockServer.flock_wait.Goals as goal
+
+pub convert-requires : goal.convert-requires
+convert-requires c =
+    let wanted = c.flock_request-wanted.result in
+    subst (λ owner. HasFlockPlace c.reserve.new.self c.args.file owner) (ap (λ (wait : Pending). wait.owner) c.flock_request-wanted.ensures)
+    (place_from_room c.reserve.new.self c.args.file wanted (ap (λ (wait : Pending). wait.family) c.flock_request-wanted.ensures) c.in_ok-reserve.ensures.ok)
+
+pub flock_or_wait-requires-clause-room : goal.flock_or_wait-requires-clause-room
+flock_or_wait-requires-clause-room c =
+    c.convert.ensures.room.requests c.flock_request-wanted.result (ap (λ (wait : Pending). wait.family) c.flock_request-wanted.ensures)
+    (ap (λ (wait : Pending). wait.detect) c.flock_request-wanted.ensures) c.in_ok-reserve.ensures.ok
+
+pub returns-clause-ok : goal.returns-clause-ok
+unfolding policy_of state_of
+returns-clause-ok c =
+    let policy = policy_of c.args.self.now in
+    let S = state_of c.args.self.now in
+    let P = table_state c.reserve.new.self in
+    let M = state_of c.convert.new.self in
+    let T = state_of c.flock_or_wait.new.self in
+    let wanted = flock_request c.args.ticket c.args.owner c.args.mode in
+    let held = c.flock_mode-held.result in
+    let differs = apart_by_test held c.args.mode c.eq.result c.eq.ensures c.if-eq.false in
+    let converts = subst (λ (p : Policy). ConvertsFrom p P c.args.file c.args.owner held M) c.reserve.ensures.policy c.convert.ensures.converts in
+    let as_asked = subst (λ (w : Pending). WaitComesTo (policy_of c.convert.new.self) M c.args.file w c.flock_or_wait.result T) c.flock_request-wanted.ensures c.flock_or_wait.ensures.comes_to in
+    let comes = subst (λ (p : Policy). WaitComesTo p M c.args.file wanted c.flock_or_wait.result T) (c.convert.ensures.policy ∙ c.reserve.ensures.policy) as_asked in
+    flock_waits_by_halves policy S P M T c.args.file wanted held c.flock_or_wait.result c.flock_mode-held.ensures differs c.in_ok-reserve.ensures.same converts comes

@@ -1,0 +1,37 @@
+use Rattle.std.proofs.Common.{◌∙◌, false}
+use Rattle.lock_server.specs.Closing.{is_through}
+use Rattle.lock_server.specs.OpeningsView.{through_at}
+use Rattle.lock_server.specs.ServerView.{policy_of, state_of, through_of}
+use Rattle.lock_server.specs.TableView.{table_policy, table_state}
+use Rattle.lock_server.proofs.ClosingLemmas.{closes_then, moves_closed}
+use Rattle.lock_server.proofs.ServerLemmas.{rests, safe_rested, swept}
+use Rattle.lock_server.proofs.server.LockServer.release.Goals as goal
+
+pub invariant_of-self : goal.invariant_of-self
+invariant_of-self c =
+    let table = c.args.self.now.table in
+    let came = is_through (through_at c.args.self.now.openings c.args.file) c.args.open_file in
+    let closed = c.close.new.table in
+    let closes = closes_then (table_state table) c.args.file (λ other. false) came c.args.flock_owner (table_state c.release_flock_of.new.self) (table_state closed)
+    c.release_flock_of.ensures.closes c.close.ensures.closes in
+    let rest = swept (table_policy table) (table_state closed) c.args.file (table_state c.settle.new.self) (table_state c.sweep.new.self)
+    (rests (table_policy table) closed c.settle.new.self c.args.file (c.close.ensures.policy ∙ c.release_flock_of.ensures.policy) c.settle.ensures.policy c.settle.ensures.settles c.settle.ensures.settled)
+    c.sweep.ensures.same in
+    record {
+      safe = safe_rested table c.sweep.new.self _ (table_state closed) c.args.file c.args.self.now.safe
+          (c.sweep.ensures.policy ∙ c.settle.ensures.policy ∙ c.close.ensures.policy ∙ c.release_flock_of.ensures.policy)
+          (moves_closed (table_state table) c.args.file came c.args.flock_owner (table_state closed) closes) rest;
+    }
+
+pub returns-clause-closes : goal.returns-clause-closes
+unfolding policy_of state_of through_of
+returns-clause-closes c =
+    let table = c.args.self.now.table in
+    let came = is_through (through_at c.args.self.now.openings c.args.file) c.args.open_file in
+    let closed = c.close.new.table in
+    let closes = closes_then (table_state table) c.args.file (λ other. false) came c.args.flock_owner (table_state c.release_flock_of.new.self) (table_state closed)
+    c.release_flock_of.ensures.closes c.close.ensures.closes in
+    let rest = swept (table_policy table) (table_state closed) c.args.file (table_state c.settle.new.self) (table_state c.sweep.new.self)
+    (rests (table_policy table) closed c.settle.new.self c.args.file (c.close.ensures.policy ∙ c.release_flock_of.ensures.policy) c.settle.ensures.policy c.settle.ensures.settles c.settle.ensures.settled)
+    c.sweep.ensures.same in
+    record { between = table_state closed; closes = closes; settles = rest.settles }

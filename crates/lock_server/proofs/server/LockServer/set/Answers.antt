@@ -1,0 +1,31 @@
+use Rattle.std.proofs.Common.{◌∙◌}
+use Rattle.wait_core.specs.declared.Family.TheVariants.{Bytes}
+use Rattle.lock_server.specs.Calls.{given_by}
+use Rattle.lock_server.specs.ServerView.{policy_of, state_of}
+use Rattle.lock_server.specs.TableView.{table_policy, table_state}
+use Rattle.lock_server.proofs.ServerLemmas.{changes_at_rest, moves_set, rests, safe_rested, set_done, swept}
+use Rattle.lock_server.proofs.server.LockServer.set.Goals as goal
+
+pub invariant_of-self-2 : goal.invariant_of-self-2
+unfolding state_of
+invariant_of-self-2 c =
+    let table = c.args.self.now.table in
+    let rest = swept (table_policy table) (table_state c.set.new.self) c.args.file (table_state c.settle.new.self) (table_state c.sweep.new.self)
+    (rests (table_policy table) c.set.new.self c.settle.new.self c.args.file c.set.ensures.policy c.settle.ensures.policy c.settle.ensures.settles c.settle.ensures.settled)
+    c.sweep.ensures.same in record {
+      safe = safe_rested table c.sweep.new.self (given_by c.args.owner c.args.mode) (table_state c.set.new.self) c.args.file c.args.self.now.safe
+          (c.sweep.ensures.policy ∙ c.settle.ensures.policy ∙ c.set.ensures.policy)
+          (moves_set (table_state table) c.args.file c.args.owner c.args.span c.args.mode (table_state c.set.new.self)
+          (λ held. let back = c.is_held_back.ensures.1 held in let none = c.if-is_held_back.false in cc) c.in_ok-set.ensures.ok) rest;
+    }
+
+pub returns-clause-ok : goal.returns-clause-ok
+unfolding policy_of state_of
+returns-clause-ok c =
+    let table = c.args.self.now.table in
+    let rest = swept (table_policy table) (table_state c.set.new.self) c.args.file (table_state c.settle.new.self) (table_state c.sweep.new.self)
+    (rests (table_policy table) c.set.new.self c.settle.new.self c.args.file c.set.ensures.policy c.settle.ensures.policy c.settle.ensures.settles c.settle.ensures.settled)
+    c.sweep.ensures.same in
+    set_done (table_policy table) (table_state table) c.args.file c.args.owner c.args.span c.args.mode (table_state c.sweep.new.self)
+    (λ held. let back = c.is_held_back.ensures.1 held in let none = c.if-is_held_back.false in cc)
+    (changes_at_rest (table_policy table) (table_state table) c.args.file Bytes c.args.owner c.args.span c.args.mode (table_state c.set.new.self) (table_state c.sweep.new.self) c.in_ok-set.ensures.ok rest)

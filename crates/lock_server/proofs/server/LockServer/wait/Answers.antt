@@ -1,0 +1,76 @@
+use Rattle.std.proofs.Common.{◌∙◌, inl, inr, refl, subst, sym, Some, [], ◌∷◌}
+use Rattle.wait_core.specs.declared.Family.TheVariants.{Bytes}
+use Rattle.lock_server.specs.declared.Pending.{Pending}
+use Rattle.lock_server.specs.Calls.{IsRefused, Suspends, byte_request}
+use Rattle.lock_server.specs.ServerView.{policy_of, state_of}
+use Rattle.lock_server.specs.Settling.{IsWaitBlocked}
+use Rattle.lock_server.specs.States.{State}
+use Rattle.lock_server.specs.TableView.{table_policy, table_state}
+use Rattle.lock_server.proofs.CompatibleLemmas.{free_from_open}
+use Rattle.lock_server.proofs.SafeLemmas.{moves_given}
+use Rattle.lock_server.proofs.ServerLemmas.{changes_at_rest, rests, safe_after_join, safe_rested}
+use Rattle.lock_server.proofs.StateLemmas.{state_from_same}
+use Rattle.lock_server.proofs.server.LockServer.wait.Goals as goal
+
+pub invariant_of-self-then-not-blocks : goal.invariant_of-self-then-not-blocks
+invariant_of-self-then-not-blocks c =
+    let table = c.args.self.now.table in
+    let S = table_state table in
+    let F = S.files c.args.file in
+    let request = byte_request c.args.ticket c.args.owner c.args.span c.args.mode c.args.detect in
+    let ready : ¬ IsWaitBlocked (table_policy table) F F.waits request =
+    λ blocked. (let back = c.blocks-2.ensures.1 (subst (λ (w : Pending). IsWaitBlocked (table_policy table) F F.waits w) (sym c.byte_request-wanted.ensures) blocked) in
+    let none = c.if-not-blocks.true in cc) in
+    let rest = rests (table_policy table) c.set.new.self c.settle.new.self c.args.file c.set.ensures.policy c.settle.ensures.policy c.settle.ensures.settles c.settle.ensures.settled in
+    record {
+      safe = safe_rested table c.settle.new.self (c.args.owner ∷ []) (table_state c.set.new.self) c.args.file c.args.self.now.safe (c.settle.ensures.policy ∙ c.set.ensures.policy)
+          (moves_given S c.args.file request (table_state c.set.new.self) (free_from_open (table_policy table) F F.waits request ready) c.in_ok-set.ensures.ok) rest;
+    }
+
+pub returns-then-not-blocks-clause-ok : goal.returns-then-not-blocks-clause-ok
+unfolding policy_of state_of
+returns-then-not-blocks-clause-ok c =
+    let table = c.args.self.now.table in
+    let S = table_state table in
+    let F = S.files c.args.file in
+    let request = byte_request c.args.ticket c.args.owner c.args.span c.args.mode c.args.detect in
+    let ready : ¬ IsWaitBlocked (table_policy table) F F.waits request =
+    λ blocked. (let back = c.blocks-2.ensures.1 (subst (λ (w : Pending). IsWaitBlocked (table_policy table) F F.waits w) (sym c.byte_request-wanted.ensures) blocked) in
+    let none = c.if-not-blocks.true in cc) in
+    let rest = rests (table_policy table) c.set.new.self c.settle.new.self c.args.file c.set.ensures.policy c.settle.ensures.policy c.settle.ensures.settles c.settle.ensures.settled in
+    inr (
+      ready,
+      (refl, changes_at_rest (table_policy table) S c.args.file Bytes c.args.owner c.args.span (Some c.args.mode) (table_state c.set.new.self) (table_state c.settle.new.self) c.in_ok-set.ensures.ok rest),
+    )
+
+pub invariant_of-self-2 : goal.invariant_of-self-2
+unfolding policy_of state_of
+invariant_of-self-2 c =
+    let table = c.args.self.now.table in
+    let S = table_state table in
+    let F = S.files c.args.file in
+    let request = byte_request c.args.ticket c.args.owner c.args.span c.args.mode c.args.detect in
+    let suspends =
+    subst (λ (U : State). Suspends U c.args.file request (table_state c.join.new.self)) (state_from_same S (table_state c.reserve.new.self) c.reserve.ensures.same)
+    (subst (λ (w : Pending). Suspends (table_state c.reserve.new.self) c.args.file w (table_state c.join.new.self)) c.byte_request-wanted.ensures c.join.ensures.suspends) in
+    let blocked = subst (λ (w : Pending). IsWaitBlocked (table_policy table) F F.waits w) c.byte_request-wanted.ensures (c.blocks-2.ensures.0 c.if-not-blocks.false) in
+    let passed : ¬ IsRefused (table_policy table) S c.args.file request =
+    λ refused. (let back = c.in_ok-closes_cycle.ensures.1 (subst (λ (w : Pending). IsRefused (table_policy table) S c.args.file w) (sym c.byte_request-wanted.ensures) refused) in
+    let none = c.if-branch.false in cc) in
+    record { safe = safe_after_join table c.join.new.self c.args.file request c.args.self.now.safe (c.join.ensures.policy ∙ c.reserve.ensures.policy) suspends blocked passed }
+
+pub returns-clause-ok : goal.returns-clause-ok
+unfolding policy_of state_of
+returns-clause-ok c =
+    let table = c.args.self.now.table in
+    let S = table_state table in
+    let F = S.files c.args.file in
+    let request = byte_request c.args.ticket c.args.owner c.args.span c.args.mode c.args.detect in
+    let suspends =
+    subst (λ (U : State). Suspends U c.args.file request (table_state c.join.new.self)) (state_from_same S (table_state c.reserve.new.self) c.reserve.ensures.same)
+    (subst (λ (w : Pending). Suspends (table_state c.reserve.new.self) c.args.file w (table_state c.join.new.self)) c.byte_request-wanted.ensures c.join.ensures.suspends) in
+    let blocked = subst (λ (w : Pending). IsWaitBlocked (table_policy table) F F.waits w) c.byte_request-wanted.ensures (c.blocks-2.ensures.0 c.if-not-blocks.false) in
+    let passed : ¬ IsRefused (table_policy table) S c.args.file request =
+    λ refused. (let back = c.in_ok-closes_cycle.ensures.1 (subst (λ (w : Pending). IsRefused (table_policy table) S c.args.file w) (sym c.byte_request-wanted.ensures) refused) in
+    let none = c.if-branch.false in cc) in
+    inl (blocked, inr (passed, (refl, suspends)))

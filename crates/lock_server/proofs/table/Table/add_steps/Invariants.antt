@@ -1,0 +1,9 @@
+use Rattle.lock_server.specs.Blockers.{AddsOwners}
+use Rattle.lock_server.specs.Deadlock.{WaitsForOn}
+use Rattle.lock_server.specs.Index.{state_in}
+use Rattle.lock_server.proofs.GatherLemmas.{IsGivenBefore}
+use Rattle.lock_server.proofs.table.Table.add_steps.Given as goal
+
+abbrev pub invariant-loop-file : goal.invariant-loop-file
+invariant-loop-file l =
+    AddsOwners l.initial.owners.items l.owners.items (IsGivenBefore (λ place file other. WaitsForOn l.self.policy (state_in l.self.files file) l.owner other) l.file-items l.file-index)

@@ -1,0 +1,14 @@
+use Rattle.std.proofs.Common.{◌≡◌, length}
+use Rattle.lock_server.specs.TableView.{table_policy, table_state}
+use Rattle.lock_server.proofs.ForgetLemmas.{IsDismissing}
+use Rattle.lock_server.proofs.table.Table.dismiss.Given as goal
+
+abbrev pub invariant-loop : goal.invariant-loop
+invariant-loop l = record {
+  dismissing : IsDismissing (table_state l.fn.self) l.file l.owner (table_state l.self);
+  policy : table_policy l.self ≡ table_policy l.fn.self;
+}
+
+-- each round one wait leaves the file
+abbrev pub decreases-loop : goal.decreases-loop
+decreases-loop l = length ((table_state l.self).files l.file).waits

@@ -1,0 +1,14 @@
+use Rattle.std.proofs.Common.{◌≡◌, ◌-◌, ◌^◌}
+use Rattle.lock_server.specs.TableView.{table_policy, table_state}
+use Rattle.lock_server.proofs.ForgetLemmas.{IsForgetting, next_of}
+use Rattle.lock_server.proofs.table.Table.forget.Given as goal
+
+abbrev pub invariant-loop-file : goal.invariant-loop-file
+invariant-loop-file l = record {
+  forgetting : IsForgetting (table_policy l.initial.self) (table_state l.initial.self) l.owner (next_of l.above) (table_state l.self);
+  policy : table_policy l.self ≡ table_policy l.initial.self;
+}
+
+-- each file is above the one before
+abbrev pub decreases-loop-file : goal.decreases-loop-file
+decreases-loop-file l = 2 ^ 64 - next_of l.above

@@ -1,0 +1,13 @@
+use Rattle.std.proofs.Common.{◌-◌, ◌^◌}
+use Rattle.lock_server.specs.Blockers.{IsGoingOn}
+use Rattle.lock_server.specs.Deadlock.{WaitsFor}
+use Rattle.lock_server.specs.TableView.{table_state}
+use Rattle.lock_server.proofs.SearchLemmas.{IsSearched}
+use Rattle.lock_server.proofs.table.Table.leads_to.Given as goal
+
+abbrev pub invariant-loop-owner : goal.invariant-loop-owner
+invariant-loop-owner l =
+    IsSearched (WaitsFor l.self.policy (table_state l.self)) (IsGoingOn l.self.waiters l.target) l.target l.initial.reached.items l.reached.items l.looked_at
+
+abbrev pub decreases-loop-owner : goal.decreases-loop-owner
+decreases-loop-owner l = 2 ^ 64 - l.looked_at

@@ -1,0 +1,18 @@
+use Rattle.std.proofs.Common.{◌≡◌, length}
+use Rattle.lock_server.specs.TableRoom.{KeepsRoomOn}
+use Rattle.lock_server.specs.TableView.{table_policy, table_state}
+use Rattle.lock_server.proofs.SettleLemmas.{HasLedOn}
+use Rattle.lock_server.proofs.table.Table.settle.Given as goal
+
+-- what was granted so far has led here
+abbrev pub invariant-loop : goal.invariant-loop
+invariant-loop l =
+    record {
+      led : HasLedOn (table_policy l.fn.self) (table_state l.fn.self) l.file (table_state l.self);
+      room : KeepsRoomOn l.fn.self l.self l.file;
+      policy : table_policy l.self ≡ table_policy l.fn.self;
+      file : l.file ≡ l.fn.file;
+    }
+
+abbrev pub decreases-loop : goal.decreases-loop
+decreases-loop l = length ((table_state l.self).files l.file).waits

@@ -1,0 +1,19 @@
+-- What a server stands for (the words are this project's choice).
+use Rattle.std.specs.Prelude.{ℕ, Option}
+use Rattle.wait_core.specs.declared.Policy.{Policy}
+use Rattle.lock_server.specs.declared.server.LockServer.{LockServer}
+use Rattle.lock_server.specs.OpeningsView.{through_at}
+use Rattle.lock_server.specs.TableView.{table_state, table_policy}
+use Rattle.lock_server.specs.States.{State}
+
+-- the state that a server stands for
+unfoldable pub state_of : LockServer → State
+state_of server = table_state server.table
+
+-- the policy of a server
+unfoldable pub policy_of : LockServer → Policy
+policy_of server = table_policy server.table
+
+-- by file and owner: the open file through which the owner was last seen there, and not flushed since
+unfoldable pub through_of : LockServer → ℕ → ℕ → Option ℕ
+through_of server = through_at server.openings

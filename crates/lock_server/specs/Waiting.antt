@@ -1,0 +1,44 @@
+-- Places in the list of waits, and room for one more (the words are this project's choice).
+use Rattle.std.specs.Prelude.{◌≡◌, ℕ, ◌<◌, List, length, IsTrue, vec_len, vec_capacity}
+use Rattle.lock_book.specs.declared.Owner.TheVariants.{Description}
+use Rattle.lock_book.specs.Books.{room_in, has_flock_place}
+use Rattle.wait_core.specs.declared.Family.{Family}
+use Rattle.wait_core.specs.declared.Family.TheVariants.{Bytes, Whole}
+use Rattle.wait_core.specs.declared.Policy.{Policy}
+use Rattle.lock_server.specs.declared.Pending.{Pending}
+use Rattle.lock_server.specs.declared.file.LockFile.{LockFile}
+use Rattle.lock_server.specs.Files.{FileState, Leaves}
+use Rattle.lock_server.specs.FileView.{keeps_place}
+use Rattle.lock_server.specs.Settling.{IsNext}
+use Rattle.lock_server.specs.Room.{byte_waits}
+
+-- the wait at this place is the earliest that isn't blocked
+pub record IsReadyAt (policy : Policy) (F : FileState) (place : ℕ) : Type 0 where
+  pub before : List Pending
+  pub wait : Pending
+  pub after : List Pending
+  pub at : length before ≡ place
+  pub is_next : IsNext policy F before wait after
+
+-- the wait at this place leaves, and the locks stay
+pub record LeavesAt (F : FileState) (place : ℕ) (wait : Pending) (G : FileState) : Type 0 where
+  pub before : List Pending
+  pub after : List Pending
+  pub at : length before ≡ place
+  pub leaves : Leaves F before wait after G
+
+-- the room for the lock of one wait more
+abbrev pub IsReservedIn : Family → LockFile → Pending → Type 0
+IsReservedIn Bytes file wait =
+    byte_waits file.waits.items wait.owner < room_in file.book (Description wait.owner)
+IsReservedIn Whole file wait = IsTrue (has_flock_place file.book wait.owner)
+
+-- the file has room for the wait to join and to be granted
+pub record IsReserved (file : LockFile) (wait : Pending) : Type 0 where
+  pub list : vec_len file.waits < vec_capacity file.waits
+  pub lock : IsReservedIn wait.family file wait
+
+-- the places that were kept for flock locks still are, and there is room for one wait more if there was
+pub record KeepsFlockRoom (old new : LockFile) : Type 0 where
+  pub places : (owner : ℕ) → IsTrue (keeps_place old owner) → IsTrue (keeps_place new owner)
+  pub list : vec_len old.waits < vec_capacity old.waits → vec_len new.waits < vec_capacity new.waits

@@ -1,0 +1,46 @@
+//! The locks on one file, and its waits.
+ghost use Rattle.std.specs.Prelude.{All};
+ghost use Rattle.range_core.specs.Ranges.{IsByteRange};
+ghost use Rattle.lock_server.specs.Room.{HasRoom};
+
+mod blockers;
+mod bytes;
+mod flocks;
+mod list;
+
+use crate::Pending;
+use lock_book::Book;
+use std::alloc::Global;
+
+/// The locks on one file, and its waits in order of arrival. Room is held for the grant of each wait.
+#[derive(Drop)]
+pub struct LockFile {
+    book: Book,
+    waits: Vec<Pending>,
+    ghost ranges: { All (λ wait. IsByteRange wait.span) waits.items },
+    ghost room: { HasRoom book waits.items },
+}
+
+#[tactic(auto, unfolding(crate::specs::FileView::file_state))]
+impl LockFile {
+    ghost use Rattle.std.specs.Prelude.{◌↔◌, ◌≡◌, ℕ, [], IsTrue, None};
+    ghost use Rattle.lock_server.specs.Files.{SameFile, untouched};
+    ghost use Rattle.lock_server.specs.FileView.{file_state};
+
+    /// No lock and no wait. It takes no memory.
+    pub fn new(alloc: Global) -> LockFile
+        ensures { SameFile untouched (file_state result) }
+    {
+        LockFile {
+            book: Book::new(alloc),
+            waits: Vec::new(alloc),
+        }
+    }
+
+    /// Whether there is no lock and no wait.
+    pub fn is_untouched(&self) -> bool
+        ensures { IsTrue result ↔ SameFile (file_state self.now) untouched }
+    {
+        self.waits.is_empty() && self.book.is_empty()
+    }
+}

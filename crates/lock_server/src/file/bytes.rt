@@ -1,0 +1,66 @@
+//! The byte locks of one file.
+ghost use Rattle.std.specs.Prelude.{◌≡◌, ◌+◌, ◌<◌, ℕ, None, IfOk, IfSome, IfNone, IsTrue, OnOk, OnErr};
+ghost use Rattle.range_core.specs.Ranges.{IsByteRange};
+ghost use Rattle.lock_book.specs.Conflicts.{ByteConflict, IsFirstBlocker};
+ghost use Rattle.lock_server.specs.Files.{SameFile, SetsBytes, Unlocks};
+ghost use Rattle.lock_server.specs.FileView.{file_state};
+ghost use Rattle.lock_server.specs.Pendings.{is_byte_wait};
+ghost use Rattle.lock_server.specs.Room.{byte_waits};
+
+use super::LockFile;
+use crate::{Blocker, Family, Memory, Mode, Owner, Pending, Span};
+
+#[tactic(auto, unfolding(crate::specs::FileView::file_state))]
+impl LockFile {
+    /// The first lock of another owner that is in the way (POSIX.1-2017 fcntl, `F_GETLK`).
+    pub fn blocker(&self, owner: u64, span: Span, mode: Mode) -> Option<Blocker>
+        requires { IsByteRange span }
+        ensures some { IfSome result (IsFirstBlocker (file_state self.now).bytes (Owner.Description owner) span mode) }
+        ensures none { IfNone result (¬ ByteConflict (file_state self.now).bytes (Owner.Description owner) span mode) }
+    {
+        self.book
+            .first_blocker(Owner::Description(owner), span, mode)
+    }
+
+    /// Sets the mode on just the bytes of the span, or removes it where there is none. No conflict is looked for, and no wait
+    /// is granted (POSIX.1-2017 fcntl, `F_SETLK`).
+    ///
+    /// `Memory` leaves the file as it was.
+    pub fn set(&mut self, owner: u64, span: Span, mode: Option<Mode>) -> Result<(), Memory>
+        requires { IsByteRange span }
+        ensures ok { OnOk result (SetsBytes (file_state self.old) owner span mode (file_state self.new)) }
+        ensures waits { (file_state self.new).waits ≡ (file_state self.old).waits }
+        ensures err { OnErr result (SameFile (file_state self.old) (file_state self.new)) }
+    {
+        self.book.set(Owner::Description(owner), span, mode)
+    }
+
+    /// Removes all byte locks of the owner; its waits stay, with their room. It takes no memory (POSIX.1-2017 close).
+    pub fn release(&mut self, owner: u64)
+        ensures unlocks { Unlocks Family.Bytes (file_state self.old) owner (file_state self.new) }
+        ensures waits { (file_state self.new).waits ≡ (file_state self.old).waits }
+    {
+        if self.byte_waits(owner) == 0 {
+            self.book.release_owner(Owner::Description(owner));
+        } else {
+            self.book.clear_owner(Owner::Description(owner));
+        }
+    }
+
+    /// For how many byte locks the owner waits.
+    pub(super) fn byte_waits(&self, owner: u64) -> usize
+        ensures { result ≡ byte_waits (file_state self.now).waits owner }
+    {
+        self.waits
+            .iter()
+            .filter(|wait| is_for_bytes(wait, owner))
+            .count()
+    }
+}
+
+/// Whether the wait is for byte locks of this owner.
+pub(super) fn is_for_bytes(wait: &Pending, owner: u64) -> bool
+    ensures { result ≡ is_byte_wait owner wait.now }
+{
+    wait.family == Family::Bytes && wait.owner == owner
+}

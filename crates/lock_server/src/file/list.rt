@@ -1,0 +1,182 @@
+//! The waits on one file.
+ghost use Rattle.std.specs.Prelude.{◌≡◌, ◌≢◌, ◌==◌, ◌<◌, ◌≤◌, ◌+◌, ◌↔◌, ℕ, List, [], Some, All, Any, IfOk, IfSome, IfNone, IsTrue, OnOk, OnErr, length, take, position, slice_get, vec_len, vec_capacity};
+ghost use Rattle.range_core.specs.Ranges.{IsByteRange};
+ghost use Rattle.lock_book.specs.Reports.{IsFileReport};
+ghost use Rattle.lock_server.specs.Calls.{is_other_wait};
+ghost use Rattle.lock_server.specs.Files.{GetsLock, Joins, Leaves, SameFile, SameLocks, FileState};
+ghost use Rattle.lock_server.specs.FileView.{file_state};
+ghost use Rattle.lock_server.specs.Pendings.{is_byte_wait};
+ghost use Rattle.lock_server.specs.Settling.{Grants, IsHeldBack, IsSettled, IsWaitBlocked};
+ghost use Rattle.lock_server.specs.Waiting.{IsReadyAt, IsReserved, IsReservedIn, KeepsFlockRoom, LeavesAt};
+
+use super::LockFile;
+use super::bytes::is_for_bytes;
+use crate::{Family, Memory, Owner, Pending, Policy};
+use lock_book::Held;
+
+#[tactic(auto, unfolding(crate::specs::FileView::file_state))]
+impl LockFile {
+    /// The waits, in order of arrival.
+    pub fn waits(&self) -> &[Pending]
+        ensures { result.now ≡ (file_state self.now).waits }
+    {
+        &self.waits
+    }
+
+    /// The locks, as the report of a file has them; the file's number in it is 0.
+    pub fn held(&self) -> Result<Vec<Held>, Memory>
+        ensures { IfOk result (λ report. IsFileReport 0 (file_state self.now).bytes (file_state self.now).flocks report.items) }
+    {
+        self.book.held(0)
+    }
+
+    /// Whether a lock of another owner is in the way of the wait (POSIX.1-2017 fcntl, `F_SETLK`; flock(2)).
+    pub fn holds_back(&self, wait: &Pending) -> bool
+        requires { IsByteRange wait.now.span }
+        ensures { IsTrue result ↔ IsHeldBack (file_state self.now) wait.now }
+    {
+        wait.is_blocked_by_lock(&self.book)
+    }
+
+    /// Whether the wait would be blocked, were it to join (POSIX.1-2017 fcntl, `F_SETLKW`; flock(2)).
+    pub fn is_wait_blocked(&self, policy: Policy, wait: &Pending) -> bool
+        requires { IsByteRange wait.now.span }
+        ensures { IsTrue result ↔ IsWaitBlocked policy (file_state self.now) (file_state self.now).waits wait.now }
+    {
+        match policy {
+            Policy::Held => self.holds_back(wait),
+            Policy::Queue => self.holds_back(wait) || wait.conflicts_with_any(&self.waits),
+        }
+    }
+
+    /// The place of the earliest wait that nothing blocks, and `None` where each is blocked (POSIX leaves open which waiting
+    /// process gets a lock first; the earliest is this project's choice).
+    pub fn next_ready(&self, policy: Policy) -> Option<usize>
+        ensures ready { IfSome result (IsReadyAt policy (file_state self.now)) }
+        ensures settled { IfNone result (IsSettled policy (file_state self.now)) }
+    {
+        for i in 0..self.waits.len() {
+            if !self.is_blocked_at(policy, i) {
+                return Some(i);
+            }
+        }
+        None
+    }
+
+    /// Whether the wait at this place is blocked.
+    fn is_blocked_at(&self, policy: Policy, i: usize) -> bool
+        requires { i < length (file_state self.now).waits }
+        ensures { (wait : Pending) → slice_get (file_state self.now).waits i ≡ Some wait
+            → IsTrue result ↔ IsWaitBlocked policy (file_state self.now) (take i (file_state self.now).waits) wait }
+    {
+        let wait = &self.waits[i];
+        match policy {
+            Policy::Held => self.holds_back(wait),
+            Policy::Queue => self.holds_back(wait) || wait.conflicts_with_any(&self.waits[..i]),
+        }
+    }
+
+    /// Holds room for the wait to join and to be granted.
+    ///
+    /// `Memory` leaves the file as it was.
+    pub fn reserve(&mut self, wait: &Pending) -> Result<(), Memory>
+        ensures same { SameFile (file_state self.old) (file_state self.new) }
+        ensures ok { OnOk result (IsReserved self.new wait.now) }
+    {
+        self.waits.reserve(1)?;
+        match wait.family {
+            Family::Bytes => {
+                let waits = self.byte_waits(wait.owner);
+                self.book.reserve(Owner::Description(wait.owner), waits + 1)
+            }
+            Family::Whole => self.book.flock_reserve(wait.owner),
+        }
+    }
+
+    /// The wait comes last in order of arrival, in room that was held.
+    pub fn join(&mut self, wait: Pending)
+        requires range { IsByteRange wait.span }
+        requires room { IsReserved self.old wait }
+        ensures { Joins (file_state self.old) wait (file_state self.new) }
+    {
+        self.waits.push_reserved(wait);
+    }
+
+    /// The wait at this place, which nothing blocks, leaves the list and gets its lock. It takes no memory (POSIX.1-2017 fcntl,
+    /// `F_SETLKW`; flock(2)).
+    pub fn grant(&mut self, i: usize) -> Pending
+        requires { i < length (file_state self.old).waits }
+        ensures is { slice_get (file_state self.old).waits i ≡ Some result }
+        ensures granted { (policy : Policy) → IsReadyAt policy (file_state self.old) i → Grants policy (file_state self.old) result (file_state self.new) }
+        ensures fewer { length (file_state self.new).waits + 1 ≡ length (file_state self.old).waits }
+        ensures room { KeepsFlockRoom self.old self.new }
+    {
+        let wait = self.remove_at(i);
+        self.give(&wait);
+        wait
+    }
+
+    /// The wait, which left the list, gets its lock in the room that was held for it. It takes no memory.
+    fn give(&mut self, wait: &Pending)
+        requires range { IsByteRange wait.now.span }
+        requires room { IsReservedIn wait.now.family self.old wait.now }
+        ensures gets { GetsLock (file_state self.old) wait.now (file_state self.new) }
+        ensures waits { (file_state self.new).waits ≡ (file_state self.old).waits }
+        ensures kept { KeepsFlockRoom self.old self.new }
+    {
+        match wait.family {
+            Family::Bytes => {
+                let owner = Owner::Description(wait.owner);
+                self.book.set_reserved(owner, wait.span, Some(wait.mode));
+            }
+            Family::Whole => self.book.flock_set_reserved(wait.owner, Some(wait.mode)),
+        }
+    }
+
+    /// The wait with the ticket leaves the list, where there is one. It takes no memory.
+    pub fn cancel(&mut self, ticket: u64) -> Option<Pending>
+        ensures some { IfSome result (λ wait. (wait.ticket ≡ ticket) × (before : List Pending) × (later : List Pending)
+            × Leaves (file_state self.old) before wait later (file_state self.new)) }
+        ensures none { IfNone result (All (λ wait. wait.ticket ≢ ticket) (file_state self.old).waits
+            × SameFile (file_state self.old) (file_state self.new)) }
+    {
+        let place = self.place_of(ticket)?;
+        Some(self.remove_at(place))
+    }
+
+    /// The first wait for byte locks of the owner leaves the list, where there is one. It takes no memory.
+    pub fn dismiss(&mut self, owner: u64) -> Option<Pending>
+        ensures some { IfSome result (λ wait. IsTrue (is_byte_wait owner wait) × (before : List Pending) × (later : List Pending)
+            × Leaves (file_state self.old) before wait later (file_state self.new)) }
+        ensures none { IfNone result (All (λ wait. IsTrue (is_other_wait owner wait)) (file_state self.old).waits
+            × SameFile (file_state self.old) (file_state self.new)) }
+    {
+        let place = self.place_of_owner(owner)?;
+        Some(self.remove_at(place))
+    }
+
+    /// The place of the earliest wait with the ticket.
+    fn place_of(&self, ticket: u64) -> Option<usize>
+        ensures { result ≡ position (λ wait. wait.ticket == ticket) (file_state self.now).waits }
+    {
+        self.waits.iter().position(|wait| wait.ticket == ticket)
+    }
+
+    /// The place of the earliest wait for byte locks of the owner.
+    fn place_of_owner(&self, owner: u64) -> Option<usize>
+        ensures { result ≡ position (is_byte_wait owner) (file_state self.now).waits }
+    {
+        self.waits.iter().position(|wait| is_for_bytes(wait, owner))
+    }
+
+    /// The wait at this place leaves the list; the room for its lock is still there.
+    fn remove_at(&mut self, place: usize) -> Pending
+        requires { place < length (file_state self.old).waits }
+        ensures is { slice_get (file_state self.old).waits place ≡ Some result }
+        ensures leaves { LeavesAt (file_state self.old) place result (file_state self.new) }
+        ensures room { IsReservedIn result.family self.new result }
+        ensures kept { KeepsFlockRoom self.old self.new }
+    {
+        self.waits.remove(place)
+    }
+}

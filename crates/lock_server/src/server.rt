@@ -1,0 +1,374 @@
+//! The lock server: each call is a change of the table, and then a settling of the file that changed.
+ghost use Rattle.std.specs.Prelude.{◌≡◌};
+ghost use Rattle.lock_server.specs.Calls.{byte_request as byte_request_of, flock_request as flock_request_of};
+ghost use Rattle.lock_server.specs.Safety.{IsSafe};
+ghost use Rattle.lock_server.specs.TableView.{table_state, table_policy};
+
+use crate::openings::Openings;
+use crate::table::Table;
+use crate::{
+    Answer, Blocker, Family, Memory, Mode, Owner, Pending, Policy, Span, WaitAnswer, WaitFault,
+    closing,
+};
+use range_core::OFFMAX;
+use std::alloc::Global;
+
+/// The advisory locks of a file server: on files that are numbered by 64 bits (inodes), of owners that are (FUSE's `lock_owner`),
+/// with waits that are named by tickets. Files and owners come and go by need; a file without a lock and a wait takes no memory.
+#[derive(Drop)]
+pub struct LockServer {
+    table: Table,
+    openings: Openings,
+    ghost safe: { ∥ IsSafe (table_policy table) (table_state table) ∥₁ },
+}
+
+#[tactic(auto, unfolding(crate::specs::ServerView::state_of, crate::specs::ServerView::policy_of, crate::specs::ServerView::through_of))]
+impl LockServer {
+    ghost use Rattle.std.specs.Prelude.{◌↔◌, ℕ, IfOk, IfSome, IfNone, IsTrue, OnErr, OnOk, Some, None, false};
+    ghost use Rattle.range_core.specs.Ranges.{IsByteRange};
+    ghost use Rattle.lock_book.specs.Conflicts.{ByteConflict, IsFirstBlocker};
+    ghost use Rattle.lock_server.specs.Calls.{CancelComesTo, ConvertsFrom, FetchComesTo, FlockOpComesTo, FlockWaitComesTo, Forgets, IsRefused};
+    ghost use Rattle.lock_server.specs.Calls.{IsSetHeldBack, Releases, SetComesTo, TestComesTo, WaitComesTo};
+    ghost use Rattle.lock_server.specs.Closing.{Closes};
+    ghost use Rattle.lock_server.specs.Openings.{ForgetsOwner, ForgetsThrough, SameOpenings, SeesOn};
+    ghost use Rattle.lock_server.specs.ServerView.{policy_of, state_of, through_of};
+    ghost use Rattle.lock_server.specs.States.{IsTaken, opening, SameState};
+    ghost use Rattle.lock_server.specs.TableRoom.{HasFlockPlace, HasRoomFor, KeepsRoomOn};
+
+    /// No lock and no wait. It takes no memory.
+    pub fn new(alloc: Global, policy: Policy) -> LockServer
+        ensures opening { SameState opening (state_of result) }
+        ensures policy { policy_of result ≡ policy }
+        ensures openings { (file owner : ℕ) → through_of result file owner ≡ None }
+    {
+        LockServer {
+            table: Table::new(alloc, policy),
+            openings: Openings::new(alloc),
+        }
+    }
+
+    /// The first lock of another owner that would block a lock of this mode: at the least byte of the span that is blocked, of the
+    /// least owner that blocks there, its largest range of one mode (POSIX.1-2017 fcntl, `F_GETLK`; FUSE, getlk). It takes no
+    /// memory.
+    pub fn get(&self, file: u64, owner: u64, span: Span, mode: Mode) -> Option<Blocker>
+        requires { IsByteRange span }
+        ensures some { IfSome result (IsFirstBlocker ((state_of self.now).files file).bytes (Owner.Description owner) span mode) }
+        ensures none { IfNone result (¬ ByteConflict ((state_of self.now).files file).bytes (Owner.Description owner) span mode) }
+    {
+        self.table.blocker(file, owner, span, mode)
+    }
+
+    /// Sets the owner's mode on just the bytes of the span, or removes it; `Blocked` where another owner's lock is in the way
+    /// (POSIX.1-2017 fcntl, `F_SETLK`; FUSE, setlk without sleep).
+    ///
+    /// `Memory` leaves everything as it was.
+    pub fn set(
+        &mut self,
+        file: u64,
+        owner: u64,
+        span: Span,
+        mode: Option<Mode>,
+    ) -> Result<Answer, Memory>
+        requires { IsByteRange span }
+        ensures ok { IfOk result (λ answer. SetComesTo (policy_of self.old) (state_of self.old) file owner span mode answer (state_of self.new)) }
+        ensures err { OnErr result (SameState (state_of self.old) (state_of self.new)) }
+        ensures policy { policy_of self.new ≡ policy_of self.old }
+        ensures openings { SameOpenings (through_of self.old) (through_of self.new) }
+    {
+        if self.is_held_back(file, owner, span, mode) {
+            return Ok(Answer::Blocked);
+        }
+        self.table.set(file, owner, span, mode)?;
+        self.table.settle(file);
+        self.table.sweep(file);
+        Ok(Answer::Done)
+    }
+
+    /// The same as `set` of a mode where nothing blocks the request. Where something does, it waits, and its ticket comes from
+    /// [`LockServer::next_grant`] once it is granted; or, where it is detected and its wait would close a cycle, it is `Deadlock`
+    /// (POSIX.1-2017 fcntl, `F_SETLKW`, `EDEADLK`; FUSE, setlk with sleep).
+    ///
+    /// `TicketTaken` comes exactly where the ticket names a wait or a grant that wasn't fetched. It and `Memory` leave everything as
+    /// it was.
+    pub fn wait(
+        &mut self,
+        ticket: u64,
+        file: u64,
+        owner: u64,
+        span: Span,
+        mode: Mode,
+        detect: bool,
+    ) -> Result<WaitAnswer, WaitFault>
+        requires { IsByteRange span }
+        ensures ok { IfOk result (λ answer. WaitComesTo (policy_of self.old) (state_of self.old) file
+            (byte_request_of ticket owner span mode detect) answer (state_of self.new)) }
+        ensures taken { (result ≡ Err WaitFault.TicketTaken) ↔ IsTaken (state_of self.old) ticket }
+        ensures err { OnErr result (SameState (state_of self.old) (state_of self.new)) }
+        ensures policy { policy_of self.new ≡ policy_of self.old }
+        ensures openings { SameOpenings (through_of self.old) (through_of self.new) }
+    {
+        if self.table.is_taken(ticket) {
+            return Err(WaitFault::TicketTaken);
+        }
+        let wanted = byte_request(ticket, owner, span, mode, detect);
+        if !self.table.blocks(file, &wanted) {
+            self.table.set(file, owner, span, Some(mode))?;
+            self.table.settle(file);
+            return Ok(WaitAnswer::Done);
+        }
+        if self.closes_cycle(file, &wanted)? {
+            return Ok(WaitAnswer::Deadlock);
+        }
+        self.table.reserve(file, &wanted)?;
+        self.table.join(file, wanted);
+        Ok(WaitAnswer::Waits)
+    }
+
+    /// Ends the wait with the ticket; false where there is none, be it granted or unknown (POSIX.1-2017 fcntl, `EINTR`; FUSE,
+    /// interrupt). It takes no memory.
+    pub fn cancel(&mut self, ticket: u64) -> bool
+        ensures comes_to { CancelComesTo (policy_of self.old) (state_of self.old) ticket result (state_of self.new) }
+        ensures policy { policy_of self.new ≡ policy_of self.old }
+        ensures openings { SameOpenings (through_of self.old) (through_of self.new) }
+    {
+        let Some(file) = self.table.cancel(ticket) else {
+            return false;
+        };
+        self.table.settle(file);
+        self.table.sweep(file);
+        true
+    }
+
+    /// The owner is seen through the open file of the file, and no more through another one, until it is flushed or forgotten: for
+    /// [`LockServer::release`]. To be called with each request for a byte lock (FUSE, `fh` of setlk).
+    ///
+    /// `Memory` leaves everything as it was.
+    pub fn note(&mut self, file: u64, owner: u64, open_file: u64) -> Result<(), Memory>
+        ensures ok { OnOk result (SeesOn (through_of self.old) (through_of self.new) file owner (Some open_file)) }
+        ensures err { OnErr result (SameOpenings (through_of self.old) (through_of self.new)) }
+        ensures same { SameState (state_of self.old) (state_of self.new) }
+        ensures policy { policy_of self.new ≡ policy_of self.old }
+    {
+        self.openings.note(file, owner, open_file)
+    }
+
+    /// Removes all byte locks of the owner on the file; its waits stay (POSIX.1-2017 close; FUSE, flush). It takes no memory.
+    pub fn flush(&mut self, file: u64, owner: u64)
+        ensures flushes { Releases (policy_of self.old) (state_of self.old) file Family.Bytes owner (state_of self.new) }
+        ensures policy { policy_of self.new ≡ policy_of self.old }
+        ensures openings { SeesOn (through_of self.old) (through_of self.new) file owner None }
+    {
+        self.table.release(file, owner);
+        self.table.settle(file);
+        self.table.sweep(file);
+        self.openings.forget(file, owner);
+    }
+
+    /// Removes all byte locks of the owner on all files, and its waits for byte locks, the files rising (POSIX.1-2017 _Exit). It
+    /// takes no memory, and looks at each file that has a lock or a wait.
+    pub fn forget(&mut self, owner: u64)
+        ensures forgets { Forgets (policy_of self.old) (state_of self.old) owner (state_of self.new) }
+        ensures policy { policy_of self.new ≡ policy_of self.old }
+        ensures openings { ForgetsOwner (through_of self.old) (through_of self.new) owner }
+    {
+        self.table.forget(owner);
+        self.openings.forget_owner(owner);
+    }
+
+    /// Sets or removes the flock lock of the owner on the file; `Blocked` where another owner's lock is in the way. A conversion
+    /// removes the old lock and settles the waits, and is then tested, so it may lose its lock (flock(2), `LOCK_NB`; FUSE, flock).
+    ///
+    /// `Memory` leaves everything as it was.
+    pub fn flock(&mut self, file: u64, owner: u64, mode: Option<Mode>) -> Result<Answer, Memory>
+        ensures ok { IfOk result (λ answer. FlockOpComesTo (policy_of self.old) (state_of self.old) file owner mode answer (state_of self.new)) }
+        ensures err { OnErr result (SameState (state_of self.old) (state_of self.new)) }
+        ensures policy { policy_of self.new ≡ policy_of self.old }
+        ensures openings { SameOpenings (through_of self.old) (through_of self.new) }
+    {
+        let Some(mode) = mode else {
+            self.flock_release(file, owner);
+            return Ok(Answer::Done);
+        };
+        let held = self.table.flock_mode(file, owner);
+        if held == Some(mode) {
+            return Ok(Answer::Done);
+        }
+        self.table.place_flock(file, owner)?;
+        self.convert(file, owner, held);
+        Ok(self.flock_or_refuse(file, owner, mode))
+    }
+
+    /// The same as `flock` of a mode, but that the request waits where it is blocked; no deadlock is looked for (flock(2)).
+    ///
+    /// `TicketTaken` comes exactly where the ticket names a wait or a grant that wasn't fetched. It and `Memory` leave everything as
+    /// it was.
+    pub fn flock_wait(
+        &mut self,
+        ticket: u64,
+        file: u64,
+        owner: u64,
+        mode: Mode,
+    ) -> Result<WaitAnswer, WaitFault>
+        ensures ok { IfOk result (λ answer. FlockWaitComesTo (policy_of self.old) (state_of self.old) file
+            (flock_request_of ticket owner mode) (((state_of self.old).files file).flocks owner) answer (state_of self.new)) }
+        ensures taken { (result ≡ Err WaitFault.TicketTaken) ↔ IsTaken (state_of self.old) ticket }
+        ensures err { OnErr result (SameState (state_of self.old) (state_of self.new)) }
+        ensures policy { policy_of self.new ≡ policy_of self.old }
+        ensures openings { SameOpenings (through_of self.old) (through_of self.new) }
+    {
+        if self.table.is_taken(ticket) {
+            return Err(WaitFault::TicketTaken);
+        }
+        let held = self.table.flock_mode(file, owner);
+        if held == Some(mode) {
+            return Ok(WaitAnswer::Done);
+        }
+        let wanted = flock_request(ticket, owner, mode);
+        self.table.reserve(file, &wanted)?;
+        self.convert(file, owner, held);
+        Ok(self.flock_or_wait(file, wanted))
+    }
+
+    /// Removes the flock lock of the owner on the file; its waits stay (flock(2), `LOCK_UN` and last close; FUSE, release with
+    /// `FUSE_RELEASE_FLOCK_UNLOCK`). It takes no memory.
+    pub fn flock_release(&mut self, file: u64, owner: u64)
+        ensures releases { Releases (policy_of self.old) (state_of self.old) file Family.Whole owner (state_of self.new) }
+        ensures policy { policy_of self.new ≡ policy_of self.old }
+        ensures openings { SameOpenings (through_of self.old) (through_of self.new) }
+    {
+        self.table.release_flock(file, owner);
+        self.table.settle(file);
+        self.table.sweep(file);
+    }
+
+    /// Removes all byte locks on the file of the owners that were last seen through the open file ([`LockServer::note`]) and not
+    /// flushed since, and the flock lock of the flock owner, where one is given; waits stay (fcntl_locking(2), open file description
+    /// locks; flock(2); FUSE, release, which names no owner of byte locks). It takes no memory, and looks at each owner that was seen
+    /// on the file.
+    pub fn release(&mut self, file: u64, open_file: u64, flock_owner: Option<u64>)
+        ensures closes { Closes (policy_of self.old) (state_of self.old) (through_of self.old) file open_file flock_owner (state_of self.new) }
+        ensures policy { policy_of self.new ≡ policy_of self.old }
+        ensures openings { ForgetsThrough (through_of self.old) (through_of self.new) file open_file }
+    {
+        self.table.release_flock_of(file, flock_owner);
+        closing::close(&mut self.table, &mut self.openings, file, open_file);
+        self.table.settle(file);
+        self.table.sweep(file);
+    }
+
+    /// The ticket of the oldest grant that wasn't fetched, which is told once; `None` where there is none. It takes no memory.
+    pub fn next_grant(&mut self) -> Option<u64>
+        ensures fetched { FetchComesTo (state_of self.old) result (state_of self.new) }
+        ensures policy { policy_of self.new ≡ policy_of self.old }
+        ensures openings { SameOpenings (through_of self.old) (through_of self.new) }
+    {
+        self.table.next_grant()
+    }
+
+    /// Whether a lock of another owner is in the way of a set; of an unlock none ever is.
+    fn is_held_back(&self, file: u64, owner: u64, span: Span, mode: Option<Mode>) -> bool
+        requires { IsByteRange span }
+        ensures { IsTrue result ↔ IsSetHeldBack ((state_of self.now).files file) owner span mode }
+    {
+        match mode {
+            Some(mode) => self
+                .table
+                .holds_back(file, &byte_request(0, owner, span, mode, false)),
+            None => false,
+        }
+    }
+
+    /// Whether the request is detected and would close a cycle, were it to wait.
+    fn closes_cycle(&self, file: u64, wanted: &Pending) -> Result<bool, Memory>
+        requires { IsByteRange wanted.now.span }
+        ensures { IfOk result (λ cycle. IsTrue cycle ↔ IsRefused (policy_of self.now) (state_of self.now) file wanted.now) }
+    {
+        if wanted.detect {
+            self.table.would_cycle(file, wanted)
+        } else {
+            Ok(false)
+        }
+    }
+
+    /// The first half of a conversion: a flock lock that is held is removed, and the file is settled (flock(2), "converting a lock").
+    fn convert(&mut self, file: u64, owner: u64, held: Option<Mode>)
+        requires { HasFlockPlace self.old.table file owner }
+        ensures converts { ConvertsFrom (policy_of self.old) (state_of self.old) file owner held (state_of self.new) }
+        ensures room { KeepsRoomOn self.old.table self.new.table file }
+        ensures policy { policy_of self.new ≡ policy_of self.old }
+        ensures openings { SameOpenings (through_of self.old) (through_of self.new) }
+    {
+        if held.is_none() {
+            return;
+        }
+        self.table.set_flock(file, owner, None);
+        self.table.settle(file);
+    }
+
+    /// The second half where the request doesn't wait: it is tested, and set in the place that is kept.
+    fn flock_or_refuse(&mut self, file: u64, owner: u64, mode: Mode) -> Answer
+        requires { HasFlockPlace self.old.table file owner }
+        ensures comes_to { TestComesTo (policy_of self.old) (state_of self.old) file (flock_request_of 0 owner mode) result (state_of self.new) }
+        ensures policy { policy_of self.new ≡ policy_of self.old }
+        ensures openings { SameOpenings (through_of self.old) (through_of self.new) }
+    {
+        let wanted = flock_request(0, owner, mode);
+        if self.table.holds_back(file, &wanted) {
+            self.table.sweep(file);
+            return Answer::Blocked;
+        }
+        self.table.set_flock(file, owner, Some(mode));
+        self.table.settle(file);
+        Answer::Done
+    }
+
+    /// The second half where the request may wait: it is set or joins the waits, in the room that was taken.
+    fn flock_or_wait(&mut self, file: u64, wanted: Pending) -> WaitAnswer
+        requires range { IsByteRange wanted.span }
+        requires flock { (wanted.family ≡ Family.Whole) × (wanted.detect ≡ false) }
+        requires room { HasRoomFor self.old.table file wanted }
+        ensures comes_to { WaitComesTo (policy_of self.old) (state_of self.old) file wanted result (state_of self.new) }
+        ensures policy { policy_of self.new ≡ policy_of self.old }
+        ensures openings { SameOpenings (through_of self.old) (through_of self.new) }
+    {
+        if self.table.blocks(file, &wanted) {
+            self.table.join(file, wanted);
+            return WaitAnswer::Waits;
+        }
+        self.table.set_flock(file, wanted.owner, Some(wanted.mode));
+        self.table.give_back(wanted.ticket);
+        self.table.settle(file);
+        WaitAnswer::Done
+    }
+}
+
+/// A request for byte locks, as it would wait.
+fn byte_request(ticket: u64, owner: u64, span: Span, mode: Mode, detect: bool) -> Pending
+    ensures { result ≡ byte_request_of ticket owner span mode detect }
+{
+    Pending {
+        ticket,
+        owner,
+        family: Family::Bytes,
+        span,
+        mode,
+        detect,
+    }
+}
+
+/// A request for a flock lock, as it would wait.
+fn flock_request(ticket: u64, owner: u64, mode: Mode) -> Pending
+    ensures { result ≡ flock_request_of ticket owner mode }
+{
+    Pending {
+        ticket,
+        owner,
+        family: Family::Whole,
+        span: Span {
+            first: 0,
+            last: OFFMAX,
+        },
+        mode,
+        detect: false,
+    }
+}

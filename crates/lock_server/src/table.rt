@@ -1,0 +1,50 @@
+//! The files that have a lock or a wait, and what is known of tickets and of owners.
+ghost use Rattle.lock_server.specs.Index.{IsIndexed};
+
+mod bytes;
+mod deadlock;
+mod entries;
+mod flocks;
+mod settling;
+mod waiting;
+
+use crate::Policy;
+use crate::file::LockFile;
+use crate::tickets::Tickets;
+use crate::waiters::Waiters;
+use std::alloc::Global;
+use std::collections::BTreeMap;
+
+/// The files that have a lock or a wait, and what is known of tickets and of owners. What is said of them here holds at every
+/// moment, also inside a call.
+#[derive(Drop)]
+pub struct Table {
+    policy: Policy,
+    alloc: Global,
+    /// By file: those with a lock or a wait.
+    files: BTreeMap<u64, LockFile>,
+    tickets: Tickets,
+    waiters: Waiters,
+    ghost indexed: { IsIndexed files tickets waiters },
+}
+
+#[tactic(auto, unfolding(crate::specs::TableView::table_state, crate::specs::TableView::table_policy, crate::specs::TableView::entry_of, crate::specs::States::opening))]
+impl Table {
+    ghost use Rattle.std.specs.Prelude.{◌≡◌};
+    ghost use Rattle.lock_server.specs.States.{opening, SameState};
+    ghost use Rattle.lock_server.specs.TableView.{table_state, table_policy};
+
+    /// No lock and no wait. It takes no memory.
+    pub fn new(alloc: Global, policy: Policy) -> Table
+        ensures opening { SameState opening (table_state result) }
+        ensures policy { table_policy result ≡ policy }
+    {
+        Table {
+            policy,
+            alloc,
+            files: BTreeMap::new(alloc),
+            tickets: Tickets::new(alloc),
+            waiters: Waiters::new(alloc),
+        }
+    }
+}

@@ -1,0 +1,149 @@
+//! Byte locks that are asked for without waiting.
+ghost use Rattle.std.specs.Prelude.{◌≡◌, ◌↔◌, ◌<◌, ℕ, None, All, IsFalse, IsTrue, IfSome, IfNone, OnOk, OnErr, MatchOption};
+ghost use Rattle.range_core.specs.Ranges.{IsByteRange};
+ghost use Rattle.lock_book.specs.Conflicts.{ByteConflict, IsFirstBlocker};
+ghost use Rattle.lock_server.specs.Calls.{DismissesOn, Forgets, ForgetsOn, is_other_wait, ReleasesOn, SetsOn};
+ghost use Rattle.lock_server.specs.Files.{SameFile, untouched};
+ghost use Rattle.lock_server.specs.Settling.{IsHeldBack};
+ghost use Rattle.lock_server.specs.States.{SameState};
+ghost use Rattle.lock_server.specs.TableView.{HasEntry, table_state, table_policy};
+
+use super::Table;
+use crate::{Blocker, Family, Memory, Mode, Owner, Pending, Span};
+use std::ops::Bound;
+
+#[tactic(auto, unfolding(crate::specs::TableView::table_state, crate::specs::TableView::table_policy, crate::specs::TableView::entry_of))]
+impl Table {
+    /// The first lock of another owner that is in the way (POSIX.1-2017 fcntl, `F_GETLK`).
+    pub fn blocker(&self, file: u64, owner: u64, span: Span, mode: Mode) -> Option<Blocker>
+        requires { IsByteRange span }
+        ensures some { IfSome result (IsFirstBlocker ((table_state self.now).files file).bytes (Owner.Description owner) span mode) }
+        ensures none { IfNone result (¬ ByteConflict ((table_state self.now).files file).bytes (Owner.Description owner) span mode) }
+    {
+        self.files.get(&file)?.blocker(owner, span, mode)
+    }
+
+    /// Sets the mode on just the bytes of the span, or removes it. No conflict is looked for, and no wait is granted.
+    ///
+    /// `Memory` leaves the table as it was.
+    pub fn set(
+        &mut self,
+        file: u64,
+        owner: u64,
+        span: Span,
+        mode: Option<Mode>,
+    ) -> Result<(), Memory>
+        requires { IsByteRange span }
+        ensures ok { OnOk result (SetsOn (table_state self.old) file Family.Bytes owner span mode (table_state self.new)) }
+        ensures err { OnErr result (SameState (table_state self.old) (table_state self.new)) }
+        ensures policy { table_policy self.new ≡ table_policy self.old }
+    {
+        self.open(file)?;
+        match self.set_there(file, owner, span, mode) {
+            Ok(()) => Ok(()),
+            Err(memory) => {
+                self.sweep(file);
+                Err(memory)
+            }
+        }
+    }
+
+    /// The same on a file that has an entry.
+    fn set_there(
+        &mut self,
+        file: u64,
+        owner: u64,
+        span: Span,
+        mode: Option<Mode>,
+    ) -> Result<(), Memory>
+        requires range { IsByteRange span }
+        requires entry { HasEntry self.old file }
+        ensures ok { OnOk result (SetsOn (table_state self.old) file Family.Bytes owner span mode (table_state self.new)) }
+        ensures err { OnErr result (SameState (table_state self.old) (table_state self.new)) }
+        ensures policy { table_policy self.new ≡ table_policy self.old }
+    {
+        let locks = self.files.get_mut(&file).unwrap();
+        locks.set(owner, span, mode)?;
+        self.waiters.cross_by(owner, mode);
+        Ok(())
+    }
+
+    /// Removes all byte locks of the owner on the file; its waits stay. No wait is granted. It takes no memory.
+    pub fn release(&mut self, file: u64, owner: u64)
+        ensures releases { ReleasesOn (table_state self.old) file Family.Bytes owner (table_state self.new) }
+        ensures policy { table_policy self.new ≡ table_policy self.old }
+    {
+        if let Some(locks) = self.files.get_mut(&file) {
+            locks.release(owner);
+        }
+    }
+
+    /// Removes all byte locks of the owner on the file, and its waits for byte locks. No wait is granted. It takes no memory.
+    pub fn dismiss(&mut self, file: u64, owner: u64)
+        ensures forgets { ForgetsOn (table_state self.old) file owner (table_state self.new) }
+        ensures policy { table_policy self.new ≡ table_policy self.old }
+    {
+        self.release(file, owner);
+        while self.dismiss_one(file, owner) {}
+    }
+
+    /// The first wait on the file for byte locks of the owner leaves the list; false where there is none.
+    fn dismiss_one(&mut self, file: u64, owner: u64) -> bool
+        ensures one { IsTrue result → DismissesOn (table_state self.old) file owner (table_state self.new) }
+        ensures none { IsFalse result → All (λ wait. IsTrue (is_other_wait owner wait)) ((table_state self.old).files file).waits
+            × SameState (table_state self.old) (table_state self.new) }
+        ensures policy { table_policy self.new ≡ table_policy self.old }
+    {
+        let Some(locks) = self.files.get_mut(&file) else {
+            return false;
+        };
+        let Some(wait) = locks.dismiss(owner) else {
+            return false;
+        };
+        self.tickets.forget(wait.ticket);
+        self.waiters.end_for(&wait, file);
+        true
+    }
+
+    /// Removes all byte locks of the owner on all files, and its waits for byte locks; each file is then settled, the files rising. It
+    /// takes no memory.
+    pub fn forget(&mut self, owner: u64)
+        ensures forgets { Forgets (table_policy self.old) (table_state self.old) owner (table_state self.new) }
+        ensures policy { table_policy self.new ≡ table_policy self.old }
+    {
+        let mut above = None;
+        while let Some(file) = self.next_file(above) {
+            self.dismiss(file, owner);
+            self.settle(file);
+            self.sweep(file);
+            above = Some(file);
+        }
+    }
+
+    /// Whether a lock of another owner is in the way of the request (POSIX.1-2017 fcntl, `F_SETLK`; flock(2)).
+    pub fn holds_back(&self, file: u64, wanted: &Pending) -> bool
+        requires { IsByteRange wanted.now.span }
+        ensures { IsTrue result ↔ IsHeldBack ((table_state self.now).files file) wanted.now }
+    {
+        match self.files.get(&file) {
+            Some(locks) => locks.holds_back(wanted),
+            None => false,
+        }
+    }
+
+    /// The least file with an entry, above this one where one is given.
+    pub fn next_file(&self, above: Option<u64>) -> Option<u64>
+        ensures above { IfSome result (λ file. MatchOption above (Unit {0}) (λ least. least < file)) }
+        ensures least { IfSome result (λ file. (other : ℕ) → MatchOption above (Unit {0}) (λ least. least < other) → other < file
+            → SameFile untouched ((table_state self.now).files other)) }
+        ensures none { IfNone result ((file : ℕ) → MatchOption above (Unit {0}) (λ least. least < file)
+            → SameFile untouched ((table_state self.now).files file)) }
+    {
+        let first = match above {
+            None => Bound::Unbounded,
+            Some(file) => Bound::Excluded(file),
+        };
+        let (file, _) = self.files.range((first, Bound::Unbounded)).next()?;
+        Some(*file)
+    }
+}

@@ -1,0 +1,90 @@
+//! Whether a wait would close a cycle.
+ghost use Rattle.std.specs.Prelude.{◌≡◌, ◌↔◌, ℕ, IsTrue, IfOk, OnOk};
+ghost use Rattle.range_core.specs.Ranges.{IsByteRange};
+ghost use Rattle.lock_server.specs.Blockers.{AddsGoingOn, AddsOwners, IsGoingOn, SomeLeadsTo};
+ghost use Rattle.lock_server.specs.Deadlock.{ClosesCycle, IsBlockedByOwner, WaitsFor};
+ghost use Rattle.lock_server.specs.TableView.{table_state, table_policy};
+
+use super::Table;
+use crate::{Memory, Pending};
+
+#[tactic(auto, unfolding(crate::specs::TableView::table_state, crate::specs::TableView::table_policy, crate::specs::TableView::entry_of))]
+impl Table {
+    /// Whether the request, were it to wait, would close a cycle: some owner that blocks it is led to its own by detected waits
+    /// (POSIX.1-2017 fcntl, `EDEADLK`).
+    pub fn would_cycle(&self, file: u64, wanted: &Pending) -> Result<bool, Memory>
+        requires { IsByteRange wanted.now.span }
+        ensures { IfOk result (λ cycle. IsTrue cycle ↔ ClosesCycle (table_policy self.now) (table_state self.now) file wanted.now) }
+    {
+        let mut blockers = Vec::new(self.alloc);
+        self.add_blockers(&mut blockers, file, wanted)?;
+        let mut reached = Vec::new(self.alloc);
+        self.add_going_on(&mut reached, &blockers, wanted.owner)?;
+        self.leads_to(reached, wanted.owner)
+    }
+
+    /// Adds the owners that block the request, were it to wait on the file.
+    fn add_blockers(&self, owners: &mut Vec<u64>, file: u64, wanted: &Pending) -> Result<(), Memory>
+        requires { IsByteRange wanted.now.span }
+        ensures { OnOk result (AddsOwners owners.old.items owners.new.items
+            (IsBlockedByOwner (table_policy self.now) ((table_state self.now).files file) ((table_state self.now).files file).waits wanted.now)) }
+    {
+        match self.files.get(&file) {
+            Some(locks) => locks.add_blockers(owners, self.policy, locks.waits(), wanted),
+            None => Ok(()),
+        }
+    }
+
+    /// Whether some of these owners is the target, or is led to it by detected waits.
+    fn leads_to(&self, mut reached: Vec<u64>, target: u64) -> Result<bool, Memory>
+        ensures { IfOk result (λ leads. IsTrue leads ↔ SomeLeadsTo (table_policy self.now) (table_state self.now) reached.items target) }
+    {
+        let mut looked_at = 0;
+        while let Some(owner) = reached.get(looked_at).copied() {
+            if owner == target {
+                return Ok(true);
+            }
+            let mut next = Vec::new(self.alloc);
+            self.add_steps(&mut next, owner)?;
+            self.add_going_on(&mut reached, &next, target)?;
+            looked_at += 1;
+        }
+        Ok(false)
+    }
+
+    /// Adds the owners for which this one waits.
+    fn add_steps(&self, owners: &mut Vec<u64>, owner: u64) -> Result<(), Memory>
+        ensures { OnOk result (AddsOwners owners.old.items owners.new.items (WaitsFor (table_policy self.now) (table_state self.now) owner)) }
+    {
+        for file in self.waiters.files(owner) {
+            if let Some(locks) = self.files.get(file) {
+                locks.add_steps(owners, self.policy, owner)?;
+            }
+        }
+        Ok(())
+    }
+
+    /// Adds those of the owners that are not there yet, and are the target or have a detected wait: no others lead on.
+    fn add_going_on(
+        &self,
+        reached: &mut Vec<u64>,
+        owners: &[u64],
+        target: u64,
+    ) -> Result<(), Memory>
+        ensures { OnOk result (AddsGoingOn self.now.waiters target owners.now reached.old.items reached.new.items) }
+    {
+        for owner in owners {
+            if self.goes_on(*owner, target) && !reached.contains(owner) {
+                reached.push(*owner)?;
+            }
+        }
+        Ok(())
+    }
+
+    /// Whether the owner is the target, or has a detected wait.
+    fn goes_on(&self, owner: u64, target: u64) -> bool
+        ensures { IsTrue result ↔ IsGoingOn self.now.waiters target owner }
+    {
+        owner == target || self.waiters.contains(owner)
+    }
+}

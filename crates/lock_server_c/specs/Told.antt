@@ -1,0 +1,93 @@
+-- What C is told by a number, and what the server's call came to.
+use Rattle.std.specs.Prelude.{◌≡◌, ◌⊎◌, ℕ, Option, Result, Ok, Err}
+use Rattle.range_core.specs.declared.Mode.{Mode}
+use Rattle.range_core.specs.declared.Span.{Span}
+use Rattle.range_core.specs.declared.memory.Memory.{Memory}
+use Rattle.lock_book.specs.declared.Blocker.{Blocker}
+use Rattle.lock_book.specs.declared.Owner.{Owner}
+use Rattle.lock_book.specs.declared.Owner.TheVariants.{Process, Description}
+use Rattle.lock_book.specs.Conflicts.{ByteConflict, IsFirstBlocker}
+use Rattle.wait_core.specs.declared.Policy.{Policy}
+use Rattle.lock_server.specs.declared.server.LockServer.{LockServer}
+use Rattle.lock_server.specs.declared.Answer.{Answer}
+use Rattle.lock_server.specs.declared.Answer.TheVariants.{Done, Blocked}
+use Rattle.lock_server.specs.declared.WaitAnswer.{WaitAnswer}
+use Rattle.lock_server.specs.declared.WaitAnswer.TheVariants as told
+use Rattle.lock_server.specs.declared.WaitFault.{WaitFault}
+use Rattle.lock_server.specs.declared.WaitFault.TheVariants as fault
+use Rattle.lock_server.specs.States.{State, SameState}
+use Rattle.lock_server.specs.ServerView.{policy_of, state_of, through_of}
+use Rattle.lock_server_c.specs.declared.status.TheConstants.{DONE, BLOCKED, WAITS, DEADLOCK, TICKET_TAKEN, NO_MEMORY}
+use Rattle.lock_server_c.specs.declared.bytes.BlockerOut.{BlockerOut}
+use Rattle.lock_server_c.specs.declared.handle.Handle.{Handle}
+use Rattle.lock_server_c.specs.Numbers.{number_of}
+use Rattle.lock_server_c.specs.Owned.{BothHave}
+
+-- the handle has a server before the call and after it, of one policy, and the call takes the one's state to the other's
+-- (this project's choice)
+abbrev pub Goes : Handle → Handle → (Policy → State → State → Type 0) → Type 0
+Goes old new comes_to =
+    BothHave old.server new.server (λ server next. (policy_of next ≡ policy_of server) × comes_to (policy_of server) (state_of server) (state_of next))
+
+-- the call takes what is known of owners and open files before it to what is known after it (this project's choice)
+abbrev pub Seen : Handle → Handle → ((ℕ → ℕ → Option ℕ) → (ℕ → ℕ → Option ℕ) → Type 0) → Type 0
+Seen old new comes_to = BothHave old.server new.server (λ server next. comes_to (through_of server) (through_of next))
+
+-- the status of a request that doesn't wait: the answer that the call came to, or no memory, and nothing has changed
+-- (this project's choice)
+abbrev pub AnswerTold : ℕ → State → State → (Answer → Type 0) → Type 0
+AnswerTold status S T comes_to =
+    ((status ≡ DONE) × comes_to Done) ⊎ (((status ≡ BLOCKED) × comes_to Blocked) ⊎ ((status ≡ NO_MEMORY) × SameState S T))
+
+-- the status of a request that may wait: the answer that the call came to; or the ticket is taken, or there was no memory, and
+-- nothing has changed (this project's choice)
+abbrev pub WaitTold : ℕ → State → State → (WaitAnswer → Type 0) → Type 0
+WaitTold status S T comes_to =
+    ((status ≡ DONE) × comes_to told.Done) ⊎ (((status ≡ WAITS) × comes_to told.Waits) ⊎ (((status ≡ DEADLOCK) × comes_to told.Deadlock)
+    ⊎ (((status ≡ TICKET_TAKEN) ⊎ (status ≡ NO_MEMORY)) × SameState S T)))
+
+-- the call takes the one handle's server to the other's, and tells this of its answer (this project's choice)
+abbrev pub Answers : Handle → Handle → ℕ → (Policy → State → Answer → State → Type 0) → Type 0
+Answers old new status comes_to = Goes old new (λ policy S T. AnswerTold status S T (λ answer. comes_to policy S answer T))
+
+-- the same of a request that may wait (this project's choice)
+abbrev pub AnswersWait : Handle → Handle → ℕ → (Policy → State → WaitAnswer → State → Type 0) → Type 0
+AnswersWait old new status comes_to = Goes old new (λ policy S T. WaitTold status S T (λ answer. comes_to policy S answer T))
+
+-- what the owner has by flock on the file
+abbrev pub flock_mode : State → ℕ → ℕ → Option Mode
+flock_mode S file owner = (S.files file).flocks owner
+
+-- the status of an answer, or of no memory
+abbrev pub status_of : Result Answer Memory → ℕ
+status_of (Ok Done) = DONE
+status_of (Ok Blocked) = BLOCKED
+status_of (Err memory) = NO_MEMORY
+
+-- the status of the answer to a request that may wait, or of what kept it from being taken
+abbrev pub wait_status_of : Result WaitAnswer WaitFault → ℕ
+wait_status_of (Ok told.Done) = DONE
+wait_status_of (Ok told.Waits) = WAITS
+wait_status_of (Ok told.Deadlock) = DEADLOCK
+wait_status_of (Err fault.TicketTaken) = TICKET_TAKEN
+wait_status_of (Err (fault.Memory memory)) = NO_MEMORY
+
+-- the number of an owner; a server gives locks to numbers alone
+abbrev pub number_of_owner : Owner → ℕ
+number_of_owner (Process number) = number
+number_of_owner (Description number) = number
+
+-- what C is told of a lock that blocks: the owner's number, the range and the mode
+abbrev pub out_of : Blocker → BlockerOut
+out_of blocker = record
+    { owner = number_of_owner blocker.owner; first = blocker.span.first; last = blocker.span.last; mode = number_of blocker.mode }
+
+-- a byte lock of another owner is in the way of one on the file (POSIX.1-2017 fcntl, DESCRIPTION, F_SETLK, "blocked by")
+abbrev pub IsInTheWay : LockServer → ℕ → ℕ → Span → Mode → Type 0
+IsInTheWay server file owner span mode = ByteConflict ((state_of server).files file).bytes (Description owner) span mode
+
+-- C is told of the first lock that is in the way (POSIX.1-2017 fcntl, DESCRIPTION, F_GETLK)
+pub record BlockerTold (server : LockServer) (file owner : ℕ) (span : Span) (mode : Mode) (out : BlockerOut) : Type 0 where
+  pub blocker : Blocker
+  pub is_first : IsFirstBlocker ((state_of server).files file).bytes (Description owner) span mode blocker
+  pub written : out ≡ out_of blocker

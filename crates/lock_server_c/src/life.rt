@@ -1,0 +1,37 @@
+//! The life of a server.
+ghost use Rattle.std.specs.Prelude.{◌≡◌, ℕ, None, IsSome, IsTrue, IsFalse};
+ghost use Rattle.lock_server.specs.ServerView.{policy_of, state_of, through_of};
+ghost use Rattle.lock_server.specs.States.{SameState, opening};
+ghost use Rattle.lock_server_c.specs.Numbers.{policy_for};
+ghost use Rattle.lock_server_c.specs.Owned.{Has};
+
+use crate::handle::Handle;
+use crate::numbers;
+use lock_server::LockServer;
+use std::alloc::Global;
+
+/// Makes a server without locks and waits; `false` where there is no memory, and the handle then has none.
+#[unsafe(no_mangle)]
+pub extern "C" fn dehokuna_create(alloc: Global, handle: &mut Handle, policy: u32) -> bool
+    requires { handle.old.server ≡ None }
+    ensures made { IsTrue result → Has handle.new.server (λ server. (policy_of server ≡ policy_for policy) × SameState opening (state_of server)) }
+    ensures openings { IsTrue result → Has handle.new.server (λ server. (file owner : ℕ) → through_of server file owner ≡ None) }
+    ensures none { IsFalse result → handle.new.server ≡ None }
+{
+    match Box::new(alloc, LockServer::new(alloc, numbers::policy(policy))) {
+        Ok(server) => {
+            handle.put(server);
+            true
+        }
+        Err(_) => false,
+    }
+}
+
+/// Frees the server with all its locks and waits.
+#[unsafe(no_mangle)]
+pub extern "C" fn dehokuna_destroy(alloc: Global, handle: &mut Handle)
+    requires { IsSome handle.old.server }
+    ensures { handle.new.server ≡ None }
+{
+    let _server = handle.take(alloc);
+}

@@ -1,0 +1,19 @@
+//! How a file server uses the lock server; the README quotes the lines of the test.
+use lock_server::{LockServer, Mode, Policy, Span, WaitAnswer};
+use range_core::OFFMAX;
+use std::test::Fail;
+
+#[test]
+fn answers_a_request_later(rt: HostRuntime) -> Result<(), Fail> {
+    let mut server = LockServer::new(rt.alloc(), Policy::Held);
+    let all = Span {
+        first: 0,
+        last: OFFMAX,
+    };
+    server.set(4711, 1, all, Some(Mode::Write))?;
+    let told = server.wait(70, 4711, 2, all, Mode::Read, true)?;
+    assert_eq!(rt; told, WaitAnswer::Waits); // ticket 70 is told when it is granted
+    server.flush(4711, 1);
+    assert_eq!(rt; server.next_grant(), Some(70));
+    Ok(())
+}

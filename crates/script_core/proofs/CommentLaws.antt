@@ -1,0 +1,542 @@
+-- An explained run without the lines that begin with `#` is the run: for `explanations_are_comments`.
+use Rattle.std.proofs.Common.{ℕ, zero, suc, ◌≡◌, ◌+◌, ◌-◌, ◌<◌, ◌≤◌, ◌==◌, ◌/◌, ◌%◌, Bool, true, false, not, nat_lt, ◌&&◌, cond, Option, Some, None, List, [], ◌∷◌, ◌++◌, length, filter, flat_map, codes, decimal, ℤ, pos, negsuc, refl, sym, ap, subst, ◌∙◌, arith, append_assoc, append-nil, inl, inr}
+use Rattle.std.specs.List.{list_all, list_any, slice_split, join_with_byte}
+use Rattle.std.specs.Fmt.{signed_decimal}
+use Rattle.std.specs.Fmt.{digits, digits_onto, digit_glyph}
+use Rattle.std.proofs.lemmas.Bool.{cases_Bool}
+use Rattle.std.proofs.lemmas.Bool.Decides.{nat_tests}
+use Rattle.std.proofs.lemmas.List.Folds.{list_all-append}
+use Rattle.range_core.specs.declared.Mode.{Mode}
+use Rattle.range_core.specs.declared.Mode.TheVariants as modes
+use Rattle.range_core.specs.declared.Kind.{Kind}
+use Rattle.range_core.specs.declared.Kind.TheVariants.{Read, Write, Unlock}
+use Rattle.range_core.specs.declared.Whence.{Whence}
+use Rattle.range_core.specs.declared.Whence.TheVariants.{Set, Cur, End}
+use Rattle.range_core.specs.declared.Span.{Span}
+use Rattle.lock_book.specs.declared.Owner.{Owner}
+use Rattle.lock_book.specs.declared.Owner.TheVariants as owners
+use Rattle.lock_book.specs.declared.Held.{Held}
+use Rattle.fd_table.specs.declared.Access.{Access}
+use Rattle.fd_table.specs.declared.Access.TheVariants.{R, W, Rw}
+use Rattle.wait_core.specs.declared.Family.{Family}
+use Rattle.wait_core.specs.declared.Family.TheVariants.{Bytes, Whole}
+use Rattle.wait_core.specs.declared.Wait.{Wait}
+use Rattle.lock_manager.specs.declared.request.Rules.{Rules}
+use Rattle.lock_manager.specs.declared.request.Lock.{Lock}
+use Rattle.lock_manager.specs.declared.request.LkCmd.{LkCmd}
+use Rattle.lock_manager.specs.declared.request.LkCmd.TheVariants.{GetLk, SetLk, SetLkW, OGetLk, OSetLk, OSetLkW}
+use Rattle.lock_manager.specs.declared.request.FlockOp.{FlockOp}
+use Rattle.lock_manager.specs.declared.request.FlockOp.TheVariants.{Sh, Ex, Un}
+use Rattle.lock_manager.specs.declared.request.Errno.{Errno}
+use Rattle.lock_manager.specs.declared.request.Errno.TheVariants.{EBADF, EINVAL, EOVERFLOW, EAGAIN, EDEADLK, EINTR, EMFILE, ESRCH}
+use Rattle.lock_manager.specs.declared.request.Reply.{Reply}
+use Rattle.lock_manager.specs.declared.request.Reply.TheVariants as replies
+use Rattle.lock_manager.specs.declared.request.Note.{Note}
+use Rattle.lock_manager.specs.declared.request.Note.TheVariants.{Answer, Waits}
+use Rattle.lock_manager.specs.declared.request.InTheWay.{InTheWay}
+use Rattle.lock_manager.specs.declared.request.InTheWay.TheVariants as obstacles
+use Rattle.lock_manager.specs.declared.request.Request.{Request}
+use Rattle.lock_manager.specs.declared.request.Request.TheVariants.{OpenFile, Dup, DupTo, CloseFd, Seek, Resize, Lk, Flock, Fork, Exit, Signal, Kill}
+use Rattle.lock_manager.specs.declared.request.ProcState.{ProcState}
+use Rattle.lock_manager.specs.declared.request.ProcState.TheVariants as states
+use Rattle.lock_manager.specs.State.{State, opening_state}
+use Rattle.session_core.specs.Event.{Event}
+use Rattle.session_core.specs.Mail.{requests_sent}
+use Rattle.script_core.specs.declared.text.ProcessLine.{ProcessLine}
+use Rattle.script_core.specs.Words.{lines_of, without_empty_end}
+use Rattle.script_core.specs.RequestText.{access_word, mode_word, kind_word, whence_word, op_word, lock_command_word, pid_words, nb_words, lock_words, request_words, request_text}
+use Rattle.script_core.specs.EntryText.{error_name, reply_words, reply_text, tag, note_text, entry_text, entry_line}
+use Rattle.script_core.specs.ReportText.{owner_text, flock_word, byte_lock_text, flock_text, held_text, held_line, wanted_text, wait_line, state_word, counts_text, process_line, is_reported, reported_line, process_lines, line_of, IsReport}
+use Rattle.script_core.specs.Output.{IsOutput, processes_in}
+use Rattle.script_core.specs.Explaining.{comment, in_the_way_line, obstacle_line, is_same_place, word_of_loss, loss_line, loss_lines, Explains, ExplainsRun, more_text, never_born_line, unborn_line, unborn_lines, is_comment_line, without_comments, IsExplained, ExplanationsAreComments}
+
+-- no byte ends a line
+abbrev goes_on : ℕ → Bool
+goes_on byte = not (byte == 10)
+
+abbrev InLine : List ℕ → Type 0
+InLine bytes = list_all goes_on bytes ≡ true
+
+both : (one other : List ℕ) → InLine one → InLine other → InLine (one ++ other)
+both one other h k = list_all-append goes_on one other ∙ ap (λ b. b && list_all goes_on other) h ∙ k
+
+-- a line is the first, where others follow
+split_end : (line rest : List ℕ) → InLine line → slice_split (λ byte. byte == 10) (line ++ 10 ∷ rest) ≡ line ∷ slice_split (λ byte. byte == 10) rest
+split_end [] rest is = refl
+split_end (byte ∷ line) rest is =
+    let on : (byte == 10) ≡ false = first_on (byte == 10) (list_all goes_on line) is in
+    let later : InLine line = later_on (byte == 10) (list_all goes_on line) is in
+    rw (on, split_end line rest later) refl
+  where
+    first_on : (ends others : Bool) → (not ends && others) ≡ true → ends ≡ false
+    first_on true others e = absurd (cc)
+    first_on false others e = refl
+
+    later_on : (ends others : Bool) → (not ends && others) ≡ true → others ≡ true
+    later_on true others e = absurd (cc)
+    later_on false others e = e
+
+-- what is split has a piece
+piece_first : (bytes : List ℕ) → (piece : List ℕ) × (pieces : List (List ℕ)) × (slice_split (λ byte. byte == 10) bytes ≡ piece ∷ pieces)
+piece_first [] = ([], [], refl)
+piece_first (byte ∷ bytes) =
+    let rest = piece_first bytes in
+    elim (cases_Bool (byte == 10)) [
+      | inl ends ↦ ([], slice_split (λ b. b == 10) bytes, rw ends refl)
+      | inr goes ↦ (byte ∷ rest.0, rest.1, rw (goes, rest.2) refl)
+    ]
+
+keeps_first : (line piece : List ℕ) (pieces : List (List ℕ)) → without_empty_end (line ∷ piece ∷ pieces) ≡ line ∷ without_empty_end (piece ∷ pieces)
+keeps_first [] piece pieces = refl
+keeps_first (byte ∷ line) piece pieces = refl
+
+lines_first : (line rest : List ℕ) → InLine line → lines_of (line ++ 10 ∷ rest) ≡ line ∷ lines_of rest
+lines_first line rest is =
+    let next = piece_first rest in
+    ap without_empty_end (split_end line rest is ∙ ap (λ (l : List (List ℕ)). line ∷ l) next.2)
+    ∙ keeps_first line next.0 next.1 ∙ ap (λ (l : List (List ℕ)). line ∷ without_empty_end l) (sym next.2)
+
+-- the text stays, whatever follows it
+abbrev IsPlain : List ℕ → Type 0
+IsPlain text = (rest : List ℕ) → without_comments (text ++ rest) ≡ text ++ without_comments rest
+
+-- the text goes, whatever follows it
+abbrev IsComment : List ℕ → Type 0
+IsComment text = (rest : List ℕ) → without_comments (text ++ rest) ≡ without_comments rest
+
+abbrev ended : List ℕ → List ℕ
+ended line = line ++ 10 ∷ []
+
+rest_behind : (line rest : List ℕ) → ended line ++ rest ≡ line ++ 10 ∷ rest
+rest_behind line rest = append_assoc line (10 ∷ []) rest
+
+plain_line : (line : List ℕ) → InLine line → is_comment_line line ≡ false → IsPlain (ended line)
+plain_line line is plain rest =
+    ap without_comments (rest_behind line rest)
+    ∙ ap (λ (ls : List (List ℕ)). flat_map ended (filter (λ l. not (is_comment_line l)) ls)) (lines_first line rest is)
+    ∙ kept (is_comment_line line) plain
+  where
+    kept : (b : Bool) → b ≡ false
+        → flat_map ended (cond (not b) (line ∷ filter (λ l. not (is_comment_line l)) (lines_of rest)) (filter (λ l. not (is_comment_line l)) (lines_of rest))) ≡ ended line ++ without_comments rest
+    kept true e = absurd (cc)
+    kept false e = refl
+
+comment_line : (line : List ℕ) → InLine line → is_comment_line line ≡ true → IsComment (ended line)
+comment_line line is begins rest =
+    ap without_comments (rest_behind line rest)
+    ∙ ap (λ (ls : List (List ℕ)). flat_map ended (filter (λ l. not (is_comment_line l)) ls)) (lines_first line rest is)
+    ∙ gone (is_comment_line line) begins
+  where
+    gone : (b : Bool) → b ≡ true
+        → flat_map ended (cond (not b) (line ∷ filter (λ l. not (is_comment_line l)) (lines_of rest)) (filter (λ l. not (is_comment_line l)) (lines_of rest))) ≡ without_comments rest
+    gone true e = refl
+    gone false e = absurd (cc)
+
+plain_none : IsPlain []
+plain_none rest = refl
+
+plain_both : (one other : List ℕ) → IsPlain one → IsPlain other → IsPlain (one ++ other)
+plain_both one other h k rest =
+    ap without_comments (append_assoc one other rest) ∙ h (other ++ rest) ∙ ap (λ (l : List ℕ). one ++ l) (k rest)
+    ∙ sym (append_assoc one other (without_comments rest))
+
+comment_none : IsComment []
+comment_none rest = refl
+
+comment_both : (one other : List ℕ) → IsComment one → IsComment other → IsComment (one ++ other)
+comment_both one other h k rest = ap without_comments (append_assoc one other rest) ∙ h (other ++ rest) ∙ k rest
+
+plain_each : {X : Type 0} (f : X → List ℕ) → ((x : X) → IsPlain (f x)) → (xs : List X) → IsPlain (flat_map f xs)
+plain_each f each [] = plain_none
+plain_each f each (x ∷ xs) = plain_both (f x) (flat_map f xs) (each x) (plain_each f each xs)
+
+comment_each : {X : Type 0} (f : X → List ℕ) → ((x : X) → IsComment (f x)) → (xs : List X) → IsComment (flat_map f xs)
+comment_each f each [] = comment_none
+comment_each f each (x ∷ xs) = comment_both (f x) (flat_map f xs) (each x) (comment_each f each xs)
+
+-- numbers
+glyph_on : (n : ℕ) → goes_on (digit_glyph false (n % 10)) ≡ true
+glyph_on n = let small : n % 10 < 10 = omega arith in glyph_small (n % 10) small
+  where
+    glyph_small : (d : ℕ) → d < 10 → goes_on (digit_glyph false d) ≡ true
+    glyph_small d small = grind (arith, nat_tests)
+
+digits_on : (k n : ℕ) (behind : List ℕ) → InLine behind → InLine (digits_onto k 10 false n behind)
+digits_on zero n behind is = is
+digits_on (suc k) n behind is =
+    let glyph = digit_glyph false (n % 10) in
+    let more : InLine (glyph ∷ behind) = ap (λ b. b && list_all goes_on behind) (glyph_on n) ∙ is in
+    elim (n / 10 == 0) as (λ last. InLine (cond last (glyph ∷ behind) (digits_onto k 10 false (n / 10) (glyph ∷ behind)))) [
+      | true ↦ more
+      | false ↦ digits_on k (n / 10) (glyph ∷ behind) more
+    ]
+
+number : (n : ℕ) → InLine (decimal n)
+unfolding digits
+number n = digits_on 64 n [] refl
+
+integer : (z : ℤ) → InLine (signed_decimal z)
+integer (pos n) = number n
+integer (negsuc n) = number (suc n)
+
+-- a number begins with a digit
+abbrev Starts : List ℕ → Type 0
+Starts bytes = (byte : ℕ) × (rest : List ℕ) × (bytes ≡ byte ∷ rest) × ((byte == 35) ≡ false)
+
+starts_glyph : (n : ℕ) (behind : List ℕ) → Starts (digit_glyph false (n % 10) ∷ behind)
+starts_glyph n behind = let small : n % 10 < 10 = omega arith in (digit_glyph false (n % 10), behind, refl, glyph_small (n % 10) small)
+  where
+    glyph_small : (d : ℕ) → d < 10 → (digit_glyph false d == 35) ≡ false
+    glyph_small d small = grind (arith, nat_tests)
+
+starts_digits : (k n : ℕ) (behind : List ℕ) → Starts behind → Starts (digits_onto k 10 false n behind)
+starts_digits zero n behind h = h
+starts_digits (suc k) n behind h =
+    let glyph = digit_glyph false (n % 10) in
+    elim (n / 10 == 0) as (λ last. Starts (cond last (glyph ∷ behind) (digits_onto k 10 false (n / 10) (glyph ∷ behind)))) [
+      | true ↦ starts_glyph n behind
+      | false ↦ starts_digits k (n / 10) (glyph ∷ behind) (starts_glyph n behind)
+    ]
+
+starts_first : (k n : ℕ) → Starts (digits_onto (suc k) 10 false n [])
+starts_first k n =
+    let glyph = digit_glyph false (n % 10) in
+    elim (n / 10 == 0) as (λ last. Starts (cond last (glyph ∷ []) (digits_onto k 10 false (n / 10) (glyph ∷ [])))) [
+      | true ↦ starts_glyph n []
+      | false ↦ starts_digits k (n / 10) (glyph ∷ []) (starts_glyph n [])
+    ]
+
+starts_number : (n : ℕ) → Starts (decimal n)
+unfolding digits
+starts_number n = starts_first 63 n
+
+starts_both : (one other : List ℕ) → Starts one → Starts (one ++ other)
+starts_both one other h = (h.0, h.1 ++ other, ap (λ (l : List ℕ). l ++ other) h.2, h.3)
+
+starts_plain : (line : List ℕ) → Starts line → is_comment_line line ≡ false
+starts_plain line h = ap is_comment_line h.2 ∙ h.3
+
+-- words
+abbrev InWords : List (List ℕ) → Type 0
+InWords [] = Unit {0}
+InWords (word ∷ words) = InLine word × InWords words
+
+words_both : (one other : List (List ℕ)) → InWords one → InWords other → InWords (one ++ other)
+words_both [] other h k = k
+words_both (word ∷ one) other h k = (h.0, words_both one other h.1 k)
+
+joined : (words : List (List ℕ)) → InWords words → InLine (join_with_byte 32 words)
+joined [] h = refl
+joined (word ∷ []) h = h.0
+joined (word ∷ next ∷ words) h = both word (32 ∷ join_with_byte 32 (next ∷ words)) h.0 (joined (next ∷ words) h.1)
+
+in_access : (access : Access) → InLine (access_word access)
+in_access R = refl
+in_access W = refl
+in_access Rw = refl
+
+in_mode : (mode : Mode) → InLine (mode_word mode)
+in_mode modes.Read = refl
+in_mode modes.Write = refl
+
+in_kind : (kind : Kind) → InLine (kind_word kind)
+in_kind Read = refl
+in_kind Write = refl
+in_kind Unlock = refl
+
+in_whence : (whence : Whence) → InLine (whence_word whence)
+in_whence Set = refl
+in_whence Cur = refl
+in_whence End = refl
+
+in_op : (op : FlockOp) → InLine (op_word op)
+in_op Sh = refl
+in_op Ex = refl
+in_op Un = refl
+
+in_command : (cmd : LkCmd) → InLine (lock_command_word cmd)
+in_command GetLk = refl
+in_command SetLk = refl
+in_command SetLkW = refl
+in_command OGetLk = refl
+in_command OSetLk = refl
+in_command OSetLkW = refl
+
+in_pid : (pid : ℤ) → InWords (pid_words pid)
+in_pid (pos zero) = tt
+in_pid (pos (suc n)) = (number (suc n), tt)
+in_pid (negsuc n) = (integer (negsuc n), tt)
+
+in_nb : (nb : Bool) → InWords (nb_words nb)
+in_nb true = (refl, tt)
+in_nb false = tt
+
+in_request : (request : Request) → InWords (request_words request)
+in_request (OpenFile file access) = (refl, (number file, (in_access access, tt)))
+in_request (Dup fd) = (refl, (number fd, tt))
+in_request (DupTo fd to) = (refl, (number fd, (number to, tt)))
+in_request (CloseFd fd) = (refl, (number fd, tt))
+in_request (Seek fd offset) = (refl, (number fd, (integer offset, tt)))
+in_request (Resize fd size) = (refl, (number fd, (integer size, tt)))
+in_request (Lk fd cmd lock) = (
+  in_command cmd,
+  words_both (lock_words fd lock) (pid_words lock.pid)
+      (number fd, (in_kind lock.kind, (in_whence lock.whence, (integer lock.start, (integer lock.len, tt))))) (in_pid lock.pid),
+)
+in_request (Flock fd op nb) = (refl, (number fd, (in_op op, in_nb nb)))
+in_request (Fork child) = (refl, (number child, tt))
+in_request Exit = (refl, tt)
+in_request (Signal target) = (refl, (number target, tt))
+in_request (Kill target) = (refl, (number target, tt))
+
+in_error : (error : Errno) → InLine (error_name error)
+in_error EBADF = refl
+in_error EINVAL = refl
+in_error EOVERFLOW = refl
+in_error EAGAIN = refl
+in_error EDEADLK = refl
+in_error EINTR = refl
+in_error EMFILE = refl
+in_error ESRCH = refl
+
+in_reply : (reply : Reply) → InWords (reply_words reply)
+in_reply replies.Ok = (refl, tt)
+in_reply (replies.Fd fd) = (refl, (number fd, tt))
+in_reply replies.Free = (refl, tt)
+in_reply (replies.Held mode start len pid) = (refl, (in_mode mode, (number start, (number len, (integer pid, tt)))))
+in_reply (replies.Err error) = (in_error error, tt)
+
+-- entries
+in_tag : (p n : ℕ) → InLine (tag p n)
+in_tag p n = both (decimal p ++ codes "#") (decimal n) (both (decimal p) (codes "#") (number p) refl) (number n)
+
+in_note : (note : Note) → InLine (note_text note)
+in_note (Answer p n reply) = both (tag p n ++ codes " ") (reply_text reply) (both (tag p n) (codes " ") (in_tag p n) refl) (joined (reply_words reply) (in_reply reply))
+in_note (Waits p n) = both (tag p n) (codes " waits") (in_tag p n) refl
+
+in_notes : (notes : List Note) → InLine (flat_map note_text notes)
+in_notes [] = refl
+in_notes (note ∷ notes) = both (note_text note) (flat_map note_text notes) (in_note note) (in_notes notes)
+
+in_entry : (event : Event) → InLine (entry_text event)
+in_entry event =
+    let named = both (tag event.p event.n) (codes " ") (in_tag event.p event.n) refl in
+    let requested = both (tag event.p event.n ++ codes " ") (request_text event.request) named (joined (request_words event.request) (in_request event.request)) in
+    both (tag event.p event.n ++ codes " " ++ request_text event.request) (flat_map note_text event.notes) requested (in_notes event.notes)
+
+starts_entry : (event : Event) → Starts (entry_text event)
+starts_entry event =
+    let p = decimal event.p in
+    let tagged = starts_both (p ++ codes "#") (decimal event.n) (starts_both p (codes "#") (starts_number event.p)) in
+    starts_both (tag event.p event.n ++ codes " " ++ request_text event.request) (flat_map note_text event.notes)
+    (starts_both (tag event.p event.n ++ codes " ") (request_text event.request) (starts_both (tag event.p event.n) (codes " ") tagged))
+
+plain_entry : (event : Event) → IsPlain (entry_line event)
+plain_entry event = plain_line (entry_text event) (in_entry event) (starts_plain (entry_text event) (starts_entry event))
+
+-- the report
+in_owner : (owner : Owner) → InLine (owner_text owner)
+in_owner (owners.Process p) = number p
+in_owner (owners.Description d) = number d
+
+in_flock_word : (mode : Mode) → InLine (flock_word mode)
+in_flock_word modes.Read = refl
+in_flock_word modes.Write = refl
+
+in_byte_lock : (file : ℕ) (owner : Owner) (mode : Mode) (span : Span) → InLine (byte_lock_text file owner mode span)
+in_byte_lock file owner mode span =
+    let one = decimal file ++ codes " " in
+    let two = one ++ owner_text owner in
+    let three = two ++ codes " " in
+    let four = three ++ mode_word mode in
+    let five = four ++ codes " " in
+    let six = five ++ decimal span.first in
+    both (six ++ codes " ") (decimal span.last)
+    (both six (codes " ") (both five (decimal span.first) (both four (codes " ")
+    (both three (mode_word mode) (both two (codes " ") (both one (owner_text owner) (both (decimal file) (codes " ") (number file) refl) (in_owner owner)) refl) (in_mode mode))
+    refl) (number span.first)) refl) (number span.last)
+
+in_flock : (owner : Owner) (mode : Mode) → InLine (flock_text owner mode)
+in_flock owner mode = both (owner_text owner ++ codes " ") (flock_word mode) (both (owner_text owner) (codes " ") (in_owner owner) refl) (in_flock_word mode)
+
+in_held : (held : Held) → InLine (held_text held)
+in_held held = by_case held.whole
+  where
+    by_case : (whole : Bool) → InLine (cond whole (codes "flock " ++ decimal held.file ++ codes " " ++ flock_text held.owner held.mode) (codes "lock " ++ byte_lock_text held.file held.owner held.mode held.span))
+    by_case true =
+        both (decimal held.file ++ codes " ") (flock_text held.owner held.mode) (both (decimal held.file) (codes " ") (number held.file) refl) (in_flock held.owner held.mode)
+    by_case false = in_byte_lock held.file held.owner held.mode held.span
+
+plain_held : (held : Held) → IsPlain (held_line held)
+plain_held held = plain_line (held_text held) (in_held held) (by_case held.whole)
+  where
+    by_case : (whole : Bool) → is_comment_line (cond whole (codes "flock " ++ decimal held.file ++ codes " " ++ flock_text held.owner held.mode) (codes "lock " ++ byte_lock_text held.file held.owner held.mode held.span)) ≡ false
+    by_case true = refl
+    by_case false = refl
+
+in_wanted : (family : Family) (wait : Wait) → InLine (wanted_text family wait)
+in_wanted Bytes wait = in_byte_lock wait.file wait.owner wait.mode wait.span
+in_wanted Whole wait =
+    both (decimal wait.file ++ codes " flock ") (flock_text wait.owner wait.mode) (both (decimal wait.file) (codes " flock ") (number wait.file) refl) (in_flock wait.owner wait.mode)
+
+abbrev wait_text : Wait → List ℕ
+wait_text wait = codes "wait " ++ tag wait.p wait.n ++ codes " " ++ wanted_text wait.family wait
+
+in_wait : (wait : Wait) → InLine (wait_text wait)
+in_wait wait =
+    both (tag wait.p wait.n ++ codes " ") (wanted_text wait.family wait) (both (tag wait.p wait.n) (codes " ") (in_tag wait.p wait.n) refl) (in_wanted wait.family wait)
+
+plain_wait : (wait : Wait) → IsPlain (wait_line wait)
+plain_wait wait = plain_line (wait_text wait) (in_wait wait) refl
+
+in_state : (state : ProcState) → InLine (state_word state)
+in_state states.Unborn = refl
+in_state states.Live = refl
+in_state states.Waiting = refl
+in_state states.Ended = refl
+
+in_counts : (line : ProcessLine) → InLine (counts_text line)
+in_counts line =
+    let one = decimal line.sent ++ codes " taken " in
+    let two = one ++ decimal line.taken in
+    both (two ++ codes " answered ") (decimal line.answered)
+    (both two (codes " answered ") (both one (decimal line.taken) (both (decimal line.sent) (codes " taken ") (number line.sent) refl) (number line.taken)) refl) (number line.answered)
+
+plain_process : (line : ProcessLine) → IsPlain (process_line line)
+plain_process line =
+    let one = decimal line.p ++ codes " " in
+    let two = one ++ counts_text line in
+    plain_line (codes "proc " ++ decimal line.p ++ codes " " ++ counts_text line ++ codes " " ++ state_word line.state)
+    (both (two ++ codes " ") (state_word line.state)
+    (both two (codes " ") (both one (counts_text line) (both (decimal line.p) (codes " ") (number line.p) refl) (in_counts line)) refl) (in_state line.state))
+    refl
+
+plain_reported : (line : ProcessLine) → IsPlain (reported_line line)
+plain_reported line = by_case (is_reported line.state line.sent)
+  where
+    by_case : (reported : Bool) → IsPlain (cond reported (process_line line) [])
+    by_case true = plain_process line
+    by_case false = plain_none
+
+plain_processes : (states : ℕ → ProcState) (events : List Event) (sent : ℕ → ℕ) (p n : ℕ) → IsPlain (process_lines states events sent p n)
+unfolding process_lines
+plain_processes states events sent p zero = plain_none
+plain_processes states events sent p (suc n) =
+    plain_both (reported_line (line_of states events sent p)) (process_lines states events sent (p + 1) n) (plain_reported (line_of states events sent p))
+    (plain_processes states events sent (p + 1) n)
+
+plain_report : (processes : ℕ) (S : State) (events : List Event) (sent : ℕ → ℕ) (text : List ℕ) → IsReport processes S events sent text → IsPlain text
+plain_report processes S events sent text report =
+    subst IsPlain (sym report.is)
+    (plain_both (flat_map held_line report.held ++ flat_map wait_line S.waits) (process_lines S.states events sent 1 processes)
+    (plain_both (flat_map held_line report.held) (flat_map wait_line S.waits) (plain_each held_line plain_held report.held) (plain_each wait_line plain_wait S.waits))
+    (plain_processes S.states events sent 1 processes))
+
+-- what explains
+is_comment : (p n : ℕ) (line : List ℕ) → InLine line → IsComment (comment p n (ended line))
+is_comment p n line is =
+    let before = codes "# " ++ tag p n ++ codes " " in
+    let named : InLine before = both (tag p n) (codes " ") (in_tag p n) refl in
+    subst IsComment (append_assoc before line (10 ∷ [])) (comment_line (before ++ line) (both before line named is) refl)
+
+comment_behind : (p n : ℕ) (word line : List ℕ) → InLine word → InLine line → IsComment (comment p n (word ++ ended line))
+comment_behind p n word line is_word is =
+    subst (λ (told : List ℕ). IsComment (comment p n told)) (append_assoc word line (10 ∷ [])) (is_comment p n (word ++ line) (both word line is_word is))
+
+comment_obstacle : (event : Event) (obstacle : Option InTheWay) → IsComment (obstacle_line event obstacle)
+comment_obstacle event None = comment_none
+comment_obstacle event (Some (obstacles.Lock held)) = comment_behind event.p event.n (codes "blocked by ") (held_text held) refl (in_held held)
+comment_obstacle event (Some (obstacles.Wait wait)) = comment_behind event.p event.n (codes "behind ") (wait_text wait) refl (in_wait wait)
+
+comment_loss : (event : Event) (word : List ℕ) (after : List Held) (held : Held) → InLine word → IsComment (loss_line event word after held)
+comment_loss event word after held is = by_case (list_any (is_same_place held) after)
+  where
+    by_case : (there : Bool) → IsComment (cond there [] (comment event.p event.n (word ++ held_line held)))
+    by_case true = comment_none
+    by_case false = comment_behind event.p event.n word (held_text held) is (in_held held)
+
+losses_as : (event : Event) (word : List ℕ) (before after : List Held) → InLine word → IsComment (flat_map (loss_line event word after) before)
+losses_as event word before after is = comment_each (loss_line event word after) (λ held. comment_loss event word after held is) before
+
+comment_losses : (event : Event) (request : Request) (before after : List Held) → IsComment (loss_lines event (word_of_loss request) before after)
+comment_losses event (OpenFile file access) before after = comment_none
+comment_losses event (Dup fd) before after = comment_none
+comment_losses event (DupTo fd to) before after = losses_as event (codes "released ") before after refl
+comment_losses event (CloseFd fd) before after = losses_as event (codes "released ") before after refl
+comment_losses event (Seek fd offset) before after = comment_none
+comment_losses event (Resize fd size) before after = comment_none
+comment_losses event (Lk fd cmd lock) before after = comment_none
+comment_losses event (Flock fd Sh nb) before after = losses_as event (codes "lost ") before after refl
+comment_losses event (Flock fd Ex nb) before after = losses_as event (codes "lost ") before after refl
+comment_losses event (Flock fd Un nb) before after = comment_none
+comment_losses event (Fork child) before after = comment_none
+comment_losses event Exit before after = losses_as event (codes "released ") before after refl
+comment_losses event (Signal target) before after = comment_none
+comment_losses event (Kill target) before after = losses_as event (codes "released ") before after refl
+
+comment_own : (rules : Rules) (S : State) (event : Event) (T : State) (own : List ℕ) → Explains rules S event T own → IsComment own
+comment_own rules S event T own h =
+    subst IsComment (sym h.is)
+    (comment_both (loss_lines event (word_of_loss event.request) h.before h.after) (obstacle_line event h.obstacle)
+    (comment_losses event event.request h.before h.after) (comment_obstacle event h.obstacle))
+
+-- a run that is explained, without what explains it
+run_without : (rules : Rules) (processes : ℕ) (S : State) (events : List Event) (T : State) (text : List ℕ) → ExplainsRun rules processes S events T text
+    → (rest : List ℕ) → without_comments (text ++ rest) ≡ flat_map entry_line events ++ without_comments rest
+run_without rules processes S [] T text h rest = ap (λ (l : List ℕ). without_comments (l ++ rest)) h.1
+run_without rules processes S (event ∷ events) T text h rest =
+    let line = entry_line event in
+    ap (λ (l : List ℕ). without_comments (l ++ rest)) h.6
+    ∙ ap without_comments (append_assoc (line ++ h.2) h.4 rest ∙ append_assoc line h.2 (h.4 ++ rest))
+    ∙ plain_entry event (h.2 ++ (h.4 ++ rest))
+    ∙ ap (λ (l : List ℕ). line ++ l) (comment_own rules S event h.0 h.2 h.3 (h.4 ++ rest) ∙ run_without rules processes h.0 events T h.4 h.5 rest)
+    ∙ sym (append_assoc line (flat_map entry_line events) (without_comments rest))
+
+in_more : (more : ℕ) → InLine (more_text more)
+in_more zero = refl
+in_more (suc more) = both (decimal (suc more)) (codes " more") (number (suc more)) refl
+
+comment_never_born : (p sent : ℕ) → IsComment (never_born_line p sent)
+comment_never_born p zero = comment_none
+comment_never_born p (suc more) =
+    let one = tag p 1 ++ more_text more in
+    let two = one ++ codes " never taken: process " in
+    comment_line (codes "# " ++ tag p 1 ++ more_text more ++ codes " never taken: process " ++ decimal p ++ codes " was never born")
+    (both (two ++ decimal p) (codes " was never born")
+    (both two (decimal p) (both one (codes " never taken: process ") (both (tag p 1) (more_text more) (in_tag p 1) (in_more more)) refl) (number p)) refl)
+    refl
+
+comment_unborn : (state : ProcState) (p sent : ℕ) → IsComment (unborn_line state p sent)
+comment_unborn states.Unborn p sent = comment_never_born p sent
+comment_unborn states.Live p sent = comment_none
+comment_unborn states.Waiting p sent = comment_none
+comment_unborn states.Ended p sent = comment_none
+
+comment_all_unborn : (states : ℕ → ProcState) (sent : ℕ → ℕ) (p n : ℕ) → IsComment (unborn_lines states sent p n)
+unfolding unborn_lines
+comment_all_unborn states sent p zero = comment_none
+comment_all_unborn states sent p (suc n) =
+    comment_both (unborn_line (states p) p (sent p)) (unborn_lines states sent (p + 1) n) (comment_unborn (states p) p (sent p)) (comment_all_unborn states sent (p + 1) n)
+
+-- what is explained of a script is its output, with comments
+pub explanations_are_comments : ExplanationsAreComments
+explanations_are_comments bytes text h =
+    let sent = λ (p : ℕ). length (requests_sent p h.script.arrivals) in
+    let lines = flat_map entry_line h.journal in
+    let born = unborn_lines h.state.states sent 1 (processes_in h.script) in
+    let last : without_comments born ≡ [] =
+    ap without_comments (sym (append-nil born)) ∙ comment_all_unborn h.state.states sent 1 (processes_in h.script) [] in
+    let reported : without_comments (h.report ++ born) ≡ h.report =
+    plain_report (processes_in h.script) h.state h.journal sent h.report h.is_report born ∙ ap (λ (l : List ℕ). h.report ++ l) last ∙ append-nil h.report in
+    record {
+      script = h.script;
+      accepted = h.accepted;
+      journal = h.journal;
+      state = h.state;
+      drained = h.drained;
+      report = h.report;
+      is_report = h.is_report;
+      is = ap without_comments (h.is ∙ append_assoc h.explained h.report born)
+          ∙ run_without h.script.rules (processes_in h.script) opening_state h.journal h.state h.explained h.explains (h.report ++ born)
+          ∙ ap (λ (l : List ℕ). lines ++ l) reported;
+    }

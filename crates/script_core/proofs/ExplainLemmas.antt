@@ -1,0 +1,301 @@
+-- The run that is made again, step by step: for `write_explained` and `write_unborn`, clauses `ok`.
+use Rattle.std.proofs.Common.{ℕ, zero, suc, ◌≡◌, ◌+◌, ◌-◌, ◌<◌, ◌≤◌, Option, Some, None, Ok, IsTrue, List, [], ◌∷◌, ◌++◌, length, take, drop, get_or, refl, sym, ap, subst, ◌∙◌, arith, append_assoc, append-nil, add-one, Result, true, false, Bool}
+use Rattle.std.specs.Prelude.{Err, MatchOption, MatchResult, OnErr, OnOk, codes, decimal, slice_index}
+use Rattle.std.proofs.Math.Seq.{drop-cons, take-append_seam}
+use Rattle.std.proofs.lemmas.List.{take_more, take_all}
+use Rattle.range_core.specs.Resolving.{resolution}
+use Rattle.fd_table.specs.declared.tables.Look.{Look}
+use Rattle.lock_book.specs.declared.Held.{Held}
+use Rattle.lock_book.specs.Changes.{mode_in, flock_mode_in}
+use Rattle.lock_book.specs.Reports.{IsHeldReport}
+use Rattle.wait_core.specs.declared.Wait.{Wait}
+use Rattle.wait_core.specs.Blocking.{IsBlocked}
+use Rattle.lock_manager.specs.declared.request.Rules.{Rules}
+use Rattle.lock_manager.specs.declared.request.Lock.{Lock}
+use Rattle.lock_manager.specs.declared.request.LkCmd.{LkCmd}
+use Rattle.lock_manager.specs.declared.request.FlockOp.{FlockOp}
+use Rattle.lock_manager.specs.declared.request.Note.{Note}
+use Rattle.lock_manager.specs.declared.request.InTheWay.{InTheWay}
+use Rattle.lock_manager.specs.declared.request.Request.{Request}
+use Rattle.lock_manager.specs.declared.request.Request.TheVariants.{OpenFile, Dup, DupTo, CloseFd, Seek, Resize, Lk, Flock, Fork, Exit, Signal, Kill}
+use Rattle.lock_manager.specs.declared.request.ProcState.{ProcState}
+use Rattle.lock_manager.specs.declared.request.ProcState.TheVariants.{Live}
+use Rattle.lock_manager.specs.declared.manager.Manager.{Manager}
+use Rattle.lock_manager.specs.State.{State, opening_state, locks_held}
+use Rattle.lock_manager.specs.Step.{Step}
+use Rattle.lock_manager.specs.LockWords.{wanted_lock}
+use Rattle.lock_manager.specs.FlockCalls.{wanted_flock}
+use Rattle.lock_manager.specs.Asking.{AsksFor, AsksForBytes, AsksForWhole, IsFirstInTheWay}
+use Rattle.lock_manager.specs.OneOutcome.{StepHasOneOutcome}
+use Rattle.lock_manager.specs.ManagerView.{StandsFor, rules_of, processes_of, state_at}
+use Rattle.session_core.specs.Event.{Event}
+use Rattle.session_core.specs.Runs.{IsStep, Leads}
+use Rattle.script_core.specs.EntryText.{entry_line, tag}
+use Rattle.script_core.specs.ReportText.{AreCounts}
+use Rattle.script_core.specs.Output.{Extends}
+use Rattle.script_core.specs.Explaining.{comment, is_stopped, obstacle_line, word_of_loss, loss_lines, StandsInTheWay, Explains, ExplainsRun, more_text, never_born_line, unborn_line, unborn_lines}
+use Rattle.script_core.proofs.TextLemmas.{kept_behind}
+
+-- a request asks for one lock
+Some-one : {X : Type 0} {o : Option X} {x y : X} → o ≡ Some x → o ≡ Some y → x ≡ y
+Some-one e k = cc
+
+Ok-one : {X E : Type 0} {r : Result X E} {x y : X} → r ≡ Ok x → r ≡ Ok y → x ≡ y
+Ok-one e k = cc
+
+one_of_bytes : (S : State) (p n fd : ℕ) (cmd : LkCmd) (lock : Lock) (v w : Wait) → AsksForBytes S p n fd cmd lock v → AsksForBytes S p n fd cmd lock w → v ≡ w
+one_of_bytes S p n fd cmd lock v w h k =
+    let look : h.look ≡ k.look = Some-one h.of_open k.of_open in
+    let span : h.span ≡ k.span =
+    Ok-one h.of_range (subst (λ (l : Look). resolution lock.whence lock.start lock.len l.offset l.size ≡ Ok k.span) (sym look) k.of_range) in
+    let mode : h.mode ≡ k.mode = Some-one h.of_kind k.of_kind in
+    h.is ∙ (λ i. wanted_lock cmd p n (look i) (span i) (mode i)) ∙ sym k.is
+
+one_of_whole : (S : State) (p n fd : ℕ) (op : FlockOp) (v w : Wait) → AsksForWhole S p n fd op v → AsksForWhole S p n fd op w → v ≡ w
+one_of_whole S p n fd op v w h k =
+    let look : h.look ≡ k.look = Some-one h.of_open k.of_open in
+    let mode : h.mode ≡ k.mode = Some-one h.of_op k.of_op in
+    h.is ∙ (λ i. wanted_flock p n (look i) (mode i)) ∙ sym k.is
+
+asks_one : (S : State) (p n : ℕ) (request : Request) (v w : Wait) → AsksFor S p n request v → AsksFor S p n request w → v ≡ w
+asks_one S p n (Lk fd cmd lock) v w h k = one_of_bytes S p n fd cmd lock v w h k
+asks_one S p n (Flock fd op nb) v w h k = one_of_whole S p n fd op v w h k
+asks_one S p n (OpenFile file access) v w h k = absurd h
+asks_one S p n (Dup fd) v w h k = absurd h
+asks_one S p n (DupTo fd to) v w h k = absurd h
+asks_one S p n (CloseFd fd) v w h k = absurd h
+asks_one S p n (Seek fd offset) v w h k = absurd h
+asks_one S p n (Resize fd size) v w h k = absurd h
+asks_one S p n (Fork child) v w h k = absurd h
+asks_one S p n Exit v w h k = absurd h
+asks_one S p n (Signal target) v w h k = absurd h
+asks_one S p n (Kill target) v w h k = absurd h
+
+-- what is first in the way of the lock that the request asks for is in the way of the event
+pub found_in_the_way : (rules : Rules) (T : State) (event : Event) (wait : Wait) (first : Option InTheWay) → is_stopped event.notes ≡ true
+    → AsksFor T event.p event.n event.request wait
+    → MatchOption first (¬ IsBlocked rules.policy (locks_held T) T.waits wait) (IsFirstInTheWay rules.policy (locks_held T) T.waits wait)
+    → StandsInTheWay rules T event first
+found_in_the_way rules T event wait None stopped asks free =
+    λ is other also blocked.
+    free (subst (IsBlocked rules.policy (locks_held T) T.waits) (asks_one T event.p event.n event.request other wait also asks) blocked)
+found_in_the_way rules T event wait (Some obstacle) stopped asks first = (stopped, wait, asks, first)
+
+-- what a step of the manager, and the text behind it, come to in whatever state the manager stands for
+abbrev pub StepExplains : Manager → Manager → Event → List ℕ → List ℕ → Type 0
+StepExplains old new event before after =
+    (S : State) → StandsFor old S → (notes : List Note) × (T : State)
+    × Step (rules_of old) (processes_of old) S event.p event.n event.request notes T × StandsFor new T
+    × (own : List ℕ) × Explains (rules_of old) S event T own × (after ≡ before ++ (entry_line event ++ own))
+
+-- what is told of the step, and of the locks and waits before and behind it, explains it
+pub explains_step : (old next : Manager) (event : Event) (notes : List Note) (before after : List Held) (obstacle : Option InTheWay) (t0 t1 t2 t3 : List ℕ)
+    → ((S : State) → StandsFor old S → IsHeldReport (mode_in S.changes) (flock_mode_in S.flock_changes) before)
+    → ((S : State) → StandsFor old S → (T : State)
+    × Step (rules_of old) (processes_of old) S event.p event.n event.request notes T × StandsFor next T)
+    → ((T : State) → StandsFor next T → IsHeldReport (mode_in T.changes) (flock_mode_in T.flock_changes) after)
+    → ((T : State) → StandsFor next T → StandsInTheWay (rules_of next) T event obstacle) → rules_of next ≡ rules_of old
+    → t1 ≡ t0 ++ entry_line event → t2 ≡ t1 ++ loss_lines event (word_of_loss event.request) before after → t3 ≡ t2 ++ obstacle_line event obstacle
+    → StepExplains old next event t0 t3
+explains_step old next event notes before after obstacle t0 t1 t2 t3 reported steps reports stands rules first second third S h =
+    let step = steps S h in
+    let losses = loss_lines event (word_of_loss event.request) before after in (
+      notes,
+      step.0,
+      step.1,
+      step.2,
+      losses ++ obstacle_line event obstacle,
+      record {
+        before = before;
+        is_before = reported S h;
+        after = after;
+        is_after = reports step.0 step.2;
+        obstacle = obstacle;
+        is_obstacle = subst (λ (r : Rules). StandsInTheWay r step.0 event obstacle) rules (stands step.0 step.2);
+        is = refl;
+      },
+      third ∙ ap (λ (l : List ℕ). l ++ obstacle_line event obstacle) (second ∙ ap (λ (l : List ℕ). l ++ losses) first)
+          ∙ append_assoc (t0 ++ entry_line event) losses (obstacle_line event obstacle)
+          ∙ append_assoc t0 (entry_line event) (losses ++ obstacle_line event obstacle),
+    )
+
+-- what follows where a piece was appended, and where it was refused
+pub if_pushed : {A E : Type 0} (r : Result A E) (P Q X : Type 0) → MatchResult r (λ unit. P) (λ error. Q) → (P → X) → OnOk r X
+if_pushed (Ok unit) P Q X h gives = gives h
+if_pushed (Err error) P Q X h gives = tt
+
+pub if_refused : {A E : Type 0} (r : Result A E) (P Q X : Type 0) → MatchResult r (λ unit. P) (λ error. Q) → (Q → X) → OnErr r X
+if_refused (Ok unit) P Q X h gives = tt
+if_refused (Err error) P Q X h gives = gives h
+
+-- what is said of an obstacle behind the words of a comment
+pub told_behind : {A E : Type 0} (r : Result A E) (old mid new : List ℕ) (p n : ℕ) (words line told : List ℕ) → mid ≡ old ++ comment p n words
+    → told ≡ words ++ line → MatchResult r (λ unit. new ≡ mid ++ line) (λ error. Extends mid new)
+    → MatchResult r (λ unit. new ≡ old ++ comment p n told) (λ error. Extends old new)
+told_behind (Ok unit) old mid new p n words line told begun is pushed =
+    pushed ∙ ap (λ (l : List ℕ). l ++ line) begun ∙ append_assoc old (comment p n words) line
+    ∙ ap (λ (l : List ℕ). old ++ l) (append_assoc (codes "# " ++ tag p n ++ codes " ") words line ∙ ap (comment p n) (sym is))
+told_behind (Err error) old mid new p n words line told begun is kept = kept_behind old mid new (comment p n words) begun kept
+
+-- what is cut back to the old bytes is these
+pub cut_whole : (old new cut : List ℕ) (len : ℕ) → Extends old new → len ≡ length old → cut ≡ take len new → cut ≡ old
+cut_whole old new cut len kept at is = is ∙ ap (λ (n : ℕ). take n new) at ∙ ap (take (length old)) kept.is ∙ take-append_seam old kept.more
+
+-- of one request and more
+pub never_born_more : (p sent : ℕ) → 0 < sent
+    → never_born_line p sent
+    ≡ codes "# " ++ tag p 1 ++ more_text (sent - 1) ++ codes " never taken: process " ++ decimal p ++ codes " was never born" ++ 10 ∷ []
+never_born_more p zero some = absurd (omega (arith, some))
+never_born_more p (suc more) some =
+    let same : more ≡ suc more - 1 = omega arith in
+    ap (λ (k : ℕ). codes "# " ++ tag p 1 ++ more_text k ++ codes " never taken: process " ++ decimal p ++ codes " was never born" ++ 10 ∷ []) same
+
+-- a front of a journal was made again: the manager stands for the state that it leaves, from which the rest leads on, and the text has
+-- grown by what explains the front
+pub record HasExplained (rules : Rules) (processes : ℕ) (journal : List Event) (index : ℕ) (manager : Manager) (old new : List ℕ) : Type 0 where
+  pub state : State
+  pub last : State
+  pub stands : StandsFor manager state
+  pub leads : Leads rules processes state (drop index journal) last
+  pub more : List ℕ
+  pub explains : ExplainsRun rules processes opening_state (take index journal) state more
+  pub is : new ≡ old ++ more
+  pub rules_are : rules_of manager ≡ rules
+  pub processes_are : processes_of manager ≡ processes
+
+-- nothing yet
+pub none_explained : (rules : Rules) (processes : ℕ) (journal : List Event) (manager : Manager) (old : List ℕ)
+    → ((T : State) × Leads rules processes opening_state journal T) → StandsFor manager opening_state → rules_of manager ≡ rules
+    → processes_of manager ≡ processes → HasExplained rules processes journal 0 manager old old
+none_explained rules processes journal manager old run stands rules_are processes_are = record {
+  state = opening_state;
+  last = run.0;
+  stands = stands;
+  leads = run.1;
+  more = [];
+  explains = (refl, refl);
+  is = sym (append-nil old);
+  rules_are = rules_are;
+  processes_are = processes_are;
+}
+
+-- one more event is explained
+run_more : (rules : Rules) (processes : ℕ) (first S : State) (events : List Event) (event : Event) (T : State) (text own : List ℕ)
+    → ExplainsRun rules processes first events S text → IsStep rules processes S event T → Explains rules S event T own
+    → ExplainsRun rules processes first (events ++ event ∷ []) T (text ++ (entry_line event ++ own))
+run_more rules processes first S [] event T text own h step explains = (
+  T,
+  subst (λ (X : State). IsStep rules processes X event T) h.0 step,
+  own,
+  subst (λ (X : State). Explains rules X event T own) h.0 explains,
+  [],
+  (refl, refl),
+  ap (λ (l : List ℕ). l ++ (entry_line event ++ own)) h.1 ∙ sym (append-nil (entry_line event ++ own)),
+)
+run_more rules processes first S (one ∷ events) event T text own h step explains = (
+  h.0,
+  h.1,
+  h.2,
+  h.3,
+  h.4 ++ (entry_line event ++ own),
+  run_more rules processes h.0 S events event T h.4 own h.5 step explains,
+  ap (λ (l : List ℕ). l ++ (entry_line event ++ own)) h.6 ∙ append_assoc (entry_line one ++ h.2) h.4 (entry_line event ++ own),
+)
+
+next_of : (journal : List Event) (index : ℕ) (event : Event) → index < length journal → event ≡ get_or journal index event
+    → drop index journal ≡ event ∷ drop (suc index) journal
+next_of journal index event within is =
+    drop-cons journal index event within ∙ ap (λ (e : Event). e ∷ drop (suc index) journal) (sym is)
+
+-- the process of the next event lives
+pub lives_next : (rules : Rules) (processes : ℕ) (journal : List Event) (index : ℕ) (manager : Manager) (old new : List ℕ) (event : Event)
+    → HasExplained rules processes journal index manager old new → index < length journal → event ≡ get_or journal index event
+    → state_at manager event.p ≡ Live
+lives_next rules processes journal index manager old new event h within is =
+    let rest = subst (λ (l : List Event). Leads rules processes h.state l h.last) (next_of journal index event within is) h.leads in
+    h.stands.states event.p ∙ rest.1.live
+
+-- and once its step is made again it is explained too
+pub explained_more : StepHasOneOutcome → (rules : Rules) (processes : ℕ) (journal : List Event) (index : ℕ) (manager next : Manager) (old mid new : List ℕ) (event : Event)
+    → HasExplained rules processes journal index manager old mid → index < length journal → event ≡ get_or journal index event
+    → StepExplains manager next event mid new → rules_of next ≡ rules_of manager → processes_of next ≡ processes_of manager
+    → HasExplained rules processes journal (index + 1) next old new
+explained_more one rules processes journal index manager next old mid new event h within is made rules_stay processes_stay =
+    let rest = subst (λ (l : List Event). Leads rules processes h.state l h.last) (next_of journal index event within is) h.leads in
+    let step = made h.state h.stands in
+    let by_rules = subst (λ (r : Rules). Step r (processes_of manager) h.state event.p event.n event.request step.0 step.1) h.rules_are step.2 in
+    let by_all = subst (λ (k : ℕ). Step rules k h.state event.p event.n event.request step.0 step.1) h.processes_are by_rules in
+    let same = one rules processes h.state event.p event.n event.request step.0 event.notes step.1 rest.0 by_all rest.1 in
+    let explains = subst (λ (r : Rules). Explains r h.state event step.1 step.4) h.rules_are step.5 in
+    let front : take (index + 1) journal ≡ take index journal ++ event ∷ [] =
+    take_more journal index event within ∙ ap (λ (e : Event). take index journal ++ e ∷ []) (sym is) in
+    record {
+      state = step.1;
+      last = h.last;
+      stands = step.3;
+      leads = subst (λ (l : List Event). Leads rules processes step.1 l h.last) (ap (λ (k : ℕ). drop k journal) (sym (add-one index)))
+          (subst (λ (X : State). Leads rules processes X (drop (suc index) journal) h.last) (sym same.1) rest.2);
+      more = h.more ++ (entry_line event ++ step.4);
+      explains = subst (λ (l : List Event). ExplainsRun rules processes opening_state l step.1 (h.more ++ (entry_line event ++ step.4))) (sym front)
+          (run_more rules processes opening_state h.state (take index journal) event step.1 h.more step.4 h.explains
+          (subst (λ (X : State). IsStep rules processes h.state event X) (sym same.1) rest.1) explains);
+      is = step.6 ∙ ap (λ (l : List ℕ). l ++ (entry_line event ++ step.4)) h.is ∙ append_assoc old h.more (entry_line event ++ step.4);
+      rules_are = rules_stay ∙ h.rules_are;
+      processes_are = processes_stay ∙ h.processes_are;
+    }
+
+-- a run that is explained leaves the state to which its events lead
+same_end : StepHasOneOutcome → (rules : Rules) (processes : ℕ) (S : State) (events : List Event) (T U : State) (text : List ℕ)
+    → ExplainsRun rules processes S events T text → Leads rules processes S events U → T ≡ U
+same_end one rules processes S [] T U text h leads = h.0 ∙ sym leads
+same_end one rules processes S (event ∷ events) T U text h leads =
+    let same = one rules processes S event.p event.n event.request event.notes event.notes h.0 leads.0 h.1 leads.1 in
+    same_end one rules processes leads.0 events T U h.4 (subst (λ (X : State). ExplainsRun rules processes X events T h.4) same.1 h.5) leads.2
+
+-- the whole journal
+pub all_explained : StepHasOneOutcome → (rules : Rules) (processes : ℕ) (journal : List Event) (index : ℕ) (manager : Manager) (old new : List ℕ)
+    → HasExplained rules processes journal index manager old new → length journal ≤ index → (T : State) → Leads rules processes opening_state journal T
+    → (more : List ℕ) × ExplainsRun rules processes opening_state journal T more × (new ≡ old ++ more)
+all_explained one rules processes journal index manager old new h past T leads =
+    let whole = subst (λ (l : List Event). ExplainsRun rules processes opening_state l h.state h.more) (take_all index journal past) h.explains in
+    let same = same_end one rules processes opening_state journal h.state T h.more whole leads in
+    (h.more, subst (λ (X : State). ExplainsRun rules processes opening_state journal X h.more) same whole, h.is)
+
+-- the line of one more process that was never born
+unborn_lines-more : (states : ℕ → ProcState) (sent : ℕ → ℕ) (p n : ℕ)
+    → unborn_lines states sent p (suc n) ≡ unborn_lines states sent p n ++ unborn_line (states (p + n)) (p + n) (sent (p + n))
+unfolding unborn_lines
+unborn_lines-more states sent p zero =
+    let here : p + 0 ≡ p = omega arith in
+    rw here (append-nil (unborn_line (states p) p (sent p)))
+unborn_lines-more states sent p (suc n) =
+    let place : p + 1 + n ≡ p + suc n = omega arith in
+    let first = unborn_line (states p) p (sent p) in
+    let line = λ (q : ℕ). unborn_line (states q) q (sent q) in
+    ap (λ (l : List ℕ). first ++ l) (unborn_lines-more states sent (p + 1) n)
+    ∙ sym (append_assoc first (unborn_lines states sent (p + 1) n) (line (p + 1 + n)))
+    ∙ ap (λ (q : ℕ). first ++ unborn_lines states sent (p + 1) n ++ line q) place
+
+-- no lines of no processes
+pub none_unborn : (states : ℕ → ProcState) (sent : ℕ → ℕ) (old : List ℕ) → old ≡ old ++ unborn_lines states sent 1 0
+unfolding unborn_lines
+none_unborn states sent old = sym (append-nil old)
+
+-- the lines of so many processes, and of one more, whose count stands at its place
+pub more_unborn : (states : ℕ → ProcState) (counts : List ℕ) (sent : ℕ → ℕ) (old before after : List ℕ) (index count : ℕ)
+    → AreCounts counts sent → index < length counts → slice_index counts index ≡ count
+    → before ≡ old ++ unborn_lines states sent 1 index
+    → after ≡ before ++ unborn_line (states (index + 1)) (index + 1) count
+    → after ≡ old ++ unborn_lines states sent 1 (index + 1)
+more_unborn states counts sent old before after index count are within at was is =
+    let place : index + 1 - 1 ≡ index = omega arith in
+    let same : count ≡ sent (index + 1) = sym at ∙ ap (slice_index counts) (sym place) ∙ are (index + 1) (omega arith) (omega arith) in
+    let next : index + 1 ≡ 1 + index = omega arith in
+    let lines = unborn_lines states sent 1 index in
+    is
+    ∙ ap (λ (n : ℕ). before ++ unborn_line (states (index + 1)) (index + 1) n) same
+    ∙ ap (λ (q : ℕ). before ++ unborn_line (states q) q (sent q)) next
+    ∙ ap (λ (l : List ℕ). l ++ unborn_line (states (1 + index)) (1 + index) (sent (1 + index))) was
+    ∙ append_assoc old lines (unborn_line (states (1 + index)) (1 + index) (sent (1 + index)))
+    ∙ ap (λ (l : List ℕ). old ++ l) (sym (unborn_lines-more states sent 1 index))
+    ∙ ap (λ (n : ℕ). old ++ unborn_lines states sent 1 n) (sym (add-one index))

@@ -1,0 +1,180 @@
+-- The lines of a journal: what their first words say, that each has one meaning, and that a journal has one end.
+use Rattle.std.proofs.Common.{◌≡◌, ℕ, ◌+◌, ◌<◌, ◌≤◌, Bool, true, false, Option, Some, None, Result, Ok, Err, List, [], ◌∷◌, ◌++◌, length, take, get_or, refl, sym, ap, ◌∙◌, subst, inl, inr, arith, ⊎_elim, MatchBool, MatchResult, codes}
+use Rattle.std.specs.Prelude.{bytes_eq, nat_lt}
+use Rattle.std.proofs.lemmas.Bool.{cases_lt}
+use Rattle.std.proofs.lemmas.List.{length-take-le, take_all}
+use Rattle.range_core.specs.Facts.{MatchFact}
+use Rattle.fd_table.specs.declared.Limits.{Limits}
+use Rattle.wait_core.specs.declared.Policy.{Policy}
+use Rattle.session_core.specs.Event.{Event}
+use Rattle.script_core.specs.declared.place.Stage.{Stage}
+use Rattle.script_core.specs.declared.place.Stage.TheVariants as stages
+use Rattle.script_core.specs.declared.place.Place.{Place}
+use Rattle.script_core.specs.declared.place.JournalLine.{JournalLine}
+use Rattle.script_core.specs.declared.place.JournalLine.TheVariants as lines
+use Rattle.script_core.specs.declared.script.Cause.{Cause}
+use Rattle.script_core.specs.declared.script.Cause.TheVariants.{Byte, Word, TooLong}
+use Rattle.script_core.specs.HeaderText.{policy_word, limits_word}
+use Rattle.script_core.specs.Words.{words_of, begins_with_hash, is_printable}
+use Rattle.script_core.specs.Arguments.{Argument, PolicyWord, LimitsWord, Spells}
+use Rattle.script_core.specs.Reading.{is_comment, IsOfScript}
+use Rattle.script_core.specs.EntryReading.{entry_limit, pieces_of, PiecesGive}
+use Rattle.script_core.specs.JournalReading.{ValueGives, OtherGives, HeadGives, BodyGives, TextGives, JournalLineGives, HasOneMeaning, JournalReading, JournalEnd, Faulty, Illegal, Legal, JournalGives, JournalsHaveOneEnd, MayGoOn, MayEnd, reading_behind, limits_at, journal_says_policy, journal_says_limits, is_report_word}
+use Rattle.script_core.proofs.LineLemmas.{comment_word}
+use Rattle.script_core.proofs.FirstWordsLemmas.{MatchBool-map, many_refused}
+use Rattle.script_core.proofs.HeaderLemmas.{MatchBool-join}
+use Rattle.script_core.proofs.FaultLemmas.{of_refused}
+use Rattle.script_core.proofs.ReadingLemmas.{same_value, MatchBool-unique, AreRefused-unique, one_spelled, policy_in, policy_in-word, limits_in, limits_in-word}
+use Rattle.script_core.proofs.EntryLemmas.{PiecesGive-unique}
+
+-- of words that are too many for a header line, others that are say the same
+many_values : {A : Type 0} (argument : Argument) (word : A → List ℕ) (said : A → JournalLine) (words others : List (List ℕ)) (result : Result (Option JournalLine) Cause)
+    → 1 < length words → 1 < length others → ValueGives argument word said words result → ValueGives argument word said others result
+many_values argument word said words others result many more (inl refused) = inl (refused.0, many_refused argument words others refused.0 many more refused.1, refused.2)
+many_values argument word said words others result many more (inr read) = absurd (let one = ap length read.1 in omega (arith, one))
+
+many_heads : (place : Place) (first : List ℕ) (words others : List (List ℕ)) (result : Result (Option JournalLine) Cause)
+    → 1 < length words → 1 < length others → HeadGives place (first ∷ words) result → HeadGives place (first ∷ others) result
+many_heads place first words others result many more given =
+    MatchBool-map (is_comment first) _ _ _ _ (λ skipped. skipped)
+    (MatchBool-map (journal_says_policy place first) _ _ _ _ (many_values PolicyWord policy_word (λ policy. lines.Policy policy) words others result many more)
+    (MatchBool-map (journal_says_limits place first) _ _ _ _ (many_values LimitsWord limits_word (λ limits. lines.Limits limits) words others result many more)
+    (λ other. other)))
+    given
+
+-- the head of a line is that of its first nine words
+pub head_of_first : (place : Place) (words : List (List ℕ)) (result : Result (Option JournalLine) Cause) → HeadGives place (take 9 words) result
+    → HeadGives place words result
+head_of_first place [] result given = given
+head_of_first place (first ∷ words) result given =
+    ⊎_elim
+    (λ many. many_heads place first (take 8 words) words result (omega (arith, length-take-le 8 words (omega arith))) (omega arith) given)
+    (λ few. subst (λ l. HeadGives place (first ∷ l) result) (take_all 8 words few) given)
+    (cases_lt 8 (length words))
+
+-- a comment says nothing
+pub head_of_comment : (place : Place) (line : List ℕ) → begins_with_hash line ≡ true → HeadGives place (words_of line) (Ok (Some lines.Skipped))
+head_of_comment place line is =
+    let word = comment_word line is in
+    subst (λ words. HeadGives place words (Ok (Some lines.Skipped))) (sym word.2) (rw word.3 refl)
+
+-- not refused for want of memory
+IsNamed : Result (Option JournalLine) Cause → Type 0
+IsNamed (Ok said) = Unit {0}
+IsNamed (Err cause) = IsOfScript cause
+
+named_by : (expected result : Result (Option JournalLine) Cause) → IsNamed expected → result ≡ expected → IsNamed result
+named_by expected result is e = subst IsNamed (sym e) is
+
+named_value : {A : Type 0} (argument : Argument) (word : A → List ℕ) (said : A → JournalLine) (words : List (List ℕ)) (result : Result (Option JournalLine) Cause)
+    → ValueGives argument word said words result → IsNamed result
+unfolding IsNamed
+named_value argument word said words result (inl (cause, refused, is)) = named_by (Err cause) result (of_refused (argument ∷ []) words cause refused) is
+named_value argument word said words result (inr (value, words_are, is)) = named_by (Ok (Some (said value))) result tt is
+
+named_other : (stage : Stage) (result : Result (Option JournalLine) Cause) → OtherGives stage result → IsNamed result
+unfolding IsNamed
+named_other stages.Header result is = named_by (Ok None) result tt is
+named_other stages.Entries result is = named_by (Ok None) result tt is
+named_other stages.Report result is = named_by (Err Word) result (λ memory e. cc) is
+
+named_head : (place : Place) (words : List (List ℕ)) (result : Result (Option JournalLine) Cause) → HeadGives place words result → IsNamed result
+unfolding IsNamed
+named_head place [] result is = named_by (Ok (Some lines.Skipped)) result tt is
+named_head place (first ∷ rest) result gives =
+    MatchBool-join (is_comment first) _ _ (IsNamed result) (named_by (Ok (Some lines.Skipped)) result tt)
+    (MatchBool-join (journal_says_policy place first) _ _ (IsNamed result) (named_value PolicyWord policy_word (λ policy. lines.Policy policy) rest result)
+    (MatchBool-join (journal_says_limits place first) _ _ (IsNamed result) (named_value LimitsWord limits_word (λ limits. lines.Limits limits) rest result)
+    (MatchBool-join (is_report_word first) _ _ (IsNamed result) (named_by (Ok (Some lines.Report)) result tt) (named_other place.stage result))))
+    gives
+
+-- the head of a line is never refused for want of memory
+pub head_never_memory : (place : Place) (words : List (List ℕ)) (cause : Cause) → HeadGives place words (Err cause) → IsOfScript cause
+unfolding IsNamed
+head_never_memory place words cause gives = named_head place words (Err cause) gives
+
+ValueGives-unique : {A : Type 0} (argument : Argument) (word : A → List ℕ) (said : A → JournalLine) (read : List ℕ → A)
+    → ((value : A) → read (word value) ≡ value) → ((value : A) → Spells argument (word value)) → (words : List (List ℕ)) (a b : Result (Option JournalLine) Cause)
+    → ValueGives argument word said words a → ValueGives argument word said words b → a ≡ b
+ValueGives-unique argument word said read back spells words a b (inl first) (inl second) =
+    first.2 ∙ (ap Err (AreRefused-unique (argument ∷ []) words first.0 second.0 first.1 second.1) ∙ sym second.2)
+ValueGives-unique argument word said read back spells words a b (inl first) (inr second) =
+    absurd (one_spelled argument (word second.0) words first.0 second.1 (spells second.0) first.1)
+ValueGives-unique argument word said read back spells words a b (inr first) (inl second) =
+    absurd (one_spelled argument (word first.0) words second.0 first.1 (spells first.0) second.1)
+ValueGives-unique argument word said read back spells words a b (inr first) (inr second) =
+    let same : first.0 ≡ second.0 = sym (back first.0) ∙ (ap (λ ws. read (get_or ws 0 [])) (sym first.1 ∙ second.1) ∙ back second.0) in
+    first.2 ∙ (ap (λ value. Ok (Some (said value))) same ∙ sym second.2)
+
+OtherGives-unique : (stage : Stage) (a b : Result (Option JournalLine) Cause) → OtherGives stage a → OtherGives stage b → a ≡ b
+OtherGives-unique stages.Header a b first second = first ∙ sym second
+OtherGives-unique stages.Entries a b first second = first ∙ sym second
+OtherGives-unique stages.Report a b first second = first ∙ sym second
+
+HeadGives-unique : (place : Place) (words : List (List ℕ)) (a b : Result (Option JournalLine) Cause) → HeadGives place words a → HeadGives place words b → a ≡ b
+HeadGives-unique place [] a b first second = first ∙ sym second
+HeadGives-unique place (word ∷ rest) a b first second =
+    MatchBool-unique (λ r. r ≡ Ok (Some lines.Skipped)) _ (is_comment word) (same_value (Ok (Some lines.Skipped)))
+    (MatchBool-unique (ValueGives PolicyWord policy_word (λ policy. lines.Policy policy) rest) _ (journal_says_policy place word)
+    (ValueGives-unique PolicyWord policy_word (λ policy. lines.Policy policy) policy_in policy_in-word (λ policy. (policy, refl)) rest)
+    (MatchBool-unique (ValueGives LimitsWord limits_word (λ limits. lines.Limits limits) rest) _ (journal_says_limits place word)
+    (ValueGives-unique LimitsWord limits_word (λ limits. lines.Limits limits) limits_in limits_in-word (λ limits. (limits, refl)) rest)
+    (MatchBool-unique (λ r. r ≡ Ok (Some lines.Report)) (OtherGives place.stage) (is_report_word word) (same_value (Ok (Some lines.Report))) (OtherGives-unique place.stage))))
+    a b first second
+
+-- what comes of the pieces of a line
+entry_unique : (next : Result Event Cause) (a b : Result JournalLine Cause)
+    → MatchResult next (λ event. a ≡ Ok (lines.Entry event)) (λ cause. a ≡ Err cause)
+    → MatchResult next (λ event. b ≡ Ok (lines.Entry event)) (λ cause. b ≡ Err cause) → a ≡ b
+entry_unique (Ok event) a b first second = first ∙ sym second
+entry_unique (Err cause) a b first second = first ∙ sym second
+
+BodyGives-unique : (limits : Limits) (line : List ℕ) (head : Result (Option JournalLine) Cause) (a b : Result JournalLine Cause)
+    → BodyGives limits line head a → BodyGives limits line head b → a ≡ b
+BodyGives-unique limits line (Ok (Some said)) a b first second = first ∙ sym second
+BodyGives-unique limits line (Ok None) a b first second =
+    let next : first.0 ≡ second.0 = PiecesGive-unique limits (pieces_of line) first.0 second.0 first.1 second.1 in
+    entry_unique second.0 a b (subst (λ next. MatchResult next (λ event. a ≡ Ok (lines.Entry event)) (λ cause. a ≡ Err cause)) next first.2) second.2
+BodyGives-unique limits line (Err cause) a b first second = first ∙ sym second
+
+TextGives-unique : (place : Place) (line : List ℕ) (a b : Result JournalLine Cause) → TextGives place line a → TextGives place line b → a ≡ b
+TextGives-unique place line a b first second =
+    let head : first.0 ≡ second.0 = HeadGives-unique place (words_of line) first.0 second.0 first.1 second.1 in
+    BodyGives-unique (limits_at place) line second.0 a b (subst (λ head. BodyGives (limits_at place) line head a) head first.2) second.2
+
+-- a line of a journal has one meaning
+pub one_meaning : (place : Place) (line : List ℕ) → HasOneMeaning place line
+one_meaning place line = λ a b first second.
+    MatchBool-unique (λ r. r ≡ Err TooLong) _ (nat_lt entry_limit (length line)) (same_value (Err TooLong))
+    (MatchBool-unique (TextGives place line) (λ r. r ≡ Err Byte) (is_printable line) (TextGives-unique place line) (same_value (Err Byte)))
+    a b first second
+
+-- one of two facts is settled where both are
+MatchFact-unique : {X : Type 0} (Fact : Type 0) (P Q : X → Type 0) → ((a b : X) → P a → P b → a ≡ b) → ((a b : X) → Q a → Q b → a ≡ b)
+    → (a b : X) → MatchFact Fact (P a) (Q a) → MatchFact Fact (P b) (Q b) → a ≡ b
+MatchFact-unique Fact P Q here there a b (inl first) (inl second) = here a b first.1 second.1
+MatchFact-unique Fact P Q here there a b (inl first) (inr second) = absurd (second.0 first.0)
+MatchFact-unique Fact P Q here there a b (inr first) (inl second) = absurd (first.0 second.0)
+MatchFact-unique Fact P Q here there a b (inr first) (inr second) = there a b first.1 second.1
+
+-- what comes behind a line
+ends_unique : (number : ℕ) (reading : JournalReading) (line : List ℕ) (rest : List (List ℕ))
+    → ((after : JournalReading) (a b : JournalEnd) → JournalGives (number + 1) after rest a → JournalGives (number + 1) after rest b → a ≡ b)
+    → (next : Result JournalLine Cause) (a b : JournalEnd)
+    → MatchResult next (λ said. MatchFact (MayGoOn reading line said) (JournalGives (number + 1) (reading_behind reading line said) rest a) (a ≡ Illegal number)) (λ cause. a ≡ Faulty number cause)
+    → MatchResult next (λ said. MatchFact (MayGoOn reading line said) (JournalGives (number + 1) (reading_behind reading line said) rest b) (b ≡ Illegal number)) (λ cause. b ≡ Faulty number cause)
+    → a ≡ b
+ends_unique number reading line rest later (Ok said) a b first second =
+    MatchFact-unique (MayGoOn reading line said) (JournalGives (number + 1) (reading_behind reading line said) rest) (λ end. end ≡ Illegal number)
+    (later (reading_behind reading line said)) (same_value (Illegal number)) a b first second
+ends_unique number reading line rest later (Err cause) a b first second = first ∙ sym second
+
+-- a journal has one end
+pub one_end : JournalsHaveOneEnd
+one_end number reading [] a b first second =
+    MatchFact-unique (MayEnd reading) (λ end. end ≡ Legal) (λ end. end ≡ Illegal number) (same_value Legal) (same_value (Illegal number)) a b first second
+one_end number reading (line ∷ rest) a b first second =
+    let next : first.0 ≡ second.0 = one_meaning reading.place line first.0 second.0 first.1 second.1 in
+    ends_unique number reading line rest (λ after. one_end (number + 1) after rest) second.0 a b
+    (subst (λ next. MatchResult next (λ said. MatchFact (MayGoOn reading line said) (JournalGives (number + 1) (reading_behind reading line said) rest a) (a ≡ Illegal number)) (λ cause. a ≡ Faulty number cause)) next first.2)
+    second.2

@@ -1,0 +1,143 @@
+-- The lines of a report in a journal, for `JournalReader`: whether it may go on with one, and whether it may end.
+use Rattle.std.proofs.Common.{◌≡◌, ◌≢◌, ℕ, ◌^◌, ◌<◌, Bool, true, false, List, [], ◌∷◌, ◌++◌, Option, Some, None, MatchOption, inl, inr, ⊎_elim, refl, sym, ap, ap₂, ◌∙◌, subst, arith, lit<, append_assoc, append-nil, map}
+use Rattle.std.specs.Prelude.{IsTrue, if◌then◌else◌}
+use Rattle.lock_book.specs.Changes.{mode_in, flock_mode_in}
+use Rattle.lock_book.specs.OneReport.{LocksHaveOneReport}
+use Rattle.lock_manager.specs.State.{State}
+use Rattle.lock_manager.specs.declared.request.ProcState.{ProcState}
+use Rattle.lock_manager.specs.declared.request.ProcState.TheVariants.{Unborn, Live, Waiting, Ended}
+use Rattle.session_core.specs.Event.{Event}
+use Rattle.session_core.specs.Runs.{IsRun}
+use Rattle.script_core.specs.declared.place.Place.{Place}
+use Rattle.script_core.specs.declared.report.ReportLine.{ReportLine}
+use Rattle.script_core.specs.declared.report.ReportLine.TheVariants as lines
+use Rattle.script_core.specs.ReportText.{is_reported, process_text}
+use Rattle.script_core.specs.ReportReading.{line_text, IsLineOf, MayBeLeftOut, may_be_left_out, AreTextsOf, IsFirstDue, first_due, GoesOn, AreReportLines, lines_from}
+use Rattle.script_core.specs.JournalReading.{rules_at, processes_at, IsReportAt, IsReportFront, IsWholeReport}
+use Rattle.script_core.specs.JournalView.{AreLeft}
+
+-- each line has a text
+reported_once : (state : ProcState) → is_reported state 1 ≡ true
+reported_once Unborn = refl
+reported_once Live = refl
+reported_once Waiting = refl
+reported_once Ended = refl
+
+some_text : (line : ReportLine) → (text : List ℕ) × IsLineOf line text
+some_text (lines.Held held) = (line_text (lines.Held held), refl)
+some_text (lines.Waits wait) = (line_text (lines.Waits wait), refl)
+some_text (lines.Process told) = (process_text (record told { sent = 1 }), (1, lit< tt, reported_once told.state, refl))
+
+-- so some texts are those of any lines
+some_texts : (reported : List ReportLine) → (texts : List (List ℕ)) × AreTextsOf reported texts
+some_texts [] = ([], refl)
+some_texts (line ∷ more) =
+    let first = some_text line in
+    let rest = some_texts more in
+    (first.0 ∷ rest.0, inl (first.1, rest.1))
+
+-- a state after these events has one list of lines
+one_report : LocksHaveOneReport → (processes : ℕ) (S : State) (events : List Event) (a b : List ReportLine) → AreReportLines processes S events a
+    → AreReportLines processes S events b → a ≡ b
+one_report one processes S events a b h k =
+    h.is
+    ∙ ap (λ held. map lines.Held held ++ map lines.Waits S.waits ++ lines_from S.states events 1 processes)
+    (one (mode_in S.changes) (flock_mode_in S.flock_changes) h.held k.held h.is_held k.is_held)
+    ∙ sym k.is
+
+-- before the first line all are left
+pub AreLeft-first : (place : Place) (entries : List Event) (reported : List ReportLine)
+    → ((T : State) → IsRun (rules_at place) (processes_at place) entries T → AreReportLines (processes_at place) T entries reported)
+    → AreLeft place entries [] reported
+AreLeft-first place entries reported are =
+    record { reported = reported; lines = are; goes_on = λ more. ((λ texts. texts), (λ texts. texts)) }
+
+behind : (reported : List ReportLine) (texts : List (List ℕ)) (text : List ℕ) (more : List (List ℕ)) → AreTextsOf reported (texts ++ text ∷ [] ++ more)
+    → AreTextsOf reported (texts ++ (text ∷ more))
+behind reported texts text more are = subst (λ l. AreTextsOf reported l) (append_assoc texts (text ∷ []) more) are
+
+-- one more line came
+pub AreLeft-more : (place : Place) (entries : List Event) (texts : List (List ℕ)) (old new : List ReportLine) (text : List ℕ) → AreLeft place entries texts old
+    → GoesOn old text new → AreLeft place entries (texts ++ text ∷ []) new
+AreLeft-more place entries texts old new text left goes = record {
+  reported = left.reported;
+  lines = left.lines;
+  goes_on = λ more. (
+    (λ are. (goes more).0 ((left.goes_on (text ∷ more)).0 (behind left.reported texts text more are))),
+    (λ are.
+        subst (λ l. AreTextsOf left.reported l) (sym (append_assoc texts (text ∷ []) more)) ((left.goes_on (text ∷ more)).1 ((goes more).1 are))),
+  );
+}
+
+-- and with it the report goes on
+pub front_more : (place : Place) (entries : List Event) (texts : List (List ℕ)) (left : List ReportLine)
+    → (T : State) → IsRun (rules_at place) (processes_at place) entries T → AreLeft place entries texts left → IsReportFront place entries texts
+front_more place entries texts left T run are =
+    let rest = some_texts left in
+    (are.reported, record { state = T; run = run; lines = are.lines T run }, rest.0, (are.goes_on rest.0).1 rest.1)
+
+-- it doesn't go on with a line with which what is left doesn't
+pub no_front : LocksHaveOneReport → (place : Place) (entries : List Event) (texts : List (List ℕ)) (left : List ReportLine) (text : List ℕ)
+    → AreLeft place entries texts left → ((more : List (List ℕ)) → AreTextsOf left (text ∷ more) → ⊥) → IsReportFront place entries (texts ++ text ∷ []) → ⊥
+no_front one place entries texts left text are none front =
+    let at = front.1 in
+    let same = one_report one (processes_at place) at.state entries front.0 are.reported at.lines (are.lines at.state at.run) in
+    let texts_are = subst (λ l. AreTextsOf l (texts ++ text ∷ [] ++ front.2)) same front.3 in
+    none front.2 ((are.goes_on (text ∷ front.2)).0 (behind are.reported texts text front.2 texts_are))
+
+-- where a line is due something is left, and where none is nothing has to come
+out_as_told : (line : ReportLine) → (may_be_left_out line ≡ true → MayBeLeftOut line) × (MayBeLeftOut line → may_be_left_out line ≡ true)
+out_as_told (lines.Held held) = ((λ e. let bad : false ≡ true = e in absurd cc), (λ no. absurd no))
+out_as_told (lines.Waits wait) = ((λ e. let bad : false ≡ true = e in absurd cc), (λ no. absurd no))
+out_as_told (lines.Process told) = unborn told.state
+  where
+    unborn : (state : ProcState) → (may_be_left_out (lines.Process (record told { state = state })) ≡ true → state ≡ Unborn) × (state ≡ Unborn → may_be_left_out (lines.Process (record told { state = state })) ≡ true)
+    unborn Unborn = ((λ e. refl), (λ e. refl))
+    unborn Live = ((λ e. let bad : false ≡ true = e in absurd cc), (λ e. let bad : Live ≡ Unborn = e in absurd cc))
+    unborn Waiting = ((λ e. let bad : false ≡ true = e in absurd cc), (λ e. let bad : Waiting ≡ Unborn = e in absurd cc))
+    unborn Ended = ((λ e. let bad : false ≡ true = e in absurd cc), (λ e. let bad : Ended ≡ Unborn = e in absurd cc))
+
+pub first_due-none : (left : List ReportLine) → AreTextsOf left [] → first_due left ≡ None
+first_due-none [] are = refl
+first_due-none (line ∷ more) are = rw ((out_as_told line).1 are.0) (first_due-none more are.1)
+
+pub first_due-some : (left : List ReportLine) (line : ReportLine) → IsFirstDue left line → first_due left ≡ Some line
+first_due-some [] line is = absurd is
+first_due-some (first ∷ more) line is =
+    ⊎_elim (λ out. rw ((out_as_told first).1 out.0) (first_due-some more line out.1))
+    (λ due. by_test (may_be_left_out first) refl due.0 due.1) is
+  where
+    by_test : (b : Bool) → may_be_left_out first ≡ b → (MayBeLeftOut first → ⊥) → line ≡ first → (if may_be_left_out first then first_due more else Some first) ≡ Some line
+    by_test true is_out due same = absurd (due ((out_as_told first).0 is_out))
+    by_test false isnt due same = rw isnt (ap (λ l. Some l) (sym same))
+
+-- what a reader tells as due is the first that is
+pub due_is : (left : List ReportLine) (due : Option ReportLine) → MatchOption due (AreTextsOf left []) (λ line. IsFirstDue left line) → due ≡ first_due left
+due_is left None are = sym (first_due-none left are)
+due_is left (Some line) is = sym (first_due-some left line is)
+
+-- a whole report has nothing due, and where nothing is due it is whole
+pub whole_ends : LocksHaveOneReport → (place : Place) (entries : List Event) (texts : List (List ℕ)) (left : List ReportLine) → AreLeft place entries texts left
+    → IsWholeReport place entries texts → AreTextsOf left []
+whole_ends one place entries texts left are whole =
+    let at = whole.1 in
+    let same = one_report one (processes_at place) at.state entries whole.0 are.reported at.lines (are.lines at.state at.run) in
+    let all : AreTextsOf are.reported (texts ++ []) = subst (λ l. AreTextsOf are.reported l) (sym (append-nil texts)) (subst (λ l. AreTextsOf l texts) same whole.2) in
+    (are.goes_on []).0 all
+
+pub ends_whole : (place : Place) (entries : List Event) (texts : List (List ℕ)) (left : List ReportLine) (T : State)
+    → IsRun (rules_at place) (processes_at place) entries T → AreLeft place entries texts left → AreTextsOf left [] → IsWholeReport place entries texts
+ends_whole place entries texts left T run are end =
+    (are.reported, record { state = T; run = run; lines = are.lines T run }, subst (λ l. AreTextsOf are.reported l) (append-nil texts) ((are.goes_on []).1 end))
+
+-- where nothing is due, all that is left may be left out
+nothing_due_first : (line : ReportLine) (more : List ReportLine) (out : Bool) → may_be_left_out line ≡ out → (first_due more ≡ None → AreTextsOf more [])
+    → first_due (line ∷ more) ≡ None → MayBeLeftOut line × AreTextsOf more []
+nothing_due_first line more true out rest none =
+    ((out_as_told line).0 out, rest (sym (ap (λ b. if b then first_due more else Some line) out) ∙ none))
+nothing_due_first line more false due rest none =
+    let bad : Some line ≡ None = sym (ap (λ b. if b then first_due more else Some line) due) ∙ none in absurd cc
+
+pub nothing_due : (left : List ReportLine) → first_due left ≡ None → AreTextsOf left []
+nothing_due [] none = refl
+nothing_due (line ∷ more) none = nothing_due_first line more (may_be_left_out line) refl (λ e. nothing_due more e) none

@@ -1,0 +1,202 @@
+-- What a `JournalReader` has read once a header line, an entry or a line of the report was taken down, and whether it may end.
+use Rattle.std.proofs.Common.{◌≡◌, ◌≢◌, ℕ, Bool, true, false, List, [], ◌∷◌, ◌++◌, Option, Some, None, MatchOption, Result, Ok, Err, inl, inr, ⊎_elim, refl, sym, ap, ap₂, ◌∙◌, subst}
+use Rattle.std.specs.Prelude.{is_some, if◌then◌else◌}
+use Rattle.fd_table.specs.declared.Limits.{Limits}
+use Rattle.lock_book.specs.OneReport.{LocksHaveOneReport}
+use Rattle.lock_manager.specs.declared.request.Rules.{Rules}
+use Rattle.lock_manager.specs.State.{State}
+use Rattle.session_core.specs.declared.check.JournalChecker.{JournalChecker}
+use Rattle.session_core.specs.Checking.{HasAccepted, expected_by}
+use Rattle.session_core.specs.Event.{Event}
+use Rattle.session_core.specs.Runs.{IsRun}
+use Rattle.script_core.specs.declared.place.Stage.{Stage}
+use Rattle.script_core.specs.declared.place.Stage.TheVariants as stages
+use Rattle.script_core.specs.declared.place.Place.{Place}
+use Rattle.script_core.specs.declared.place.JournalLine.{JournalLine}
+use Rattle.script_core.specs.declared.place.JournalLine.TheVariants as lines
+use Rattle.script_core.specs.declared.journal.JournalFault.{JournalFault}
+use Rattle.script_core.specs.declared.journal.JournalFault.TheVariants as faults
+use Rattle.script_core.specs.declared.journal.JournalReader.{JournalReader}
+use Rattle.script_core.specs.declared.report.ReportFault.{ReportFault}
+use Rattle.script_core.specs.declared.report.ReportFault.TheVariants as reports
+use Rattle.script_core.specs.declared.report.ReportLine.{ReportLine}
+use Rattle.script_core.specs.ExpectedText.{due_text}
+use Rattle.script_core.specs.ReportReading.{AreTextsOf, IsFirstDue, first_due, GoesOn, AreReportLines}
+use Rattle.script_core.specs.JournalReading.{JournalReading, AreLegal, IsBeforeReport, MayGoOn, MayEnd, rules_at, processes_at, reading_behind}
+use Rattle.script_core.specs.JournalView.{HasRead, HasChecked, HasReported, ReportsAt, AreLeft, IsStageOf, IsAtOpening, TakesSaid, Finishes, place_of, is_spent, is_cut, cuts, expected_in, text_expected, report_expected, report_fault_of}
+use Rattle.script_core.proofs.JournalReportLemmas.{AreLeft-first, AreLeft-more, front_more, no_front, due_is, nothing_due, whole_ends, ends_whole, first_due-none}
+
+-- before the report no line of it came
+none_before : (stage : Stage) (entries : List Event) (report : List (List ℕ)) → IsBeforeReport stage → IsStageOf stage entries report → report ≡ []
+none_before stages.Header entries report before is = is.1
+none_before stages.Entries entries report before is = is
+none_before stages.Report entries report before is = absurd before
+
+-- an entry was taken down
+pub entry_taken : (old new : JournalReader) (reading : JournalReading) (line : List ℕ) (event : Event) → HasRead old reading → IsBeforeReport reading.place.stage
+    → ((rules : Rules) (processes : ℕ) (accepted : List Event) → HasAccepted rules processes old.checker accepted → HasAccepted rules processes new.checker (accepted ++ event ∷ []))
+    → new.place ≡ record old.place { stage = stages.Entries } → new.illegal ≡ old.illegal → new.report ≡ None
+    → TakesSaid new reading line (lines.Entry event) (Ok tt)
+unfolding place_of is_spent HasChecked HasReported
+entry_taken old new reading line event read before accepts placed illegal report =
+    let accepted = accepts (rules_at reading.place) (processes_at reading.place) reading.entries read.checked in
+    let none = none_before reading.place.stage reading.entries reading.report before read.stage in (
+      accepted.run,
+      record {
+        place = placed ∙ ap (λ (p : Place). record p { stage = stages.Entries }) read.place;
+        stage = none;
+        unspent = ap is_some illegal ∙ read.unspent;
+        checked = accepted;
+        reported = rw report none;
+      },
+    )
+
+-- a header line was taken down
+pub limits_taken : (old new : JournalReader) (reading : JournalReading) (line : List ℕ) (limits : Limits) (result : Result Unit JournalFault)
+    → HasRead old reading → reading.place.stage ≡ stages.Header → IsAtOpening old new (record old.place { limits = Some limits }) result
+    → TakesSaid new reading line (lines.Limits limits) result
+unfolding place_of
+limits_taken old new reading line limits (Ok done) read header opening =
+    let P : Place = record reading.place { limits = Some limits } in
+    let same : record old.place { limits = Some limits } ≡ P = ap (λ (p : Place). record p { limits = Some limits }) read.place in
+    let empty : (reading.entries ≡ []) × (reading.report ≡ []) = subst (λ s. IsStageOf s reading.entries reading.report) header read.stage in (
+      tt,
+      record {
+        place = opening.0 ∙ same;
+        stage = read.stage;
+        unspent = opening.1 ∙ read.unspent;
+        checked = subst (λ entries. HasChecked new P entries) (sym empty.0) (subst (λ p. HasChecked new p []) same opening.2);
+        reported = subst (λ texts. HasReported new P reading.entries texts) (sym empty.1)
+            (subst (λ entries. HasReported new P entries []) (sym empty.0) (subst (λ p. HasReported new p [] []) same opening.3));
+      },
+    )
+limits_taken old new reading line limits (Err (faults.Grammar cause)) read header opening = absurd opening
+limits_taken old new reading line limits (Err faults.Illegal) read header opening = absurd opening
+limits_taken old new reading line limits (Err (faults.Memory memory)) read header opening = (tt, subst (λ r. HasRead r reading) (sym opening) read)
+
+-- what a report that is begun is expected to have
+pub expected_due : (reader : JournalReader) (left : List ReportLine) (due : Option ReportLine) → reader.illegal ≡ None → reader.report ≡ Some left
+    → MatchOption due (AreTextsOf left []) (λ line. IsFirstDue left line) → expected_in reader ≡ due_text due
+unfolding expected_in
+expected_due reader left due illegal report told =
+    ap (λ o. if is_some o then text_expected o (expected_by reader.checker) else report_expected reader.report) illegal
+    ∙ ap report_expected report ∙ ap due_text (sym (due_is left due told))
+
+unspent_expects : (reader : JournalReader) (left : List ReportLine) → is_spent reader ≡ false → reader.report ≡ Some left
+    → expected_in reader ≡ due_text (first_due left)
+unfolding expected_in is_spent
+unspent_expects reader left unspent report =
+    ap (λ b. if b then text_expected reader.illegal (expected_by reader.checker) else report_expected reader.report) unspent ∙ ap report_expected report
+
+-- whether a report is cut
+pub cut_is : (reader : JournalReader) (left : List ReportLine) (due : Option ReportLine) → reader.place.stage ≡ stages.Report → reader.report ≡ Some left
+    → MatchOption due (AreTextsOf left []) (λ line. IsFirstDue left line) → is_some due ≡ cuts reader
+unfolding cuts
+cut_is reader left due stage report told = ap is_some (due_is left due told) ∙ sym (ap₂ is_cut stage report)
+
+-- what is left of a report that was begun behind no line of it
+pub left_first : (place : Place) (entries : List Event) (texts : List (List ℕ)) (now report : List ReportLine) → texts ≡ []
+    → ((T : State) → IsRun (rules_at place) (processes_at place) entries T → AreReportLines (processes_at place) T entries report) → now ≡ report
+    → AreLeft place entries texts now
+left_first place entries texts now report none are same =
+    subst (λ t. AreLeft place entries t now) (sym none) (subst (λ l. AreLeft place entries [] l) (sym same) (AreLeft-first place entries report are))
+
+some_line : (texts : List (List ℕ)) (text : List ℕ) → texts ++ text ∷ [] ≢ []
+some_line [] text none = cc
+some_line (first ∷ texts) text none = cc
+
+-- a line of the report was taken down
+pub report_taken : (old new : JournalReader) (reading : JournalReading) (text : List ℕ) (before now : List ReportLine) → HasRead old reading
+    → AreLeft reading.place reading.entries reading.report before → GoesOn before text now → new.place ≡ record old.place { stage = stages.Report }
+    → new.checker ≡ old.checker → new.illegal ≡ old.illegal → new.report ≡ Some now → TakesSaid new reading text lines.Report (Ok tt)
+unfolding place_of is_spent HasChecked HasReported
+report_taken old new reading text before now read left goes placed checker illegal report =
+    let after = AreLeft-more reading.place reading.entries reading.report before now text left goes in
+    let run = read.checked.run in (
+      front_more reading.place reading.entries (reading.report ++ text ∷ []) now run.0 run.1 after,
+      record {
+        place = placed ∙ ap (λ (p : Place). record p { stage = stages.Report }) read.place;
+        stage = some_line reading.report text;
+        unspent = ap is_some illegal ∙ read.unspent;
+        checked = subst (λ c. HasAccepted (rules_at reading.place) (processes_at reading.place) c reading.entries) (sym checker) read.checked;
+        reported = rw report (record { reported = after.reported; lines = after.lines; goes_on = after.goes_on });
+      },
+    )
+
+-- a line of the report was refused
+kept_read : (old new : JournalReader) (reading : JournalReading) (left : List ReportLine) → HasRead old reading
+    → AreLeft reading.place reading.entries reading.report left → new.place ≡ old.place → new.checker ≡ old.checker → new.illegal ≡ old.illegal
+    → new.report ≡ Some left → HasRead new reading
+unfolding place_of is_spent HasChecked HasReported
+kept_read old new reading left read are placed checker illegal report = record {
+  place = placed ∙ read.place;
+  stage = read.stage;
+  unspent = ap is_some illegal ∙ read.unspent;
+  checked = subst (λ c. HasAccepted (rules_at reading.place) (processes_at reading.place) c reading.entries) (sym checker) read.checked;
+  reported = rw report are;
+}
+
+pub report_refused : LocksHaveOneReport → (old new : JournalReader) (reading : JournalReading) (text : List ℕ) (left : List ReportLine) (fault : ReportFault)
+    → HasRead old reading → AreLeft reading.place reading.entries reading.report left
+    → (fault ≡ reports.Illegal → (more : List (List ℕ)) → AreTextsOf left (text ∷ more) → ⊥)
+    → new.place ≡ old.place → new.checker ≡ old.checker → new.illegal ≡ old.illegal → new.report ≡ Some left
+    → TakesSaid new reading text lines.Report (Err (report_fault_of fault))
+report_refused one old new reading text left reports.Illegal read are none placed checker illegal report =
+    let kept = kept_read old new reading left read are placed checker illegal report in (
+      no_front one reading.place reading.entries reading.report left text are (none refl),
+      (left, are, unspent_expects new left kept.unspent report),
+      inr kept,
+    )
+report_refused one old new reading text left (reports.Memory memory) read are none placed checker illegal report =
+    (tt, kept_read old new reading left read are placed checker illegal report)
+
+-- ---- the end
+
+record IsCutAt (stage : Stage) (report : Option (List ReportLine)) : Type 0 where
+  begun : stage ≡ stages.Report
+  left : List ReportLine
+  is : report ≡ Some left
+  due : is_some (first_due left) ≡ true
+
+cut_at : (stage : Stage) (report : Option (List ReportLine)) → is_cut stage report ≡ true → IsCutAt stage report
+cut_at stages.Header report cut = absurd (let bad : false ≡ true = cut in cc)
+cut_at stages.Entries report cut = absurd (let bad : false ≡ true = cut in cc)
+cut_at stages.Report None cut = absurd (let bad : false ≡ true = cut in cc)
+cut_at stages.Report (Some left) cut = record { begun = refl; left = left; is = refl; due = cut }
+
+-- the report is cut short
+pub finish_cut : LocksHaveOneReport → (reader : JournalReader) (reading : JournalReading) → HasRead reader reading → cuts reader ≡ true
+    → Finishes reader reading (Err faults.Illegal)
+unfolding cuts place_of HasReported
+finish_cut one reader reading read cut =
+    let at = cut_at reader.place.stage reader.report cut in
+    let begun : reading.place.stage ≡ stages.Report = sym (ap (λ (p : Place). p.stage) read.place) ∙ at.begun in
+    let some : reading.report ≢ [] = subst (λ s. IsStageOf s reading.entries reading.report) begun read.stage in
+    let are : AreLeft reading.place reading.entries reading.report at.left = subst (λ r. ReportsAt reading.place reading.entries reading.report r) at.is read.reported in (
+      (λ may. ⊎_elim some
+          (λ whole.
+          let none = first_due-none at.left (whole_ends one reading.place reading.entries reading.report at.left are whole) in
+          let bad : false ≡ true = sym (ap is_some none) ∙ at.due in cc) may),
+      (at.left, are, unspent_expects reader at.left read.unspent at.is),
+    )
+
+not_some : {X : Type 0} (o : Option X) → is_some o ≡ false → o ≡ None
+not_some None e = refl
+not_some (Some x) e = absurd (let bad : true ≡ false = e in cc)
+
+whole_at : (place : Place) (entries : List Event) (texts : List (List ℕ)) (stage : Stage) (report : Option (List ReportLine)) (T : State)
+    → IsRun (rules_at place) (processes_at place) entries T → IsStageOf stage entries texts → ReportsAt place entries texts report → is_cut stage report ≡ false
+    → MayEnd (record { place = place; entries = entries; report = texts })
+whole_at place entries texts stages.Header report T run is reported whole = inl is.1
+whole_at place entries texts stages.Entries report T run is reported whole = inl is
+whole_at place entries texts stages.Report None T run is reported whole = inl reported
+whole_at place entries texts stages.Report (Some left) T run is reported whole =
+    inr (ends_whole place entries texts left T run reported (nothing_due left (not_some (first_due left) whole)))
+
+-- the report is whole, or wasn't begun
+pub finish_whole : (reader : JournalReader) (reading : JournalReading) → HasRead reader reading → cuts reader ≡ false → MayEnd reading
+unfolding cuts place_of HasReported HasChecked
+finish_whole reader reading read whole =
+    let run = read.checked.run in
+    whole_at reading.place reading.entries reading.report reader.place.stage reader.report run.0 run.1
+    (subst (λ s. IsStageOf s reading.entries reading.report) (sym (ap (λ (p : Place). p.stage) read.place)) read.stage) read.reported whole

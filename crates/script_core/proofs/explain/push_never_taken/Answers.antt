@@ -1,0 +1,26 @@
+use Rattle.std.proofs.Common.{ℕ, ◌≡◌, ◌∷◌, ◌++◌, [], List, ap, ◌∙◌, append_assoc}
+use Rattle.std.specs.Prelude.{codes, decimal}
+use Rattle.script_core.specs.EntryText.{tag}
+use Rattle.script_core.specs.Explaining.{more_text}
+use Rattle.script_core.proofs.TextLemmas.{then_pushed}
+use Rattle.script_core.proofs.explain.push_never_taken.Goals as goal
+
+-- one more piece
+and_then : (old mid new front piece : List ℕ) → mid ≡ old ++ front → new ≡ mid ++ piece → new ≡ old ++ (front ++ piece)
+and_then old mid new front piece is pushed = pushed ∙ ap (λ (l : List ℕ). l ++ piece) is ∙ append_assoc old front piece
+
+pub returns : goal.returns
+returns c =
+    let old = c.args.text.now.items in
+    let p = c.args.p in
+    let tagged = codes "# " ++ tag p 1 in
+    let more = tagged ++ more_text c.args.more in
+    let taken = more ++ codes " never taken: process " in
+    let process = taken ++ decimal p in
+    let second = and_then old c.push_tag.new.text.items c.push_more.new.text.items tagged (more_text c.args.more) c.in_ok-push_tag.ensures c.in_ok-push_more.ensures in
+    let third = and_then old c.push_more.new.text.items c.push_str.new.text.items more (codes " never taken: process ") second c.in_ok-push_str.ensures in
+    let number : c.push_first_number.new.text.items ≡ c.push_str.new.text.items ++ decimal p =
+    c.in_ok-push_first_number.ensures ∙ ap (λ (n : ℕ). c.push_str.new.text.items ++ decimal n) c.from.ensures in
+    let fourth = and_then old c.push_str.new.text.items c.push_first_number.new.text.items taken (decimal p) third number in
+    let fifth = and_then old c.push_first_number.new.text.items c.push_str-2.new.text.items process (codes " was never born") fourth c.in_ok-push_str-2.ensures in
+    then_pushed c.push_str-3.result old c.push_str-2.new.text.items c.push_str-3.new.text.items (process ++ codes " was never born") (10 ∷ []) fifth c.push_str-3.ensures

@@ -1,0 +1,7 @@
+use Rattle.std.proofs.Common.{◌∙◌}
+use Rattle.session_core.specs.Checking.{HasRepeated}
+use Rattle.session_core.proofs.check.JournalChecker.taken.Goals as goal
+
+pub returns : goal.returns
+unfolding HasRepeated
+returns c = λ rules processes accepted has. c.taken.ensures ∙ has.repeated.counts c.args.p

@@ -1,0 +1,31 @@
+use Rattle.std.proofs.Common.{◌≡◌, ◌∙◌, ◌↔◌, List, ap, sym, subst, true, false, Any, take, get_or}
+use Rattle.std.specs.Prelude.{IsTrue}
+use Rattle.std.proofs.lemmas.List.{get_or_default}
+use Rattle.std.proofs.lemmas.Option.{get_or_from_slice_get}
+use Rattle.wait_core.specs.declared.Wait.{Wait}
+use Rattle.wait_core.specs.Blocking.{WaitsConflict}
+use Rattle.wait_core.specs.Processes.{is_member}
+use Rattle.wait_core.specs.WaitsView.{waits_of, policy_of}
+use Rattle.wait_core.proofs.BehindLemmas.{behind_none_at}
+use Rattle.wait_core.proofs.waits.Waits.is_behind.Goals as goal
+
+pub returns-then-has : goal.returns-then-has
+unfolding waits_of
+returns-then-has c wait there =
+    let self = c.args.self.now in
+    let here : c.index-wait.result.now ≡ wait =
+    c.index-wait.ensures ∙ get_or_default self.waits.items c.args.i c.index-wait.result.now wait c.requires.place
+    ∙ get_or_from_slice_get self.waits.items c.args.i wait wait there in
+    subst (λ (w : Wait). IsTrue c.conflicts_with_any.result ↔ Any (λ v. WaitsConflict v w) (take c.args.i self.waits.items)) here
+    (subst (λ (ws : List Wait). IsTrue c.conflicts_with_any.result ↔ Any (λ v. WaitsConflict v c.index-wait.result.now) (take c.args.i ws)) c.deref.ensures.value c.conflicts_with_any.ensures)
+
+pub returns-else-has : goal.returns-else-has
+unfolding waits_of policy_of
+returns-else-has c wait there =
+    let self = c.args.self.now in
+    let is : get_or self.waits.items c.args.i wait ≡ wait = get_or_from_slice_get self.waits.items c.args.i wait wait there in
+    let here : c.index-wait.result.now ≡ wait = c.index-wait.ensures ∙ get_or_default self.waits.items c.args.i c.index-wait.result.now wait c.requires.place ∙ is in
+    let out : is_member self.behind wait.p ≡ false = sym (ap (λ (w : Wait). is_member self.behind w.p) here) ∙ sym c.has.ensures ∙ c.if-has.false in (
+      λ yes. absurd (let no = c.if-has.false in let e : true ≡ false = sym yes ∙ no in cc),
+      λ some. absurd (behind_none_at self.behind self.waits.items c.args.i wait (self.behind_none c.requires.policy) c.requires.place is out some),
+    )

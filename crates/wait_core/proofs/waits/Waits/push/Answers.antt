@@ -1,0 +1,56 @@
+use Rattle.std.proofs.Common.{◌≡◌, ◌≢◌, ◌<◌, ◌≤◌, subst, sym, arith, length}
+use Rattle.std.specs.Vec.{vec_len, vec_capacity}
+use Rattle.std.proofs.Math.Logic.{∥∥₁_map}
+use Rattle.std.proofs.lemmas.List.Elements.{All-push}
+use Rattle.std.proofs.lemmas.List.Quantifiers.{all_pairs_push}
+use Rattle.wait_core.specs.declared.Policy.{Policy}
+use Rattle.wait_core.specs.declared.Wait.{Wait}
+use Rattle.wait_core.specs.Blocking.{IsQueued}
+use Rattle.wait_core.specs.Locks.{locks_of}
+use Rattle.wait_core.specs.PairsView.{TellsQueue}
+use Rattle.wait_core.specs.WellFormed.{IsWellFormed}
+use Rattle.wait_core.specs.WaitsView.{waits_of, policy_of, processes_of, has_pair}
+use Rattle.wait_core.proofs.BehindLemmas.{behind_joined}
+use Rattle.wait_core.proofs.ListLemmas.{none_of, room_for}
+use Rattle.wait_core.proofs.PairLemmas.{told-join}
+use Rattle.wait_core.proofs.QueueLemmas.{queue_joined}
+use Rattle.wait_core.proofs.waits.Waits.push.Goals as goal
+
+pub push_reserved-requires : goal.push_reserved-requires
+unfolding waits_of processes_of
+push_reserved-requires c =
+    let self = c.args.self.now in
+    let few : length self.waits.items < self.processes =
+    room_for self.processes self.waits.items c.args.wait.p self.well_formed self.apart c.requires.well_formed.from_one c.requires.well_formed.process c.requires.none in
+    let room : self.processes ≤ vec_capacity self.waits = self.room in
+    let len : vec_len self.waits ≡ length self.waits.items = self.waits.ok.0 in
+    omega arith
+
+pub invariant_of-self : goal.invariant_of-self
+unfolding waits_of policy_of processes_of
+invariant_of-self c =
+    let self = c.args.self.now in record {
+      few = self.few;
+      room = (let room : self.processes ≤ vec_capacity c.push_reserved.new.self = rw c.push_reserved.ensures.capacity self.room in room);
+      well_formed = (λ k d within. let items = c.push_reserved.ensures.items in
+          let all = All-push (IsWellFormed self.processes) self.waits.items c.args.wait self.well_formed c.requires.well_formed in
+          rw items (all k d (rw items at within)));
+      apart = (λ i j d before within. let items = c.push_reserved.ensures.items in
+          let all = all_pairs_push (λ (v w : Wait). v.p ≢ w.p) self.waits.items c.args.wait self.apart
+          (λ k e inside. none_of self.waits.items c.args.wait.p c.requires.none k e inside) in
+          rw items (all i j d before (rw items at within)));
+      behind_none = (λ queue i j d before within. let items = c.push_reserved.ensures.items in
+          let all = behind_joined self.behind c.put-self.result self.processes self.waits.items c.args.wait c.queued.result self.policy self.few self.well_formed
+          c.requires.well_formed.process (none_of self.waits.items c.args.wait.p c.requires.none) c.put-self.ensures queue c.queued.ensures (self.behind_none queue) in
+          rw items (all i j d before (rw items at within)));
+      queue_told = (λ queue. ∥∥₁_map (self.queue_told queue) (λ told. subst (TellsQueue c.tell_row.new.self) (sym c.push_reserved.ensures.items)
+          (queue_joined self.queue c.tell_row.new.self self.waits.items c.args.wait c.queued_behind-ahead.result (none_of self.waits.items c.args.wait.p c.requires.none)
+          (c.queued_behind-ahead.ensures queue) c.tell_row.ensures.told c.tell_row.ensures.others told)));
+    }
+
+pub returns-clause-told : goal.returns-clause-told
+unfolding waits_of has_pair
+returns-clause-told c was =
+    let self = c.args.self.now in
+    told-join self _ (locks_of c.args.books.now) c.args.wait c.push_reserved.ensures.items
+    (none_of self.waits.items c.args.wait.p c.requires.none) c.tell.ensures.told c.tell.ensures.others was

@@ -1,0 +1,85 @@
+"""A folder on a tmpfs with lockfs over it, and nothing left of it afterwards."""
+
+from __future__ import annotations
+
+import os
+import shutil
+import signal
+import subprocess
+import tempfile
+import time
+from pathlib import Path
+from typing import Optional
+
+MEMORY = Path("/dev/shm")
+PATIENCE_SECONDS = 60.0
+
+
+class CouldNotMount(Exception):
+    """lockfs ended, or didn't mount in time."""
+
+
+class Places:
+    """The mount, and beside it a folder of the same tmpfs: as a `with`, which unmounts, ends lockfs and removes all."""
+
+    def __init__(self, lockfs: list[str]) -> None:
+        self.lockfs = lockfs
+        self.folder = Path(tempfile.mkdtemp(prefix="fuse-test-", dir=MEMORY))
+        self.mount, self.beneath, self.beside = (self.folder / name for name in ("mount", "beneath", "beside"))
+        self.server: Optional[subprocess.Popen[bytes]] = None
+        self.status: Optional[int] = None
+
+    def __enter__(self) -> Places:
+        for place in (self.mount, self.beneath, self.beside):
+            place.mkdir()
+        self.server = subprocess.Popen([*self.lockfs, "-f", str(self.beneath), str(self.mount)], start_new_session=True)
+        late = time.monotonic() + PATIENCE_SECONDS
+        while not self.is_mounted():
+            if self.server.poll() is not None or time.monotonic() > late:
+                self.clear()
+                raise CouldNotMount(f"lockfs doesn't mount (status {self.server.returncode})")
+            time.sleep(0.05)
+        return self
+
+    def __exit__(self, *_: object) -> None:
+        self.clear()
+
+    def is_mounted(self) -> bool:
+        """Whether something is mounted, by the list of mounts: a look at the folder would hang where lockfs does."""
+        return any(line.split()[4] == str(self.mount) for line in Path("/proc/self/mountinfo").read_text().splitlines())
+
+    def clear(self) -> None:
+        """Unmounts as a user would; where that fails, kills lockfs and unmounts by force. Then removes the folders."""
+        assert self.server
+        if self.is_mounted() and not self.unmount("-u"):
+            self.kill()
+            self.unmount("-uz")
+        try:
+            self.status = self.server.wait(PATIENCE_SECONDS)
+        except subprocess.TimeoutExpired:
+            self.kill()
+            self.status = self.server.wait()
+        if not self.is_mounted():
+            shutil.rmtree(self.folder, ignore_errors=True)
+
+    def kill(self) -> None:
+        """Kills lockfs, and what it is run by: its requests then end, and with them whoever is stuck in one."""
+        assert self.server
+        end_group(self.server.pid)
+
+    def unmount(self, *flags: str) -> bool:
+        """Whether fusermount3 could; a mount is busy for a moment behind the end of a process that used it."""
+        for _ in range(20):
+            ran = subprocess.run(["timeout", "10", "fusermount3", *flags, str(self.mount)], stderr=subprocess.DEVNULL, check=False)
+            if ran.returncode == 0:
+                return True
+            time.sleep(0.25)
+        return False
+
+
+def end_group(leader: int) -> None:
+    """Kills what is left of a step's processes."""
+    try:
+        os.killpg(leader, signal.SIGKILL)
+    except ProcessLookupError:
+        pass

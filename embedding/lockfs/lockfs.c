@@ -1,0 +1,539 @@
+/* A file system that passes files through to a folder and has its locks answered by the library: fcntl record locks, open file
+ * description locks and flock.
+ *
+ *   lockfs [-f] [--kernel-locks] FOLDER MOUNTPOINT
+ *
+ * It returns once MOUNTPOINT is mounted, and serves until `fusermount3 -u MOUNTPOINT`; with -f it stays in the foreground. With
+ * --kernel-locks it answers no lock request, so the kernel's own locks hold on the mount: for measurements.
+ *
+ * One thread reads requests and answers them. What a lock request comes to is the library's to say: nothing here compares locks, queues a
+ * wait or looks for a deadlock. To the library a file is its node's number, an owner the number that the kernel gives it, a ticket the
+ * address of the request that waits, which no other request has until it is answered. The kernel doesn't tell open file description locks
+ * from record locks, so each wait for bytes is one that a deadlock is looked for with. */
+#define FUSE_USE_VERSION 35
+#define _GNU_SOURCE
+#include "dehokuna.h"
+#include <dirent.h>
+#include <errno.h>
+#include <fcntl.h>
+#include <fuse_lowlevel.h>
+#include <search.h>
+#include <stdio.h>
+#include <stdlib.h>
+#include <string.h>
+#include <sys/file.h>
+#include <sys/resource.h>
+#include <sys/stat.h>
+#include <unistd.h>
+
+/* Who last asked for byte locks as an owner, and through which open file: for the pid that F_GETLK tells, until the owner's locks go by
+ * a flush or by the last close of the open file. */
+struct asker {
+    uint64_t owner, open_file;
+    pid_t pid;
+    struct asker *next;
+};
+
+/* A file that the kernel knows of, by its address. */
+struct node {
+    dev_t device;
+    ino_t inode;
+    int descriptor; /* O_PATH */
+    uint64_t lookups;
+    struct asker *askers;
+};
+
+static struct dehokuna_server server;
+static struct node root;
+static void *nodes; /* a tree of tsearch */
+
+static struct node *node_of(fuse_ino_t number) { return number == FUSE_ROOT_ID ? &root : (struct node *)(uintptr_t)number; }
+
+/* ---- Locks */
+
+static struct asker *asker_of(const struct node *node, uint64_t owner) {
+    struct asker *asker = node->askers;
+    while (asker && asker->owner != owner) asker = asker->next;
+    return asker;
+}
+
+/* false: there is no memory. */
+static bool remember(struct node *node, uint64_t owner, uint64_t open_file, pid_t pid) {
+    struct asker *asker = asker_of(node, owner);
+    if (!asker) {
+        asker = malloc(sizeof *asker);
+        if (!asker) return false;
+        asker->next = node->askers;
+        node->askers = asker;
+    }
+    asker->owner = owner;
+    asker->open_file = open_file;
+    asker->pid = pid;
+    return true;
+}
+
+/* false: there is no memory. */
+static bool note(fuse_ino_t file, const struct fuse_file_info *info, pid_t pid) {
+    return remember(node_of(file), info->lock_owner, info->fh, pid) && dehokuna_note(&server, file, info->lock_owner, info->fh);
+}
+
+static pid_t pid_of(const struct node *node, uint64_t owner) {
+    const struct asker *asker = asker_of(node, owner);
+    return asker ? asker->pid : 0;
+}
+
+static bool is_owner(const struct asker *asker, uint64_t owner) { return asker->owner == owner; }
+static bool came_through(const struct asker *asker, uint64_t open_file) { return asker->open_file == open_file; }
+static bool is_any(const struct asker *asker, uint64_t unused) { return (void)asker, (void)unused, true; }
+
+static void forget_askers(struct node *node, bool (*is_meant)(const struct asker *, uint64_t), uint64_t number) {
+    for (struct asker **at = &node->askers; *at;) {
+        struct asker *asker = *at;
+        if (is_meant(asker, number)) {
+            *at = asker->next;
+            free(asker);
+        } else {
+            at = &asker->next;
+        }
+    }
+}
+
+static uint64_t ticket_of(fuse_req_t request) { return (uintptr_t)request; }
+
+static void answer_grants(void) {
+    uint64_t ticket;
+    while (dehokuna_next_grant(&server, &ticket)) fuse_reply_err((fuse_req_t)(uintptr_t)ticket, 0);
+}
+
+/* A signal came while the request waited, or its process was killed. One that was granted is answered already. */
+static void interrupted(fuse_req_t request, void *unused) {
+    (void)unused;
+    if (dehokuna_cancel(&server, ticket_of(request))) fuse_reply_err(request, EINTR);
+    answer_grants();
+}
+
+static void let_wait(fuse_req_t request) {
+    /* Where the signal came before the request, libfuse would call `interrupted` inside the registration, and then use the request that
+     * was answered. */
+    if (fuse_req_interrupted(request)) interrupted(request, NULL);
+    else fuse_req_interrupt_func(request, interrupted, NULL);
+}
+
+static int error_of(uint32_t status) {
+    switch (status) {
+    case DEHOKUNA_DONE: return 0;
+    case DEHOKUNA_BLOCKED: return EAGAIN;
+    case DEHOKUNA_DEADLOCK: return EDEADLK;
+    default: return ENOLCK;
+    }
+}
+
+static void answer(fuse_req_t request, uint32_t status) {
+    if (status == DEHOKUNA_WAITS) let_wait(request);
+    else fuse_reply_err(request, error_of(status));
+    answer_grants();
+}
+
+static uint64_t last_of(const struct flock *lock) {
+    return lock->l_len == 0 ? DEHOKUNA_LARGEST_OFFSET : (uint64_t)lock->l_start + (uint64_t)lock->l_len - 1;
+}
+
+static uint32_t mode_of(short type) {
+    return type == F_UNLCK ? DEHOKUNA_UNLOCK : type == F_RDLCK ? DEHOKUNA_READ : DEHOKUNA_WRITE;
+}
+
+static void lockfs_setlk(fuse_req_t request, fuse_ino_t file, struct fuse_file_info *info, struct flock *lock, int may_wait) {
+    uint32_t mode = mode_of(lock->l_type);
+    uint64_t first = (uint64_t)lock->l_start, last = last_of(lock);
+    if (mode != DEHOKUNA_UNLOCK && !note(file, info, lock->l_pid)) {
+        fuse_reply_err(request, ENOLCK);
+        return;
+    }
+    answer(request, may_wait && mode != DEHOKUNA_UNLOCK
+                        ? dehokuna_wait(&server, ticket_of(request), file, info->lock_owner, first, last, mode, true)
+                        : dehokuna_set(&server, file, info->lock_owner, first, last, mode));
+}
+
+static void lockfs_getlk(fuse_req_t request, fuse_ino_t file, struct fuse_file_info *info, struct flock *lock) {
+    /* The kernel refuses this itself for F_GETLK, and hands it on for F_OFD_GETLK. */
+    if (lock->l_type == F_UNLCK) {
+        fuse_reply_err(request, EINVAL);
+        return;
+    }
+    struct dehokuna_blocker blocker;
+    struct flock told = {.l_type = F_UNLCK, .l_whence = SEEK_SET};
+    uint64_t first = (uint64_t)lock->l_start;
+    if (dehokuna_get(&server, file, info->lock_owner, first, last_of(lock), mode_of(lock->l_type), &blocker)) {
+        told.l_type = blocker.mode == DEHOKUNA_READ ? F_RDLCK : F_WRLCK;
+        told.l_start = (off_t)blocker.first;
+        told.l_len = blocker.last == DEHOKUNA_LARGEST_OFFSET ? 0 : (off_t)(blocker.last - blocker.first + 1);
+        told.l_pid = pid_of(node_of(file), blocker.owner);
+    }
+    fuse_reply_lock(request, &told);
+}
+
+static void lockfs_flock(fuse_req_t request, fuse_ino_t file, struct fuse_file_info *info, int operation) {
+    int kind = operation & ~LOCK_NB;
+    uint32_t mode = kind == LOCK_UN ? DEHOKUNA_UNLOCK : kind == LOCK_SH ? DEHOKUNA_READ : DEHOKUNA_WRITE;
+    answer(request, mode == DEHOKUNA_UNLOCK || operation & LOCK_NB
+                        ? dehokuna_flock(&server, file, info->lock_owner, mode)
+                        : dehokuna_flock_wait(&server, ticket_of(request), file, info->lock_owner, mode));
+}
+
+/* A descriptor is closed: the record locks of its process on the file go. */
+static void lockfs_flush(fuse_req_t request, fuse_ino_t file, struct fuse_file_info *info) {
+    forget_askers(node_of(file), is_owner, info->lock_owner);
+    dehokuna_flush(&server, file, info->lock_owner);
+    answer(request, DEHOKUNA_DONE);
+}
+
+/* The last descriptor of an open file is closed: its flock lock goes, and its open file description locks. The kernel sends no unlock
+ * for these, and doesn't name their owners here; the library knows who came through the open file and wasn't named by a flush since,
+ * as each process was by its own close. */
+static void lockfs_release(fuse_req_t request, fuse_ino_t file, struct fuse_file_info *info) {
+    dehokuna_release(&server, file, info->fh, info->flock_release, info->lock_owner);
+    forget_askers(node_of(file), came_through, info->fh);
+    close((int)info->fh);
+    answer(request, DEHOKUNA_DONE);
+}
+
+/* ---- Files */
+
+static int compare_nodes(const void *left, const void *right) {
+    const struct node *one = left, *other = right;
+    if (one->device != other->device) return one->device < other->device ? -1 : 1;
+    return one->inode == other->inode ? 0 : one->inode < other->inode ? -1 : 1;
+}
+
+/* The node of a file that was opened by O_PATH and is described; takes the descriptor. NULL where there is no memory. */
+static struct node *node_for(int descriptor, const struct stat *described) {
+    struct node key = {.device = described->st_dev, .inode = described->st_ino}, **known = tfind(&key, &nodes, compare_nodes);
+    struct node *node = known ? *known : malloc(sizeof *node);
+    if (known || !node) {
+        close(descriptor);
+        return node;
+    }
+    key.descriptor = descriptor;
+    *node = key;
+    if (tsearch(node, &nodes, compare_nodes)) return node;
+    close(descriptor);
+    free(node);
+    return NULL;
+}
+
+/* Fills the entry in, and counts it as a look-up; otherwise the error. */
+static int look_up(fuse_ino_t parent, const char *name, struct fuse_entry_param *entry) {
+    memset(entry, 0, sizeof *entry);
+    int descriptor = openat(node_of(parent)->descriptor, name, O_PATH | O_NOFOLLOW);
+    if (descriptor < 0) return errno;
+    if (fstatat(descriptor, "", &entry->attr, AT_EMPTY_PATH) < 0) {
+        int error = errno;
+        close(descriptor);
+        return error;
+    }
+    struct node *node = node_for(descriptor, &entry->attr);
+    if (!node) return ENOMEM;
+    node->lookups++;
+    entry->ino = (uintptr_t)node;
+    return 0;
+}
+
+static void lockfs_lookup(fuse_req_t request, fuse_ino_t parent, const char *name) {
+    struct fuse_entry_param entry;
+    int error = look_up(parent, name, &entry);
+    if (error) fuse_reply_err(request, error);
+    else fuse_reply_entry(request, &entry);
+}
+
+static void lockfs_forget(fuse_req_t request, fuse_ino_t file, uint64_t lookups) {
+    struct node *node = node_of(file);
+    if (node != &root && (node->lookups -= lookups) == 0) {
+        tdelete(node, &nodes, compare_nodes);
+        forget_askers(node, is_any, 0);
+        close(node->descriptor);
+        free(node);
+    }
+    fuse_reply_none(request);
+}
+
+/* Answers by the error number where the call failed. */
+static void answer_call(fuse_req_t request, int result) { fuse_reply_err(request, result < 0 ? errno : 0); }
+
+static void lockfs_getattr(fuse_req_t request, fuse_ino_t file, struct fuse_file_info *info) {
+    (void)info;
+    struct stat described;
+    if (fstatat(node_of(file)->descriptor, "", &described, AT_EMPTY_PATH) < 0) fuse_reply_err(request, errno);
+    else fuse_reply_attr(request, &described, 0);
+}
+
+/* By which an O_PATH descriptor's file is opened or changed. */
+struct path {
+    char text[32];
+};
+
+static struct path path_of(fuse_ino_t file) {
+    struct path path;
+    snprintf(path.text, sizeof path.text, "/proc/self/fd/%d", node_of(file)->descriptor);
+    return path;
+}
+
+static int set_owner(fuse_ino_t file, const struct stat *wanted, int which) {
+    uid_t user = which & FUSE_SET_ATTR_UID ? wanted->st_uid : (uid_t)-1;
+    gid_t group = which & FUSE_SET_ATTR_GID ? wanted->st_gid : (gid_t)-1;
+    return fchownat(node_of(file)->descriptor, "", user, group, AT_EMPTY_PATH);
+}
+
+static int set_times(const char *path, const struct stat *wanted, int which) {
+    const struct timespec now = {0, UTIME_NOW};
+    struct timespec times[2] = {{0, UTIME_OMIT}, {0, UTIME_OMIT}};
+    if (which & FUSE_SET_ATTR_ATIME) times[0] = which & FUSE_SET_ATTR_ATIME_NOW ? now : wanted->st_atim;
+    if (which & FUSE_SET_ATTR_MTIME) times[1] = which & FUSE_SET_ATTR_MTIME_NOW ? now : wanted->st_mtim;
+    return utimensat(AT_FDCWD, path, times, 0);
+}
+
+static int set_attributes(fuse_ino_t file, const struct stat *wanted, int which, const struct fuse_file_info *info) {
+    struct path path = path_of(file);
+    if (which & FUSE_SET_ATTR_MODE && chmod(path.text, wanted->st_mode) < 0) return -1;
+    if (which & (FUSE_SET_ATTR_UID | FUSE_SET_ATTR_GID) && set_owner(file, wanted, which) < 0) return -1;
+    if (which & FUSE_SET_ATTR_SIZE) {
+        int result = info ? ftruncate((int)info->fh, wanted->st_size) : truncate(path.text, wanted->st_size);
+        if (result < 0) return -1;
+    }
+    if (which & (FUSE_SET_ATTR_ATIME | FUSE_SET_ATTR_MTIME)) return set_times(path.text, wanted, which);
+    return 0;
+}
+
+static void lockfs_setattr(fuse_req_t request, fuse_ino_t file, struct stat *wanted, int which, struct fuse_file_info *info) {
+    if (set_attributes(file, wanted, which, info) < 0) fuse_reply_err(request, errno);
+    else lockfs_getattr(request, file, info);
+}
+
+/* The kernel has followed links, and says itself where what is appended goes. */
+static int open_flags(const struct fuse_file_info *info) { return (info->flags & ~(O_NOFOLLOW | O_APPEND)) | O_CLOEXEC; }
+
+static void lockfs_open(fuse_req_t request, fuse_ino_t file, struct fuse_file_info *info) {
+    struct path path = path_of(file);
+    int descriptor = open(path.text, open_flags(info));
+    if (descriptor < 0) {
+        fuse_reply_err(request, errno);
+        return;
+    }
+    info->fh = (uint64_t)descriptor;
+    info->keep_cache = 1;
+    fuse_reply_open(request, info);
+}
+
+static void lockfs_create(fuse_req_t request, fuse_ino_t parent, const char *name, mode_t mode, struct fuse_file_info *info) {
+    struct fuse_entry_param entry;
+    int descriptor = openat(node_of(parent)->descriptor, name, open_flags(info) | O_CREAT, mode);
+    if (descriptor < 0) {
+        fuse_reply_err(request, errno);
+        return;
+    }
+    int error = look_up(parent, name, &entry);
+    if (error) {
+        close(descriptor);
+        fuse_reply_err(request, error);
+        return;
+    }
+    info->fh = (uint64_t)descriptor;
+    info->keep_cache = 1;
+    fuse_reply_create(request, &entry, info);
+}
+
+static void lockfs_read(fuse_req_t request, fuse_ino_t file, size_t size, off_t from, struct fuse_file_info *info) {
+    (void)file;
+    struct fuse_bufvec buffer = FUSE_BUFVEC_INIT(size);
+    buffer.buf[0].flags = FUSE_BUF_IS_FD | FUSE_BUF_FD_SEEK;
+    buffer.buf[0].fd = (int)info->fh;
+    buffer.buf[0].pos = from;
+    fuse_reply_data(request, &buffer, FUSE_BUF_SPLICE_MOVE);
+}
+
+static void lockfs_write(fuse_req_t request, fuse_ino_t file, const char *bytes, size_t size, off_t to, struct fuse_file_info *info) {
+    (void)file;
+    ssize_t written = pwrite((int)info->fh, bytes, size, to);
+    if (written < 0) fuse_reply_err(request, errno);
+    else fuse_reply_write(request, (size_t)written);
+}
+
+static void lockfs_fsync(fuse_req_t request, fuse_ino_t file, int data_alone, struct fuse_file_info *info) {
+    (void)file;
+    answer_call(request, data_alone ? fdatasync((int)info->fh) : fsync((int)info->fh));
+}
+
+static void lockfs_unlink(fuse_req_t request, fuse_ino_t parent, const char *name) {
+    answer_call(request, unlinkat(node_of(parent)->descriptor, name, 0));
+}
+
+static void lockfs_rmdir(fuse_req_t request, fuse_ino_t parent, const char *name) {
+    answer_call(request, unlinkat(node_of(parent)->descriptor, name, AT_REMOVEDIR));
+}
+
+static void lockfs_mkdir(fuse_req_t request, fuse_ino_t parent, const char *name, mode_t mode) {
+    if (mkdirat(node_of(parent)->descriptor, name, mode) < 0) fuse_reply_err(request, errno);
+    else lockfs_lookup(request, parent, name);
+}
+
+static void lockfs_symlink(fuse_req_t request, const char *target, fuse_ino_t parent, const char *name) {
+    if (symlinkat(target, node_of(parent)->descriptor, name) < 0) fuse_reply_err(request, errno);
+    else lockfs_lookup(request, parent, name);
+}
+
+static void lockfs_link(fuse_req_t request, fuse_ino_t file, fuse_ino_t parent, const char *name) {
+    struct path path = path_of(file);
+    if (linkat(AT_FDCWD, path.text, node_of(parent)->descriptor, name, AT_SYMLINK_FOLLOW) < 0) fuse_reply_err(request, errno);
+    else lockfs_lookup(request, parent, name);
+}
+
+static void lockfs_readlink(fuse_req_t request, fuse_ino_t file) {
+    char target[4097];
+    ssize_t size = readlinkat(node_of(file)->descriptor, "", target, sizeof target - 1);
+    if (size < 0) {
+        fuse_reply_err(request, errno);
+        return;
+    }
+    target[size] = '\0';
+    fuse_reply_readlink(request, target);
+}
+
+static void lockfs_rename(fuse_req_t request, fuse_ino_t from, const char *old, fuse_ino_t to, const char *new, unsigned flags) {
+    answer_call(request, renameat2(node_of(from)->descriptor, old, node_of(to)->descriptor, new, flags));
+}
+
+static DIR *folder_of(const struct fuse_file_info *info) { return (DIR *)(uintptr_t)info->fh; }
+
+static void lockfs_opendir(fuse_req_t request, fuse_ino_t file, struct fuse_file_info *info) {
+    int descriptor = openat(node_of(file)->descriptor, ".", O_RDONLY | O_CLOEXEC);
+    DIR *folder = descriptor < 0 ? NULL : fdopendir(descriptor);
+    info->fh = (uintptr_t)folder;
+    if (folder) {
+        fuse_reply_open(request, info);
+        return;
+    }
+    int error = errno;
+    if (descriptor >= 0) close(descriptor);
+    fuse_reply_err(request, error);
+}
+
+static void lockfs_readdir(fuse_req_t request, fuse_ino_t file, size_t size, off_t from, struct fuse_file_info *info) {
+    (void)file;
+    char *buffer = malloc(size);
+    if (!buffer) {
+        fuse_reply_err(request, ENOMEM);
+        return;
+    }
+    size_t used = 0;
+    seekdir(folder_of(info), from);
+    for (struct dirent *found; (found = readdir(folder_of(info)));) {
+        struct stat described = {.st_ino = found->d_ino, .st_mode = (mode_t)found->d_type << 12};
+        size_t more = fuse_add_direntry(request, buffer + used, size - used, found->d_name, &described, found->d_off);
+        if (more > size - used) break;
+        used += more;
+    }
+    fuse_reply_buf(request, buffer, used);
+    free(buffer);
+}
+
+static void lockfs_fsyncdir(fuse_req_t request, fuse_ino_t file, int data_alone, struct fuse_file_info *info) {
+    (void)file, (void)data_alone;
+    answer_call(request, fsync(dirfd(folder_of(info))));
+}
+
+static void lockfs_releasedir(fuse_req_t request, fuse_ino_t file, struct fuse_file_info *info) {
+    (void)file;
+    answer_call(request, closedir(folder_of(info)));
+}
+
+static void lockfs_statfs(fuse_req_t request, fuse_ino_t file) {
+    struct statvfs described;
+    if (fstatvfs(node_of(file)->descriptor, &described) < 0) fuse_reply_err(request, errno);
+    else fuse_reply_statfs(request, &described);
+}
+
+/* ---- The program */
+
+static struct fuse_lowlevel_ops operations = {
+    .lookup = lockfs_lookup, .forget = lockfs_forget, .getattr = lockfs_getattr, .setattr = lockfs_setattr,
+    .open = lockfs_open, .create = lockfs_create, .read = lockfs_read, .write = lockfs_write, .fsync = lockfs_fsync,
+    .unlink = lockfs_unlink, .mkdir = lockfs_mkdir, .rmdir = lockfs_rmdir, .rename = lockfs_rename, .symlink = lockfs_symlink,
+    .link = lockfs_link, .readlink = lockfs_readlink, .opendir = lockfs_opendir, .readdir = lockfs_readdir,
+    .fsyncdir = lockfs_fsyncdir, .releasedir = lockfs_releasedir, .statfs = lockfs_statfs,
+    .flush = lockfs_flush, .release = lockfs_release,
+    .getlk = lockfs_getlk, .setlk = lockfs_setlk, .flock = lockfs_flock,
+};
+
+/* What the command line says. */
+struct command {
+    bool in_foreground, by_kernel;
+    const char *folder, *mountpoint;
+};
+
+static bool read_command(int count, char **words, struct command *command) {
+    for (int at = 1; at < count; at++) {
+        if (!strcmp(words[at], "-f")) command->in_foreground = true;
+        else if (!strcmp(words[at], "--kernel-locks")) command->by_kernel = true;
+        else if (words[at][0] == '-' || command->mountpoint) return false;
+        else if (command->folder) command->mountpoint = words[at];
+        else command->folder = words[at];
+    }
+    return command->mountpoint;
+}
+
+static bool serve(struct fuse_session *session, const struct command *command) {
+    /* (absolute, since fuse_daemonize changes the working folder) */
+    char *mountpoint = realpath(command->mountpoint, NULL);
+    if (!mountpoint) perror(command->mountpoint);
+    bool served = false;
+    if (mountpoint && !fuse_set_signal_handlers(session)) {
+        if (!fuse_session_mount(session, mountpoint)) {
+            served = !fuse_daemonize(command->in_foreground) && !fuse_session_loop(session);
+            fuse_session_unmount(session);
+        }
+        fuse_remove_signal_handlers(session);
+    }
+    free(mountpoint);
+    return served;
+}
+
+static bool run(const char *name, const struct command *command) {
+    char *words[] = {(char *)name, "-o", "default_permissions,fsname=lockfs,subtype=lockfs", NULL};
+    struct fuse_args arguments = FUSE_ARGS_INIT(3, words);
+    struct fuse_session *session = fuse_session_new(&arguments, &operations, sizeof operations, NULL);
+    bool served = session && serve(session, command);
+    if (session) fuse_session_destroy(session);
+    fuse_opt_free_args(&arguments);
+    return served;
+}
+
+static void forget_node(void *node) {
+    forget_askers(node, is_any, 0);
+    close(((struct node *)node)->descriptor);
+    free(node);
+}
+
+int main(int count, char **words) {
+    struct command command = {0};
+    if (!read_command(count, words, &command)) {
+        fprintf(stderr, "usage: lockfs [-f] [--kernel-locks] FOLDER MOUNTPOINT\n");
+        return 2;
+    }
+    root.descriptor = open(command.folder, O_PATH | O_DIRECTORY | O_CLOEXEC);
+    if (root.descriptor < 0) {
+        perror(command.folder);
+        return 1;
+    }
+    if (!dehokuna_create(&server, DEHOKUNA_HELD)) {
+        fprintf(stderr, "lockfs: no memory\n");
+        return 1;
+    }
+    if (command.by_kernel) operations.getlk = NULL, operations.setlk = NULL, operations.flock = NULL;
+    struct rlimit files;
+    if (!getrlimit(RLIMIT_NOFILE, &files)) files.rlim_cur = files.rlim_max, setrlimit(RLIMIT_NOFILE, &files);
+    umask(0);
+    bool served = run(words[0], &command);
+    tdestroy(nodes, forget_node);
+    dehokuna_destroy(&server);
+    close(root.descriptor);
+    return served ? 0 : 1;
+}

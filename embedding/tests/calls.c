@@ -1,0 +1,255 @@
+/* Calls each function of the library on its happy path, refuses each growth in turn, and prints 'N passed, M failed'. Linked with
+ * --wrap=malloc and --wrap=realloc, so that it can refuse. What is right is told by the pages of fcntl(2), fcntl_locking(2) and
+ * flock(2). */
+#include "dehokuna.h"
+#include <stdio.h>
+#include <stdlib.h>
+#include <string.h>
+
+static unsigned passed, failed;
+
+static void check(bool holds, const char *what, int line) {
+    if (holds) {
+        passed++;
+    } else {
+        failed++;
+        fprintf(stderr, "calls.c:%d: %s\n", line, what);
+    }
+}
+
+#define CHECK(what) check(what, #what, __LINE__)
+
+/* How many growths are taken before one is refused; below 0 none is. */
+static long growths_left = -1;
+static bool was_refused;
+
+void *__real_malloc(size_t size);
+void *__real_realloc(void *block, size_t size);
+void *__wrap_malloc(size_t size);
+void *__wrap_realloc(void *block, size_t size);
+
+static bool is_refused(void) {
+    if (growths_left < 0 || growths_left-- > 0) return false;
+    return was_refused = true;
+}
+
+void *__wrap_malloc(size_t size) { return is_refused() ? NULL : __real_malloc(size); }
+
+void *__wrap_realloc(void *block, size_t size) { return is_refused() ? NULL : __real_realloc(block, size); }
+
+enum { FILE_A = 7, FILE_B = 8, ANN = 1, BOB = 2, CAT = 3 };
+
+static uint64_t granted(struct dehokuna_server *server) {
+    uint64_t ticket = 0;
+    return dehokuna_next_grant(server, &ticket) ? ticket : 0;
+}
+
+static bool is_blocked_by(struct dehokuna_server *server, uint64_t file, uint64_t owner, uint64_t byte, struct dehokuna_blocker right) {
+    struct dehokuna_blocker told = {0};
+    if (!dehokuna_get(server, file, owner, byte, byte, DEHOKUNA_WRITE, &told)) return false;
+    return told.owner == right.owner && told.first == right.first && told.last == right.last && told.mode == right.mode;
+}
+
+static bool is_free(struct dehokuna_server *server, uint64_t file, uint64_t owner, uint64_t first, uint64_t last) {
+    struct dehokuna_blocker told = {4, 4, 4, 4};
+    return !dehokuna_get(server, file, owner, first, last, DEHOKUNA_WRITE, &told) && told.owner == 4 && told.first == 4
+           && told.last == 4 && told.mode == 4;
+}
+
+static void byte_locks(struct dehokuna_server *server) {
+    const uint64_t end = DEHOKUNA_LARGEST_OFFSET;
+    CHECK(is_free(server, FILE_A, ANN, 0, end));
+    CHECK(dehokuna_set(server, FILE_A, ANN, 10, 19, DEHOKUNA_WRITE) == DEHOKUNA_DONE);
+    CHECK(is_free(server, FILE_A, ANN, 0, end) && is_free(server, FILE_B, BOB, 0, end));
+    CHECK(dehokuna_set(server, FILE_A, BOB, 19, 30, DEHOKUNA_READ) == DEHOKUNA_BLOCKED);
+    CHECK(is_free(server, FILE_A, ANN, 20, end));
+    CHECK(is_blocked_by(server, FILE_A, BOB, 12, (struct dehokuna_blocker){ANN, 10, 19, DEHOKUNA_WRITE}));
+    CHECK(dehokuna_set(server, FILE_A, ANN, 14, 15, DEHOKUNA_UNLOCK) == DEHOKUNA_DONE);
+    CHECK(is_free(server, FILE_A, BOB, 14, 15));
+    CHECK(dehokuna_set(server, FILE_A, ANN, 18, 19, DEHOKUNA_READ) == DEHOKUNA_DONE);
+    CHECK(dehokuna_set(server, FILE_A, BOB, 18, end, DEHOKUNA_READ) == DEHOKUNA_DONE);
+    CHECK(is_blocked_by(server, FILE_A, BOB, 17, (struct dehokuna_blocker){ANN, 16, 17, DEHOKUNA_WRITE}));
+    CHECK(is_blocked_by(server, FILE_A, BOB, 18, (struct dehokuna_blocker){ANN, 18, 19, DEHOKUNA_READ}));
+    CHECK(is_blocked_by(server, FILE_A, ANN, 18, (struct dehokuna_blocker){BOB, 18, end, DEHOKUNA_READ}));
+    dehokuna_flush(server, FILE_A, ANN);
+    CHECK(is_free(server, FILE_A, BOB, 0, end));
+    CHECK(dehokuna_set(server, FILE_B, BOB, 0, 0, DEHOKUNA_WRITE) == DEHOKUNA_DONE);
+    dehokuna_forget(server, BOB);
+    CHECK(is_free(server, FILE_A, ANN, 0, end) && is_free(server, FILE_B, ANN, 0, end));
+}
+
+static void waits(struct dehokuna_server *server) {
+    CHECK(dehokuna_set(server, FILE_A, ANN, 0, 9, DEHOKUNA_WRITE) == DEHOKUNA_DONE);
+    CHECK(dehokuna_wait(server, 70, FILE_A, BOB, 5, 5, DEHOKUNA_READ, true) == DEHOKUNA_WAITS);
+    CHECK(dehokuna_wait(server, 71, FILE_A, CAT, 0, 5, DEHOKUNA_READ, true) == DEHOKUNA_WAITS);
+    CHECK(dehokuna_wait(server, 71, FILE_B, CAT, 0, 5, DEHOKUNA_READ, true) == DEHOKUNA_TICKET_TAKEN);
+    CHECK(dehokuna_wait(server, 72, FILE_A, CAT, 6, 6, DEHOKUNA_READ, true) == DEHOKUNA_WAITS);
+    CHECK(dehokuna_cancel(server, 72) && !dehokuna_cancel(server, 72) && !dehokuna_cancel(server, 99));
+    CHECK(granted(server) == 0);
+    CHECK(dehokuna_set(server, FILE_A, ANN, 0, 9, DEHOKUNA_UNLOCK) == DEHOKUNA_DONE);
+    CHECK(!dehokuna_cancel(server, 70));
+    CHECK(granted(server) == 70 && granted(server) == 71 && granted(server) == 0);
+    CHECK(is_blocked_by(server, FILE_A, ANN, 5, (struct dehokuna_blocker){BOB, 5, 5, DEHOKUNA_READ}));
+    CHECK(is_blocked_by(server, FILE_A, ANN, 4, (struct dehokuna_blocker){CAT, 0, 5, DEHOKUNA_READ}));
+    CHECK(is_free(server, FILE_A, ANN, 6, 6));
+    dehokuna_flush(server, FILE_A, BOB);
+    dehokuna_flush(server, FILE_A, CAT);
+}
+
+static void deadlocks(struct dehokuna_server *server) {
+    for (uint64_t owner = ANN; owner <= CAT; owner++)
+        CHECK(dehokuna_set(server, owner, owner, owner, owner, DEHOKUNA_WRITE) == DEHOKUNA_DONE);
+    CHECK(dehokuna_wait(server, 1, BOB, ANN, BOB, BOB, DEHOKUNA_WRITE, true) == DEHOKUNA_WAITS);
+    CHECK(dehokuna_wait(server, 2, CAT, BOB, CAT, CAT, DEHOKUNA_WRITE, true) == DEHOKUNA_WAITS);
+    CHECK(dehokuna_wait(server, 3, ANN, CAT, ANN, ANN, DEHOKUNA_WRITE, true) == DEHOKUNA_DEADLOCK);
+    CHECK(dehokuna_wait(server, 3, ANN, CAT, ANN, ANN, DEHOKUNA_WRITE, false) == DEHOKUNA_WAITS);
+    CHECK(dehokuna_cancel(server, 3));
+    dehokuna_forget(server, CAT);
+    CHECK(granted(server) == 2 && granted(server) == 0);
+    dehokuna_forget(server, BOB);
+    CHECK(granted(server) == 1);
+    dehokuna_forget(server, ANN);
+    CHECK(is_free(server, ANN, 9, 0, 9) && is_free(server, BOB, 9, 0, 9) && is_free(server, CAT, 9, 0, 9));
+}
+
+static void flock_locks(struct dehokuna_server *server) {
+    CHECK(dehokuna_flock(server, FILE_A, ANN, DEHOKUNA_READ) == DEHOKUNA_DONE);
+    CHECK(dehokuna_flock(server, FILE_A, BOB, DEHOKUNA_READ) == DEHOKUNA_DONE);
+    CHECK(dehokuna_set(server, FILE_A, CAT, 0, 9, DEHOKUNA_WRITE) == DEHOKUNA_DONE);
+    dehokuna_flush(server, FILE_A, CAT);
+    CHECK(dehokuna_flock(server, FILE_A, ANN, DEHOKUNA_WRITE) == DEHOKUNA_BLOCKED);
+    CHECK(dehokuna_flock(server, FILE_A, BOB, DEHOKUNA_WRITE) == DEHOKUNA_DONE);
+    CHECK(dehokuna_flock_wait(server, 5, FILE_A, ANN, DEHOKUNA_READ) == DEHOKUNA_WAITS);
+    CHECK(dehokuna_flock_wait(server, 5, FILE_B, ANN, DEHOKUNA_READ) == DEHOKUNA_TICKET_TAKEN);
+    CHECK(dehokuna_flock_wait(server, 6, FILE_A, CAT, DEHOKUNA_WRITE) == DEHOKUNA_WAITS);
+    dehokuna_flock_release(server, FILE_A, BOB);
+    CHECK(granted(server) == 5 && granted(server) == 0);
+    CHECK(dehokuna_flock(server, FILE_A, ANN, DEHOKUNA_UNLOCK) == DEHOKUNA_DONE);
+    CHECK(granted(server) == 6);
+    CHECK(dehokuna_flock(server, FILE_A, ANN, DEHOKUNA_READ) == DEHOKUNA_BLOCKED);
+    CHECK(dehokuna_flock_wait(server, 7, FILE_A, CAT, DEHOKUNA_READ) == DEHOKUNA_DONE);
+    CHECK(dehokuna_flock(server, FILE_A, ANN, DEHOKUNA_READ) == DEHOKUNA_DONE);
+    dehokuna_flock_release(server, FILE_A, ANN);
+    dehokuna_flock_release(server, FILE_A, CAT);
+}
+
+/* Two open files of FILE_A, 50 and 51: their owners, seen through one after the other, and their last closes. */
+static void last_closes(struct dehokuna_server *server) {
+    CHECK(dehokuna_note(server, FILE_A, ANN, 50) && dehokuna_note(server, FILE_A, BOB, 50) && dehokuna_note(server, FILE_A, CAT, 50));
+    CHECK(dehokuna_note(server, FILE_B, ANN, 50) && dehokuna_note(server, FILE_A, CAT, 51));
+    CHECK(dehokuna_set(server, FILE_A, ANN, 0, 0, DEHOKUNA_WRITE) == DEHOKUNA_DONE);
+    CHECK(dehokuna_set(server, FILE_A, BOB, 1, 1, DEHOKUNA_WRITE) == DEHOKUNA_DONE);
+    CHECK(dehokuna_set(server, FILE_A, CAT, 2, 2, DEHOKUNA_WRITE) == DEHOKUNA_DONE);
+    CHECK(dehokuna_set(server, FILE_B, ANN, 3, 3, DEHOKUNA_WRITE) == DEHOKUNA_DONE);
+    CHECK(dehokuna_flock(server, FILE_A, ANN, DEHOKUNA_WRITE) == DEHOKUNA_DONE);
+    CHECK(dehokuna_wait(server, 80, FILE_A, 4, 0, 1, DEHOKUNA_READ, true) == DEHOKUNA_WAITS);
+    dehokuna_flush(server, FILE_A, BOB);
+    CHECK(dehokuna_set(server, FILE_A, BOB, 1, 1, DEHOKUNA_READ) == DEHOKUNA_DONE);
+    dehokuna_release(server, FILE_A, 50, false, ANN);
+    CHECK(granted(server) == 80 && granted(server) == 0);
+    CHECK(is_blocked_by(server, FILE_A, 4, 1, (struct dehokuna_blocker){BOB, 1, 1, DEHOKUNA_READ}));
+    CHECK(is_blocked_by(server, FILE_A, ANN, 2, (struct dehokuna_blocker){CAT, 2, 2, DEHOKUNA_WRITE}));
+    CHECK(is_blocked_by(server, FILE_B, CAT, 3, (struct dehokuna_blocker){ANN, 3, 3, DEHOKUNA_WRITE}));
+    CHECK(dehokuna_flock(server, FILE_A, BOB, DEHOKUNA_WRITE) == DEHOKUNA_BLOCKED);
+    dehokuna_release(server, FILE_A, 51, true, ANN);
+    CHECK(dehokuna_flock(server, FILE_A, BOB, DEHOKUNA_WRITE) == DEHOKUNA_DONE);
+    CHECK(is_free(server, FILE_A, 4, 2, 9));
+    dehokuna_release(server, FILE_B, 50, true, BOB);
+    CHECK(is_free(server, FILE_B, CAT, 0, 9) && dehokuna_flock(server, FILE_A, CAT, DEHOKUNA_READ) == DEHOKUNA_BLOCKED);
+    dehokuna_flock_release(server, FILE_A, BOB);
+    dehokuna_flush(server, FILE_A, BOB);
+    dehokuna_flush(server, FILE_A, 4);
+}
+
+/* Many owners, files and waits: more than any table that might have been sized in advance. */
+static void many(struct dehokuna_server *server) {
+    enum { COUNT = 1000 };
+    bool are_done = true, wait = true, are_granted = true;
+    for (uint64_t number = 0; number < COUNT; number++) {
+        are_done &= dehokuna_set(server, number, UINT64_MAX - number, 2 * number, 2 * number, DEHOKUNA_WRITE) == DEHOKUNA_DONE;
+        are_done &= dehokuna_set(server, FILE_A, number, 2000 + 2 * number, 2000 + 2 * number, DEHOKUNA_READ) == DEHOKUNA_DONE;
+    }
+    CHECK(are_done);
+    CHECK(is_blocked_by(server, 999, 0, 1998, (struct dehokuna_blocker){UINT64_MAX - 999, 1998, 1998, DEHOKUNA_WRITE}));
+    CHECK(dehokuna_set(server, FILE_B, COUNT, 5000, 5000, DEHOKUNA_WRITE) == DEHOKUNA_DONE);
+    for (uint64_t number = 0; number < COUNT; number++)
+        wait &= dehokuna_wait(server, number, FILE_B, number, 5000, 5000, DEHOKUNA_READ, true) == DEHOKUNA_WAITS;
+    CHECK(wait);
+    dehokuna_flush(server, FILE_B, COUNT);
+    for (uint64_t number = 0, ticket; number < COUNT; number++) are_granted &= dehokuna_next_grant(server, &ticket) && ticket == number;
+    CHECK(are_granted);
+    CHECK(granted(server) == 0);
+}
+
+static void policies(void) {
+    struct dehokuna_server held = {0}, queue = {0};
+    CHECK(dehokuna_create(&held, DEHOKUNA_HELD) && dehokuna_create(&queue, DEHOKUNA_QUEUE));
+    struct dehokuna_server *servers[] = {&held, &queue};
+    for (int at = 0; at < 2; at++) {
+        CHECK(dehokuna_set(servers[at], FILE_A, ANN, 0, 9, DEHOKUNA_READ) == DEHOKUNA_DONE);
+        CHECK(dehokuna_wait(servers[at], 1, FILE_A, BOB, 0, 9, DEHOKUNA_WRITE, true) == DEHOKUNA_WAITS);
+    }
+    CHECK(dehokuna_wait(&held, 2, FILE_A, CAT, 0, 9, DEHOKUNA_READ, true) == DEHOKUNA_DONE);
+    CHECK(dehokuna_wait(&queue, 2, FILE_A, CAT, 0, 9, DEHOKUNA_READ, true) == DEHOKUNA_WAITS);
+    CHECK(dehokuna_cancel(&queue, 1) && granted(&queue) == 2);
+    dehokuna_destroy(&held);
+    dehokuna_destroy(&queue);
+    CHECK(!held.at && !queue.at);
+}
+
+/* One call of each kind that may grow, on a server where ANN holds bytes 0 to 9 of FILE_A. */
+static uint32_t grow(struct dehokuna_server *server, int which) {
+    switch (which) {
+    case 0: return dehokuna_set(server, FILE_B, BOB, 0, 9, DEHOKUNA_WRITE);
+    case 1: return dehokuna_set(server, FILE_A, ANN, 4, 5, DEHOKUNA_UNLOCK);
+    case 2: return dehokuna_wait(server, 1, FILE_A, BOB, 0, 9, DEHOKUNA_READ, true);
+    case 3: return dehokuna_flock(server, FILE_B, BOB, DEHOKUNA_READ);
+    case 4: return dehokuna_note(server, FILE_A, ANN, 50) ? DEHOKUNA_DONE : DEHOKUNA_NO_MEMORY;
+    default: return dehokuna_flock_wait(server, 1, FILE_A, BOB, DEHOKUNA_WRITE);
+    }
+}
+
+/* Refuses the first growth of a call, then the second one and so on: each time it is told, and nothing has changed. */
+static void refusals(void) {
+    for (int which = 0; which < 6; which++) {
+        for (long growths = 0; was_refused || growths == 0; growths++) {
+            struct dehokuna_server server = {0};
+            CHECK(dehokuna_create(&server, DEHOKUNA_HELD));
+            CHECK(dehokuna_set(&server, FILE_A, ANN, 0, 9, DEHOKUNA_WRITE) == DEHOKUNA_DONE);
+            was_refused = false;
+            growths_left = growths;
+            uint32_t status = grow(&server, which);
+            growths_left = -1;
+            CHECK((status == DEHOKUNA_NO_MEMORY) == was_refused);
+            if (was_refused) {
+                dehokuna_release(&server, FILE_A, 50, false, 0);
+                CHECK(is_blocked_by(&server, FILE_A, CAT, 4, (struct dehokuna_blocker){ANN, 0, 9, DEHOKUNA_WRITE}));
+                CHECK(is_free(&server, FILE_B, CAT, 0, 9) && !dehokuna_cancel(&server, 1) && granted(&server) == 0);
+                CHECK(dehokuna_flock(&server, FILE_B, CAT, DEHOKUNA_WRITE) == DEHOKUNA_DONE);
+            }
+            dehokuna_destroy(&server);
+        }
+        was_refused = false;
+    }
+    struct dehokuna_server none = {0};
+    growths_left = 0;
+    CHECK(!dehokuna_create(&none, DEHOKUNA_HELD) && !none.at);
+    growths_left = -1;
+}
+
+int main(void) {
+    struct dehokuna_server server = {0};
+    CHECK(dehokuna_create(&server, DEHOKUNA_HELD) && server.at);
+    byte_locks(&server);
+    waits(&server);
+    deadlocks(&server);
+    flock_locks(&server);
+    last_closes(&server);
+    many(&server);
+    dehokuna_destroy(&server);
+    CHECK(!server.at);
+    policies();
+    refusals();
+    printf("%u passed, %u failed\n", passed, failed);
+    return failed ? 1 : 0;
+}
