@@ -88,8 +88,8 @@ bool dehokuna_get(struct dehokuna_server *server, uint64_t file, uint64_t owner,
                   struct dehokuna_blocker *blocker);
 
 /* Sets the owner's mode on just the bytes of the range, or removes it (F_SETLK, F_OFD_SETLK): DEHOKUNA_DONE, DEHOKUNA_BLOCKED or
- * DEHOKUNA_NO_MEMORY; the latter two leave all as it was. An unlock is never blocked, but may need memory, as where it splits a lock
- * in two. */
+ * DEHOKUNA_NO_MEMORY; the latter two leave all as it was. An unlock is never blocked, and needs memory only where it lies inside one
+ * lock and splits it in two. */
 uint32_t dehokuna_set(struct dehokuna_server *server, uint64_t file, uint64_t owner, uint64_t first, uint64_t last, uint32_t mode);
 
 /* The same for a lock that may be waited for (F_SETLKW, F_OFD_SETLKW): DEHOKUNA_DONE, DEHOKUNA_WAITS, DEHOKUNA_TICKET_TAKEN,

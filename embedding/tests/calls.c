@@ -237,6 +237,32 @@ static void refusals(void) {
     growths_left = -1;
 }
 
+/* An unlock that splits no lock takes no memory, however full the lists are. */
+static void unlocks_without_memory(void) {
+    const uint64_t end = DEHOKUNA_LARGEST_OFFSET;
+    struct dehokuna_server server = {0};
+    CHECK(dehokuna_create(&server, DEHOKUNA_HELD));
+    for (uint64_t first = 0; first < 640; first += 20) {
+        CHECK(dehokuna_set(&server, FILE_A, ANN, first, first + 9, DEHOKUNA_WRITE) == DEHOKUNA_DONE);
+    }
+    was_refused = false;
+    growths_left = 0;
+    CHECK(dehokuna_set(&server, FILE_A, ANN, 0, 9, DEHOKUNA_UNLOCK) == DEHOKUNA_DONE);
+    CHECK(dehokuna_set(&server, FILE_A, ANN, 20, 24, DEHOKUNA_UNLOCK) == DEHOKUNA_DONE);
+    CHECK(dehokuna_set(&server, FILE_A, ANN, 45, 49, DEHOKUNA_UNLOCK) == DEHOKUNA_DONE);
+    CHECK(dehokuna_set(&server, FILE_A, ANN, 61, 105, DEHOKUNA_UNLOCK) == DEHOKUNA_DONE);
+    CHECK(dehokuna_set(&server, FILE_A, BOB, 0, end, DEHOKUNA_UNLOCK) == DEHOKUNA_DONE);
+    CHECK(dehokuna_set(&server, FILE_B, ANN, 0, end, DEHOKUNA_UNLOCK) == DEHOKUNA_DONE);
+    CHECK(!was_refused);
+    growths_left = -1;
+    CHECK(is_free(&server, FILE_A, BOB, 0, 24) && is_free(&server, FILE_A, BOB, 45, 59) && is_free(&server, FILE_A, BOB, 61, 105));
+    CHECK(is_blocked_by(&server, FILE_A, BOB, 25, (struct dehokuna_blocker){ANN, 25, 29, DEHOKUNA_WRITE}));
+    CHECK(is_blocked_by(&server, FILE_A, BOB, 40, (struct dehokuna_blocker){ANN, 40, 44, DEHOKUNA_WRITE}));
+    CHECK(is_blocked_by(&server, FILE_A, BOB, 60, (struct dehokuna_blocker){ANN, 60, 60, DEHOKUNA_WRITE}));
+    CHECK(is_blocked_by(&server, FILE_A, BOB, 106, (struct dehokuna_blocker){ANN, 106, 109, DEHOKUNA_WRITE}));
+    dehokuna_destroy(&server);
+}
+
 int main(void) {
     struct dehokuna_server server = {0};
     CHECK(dehokuna_create(&server, DEHOKUNA_HELD) && server.at);
@@ -250,6 +276,7 @@ int main(void) {
     CHECK(!server.at);
     policies();
     refusals();
+    unlocks_without_memory();
     printf("%u passed, %u failed\n", passed, failed);
     return failed ? 1 : 0;
 }

@@ -1,6 +1,6 @@
 -- What a table's calls leave: of the fact `indexed`, and of the state, where the entry of one file is written.
 use Rattle.std.proofs.Common.{ℕ, ◌≡◌, ◌≢◌, ◌==◌, ◌∙◌, sym, ap, subst, refl, inl, inr, true, false, Bool, Option, Some, None, Result, Ok, Err, List, [], ◌∷◌, ◌++◌, All, Any}
-use Rattle.std.specs.Prelude.{◌↔◌, is_some, IsTrue, IsSome, IfNone, OnOk, OnErr}
+use Rattle.std.specs.Prelude.{◌↔◌, ◌&&◌, is_some, IsTrue, IsSome, IfNone, OnOk, OnErr}
 use Rattle.std.specs.BTreeMap.{BTreeMap, UpdatesBy, get, is_at}
 use Rattle.std.specs.Borrow.{MutBor}
 use Rattle.std.specs.Map.{lookup}
@@ -20,7 +20,8 @@ use Rattle.lock_server.specs.declared.tickets.Place.{Place}
 use Rattle.lock_server.specs.declared.tickets.Place.TheVariants.{Reserved, Waits, Granted}
 use Rattle.lock_server.specs.declared.tickets.Tickets.{Tickets}
 use Rattle.lock_server.specs.declared.waiters.Waiters.{Waiters}
-use Rattle.lock_server.specs.Files.{FileState, SetsLock, Unlocks, Joins, Leaves, untouched}
+use Rattle.range_core.specs.Changes.{is_covered}
+use Rattle.lock_server.specs.Files.{FileState, SetsBytes, SetsLock, Unlocks, Joins, Leaves, untouched}
 use Rattle.lock_server.specs.FileView.{file_state, keeps_place, state_at}
 use Rattle.lock_server.specs.Waiting.{IsReserved, IsReservedIn, KeepsFlockRoom}
 use Rattle.lock_server.specs.TableRoom.{KeepsRoomOn}
@@ -59,6 +60,20 @@ releases_nothing files tickets waiters file family owner known none = record {
   waits = refl;
   changes = changes_by files files tickets tickets waiters waiters file [] (λ other differs. refl) refl (waiters_known files tickets waiters known)
       (CrossesBy-same (waits_in files) waiters (waiters_known files tickets waiters known) waiters (SameWaiters-itself waiters));
+}
+
+untouched_unset : (owner : ℕ) (span : Span) → SetsBytes untouched owner span None untouched
+untouched_unset owner span = record {
+  bytes = λ other byte. elim (cases_Bool (is_same_owner (Description owner) other && is_covered span byte)) [ inl there ↦ rw there refl | inr elsewhere ↦ rw elsewhere refl ];
+  flocks = λ other. refl;
+}
+
+pub unlocks_nothing : (files : BTreeMap ℕ LockFile) (tickets : Tickets) (waiters : Waiters) (file owner : ℕ) (span : Span) → IsIndexed files tickets waiters → get nat_cmp files file ≡ None
+    → SetsOn (state_by files tickets waiters) file Bytes owner span None (state_by files tickets waiters)
+unlocks_nothing files tickets waiters file owner span known none = record {
+  sets = subst (λ (F : FileState). SetsBytes F owner span None F) (sym (ap state_at none)) (untouched_unset owner span);
+  waits = refl;
+  changes = (releases_nothing files tickets waiters file Bytes owner known none).changes;
 }
 
 module _ (old new : BTreeMap ℕ LockFile) (tickets : Tickets) (was : Waiters) (file : ℕ) (before after : LockFile) (is : get nat_cmp old file ≡ Some before) (puts : PutsEntry old new file (Some after)) (known : IsIndexed old tickets was) where

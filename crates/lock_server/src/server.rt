@@ -24,8 +24,8 @@ pub struct LockServer {
 
 #[tactic(auto, unfolding(crate::specs::ServerView::state_of, crate::specs::ServerView::policy_of, crate::specs::ServerView::through_of))]
 impl LockServer {
-    ghost use Rattle.std.specs.Prelude.{◌↔◌, ℕ, IfOk, IfSome, IfNone, IsTrue, OnErr, OnOk, Some, None, false};
-    ghost use Rattle.range_core.specs.Ranges.{IsByteRange};
+    ghost use Rattle.std.specs.Prelude.{◌↔◌, ℕ, IfOk, IfSome, IfNone, IsOk, IsTrue, OnErr, OnOk, Some, None, false};
+    ghost use Rattle.range_core.specs.Ranges.{IsByteRange, SplitsRun};
     ghost use Rattle.lock_book.specs.Conflicts.{ByteConflict, IsFirstBlocker};
     ghost use Rattle.lock_server.specs.Calls.{CancelComesTo, ConvertsFrom, FetchComesTo, FlockOpComesTo, FlockWaitComesTo, Forgets, IsRefused};
     ghost use Rattle.lock_server.specs.Calls.{IsSetHeldBack, Releases, SetComesTo, TestComesTo, WaitComesTo};
@@ -61,7 +61,7 @@ impl LockServer {
     /// Sets the owner's mode on just the bytes of the span, or removes it; `Blocked` where another owner's lock is in the way
     /// (POSIX.1-2017 fcntl, `F_SETLK`; FUSE, setlk without sleep).
     ///
-    /// `Memory` leaves everything as it was.
+    /// `Memory` leaves everything as it was. It never comes of an unlock, but where that lies inside one lock of one mode and splits it.
     pub fn set(
         &mut self,
         file: u64,
@@ -71,6 +71,7 @@ impl LockServer {
     ) -> Result<Answer, Memory>
         requires { IsByteRange span }
         ensures ok { IfOk result (λ answer. SetComesTo (policy_of self.old) (state_of self.old) file owner span mode answer (state_of self.new)) }
+        ensures unlock { mode ≡ None → (¬ SplitsRun (((state_of self.old).files file).bytes (Owner.Description owner)) span) → IsOk result }
         ensures err { OnErr result (SameState (state_of self.old) (state_of self.new)) }
         ensures policy { policy_of self.new ≡ policy_of self.old }
         ensures openings { SameOpenings (through_of self.old) (through_of self.new) }

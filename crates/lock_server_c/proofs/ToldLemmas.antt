@@ -1,7 +1,10 @@
 -- What a status tells, from what the server's call says of its answer: for the exports of the calls that are answered.
-use Rattle.std.proofs.Common.{◌≡◌, ℕ, refl, sym, ap, ◌∙◌, subst, inl, inr}
+use Rattle.std.proofs.Common.{◌≡◌, ◌≢◌, ℕ, refl, sym, ap, ◌∙◌, subst, inl, inr}
 use lib.Dec.{T}
-use Rattle.std.specs.Prelude.{◌↔◌, ◌==◌, Option, Some, Result, Ok, Err, IfOk, OnErr}
+use Rattle.std.specs.Prelude.{◌↔◌, ◌==◌, Option, Some, Result, Ok, Err, IfOk, IsOk, OnErr}
+use Rattle.std.proofs.lemmas.Bool.{false≢true}
+use Rattle.range_core.specs.declared.Mode.{Mode}
+use Rattle.range_core.specs.declared.Span.{Span}
 use Rattle.range_core.specs.declared.memory.Memory.{Memory}
 use Rattle.lock_server.specs.declared.Answer.{Answer}
 use Rattle.lock_server.specs.declared.Answer.TheVariants.{Done, Blocked}
@@ -14,15 +17,28 @@ use Rattle.lock_server.specs.declared.server.LockServer.{LockServer}
 use Rattle.lock_server.specs.ServerView.{policy_of, state_of}
 use Rattle.lock_server.specs.States.{State, SameState, IsTaken}
 use Rattle.lock_server_c.specs.declared.handle.Handle.{Handle}
-use Rattle.lock_server_c.specs.declared.status.TheConstants.{DONE, WAITS, DEADLOCK, TICKET_TAKEN, NO_MEMORY}
+use Rattle.lock_server_c.specs.declared.status.TheConstants.{DONE, BLOCKED, WAITS, DEADLOCK, TICKET_TAKEN, NO_MEMORY}
 use Rattle.lock_server_c.specs.Owned.{BothHave, Has}
-use Rattle.lock_server_c.specs.Told.{AnswerTold, WaitTold, AnswersWait, status_of, wait_status_of}
+use Rattle.lock_server_c.specs.Told.{AnswerTold, WaitTold, AnswersWait, SplitsLock, status_of, wait_status_of}
 
 pub answer_told : (answer : Result Answer Memory) (S T : State) (comes_to : Answer → Type 0)
     → IfOk answer comes_to → OnErr answer (SameState S T) → AnswerTold (status_of answer) S T comes_to
 answer_told (Ok Done) S T comes_to ok err = inl (refl, ok)
 answer_told (Ok Blocked) S T comes_to ok err = inr (inl (refl, ok))
 answer_told (Err memory) S T comes_to ok err = inr (inr (refl, err))
+
+-- an answer isn't told as no memory
+answered : (answer : Result Answer Memory) → IsOk answer → status_of answer ≡ NO_MEMORY → ⊥
+answered (Ok Done) ok e = absurd (subst (λ (n : ℕ). T (n == DONE)) e tt)
+answered (Ok Blocked) ok e = absurd (subst (λ (n : ℕ). T (n == BLOCKED)) e tt)
+answered (Err memory) ok e = false≢true ok
+
+pub unlock_told : (handle : Option LockServer) (server : LockServer) (answer : Result Answer Memory) (status file owner : ℕ) (span : Span) (mode : Option Mode)
+    → handle ≡ Some server → status ≡ status_of answer → (mode ≡ None → (¬ SplitsLock server file owner span) → IsOk answer)
+    → Has handle (λ held. mode ≡ None → (¬ SplitsLock held file owner span) → status ≢ NO_MEMORY)
+unlock_told handle server answer status file owner span mode before told_by ok =
+    subst (λ (o : Option LockServer). Has o (λ held. mode ≡ None → (¬ SplitsLock held file owner span) → status ≢ NO_MEMORY)) (sym before)
+    (λ unlock whole e. answered answer (ok unlock whole) (sym told_by ∙ e))
 
 pub wait_told : (answer : Result WaitAnswer WaitFault) (S T : State) (comes_to : WaitAnswer → Type 0)
     → IfOk answer comes_to → OnErr answer (SameState S T) → WaitTold (wait_status_of answer) S T comes_to

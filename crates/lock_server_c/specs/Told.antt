@@ -3,6 +3,7 @@ use Rattle.std.specs.Prelude.{◌≡◌, ◌⊎◌, ℕ, Option, Result, Ok, Err
 use Rattle.range_core.specs.declared.Mode.{Mode}
 use Rattle.range_core.specs.declared.Span.{Span}
 use Rattle.range_core.specs.declared.memory.Memory.{Memory}
+use Rattle.range_core.specs.Ranges.{SplitsRun}
 use Rattle.lock_book.specs.declared.Blocker.{Blocker}
 use Rattle.lock_book.specs.declared.Owner.{Owner}
 use Rattle.lock_book.specs.declared.Owner.TheVariants.{Process, Description}
@@ -85,6 +86,10 @@ out_of blocker = record
 -- a byte lock of another owner is in the way of one on the file (POSIX.1-2017 fcntl, DESCRIPTION, F_SETLK, "blocked by")
 abbrev pub IsInTheWay : LockServer → ℕ → ℕ → Span → Mode → Type 0
 IsInTheWay server file owner span mode = ByteConflict ((state_of server).files file).bytes (Description owner) span mode
+
+-- the range lies inside one lock of the owner on the file, so that an unlock of it leaves two (fcntl_locking(2), "splitting")
+abbrev pub SplitsLock : LockServer → ℕ → ℕ → Span → Type 0
+SplitsLock server file owner span = SplitsRun (((state_of server).files file).bytes (Description owner)) span
 
 -- C is told of the first lock that is in the way (POSIX.1-2017 fcntl, DESCRIPTION, F_GETLK)
 pub record BlockerTold (server : LockServer) (file owner : ℕ) (span : Span) (mode : Mode) (out : BlockerOut) : Type 0 where

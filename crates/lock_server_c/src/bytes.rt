@@ -1,5 +1,5 @@
 //! The calls on byte locks.
-ghost use Rattle.std.specs.Prelude.{◌≡◌, ◌↔◌, ◌⊎◌, None, IsSome, IsTrue, true};
+ghost use Rattle.std.specs.Prelude.{◌≡◌, ◌≢◌, ◌↔◌, ◌⊎◌, None, IsSome, IsTrue, true};
 ghost use Rattle.range_core.specs.Ranges.{IsByteRange};
 ghost use Rattle.wait_core.specs.declared.Family.TheVariants.{Bytes};
 ghost use Rattle.lock_server.specs.Calls.{Forgets, Releases, SetComesTo, WaitComesTo};
@@ -8,8 +8,8 @@ ghost use Rattle.lock_server.specs.ServerView.{state_of};
 ghost use Rattle.lock_server.specs.States.{IsTaken};
 ghost use Rattle.lock_server_c.specs.Numbers.{bytes_by, mode_of, span_of, wanted_of};
 ghost use Rattle.lock_server_c.specs.Owned.{Has};
-ghost use Rattle.lock_server_c.specs.Told.{Answers, AnswersWait, BlockerTold, Goes, IsInTheWay, out_of, Seen};
-ghost use Rattle.lock_server_c.specs.declared.status.TheConstants.{TICKET_TAKEN};
+ghost use Rattle.lock_server_c.specs.Told.{Answers, AnswersWait, BlockerTold, Goes, IsInTheWay, out_of, Seen, SplitsLock};
+ghost use Rattle.lock_server_c.specs.declared.status.TheConstants.{NO_MEMORY, TICKET_TAKEN};
 
 use crate::handle::Handle;
 use crate::{numbers, status};
@@ -92,6 +92,7 @@ pub extern "C" fn dehokuna_set(
     requires server { IsSome handle.old.server }
     requires range { IsByteRange (span_of first last) }
     ensures ok { Answers handle.old handle.new result (λ policy S. SetComesTo policy S file owner (span_of first last) (wanted_of mode)) }
+    ensures unlock { Has handle.old.server (λ server. wanted_of mode ≡ None → (¬ SplitsLock server file owner (span_of first last)) → result ≢ NO_MEMORY) }
     ensures openings { Seen handle.old handle.new SameOpenings }
 {
     let mut server = handle.take(alloc);

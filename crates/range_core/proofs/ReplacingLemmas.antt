@@ -1,18 +1,19 @@
 -- What stands in the place of the touched runs after a set, and the whole list with it.
-use Rattle.std.proofs.Common.{ℕ, ◌≡◌, ◌+◌, ◌<◌, ◌≤◌, false, refl, ap, sym, ◌∙◌, Option, Some, None, List, ◌++◌, All, AllPairs, length, take, drop, get_or, subst, arith, inl, inr}
+use Rattle.std.proofs.Common.{ℕ, ◌≡◌, ◌+◌, ◌-◌, ◌<◌, ◌≤◌, false, refl, ap, sym, ◌∙◌, ◌⊎◌, Option, Some, None, List, [], ◌∷◌, ◌++◌, All, AllPairs, length, take, drop, get_or, subst, arith, inl, inr}
 use Rattle.std.proofs.lemmas.Bool.{cases_lt, false≢true}
 use Rattle.std.proofs.lemmas.List.{length-append, get_or_append_left, get_or-append-add}
 use Rattle.std.specs.List.{between}
-use Rattle.std.proofs.lemmas.List.Edits.{split_between}
+use Rattle.std.proofs.lemmas.List.Edits.{get_or-between, length-between, split_between}
 use Rattle.std.proofs.lemmas.List.Elements.{All-append}
 use Rattle.range_core.specs.declared.Mode.{Mode}
 use Rattle.range_core.specs.declared.Span.{Span}
-use Rattle.range_core.specs.Ranges.{Covers, IsApart, IsByteRange}
+use Rattle.range_core.specs.declared.Mode.TheVariants.{Read}
+use Rattle.range_core.specs.Ranges.{Covers, IsApart, IsByteRange, SplitsRun}
 use Rattle.range_core.specs.Changes.{is_covered, mode_in, SetsMode}
-use Rattle.range_core.specs.Replacing.{AreInOrder, AreTouched, own_run, IsLeftEnd, IsReplacement, IsRightEnd}
+use Rattle.range_core.specs.Replacing.{AreInOrder, AreTouched, own_run, IsInside, IsLeftEnd, IsReplacement, IsRightEnd}
 use Rattle.range_core.proofs.EndLemmas.{All-own_run}
 use Rattle.range_core.proofs.ListLemmas.{AllPairs-append, AllPairs-few, ordered_parts}
-use Rattle.range_core.proofs.ModeLemmas.{cases_covers, is_covered-true, uncovered, mode_in-append, mode_in-none, mode_or, mode_or-None}
+use Rattle.range_core.proofs.ModeLemmas.{cases_covers, is_covered-true, uncovered, mode_in-append, mode_in-at, mode_in-none, mode_or, mode_or-None}
 
 -- the own run gives its mode to the bytes from its first to its last, and has two ends at most
 own_mode : (mode : Option Mode) (first last byte : ℕ) → first ≤ byte → byte ≤ last → mode_in (own_run mode first last) byte ≡ mode
@@ -62,6 +63,59 @@ replaced_modes touched left right span mode first last range l r byte =
           ]
     ]
 
+-- the one run of a list covers the bytes to which it gives a mode
+covers_one : (run : Mode × Span) (byte : ℕ) (mode : Mode) → mode_in (run ∷ []) byte ≡ Some mode → Covers run.1 byte
+covers_one run byte mode is = elim (cases_covers run.1 byte) [
+  | inl covers ↦ covers
+  | inr outside ↦ absurd (let none : None ≡ Some mode = rw outside at is in cc)
+]
+
+own_none : (mode : Option Mode) (first last : ℕ) → mode ≡ None → length (own_run mode first last) ≡ 0
+own_none None first last is = refl
+own_none (Some own) first last is = absurd (let none : Some own ≡ None = is in cc)
+
+-- the byte before an own run with a piece beside it, and the one behind
+left_byte : (touched left : List (Mode × Span)) (piece : Mode × Span) (span : Span) (mode : Option Mode) (first : ℕ) → IsLeftEnd touched span mode first (piece ∷ left) → mode_in touched piece.1.last ≡ Some piece.0
+left_byte touched left piece span mode first l =
+    let beside = l.beside 0 piece (omega arith) in
+    l.outside piece.1.last (omega (arith, beside.1)) ∙ mode_in-at (piece ∷ left) 0 piece piece.1.last (AllPairs-few IsApart (piece ∷ left) l.single) (omega arith) (beside.0, omega arith)
+
+right_byte : (touched right : List (Mode × Span)) (piece : Mode × Span) (span : Span) (mode : Option Mode) (last : ℕ) → IsRightEnd touched span mode last (piece ∷ right) → mode_in touched piece.1.first ≡ Some piece.0
+right_byte touched right piece span mode last r =
+    let beside = r.beside 0 piece (omega arith) in
+    r.outside piece.1.first (omega (arith, beside.0)) ∙ mode_in-at (piece ∷ right) 0 piece piece.1.first (AllPairs-few IsApart (piece ∷ right) r.single) (omega arith) (omega arith, beside.1.0)
+
+-- of the one touched run pieces stay at both ends only where the range lies inside it
+one_left : (run : Mode × Span) (left right : List (Mode × Span)) (span : Span) (mode : Option Mode) (first last : ℕ) → IsLeftEnd (run ∷ []) span mode first left → IsRightEnd (run ∷ []) span mode last right → (length left + length right ≤ 1) ⊎ IsInside (run ∷ []) span
+one_left run [] right span mode first last l r = inl (omega (arith, r.single))
+one_left run (piece ∷ left) [] span mode first last l r = inl (omega (arith, l.single))
+one_left run (piece ∷ left) (other ∷ right) span mode first last l r =
+    let before = covers_one run piece.1.last piece.0 (left_byte (run ∷ []) left piece span mode first l) in
+    let behind = covers_one run other.1.first other.0 (right_byte (run ∷ []) right other span mode last r) in
+    let is_before = (l.beside 0 piece (omega arith)).1 in
+    let is_behind = (r.beside 0 other (omega arith)).0 in
+    inr (record {
+      some = omega arith;
+      before = λ d. omega (arith, before.0, is_before, l.at_most);
+      behind = λ d. omega (arith, behind.1, is_behind, r.at_least);
+    })
+
+none_left : (right : List (Mode × Span)) (span : Span) (mode : Option Mode) (last : ℕ) → IsRightEnd [] span mode last right → length right ≡ 0
+none_left [] span mode last r = refl
+none_left (piece ∷ right) span mode last r = absurd (let none : None ≡ Some piece.0 = right_byte [] right piece span mode last r in cc)
+
+-- so an unlock leaves no more runs than it touches, unless it lies inside the one that it touches
+few_left : (touched left right : List (Mode × Span)) (span : Span) (mode : Option Mode) (first last : ℕ) → IsLeftEnd touched span mode first left → IsRightEnd touched span mode last right → (length left + length right ≤ length touched) ⊎ IsInside touched span
+few_left [] left right span mode first last l r = inl (omega (arith, l.few, none_left right span mode last r))
+few_left (run ∷ []) left right span mode first last l r = one_left run left right span mode first last l r
+few_left (run ∷ (other ∷ more)) left right span mode first last l r = inl (omega (arith, l.single, r.single))
+
+unlock_left : (touched left right : List (Mode × Span)) (span : Span) (mode : Option Mode) (first last : ℕ) → IsLeftEnd touched span mode first left → IsRightEnd touched span mode last right → mode ≡ None → (length (left ++ (own_run mode first last ++ right)) ≤ length touched) ⊎ IsInside touched span
+unlock_left touched left right span mode first last l r is = elim (few_left touched left right span mode first last l r) [
+  | inl few ↦ inl (omega (arith, few, length-append left (own_run mode first last ++ right), length-append (own_run mode first last) right, own_none mode first last is))
+  | inr inside ↦ inr inside
+]
+
 -- what a set leaves in the place of the touched runs, from the two ends of its own run
 pub replaced : (touched left right : List (Mode × Span)) (span : Span) (mode : Option Mode) (first last : ℕ) → IsByteRange span → IsLeftEnd touched span mode first left → IsRightEnd touched span mode last right → IsReplacement touched span mode (left ++ (own_run mode first last ++ right))
 replaced touched left right span mode first last range l r =
@@ -86,6 +140,7 @@ replaced touched left right span mode first last range l r =
             (λ k d within. (omega (arith, x.1, (r.beside k d within).0), λ touch. absurd (omega (arith, x.1, (r.beside k d within).0)))));
       };
       few = omega (arith, length-append left (own ++ right), length-append own right, own_single mode first last, l.few, r.single);
+      unlock = unlock_left touched left right span mode first last l r;
       before = λ run far all. let clear = l.apart run last far all in
           All-append (IsApart run) left (own ++ right) clear.0 (All-append (IsApart run) own right clear.1
           (λ k d within. (omega (arith, (r.beside k d within).0), λ touch. absurd (omega (arith, (r.beside k d within).0)))));
@@ -152,3 +207,25 @@ set_at runs lent put lent_put now span mode start end ranges apart lent_is put_i
     let set = set_between (take start runs) (between start end runs) (drop end runs) put span mode (subst AreInOrder parts in_order) touched.before touched.behind replaced_there in
     subst (λ new. IsSet runs new span mode) (sym (now_is ∙ ap (λ l. take start runs ++ (l ++ drop end runs)) put_is))
     (subst (λ old. IsSet old (take start runs ++ (put ++ drop end runs)) span mode) (sym parts) set)
+
+-- an unlock that leaves more runs than it touches splits a run
+pub splits_at : (runs lent put : List (Mode × Span)) (span : Span) (mode : Option Mode) (start end : ℕ) → AllPairs IsApart runs → lent ≡ runs → AreTouched runs span start end → IsReplacement (between start end lent) span mode put → mode ≡ None → end - start < length put → SplitsRun (mode_in runs) span
+splits_at runs lent put span mode start end apart lent_is touched replacement unlock more =
+    let replaced_there = subst (λ l. IsReplacement (between start end l) span mode put) lent_is replacement in
+    let count = length-between runs start end touched.within in
+    elim (replaced_there.unlock unlock) [
+      | inl few ↦ absurd (omega (arith, few, count, more))
+      | inr inside ↦
+          let blank : Mode × Span = (Read, record { first = 0; last = 0 }) in
+          let run = get_or runs start blank in
+          let is : get_or (between start end runs) 0 blank ≡ run = get_or-between runs start end 0 blank (omega (arith, inside.some, count))
+          ∙ ap (λ n. get_or runs n blank) (let none : start + 0 ≡ start = omega arith in none) in
+          let within : start < length runs = omega (arith, inside.some, count, touched.within) in
+          record {
+            mode = run.0;
+            around = run.1;
+            before = subst (λ (r : Mode × Span). r.1.first < span.first) is (inside.before blank);
+            behind = subst (λ (r : Mode × Span). span.last < r.1.last) is (inside.behind blank);
+            constant = λ byte covers. mode_in-at runs start blank byte apart within covers;
+          }
+    ]

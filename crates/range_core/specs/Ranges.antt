@@ -58,3 +58,12 @@ pub record AreRuns (modes : Modes) (runs : List (Mode × Span)) : Type 0 where
 -- (fcntl_locking(2), "Advisory record locking", "splitting, shrinking, or coalescing")
 abbrev pub IsApart : Mode × Span → Mode × Span → Type 0
 IsApart run other = (run.1.last < other.1.first) × (run.1.last + 1 ≡ other.1.first → run.0 ≢ other.0)
+
+-- there is one mode on all of a longer range, which reaches beyond this one at both ends: an unlock of this one leaves two runs
+-- (fcntl_locking(2), "Advisory record locking", "splitting, shrinking, or coalescing")
+pub record SplitsRun (modes : Modes) (span : Span) : Type 0 where
+  pub mode : Mode
+  pub around : Span
+  pub before : around.first < span.first
+  pub behind : span.last < around.last
+  pub constant : IsConstant modes around mode

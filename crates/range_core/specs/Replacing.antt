@@ -1,5 +1,5 @@
 -- What a set leaves of the runs that it touches.
-use Rattle.std.specs.Prelude.{◌≡◌, ◌≢◌, ℕ, ◌+◌, ◌<◌, ◌≤◌, Option, None, Some, List, [], ◌∷◌, length, take, drop, slice_range, All, AllPairs}
+use Rattle.std.specs.Prelude.{◌≡◌, ◌≢◌, ℕ, ◌+◌, ◌<◌, ◌≤◌, ◌⊎◌, Option, None, Some, List, [], ◌∷◌, length, get_or, take, drop, slice_range, All, AllPairs}
 use Rattle.range_core.specs.declared.TheConstants.{OFFMAX}
 use Rattle.range_core.specs.declared.Mode.{Mode}
 use Rattle.range_core.specs.declared.Span.{Span}
@@ -24,12 +24,19 @@ pub record AreTouched (runs : List (Mode × Span)) (span : Span) (start end : �
   pub between : All (Touches span) (slice_range runs start end)
   pub behind : All (λ run. span.last + 1 < run.1.first) (drop end runs)
 
+-- the range lies inside the one touched run, which reaches beyond it at both ends (this project's choice)
+pub record IsInside (touched : List (Mode × Span)) (span : Span) : Type 0 where
+  pub some : 0 < length touched
+  pub before : (d : Mode × Span) → (get_or touched 0 d).1.first < span.first
+  pub behind : (d : Mode × Span) → span.last < (get_or touched 0 d).1.last
+
 -- these runs stand in the place of the touched ones after a set of the mode on the range, two more of them at most; what lies
 -- further off than the range's neighbours is as far apart from them as it was from the touched ones (this project's choice)
 pub record IsReplacement (touched : List (Mode × Span)) (span : Span) (mode : Option Mode) (put : List (Mode × Span)) : Type 0 where
   pub modes : SetsMode (mode_in touched) (mode_in put) span mode
   pub in_order : AreInOrder put
   pub few : length put ≤ length touched + 2
+  pub unlock : mode ≡ None → (length put ≤ length touched) ⊎ IsInside touched span
   pub before : (run : Mode × Span) → run.1.last + 1 < span.first → All (IsApart run) touched → All (IsApart run) put
   pub behind : (run : Mode × Span) → span.last + 1 < run.1.first → All (λ r. IsApart r run) touched → All (λ r. IsApart r run) put
 

@@ -28,7 +28,7 @@ pub struct RangeList {
 
 #[tactic(auto, unfolding(crate::specs::Changes::modes_of, crate::specs::Changes::room_of))]
 impl RangeList {
-    ghost use Rattle.range_core.specs.Ranges.{AreRuns, Covers, HeldConflicts, IsFirstHit, IsRun};
+    ghost use Rattle.range_core.specs.Ranges.{AreRuns, Covers, HeldConflicts, IsFirstHit, IsRun, SplitsRun};
     ghost use Rattle.range_core.specs.Changes.{modes_of, room_of, SameList, SetsMode};
     ghost use Rattle.range_core.specs.Replacing.{AreTouched};
 
@@ -46,15 +46,35 @@ impl RangeList {
     /// Sets the mode on just the bytes of the span, or removes it where `mode` is `None`; the room that is held stays
     /// (POSIX.1-2017 fcntl, `F_SETLK`: the new lock replaces the owner's old ones on these bytes).
     ///
-    /// `Memory` leaves the list as it was.
+    /// `Memory`, which never comes where an unlock splits no run, leaves the list as it was.
     pub fn set(&mut self, span: Span, mode: Option<Mode>) -> Result<(), Memory>
         requires { IsByteRange span }
         ensures ok { OnOk result (SetsMode (modes_of self.old) (modes_of self.new) span mode) }
         ensures room { OnOk result (room_of self.old ≤ room_of self.new) }
+        ensures unlock { mode ≡ None → (¬ SplitsRun (modes_of self.old) span) → IsOk result }
         ensures err { OnErr result (SameList self.old self.new) }
     {
-        self.reserve(self.room() + 1)?;
-        self.set_reserved(span, mode);
+        let (start, end) = self.touched(span);
+        let left = replacement(&self.runs.as_slice()[start..end], span, mode);
+        self.grow(end - start, left.len())?;
+        splice(&mut self.runs, start, end, left.as_slice());
+        Ok(())
+    }
+
+    /// Makes room for so many runs in the place of others, two more of them at most; the room that is held stays.
+    ///
+    /// `Memory`, which never comes where no more runs come than go, leaves the list as it was.
+    fn grow(&mut self, go: usize, come: usize) -> Result<(), Memory>
+        requires { come ≤ go + 2 }
+        ensures runs { self.new.runs.items ≡ self.old.runs.items }
+        ensures held { room_of self.new ≡ room_of self.old }
+        ensures ok { OnOk result (small_vec_len self.old.runs + 2 * room_of self.old + come ≤ self.new.runs.capacity + go) }
+        ensures there { come ≤ go → IsOk result }
+        ensures err { OnErr result (SameList self.old self.new) }
+    {
+        if come > go {
+            self.runs.reserve(doubled(self.room + 1)?)?;
+        }
         Ok(())
     }
 

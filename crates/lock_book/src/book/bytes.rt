@@ -1,8 +1,8 @@
 //! Setting, reserving and releasing byte locks.
-ghost use Rattle.std.specs.Prelude.{◌≡◌, ◌≤◌, ◌+◌, ◌↔◌, IsTrue, IsOk, OnOk, OnErr};
-ghost use Rattle.range_core.specs.Ranges.{IsByteRange};
+ghost use Rattle.std.specs.Prelude.{◌≡◌, ◌≤◌, ◌+◌, ◌↔◌, None, IsTrue, IsOk, OnOk, OnErr};
+ghost use Rattle.range_core.specs.Ranges.{IsByteRange, SplitsRun};
 ghost use Rattle.lock_book.specs.OwnerLists.{IsIdle};
-ghost use Rattle.lock_book.specs.Books.{room_in, ClearsOwner, ReleasesOwner, SameBook, SameButRoom, SetsOwnerMode};
+ghost use Rattle.lock_book.specs.Books.{byte_modes_of, room_in, ClearsOwner, ReleasesOwner, SameBook, SameButRoom, SetsOwnerMode};
 
 use super::Book;
 use crate::Owner;
@@ -12,11 +12,12 @@ impl Book {
     /// Sets the owner's mode on just the bytes of the span, or removes it where `mode` is `None`; the owner's room stays
     /// (POSIX.1-2017 fcntl, `F_SETLK`; fcntl_locking(2), `F_OFD_SETLK`). No conflict is looked for.
     ///
-    /// `Memory` leaves the book as it was.
+    /// `Memory`, which never comes where an unlock splits no run of the owner, leaves the book as it was.
     pub fn set(&mut self, owner: Owner, span: Span, mode: Option<Mode>) -> Result<(), Memory>
         requires { IsByteRange span }
         ensures ok { OnOk result (SetsOwnerMode self.old self.new owner span mode) }
         ensures room { OnOk result (room_in self.old owner ≤ room_in self.new owner) }
+        ensures unlock { mode ≡ None → (¬ SplitsRun (byte_modes_of self.old owner) span) → IsOk result }
         ensures err { OnErr result (SameBook self.old self.new) }
     {
         self.cover.prepare(self.alloc, &self.owners);

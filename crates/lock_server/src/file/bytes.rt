@@ -1,6 +1,6 @@
 //! The byte locks of one file.
-ghost use Rattle.std.specs.Prelude.{◌≡◌, ◌+◌, ◌<◌, ℕ, None, IfOk, IfSome, IfNone, IsTrue, OnOk, OnErr};
-ghost use Rattle.range_core.specs.Ranges.{IsByteRange};
+ghost use Rattle.std.specs.Prelude.{◌≡◌, ◌+◌, ◌<◌, ℕ, None, IfOk, IfSome, IfNone, IsOk, IsTrue, OnOk, OnErr};
+ghost use Rattle.range_core.specs.Ranges.{IsByteRange, SplitsRun};
 ghost use Rattle.lock_book.specs.Conflicts.{ByteConflict, IsFirstBlocker};
 ghost use Rattle.lock_server.specs.Files.{SameFile, SetsBytes, Unlocks};
 ghost use Rattle.lock_server.specs.FileView.{file_state};
@@ -25,10 +25,11 @@ impl LockFile {
     /// Sets the mode on just the bytes of the span, or removes it where there is none. No conflict is looked for, and no wait
     /// is granted (POSIX.1-2017 fcntl, `F_SETLK`).
     ///
-    /// `Memory` leaves the file as it was.
+    /// `Memory`, which never comes where an unlock splits no run of the owner, leaves the file as it was.
     pub fn set(&mut self, owner: u64, span: Span, mode: Option<Mode>) -> Result<(), Memory>
         requires { IsByteRange span }
         ensures ok { OnOk result (SetsBytes (file_state self.old) owner span mode (file_state self.new)) }
+        ensures unlock { mode ≡ None → (¬ SplitsRun ((file_state self.old).bytes (Owner.Description owner)) span) → IsOk result }
         ensures waits { (file_state self.new).waits ≡ (file_state self.old).waits }
         ensures err { OnErr result (SameFile (file_state self.old) (file_state self.new)) }
     {

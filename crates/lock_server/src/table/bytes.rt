@@ -1,6 +1,6 @@
 //! Byte locks that are asked for without waiting.
-ghost use Rattle.std.specs.Prelude.{◌≡◌, ◌↔◌, ◌<◌, ℕ, None, All, IsFalse, IsTrue, IfSome, IfNone, OnOk, OnErr, MatchOption};
-ghost use Rattle.range_core.specs.Ranges.{IsByteRange};
+ghost use Rattle.std.specs.Prelude.{◌≡◌, ◌↔◌, ◌<◌, ℕ, None, All, IsFalse, IsOk, IsTrue, IfSome, IfNone, OnOk, OnErr, MatchOption};
+ghost use Rattle.range_core.specs.Ranges.{IsByteRange, SplitsRun};
 ghost use Rattle.lock_book.specs.Conflicts.{ByteConflict, IsFirstBlocker};
 ghost use Rattle.lock_server.specs.Calls.{DismissesOn, Forgets, ForgetsOn, is_other_wait, ReleasesOn, SetsOn};
 ghost use Rattle.lock_server.specs.Files.{SameFile, untouched};
@@ -25,7 +25,7 @@ impl Table {
 
     /// Sets the mode on just the bytes of the span, or removes it. No conflict is looked for, and no wait is granted.
     ///
-    /// `Memory` leaves the table as it was.
+    /// `Memory`, which never comes where an unlock splits no run of the owner, leaves the table as it was.
     pub fn set(
         &mut self,
         file: u64,
@@ -35,9 +35,14 @@ impl Table {
     ) -> Result<(), Memory>
         requires { IsByteRange span }
         ensures ok { OnOk result (SetsOn (table_state self.old) file Family.Bytes owner span mode (table_state self.new)) }
+        ensures unlock { mode ≡ None → (¬ SplitsRun (((table_state self.old).files file).bytes (Owner.Description owner)) span) → IsOk result }
         ensures err { OnErr result (SameState (table_state self.old) (table_state self.new)) }
         ensures policy { table_policy self.new ≡ table_policy self.old }
     {
+        // Where nothing is known of the file there is nothing to unlock.
+        if mode.is_none() && !self.files.contains_key(&file) {
+            return Ok(());
+        }
         self.open(file)?;
         match self.set_there(file, owner, span, mode) {
             Ok(()) => Ok(()),
@@ -59,6 +64,7 @@ impl Table {
         requires range { IsByteRange span }
         requires entry { HasEntry self.old file }
         ensures ok { OnOk result (SetsOn (table_state self.old) file Family.Bytes owner span mode (table_state self.new)) }
+        ensures unlock { mode ≡ None → (¬ SplitsRun (((table_state self.old).files file).bytes (Owner.Description owner)) span) → IsOk result }
         ensures err { OnErr result (SameState (table_state self.old) (table_state self.new)) }
         ensures policy { table_policy self.new ≡ table_policy self.old }
     {

@@ -1,5 +1,5 @@
 //! The entries of files, and the tickets.
-ghost use Rattle.std.specs.Prelude.{◌≡◌, ◌↔◌, IsTrue, OnOk};
+ghost use Rattle.std.specs.Prelude.{◌≡◌, ◌↔◌, IsOk, IsTrue, OnOk};
 ghost use Rattle.lock_server.specs.Calls.{FetchComesTo};
 ghost use Rattle.lock_server.specs.States.{IsTaken, SameState};
 ghost use Rattle.lock_server.specs.TableView.{HasEntry, table_state, table_policy};
@@ -26,10 +26,11 @@ impl Table {
 
     /// Makes an entry for the file, where it has none.
     ///
-    /// `Memory` leaves the table as it was.
+    /// `Memory`, which never comes where it has one, leaves the table as it was.
     pub(super) fn open(&mut self, file: u64) -> Result<(), Memory>
         ensures same { SameState (table_state self.old) (table_state self.new) }
         ensures entry { OnOk result (HasEntry self.new file) }
+        ensures there { HasEntry self.old file → IsOk result }
         ensures policy { table_policy self.new ≡ table_policy self.old }
     {
         if self.files.contains_key(&file) {

@@ -1,4 +1,4 @@
-use Rattle.std.proofs.Common.{ℕ, ◌∙◌, ap, sym, Option}
+use Rattle.std.proofs.Common.{ℕ, ◌∙◌, ap, Option}
 use Rattle.std.specs.Map.Iter.{deref_pair}
 use Rattle.std.proofs.lemmas.Map.Iter.{iter_end}
 use Rattle.std.specs.BTreeMap.{BTreeMap}

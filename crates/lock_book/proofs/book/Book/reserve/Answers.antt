@@ -1,8 +1,8 @@
-use Rattle.std.proofs.Common.{◌≡◌, ◌∙◌, refl, sym, Some, None, arith}
+use Rattle.std.proofs.Common.{◌≡◌, ◌∙◌, refl, Some, None, arith}
 use Rattle.std.proofs.lemmas.Result.{on_ok_weaker, on_err_weaker}
 use Rattle.range_core.specs.Changes.{modes_of}
 use Rattle.lock_book.specs.Books.{list_of}
-use Rattle.lock_book.proofs.BookLemmas.{OnOk-at_ok, list_of-lent, list_of-not_lent, list_written, PutsAt-adds, PutsList-puts, still_in_use, in_use_by_room, SameButRoom-puts, SameBook-puts, room_in-list}
+use Rattle.lock_book.proofs.BookLemmas.{list_of-lent, list_of-not_lent, list_written, PutsAt-adds, PutsList-puts, still_in_use, in_use_by_room, SameButRoom-puts, SameBook-puts, room_in-list}
 use Rattle.lock_book.proofs.CoverLemmas.{AreKept-insert, AreKept-left, AreKept-list, IsCovered-same, IsCovered-before}
 use Rattle.lock_book.proofs.book.Book.reserve.Goals as goal
 

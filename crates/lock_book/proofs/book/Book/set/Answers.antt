@@ -2,9 +2,13 @@ use Rattle.std.proofs.Common.{◌≡◌, ◌∙◌, ap, sym, subst, true, refl, 
 use Rattle.std.specs.Prelude.{if◌then◌else◌}
 use Rattle.range_core.specs.declared.Mode.{Mode}
 use Rattle.range_core.specs.Changes.{is_covered, modes_of}
-use Rattle.range_core.specs.Ranges.{HeldConflicts}
-use Rattle.lock_book.proofs.BookLemmas.{OnOk-at_ok, OnErr-anyhow, list_of-not_lent, list_written, PutsAt-adds, PutsAt-removes, PutsList-puts, SetsOwnerMode-puts, SetsOwnerMode-nothing, SameBook-puts, none_from_test, in_use_by_mode, still_in_use}
+use Rattle.range_core.specs.Ranges.{HeldConflicts, SplitsRun}
+use Rattle.lock_book.proofs.BookLemmas.{OnErr-anyhow, list_of-not_lent, list_written, PutsAt-adds, PutsAt-removes, PutsList-puts, SetsOwnerMode-puts, SetsOwnerMode-nothing, SameBook-puts, none_from_test, in_use_by_mode, still_in_use}
 use Rattle.lock_book.proofs.CoverLemmas.{AreCovered-grown, AreKept-insert, AreKept-left, AreKept-list, AreKept-removed, IsCovered-same, IsCovered-set, IsCovered-before}
+use Rattle.std.proofs.lemmas.Bool.{false≢true}
+use Rattle.range_core.specs.declared.list.RangeList.{RangeList}
+use Rattle.lock_book.specs.OwnerLists.{modes_in_list}
+use Rattle.lock_book.specs.Books.{byte_modes_of}
 use Rattle.lock_book.proofs.book.Book.set.Goals as goal
 
 pub invariant_of-self : goal.invariant_of-self
@@ -116,3 +120,12 @@ invariant_of-self-in-Break-branch-2 c =
     let kept = AreKept-left c.raise.new.self book _
     (AreCovered-grown c.prepare.new.self c.raise.new.self c.raise.ensures.kept book c.prepare.ensures) c.get_mut.follows.holds-at-none in
     record { in_use = kept.in_use; covered = kept.covered }
+
+pub returns-in_err-set-in-Some-clause-unlock : goal.returns-in_err-set-in-Some-clause-unlock
+unfolding byte_modes_of
+returns-in_err-set-in-Some-clause-unlock c unlock whole =
+    let book = c.args.self.now in
+    let list = c.set.new.self in
+    let owners = c.get_mut.follows.lender list in
+    let written = list_written book owners c.args.owner _ _ list c.get_mut.ensures.value c.in-Some.is (c.get_mut.follows.holds list) in
+    absurd (false≢true (c.in_err-set-in-Some.ensures.unlock unlock (λ splits. whole (subst (λ (l : Option RangeList). SplitsRun (modes_in_list l) c.args.span) (sym written.0) splits))))

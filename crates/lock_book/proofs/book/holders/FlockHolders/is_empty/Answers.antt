@@ -1,5 +1,4 @@
-use Rattle.std.proofs.Common.{◌≡◌, ◌<◌, arith, inl, inr, not, refl, true, false}
-use Rattle.std.specs.Prelude.{IsTrue}
+use Rattle.std.proofs.Common.{◌≡◌, arith, inl, inr, not, refl, true}
 use Rattle.std.proofs.lemmas.Bool.{cases_Bool, cases_lt}
 use Rattle.range_core.specs.declared.Mode.TheVariants.{Write}
 use Rattle.lock_book.specs.Holders.{conflicting}

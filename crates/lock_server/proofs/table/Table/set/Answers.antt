@@ -1,0 +1,45 @@
+use Rattle.std.proofs.Common.{ℕ, ◌≡◌, sym, subst, true, false, Option, Some, None, refl}
+use Rattle.std.specs.Prelude.{is_some}
+use Rattle.std.specs.BTreeMap.{get}
+use Rattle.std.specs.Ordering.{nat_cmp}
+use Rattle.std.proofs.lemmas.Bool.{false≢true}
+use Rattle.range_core.specs.declared.Mode.{Mode}
+use Rattle.wait_core.specs.declared.Family.TheVariants.{Bytes}
+use Rattle.lock_server.specs.Calls.{SetsOn}
+use Rattle.lock_server.specs.TableView.{HasEntry, entry_of, table_state}
+use Rattle.lock_server.proofs.EntryMoves.{none_from_test, some_from_test, unlocks_nothing}
+use Rattle.lock_server.proofs.table.Table.set.Goals.{else-is_none-via-then-is_none+else-not-contains_key, else-is_none-via-else-is_none}
+use Rattle.lock_server.proofs.table.Table.set.Goals as goal
+
+no_mode : (mode : Option Mode) → is_some mode ≡ false → mode ≡ None
+no_mode None test = refl
+no_mode (Some mode) test = absurd (false≢true (sym test))
+
+some_mode : (mode : Option Mode) → is_some mode ≡ true → mode ≡ None → ⊥
+some_mode None test none = false≢true test
+some_mode (Some mode) test none = let bad : Some mode ≡ None = none in cc
+
+pub returns-then-not-contains_key-clause-ok : goal.returns-then-not-contains_key-clause-ok
+unfolding table_state entry_of
+returns-then-not-contains_key-clause-ok c =
+    let table = c.args.self.now in
+    let found = get nat_cmp table.files c.args.file in
+    let test : is_some found ≡ false = sym c.if-not-contains_key.ensures in
+    let unlock : is_some c.args.mode ≡ false = c.if-is_none.ensures in
+    subst (λ (mode : Option Mode). SetsOn (table_state table) c.args.file Bytes c.args.owner c.args.span mode (table_state table)) (sym (no_mode c.args.mode unlock))
+    (unlocks_nothing table.files table.tickets table.waiters c.args.file c.args.owner c.args.span table.indexed (none_from_test found test))
+
+pub returns-in_err-open-clause-unlock : goal.returns-in_err-open-clause-unlock
+unfolding entry_of
+returns-in_err-open-clause-unlock c unlock whole =
+    let table = c.args.self.now in
+    let found = get nat_cmp table.files c.args.file in
+    let there : HasEntry table c.args.file = elim c.else-is_none.branch [
+      | else-is_none-via-then-is_none+else-not-contains_key w ↦
+          let test : is_some found ≡ true = sym w.if-not-contains_key.ensures in
+          let entry = some_from_test found test in record { entry = entry.0; is = entry.1 }
+      | else-is_none-via-else-is_none w ↦
+          let test : is_some c.args.mode ≡ true = w.if-is_none.ensures in
+          absurd (some_mode c.args.mode test unlock)
+    ] in
+    absurd (false≢true (c.in_err-open.ensures.there there))
