@@ -1,7 +1,7 @@
 -- What a status tells, from what the server's call says of its answer: for the exports of the calls that are answered.
 use Rattle.std.proofs.Common.{◌≡◌, ◌≢◌, ℕ, refl, sym, ap, ◌∙◌, subst, inl, inr}
 use lib.Dec.{T}
-use Rattle.std.specs.Prelude.{◌↔◌, ◌==◌, Option, Some, Result, Ok, Err, IfOk, IsOk, OnErr}
+use Rattle.std.specs.Prelude.{◌↔◌, ◌==◌, Option, Some, None, Result, Ok, Err, IfOk, IsOk, OnErr}
 use Rattle.std.proofs.lemmas.Bool.{false≢true}
 use Rattle.range_core.specs.declared.Mode.{Mode}
 use Rattle.range_core.specs.declared.Span.{Span}
