@@ -1,7 +1,7 @@
 //! The command line of the program, read by `clap`.
 ghost use Rattle.std.specs.Prelude.{◌≡◌, IfOk, IfErr, map, option_map, string_bytes, true};
 ghost use Rattle.clap.specs.Words.{FailsBy, app_of, fault_of, kind_of, takes};
-ghost use Rattle.lockreplay.specs.CommandLine.{FollowsUsage, IsGiven, command_line, file_of, threads_of};
+ghost use Rattle.lockreplay.specs.CommandLine.{FollowsUsage, IsGiven, check_of, command_line, file_of, threads_of};
 
 use crate::options::Options;
 use clap::error::ErrorKind;
@@ -13,20 +13,22 @@ pub fn options<'a>(alloc: Global, words: &'a [String]) -> Result<Options<'a>, cl
     // The file is that of the matches that clap states for these words.
     ensures file { IfOk result (λ options. option_map (λ file. file.now) options.file ≡ file_of (map string_bytes words.entry.now)) }
 
-    // So are the threads.
+    // So are the flags.
     ensures threads { IfOk result (λ options. IsGiven (threads_of (map string_bytes words.entry.now)) options.threads) }
+    ensures check { IfOk result (λ options. IsGiven (check_of (map string_bytes words.entry.now)) options.check) }
 
     // Words are refused just where clap's own condition for this command fails, and by the kind that it states, or for want of memory.
     ensures kind { FailsBy (fault_of command_line (map string_bytes words.entry.now)) result }
     ensures taken { IfErr result (λ error. takes command_line (map string_bytes words.entry.now) ≡ true → kind_of error ≡ ErrorKind.OutOfMemory) }
 
     // So one word is the file, without one there is none, and two are refused, where they begin with no hyphen; --threads before or
-    // behind them asks for threads, and is refused twice in front.
+    // behind them asks for threads, --check for a check, and each is refused twice in front.
     ensures usage { FollowsUsage (map string_bytes words.entry.now) result }
 {
     let matches = command(alloc)?.try_get_matches_from(words)?;
     Ok(Options {
         threads: matches.get_flag("threads"),
+        check: matches.get_flag("check"),
         file: matches.get_str("file"),
     })
 }
@@ -39,14 +41,19 @@ fn command<'a>(alloc: Global) -> Result<Command<'a>, AllocError>
         .long("threads")
         .action(ArgAction::SetTrue)
         .help("A thread for each process that requests something");
+    let check = Arg::new(alloc, "check")
+        .long("check")
+        .action(ArgAction::SetTrue)
+        .help("Checks an output in place of a script; not with --threads");
     let file = Arg::new(alloc, "file")
         .value_name("FILE")
-        .help("The script; without it, or where it is -, standard input");
+        .help("What is read; without it, or where it is -, standard input");
     Command::new(alloc, "lockreplay")
         .version(VERSION)
         .about(ABOUT)
         .after_help(GUIDE)
         .arg(threads)?
+        .arg(check)?
         .arg(file)
 }
 

@@ -29,7 +29,7 @@ fn asks_of(
     file: Option<&str>,
 ) -> Result<(), Fail> {
     let given = words(alloc, given)?;
-    assert_eq!(rt; options(alloc, &given)?, Options { threads, file });
+    assert_eq!(rt; options(alloc, &given)?, Options { threads, check: false, file });
     Ok(())
 }
 
@@ -68,6 +68,7 @@ fn a_hyphen_is_standard_input(rt: HostRuntime) -> Result<(), Fail> {
     for (file, path) in paths {
         let options = Options {
             threads: false,
+            check: false,
             file,
         };
         assert_eq!(rt; options.path(), path);
