@@ -1,5 +1,5 @@
 //! A journal that is checked byte by byte.
-ghost use Rattle.std.specs.Prelude.{◌≡◌, ◌≢◌, ◌≤◌, ◌<◌, ◌+◌, ◌++◌, ◌∷◌, [], ℕ, List, IfOk, OnOk, length};
+ghost use Rattle.std.specs.Prelude.{◌≡◌, ◌≢◌, ◌≤◌, ◌<◌, ◌+◌, ◌++◌, ◌∷◌, ◌^◌, [], ℕ, List, None, IfOk, OnOk, length};
 ghost use Rattle.script_core.specs.JournalReading.{JournalReading};
 ghost use Rattle.script_core.specs.JournalView.{HasRead};
 ghost use Rattle.lockreplay.specs.Checks.{HasChecked, HasJudged, Judges};
@@ -51,20 +51,22 @@ impl Checking {
         ensures lines { OnOk result (self.new.before ≤ self.old.before + length bytes.now) }
     {
         for byte in bytes {
+            if self.found.is_some() {
+                return Ok(());
+            }
             self.take(*byte)?;
         }
         Ok(())
     }
 
-    /// Checks one more byte.
+    /// Checks one more byte, where nothing was found.
     fn take(&mut self, byte: u8) -> Result<(), Memory>
-        requires { self.old.before + 1 < 2 ^ 64 }
+        requires few { self.old.before + 1 < 2 ^ 64 }
+        requires open { self.old.found ≡ None }
         ensures checked { (front : List ℕ) → HasChecked self.old front → OnOk result (HasChecked self.new (front ++ byte ∷ [])) }
         ensures lines { OnOk result (self.new.before ≤ self.old.before + 1) }
     {
-        if self.found.is_some() {
-            Ok(())
-        } else if byte == b'\n' {
+        if byte == b'\n' {
             self.end_line()
         } else {
             self.grow(byte)
