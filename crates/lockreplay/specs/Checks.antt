@@ -1,5 +1,5 @@
 -- What a check tells of a journal (the words are this project's choice).
-use Rattle.std.specs.Prelude.{◌≡◌, ◌≢◌, ℕ, ◌+◌, ◌≤◌, ◌⊎◌, ⊤, Bool, IsTrue, nat_lt, MatchBool, MatchResult, Option, None, Some, Result, Ok, Err, List, [], ◌∷◌, ◌++◌, All, length, codes, decimal}
+use Rattle.std.specs.Prelude.{◌≡◌, ℕ, ◌+◌, ◌≤◌, ◌==◌, ◌⊎◌, ⊤, false, Bool, IsTrue, nat_lt, MatchBool, MatchResult, Option, None, Some, Result, Ok, Err, List, [], ◌∷◌, ◌++◌, All, length, codes, decimal}
 use Rattle.std.specs.Io.KnownBytes.{Consumes, IsAtEnd}
 use Rattle.range_core.specs.Facts.{MatchFact}
 use Rattle.script_core.specs.declared.place.JournalLine.{JournalLine}
@@ -116,7 +116,7 @@ pub record HasReadBytes (checking : Checking) (bytes : List ℕ) : Type 0 where
   pub reading : JournalReading
   pub read : HasRead checking.reader reading
   pub leads : LeadsTo bytes (checking.before + 1) reading checking.line.items
-  pub in_line : All (λ byte. byte ≢ 10) checking.line.items
+  pub in_line : All (λ byte. (byte == 10) ≡ false) checking.line.items
   pub short : length checking.line.items ≤ entry_limit
 
 -- what is found of the line at hand is this verdict
@@ -144,6 +144,17 @@ IsFoundAt old new reading line (Some finding) =
 -- so the line at hand was judged
 unfoldable pub Judges : Checking → Checking → JournalReading → Type 0
 Judges old new reading = IsFoundAt old new reading old.line.items new.found
+
+-- each line of the bytes was read, and they come to what their end comes to; or what was found decides
+abbrev pub AreLinesRead : Checking → List ℕ → Option Finding → Type 0
+AreLinesRead checking bytes None =
+    (reading : JournalReading) × HasRead checking.reader reading
+    × ((verdict : Verdict) → LinesCome (checking.before + 1) reading [] verdict → LinesCome 1 journal_start (lines_of bytes) verdict)
+AreLinesRead checking bytes (Some finding) = LinesCome 1 journal_start (lines_of bytes) (verdict_of checking finding)
+
+-- so it is of what was found
+unfoldable pub HasReadLines : Checking → List ℕ → Type 0
+HasReadLines checking bytes = AreLinesRead checking bytes checking.found
 
 -- at the end of the bytes this is their verdict
 abbrev pub verdict_at_end : Checking → Option Finding → Verdict

@@ -2,7 +2,7 @@
 ghost use Rattle.std.specs.Prelude.{◌≡◌, ◌≢◌, ◌≤◌, ◌<◌, ◌+◌, ◌++◌, ◌∷◌, ◌^◌, [], ℕ, List, None, IfOk, OnOk, length};
 ghost use Rattle.script_core.specs.JournalReading.{JournalReading};
 ghost use Rattle.script_core.specs.JournalView.{HasRead};
-ghost use Rattle.lockreplay.specs.Checks.{HasChecked, HasJudged, Judges};
+ghost use Rattle.lockreplay.specs.Checks.{HasChecked, HasJudged, HasReadLines, Judges};
 
 use range_core::Memory;
 use script_core::{Cause, ENTRY_MAX, JournalFault, JournalReader};
@@ -90,6 +90,7 @@ impl Checking {
     /// The line at hand has come to its end.
     fn end_line(&mut self) -> Result<(), Memory>
         requires few { self.old.before + 1 < 2 ^ 64 }
+        requires open { self.old.found ≡ None }
         ensures judges { (reading : JournalReading) → HasRead self.old.reader reading → OnOk result (Judges self.old self.new reading) }
         ensures lines { OnOk result (self.new.before ≤ self.old.before + 1) }
     {
@@ -97,27 +98,51 @@ impl Checking {
             Ok(()) => {
                 self.line.clear();
                 self.before += 1;
-                self.found = None;
+                Ok(())
             }
-            Err(JournalFault::Illegal) => self.found = Some(Finding::Illegal),
-            Err(JournalFault::Grammar(cause)) => self.found = Some(Finding::Faulty(cause)),
-            Err(JournalFault::Memory(memory)) => return Err(memory),
+            Err(JournalFault::Illegal) => {
+                self.found = Some(Finding::Illegal);
+                Ok(())
+            }
+            Err(JournalFault::Grammar(cause)) => {
+                self.found = Some(Finding::Faulty(cause));
+                Ok(())
+            }
+            Err(JournalFault::Memory(memory)) => Err(memory),
         }
-        Ok(())
     }
 
     /// No byte follows. What came behind the last line feed is a line too, where anything did.
+    fn end_last_line(&mut self) -> Result<(), Memory>
+        requires { self.old.before + 1 < 2 ^ 64 }
+        ensures lines_read { (bytes : List ℕ) → HasChecked self.old bytes → OnOk result (HasReadLines self.new bytes) }
+        ensures lines { OnOk result (self.new.before ≤ self.old.before + 1) }
+    {
+        if self.found.is_some() {
+            return Ok(());
+        }
+        if self.line.is_empty() {
+            return Ok(());
+        }
+        self.end_line()
+    }
+
+    /// Judges the journal as a whole, of which no byte follows.
     pub fn end(&mut self) -> Result<(), Memory>
         requires { self.old.before + 1 < 2 ^ 64 }
         ensures judged { (bytes : List ℕ) → HasChecked self.old bytes → OnOk result (HasJudged self.new bytes) }
         ensures lines { OnOk result (self.new.before ≤ self.old.before + 1) }
     {
-        if self.found.is_none() && !self.line.is_empty() {
-            self.end_line()?;
+        self.end_last_line()?;
+        if self.found.is_some() {
+            return Ok(());
         }
-        if self.found.is_none() && self.reader.finish().is_err() {
-            self.found = Some(Finding::Illegal);
+        match self.reader.finish() {
+            Ok(()) => Ok(()),
+            Err(_) => {
+                self.found = Some(Finding::Illegal);
+                Ok(())
+            }
         }
-        Ok(())
     }
 }

@@ -64,11 +64,12 @@ const VERSION: &str = "0.2.0";
 const ABOUT: &str = "Replays a script of advisory lock requests (fcntl, OFD, flock): who is answered
 what, what is then held, and who still waits. No file of the machine is locked.";
 
-/// How a script is written, and what comes of it. With what clap puts before it, its first 11 lines fill a screen of 24.
+/// How a script is written, and what comes of it. With what clap puts before it, its first 10 lines fill a screen of 24.
 const GUIDE: &str = "Exit status:
-  0  the script was replayed
+  0  the script was replayed, or what was checked is legal
   1  FILE can't be opened, reading or writing failed, or no memory or thread
-  2  the script or the command line is refused; --help, --version (on stderr)
+  2  the input or the command line is refused; --help, --version (on stderr)
+  3  what was checked is illegal
 
 Example:
   $ printf '1 open 0 rw\\n1 setlk 0 w set 0 100\\n' | lockreplay
@@ -137,6 +138,18 @@ Output:
                                               waiting, ended, or unborn: no fork
                                               made it
 
+Check:
+  With --check an output is read, as a server too may print it: policy and limits
+  as in a script, then entries, and then all lines of a report or none. Blank
+  lines and comments are skipped. A line has 8192 bytes at most, all have 64 MiB.
+  Where it is legal, nothing is printed. Else the first line is told with which
+  it is the front of no run, and what would stand there:
+    line 2: 1#2 setlk 0 w set 0 100 | 1#2 ok expected
+    line 3: 1#3 expected                      the next number of its process
+    line 3: process 2 is unborn               or waiting, or ended
+    line 5: proc 1 sent 2 taken 2 answered 2 live expected
+    line 6: no line expected                  the report was whole before
+
 Faults, on standard error:
   A faulty script isn't run. The first faulty line is told, here by fault 3:
     lockreplay: line 2: 3 Count               line 0 is the script as a whole
@@ -148,5 +161,6 @@ Faults, on standard error:
              after a request or for the second time
   6 TooLong  a line of more than 120 bytes, or a script of more than 1 MiB
   7 Memory   no memory; told as lockreplay: no memory
+  8 Tag      in a check a word that isn't a process and a number, as 2#1
   Other faults: lockreplay: read failed, no memory, no thread (nothing went to
   standard output), or write failed (part of the output may have).";
