@@ -1,9 +1,10 @@
 -- A journal, byte by byte.
-use Rattle.std.proofs.Common.{◌≡◌, ◌<◌, ◌≤◌, ℕ, ◌+◌, ◌==◌, Bool, true, false, nat_lt, List, [], ◌∷◌, ◌++◌, Option, Some, None, Ok, Err, length, refl, sym, ap, subst, ◌∙◌, inl, inr, arith, append_assoc, append-nil, length-append}
-use Rattle.std.specs.Prelude.{All, is_some}
+use Rattle.std.proofs.Common.{◌≡◌, ◌<◌, ◌≤◌, ℕ, ◌+◌, ◌==◌, Bool, true, false, nat_lt, List, [], ◌∷◌, ◌++◌, Option, Some, None, Ok, Err, length, refl, sym, ap, subst, ◌∙◌, inl, inr, arith, append_assoc, append-nil, length-append, get_or, take, drop, take-append-drop}
+use Rattle.std.specs.Prelude.{All, OnOk, Result, is_some}
 use Rattle.std.specs.List.{slice_split}
 use Rattle.std.proofs.lemmas.Bool.{lt-ltb, le-ltb}
 use Rattle.std.proofs.lemmas.Bool.Decides.{eqb_tells}
+use Rattle.std.proofs.lemmas.List.{take_more}
 use Rattle.std.proofs.lemmas.List.Elements.{All-push}
 use Rattle.std.proofs.lemmas.List.Splits.{slice_split_none, slice_split_at}
 use Rattle.script_core.specs.declared.place.JournalLine.{JournalLine}
@@ -162,9 +163,9 @@ end_leads bytes line number reading verdict none leads come =
 pub line_taken : (old new : Checking) (reading : JournalReading) (line : List ℕ) → line ≡ old.line.items → Takes new.reader reading line (Ok tt)
     → new.line.items ≡ [] → new.before ≡ old.before + 1 → new.found ≡ None → Judges old new reading
 unfolding Judges
-line_taken old new reading line is takes cleared counted open =
+line_taken old new reading line is takes cleared counted unfound =
     subst (λ (l : List ℕ). IsFoundAt old new reading l new.found) is
-    (subst (λ (f : Option Finding). IsFoundAt old new reading line f) (sym open) (takes.0, takes.1, takes.2, takes.3, cleared, counted))
+    (subst (λ (f : Option Finding). IsFoundAt old new reading line f) (sym unfound) (takes.0, takes.1, takes.2, takes.3, cleared, counted))
 
 -- the journal may not go on with it
 pub line_illegal : (old new : Checking) (reading : JournalReading) (line : List ℕ) → line ≡ old.line.items
@@ -176,7 +177,7 @@ line_illegal old new reading line is takes counted found =
     (λ others. (
       Ok takes.0,
       takes.1,
-      inr (takes.2, expected_in new.reader, takes.3, ap (λ (n : ℕ). Illegal (n + 1) (expected_in new.reader)) counted),
+      inr (takes.2, (expected_in new.reader, takes.3, ap (λ (n : ℕ). Illegal (n + 1) (expected_in new.reader)) counted)),
     )))
 
 -- it is none of a journal
@@ -191,9 +192,24 @@ line_faulty old new reading line cause is takes counted found =
 
 -- ---- the bytes
 
+-- none came
+pub fresh : (checking : Checking) → HasRead checking.reader journal_start → checking.line.items ≡ [] → checking.before ≡ 0 → checking.found ≡ None
+    → HasChecked checking []
+unfolding HasChecked
+fresh checking read none first unfound =
+    subst (IsFoundOf checking []) (sym unfound)
+    (record {
+      reading = journal_start;
+      read = read;
+      leads = subst (λ (l : List ℕ). LeadsTo [] (checking.before + 1) journal_start l) (sym none)
+          (subst (λ (n : ℕ). LeadsTo [] (n + 1) journal_start []) (sym first) (λ rest verdict come. come));
+      in_line = subst InLine (sym none) (λ k d below. absurd (omega (arith, below)));
+      short = subst (λ (l : List ℕ). length l ≤ entry_limit) (sym none) (omega arith);
+    })
+
 -- where nothing was found the lines before the one at hand were read
 read_of : (checking : Checking) (bytes : List ℕ) (found : Option Finding) → found ≡ None → IsFoundOf checking bytes found → HasReadBytes checking bytes
-read_of checking bytes found open is = subst (IsFoundOf checking bytes) open is
+read_of checking bytes found unfound is = subst (IsFoundOf checking bytes) unfound is
 
 -- what the line that ends was found to be is so of the bytes
 ends_by : (old new : Checking) (bytes : List ℕ) (read : HasReadBytes old bytes) (found : Option Finding)
@@ -213,9 +229,9 @@ ends_by old new bytes read (Some finding) is =
 -- a line feed
 pub ended : (old new : Checking) (bytes : List ℕ) → old.found ≡ None → HasChecked old bytes
     → ((reading : JournalReading) → HasRead old.reader reading → Judges old new reading) → HasChecked new (bytes ++ 10 ∷ [])
-unfolding HasChecked, Judges
-ended old new bytes open checked judged =
-    let read = read_of old bytes old.found open checked in
+unfolding HasChecked Judges
+ended old new bytes unfound checked judged =
+    let read = read_of old bytes old.found unfound checked in
     ends_by old new bytes read new.found (judged read.reading read.read)
 
 -- another byte
@@ -223,9 +239,9 @@ pub grown : (old new : Checking) (bytes : List ℕ) (byte : ℕ) → old.found �
     → length old.line.items < entry_limit → new.reader ≡ old.reader → new.before ≡ old.before → new.found ≡ old.found
     → new.line.items ≡ old.line.items ++ byte ∷ [] → HasChecked new (bytes ++ byte ∷ [])
 unfolding HasChecked
-grown old new bytes byte open checked goes short same count still longer =
-    let read = read_of old bytes old.found open checked in
-    subst (IsFoundOf new (bytes ++ byte ∷ [])) (sym (still ∙ open))
+grown old new bytes byte unfound checked goes short same count still longer =
+    let read = read_of old bytes old.found unfound checked in
+    subst (IsFoundOf new (bytes ++ byte ∷ [])) (sym (still ∙ unfound))
     (record {
       reading = read.reading;
       read = subst (λ (r : JournalReader). HasRead r read.reading) (sym same) read.read;
@@ -242,8 +258,8 @@ pub outgrown : (old new : Checking) (bytes : List ℕ) (byte : ℕ) → old.foun
     → entry_limit ≤ length old.line.items → new.before ≡ old.before → new.found ≡ Some (findings.Faulty TooLong)
     → HasChecked new (bytes ++ byte ∷ [])
 unfolding HasChecked
-outgrown old new bytes byte open checked goes long count found =
-    let read = read_of old bytes old.found open checked in
+outgrown old new bytes byte unfound checked goes long count found =
+    let read = read_of old bytes old.found unfound checked in
     subst (IsFoundOf new (bytes ++ byte ∷ [])) (sym found)
     (subst (λ (n : ℕ). AreDecided (bytes ++ byte ∷ []) (Faulty (record { line = n + 1; cause = TooLong }))) (sym count)
     (line_too_long bytes old.line.items byte (old.before + 1) read.reading read.in_line goes long read.leads))
@@ -268,16 +284,16 @@ found_at_end checking bytes (Some finding) some is = decided_at_end bytes (verdi
 
 -- what was found decides
 pub found_before : (checking : Checking) (bytes : List ℕ) → is_some checking.found ≡ true → HasChecked checking bytes → HasReadLines checking bytes
-unfolding HasChecked, HasReadLines
+unfolding HasChecked HasReadLines
 found_before checking bytes some checked = found_at_end checking bytes checking.found some checked
 
 -- no byte is at hand
 pub no_last_line : (checking : Checking) (bytes : List ℕ) → checking.found ≡ None → checking.line.items ≡ [] → HasChecked checking bytes
     → HasReadLines checking bytes
-unfolding HasChecked, HasReadLines
-no_last_line checking bytes open none checked =
-    let read = read_of checking bytes checking.found open checked in
-    subst (AreLinesRead checking bytes) (sym open) (
+unfolding HasChecked HasReadLines
+no_last_line checking bytes unfound none checked =
+    let read = read_of checking bytes checking.found unfound checked in
+    subst (AreLinesRead checking bytes) (sym unfound) (
       read.reading,
       read.read,
       λ verdict come. end_leads bytes checking.line.items (checking.before + 1) read.reading verdict none read.leads come,
@@ -297,9 +313,9 @@ last_by old new bytes read (Some finding) some is =
 -- what is at hand is the last line
 pub last_line : (old new : Checking) (bytes : List ℕ) → old.found ≡ None → 0 < length old.line.items → HasChecked old bytes
     → ((reading : JournalReading) → HasRead old.reader reading → Judges old new reading) → HasReadLines new bytes
-unfolding HasChecked, HasReadLines, Judges
-last_line old new bytes open some checked judged =
-    let read = read_of old bytes old.found open checked in
+unfolding HasChecked HasReadLines Judges
+last_line old new bytes unfound some checked judged =
+    let read = read_of old bytes old.found unfound checked in
     last_by old new bytes read new.found some (judged read.reading read.read)
 
 decided_then : (checking : Checking) (bytes : List ℕ) (found : Option Finding) → is_some found ≡ true → AreLinesRead checking bytes found
@@ -309,16 +325,16 @@ decided_then checking bytes (Some finding) some is = is
 
 -- what was found is the verdict
 pub judged_before : (checking : Checking) (bytes : List ℕ) → is_some checking.found ≡ true → HasReadLines checking bytes → HasJudged checking bytes
-unfolding HasReadLines, HasJudged
+unfolding HasReadLines HasJudged
 judged_before checking bytes some read = decided_then checking bytes checking.found some read
 
 -- the journal may end there
 pub may_end : (checking : Checking) (bytes : List ℕ) → checking.found ≡ None → HasReadLines checking bytes
     → ((reading : JournalReading) → HasRead checking.reader reading → Finishes checking.reader reading (Ok tt)) → HasJudged checking bytes
-unfolding HasReadLines, HasJudged
-may_end checking bytes open read finishes =
-    let all = subst (AreLinesRead checking bytes) open read in
-    subst (λ (f : Option Finding). LinesCome 1 journal_start (lines_of bytes) (verdict_at_end checking f)) (sym open)
+unfolding HasReadLines HasJudged
+may_end checking bytes unfound read finishes =
+    let all = subst (AreLinesRead checking bytes) unfound read in
+    subst (λ (f : Option Finding). LinesCome 1 journal_start (lines_of bytes) (verdict_at_end checking f)) (sym unfound)
     (all.2 Legal (inl (finishes all.0 all.1, refl)))
 
 due_then : (old new : Checking) (reading : JournalReading) (fault : JournalFault) → new.reader ≡ old.reader → new.before ≡ old.before
@@ -328,17 +344,70 @@ due_then old new reading (journal_faults.Memory memory) same count finishes = ab
 due_then old new reading journal_faults.Illegal same count finishes =
     inr (
       finishes.0,
-      expected_in old.reader,
-      finishes.1,
-      ap (λ (n : ℕ). Illegal (n + 1) (expected_in new.reader)) count ∙ ap (λ (r : JournalReader). Illegal (old.before + 1) (expected_in r)) same,
+      (
+        expected_in old.reader,
+        finishes.1,
+        ap (λ (n : ℕ). Illegal (n + 1) (expected_in new.reader)) count ∙ ap (λ (r : JournalReader). Illegal (old.before + 1) (expected_in r)) same,
+      ),
     )
 
 -- or it may not
 pub may_not_end : (old new : Checking) (bytes : List ℕ) (fault : JournalFault) → old.found ≡ None → HasReadLines old bytes
     → ((reading : JournalReading) → HasRead old.reader reading → Finishes old.reader reading (Err fault))
     → new.reader ≡ old.reader → new.before ≡ old.before → new.found ≡ Some findings.Illegal → HasJudged new bytes
-unfolding HasReadLines, HasJudged
-may_not_end old new bytes fault open read finishes same count found =
-    let all = subst (AreLinesRead old bytes) open read in
+unfolding HasReadLines HasJudged
+may_not_end old new bytes fault unfound read finishes same count found =
+    let all = subst (AreLinesRead old bytes) unfound read in
     subst (λ (f : Option Finding). LinesCome 1 journal_start (lines_of bytes) (verdict_at_end new f)) (sym found)
     (all.2 (Illegal (new.before + 1) (expected_in new.reader)) (due_then old new all.0 fault same count (finishes all.0 all.1)))
+
+-- ---- several bytes
+
+-- one more of them was checked
+pub one_more : (old mid new : Checking) (bytes : List ℕ) (i byte : ℕ) → i < length bytes → byte ≡ get_or bytes i 0
+    → ((front : List ℕ) → HasChecked old front → HasChecked mid (front ++ take i bytes))
+    → ((front : List ℕ) → HasChecked mid front → HasChecked new (front ++ byte ∷ []))
+    → (front : List ℕ) → HasChecked old front → HasChecked new (front ++ take (i + 1) bytes)
+one_more old mid new bytes i byte below is so_far one front checked =
+    let all = append_assoc front (take i bytes) (byte ∷ []) ∙ ap (λ (b : ℕ). front ++ (take i bytes ++ b ∷ [])) is
+        ∙ ap (λ (l : List ℕ). front ++ l) (sym (take_more bytes i 0 below)) in
+    subst (λ (l : List ℕ). HasChecked new l) all (one (front ++ take i bytes) (so_far front checked))
+
+-- the others change nothing once something was found
+pub others_skipped : (checking : Checking) (front bytes : List ℕ) (i : ℕ) → is_some checking.found ≡ true → HasChecked checking (front ++ take i bytes)
+    → HasChecked checking (front ++ bytes)
+others_skipped checking front bytes i some checked =
+    let all = append_assoc front (take i bytes) (drop i bytes) ∙ ap (λ (l : List ℕ). front ++ l) (take-append-drop i bytes) in
+    subst (λ (l : List ℕ). HasChecked checking l) all (still checking (front ++ take i bytes) (drop i bytes) some checked)
+
+-- ---- where a call may have failed
+
+-- a line feed
+pub ended_where : {T E : Type 0} (result : Result T E) (old new : Checking) (bytes : List ℕ) (byte : ℕ) → byte ≡ 10 → old.found ≡ None
+    → HasChecked old bytes → ((reading : JournalReading) → HasRead old.reader reading → OnOk result (Judges old new reading))
+    → OnOk result (HasChecked new (bytes ++ byte ∷ []))
+ended_where (Ok done) old new bytes byte is unfound checked judged =
+    subst (λ (b : ℕ). HasChecked new (bytes ++ b ∷ [])) (sym is) (ended old new bytes unfound checked judged)
+ended_where (Err error) old new bytes byte is unfound checked judged = tt
+
+-- the last line
+pub last_line_where : {T E : Type 0} (result : Result T E) (old new : Checking) (bytes : List ℕ) → old.found ≡ None → 0 < length old.line.items
+    → HasChecked old bytes → ((reading : JournalReading) → HasRead old.reader reading → OnOk result (Judges old new reading))
+    → OnOk result (HasReadLines new bytes)
+last_line_where (Ok done) old new bytes unfound some checked judged = last_line old new bytes unfound some checked judged
+last_line_where (Err error) old new bytes unfound some checked judged = tt
+
+-- a byte that isn't a line feed
+pub goes_on : (byte : ℕ) → (byte ≡ 10 → ⊥) → (byte == 10) ≡ false
+goes_on byte differs = elim (eqb_tells byte 10) [
+  | inl same ↦ absurd (differs same.1)
+  | inr other ↦ other.0
+]
+
+unfound_of : (found : Option Finding) → is_some found ≡ false → found ≡ None
+unfound_of None none = refl
+unfound_of (Some finding) none = absurd (cc)
+
+-- nothing was found
+pub is_unfound : (checking : Checking) → is_some checking.found ≡ false → checking.found ≡ None
+is_unfound checking none = unfound_of checking.found none

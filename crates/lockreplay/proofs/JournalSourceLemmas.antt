@@ -3,14 +3,18 @@ use Rattle.std.proofs.Common.{◌≡◌, ◌≤◌, ◌<◌, ℕ, ◌+◌, Bool,
 use Rattle.std.specs.Io.KnownBytes.{Consumes, IsAtEnd, Appends}
 use Rattle.std.proofs.KnownBytes.{Consumes-trans, Consumes-nil, Appends-nil}
 use Rattle.std.proofs.lemmas.Bool.{lt-ltb, le-ltb}
+use Rattle.script_core.specs.declared.script.Cause.{Cause}
 use Rattle.script_core.specs.declared.script.Cause.TheVariants.{TooLong}
 use Rattle.script_core.specs.Words.{lines_of}
 use Rattle.script_core.specs.JournalReading.{journal_start}
+use Rattle.script_core.specs.JournalView.{expected_in}
 use Rattle.lockreplay.specs.declared.check.Outcome.TheVariants as outcomes
+use Rattle.lockreplay.specs.declared.checking.Finding.{Finding}
+use Rattle.lockreplay.specs.declared.checking.Finding.TheVariants as findings
 use Rattle.lockreplay.specs.declared.checking.Checking.{Checking}
 use Rattle.lockreplay.specs.declared.replay.RunFault.{RunFault}
 use Rattle.lockreplay.specs.declared.replay.RunFault.TheVariants as faults
-use Rattle.lockreplay.specs.Checks.{Verdict, Faulty, journal_limit, HasChecked, IsCheckFault, IsCheckOutput, IsJournalFault, IsToldOf, JournalComes, LinesCome, ReadsFaultyJournal, ReadsChecked, TellsOf}
+use Rattle.lockreplay.specs.Checks.{Verdict, Faulty, journal_limit, illegal_line, verdict_at_end, HasChecked, HasJudged, IsCheckFault, IsCheckOutput, IsJournalFault, IsToldOf, JournalComes, LinesCome, ReadsFaultyJournal, ReadsChecked, TellsOf}
 use Rattle.lockreplay.specs.Replays.{WritesOf}
 
 -- so much was read and checked, and so many bytes more may come
@@ -27,7 +31,7 @@ pub nothing_read : (source : Option (List ℕ)) (checking : Checking) (left : �
 nothing_read source checking left checked all none = record {
   input = [];
   consumed = Consumes-nil source;
-  count = all;
+  count = omega (arith, all);
   checked = checked;
   few = omega (arith, none);
 }
@@ -112,3 +116,29 @@ fails_all old new failed checking (faults.Memory memory) read is = tt
 fails_all old new failed checking faults.Read read is = absurd is
 fails_all old new failed checking faults.Write read is = absurd is
 fails_all old new failed checking faults.Thread read is = absurd is
+
+-- ---- a journal that was checked to its end
+
+judged_as : (checking : Checking) (bytes : List ℕ) (found : Option Finding) → checking.found ≡ found → length bytes ≤ journal_limit
+    → HasJudged checking bytes → JournalComes bytes (verdict_at_end checking found)
+unfolding HasJudged
+judged_as checking bytes found is short judged =
+    comes bytes (verdict_at_end checking found) short
+    (subst (λ (f : Option Finding). LinesCome 1 journal_start (lines_of bytes) (verdict_at_end checking f)) is judged)
+
+-- it is legal
+pub told_legal : (checking : Checking) (bytes : List ℕ) → checking.found ≡ None → length bytes ≤ journal_limit → HasJudged checking bytes
+    → IsToldOf bytes None
+told_legal checking bytes is short judged = (judged_as checking bytes None is short judged, refl)
+
+-- or illegal
+pub told_illegal : (checking : Checking) (bytes text : List ℕ) → checking.found ≡ Some findings.Illegal → length bytes ≤ journal_limit
+    → text ≡ illegal_line (checking.before + 1) (expected_in checking.reader) → HasJudged checking bytes → IsToldOf bytes (Some text)
+told_illegal checking bytes text is short told judged =
+    (checking.before + 1, expected_in checking.reader, judged_as checking bytes (Some findings.Illegal) is short judged, told)
+
+-- or none
+pub told_faulty : (checking : Checking) (bytes : List ℕ) (cause : Cause) → checking.found ≡ Some (findings.Faulty cause)
+    → length bytes ≤ journal_limit → HasJudged checking bytes
+    → IsCheckFault bytes (faults.Script (record { line = checking.before + 1; cause = cause }))
+told_faulty checking bytes cause is short judged = judged_as checking bytes (Some (findings.Faulty cause)) is short judged

@@ -11,13 +11,17 @@ use Rattle.lockreplay.specs.declared.options.Options.{Options}
 abbrev pub file_argument : Rule
 file_argument = record (new_rule (codes "file")) { value_names = 1 }
 
+-- the flag with this name
+abbrev pub flag_rule : Text → Rule
+flag_rule name = record (new_rule name) { long = Some name; action = Some SetTrue }
+
 -- the flag --threads
 abbrev pub threads_flag : Rule
-threads_flag = record (new_rule (codes "threads")) { long = Some (codes "threads"); action = Some SetTrue }
+threads_flag = flag_rule (codes "threads")
 
 -- the flag --check
 abbrev pub check_flag : Rule
-check_flag = record (new_rule (codes "check")) { long = Some (codes "check"); action = Some SetTrue }
+check_flag = flag_rule (codes "check")
 
 -- the command with that name, which has a version
 abbrev pub versioned_app : App

@@ -62,7 +62,7 @@ impl Checking {
     /// Checks one more byte, where nothing was found.
     fn take(&mut self, byte: u8) -> Result<(), Memory>
         requires few { self.old.before + 1 < 2 ^ 64 }
-        requires open { self.old.found ≡ None }
+        requires unfound { self.old.found ≡ None }
         ensures checked { (front : List ℕ) → HasChecked self.old front → OnOk result (HasChecked self.new (front ++ byte ∷ [])) }
         ensures lines { OnOk result (self.new.before ≤ self.old.before + 1) }
     {
@@ -76,7 +76,7 @@ impl Checking {
     /// The line at hand has one more byte, which doesn't end it.
     fn grow(&mut self, byte: u8) -> Result<(), Memory>
         requires goes_on { byte ≢ 10 }
-        requires open { self.old.found ≡ None }
+        requires unfound { self.old.found ≡ None }
         ensures checked { (front : List ℕ) → HasChecked self.old front → OnOk result (HasChecked self.new (front ++ byte ∷ [])) }
         ensures lines { OnOk result (self.new.before ≡ self.old.before) }
     {
@@ -90,7 +90,7 @@ impl Checking {
     /// The line at hand has come to its end.
     fn end_line(&mut self) -> Result<(), Memory>
         requires few { self.old.before + 1 < 2 ^ 64 }
-        requires open { self.old.found ≡ None }
+        requires unfound { self.old.found ≡ None }
         ensures judges { (reading : JournalReading) → HasRead self.old.reader reading → OnOk result (Judges self.old self.new reading) }
         ensures lines { OnOk result (self.new.before ≤ self.old.before + 1) }
     {

@@ -1,7 +1,7 @@
 //! The command line of the program, read by `clap`.
-ghost use Rattle.std.specs.Prelude.{◌≡◌, IfOk, IfErr, map, option_map, string_bytes, true};
-ghost use Rattle.clap.specs.Words.{FailsBy, app_of, fault_of, kind_of, takes};
-ghost use Rattle.lockreplay.specs.CommandLine.{FollowsUsage, IsGiven, check_of, command_line, file_of, threads_of};
+ghost use Rattle.std.specs.Prelude.{◌≡◌, IfOk, IfErr, map, option_map, string_bytes, false, true};
+ghost use Rattle.clap.specs.Words.{FailsBy, app_of, fault_of, kind_of, rule_of, takes};
+ghost use Rattle.lockreplay.specs.CommandLine.{FollowsUsage, IsGiven, check_of, command_line, file_of, flag_rule, threads_of};
 
 use crate::options::Options;
 use clap::error::ErrorKind;
@@ -37,14 +37,16 @@ pub fn options<'a>(alloc: Global, words: &'a [String]) -> Result<Options<'a>, cl
 fn command<'a>(alloc: Global) -> Result<Command<'a>, AllocError>
     ensures { IfOk result (λ command. app_of command ≡ command_line) }
 {
-    let threads = Arg::new(alloc, "threads")
-        .long("threads")
-        .action(ArgAction::SetTrue)
-        .help("A thread for each process that requests something");
-    let check = Arg::new(alloc, "check")
-        .long("check")
-        .action(ArgAction::SetTrue)
-        .help("Checks an output in place of a script; not with --threads");
+    let threads = flag(
+        alloc,
+        "threads",
+        "A thread for each process that requests something",
+    );
+    let check = flag(
+        alloc,
+        "check",
+        "Checks an output in place of a script; not with --threads",
+    );
     let file = Arg::new(alloc, "file")
         .value_name("FILE")
         .help("What is read; without it, or where it is -, standard input");
@@ -55,6 +57,17 @@ fn command<'a>(alloc: Global) -> Result<Command<'a>, AllocError>
         .arg(threads)?
         .arg(check)?
         .arg(file)
+}
+
+/// The flag of this name.
+fn flag<'a>(alloc: Global, name: &'a str, help: &'a str) -> Arg<'a>
+    ensures rule { rule_of result ≡ flag_rule name.entry.now }
+    ensures local { result.global ≡ false }
+{
+    Arg::new(alloc, name)
+        .long(name)
+        .action(ArgAction::SetTrue)
+        .help(help)
 }
 
 /// The version of the program, which is the topmost of CHANGELOG.md.

@@ -6,8 +6,8 @@ use Rattle.lockreplay.proofs.command_line.command.Goals as goal
 
 pub returns : goal.returns
 returns c =
-    let flag_is : rule_of c.help-threads.result ≡ threads_flag = search rules in
-    let check_is : rule_of c.help-check.result ≡ check_flag = search rules in
+    let flag_is : rule_of c.flag-threads.result ≡ threads_flag = search rules in
+    let check_is : rule_of c.flag-check.result ≡ check_flag = search rules in
     let file_is : rule_of c.help-file.result ≡ file_argument = search rules in
     let start_is : app_of c.after_help.result ≡ versioned_app = search rules in
     let first_is : app_of c.in_ok-arg.field-0 ≡ with_rule versioned_app threads_flag =
