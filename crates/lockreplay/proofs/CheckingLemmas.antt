@@ -70,12 +70,12 @@ line_begins line (byte ∷ rest) on some = elim (eqb_tells byte 10) [
     ap (λ (b : ℕ). lines_of (line ++ b ∷ rest)) ends.1 ∙ lines_first line rest on ∙ ap (λ (l : List ℕ). l ∷ lines_of rest) (sym (append-nil line)),
   )
   | inr goes ↦
-    let longer : 0 < length (line ++ byte ∷ []) = let is = length-append line (byte ∷ []) in omega (arith, some, is) in
-    let found = line_begins (line ++ byte ∷ []) rest (All-push (λ (b : ℕ). (b == 10) ≡ false) line byte on goes.0) longer in (
-      byte ∷ found.0,
-      found.1,
-      ap lines_of (sym (append_assoc line (byte ∷ []) rest)) ∙ found.2 ∙ ap (λ (l : List ℕ). l ∷ found.1) (append_assoc line (byte ∷ []) found.0),
-    )
+      let longer : 0 < length (line ++ byte ∷ []) = let is = length-append line (byte ∷ []) in omega (arith, some, is) in
+      let found = line_begins (line ++ byte ∷ []) rest (All-push (λ (b : ℕ). (b == 10) ≡ false) line byte on goes.0) longer in (
+        byte ∷ found.0,
+        found.1,
+        ap lines_of (sym (append_assoc line (byte ∷ []) rest)) ∙ found.2 ∙ ap (λ (l : List ℕ). l ∷ found.1) (append_assoc line (byte ∷ []) found.0),
+      )
 ]
 
 -- ---- what lines come to
@@ -370,7 +370,7 @@ pub one_more : (old mid new : Checking) (bytes : List ℕ) (i byte : ℕ) → i 
     → (front : List ℕ) → HasChecked old front → HasChecked new (front ++ take (i + 1) bytes)
 one_more old mid new bytes i byte below is so_far one front checked =
     let all = append_assoc front (take i bytes) (byte ∷ []) ∙ ap (λ (b : ℕ). front ++ (take i bytes ++ b ∷ [])) is
-        ∙ ap (λ (l : List ℕ). front ++ l) (sym (take_more bytes i 0 below)) in
+    ∙ ap (λ (l : List ℕ). front ++ l) (sym (take_more bytes i 0 below)) in
     subst (λ (l : List ℕ). HasChecked new l) all (one (front ++ take i bytes) (so_far front checked))
 
 -- the others change nothing once something was found

@@ -339,24 +339,34 @@ refused_as words these result kind fails e refused = is_refused words result kin
 
 say_alone : (name : Text) (is_check : Bool) → SayThat (name ∷ word_of is_check ∷ []) (not is_check) is_check None
 say_alone name is_check = record {
-  threads_are = flag_threads name is_check; check_is = flag_check name is_check; file_is = flag_file name is_check; no_fault = flag_fault name is_check;
+  threads_are = flag_threads name is_check;
+  check_is = flag_check name is_check;
+  file_is = flag_file name is_check;
+  no_fault = flag_fault name is_check;
 }
 
 say_first : (name word : Text) (is_check : Bool) → ReadsAsValue word → SayThat (name ∷ word_of is_check ∷ word ∷ []) (not is_check) is_check (Some word)
 say_first name word is_check reads = record {
-  threads_are = first_threads name word is_check reads; check_is = first_check name word is_check reads;
-  file_is = first_file name word is_check reads; no_fault = first_fault name word is_check reads;
+  threads_are = first_threads name word is_check reads;
+  check_is = first_check name word is_check reads;
+  file_is = first_file name word is_check reads;
+  no_fault = first_fault name word is_check reads;
 }
 
 say_last : (name word : Text) (is_check : Bool) → ReadsAsValue word → SayThat (name ∷ word ∷ word_of is_check ∷ []) (not is_check) is_check (Some word)
 say_last name word is_check reads = record {
-  threads_are = last_threads name word is_check reads; check_is = last_check name word is_check reads;
-  file_is = last_file name word is_check reads; no_fault = last_fault name word is_check reads;
+  threads_are = last_threads name word is_check reads;
+  check_is = last_check name word is_check reads;
+  file_is = last_file name word is_check reads;
+  no_fault = last_fault name word is_check reads;
 }
 
 say_both : (name : Text) (is_check : Bool) → SayThat (name ∷ word_of is_check ∷ word_of (not is_check) ∷ []) true true None
 say_both name is_check = record {
-  threads_are = both_threads name is_check; check_is = both_check name is_check; file_is = both_file name is_check; no_fault = both_fault name is_check;
+  threads_are = both_threads name is_check;
+  check_is = both_check name is_check;
+  file_is = both_file name is_check;
+  no_fault = both_fault name is_check;
 }
 
 say_none : (name : Text) → SayThat (name ∷ []) false false None
@@ -364,8 +374,10 @@ say_none name = record { threads_are = no_threads name; check_is = no_check name
 
 say_one : (name word : Text) → ReadsAsValue word → SayThat (name ∷ word ∷ []) false false (Some word)
 say_one name word reads = record {
-  threads_are = no_threads_one name word reads; check_is = no_check_one name word reads;
-  file_is = one_file name word reads; no_fault = one_fault name word reads;
+  threads_are = no_threads_one name word reads;
+  check_is = no_check_one name word reads;
+  file_is = one_file name word reads;
+  no_fault = one_fault name word reads;
 }
 
 pub follows_usage : (words : List Text) (result : Result Options Error) → HasOptions words result → FailsBy (fault_of command_line words) result

@@ -110,7 +110,9 @@ tells_all old new checking told read is_told = record { input = read.input; cons
 pub fails_all : (old new : Option (List ℕ)) (failed : Bool) (checking : Checking) (fault : RunFault) (read : ReadsChecked old new checking)
     → IsCheckFault read.input fault → IsJournalFault old new failed fault
 fails_all old new failed checking (faults.Script fault) read is = record {
-  input = read.input; read = record { consumed = read.consumed; whole = inl read.ended }; faulty = is;
+  input = read.input;
+  read = record { consumed = read.consumed; whole = inl read.ended };
+  faulty = is;
 }
 fails_all old new failed checking (faults.Memory memory) read is = tt
 fails_all old new failed checking faults.Read read is = absurd is

@@ -47,9 +47,9 @@ fn command<'a>(alloc: Global) -> Result<Command<'a>, AllocError>
         "check",
         "Checks an output in place of a script; not with --threads",
     );
-    let file = Arg::new(alloc, "file")
-        .value_name("FILE")
-        .help("What is read; without it, or where it is -, standard input");
+    let file = Arg::new(alloc, "file").value_name("FILE").help(
+        "What is read; without it, or where it is -, standard input",
+    );
     Command::new(alloc, "lockreplay")
         .version(VERSION)
         .about(ABOUT)

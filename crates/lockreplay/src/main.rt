@@ -87,7 +87,7 @@ fn perform<T: AllocGlobal + Clock + Sync + Threads + Wait, R: Source, W: Sink>(
     ensures read { result ≡ Err RunFault.Read → IsTrue (R.failed source.new) }
     ensures write { result ≡ Err RunFault.Write → IsTrue (W.failed sink.new)
         × (outcome : Outcome) × WritesFront (outputs_of job outcome)
-            (R.remaining source.old) (R.remaining source.new) (W.written sink.old) (W.written sink.new) }
+        (R.remaining source.old) (R.remaining source.new) (W.written sink.old) (W.written sink.new) }
     ensures unwritten { IfErr result (λ fault. fault ≢ RunFault.Write → sink.new ≡ sink.old) }
     ensures source { result ≢ Err RunFault.Read → R.failed source.new ≡ R.failed source.old }
     ensures sink { result ≢ Err RunFault.Write → W.failed sink.new ≡ W.failed sink.old }

@@ -29,7 +29,14 @@ fn asks_of(
     file: Option<&str>,
 ) -> Result<(), Fail> {
     let given = words(alloc, given)?;
-    assert_eq!(rt; options(alloc, &given)?, Options { threads, check: false, file });
+    assert_eq!(rt;
+        options(alloc, &given)?,
+        Options {
+            threads,
+            check: false,
+            file
+        }
+    );
     Ok(())
 }
 
@@ -96,7 +103,10 @@ fn takes_a_check(rt: HostRuntime) -> Result<(), Fail> {
     let alloc = rt.alloc();
     let rows = [
         (["lockreplay", "script", "--"], Some(Job::Replay)),
-        (["lockreplay", "script", "--threads"], Some(Job::ReplayInThreads)),
+        (
+            ["lockreplay", "script", "--threads"],
+            Some(Job::ReplayInThreads),
+        ),
         (["lockreplay", "--check", "-"], Some(Job::Check)),
         (["lockreplay", "journal", "--check"], Some(Job::Check)),
         (["lockreplay", "--threads", "--check"], None),
