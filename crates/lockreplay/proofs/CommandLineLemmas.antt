@@ -1,5 +1,5 @@
 -- What clap states of the program's command.
-use Rattle.std.proofs.Common.{◌≡◌, ◌≢◌, ◌∙◌, ap, ap₂, refl, Bool, true, false, ℕ, ◌==◌, ◌&&◌, codes, List, [], ◌∷◌, Option, Some, None, Result, subst, sym, inl, inr, arith}
+use Rattle.std.proofs.Common.{◌≡◌, ◌≢◌, ◌∙◌, ap, ap₂, refl, Bool, true, false, ℕ, ◌==◌, ◌&&◌, codes, List, [], ◌∷◌, not, Option, Some, None, Result, subst, sym, inl, inr, arith}
 use Rattle.std.specs.Prelude.{if◌then◌else◌, is_some, length, option_and_then, option_map, IfOk, IsErr, Ok, Err}
 use Rattle.std.proofs.lemmas.Bool.Decides.{eqb_tells}
 use Rattle.clap.specs.Lexer.{long_of, long_of_rest, short_of, short_of_rest, strip_byte}
@@ -16,7 +16,7 @@ use Rattle.std.specs.Str.{bytes_eq}
 use Rattle.clap.specs.declared.error.Error.{Error}
 use Rattle.clap.specs.declared.parser.matches.ArgMatches.{ArgMatches}
 use Rattle.clap.proofs.WalkLemmas.{first_value-rows, one_text-rows}
-use Rattle.lockreplay.specs.CommandLine.{FollowsUsage, Asks, IsGiven, IsPlain, command_line, file_of, threads_flag, threads_of, threads_word}
+use Rattle.lockreplay.specs.CommandLine.{FollowsUsage, Asks, IsGiven, IsPlain, check_flag, check_of, check_word, command_line, file_of, threads_flag, threads_of, threads_word}
 use Rattle.lockreplay.specs.declared.options.Options.{Options}
 
 -- the first value of the argument is the file of the words
@@ -30,6 +30,12 @@ pub threads_found : (app : App) (words : List Text) (m : ArgMatches) → app ≡
     → one_text (found_of m) (codes "threads") ≡ threads_of words
 threads_found app words m is has =
     one_text-rows (found_of m) (codes "threads") ∙ ap (one_of (codes "threads")) ((has (ap is_simple is)).0 ∙ ap (λ a. matches_of a words) is)
+
+-- and so is that of the other flag
+pub check_found : (app : App) (words : List Text) (m : ArgMatches) → app ≡ command_line → HasMatchesOf app words m
+    → one_text (found_of m) (codes "check") ≡ check_of words
+check_found app words m is has =
+    one_text-rows (found_of m) (codes "check") ∙ ap (one_of (codes "check")) ((has (ap is_simple is)).0 ∙ ap (λ a. matches_of a words) is)
 
 -- the words are refused by what clap states for the command
 pub fails_as_stated : (app : App) (words : List Text) (r : Result ArgMatches Error) → app ≡ command_line
@@ -60,7 +66,7 @@ plain_value (x ∷ xs) plain =
       short = ap (λ b. option_and_then short_of_rest (if b then Some xs else None)) other;
     }
 
--- the arguments of the command as clap builds it: the flag, FILE and the help
+-- the arguments of the command as clap builds it: the flags, FILE and the help
 abbrev arguments : List Rule
 arguments = (built command_line).top.rules
 
@@ -132,68 +138,148 @@ more_fault name first second rest reads_first reads_second =
     ap (λ k. or_else k (behind (walk arguments [] nothing_held (first ∷ second ∷ rest))))
     (walk_value nothing_held 1 first (second ∷ rest) reads_first ∙ walk_value after.held 2 second rest reads_second)
 
--- ---- the flag
+-- ---- the flags
 
--- without the flag
+-- without a flag
 no_threads : (name : Text) → threads_of (name ∷ []) ≡ Some (codes "false")
 unfolding clap_on_literals
 no_threads name = refl
+
+no_check : (name : Text) → check_of (name ∷ []) ≡ Some (codes "false")
+unfolding clap_on_literals
+no_check name = refl
 
 no_threads_one : (name word : Text) → ReadsAsValue word → threads_of (name ∷ word ∷ []) ≡ Some (codes "false")
 unfolding clap_on_literals
 no_threads_one name word reads = ap (λ w. one_of (codes "threads") (finished arguments w.held)) (walked_value nothing_held 1 word reads)
 
--- with the flag alone
-flag_file : (name : Text) → file_of (name ∷ threads_word ∷ []) ≡ None
+no_check_one : (name word : Text) → ReadsAsValue word → check_of (name ∷ word ∷ []) ≡ Some (codes "false")
 unfolding clap_on_literals
-flag_file name = refl
+no_check_one name word reads = ap (λ w. one_of (codes "check") (finished arguments w.held)) (walked_value nothing_held 1 word reads)
 
-flag_threads : (name : Text) → threads_of (name ∷ threads_word ∷ []) ≡ Some (codes "true")
+-- the word of a flag
+abbrev word_of : Bool → Text
+word_of true = check_word
+word_of false = threads_word
+
+-- the rule of a flag
+abbrev flag_of : Bool → Rule
+flag_of true = check_flag
+flag_of false = threads_flag
+
+-- the text of a flag that is given, or isn't
+abbrev flag_text : Bool → Text
+flag_text true = codes "true"
+flag_text false = codes "false"
+
+-- with a flag alone
+flag_file : (name : Text) (is_check : Bool) → file_of (name ∷ word_of is_check ∷ []) ≡ None
 unfolding clap_on_literals
-flag_threads name = refl
+flag_file name true = refl
+flag_file name false = refl
 
-flag_fault : (name : Text) → fault_of command_line (name ∷ threads_word ∷ []) ≡ []
+flag_threads : (name : Text) (is_check : Bool) → threads_of (name ∷ word_of is_check ∷ []) ≡ Some (flag_text (not is_check))
 unfolding clap_on_literals
-flag_fault name = refl
+flag_threads name true = refl
+flag_threads name false = refl
 
--- what is held behind the flag
-abbrev flag_held : Held
-flag_held = reacted arguments (filled threads_flag) [] nothing_held
-
--- with the flag before a file
-first_file : (name word : Text) → ReadsAsValue word → file_of (name ∷ threads_word ∷ word ∷ []) ≡ Some word
+flag_check : (name : Text) (is_check : Bool) → check_of (name ∷ word_of is_check ∷ []) ≡ Some (flag_text is_check)
 unfolding clap_on_literals
-first_file name word reads = ap (λ w. first_of (codes "file") (finished arguments w.held)) (walked_value flag_held 1 word reads)
+flag_check name true = refl
+flag_check name false = refl
 
-first_threads : (name word : Text) → ReadsAsValue word → threads_of (name ∷ threads_word ∷ word ∷ []) ≡ Some (codes "true")
+flag_fault : (name : Text) (is_check : Bool) → fault_of command_line (name ∷ word_of is_check ∷ []) ≡ []
 unfolding clap_on_literals
-first_threads name word reads = ap (λ w. one_of (codes "threads") (finished arguments w.held)) (walked_value flag_held 1 word reads)
+flag_fault name true = refl
+flag_fault name false = refl
 
-first_fault : (name word : Text) → ReadsAsValue word → fault_of command_line (name ∷ threads_word ∷ word ∷ []) ≡ []
-unfolding clap_on_literals
-first_fault name word reads = ap₂ (λ k w. or_else k (behind w)) (walk_value flag_held 1 word [] reads) (walked_value flag_held 1 word reads)
+-- what is held behind a flag
+abbrev flag_held : Bool → Held
+flag_held is_check = reacted arguments (filled (flag_of is_check)) [] nothing_held
 
--- with the flag behind a file
-last_file : (name word : Text) → ReadsAsValue word → file_of (name ∷ word ∷ threads_word ∷ []) ≡ Some word
+-- with a flag before a file
+first_file : (name word : Text) (is_check : Bool) → ReadsAsValue word → file_of (name ∷ word_of is_check ∷ word ∷ []) ≡ Some word
 unfolding clap_on_literals
-last_file name word reads =
+first_file name word true reads = ap (λ w. first_of (codes "file") (finished arguments w.held)) (walked_value (flag_held true) 1 word reads)
+first_file name word false reads = ap (λ w. first_of (codes "file") (finished arguments w.held)) (walked_value (flag_held false) 1 word reads)
+
+first_threads : (name word : Text) (is_check : Bool) → ReadsAsValue word
+    → threads_of (name ∷ word_of is_check ∷ word ∷ []) ≡ Some (flag_text (not is_check))
+unfolding clap_on_literals
+first_threads name word true reads = ap (λ w. one_of (codes "threads") (finished arguments w.held)) (walked_value (flag_held true) 1 word reads)
+first_threads name word false reads = ap (λ w. one_of (codes "threads") (finished arguments w.held)) (walked_value (flag_held false) 1 word reads)
+
+first_check : (name word : Text) (is_check : Bool) → ReadsAsValue word → check_of (name ∷ word_of is_check ∷ word ∷ []) ≡ Some (flag_text is_check)
+unfolding clap_on_literals
+first_check name word true reads = ap (λ w. one_of (codes "check") (finished arguments w.held)) (walked_value (flag_held true) 1 word reads)
+first_check name word false reads = ap (λ w. one_of (codes "check") (finished arguments w.held)) (walked_value (flag_held false) 1 word reads)
+
+first_fault : (name word : Text) (is_check : Bool) → ReadsAsValue word → fault_of command_line (name ∷ word_of is_check ∷ word ∷ []) ≡ []
+unfolding clap_on_literals
+first_fault name word true reads =
+    ap₂ (λ k w. or_else k (behind w)) (walk_value (flag_held true) 1 word [] reads) (walked_value (flag_held true) 1 word reads)
+first_fault name word false reads =
+    ap₂ (λ k w. or_else k (behind w)) (walk_value (flag_held false) 1 word [] reads) (walked_value (flag_held false) 1 word reads)
+
+-- with a flag behind a file
+last_file : (name word : Text) (is_check : Bool) → ReadsAsValue word → file_of (name ∷ word ∷ word_of is_check ∷ []) ≡ Some word
+unfolding clap_on_literals
+last_file name word true reads =
+    ap (λ w. first_of (codes "file") (finished arguments (walked arguments [] w check_word).held)) (walked_value nothing_held 1 word reads)
+last_file name word false reads =
     ap (λ w. first_of (codes "file") (finished arguments (walked arguments [] w threads_word).held)) (walked_value nothing_held 1 word reads)
 
-last_threads : (name word : Text) → ReadsAsValue word → threads_of (name ∷ word ∷ threads_word ∷ []) ≡ Some (codes "true")
+last_threads : (name word : Text) (is_check : Bool) → ReadsAsValue word
+    → threads_of (name ∷ word ∷ word_of is_check ∷ []) ≡ Some (flag_text (not is_check))
 unfolding clap_on_literals
-last_threads name word reads =
+last_threads name word true reads =
+    ap (λ w. one_of (codes "threads") (finished arguments (walked arguments [] w check_word).held)) (walked_value nothing_held 1 word reads)
+last_threads name word false reads =
     ap (λ w. one_of (codes "threads") (finished arguments (walked arguments [] w threads_word).held)) (walked_value nothing_held 1 word reads)
 
-last_fault : (name word : Text) → ReadsAsValue word → fault_of command_line (name ∷ word ∷ threads_word ∷ []) ≡ []
+last_check : (name word : Text) (is_check : Bool) → ReadsAsValue word → check_of (name ∷ word ∷ word_of is_check ∷ []) ≡ Some (flag_text is_check)
 unfolding clap_on_literals
-last_fault name word reads =
+last_check name word true reads =
+    ap (λ w. one_of (codes "check") (finished arguments (walked arguments [] w check_word).held)) (walked_value nothing_held 1 word reads)
+last_check name word false reads =
+    ap (λ w. one_of (codes "check") (finished arguments (walked arguments [] w threads_word).held)) (walked_value nothing_held 1 word reads)
+
+last_fault : (name word : Text) (is_check : Bool) → ReadsAsValue word → fault_of command_line (name ∷ word ∷ word_of is_check ∷ []) ≡ []
+unfolding clap_on_literals
+last_fault name word true reads =
+    ap₂ (λ k w. or_else k (behind (walked arguments [] w check_word)))
+    (walk_value nothing_held 1 word (check_word ∷ []) reads) (walked_value nothing_held 1 word reads)
+last_fault name word false reads =
     ap₂ (λ k w. or_else k (behind (walked arguments [] w threads_word)))
     (walk_value nothing_held 1 word (threads_word ∷ []) reads) (walked_value nothing_held 1 word reads)
 
--- with the flag twice
-twice_fault : (name : Text) (rest : List Text) → fault_of command_line (name ∷ threads_word ∷ threads_word ∷ rest) ≡ kind.ArgumentConflict ∷ []
+-- with a flag twice
+twice_fault : (name : Text) (is_check : Bool) (rest : List Text)
+    → fault_of command_line (name ∷ word_of is_check ∷ word_of is_check ∷ rest) ≡ kind.ArgumentConflict ∷ []
 unfolding clap_on_literals
-twice_fault name rest = refl
+twice_fault name true rest = refl
+twice_fault name false rest = refl
+
+-- with both
+both_file : (name : Text) (is_check : Bool) → file_of (name ∷ word_of is_check ∷ word_of (not is_check) ∷ []) ≡ None
+unfolding clap_on_literals
+both_file name true = refl
+both_file name false = refl
+
+both_threads : (name : Text) (is_check : Bool) → threads_of (name ∷ word_of is_check ∷ word_of (not is_check) ∷ []) ≡ Some (codes "true")
+unfolding clap_on_literals
+both_threads name true = refl
+both_threads name false = refl
+
+both_check : (name : Text) (is_check : Bool) → check_of (name ∷ word_of is_check ∷ word_of (not is_check) ∷ []) ≡ Some (codes "true")
+unfolding clap_on_literals
+both_check name true = refl
+both_check name false = refl
+
+both_fault : (name : Text) (is_check : Bool) → fault_of command_line (name ∷ word_of is_check ∷ word_of (not is_check) ∷ []) ≡ []
+unfolding clap_on_literals
+both_fault name true = refl
+both_fault name false = refl
 
 -- ---- results
 
@@ -203,11 +289,6 @@ pub flag_read : (text : Option Text) (given : Bool) → (text ≡ None → given
 flag_read None given none set unset = none refl
 flag_read (Some text) given none set unset = (λ e. set (ap (λ t. Some t) e), λ e. unset (ap (λ t. Some t) e))
 
--- the text of a flag that is given, or isn't
-abbrev flag_text : Bool → Text
-flag_text true = codes "true"
-flag_text false = codes "false"
-
 given_is : (given threads : Bool) → IsGiven (Some (flag_text threads)) given → given ≡ threads
 given_is given true told = told.0 refl
 given_is given false told = told.1 refl
@@ -215,14 +296,24 @@ given_is given false told = told.1 refl
 -- what the matches and the faults of the words make of a result
 abbrev HasOptions : List Text → Result Options Error → Type 0
 HasOptions words result =
-    IfOk result (λ options. (option_map (λ f. f.now) options.file ≡ file_of words) × IsGiven (threads_of words) options.threads)
+    IfOk result (λ options. (option_map (λ f. f.now) options.file ≡ file_of words)
+    × IsGiven (threads_of words) options.threads × IsGiven (check_of words) options.check)
 
-asks : (words : List Text) (threads : Bool) (file : Option Text) (result : Result Options Error)
-    → HasOptions words result → FailsBy (fault_of command_line words) result
-    → threads_of words ≡ Some (flag_text threads) → file_of words ≡ file → fault_of command_line words ≡ [] → Asks threads file result
-asks words threads file (Ok options) has fails flag found none =
-    (given_is options.threads threads (subst (λ text. IsGiven text options.threads) flag has.1), has.0 ∙ found)
-asks words threads file (Err error) has fails flag found none = elim (subst (λ kinds. HasKind kinds error) none fails) [
+-- what clap states of words: these flags are given, and this is the file
+record SayThat (words : List Text) (threads check : Bool) (file : Option Text) : Type 0 where
+  threads_are : threads_of words ≡ Some (flag_text threads)
+  check_is : check_of words ≡ Some (flag_text check)
+  file_is : file_of words ≡ file
+  no_fault : fault_of command_line words ≡ []
+
+asks : (words : List Text) (threads check : Bool) (file : Option Text) (result : Result Options Error)
+    → HasOptions words result → FailsBy (fault_of command_line words) result → SayThat words threads check file → Asks threads check file result
+asks words threads check file (Ok options) has fails say = (
+  given_is options.threads threads (subst (λ text. IsGiven text options.threads) say.threads_are has.1),
+  given_is options.check check (subst (λ text. IsGiven text options.check) say.check_is has.2),
+  has.0 ∙ say.file_is,
+)
+asks words threads check file (Err error) has fails say = elim (subst (λ kinds. HasKind kinds error) say.no_fault fails) [
   | inl memory ↦ memory
   | inr among ↦ absurd among
 ]
@@ -236,28 +327,75 @@ is_refused words (Ok options) kind fails refused =
 is_refused words (Err error) kind fails refused = refl
 
 -- the words are these, of which clap states so much
-asks_as : (words these : List Text) (threads : Bool) (file : Option Text) (result : Result Options Error)
-    → HasOptions words result → FailsBy (fault_of command_line words) result → words ≡ these
-    → threads_of these ≡ Some (flag_text threads) → file_of these ≡ file → fault_of command_line these ≡ [] → Asks threads file result
-asks_as words these threads file result has fails e flag found none =
-    asks words threads file result has fails (ap threads_of e ∙ flag) (ap file_of e ∙ found) (ap (fault_of command_line) e ∙ none)
+asks_as : (words these : List Text) (threads check : Bool) (file : Option Text) (result : Result Options Error)
+    → HasOptions words result → FailsBy (fault_of command_line words) result → words ≡ these → SayThat these threads check file
+    → Asks threads check file result
+asks_as words these threads check file result has fails e say =
+    asks words threads check file result has fails (subst (λ (ws : List Text). SayThat ws threads check file) (sym e) say)
+
+refused_as : (words these : List Text) (result : Result Options Error) (kind : ErrorKind) → FailsBy (fault_of command_line words) result
+    → words ≡ these → fault_of command_line these ≡ kind ∷ [] → IsErr result
+refused_as words these result kind fails e refused = is_refused words result kind fails (ap (fault_of command_line) e ∙ refused)
+
+say_alone : (name : Text) (is_check : Bool) → SayThat (name ∷ word_of is_check ∷ []) (not is_check) is_check None
+say_alone name is_check = record {
+  threads_are = flag_threads name is_check;
+  check_is = flag_check name is_check;
+  file_is = flag_file name is_check;
+  no_fault = flag_fault name is_check;
+}
+
+say_first : (name word : Text) (is_check : Bool) → ReadsAsValue word → SayThat (name ∷ word_of is_check ∷ word ∷ []) (not is_check) is_check (Some word)
+say_first name word is_check reads = record {
+  threads_are = first_threads name word is_check reads;
+  check_is = first_check name word is_check reads;
+  file_is = first_file name word is_check reads;
+  no_fault = first_fault name word is_check reads;
+}
+
+say_last : (name word : Text) (is_check : Bool) → ReadsAsValue word → SayThat (name ∷ word ∷ word_of is_check ∷ []) (not is_check) is_check (Some word)
+say_last name word is_check reads = record {
+  threads_are = last_threads name word is_check reads;
+  check_is = last_check name word is_check reads;
+  file_is = last_file name word is_check reads;
+  no_fault = last_fault name word is_check reads;
+}
+
+say_both : (name : Text) (is_check : Bool) → SayThat (name ∷ word_of is_check ∷ word_of (not is_check) ∷ []) true true None
+say_both name is_check = record {
+  threads_are = both_threads name is_check;
+  check_is = both_check name is_check;
+  file_is = both_file name is_check;
+  no_fault = both_fault name is_check;
+}
+
+say_none : (name : Text) → SayThat (name ∷ []) false false None
+say_none name = record { threads_are = no_threads name; check_is = no_check name; file_is = no_file name; no_fault = no_fault name }
+
+say_one : (name word : Text) → ReadsAsValue word → SayThat (name ∷ word ∷ []) false false (Some word)
+say_one name word reads = record {
+  threads_are = no_threads_one name word reads;
+  check_is = no_check_one name word reads;
+  file_is = one_file name word reads;
+  no_fault = one_fault name word reads;
+}
 
 pub follows_usage : (words : List Text) (result : Result Options Error) → HasOptions words result → FailsBy (fault_of command_line words) result
     → FollowsUsage words result
 follows_usage words result has fails = record {
-  none = λ name e. asks_as words _ false None result has fails e (no_threads name) (no_file name) (no_fault name);
-  one = λ name word plain e.
-      let reads = plain_value word plain in
-      asks_as words _ false (Some word) result has fails e (no_threads_one name word reads) (one_file name word reads) (one_fault name word reads);
+  none = λ name e. asks_as words _ false false None result has fails e (say_none name);
+  one = λ name word plain e. asks_as words _ false false (Some word) result has fails e (say_one name word (plain_value word plain));
   more = λ name first second rest plain_first plain_second e.
-      is_refused words result kind.UnknownArgument fails
-      (ap (fault_of command_line) e ∙ more_fault name first second rest (plain_value first plain_first) (plain_value second plain_second));
-  threads = λ name e. asks_as words _ true None result has fails e (flag_threads name) (flag_file name) (flag_fault name);
-  threads_first = λ name word plain e.
-      let reads = plain_value word plain in
-      asks_as words _ true (Some word) result has fails e (first_threads name word reads) (first_file name word reads) (first_fault name word reads);
-  threads_last = λ name word plain e.
-      let reads = plain_value word plain in
-      asks_as words _ true (Some word) result has fails e (last_threads name word reads) (last_file name word reads) (last_fault name word reads);
-  twice = λ name rest e. is_refused words result kind.ArgumentConflict fails (ap (fault_of command_line) e ∙ twice_fault name rest);
+      refused_as words _ result kind.UnknownArgument fails e
+      (more_fault name first second rest (plain_value first plain_first) (plain_value second plain_second));
+  threads = λ name e. asks_as words _ true false None result has fails e (say_alone name false);
+  threads_first = λ name word plain e. asks_as words _ true false (Some word) result has fails e (say_first name word false (plain_value word plain));
+  threads_last = λ name word plain e. asks_as words _ true false (Some word) result has fails e (say_last name word false (plain_value word plain));
+  twice = λ name rest e. refused_as words _ result kind.ArgumentConflict fails e (twice_fault name false rest);
+  check = λ name e. asks_as words _ false true None result has fails e (say_alone name true);
+  check_first = λ name word plain e. asks_as words _ false true (Some word) result has fails e (say_first name word true (plain_value word plain));
+  check_last = λ name word plain e. asks_as words _ false true (Some word) result has fails e (say_last name word true (plain_value word plain));
+  check_twice = λ name rest e. refused_as words _ result kind.ArgumentConflict fails e (twice_fault name true rest);
+  both = λ name e. asks_as words _ true true None result has fails e (say_both name false);
+  both_turned = λ name e. asks_as words _ true true None result has fails e (say_both name true);
 }

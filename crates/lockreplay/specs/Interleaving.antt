@@ -1,5 +1,5 @@
 -- What a script leads to whose processes run in threads of their own (the words are this project's choice).
-use Rattle.std.specs.Prelude.{◌≡◌, ℕ, Bool, true, false, ◌+◌, ◌++◌, Ok, Some, List, length, map, flat_map, slice_get, vec_items}
+use Rattle.std.specs.Prelude.{◌≡◌, ℕ, ◌+◌, ◌++◌, Ok, Some, List, length, map, flat_map, slice_get, vec_items}
 use Rattle.lock_manager.specs.State.{State}
 use Rattle.lock_manager.specs.ManagerView.{StandsFor, processes_of}
 use Rattle.lock_manager.specs.declared.request.Reply.{Reply}
@@ -12,7 +12,7 @@ use Rattle.script_core.specs.ScriptText.{Meaning, IsProcess}
 use Rattle.script_core.specs.Reading.{Reads}
 use Rattle.script_core.specs.EntryText.{entry_line}
 use Rattle.script_core.specs.ReportText.{IsReport}
-use Rattle.script_core.specs.Output.{IsOutput, processes_in}
+use Rattle.script_core.specs.Output.{processes_in}
 use Rattle.lockreplay.specs.declared.threads.ThreadReport.{ThreadReport}
 
 -- the journal is a run under the script's rules, which leaves the state: of each process the requests were taken in the script's order,
@@ -48,8 +48,3 @@ pub record TellsInterleaved (bytes text : List ℕ) : Type 0 where
 -- the text is so, for some journal
 pub record IsThreadOutput (bytes text : List ℕ) : Type 0 where
   pub tells : ∥ TellsInterleaved bytes text ∥₁
-
--- what may be written of a script: its output, or in threads one of a run in threads
-abbrev pub outputs_of : Bool → List ℕ → List ℕ → Type 0
-outputs_of false = IsOutput
-outputs_of true = IsThreadOutput

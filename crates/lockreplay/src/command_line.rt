@@ -1,7 +1,7 @@
 //! The command line of the program, read by `clap`.
-ghost use Rattle.std.specs.Prelude.{◌≡◌, IfOk, IfErr, map, option_map, string_bytes, true};
-ghost use Rattle.clap.specs.Words.{FailsBy, app_of, fault_of, kind_of, takes};
-ghost use Rattle.lockreplay.specs.CommandLine.{FollowsUsage, IsGiven, command_line, file_of, threads_of};
+ghost use Rattle.std.specs.Prelude.{◌≡◌, IfOk, IfErr, map, option_map, string_bytes, false, true};
+ghost use Rattle.clap.specs.Words.{FailsBy, app_of, fault_of, kind_of, rule_of, takes};
+ghost use Rattle.lockreplay.specs.CommandLine.{FollowsUsage, IsGiven, check_of, command_line, file_of, flag_rule, threads_of};
 
 use crate::options::Options;
 use clap::error::ErrorKind;
@@ -13,20 +13,22 @@ pub fn options<'a>(alloc: Global, words: &'a [String]) -> Result<Options<'a>, cl
     // The file is that of the matches that clap states for these words.
     ensures file { IfOk result (λ options. option_map (λ file. file.now) options.file ≡ file_of (map string_bytes words.entry.now)) }
 
-    // So are the threads.
+    // So are the flags.
     ensures threads { IfOk result (λ options. IsGiven (threads_of (map string_bytes words.entry.now)) options.threads) }
+    ensures check { IfOk result (λ options. IsGiven (check_of (map string_bytes words.entry.now)) options.check) }
 
     // Words are refused just where clap's own condition for this command fails, and by the kind that it states, or for want of memory.
     ensures kind { FailsBy (fault_of command_line (map string_bytes words.entry.now)) result }
     ensures taken { IfErr result (λ error. takes command_line (map string_bytes words.entry.now) ≡ true → kind_of error ≡ ErrorKind.OutOfMemory) }
 
     // So one word is the file, without one there is none, and two are refused, where they begin with no hyphen; --threads before or
-    // behind them asks for threads, and is refused twice in front.
+    // behind them asks for threads, --check for a check, and each is refused twice in front.
     ensures usage { FollowsUsage (map string_bytes words.entry.now) result }
 {
     let matches = command(alloc)?.try_get_matches_from(words)?;
     Ok(Options {
         threads: matches.get_flag("threads"),
+        check: matches.get_flag("check"),
         file: matches.get_str("file"),
     })
 }
@@ -35,19 +37,37 @@ pub fn options<'a>(alloc: Global, words: &'a [String]) -> Result<Options<'a>, cl
 fn command<'a>(alloc: Global) -> Result<Command<'a>, AllocError>
     ensures { IfOk result (λ command. app_of command ≡ command_line) }
 {
-    let threads = Arg::new(alloc, "threads")
-        .long("threads")
-        .action(ArgAction::SetTrue)
-        .help("A thread for each process that requests something");
-    let file = Arg::new(alloc, "file")
-        .value_name("FILE")
-        .help("The script; without it, or where it is -, standard input");
+    let threads = flag(
+        alloc,
+        "threads",
+        "A thread for each process that requests something",
+    );
+    let check = flag(
+        alloc,
+        "check",
+        "Checks an output in place of a script; not with --threads",
+    );
+    let file = Arg::new(alloc, "file").value_name("FILE").help(
+        "What is read; without it, or where it is -, standard input",
+    );
     Command::new(alloc, "lockreplay")
         .version(VERSION)
         .about(ABOUT)
         .after_help(GUIDE)
         .arg(threads)?
+        .arg(check)?
         .arg(file)
+}
+
+/// The flag of this name.
+fn flag<'a>(alloc: Global, name: &'a str, help: &'a str) -> Arg<'a>
+    ensures rule { rule_of result ≡ flag_rule name.entry.now }
+    ensures local { result.global ≡ false }
+{
+    Arg::new(alloc, name)
+        .long(name)
+        .action(ArgAction::SetTrue)
+        .help(help)
 }
 
 /// The version of the program, which is the topmost of CHANGELOG.md.
@@ -57,11 +77,12 @@ const VERSION: &str = "0.2.0";
 const ABOUT: &str = "Replays a script of advisory lock requests (fcntl, OFD, flock): who is answered
 what, what is then held, and who still waits. No file of the machine is locked.";
 
-/// How a script is written, and what comes of it. With what clap puts before it, its first 11 lines fill a screen of 24.
+/// How a script is written, and what comes of it. With what clap puts before it, its first 10 lines fill a screen of 24.
 const GUIDE: &str = "Exit status:
-  0  the script was replayed
+  0  the script was replayed, or what was checked is legal
   1  FILE can't be opened, reading or writing failed, or no memory or thread
-  2  the script or the command line is refused; --help, --version (on stderr)
+  2  the input or the command line is refused; --help, --version (on stderr)
+  3  what was checked is illegal
 
 Example:
   $ printf '1 open 0 rw\\n1 setlk 0 w set 0 100\\n' | lockreplay
@@ -130,6 +151,18 @@ Output:
                                               waiting, ended, or unborn: no fork
                                               made it
 
+Check:
+  With --check an output is read, as a server too may print it: policy and limits
+  as in a script, then entries, and then all lines of a report or none. Blank
+  lines and comments are skipped. A line has 8192 bytes at most, all have 64 MiB.
+  Where it is legal, nothing is printed. Else the first line is told with which
+  it is the front of no run, and what would stand there:
+    line 2: 1#2 setlk 0 w set 0 100 | 1#2 ok expected
+    line 3: 1#3 expected                      the next number of its process
+    line 3: process 2 is unborn               or waiting, or ended
+    line 5: proc 1 sent 2 taken 2 answered 2 live expected
+    line 6: no line expected                  the report was whole before
+
 Faults, on standard error:
   A faulty script isn't run. The first faulty line is told, here by fault 3:
     lockreplay: line 2: 3 Count               line 0 is the script as a whole
@@ -141,5 +174,6 @@ Faults, on standard error:
              after a request or for the second time
   6 TooLong  a line of more than 120 bytes, or a script of more than 1 MiB
   7 Memory   no memory; told as lockreplay: no memory
+  8 Tag      in a check a word that isn't a process and a number, as 2#1
   Other faults: lockreplay: read failed, no memory, no thread (nothing went to
   standard output), or write failed (part of the output may have).";

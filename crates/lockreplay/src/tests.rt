@@ -1,4 +1,5 @@
 //! Scripts, sources and sinks, readers and writers, bad and good, as the program runs them.
+mod checks;
 mod command_line;
 mod cuts;
 mod devices;

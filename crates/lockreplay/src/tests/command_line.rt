@@ -1,6 +1,6 @@
 //! What command lines ask for, and which are refused. Their texts are tested on the program.
 use crate::command_line::options;
-use crate::options::Options;
+use crate::options::{Job, Options};
 use clap::error::ErrorKind;
 use std::alloc::Global;
 use std::process::Abort;
@@ -29,7 +29,14 @@ fn asks_of(
     file: Option<&str>,
 ) -> Result<(), Fail> {
     let given = words(alloc, given)?;
-    assert_eq!(rt; options(alloc, &given)?, Options { threads, file });
+    assert_eq!(rt;
+        options(alloc, &given)?,
+        Options {
+            threads,
+            check: false,
+            file
+        }
+    );
     Ok(())
 }
 
@@ -68,6 +75,7 @@ fn a_hyphen_is_standard_input(rt: HostRuntime) -> Result<(), Fail> {
     for (file, path) in paths {
         let options = Options {
             threads: false,
+            check: false,
             file,
         };
         assert_eq!(rt; options.path(), path);
@@ -87,6 +95,29 @@ fn takes_threads(rt: HostRuntime) -> Result<(), Fail> {
     asks_of(&rt, alloc, &file, false, Some("--threads"))?;
     let both = ["lockreplay", "--threads", "--", "--threads"];
     asks_of(&rt, alloc, &both, true, Some("--threads"))
+}
+
+/// A journal is checked where --check is given, before or behind the file, and nothing is done where --threads is given too.
+#[test]
+fn takes_a_check(rt: HostRuntime) -> Result<(), Fail> {
+    let alloc = rt.alloc();
+    let rows = [
+        (["lockreplay", "script", "--"], Some(Job::Replay)),
+        (
+            ["lockreplay", "script", "--threads"],
+            Some(Job::ReplayInThreads),
+        ),
+        (["lockreplay", "--check", "-"], Some(Job::Check)),
+        (["lockreplay", "journal", "--check"], Some(Job::Check)),
+        (["lockreplay", "--threads", "--check"], None),
+        (["lockreplay", "--check", "--threads"], None),
+    ];
+    for (given, job) in rows {
+        let given = words(alloc, &given)?;
+        assert_eq!(rt; options(alloc, &given)?.job(), job);
+    }
+    let twice = ["lockreplay", "--check", "--check"];
+    refuses(&rt, alloc, &twice, ErrorKind::ArgumentConflict)
 }
 
 #[test]

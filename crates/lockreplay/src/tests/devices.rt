@@ -22,16 +22,16 @@ proc 1 sent 2 taken 2 answered 2 live
 
 /// Bytes that are given one by one, and a fault in place of one of them.
 #[derive(Drop)]
-struct Scripted {
+pub struct Scripted {
     bytes: &'static [u8],
     fails_at: u64,
-    calls: u64,
+    pub calls: u64,
     failed: bool,
 }
 
 impl Scripted {
     /// A source that fails at its call number `fails_at`, from 1.
-    fn new(bytes: &'static [u8], fails_at: u64) -> Scripted {
+    pub fn new(bytes: &'static [u8], fails_at: u64) -> Scripted {
         Scripted {
             bytes,
             fails_at,
@@ -64,9 +64,16 @@ impl Source for Scripted {
 
 /// The same byte without end.
 #[derive(Drop)]
-struct Endless {
+pub struct Endless {
     byte: u8,
-    calls: u64,
+    pub calls: u64,
+}
+
+impl Endless {
+    /// A source of this byte.
+    pub fn new(byte: u8) -> Endless {
+        Endless { byte, calls: 0 }
+    }
 }
 
 impl Source for Endless {
@@ -84,8 +91,8 @@ impl Source for Endless {
 
 /// A sink that takes so many bytes of each text at most, and fails once it has so many.
 #[derive(Drop)]
-struct Narrow {
-    written: Vec<u8>,
+pub struct Narrow {
+    pub written: Vec<u8>,
     at_once: usize,
     fails_after: usize,
     failed: bool,
@@ -93,7 +100,7 @@ struct Narrow {
 
 impl Narrow {
     /// A sink that takes `at_once` bytes at a time, and none but the first `fails_after` ones.
-    fn new(alloc: Global, at_once: usize, fails_after: usize) -> Narrow {
+    pub fn new(alloc: Global, at_once: usize, fails_after: usize) -> Narrow {
         Narrow {
             written: Vec::new(alloc),
             at_once,
@@ -344,10 +351,7 @@ fn tells_an_interrupted_call(rt: HostRuntime) -> Result<(), Fail> {
 /// A source without end is read up to one byte past the longest script.
 #[test]
 fn refuses_a_source_without_end(rt: HostRuntime) -> Result<(), Fail> {
-    let mut source = Endless {
-        byte: b' ',
-        calls: 0,
-    };
+    let mut source = Endless::new(b' ');
     let mut sink = ToWriter::new(Vec::new(rt.alloc()));
     let fault = ScriptFault {
         line: 0,

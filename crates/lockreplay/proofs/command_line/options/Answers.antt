@@ -1,7 +1,7 @@
 use Rattle.std.proofs.Common.{rules, ◌≡◌, ◌∙◌, ap, subst, map, codes, string_bytes, Ok, Err}
 use Rattle.clap.specs.Words.{App, app_of, found_of, one_text, takes}
 use Rattle.lockreplay.specs.CommandLine.{command_line, IsGiven}
-use Rattle.lockreplay.proofs.CommandLineLemmas.{file_found, threads_found, flag_read, fails_as_stated, follows_usage}
+use Rattle.lockreplay.proofs.CommandLineLemmas.{check_found, file_found, threads_found, flag_read, fails_as_stated, follows_usage}
 use Rattle.lockreplay.proofs.command_line.options.Goals as goal
 
 pub returns-clause-file : goal.returns-clause-file
@@ -18,6 +18,15 @@ returns-clause-threads c =
     (threads_found app (map string_bytes c.args.words.now) c.in_ok-matches.matches is c.in_ok-matches.ensures.matches)
     (flag_read (one_text (found_of c.in_ok-matches.matches) (codes "threads")) c.get_flag.result
     c.get_flag.ensures.none c.get_flag.ensures.value c.get_flag.ensures.other)
+
+pub returns-clause-check : goal.returns-clause-check
+returns-clause-check c =
+    let app = app_of c.in_ok-command.field-0 in
+    let is : app ≡ command_line = search rules in
+    subst (λ text. IsGiven text c.get_flag-2.result)
+    (check_found app (map string_bytes c.args.words.now) c.in_ok-matches.matches is c.in_ok-matches.ensures.matches)
+    (flag_read (one_text (found_of c.in_ok-matches.matches) (codes "check")) c.get_flag-2.result
+    c.get_flag-2.ensures.none c.get_flag-2.ensures.value c.get_flag-2.ensures.other)
 
 pub returns-clause-kind : goal.returns-clause-kind
 returns-clause-kind c =
@@ -39,8 +48,8 @@ returns-in_err-matches-clause-taken c =
     rw refused (λ taken. c.in_err-matches.ensures.passes (ap (λ (a : App). takes a (map string_bytes c.args.words.now)) is ∙ taken))
 
 pub returns-clause-usage : goal.returns-clause-usage
-returns-clause-usage c = follows_usage (map string_bytes c.args.words.now) (Ok (record { threads = c.get_flag.result; file = c.get_str.result }))
-    (returns-clause-file c, returns-clause-threads c) (returns-clause-kind c)
+returns-clause-usage c = follows_usage (map string_bytes c.args.words.now) (Ok (record { threads = c.get_flag.result; check = c.get_flag-2.result; file = c.get_str.result }))
+    (returns-clause-file c, returns-clause-threads c, returns-clause-check c) (returns-clause-kind c)
 
 pub returns-in_err-matches-clause-usage : goal.returns-in_err-matches-clause-usage
 returns-in_err-matches-clause-usage c =
