@@ -83,6 +83,23 @@ check 2 empty unknown-flag.err empty --thread
 check 2 empty unknown-flag.err conversion --thread conversion
 check 2 empty threads-twice.err empty --threads --threads
 
+# A check of an output: it is legal as a whole, and as far as its entries go; the first line is told that no run has there; and the
+# first that is faulty. The header lines of its script stand before it.
+check 0 empty empty conversion.out --check
+check 0 empty empty empty --check deadlock.out
+check 0 empty empty empty deadlock.out --check
+check 0 empty empty empty --check empty
+check 3 illegal.out empty empty --check illegal
+check 3 illegal.out empty illegal --check -
+check 3 cut.out empty empty --check cut
+check 0 empty empty queued.journal --check
+check 3 queued.out empty empty --check queued.headless
+check 2 empty untagged.err empty --check untagged
+check 1 empty read-failed.err empty --check missing
+check 2 empty both-flags.err conversion --check --threads
+check 2 empty both-flags.err empty --threads missing --check
+check 2 empty check-twice.err empty --check --check
+
 # In threads a script of one process prints the same.
 check 0 conversion.out empty empty --threads conversion
 check 0 conversion.out empty empty conversion --threads

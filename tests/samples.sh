@@ -1,5 +1,6 @@
 #!/bin/sh
-# Replays each sample: the run of samples/NAME.lock must be samples/NAME.out, whose lines were derived by hand from docs/RULES.md.
+# Replays each sample: the run of samples/NAME.lock must be samples/NAME.out, whose lines were derived by hand from docs/RULES.md. And
+# checks that run, behind the script's header lines: it must be legal.
 # Usage: samples.sh PROGRAM
 set -eu
 program=$1
@@ -9,14 +10,17 @@ trap 'rm -rf "$work"' EXIT
 passed=0
 failed=0
 for script in "$samples"/*.lock; do
-    if "$program" "$script" > "$work/output" 2> "$work/errors" && [ ! -s "$work/errors" ] && cmp -s "${script%.lock}.out" "$work/output"
+    if "$program" "$script" > "$work/output" 2> "$work/errors" && [ ! -s "$work/errors" ] && cmp -s "${script%.lock}.out" "$work/output" \
+        && { sed -n '/^policy /p; /^limits /p' "$script"; cat "${script%.lock}.out"; } > "$work/journal" \
+        && "$program" --check "$work/journal" > "$work/told" 2>&1 && [ ! -s "$work/told" ]
     then
         passed=$((passed + 1))
     else
         failed=$((failed + 1))
-        echo "$script: another run than the one beside it:" >&2
+        echo "$script: another run than the one beside it, or it isn't legal:" >&2
         cat "$work/errors" >&2
         diff "${script%.lock}.out" "$work/output" >&2 || true
+        cat "$work/told" >&2 || true
     fi
 done
 echo "$passed passed, $failed failed"

@@ -74,15 +74,13 @@ fn flag<'a>(alloc: Global, name: &'a str, help: &'a str) -> Arg<'a>
 const VERSION: &str = "0.2.0";
 
 /// What the program does.
-const ABOUT: &str = "Replays a script of advisory lock requests (fcntl, OFD, flock): who is answered
-what, what is then held, and who still waits. No file of the machine is locked.";
+const ABOUT: &str = "Replays a script of advisory lock requests. No file of the machine is locked.";
 
-/// How a script is written, and what comes of it. With what clap puts before it, its first 10 lines fill a screen of 24.
+/// How a script is written, and what comes of it. With what clap puts before it, its first 11 lines fill a screen of 24.
 const GUIDE: &str = "Exit status:
-  0  the script was replayed, or what was checked is legal
+  0  the script was replayed, or what was checked is legal; 3  it is illegal
   1  FILE can't be opened, reading or writing failed, or no memory or thread
   2  the input or the command line is refused; --help, --version (on stderr)
-  3  what was checked is illegal
 
 Example:
   $ printf '1 open 0 rw\\n1 setlk 0 w set 0 100\\n' | lockreplay
@@ -152,9 +150,9 @@ Output:
                                               made it
 
 Check:
-  With --check an output is read, as a server too may print it: policy and limits
-  as in a script, then entries, and then all lines of a report or none. Blank
-  lines and comments are skipped. A line has 8192 bytes at most, all have 64 MiB.
+  With --check an output is read, as a server may print it too: header lines as
+  in a script, then entries, and then all lines of a report or none. Blank lines
+  and comments are skipped. A line has 8192 bytes at most, all have 64 MiB.
   Where it is legal, nothing is printed. Else the first line is told with which
   it is the front of no run, and what would stand there:
     line 2: 1#2 setlk 0 w set 0 100 | 1#2 ok expected
