@@ -171,11 +171,11 @@ opened_indexed (Err e) old new tickets waiters file entry none empty ok err know
     get_same : (other : ℕ) → get nat_cmp new other ≡ get nat_cmp old other
     get_same other = ap (λ (entries : List (ℕ × LockFile)). lookup (is_at (nat_cmp other)) entries) err
 
-pub none_from_test : (found : Option LockFile) → is_some found ≡ false → found ≡ None
+pub none_from_test : {X : Type 0} (found : Option X) → is_some found ≡ false → found ≡ None
 none_from_test None test = refl
 none_from_test (Some entry) test = absurd (let h : true ≡ false = test in cc)
 
-pub some_from_test : (found : Option LockFile) → is_some found ≡ true → (entry : LockFile) × (found ≡ Some entry)
+pub some_from_test : {X : Type 0} (found : Option X) → is_some found ≡ true → (entry : X) × (found ≡ Some entry)
 some_from_test None test = absurd (let h : false ≡ true = test in cc)
 some_from_test (Some entry) test = (entry, refl)
 

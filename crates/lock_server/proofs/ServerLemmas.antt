@@ -13,7 +13,7 @@ use Rattle.lock_server.specs.Settling.{IsSettled, IsWaitBlocked}
 use Rattle.lock_server.specs.States.{State, SameState, SettlesFile}
 use Rattle.lock_server.specs.Safety.{IsSafe, AreTicketsOnce}
 use Rattle.lock_server.specs.TableView.{table_state, table_policy}
-use Rattle.lock_server.specs.Calls.{FetchComesTo, SetsOn, Changes, Releases, ReleasesOn, IsRefused, SetComesTo, Suspends, IsSetHeldBack, byte_request, given_by}
+use Rattle.lock_server.specs.Calls.{FetchComesTo, SetsOn, Changes, Releases, ReleasesOn, IsRefused, SetComesTo, Suspends, IsSetHeldBack, byte_request, given_by, no_ticket}
 use Rattle.lock_server.proofs.JoinLemmas.{safe_joined}
 use Rattle.lock_server.proofs.SafeLemmas.{Moves, moves_given, moves_unset, safe_but, safe_fetched, safe_settled}
 use Rattle.lock_server.proofs.TakenLemmas.{tickets_once}
@@ -61,7 +61,7 @@ set_refused policy S file owner span (Some mode) held = inl (held, (refl, SameSt
 
 pub moves_set : (S : State) (file owner : ℕ) (span : Span) (mode : Option Mode) (B : State) → ¬ IsSetHeldBack (S.files file) owner span mode → SetsOn S file Bytes owner span mode B → Moves (given_by owner mode) S file B
 moves_set S file owner span None B free sets = moves_unset S file Bytes owner span B sets
-moves_set S file owner span (Some mode) B free sets = moves_given S file (byte_request 0 owner span mode false) B free sets
+moves_set S file owner span (Some mode) B free sets = moves_given S file (byte_request no_ticket owner span mode false) B free sets
 
 -- the server's fact after a change of one file that came to rest
 pub safe_rested : (old new : Table) (given : List ℕ) (B : State) (file : ℕ) → ∥ IsSafe (table_policy old) (table_state old) ∥₁ → table_policy new ≡ table_policy old → Moves given (table_state old) file B

@@ -19,6 +19,10 @@ use Rattle.lock_server.specs.Settling.{IsHeldBack, IsWaitBlocked}
 use Rattle.lock_server.specs.States.{State, SameState, IsPending, ChangesFile, SettlesFile}
 use Rattle.lock_server.specs.Deadlock.{ClosesCycle}
 
+-- the ticket of a request that doesn't wait, which is never told (this project's choice)
+abbrev pub no_ticket : ℕ
+no_ticket = 0
+
 -- a request for byte locks, as it would wait (POSIX.1-2017 fcntl, DESCRIPTION, F_SETLKW)
 abbrev pub byte_request : ℕ → ℕ → Span → Mode → Bool → Pending
 byte_request ticket owner span mode detect =
@@ -73,12 +77,12 @@ TestComesTo policy S file wanted answer T =
 -- a lock of another owner is in the way of a set; of an unlock none ever is (POSIX.1-2017 fcntl, DESCRIPTION, F_SETLK)
 abbrev pub IsSetHeldBack : FileState → ℕ → Span → Option Mode → Type 0
 IsSetHeldBack F owner span None = ⊥
-IsSetHeldBack F owner span (Some mode) = IsHeldBack F (byte_request 0 owner span mode false)
+IsSetHeldBack F owner span (Some mode) = IsHeldBack F (byte_request no_ticket owner span mode false)
 
 -- a set or an unlock of bytes; an unlock is never refused (POSIX.1-2017 fcntl, DESCRIPTION, F_SETLK)
 abbrev pub SetComesTo : Policy → State → ℕ → ℕ → Span → Option Mode → Answer → State → Type 0
 SetComesTo policy S file owner span None answer T = (answer ≡ Done) × Changes policy S file Bytes owner span None T
-SetComesTo policy S file owner span (Some mode) answer T = TestComesTo policy S file (byte_request 0 owner span mode false) answer T
+SetComesTo policy S file owner span (Some mode) answer T = TestComesTo policy S file (byte_request no_ticket owner span mode false) answer T
 
 -- the wait joins those on its file (POSIX.1-2017 fcntl, DESCRIPTION, F_SETLKW; flock(2))
 pub record Suspends (S : State) (file : ℕ) (wait : Pending) (T : State) : Type 0 where
@@ -146,7 +150,7 @@ FlockComesTo policy S file wanted (Some held) answer T =
 abbrev pub FlockOpComesTo : Policy → State → ℕ → ℕ → Option Mode → Answer → State → Type 0
 FlockOpComesTo policy S file owner None answer T = (answer ≡ Done) × Releases policy S file Whole owner T
 FlockOpComesTo policy S file owner (Some mode) answer T =
-    FlockComesTo policy S file (flock_request 0 owner mode) ((S.files file).flocks owner) answer T
+    FlockComesTo policy S file (flock_request no_ticket owner mode) ((S.files file).flocks owner) answer T
 
 -- flock that may wait, in the same way (flock(2))
 abbrev pub FlockWaitComesTo : Policy → State → ℕ → Pending → Option Mode → WaitAnswer → State → Type 0

@@ -1,6 +1,6 @@
 //! The lock server: each call is a change of the table, and then a settling of the file that changed.
 ghost use Rattle.std.specs.Prelude.{◌≡◌};
-ghost use Rattle.lock_server.specs.Calls.{byte_request as byte_request_of, flock_request as flock_request_of};
+ghost use Rattle.lock_server.specs.Calls.{byte_request as byte_request_of, flock_request as flock_request_of, no_ticket};
 ghost use Rattle.lock_server.specs.Safety.{IsSafe};
 ghost use Rattle.lock_server.specs.TableView.{table_state, table_policy};
 
@@ -12,6 +12,9 @@ use crate::{
 };
 use range_core::OFFMAX;
 use std::alloc::Global;
+
+/// The ticket of a request that doesn't wait, which is never told.
+const NO_TICKET: u64 = 0;
 
 /// The advisory locks of a file server: on files that are numbered by 64 bits (inodes), of owners that are (FUSE's `lock_owner`),
 /// with waits that are named by tickets. Files and owners come and go by need; a file without a lock and a wait takes no memory.
@@ -274,7 +277,7 @@ impl LockServer {
         match mode {
             Some(mode) => self
                 .table
-                .holds_back(file, &byte_request(0, owner, span, mode, false)),
+                .holds_back(file, &byte_request(NO_TICKET, owner, span, mode, false)),
             None => false,
         }
     }
@@ -309,11 +312,11 @@ impl LockServer {
     /// The second half where the request doesn't wait: it is tested, and set in the place that is kept.
     fn flock_or_refuse(&mut self, file: u64, owner: u64, mode: Mode) -> Answer
         requires { HasFlockPlace self.old.table file owner }
-        ensures comes_to { TestComesTo (policy_of self.old) (state_of self.old) file (flock_request_of 0 owner mode) result (state_of self.new) }
+        ensures comes_to { TestComesTo (policy_of self.old) (state_of self.old) file (flock_request_of no_ticket owner mode) result (state_of self.new) }
         ensures policy { policy_of self.new ≡ policy_of self.old }
         ensures openings { SameOpenings (through_of self.old) (through_of self.new) }
     {
-        let wanted = flock_request(0, owner, mode);
+        let wanted = flock_request(NO_TICKET, owner, mode);
         if self.table.holds_back(file, &wanted) {
             self.table.sweep(file);
             return Answer::Blocked;

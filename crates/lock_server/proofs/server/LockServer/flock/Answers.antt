@@ -1,7 +1,7 @@
 use Rattle.std.proofs.Common.{◌∙◌, sym, subst, Option}
 use Rattle.range_core.specs.declared.Mode.{Mode}
 use Rattle.wait_core.specs.declared.Policy.{Policy}
-use Rattle.lock_server.specs.Calls.{ConvertsFrom, FlockOpComesTo, TestComesTo, flock_request}
+use Rattle.lock_server.specs.Calls.{ConvertsFrom, FlockOpComesTo, TestComesTo, flock_request, no_ticket}
 use Rattle.lock_server.specs.ServerView.{policy_of, state_of}
 use Rattle.lock_server.specs.TableView.{table_state}
 use Rattle.lock_server.proofs.FlockLemmas.{apart_by_test, flocks_by_halves}
@@ -18,7 +18,7 @@ returns-clause-ok c =
     let P = table_state c.place_flock.new.self in
     let M = state_of c.convert.new.self in
     let T = state_of c.flock_or_refuse.new.self in
-    let wanted = flock_request 0 c.args.owner c.in-Some.mode in
+    let wanted = flock_request no_ticket c.args.owner c.in-Some.mode in
     let held = c.flock_mode-held.result in
     let differs = apart_by_test held c.in-Some.mode c.eq.result c.eq.ensures c.if-eq.false in
     let converts = subst (λ (p : Policy). ConvertsFrom p P c.args.file c.args.owner held M) c.place_flock.ensures.policy c.convert.ensures.converts in

@@ -1,6 +1,6 @@
 use Rattle.std.proofs.Common.{◌≡◌, ◌∙◌, sym, subst, false, true}
 use Rattle.lock_server.specs.declared.Pending.{Pending}
-use Rattle.lock_server.specs.Calls.{flock_request}
+use Rattle.lock_server.specs.Calls.{flock_request, no_ticket}
 use Rattle.lock_server.specs.Settling.{IsHeldBack}
 use Rattle.lock_server.specs.TableView.{table_policy, table_state}
 use Rattle.lock_server.proofs.SafeLemmas.{moves_given}
@@ -10,7 +10,7 @@ use Rattle.lock_server.proofs.server.LockServer.flock_or_refuse.Goals as goal
 pub invariant_of-self-2 : goal.invariant_of-self-2
 invariant_of-self-2 c =
     let table = c.args.self.now.table in
-    let wanted = flock_request 0 c.args.owner c.args.mode in
+    let wanted = flock_request no_ticket c.args.owner c.args.mode in
     let set = c.set_flock.new.self in
     let free : ¬ IsHeldBack ((table_state table).files c.args.file) wanted =
     λ held. (let is = c.holds_back.ensures.1 (subst (λ (w : Pending). IsHeldBack ((table_state table).files c.args.file) w) (sym c.flock_request-wanted.ensures) held) in

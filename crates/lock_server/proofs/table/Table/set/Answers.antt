@@ -1,4 +1,4 @@
-use Rattle.std.proofs.Common.{ℕ, ◌≡◌, sym, subst, true, false, Option, Some, None, refl}
+use Rattle.std.proofs.Common.{◌≡◌, ◌∙◌, sym, subst, true, false, Option, Some, None}
 use Rattle.std.specs.Prelude.{is_some}
 use Rattle.std.specs.BTreeMap.{get}
 use Rattle.std.specs.Ordering.{nat_cmp}
@@ -11,14 +11,6 @@ use Rattle.lock_server.proofs.EntryMoves.{none_from_test, some_from_test, unlock
 use Rattle.lock_server.proofs.table.Table.set.Goals.{else-is_none-via-then-is_none+else-not-contains_key, else-is_none-via-else-is_none}
 use Rattle.lock_server.proofs.table.Table.set.Goals as goal
 
-no_mode : (mode : Option Mode) → is_some mode ≡ false → mode ≡ None
-no_mode None test = refl
-no_mode (Some mode) test = absurd (false≢true (sym test))
-
-some_mode : (mode : Option Mode) → is_some mode ≡ true → mode ≡ None → ⊥
-some_mode None test none = false≢true test
-some_mode (Some mode) test none = let bad : Some mode ≡ None = none in cc
-
 pub returns-then-not-contains_key-clause-ok : goal.returns-then-not-contains_key-clause-ok
 unfolding table_state entry_of
 returns-then-not-contains_key-clause-ok c =
@@ -26,7 +18,7 @@ returns-then-not-contains_key-clause-ok c =
     let found = get nat_cmp table.files c.args.file in
     let test : is_some found ≡ false = sym c.if-not-contains_key.ensures in
     let unlock : is_some c.args.mode ≡ false = c.if-is_none.ensures in
-    subst (λ (mode : Option Mode). SetsOn (table_state table) c.args.file Bytes c.args.owner c.args.span mode (table_state table)) (sym (no_mode c.args.mode unlock))
+    subst (λ (mode : Option Mode). SetsOn (table_state table) c.args.file Bytes c.args.owner c.args.span mode (table_state table)) (sym (none_from_test c.args.mode unlock))
     (unlocks_nothing table.files table.tickets table.waiters c.args.file c.args.owner c.args.span table.indexed (none_from_test found test))
 
 pub returns-in_err-open-clause-unlock : goal.returns-in_err-open-clause-unlock
@@ -40,6 +32,6 @@ returns-in_err-open-clause-unlock c unlock whole =
           let entry = some_from_test found test in record { entry = entry.0; is = entry.1 }
       | else-is_none-via-else-is_none w ↦
           let test : is_some c.args.mode ≡ true = w.if-is_none.ensures in
-          absurd (some_mode c.args.mode test unlock)
+          let mode = some_from_test c.args.mode test in absurd (let none : None ≡ Some mode.0 = sym unlock ∙ mode.1 in cc)
     ] in
     absurd (false≢true (c.in_err-open.ensures.there there))
