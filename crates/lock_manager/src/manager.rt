@@ -9,6 +9,7 @@ ghost use Rattle.lock_manager.specs.MachineView.{machine_rules, machine_locks, m
 
 use crate::machine::Machine;
 use crate::{InTheWay, Note, ProcState, Request, Rules};
+use fd_table::Look;
 use lock_book::Held;
 use range_core::Memory;
 use std::alloc::Global;
@@ -23,7 +24,7 @@ pub struct Manager {
 }
 
 impl Manager {
-    ghost use Rattle.fd_table.specs.Descriptors.{process_limit};
+    ghost use Rattle.fd_table.specs.Descriptors.{look_at, process_limit};
     ghost use Rattle.lock_book.specs.Changes.{mode_in, flock_mode_in};
     ghost use Rattle.lock_book.specs.Reports.{IsHeldReport};
     ghost use Rattle.lock_manager.specs.State.{State, locks_held, opening_state};
@@ -108,6 +109,14 @@ impl Manager {
             (IsFirstInTheWay (rules_of self.now).policy (locks_held S) S.waits wait.now)) }
     {
         self.machine.first_in_the_way(wait)
+    }
+
+    /// What the descriptor of process `p` refers to: its open file description, the file, the access mode, the offset and the size of
+    /// the file. `None` where it isn't open (POSIX.1-2017 open, DESCRIPTION; fork, "own copy of the parent's file descriptors").
+    pub fn look(&self, p: u8, fd: u32) -> Option<Look>
+        ensures { (S : State) → StandsFor self.now S → result ≡ look_at S.descriptors p fd }
+    {
+        self.machine.look(p, fd)
     }
 
     /// How many processes there are, numbered from 1.

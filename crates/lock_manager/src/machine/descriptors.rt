@@ -1,15 +1,24 @@
 //! The calls on descriptors.
 ghost use Rattle.std.specs.Prelude.{◌≡◌, IfOk, OnErr};
-ghost use Rattle.lock_manager.specs.MachineView.{SameMachine, SameRules, Answers, machine_waits, machine_state};
+ghost use Rattle.fd_table.specs.Descriptors.{look_at};
+ghost use Rattle.lock_manager.specs.State.{State};
+ghost use Rattle.lock_manager.specs.MachineView.{SameMachine, SameRules, Shows, Answers, machine_waits, machine_state};
 
 use super::Machine;
 use crate::answers::refusal;
 use crate::releasing::release;
 use crate::{ProcState, Reply, Request};
-use fd_table::Access;
+use fd_table::{Access, Look};
 use range_core::Memory;
 
 impl Machine {
+    /// What the descriptor refers to, if it is open.
+    pub fn look(&self, p: u8, fd: u32) -> Option<Look>
+        ensures { (S : State) → Shows self.now S → result ≡ look_at S.descriptors p fd }
+    {
+        self.tables.look(p, fd)
+    }
+
     /// open (POSIX.1-2017 open).
     pub(super) fn open_file(&mut self, p: u8, file: u8, access: Access) -> Result<Reply, Memory>
         requires { machine_state self.old p ≡ ProcState.Live }

@@ -1,6 +1,6 @@
 //! What a request asks for, and what is the first in its way.
 use super::{command, held_by, replies_in_turn, set};
-use fd_table::Access;
+use fd_table::{Access, Look};
 use lock_book::Owner;
 use lock_manager::{InTheWay, LkCmd, Reply, Request};
 use range_core::{Kind, Mode, Span, Whence};
@@ -57,5 +57,36 @@ fn requests_that_ask_for_no_lock(rt: HostRuntime) -> Result<(), Fail> {
     assert_eq!(rt; manager.wanted(1, 2, set(0, Kind::Unlock, 0, 1)), None);
     assert_eq!(rt; manager.wanted(1, 2, set(1, Kind::Read, 0, 1)), None);
     assert_eq!(rt; manager.wanted(1, 2, open), None);
+    Ok(())
+}
+
+/// A descriptor shows the description that it shares, the file's size and the offset, and one that was closed shows nothing.
+#[test]
+fn what_descriptors_refer_to(rt: HostRuntime) -> Result<(), Fail> {
+    let open = Request::OpenFile {
+        file: 3,
+        access: Access::R,
+    };
+    let turns = [
+        (1, open, Reply::Fd(0)),
+        (1, open, Reply::Fd(1)),
+        (1, Request::Dup { fd: 1 }, Reply::Fd(2)),
+        (1, Request::Seek { fd: 2, offset: 7 }, Reply::Ok),
+        (1, Request::Resize { fd: 0, size: 100 }, Reply::Ok),
+        (1, Request::Fork { child: 2 }, Reply::Ok),
+        (2, Request::CloseFd { fd: 1 }, Reply::Ok),
+    ];
+    let manager = replies_in_turn(&rt, rt.alloc(), &turns)?;
+    let second = Look {
+        file: 3,
+        desc: 2,
+        access: Access::R,
+        offset: 7,
+        size: 100,
+    };
+    assert_eq!(rt; manager.look(1, 1), Some(second));
+    assert_eq!(rt; manager.look(2, 2), Some(second));
+    assert_eq!(rt; manager.look(2, 1), None);
+    assert_eq!(rt; manager.look(3, 0), None);
     Ok(())
 }
