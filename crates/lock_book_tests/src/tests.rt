@@ -1,4 +1,4 @@
-//! Books of many owners, runs and rooms, beyond any plausible cap, and what the worked rules say of them.
+//! Books of many owners, and rooms, beyond any plausible cap; and what a refused growth leaves.
 ghost use Rattle.std.specs.Prelude.{◌≡◌};
 
 use lock_book::{Blocker, Book, Held, Owner};
@@ -34,38 +34,6 @@ fn flock_line(description: u64, mode: Mode) -> Held {
     }
 }
 
-/// Of three readers the one on the least byte is told, and of two on one byte the least owner, with its whole run.
-#[test]
-fn tells_the_first_blocker(rt: HostRuntime) -> Result<(), Fail> {
-    let mut book = Book::new(rt.alloc());
-    book.set(Owner::Process(4), bytes(5, 14), Some(Mode::Read))?;
-    book.set(Owner::Process(3), bytes(8, 11), Some(Mode::Read))?;
-    book.set(Owner::Process(2), bytes(8, 107), Some(Mode::Read))?;
-    let asker = Owner::Process(1);
-    for (span, number, first, last) in [
-        (bytes(8, OFFMAX), 2, 8, 107),
-        (bytes(0, OFFMAX), 4, 5, 14),
-        (bytes(15, 15), 2, 8, 107),
-    ] {
-        let blocker = Blocker {
-            owner: Owner::Process(number),
-            mode: Mode::Read,
-            span: bytes(first, last),
-        };
-        assert_eq!(rt; book.first_blocker(asker, span, Mode::Write), Some(blocker));
-        assert!(rt; book.blocked(asker, span, Mode::Write));
-        assert!(rt; !book.blocked(asker, span, Mode::Read), "readers share");
-    }
-    assert_eq!(rt; book.first_blocker(asker, bytes(0, 4), Mode::Write), None);
-    assert!(rt; book.process_blocks(3, asker, bytes(0, 8), Mode::Write));
-    assert!(rt; !book.process_blocks(3, asker, bytes(0, 7), Mode::Write));
-    assert!(rt; !book.process_blocks(3, Owner::Process(3), bytes(0, 8), Mode::Write));
-    book.release_owner(Owner::Process(2));
-    assert!(rt; !book.blocked(asker, bytes(15, 15), Mode::Write));
-    assert!(rt; book.blocked(asker, bytes(5, 5), Mode::Write));
-    Ok(())
-}
-
 /// Of all processes at once it is told which ones have a lock in the way: not the asker itself, and no description.
 #[test]
 fn tells_which_processes_block(rt: HostRuntime) -> Result<(), Fail> {
@@ -88,78 +56,6 @@ fn tells_which_processes_block(rt: HostRuntime) -> Result<(), Fail> {
     for (number, blocks) in sharing.iter().enumerate() {
         assert_eq!(rt; *blocks, number == 9, "process {number}");
     }
-    Ok(())
-}
-
-/// A traditional and an OFD lock conflict, also from one process, and an owner's own lock doesn't block it.
-#[test]
-fn both_kinds_of_owner_meet(rt: HostRuntime) -> Result<(), Fail> {
-    let mut book = Book::new(rt.alloc());
-    let process = Owner::Process(1);
-    let description = Owner::Description(1);
-    book.set(process, bytes(0, 9), Some(Mode::Write))?;
-    let blocker = Blocker {
-        owner: process,
-        mode: Mode::Write,
-        span: bytes(0, 9),
-    };
-    assert_eq!(rt;
-        book.first_blocker(description, bytes(5, 5), Mode::Read),
-        Some(blocker)
-    );
-    book.set(description, bytes(20, 24), Some(Mode::Read))?;
-    assert!(rt; book.blocked(process, bytes(0, OFFMAX), Mode::Write));
-    assert!(rt; !book.blocked(process, bytes(0, 19), Mode::Write));
-    assert!(rt; !book.blocked(process, bytes(20, 24), Mode::Read));
-    assert!(rt; !book.process_blocks(1, process, bytes(0, 9), Mode::Write));
-    assert!(rt; book.process_blocks(1, description, bytes(0, 9), Mode::Write));
-    Ok(())
-}
-
-/// `LOCK_SH` shares with `LOCK_SH` and `LOCK_EX` excludes every other description; byte locks don't matter.
-#[test]
-fn flock_locks_keep_apart(rt: HostRuntime) -> Result<(), Fail> {
-    let mut book = Book::new(rt.alloc());
-    book.set(Owner::Description(9), bytes(0, OFFMAX), Some(Mode::Write))?;
-    book.flock_set(1, Some(Mode::Read))?;
-    book.flock_set(2, Some(Mode::Read))?;
-    assert_eq!(rt; book.flock_mode(1), Some(Mode::Read));
-    assert_eq!(rt; book.flock_mode(9), None);
-    assert!(rt; !book.flock_blocked(3, Mode::Read));
-    assert!(rt; book.flock_blocked(1, Mode::Write));
-    book.flock_set(2, None)?;
-    assert!(rt; !book.flock_blocked(1, Mode::Write));
-    book.flock_set(1, Some(Mode::Write))?;
-    assert!(rt; book.flock_blocked(2, Mode::Read));
-    book.release_flock(1);
-    assert!(rt; !book.flock_blocked(2, Mode::Write));
-    Ok(())
-}
-
-/// Processes come before descriptions, runs are the largest and in order, and flock locks stand last.
-#[test]
-fn reports_what_is_held(rt: HostRuntime) -> Result<(), Fail> {
-    let mut book = Book::new(rt.alloc());
-    book.flock_set(7, Some(Mode::Write))?;
-    book.flock_set(2, Some(Mode::Read))?;
-    book.flock_reserve(5)?;
-    book.set(Owner::Description(1), bytes(9, OFFMAX), Some(Mode::Read))?;
-    book.set(Owner::Process(2), bytes(0, 99), Some(Mode::Write))?;
-    book.set(Owner::Process(2), bytes(40, 59), Some(Mode::Read))?;
-    book.set(Owner::Process(2), bytes(100, 109), Some(Mode::Write))?;
-    book.set(Owner::Process(1), bytes(0, OFFMAX), Some(Mode::Read))?;
-    book.set(Owner::Process(1), bytes(5, 5), None)?;
-    let wanted = [
-        byte_line(Owner::Process(1), Mode::Read, 0, 4),
-        byte_line(Owner::Process(1), Mode::Read, 6, OFFMAX),
-        byte_line(Owner::Process(2), Mode::Write, 0, 39),
-        byte_line(Owner::Process(2), Mode::Read, 40, 59),
-        byte_line(Owner::Process(2), Mode::Write, 60, 109),
-        byte_line(Owner::Description(1), Mode::Read, 9, OFFMAX),
-        flock_line(2, Mode::Read),
-        flock_line(7, Mode::Write),
-    ];
-    assert_eq!(rt; book.held(3)?.as_slice(), wanted.as_slice());
     Ok(())
 }
 
@@ -188,29 +84,6 @@ fn holds_room_and_places(rt: HostRuntime) -> Result<(), Fail> {
     assert_eq!(rt; book.flock_mode(1), Some(Mode::Read));
     book.release_flock(1);
     assert!(rt; !book.flock_room(1));
-    Ok(())
-}
-
-/// A file without a lock is empty, whatever room is held, and an owner that is cleared keeps its room.
-#[test]
-fn is_empty_without_locks(rt: HostRuntime) -> Result<(), Fail> {
-    let mut book = Book::new(rt.alloc());
-    let owner = Owner::Description(7);
-    assert!(rt; book.is_empty());
-    book.reserve(owner, 3)?;
-    book.flock_reserve(7)?;
-    assert!(rt; book.is_empty());
-
-    book.set(owner, bytes(0, 4), Some(Mode::Read))?;
-    book.set(Owner::Process(2), bytes(3, 4), Some(Mode::Read))?;
-    book.clear_owner(owner);
-    assert!(rt; book.room(owner) >= 3);
-    assert!(rt; !book.is_empty());
-    book.clear_owner(Owner::Process(2));
-    assert!(rt; book.is_empty());
-
-    book.flock_set(7, Some(Mode::Read))?;
-    assert!(rt; !book.is_empty());
     Ok(())
 }
 
