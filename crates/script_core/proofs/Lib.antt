@@ -1,6 +1,7 @@
 pub mod NumberLemmas
 pub mod LineLemmas
 pub mod FirstWordsLemmas
+pub mod WordLemmas
 pub mod ReadingLemmas
 pub mod RoundTripLemmas
 pub mod TextLemmas

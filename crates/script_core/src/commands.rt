@@ -20,7 +20,15 @@ use lock_manager::{LkCmd, Lock, Request};
 pub fn read_command(limits: Limits, name: &str, arguments: &[&str]) -> Result<Request, Cause>
     ensures { RequestGives limits (name.now ∷ texts arguments.now) result }
 {
+    // Most requests are for locks, and the words are compared in turn.
     match name {
+        "getlk" => read_lock(LkCmd::GetLk, arguments),
+        "setlk" => read_lock(LkCmd::SetLk, arguments),
+        "setlkw" => read_lock(LkCmd::SetLkW, arguments),
+        "ogetlk" => read_lock(LkCmd::OGetLk, arguments),
+        "osetlk" => read_lock(LkCmd::OSetLk, arguments),
+        "osetlkw" => read_lock(LkCmd::OSetLkW, arguments),
+        "flock" => read_flock(arguments),
         "open" => read_open(arguments),
         "dup" => read_descriptor_alone(arguments).map(|fd| Request::Dup { fd }),
         "dup2" => read_dup_to(arguments),
@@ -33,13 +41,6 @@ pub fn read_command(limits: Limits, name: &str, arguments: &[&str]) -> Result<Re
             let (fd, size) = read_descriptor_and_number(arguments)?;
             Ok(Request::Resize { fd, size })
         }
-        "getlk" => read_lock(LkCmd::GetLk, arguments),
-        "setlk" => read_lock(LkCmd::SetLk, arguments),
-        "setlkw" => read_lock(LkCmd::SetLkW, arguments),
-        "ogetlk" => read_lock(LkCmd::OGetLk, arguments),
-        "osetlk" => read_lock(LkCmd::OSetLk, arguments),
-        "osetlkw" => read_lock(LkCmd::OSetLkW, arguments),
-        "flock" => read_flock(arguments),
         "fork" => read_process_alone(limits, arguments).map(|child| Request::Fork { child }),
         "signal" => read_process_alone(limits, arguments).map(|target| Request::Signal { target }),
         "kill" => read_process_alone(limits, arguments).map(|target| Request::Kill { target }),

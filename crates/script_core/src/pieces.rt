@@ -42,6 +42,10 @@ pub fn push_first_number(text: &mut Vec<u8>, n: u64) -> Result<(), Memory>
 pub fn push_number(text: &mut Vec<u8>, before: u8, n: u64) -> Result<(), Memory>
     ensures { MatchResult result (λ unit. text.new.items ≡ text.old.items ++ before ∷ decimal n) (λ error. Extends text.old.items text.new.items) }
 {
+    // Most numbers are processes and descriptors.
+    if n < 10 {
+        return push_bytes(text, &[before, b'0' + n as u8]);
+    }
     let mut number = [0; NUMBER_MAX];
     let start = write_digits(n, &mut number, NUMBER_MAX) - 1;
     number[start] = before;

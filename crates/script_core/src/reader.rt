@@ -132,14 +132,14 @@ impl Reader {
     fn says_policy(&self, first: &str) -> bool
         ensures { result ≡ says_policy self.now first.now }
     {
-        first == "policy" && self.policy.is_none() && self.arrivals.is_empty()
+        self.arrivals.is_empty() && self.policy.is_none() && first == "policy"
     }
 
     /// Whether a line of this first word is the one that says the limits: it stands before all requests, and once.
     fn says_limits(&self, first: &str) -> bool
         ensures { result ≡ says_limits self.now first.now }
     {
-        first == "limits" && self.limits.is_none() && self.arrivals.is_empty()
+        self.arrivals.is_empty() && self.limits.is_none() && first == "limits"
     }
 
     /// The limits that hold for the next line.

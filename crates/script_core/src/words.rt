@@ -1,5 +1,5 @@
 //! The words of a line.
-ghost use Rattle.std.specs.Prelude.{◌≡◌, IsTrue, IsFalse, MatchOption, take};
+ghost use Rattle.std.specs.Prelude.{ℕ, ◌≡◌, ◌==◌, if◌then◌else◌, List, [], ◌∷◌, ◌++◌, IsTrue, IsFalse, MatchOption, length, take};
 ghost use Rattle.script_core.specs.Words.{texts};
 ghost use Rattle.script_core.specs.Words as spec;
 
@@ -49,12 +49,25 @@ pub fn is_comment(line: &str) -> bool
 pub fn first_words(line: &str) -> ArrayVec<&str, WORDS_MAX>
     ensures { texts result.items ≡ take WORDS_MAX (spec.words_of line.now) }
 {
+    let bytes = line.as_bytes();
     let mut words = ArrayVec::new();
-    for word in line.split(' ').filter(|word| !word.is_empty()) {
-        if words.is_full() {
-            return words;
+    let mut start = 0;
+    for at in 0..bytes.len() {
+        if bytes[at] == b' ' {
+            push_word(&mut words, &line[start..at]);
+            start = at + 1;
         }
-        words.push(word);
     }
+    push_word(&mut words, &line[start..]);
     words
+}
+
+/// Appends what stands between two spaces, where that is a word and there is room for one more.
+fn push_word<'a>(words: &mut ArrayVec<&'a str, WORDS_MAX>, piece: &'a str)
+    ensures { (before : List (List ℕ)) → texts words.old.items ≡ take WORDS_MAX before →
+        texts words.new.items ≡ take WORDS_MAX (if length piece.now == 0 then before else before ++ piece.now ∷ []) }
+{
+    if !piece.is_empty() && !words.is_full() {
+        words.push(piece);
+    }
 }

@@ -1,27 +1,35 @@
-use Rattle.std.proofs.Common.{◌≡◌, ◌∙◌, ◌≤◌, length, take, sym, ap, arith, lit<, rules, tests}
-use Rattle.std.proofs.lemmas.Bool.{eqb-true}
-use Rattle.std.proofs.lemmas.List.{take_all}
-use Rattle.std.proofs.lemmas.Iterator.Consumers.{YieldsList-at, YieldsList-from_filter, YieldsList-so_far, YieldsList-end}
-use Rattle.std.proofs.lemmas.Iterator.Splits.{YieldsList-from_str_split}
-use Rattle.script_core.specs.Words.{texts, words_of}
+use Rattle.std.proofs.Common.{◌≡◌, length, arith, ap}
+use Rattle.script_core.specs.Words.{texts}
+use Rattle.script_core.proofs.WordLemmas.{reached_byte, reached_space, reached_end}
+use Rattle.script_core.proofs.words.first_words.Goals.{then-bytes-at-eq32, else-bytes-at-eq32}
 use Rattle.script_core.proofs.words.first_words.Goals as goal
 
-pub returns-then-is_full : goal.returns-then-is_full
-returns-then-is_full c =
+pub range-requires-clause-start_boundary : goal.range-requires-clause-start_boundary
+range-requires-clause-start_boundary c = c.loop-at.invariant.cut
+
+pub range_from-requires : goal.range_from-requires
+range_from-requires c = c.loop-at.invariant.cut
+
+pub loop-at-preserved : goal.loop-at-preserved
+loop-at-preserved c =
     let line = c.args.line.now in
-    let pieces = YieldsList-from_str_split 32 line (lit< tt) c.split.ensures.text c.split.ensures.has_more c.split.ensures.pattern in
-    let words = YieldsList-from_filter _ _ (YieldsList-at c.filter-word-items.ensures.source pieces) c.filter-word-items.ensures.closure (λ x b q k. search (rules, tests)) in
-    let so_far = YieldsList-so_far (YieldsList-at c.into_iter-word-iterator.ensures.into_iter_gives words) c.loop-word.yielded _ c.loop-word.yielded_by in
-    let taken = c.loop-word.invariant.taken in
-    let full : length c.loop-word.yielded ≡ 9 = ap length (sym taken) ∙ eqb-true _ _ (sym c.is_full.ensures.value ∙ c.if-is_full.true) in
-    ap texts taken ∙ so_far ∙ ap (λ n. take n (words_of line)) full
+    let words = texts c.loop-at.words.items in
+    let start = c.loop-at.start in
+    let at = c.loop-at.at in
+    let bytes = c.as_bytes-bytes.ensures.value in
+    elim c.if-bytes-at-eq32.branch [
+      | then-bytes-at-eq32 w ↦
+          rw (w.words-is, w.start-is)
+          (reached_space line words (texts w.push_word.new.words.items) start at c.utf8.line (rw bytes at c.loop-at-test.true) (rw bytes at w.if-bytes-at-eq32.true)
+          c.loop-at.invariant (rw w.range.ensures.value at w.push_word.ensures))
+      | else-bytes-at-eq32 w ↦
+          rw (w.words-is, w.start-is) (reached_byte line words start at (rw bytes at w.if-bytes-at-eq32.false) c.loop-at.invariant)
+    ]
 
 pub returns : goal.returns
 returns c =
     let line = c.args.line.now in
-    let pieces = YieldsList-from_str_split 32 line (lit< tt) c.split.ensures.text c.split.ensures.has_more c.split.ensures.pattern in
-    let words = YieldsList-from_filter _ _ (YieldsList-at c.filter-word-items.ensures.source pieces) c.filter-word-items.ensures.closure (λ x b q k. search (rules, tests)) in
-    let all = YieldsList-end (YieldsList-at c.into_iter-word-iterator.ensures.into_iter_gives words) c.loop-word.yielded _ c.loop-word.yielded_by _ _ c.in-None.is c.next.ensures.steps in
-    let taken = c.loop-word.invariant.taken in
-    let few : length (words_of line) ≤ 9 = (let many : length c.loop-word.yielded ≡ length (words_of line) = all.1 in let same : length c.loop-word.words.items ≡ length c.loop-word.yielded = ap length taken in omega (arith, c.loop-word.invariant.few)) in
-    ap texts taken ∙ all.0 ∙ sym (take_all 9 (words_of line) few)
+    let long : length c.as_bytes-bytes.result.now ≡ length line = ap length c.as_bytes-bytes.ensures.value in
+    let all : c.loop-at.at ≡ length line = omega (arith, long, c.loop-at-test.false, c.loop-at.auto.at-end) in
+    reached_end line (texts c.loop-at.words.items) (texts c.push_word-2.new.words.items) c.loop-at.start c.loop-at.at all c.loop-at.invariant
+    (rw c.range_from.ensures.value at c.push_word-2.ensures)

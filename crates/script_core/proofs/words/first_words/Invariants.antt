@@ -1,5 +1,6 @@
-use Rattle.std.proofs.Common.{◌≡◌, ◌≤◌, length}
+use Rattle.script_core.specs.Words.{texts}
+use Rattle.script_core.proofs.WordLemmas.{Reached}
 use Rattle.script_core.proofs.words.first_words.Given as goal
 
-abbrev pub invariant-loop-word : goal.invariant-loop-word
-invariant-loop-word l = record { taken : l.words.items ≡ l.yielded; few : length l.words.items ≤ 9 }
+abbrev pub invariant-loop-at : goal.invariant-loop-at
+invariant-loop-at l = Reached l.line (texts l.words.items) l.start l.at
