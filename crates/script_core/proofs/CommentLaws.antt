@@ -1,5 +1,5 @@
 -- An explained run without the lines that begin with `#` is the run: for `explanations_are_comments`.
-use Rattle.std.proofs.Common.{ℕ, zero, suc, ◌≡◌, ◌+◌, ◌-◌, ◌<◌, ◌≤◌, ◌==◌, ◌/◌, ◌%◌, Bool, true, false, not, nat_lt, ◌&&◌, cond, Option, Some, None, List, [], ◌∷◌, ◌++◌, length, filter, flat_map, codes, decimal, ℤ, pos, negsuc, refl, sym, ap, subst, ◌∙◌, arith, append_assoc, append-nil, inl, inr}
+use Rattle.std.proofs.Common.{ℕ, zero, suc, ◌≡◌, ◌+◌, ◌<◌, ◌==◌, ◌/◌, ◌%◌, Bool, true, false, not, ◌&&◌, cond, Option, Some, None, List, [], ◌∷◌, ◌++◌, length, filter, flat_map, codes, decimal, ℤ, pos, negsuc, refl, sym, ap, subst, ◌∙◌, arith, append_assoc, append-nil, inl, inr}
 use Rattle.std.specs.List.{list_all, list_any, slice_split, join_with_byte}
 use Rattle.std.specs.Fmt.{signed_decimal}
 use Rattle.std.specs.Fmt.{digits, digits_onto, digit_glyph}
@@ -22,7 +22,6 @@ use Rattle.wait_core.specs.declared.Family.{Family}
 use Rattle.wait_core.specs.declared.Family.TheVariants.{Bytes, Whole}
 use Rattle.wait_core.specs.declared.Wait.{Wait}
 use Rattle.lock_manager.specs.declared.request.Rules.{Rules}
-use Rattle.lock_manager.specs.declared.request.Lock.{Lock}
 use Rattle.lock_manager.specs.declared.request.LkCmd.{LkCmd}
 use Rattle.lock_manager.specs.declared.request.LkCmd.TheVariants.{GetLk, SetLk, SetLkW, OGetLk, OSetLk, OSetLkW}
 use Rattle.lock_manager.specs.declared.request.FlockOp.{FlockOp}
@@ -47,8 +46,10 @@ use Rattle.script_core.specs.Words.{lines_of, without_empty_end}
 use Rattle.script_core.specs.RequestText.{access_word, mode_word, kind_word, whence_word, op_word, lock_command_word, pid_words, nb_words, lock_words, request_words, request_text}
 use Rattle.script_core.specs.EntryText.{error_name, reply_words, reply_text, tag, note_text, entry_text, entry_line}
 use Rattle.script_core.specs.ReportText.{owner_text, flock_word, byte_lock_text, flock_text, held_text, held_line, wanted_text, wait_line, state_word, counts_text, process_line, is_reported, reported_line, process_lines, line_of, IsReport}
-use Rattle.script_core.specs.Output.{IsOutput, processes_in}
-use Rattle.script_core.specs.Explaining.{comment, in_the_way_line, obstacle_line, is_same_place, word_of_loss, loss_line, loss_lines, Explains, ExplainsRun, more_text, never_born_line, unborn_line, unborn_lines, is_comment_line, without_comments, IsExplained, ExplanationsAreComments}
+use Rattle.script_core.specs.Output.{processes_in}
+use Rattle.script_core.specs.declared.deadlock.Link.{Link}
+use Rattle.script_core.specs.Deadlocks.{step_text, first_step_text, next_step_text}
+use Rattle.script_core.specs.Explaining.{comment, obstacle_line, deadlock_line, is_same_place, word_of_loss, loss_line, loss_lines, Explains, ExplainsRun, more_text, never_born_line, unborn_line, unborn_lines, is_comment_line, without_comments, ExplanationsAreComments}
 
 -- no byte ends a line
 abbrev goes_on : ℕ → Bool
@@ -448,6 +449,39 @@ comment_obstacle event None = comment_none
 comment_obstacle event (Some (obstacles.Lock held)) = comment_behind event.p event.n (codes "blocked by ") (held_text held) refl (in_held held)
 comment_obstacle event (Some (obstacles.Wait wait)) = comment_behind event.p event.n (codes "behind ") (wait_text wait) refl (in_wait wait)
 
+-- a step of a cycle
+in_what : (step : InTheWay) → InLine (step_text step)
+in_what (obstacles.Lock held) = in_held held
+in_what (obstacles.Wait wait) = in_wait wait
+
+in_first : (link : Link) → InLine (first_step_text link)
+in_first link =
+    let process = codes "would wait for " ++ decimal link.process in
+    both (process ++ codes " (" ++ step_text link.step) (codes ")")
+    (both (process ++ codes " (") (step_text link.step) (both process (codes " (") (both (codes "would wait for ") (decimal link.process) refl (number link.process)) refl) (in_what link.step)) refl
+
+in_next : (link : Link) → InLine (next_step_text link)
+unfolding next_step_text
+in_next link =
+    let process = codes ", which waits for " ++ decimal link.process in
+    let request = process ++ codes " (" ++ tag link.wait.p link.wait.n in
+    both (request ++ codes ", " ++ step_text link.step) (codes ")")
+    (both (request ++ codes ", ") (step_text link.step)
+    (both request (codes ", ")
+    (both (process ++ codes " (") (tag link.wait.p link.wait.n) (both process (codes " (") (both (codes ", which waits for ") (decimal link.process) refl (number link.process)) refl)
+    (in_tag link.wait.p link.wait.n)) refl)
+    (in_what link.step)) refl
+
+in_nexts : (links : List Link) → InLine (flat_map next_step_text links)
+in_nexts [] = refl
+in_nexts (link ∷ links) = both (next_step_text link) (flat_map next_step_text links) (in_next link) (in_nexts links)
+
+comment_deadlock : (event : Event) (links : List Link) → IsComment (deadlock_line event links)
+comment_deadlock event [] = comment_none
+comment_deadlock event (first ∷ rest) =
+    is_comment event.p event.n (first_step_text first ++ flat_map next_step_text rest)
+    (both (first_step_text first) (flat_map next_step_text rest) (in_first first) (in_nexts rest))
+
 comment_loss : (event : Event) (word : List ℕ) (after : List Held) (held : Held) → InLine word → IsComment (loss_line event word after held)
 comment_loss event word after held is = by_case (list_any (is_same_place held) after)
   where
@@ -477,8 +511,10 @@ comment_losses event (Kill target) before after = losses_as event (codes "releas
 comment_own : (rules : Rules) (S : State) (event : Event) (T : State) (own : List ℕ) → Explains rules S event T own → IsComment own
 comment_own rules S event T own h =
     subst IsComment (sym h.is)
+    (comment_both (loss_lines event (word_of_loss event.request) h.before h.after ++ obstacle_line event h.obstacle) (deadlock_line event h.links)
     (comment_both (loss_lines event (word_of_loss event.request) h.before h.after) (obstacle_line event h.obstacle)
     (comment_losses event event.request h.before h.after) (comment_obstacle event h.obstacle))
+    (comment_deadlock event h.links))
 
 -- a run that is explained, without what explains it
 run_without : (rules : Rules) (processes : ℕ) (S : State) (events : List Event) (T : State) (text : List ℕ) → ExplainsRun rules processes S events T text

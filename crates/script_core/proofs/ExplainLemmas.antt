@@ -1,15 +1,19 @@
 -- The run that is made again, step by step: for `write_explained` and `write_unborn`, clauses `ok`.
-use Rattle.std.proofs.Common.{ℕ, zero, suc, ◌≡◌, ◌+◌, ◌-◌, ◌<◌, ◌≤◌, Option, Some, None, Ok, IsTrue, List, [], ◌∷◌, ◌++◌, length, take, drop, get_or, refl, sym, ap, subst, ◌∙◌, arith, append_assoc, append-nil, add-one, Result, true, false, Bool}
-use Rattle.std.specs.Prelude.{Err, MatchOption, MatchResult, OnErr, OnOk, codes, decimal, slice_index}
+use Rattle.std.proofs.Common.{ℕ, zero, suc, ◌≡◌, ◌+◌, ◌-◌, ◌<◌, ◌≤◌, Option, Some, None, Ok, List, [], ◌∷◌, ◌++◌, length, All, inl, inr, take, drop, get_or, refl, sym, ap, subst, ◌∙◌, arith, append_assoc, append-nil, add-one, Result, true, false}
+use Rattle.std.specs.Prelude.{IfOk, Err, MatchOption, MatchResult, OnErr, OnOk, codes, decimal, slice_index}
 use Rattle.std.proofs.Math.Seq.{drop-cons, take-append_seam}
 use Rattle.std.proofs.lemmas.List.{take_more, take_all}
+use Rattle.std.proofs.lemmas.Bool.{cases_Bool}
 use Rattle.range_core.specs.Resolving.{resolution}
+use Rattle.fd_table.specs.declared.TheConstants.{FILES}
 use Rattle.fd_table.specs.declared.tables.Look.{Look}
 use Rattle.lock_book.specs.declared.Held.{Held}
 use Rattle.lock_book.specs.Changes.{mode_in, flock_mode_in}
 use Rattle.lock_book.specs.Reports.{IsHeldReport}
+use Rattle.wait_core.specs.declared.Policy.{Policy}
 use Rattle.wait_core.specs.declared.Wait.{Wait}
 use Rattle.wait_core.specs.Blocking.{IsBlocked}
+use Rattle.wait_core.specs.Cycles.{IsTraditional}
 use Rattle.lock_manager.specs.declared.request.Rules.{Rules}
 use Rattle.lock_manager.specs.declared.request.Lock.{Lock}
 use Rattle.lock_manager.specs.declared.request.LkCmd.{LkCmd}
@@ -22,6 +26,7 @@ use Rattle.lock_manager.specs.declared.request.ProcState.{ProcState}
 use Rattle.lock_manager.specs.declared.request.ProcState.TheVariants.{Live}
 use Rattle.lock_manager.specs.declared.manager.Manager.{Manager}
 use Rattle.lock_manager.specs.State.{State, opening_state, locks_held}
+use Rattle.lock_manager.specs.Settling.{IsSettled}
 use Rattle.lock_manager.specs.Step.{Step}
 use Rattle.lock_manager.specs.LockWords.{wanted_lock}
 use Rattle.lock_manager.specs.FlockCalls.{wanted_flock}
@@ -33,8 +38,14 @@ use Rattle.session_core.specs.Runs.{IsStep, Leads}
 use Rattle.script_core.specs.EntryText.{entry_line, tag}
 use Rattle.script_core.specs.ReportText.{AreCounts}
 use Rattle.script_core.specs.Output.{Extends}
-use Rattle.script_core.specs.Explaining.{comment, is_stopped, obstacle_line, word_of_loss, loss_lines, StandsInTheWay, Explains, ExplainsRun, more_text, never_born_line, unborn_line, unborn_lines}
+use Rattle.script_core.specs.declared.deadlock.Link.{Link}
+use Rattle.script_core.specs.Files.{IsWithinFiles}
+use Rattle.script_core.specs.Deadlocks.{TellsCycleIfAny}
+use Rattle.script_core.specs.Explaining.{comment, is_deadlock, is_stopped, obstacle_line, deadlock_line, TellsDeadlock, IsCycleOf, word_of_loss, loss_lines, StandsInTheWay, Explains, ExplainsRun, more_text, never_born_line, unborn_line, unborn_lines}
 use Rattle.script_core.proofs.TextLemmas.{kept_behind}
+use Rattle.script_core.proofs.DeadlockLocksLemmas.{told_of_state, none_of_state}
+use Rattle.script_core.proofs.DeadlockStepLemmas.{HasClosed, step_closes, settled_then, opening_settled}
+use Rattle.script_core.proofs.FilesLemmas.{opening_files, step_files, asks_file}
 
 -- a request asks for one lock
 Some-one : {X : Type 0} {o : Option X} {x y : X} → o ≡ Some x → o ≡ Some y → x ≡ y
@@ -81,42 +92,100 @@ found_in_the_way rules T event wait None stopped asks free =
     free (subst (IsBlocked rules.policy (locks_held T) T.waits) (asks_one T event.p event.n event.request other wait also asks) blocked)
 found_in_the_way rules T event wait (Some obstacle) stopped asks first = (stopped, wait, asks, first)
 
+-- the cycle of the lock that the request asks for is that of the event
+pub found_cycle : (policy : Policy) (T : State) (report : List Held) (event : Event) (wait : Wait) (waits : List Wait) (links : List Link)
+    → is_deadlock event.notes ≡ true
+    → AsksFor T event.p event.n event.request wait → waits ≡ T.waits → (IsTraditional wait → TellsCycleIfAny policy report waits wait links)
+    → IsCycleOf policy T report event links
+found_cycle policy T report event wait waits links is asks same found = record {
+  none = λ no. absurd (let differ : true ≡ false = sym is ∙ no in cc);
+  some = λ told other also own.
+      let one : wait ≡ other = asks_one T event.p event.n event.request wait other asks also in
+      subst (λ (w : Wait). IsTraditional w → TellsCycleIfAny policy report T.waits w links) one
+      (subst (λ (l : List Wait). IsTraditional wait → TellsCycleIfAny policy report l wait links) same found) own;
+}
+
+pub cycle_found : {X E : Type 0} (items : X → List Link) (policy : Policy) (manager : Manager) (report : List Held) (event : Event) (wait : Wait)
+    → (waits : List Wait) (result : Result X E)
+    → is_deadlock event.notes ≡ true → ((T : State) → StandsFor manager T → AsksFor T event.p event.n event.request wait)
+    → ((T : State) → StandsFor manager T → waits ≡ T.waits)
+    → IfOk result (λ links. IsTraditional wait → TellsCycleIfAny policy report waits wait (items links))
+    → IfOk result (λ links. (T : State) → StandsFor manager T → IsCycleOf policy T report event (items links))
+cycle_found items policy manager report event wait waits (Ok links) is asks same found =
+    λ T h. found_cycle policy T report event wait waits (items links) is (asks T h) (same T h) found
+cycle_found items policy manager report event wait waits (Err memory) is asks same found = tt
+
+-- of a step that was refused with EDEADLK there is a cycle, and of another none
+tells_deadlock : (rules : Rules) (processes : ℕ) (S : State) (event : Event) (T : State) (report : List Held) (links : List Link)
+    → IsStep rules processes S event T
+    → IsWithinFiles S → IsSettled rules.policy S → IsHeldReport (mode_in T.changes) (flock_mode_in T.flock_changes) report
+    → IsCycleOf rules.policy T report event links
+    → TellsDeadlock rules.policy T report event links
+tells_deadlock rules processes S event T report links step within settled reported h = elim (cases_Bool (is_deadlock event.notes)) [
+  | inl refused ↦
+      let closed = step_closes rules processes S event.p event.n event.request event.notes T settled step refused in
+      let files = step_files rules processes S event.p event.n event.request event.notes T step within in
+      let low = asks_file T event.p event.n event.request closed.wait files closed.asks in
+      by_links refused closed low files.waits links (h.some refused closed.wait closed.asks closed.traditional)
+  | inr other ↦ subst (TellsDeadlock rules.policy T report event) (sym (h.none other)) other
+]
+  where
+    by_links : is_deadlock event.notes ≡ true → (closed : HasClosed rules event.p event.n event.request T) → closed.wait.file < FILES
+        → All (λ v. v.file < FILES) T.waits
+        → (links : List Link) → TellsCycleIfAny rules.policy report T.waits closed.wait links → TellsDeadlock rules.policy T report event links
+    by_links refused closed low few [] none =
+        absurd (none_of_state rules.policy (locks_held T) report T.waits closed.wait (record { is = reported }) low few none closed.closes)
+    by_links refused closed low few (first ∷ rest) told =
+        (refused, closed.wait, closed.asks, told_of_state rules.policy (locks_held T) report T.waits closed.wait (first ∷ rest) (record { is = reported }) low few told)
+
 -- what a step of the manager, and the text behind it, come to in whatever state the manager stands for
-abbrev pub StepExplains : Manager → Manager → Event → List ℕ → List ℕ → Type 0
-StepExplains old new event before after =
-    (S : State) → StandsFor old S → (notes : List Note) × (T : State)
-    × Step (rules_of old) (processes_of old) S event.p event.n event.request notes T × StandsFor new T
+abbrev pub StepExplains : Policy → Manager → Manager → Event → List ℕ → List ℕ → Type 0
+StepExplains policy old new event before after =
+    (S T : State) → StandsFor old S → IsWithinFiles S → IsSettled policy S → IsStep (rules_of old) (processes_of old) S event T → StandsFor new T
     × (own : List ℕ) × Explains (rules_of old) S event T own × (after ≡ before ++ (entry_line event ++ own))
 
 -- what is told of the step, and of the locks and waits before and behind it, explains it
-pub explains_step : (old next : Manager) (event : Event) (notes : List Note) (before after : List Held) (obstacle : Option InTheWay) (t0 t1 t2 t3 : List ℕ)
+pub explains_step : StepHasOneOutcome
+    → (policy : Policy) (old next : Manager) (event : Event) (notes : List Note) (before after : List Held) (obstacle : Option InTheWay)
+    → (links : List Link) (t0 t1 t2 t3 t4 : List ℕ)
+    → policy ≡ (rules_of old).policy
     → ((S : State) → StandsFor old S → IsHeldReport (mode_in S.changes) (flock_mode_in S.flock_changes) before)
     → ((S : State) → StandsFor old S → (T : State)
     × Step (rules_of old) (processes_of old) S event.p event.n event.request notes T × StandsFor next T)
     → ((T : State) → StandsFor next T → IsHeldReport (mode_in T.changes) (flock_mode_in T.flock_changes) after)
-    → ((T : State) → StandsFor next T → StandsInTheWay (rules_of next) T event obstacle) → rules_of next ≡ rules_of old
+    → ((T : State) → StandsFor next T → StandsInTheWay (rules_of next) T event obstacle)
+    → ((T : State) → StandsFor next T → IsCycleOf policy T after event links) → rules_of next ≡ rules_of old
     → t1 ≡ t0 ++ entry_line event → t2 ≡ t1 ++ loss_lines event (word_of_loss event.request) before after → t3 ≡ t2 ++ obstacle_line event obstacle
-    → StepExplains old next event t0 t3
-explains_step old next event notes before after obstacle t0 t1 t2 t3 reported steps reports stands rules first second third S h =
-    let step = steps S h in
-    let losses = loss_lines event (word_of_loss event.request) before after in (
-      notes,
-      step.0,
-      step.1,
-      step.2,
-      losses ++ obstacle_line event obstacle,
+    → t4 ≡ t3 ++ deadlock_line event links
+    → StepExplains policy old next event t0 t4
+explains_step one policy old next event notes before after obstacle links t0 t1 t2 t3 t4 ruled reported steps reports stands cycle rules first second third fourth S T h within settled step =
+    let made = steps S h in
+    let same : made.0 ≡ T = (one (rules_of old) (processes_of old) S event.p event.n event.request notes event.notes made.0 T made.1 step).1 in
+    let now : StandsFor next T = subst (StandsFor next) same made.2 in
+    let losses = loss_lines event (word_of_loss event.request) before after in
+    let blocked = obstacle_line event obstacle in
+    let refused = deadlock_line event links in (
+      now,
+      losses ++ blocked ++ refused,
       record {
         before = before;
         is_before = reported S h;
         after = after;
-        is_after = reports step.0 step.2;
+        is_after = reports T now;
         obstacle = obstacle;
-        is_obstacle = subst (λ (r : Rules). StandsInTheWay r step.0 event obstacle) rules (stands step.0 step.2);
+        is_obstacle = subst (λ (r : Rules). StandsInTheWay r T event obstacle) rules (stands T now);
+        links = links;
+        is_cycle = tells_deadlock (rules_of old) (processes_of old) S event T after links step within
+            (subst (λ (p : Policy). IsSettled p S) ruled settled) (reports T now)
+            (subst (λ (p : Policy). IsCycleOf p T after event links) ruled (cycle T now));
         is = refl;
       },
-      third ∙ ap (λ (l : List ℕ). l ++ obstacle_line event obstacle) (second ∙ ap (λ (l : List ℕ). l ++ losses) first)
-          ∙ append_assoc (t0 ++ entry_line event) losses (obstacle_line event obstacle)
-          ∙ append_assoc t0 (entry_line event) (losses ++ obstacle_line event obstacle),
+      fourth
+          ∙ ap (λ (l : List ℕ). l ++ refused) (third ∙ ap (λ (l : List ℕ). l ++ blocked) (second ∙ ap (λ (l : List ℕ). l ++ losses) first))
+          ∙ ap (λ (l : List ℕ). l ++ refused)
+          (append_assoc (t0 ++ entry_line event) losses blocked ∙ append_assoc t0 (entry_line event) (losses ++ blocked))
+          ∙ append_assoc t0 (entry_line event ++ (losses ++ blocked)) refused
+          ∙ ap (λ (l : List ℕ). t0 ++ l) (append_assoc (entry_line event) (losses ++ blocked) refused),
     )
 
 -- what follows where a piece was appended, and where it was refused
@@ -127,6 +196,17 @@ if_pushed (Err error) P Q X h gives = tt
 pub if_refused : {A E : Type 0} (r : Result A E) (P Q X : Type 0) → MatchResult r (λ unit. P) (λ error. Q) → (Q → X) → OnErr r X
 if_refused (Ok unit) P Q X h gives = tt
 if_refused (Err error) P Q X h gives = gives h
+
+-- one more piece
+pub and_then : (old mid new front piece : List ℕ) → mid ≡ old ++ front → new ≡ mid ++ piece → new ≡ old ++ (front ++ piece)
+and_then old mid new front piece is pushed = pushed ∙ ap (λ (l : List ℕ). l ++ piece) is ∙ append_assoc old front piece
+
+-- what is told behind the beginning of a line
+pub begun : {A E : Type 0} (r : Result A E) (old front new told : List ℕ)
+    → MatchResult r (λ unit. new ≡ old ++ front ++ told) (λ error. Extends (old ++ front) new)
+    → MatchResult r (λ unit. new ≡ old ++ (front ++ told)) (λ error. Extends old new)
+begun (Ok unit) old front new told is = is ∙ append_assoc old front told
+begun (Err error) old front new told kept = kept_behind old (old ++ front) new front refl kept
 
 -- what is said of an obstacle behind the words of a comment
 pub told_behind : {A E : Type 0} (r : Result A E) (old mid new : List ℕ) (p n : ℕ) (words line told : List ℕ) → mid ≡ old ++ comment p n words
@@ -156,6 +236,8 @@ pub record HasExplained (rules : Rules) (processes : ℕ) (journal : List Event)
   pub state : State
   pub last : State
   pub stands : StandsFor manager state
+  pub within : IsWithinFiles state
+  pub settled : IsSettled rules.policy state
   pub leads : Leads rules processes state (drop index journal) last
   pub more : List ℕ
   pub explains : ExplainsRun rules processes opening_state (take index journal) state more
@@ -171,6 +253,8 @@ none_explained rules processes journal manager old run stands rules_are processe
   state = opening_state;
   last = run.0;
   stands = stands;
+  within = opening_files;
+  settled = opening_settled rules.policy;
   leads = run.1;
   more = [];
   explains = (refl, refl);
@@ -216,30 +300,29 @@ lives_next rules processes journal index manager old new event h within is =
     h.stands.states event.p ∙ rest.1.live
 
 -- and once its step is made again it is explained too
-pub explained_more : StepHasOneOutcome → (rules : Rules) (processes : ℕ) (journal : List Event) (index : ℕ) (manager next : Manager) (old mid new : List ℕ) (event : Event)
+pub explained_more : (rules : Rules) (processes : ℕ) (journal : List Event) (index : ℕ) (manager next : Manager) (old mid new : List ℕ) (event : Event)
     → HasExplained rules processes journal index manager old mid → index < length journal → event ≡ get_or journal index event
-    → StepExplains manager next event mid new → rules_of next ≡ rules_of manager → processes_of next ≡ processes_of manager
+    → StepExplains rules.policy manager next event mid new → rules_of next ≡ rules_of manager → processes_of next ≡ processes_of manager
     → HasExplained rules processes journal (index + 1) next old new
-explained_more one rules processes journal index manager next old mid new event h within is made rules_stay processes_stay =
-    let rest = subst (λ (l : List Event). Leads rules processes h.state l h.last) (next_of journal index event within is) h.leads in
-    let step = made h.state h.stands in
-    let by_rules = subst (λ (r : Rules). Step r (processes_of manager) h.state event.p event.n event.request step.0 step.1) h.rules_are step.2 in
-    let by_all = subst (λ (k : ℕ). Step rules k h.state event.p event.n event.request step.0 step.1) h.processes_are by_rules in
-    let same = one rules processes h.state event.p event.n event.request step.0 event.notes step.1 rest.0 by_all rest.1 in
-    let explains = subst (λ (r : Rules). Explains r h.state event step.1 step.4) h.rules_are step.5 in
+explained_more rules processes journal index manager next old mid new event h at is made rules_stay processes_stay =
+    let rest = subst (λ (l : List Event). Leads rules processes h.state l h.last) (next_of journal index event at is) h.leads in
+    let by_rules = subst (λ (r : Rules). IsStep r processes h.state event rest.0) (sym h.rules_are) rest.1 in
+    let by_all = subst (λ (k : ℕ). IsStep (rules_of manager) k h.state event rest.0) (sym h.processes_are) by_rules in
+    let step = made h.state rest.0 h.stands h.within h.settled by_all in
+    let explains = subst (λ (r : Rules). Explains r h.state event rest.0 step.1) h.rules_are step.2 in
     let front : take (index + 1) journal ≡ take index journal ++ event ∷ [] =
-    take_more journal index event within ∙ ap (λ (e : Event). take index journal ++ e ∷ []) (sym is) in
+    take_more journal index event at ∙ ap (λ (e : Event). take index journal ++ e ∷ []) (sym is) in
     record {
-      state = step.1;
+      state = rest.0;
       last = h.last;
-      stands = step.3;
-      leads = subst (λ (l : List Event). Leads rules processes step.1 l h.last) (ap (λ (k : ℕ). drop k journal) (sym (add-one index)))
-          (subst (λ (X : State). Leads rules processes X (drop (suc index) journal) h.last) (sym same.1) rest.2);
-      more = h.more ++ (entry_line event ++ step.4);
-      explains = subst (λ (l : List Event). ExplainsRun rules processes opening_state l step.1 (h.more ++ (entry_line event ++ step.4))) (sym front)
-          (run_more rules processes opening_state h.state (take index journal) event step.1 h.more step.4 h.explains
-          (subst (λ (X : State). IsStep rules processes h.state event X) (sym same.1) rest.1) explains);
-      is = step.6 ∙ ap (λ (l : List ℕ). l ++ (entry_line event ++ step.4)) h.is ∙ append_assoc old h.more (entry_line event ++ step.4);
+      stands = step.0;
+      within = step_files rules processes h.state event.p event.n event.request event.notes rest.0 rest.1 h.within;
+      settled = settled_then rules.policy rest.1.outcome.after rest.1.grants rest.0 rest.1.settles;
+      leads = subst (λ (l : List Event). Leads rules processes rest.0 l h.last) (ap (λ (k : ℕ). drop k journal) (sym (add-one index))) rest.2;
+      more = h.more ++ (entry_line event ++ step.1);
+      explains = subst (λ (l : List Event). ExplainsRun rules processes opening_state l rest.0 (h.more ++ (entry_line event ++ step.1))) (sym front)
+          (run_more rules processes opening_state h.state (take index journal) event rest.0 h.more step.1 h.explains rest.1 explains);
+      is = step.3 ∙ ap (λ (l : List ℕ). l ++ (entry_line event ++ step.1)) h.is ∙ append_assoc old h.more (entry_line event ++ step.1);
       rules_are = rules_stay ∙ h.rules_are;
       processes_are = processes_stay ∙ h.processes_are;
     }

@@ -15,6 +15,10 @@ pub mod ConstantLaws
 pub mod FaultLemmas
 pub mod EntryLemmas
 pub mod CommentLaws
+pub mod DeadlockLemmas
+pub mod DeadlockLocksLemmas
+pub mod DeadlockStepLemmas
+pub mod FilesLemmas
 pub mod ExplainLemmas
 pub mod NoteLemmas
 pub mod EntryRoundTripLemmas

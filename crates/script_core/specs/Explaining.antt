@@ -5,16 +5,16 @@ use Rattle.lock_book.specs.declared.Held.{Held}
 use Rattle.lock_book.specs.Owners.{is_same_owner}
 use Rattle.lock_book.specs.Changes.{mode_in, flock_mode_in}
 use Rattle.lock_book.specs.Reports.{IsHeldReport}
+use Rattle.wait_core.specs.declared.Policy.{Policy}
 use Rattle.wait_core.specs.declared.Wait.{Wait}
 use Rattle.wait_core.specs.Blocking.{IsBlocked}
+use Rattle.wait_core.specs.Cycles.{IsBlockedByProcess, IsTraditional, WaitsFor}
 use Rattle.lock_manager.specs.declared.request.Rules.{Rules}
-use Rattle.lock_manager.specs.declared.request.Errno.{Errno}
 use Rattle.lock_manager.specs.declared.request.Errno.TheVariants.{EBADF, EINVAL, EOVERFLOW, EAGAIN, EDEADLK, EINTR, EMFILE, ESRCH}
 use Rattle.lock_manager.specs.declared.request.Reply.{Reply}
 use Rattle.lock_manager.specs.declared.request.Reply.TheVariants as replies
 use Rattle.lock_manager.specs.declared.request.Note.{Note}
 use Rattle.lock_manager.specs.declared.request.Note.TheVariants.{Answer, Waits}
-use Rattle.lock_manager.specs.declared.request.FlockOp.{FlockOp}
 use Rattle.lock_manager.specs.declared.request.FlockOp.TheVariants.{Sh, Ex, Un}
 use Rattle.lock_manager.specs.declared.request.InTheWay.{InTheWay}
 use Rattle.lock_manager.specs.declared.request.InTheWay.TheVariants as obstacles
@@ -34,6 +34,8 @@ use Rattle.script_core.specs.Reading.{Reads}
 use Rattle.script_core.specs.EntryText.{tag, entry_line}
 use Rattle.script_core.specs.ReportText.{held_line, wait_line, IsReport}
 use Rattle.script_core.specs.Output.{IsOutput, processes_in}
+use Rattle.script_core.specs.declared.deadlock.Link.{Link}
+use Rattle.script_core.specs.Deadlocks.{TellsCycle, TellsCycleIfAny, first_step_text, next_step_text}
 
 -- a line that explains a request: `#`, the request, and what is told of it, which ends the line
 abbrev pub comment : ℕ → ℕ → List ℕ → List ℕ
@@ -111,7 +113,51 @@ StandsInTheWay rules T event (Some obstacle) =
     IsTrue (is_stopped event.notes)
     × (wait : Wait) × AsksFor T event.p event.n event.request wait × IsFirstInTheWay rules.policy (locks_held T) T.waits wait obstacle
 
--- the lines explain the event, from the state S to the state T: which locks went, and then what was in the way
+-- whether a reply says that the wait would have closed a cycle
+abbrev pub is_edeadlk : Reply → Bool
+is_edeadlk replies.Ok = false
+is_edeadlk (replies.Fd fd) = false
+is_edeadlk replies.Free = false
+is_edeadlk (replies.Held mode start len pid) = false
+is_edeadlk (replies.Err EBADF) = false
+is_edeadlk (replies.Err EINVAL) = false
+is_edeadlk (replies.Err EOVERFLOW) = false
+is_edeadlk (replies.Err EAGAIN) = false
+is_edeadlk (replies.Err EDEADLK) = true
+is_edeadlk (replies.Err EINTR) = false
+is_edeadlk (replies.Err EMFILE) = false
+is_edeadlk (replies.Err ESRCH) = false
+
+-- whether the first of these notes, the caller's, says EDEADLK
+abbrev pub is_deadlock : List Note → Bool
+is_deadlock [] = false
+is_deadlock (Answer p n reply ∷ notes) = is_edeadlk reply
+is_deadlock (Waits p n ∷ notes) = false
+
+-- the line of the cycle that these steps tell, if there are any
+abbrev pub deadlock_line : Event → List Link → List ℕ
+deadlock_line event [] = []
+deadlock_line event (first ∷ rest) =
+    comment event.p event.n (first_step_text first ++ flat_map next_step_text rest ++ 10 ∷ [])
+
+-- the steps of the cycle that the event's request would have closed, in the state that it left, with this report of its locks: of one
+-- that was refused with EDEADLK, which is never without; and none of another (POSIX.1-2017 fcntl, ERRORS, EDEADLK)
+abbrev pub TellsDeadlock : Policy → State → List Held → Event → List Link → Type 0
+TellsDeadlock policy T report event [] = is_deadlock event.notes ≡ false
+TellsDeadlock policy T report event (first ∷ rest) =
+    IsTrue (is_deadlock event.notes)
+    × (wait : Wait) × AsksFor T event.p event.n event.request wait
+    × TellsCycle policy report T.waits wait (IsBlockedByProcess policy (locks_held T) T.waits wait) (WaitsFor policy (locks_held T) T.waits) (first ∷ rest)
+
+-- the steps tell the cycle by this report and the waits of the state: that of the traditional lock that the event's request asks for, where
+-- it was refused with EDEADLK, and else none
+pub record IsCycleOf (policy : Policy) (T : State) (report : List Held) (event : Event) (links : List Link) : Type 0 where
+  pub none : is_deadlock event.notes ≡ false → links ≡ []
+  pub some : is_deadlock event.notes ≡ true → (wait : Wait) → AsksFor T event.p event.n event.request wait → IsTraditional wait
+      → TellsCycleIfAny policy report T.waits wait links
+
+-- the lines explain the event, from the state S to the state T: which locks went, and then what was in the way, or which cycle the
+-- request would have closed
 pub record Explains (rules : Rules) (S : State) (event : Event) (T : State) (text : List ℕ) : Type 0 where
   pub before : List Held
   pub is_before : IsHeldReport (mode_in S.changes) (flock_mode_in S.flock_changes) before
@@ -119,7 +165,9 @@ pub record Explains (rules : Rules) (S : State) (event : Event) (T : State) (tex
   pub is_after : IsHeldReport (mode_in T.changes) (flock_mode_in T.flock_changes) after
   pub obstacle : Option InTheWay
   pub is_obstacle : StandsInTheWay rules T event obstacle
-  pub is : text ≡ loss_lines event (word_of_loss event.request) before after ++ obstacle_line event obstacle
+  pub links : List Link
+  pub is_cycle : TellsDeadlock rules.policy T after event links
+  pub is : text ≡ loss_lines event (word_of_loss event.request) before after ++ obstacle_line event obstacle ++ deadlock_line event links
 
 -- the text is the line of each of these events, with the lines that explain it behind it; they lead from the state S to the state T
 abbrev pub ExplainsRun : Rules → ℕ → State → List Event → State → List ℕ → Type 0

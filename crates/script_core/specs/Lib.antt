@@ -14,4 +14,6 @@ pub mod ReportReading
 pub mod Output
 pub mod ExpectedText
 pub mod JournalView
+pub mod Files
+pub mod Deadlocks
 pub mod Explaining

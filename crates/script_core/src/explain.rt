@@ -5,30 +5,35 @@ ghost use Rattle.fd_table.specs.Descriptors.{process_limit};
 ghost use Rattle.lock_book.specs.Changes.{mode_in, flock_mode_in};
 ghost use Rattle.lock_book.specs.Reports.{IsHeldReport};
 ghost use Rattle.lock_manager.specs.declared.request.ProcState.TheVariants.{Live};
-ghost use Rattle.lock_manager.specs.declared.request.Note.{Note as SpecNote};
 ghost use Rattle.lock_manager.specs.State.{State, opening_state};
-ghost use Rattle.lock_manager.specs.Step.{Step};
+ghost use Rattle.lock_manager.specs.Settling.{IsSettled};
 ghost use Rattle.lock_manager.specs.ManagerView.{StandsFor, rules_of, processes_of, state_at};
-ghost use Rattle.session_core.specs.Runs.{Leads};
+ghost use Rattle.wait_core.specs.Cycles.{IsTraditional};
+ghost use Rattle.session_core.specs.Runs.{IsStep, Leads};
 ghost use Rattle.script_core.specs.EntryText.{entry_line, tag};
 ghost use Rattle.script_core.specs.ReportText.{AreCounts};
 ghost use Rattle.script_core.specs.Output.{Extends};
-ghost use Rattle.script_core.specs.Explaining.{Explains, ExplainsRun, StandsInTheWay, comment, in_the_way_line, obstacle_line, loss_line, loss_lines, more_text, never_born_line, unborn_line, unborn_lines};
+ghost use Rattle.script_core.specs.Files.{IsWithinFiles};
+ghost use Rattle.script_core.specs.Deadlocks.{TellsCycleIfAny, first_step_text, next_step_text, step_text};
+ghost use Rattle.script_core.specs.Explaining.{Explains, ExplainsRun, StandsInTheWay, IsCycleOf, comment, deadlock_line, in_the_way_line, obstacle_line, loss_line, loss_lines, more_text, never_born_line, unborn_line, unborn_lines};
 ghost use Rattle.script_core.specs.Explaining as spec;
 
+use crate::deadlock::{Link, cycle_of};
 use crate::pieces::{push_first_number, push_number, push_str};
-use crate::text::{push_entry, push_held, push_wait};
-use lock_book::Held;
+use crate::text::{push_entry, push_held, push_held_text, push_wait, push_wait_text};
+use lock_book::{Held, Owner};
 use lock_manager::{
     Errno, FlockOp, InTheWay, Manager, Note, ProcState, Reply, Request, Rules, step_has_one_outcome,
 };
 use range_core::Memory;
 use session_core::Entry;
 use std::alloc::Global;
+use wait_core::{Policy, Wait};
 
 /// Appends the lines of a journal, which is a run of `processes` processes from the opening, and behind each what explains it: which
-/// locks went, and what was the first in the way. The run is made again, step by step, which takes the memory of a lock manager and of
-/// two reports. After `Memory` the vector has its old bytes.
+/// locks went, what was the first in the way, and which cycle a wait would have closed. The run is made again, step by step, which takes
+/// the memory of a lock manager and of two reports, and for a cycle that of the waits and of a set of processes for each of its steps.
+/// After `Memory` the vector has its old bytes.
 #[tactic(auto, using(crate::proofs::ExplainLemmas::cut_whole))]
 pub fn write_explained(
     alloc: Global,
@@ -69,28 +74,39 @@ fn push_explained(
     step_has_one_outcome();
     let mut manager = Manager::new(alloc, processes, rules)?;
     for entry in journal {
-        push_step(text, &mut manager, entry)?;
+        push_step(alloc, rules.policy, text, &mut manager, entry)?;
     }
     Ok(())
 }
 
 /// Makes the step of an entry again, and appends its line, with what explains it behind it.
-fn push_step(text: &mut Vec<u8>, manager: &mut Manager, entry: &Entry) -> Result<(), Memory>
-    requires { state_at manager.old entry.now.p ≡ Live }
-    ensures ok { OnOk result ((S : State) → StandsFor manager.old S → (notes : List SpecNote) × (T : State)
-        × Step (rules_of manager.old) (processes_of manager.old) S entry.now.p entry.now.n entry.now.request notes T × StandsFor manager.new T
+fn push_step(
+    alloc: Global,
+    policy: Policy,
+    text: &mut Vec<u8>,
+    manager: &mut Manager,
+    entry: &Entry,
+) -> Result<(), Memory>
+    requires live { state_at manager.old entry.now.p ≡ Live }
+    requires policy { policy ≡ (rules_of manager.old).policy }
+    ensures ok { OnOk result ((S T : State) → StandsFor manager.old S → IsWithinFiles S → IsSettled policy S
+        → IsStep (rules_of manager.old) (processes_of manager.old) S entry.now T → StandsFor manager.new T
         × (own : List ℕ) × Explains (rules_of manager.old) S entry.now T own × (text.new.items ≡ text.old.items ++ (entry_line entry.now ++ own))) }
     ensures rules { rules_of manager.new ≡ rules_of manager.old }
     ensures processes { processes_of manager.new ≡ processes_of manager.old }
     ensures err { OnErr result (Extends text.old.items text.new.items) }
 {
+    // A law, and nothing to run.
+    step_has_one_outcome();
     push_entry(text, entry)?;
     let before = manager.held()?;
     manager.take(entry.p, entry.n, entry.request)?;
     let after = manager.held()?;
     push_losses(text, entry, &before, &after)?;
     let obstacle = obstacle_of(manager, entry)?;
-    push_obstacle(text, entry, obstacle)
+    push_obstacle(text, entry, obstacle)?;
+    let links = deadlock_of(alloc, policy, manager, entry, &after)?;
+    push_deadlock(text, entry, &links)
 }
 
 /// What is in the way of the entry's request, once its step was made: none where it wasn't refused with EAGAIN and doesn't wait.
@@ -124,6 +140,123 @@ fn is_again(reply: Reply) -> bool
     match reply {
         Reply::Err(Errno::EAGAIN) => true,
         Reply::Ok | Reply::Fd(_) | Reply::Free | Reply::Held { .. } | Reply::Err(_) => false,
+    }
+}
+
+/// The steps of the cycle that the entry's request would have closed, by the report of the locks that it left: none where it wasn't
+/// refused with EDEADLK.
+fn deadlock_of(
+    alloc: Global,
+    policy: Policy,
+    manager: &Manager,
+    entry: &Entry,
+    report: &[Held],
+) -> Result<Vec<Link>, Memory>
+    ensures { IfOk result (λ links. (T : State) → StandsFor manager.now T → IsCycleOf policy T report.now entry.now links.items) }
+{
+    if !is_deadlock(entry.notes.as_slice()) {
+        return Ok(Vec::new(alloc));
+    }
+    match manager.wanted(entry.p, entry.n, entry.request) {
+        Some(wait) => cycle_of_traditional(alloc, policy, report, &manager.waits()?, &wait),
+        None => Ok(Vec::new(alloc)),
+    }
+}
+
+/// The steps of the cycle that a wait would close: none of one that isn't for a traditional lock.
+fn cycle_of_traditional(
+    alloc: Global,
+    policy: Policy,
+    report: &[Held],
+    waits: &[Wait],
+    wait: &Wait,
+) -> Result<Vec<Link>, Memory>
+    ensures { IfOk result (λ links. IsTraditional wait.now → TellsCycleIfAny policy report.now waits.now wait.now links.items) }
+{
+    if wait.owner == Owner::Process(wait.p) {
+        cycle_of(alloc, policy, report, waits, wait)
+    } else {
+        Ok(Vec::new(alloc))
+    }
+}
+
+/// Whether the first of these notes, the caller's, says EDEADLK.
+fn is_deadlock(notes: &[Note]) -> bool
+    ensures { result ≡ spec.is_deadlock notes.now }
+{
+    match notes {
+        [Note::Answer { reply, .. }, ..] => is_edeadlk(*reply),
+        [Note::Waits { .. }, ..] | [] => false,
+    }
+}
+
+/// Whether a reply says that the wait would have closed a cycle.
+fn is_edeadlk(reply: Reply) -> bool
+    ensures { result ≡ spec.is_edeadlk reply }
+{
+    match reply {
+        Reply::Err(Errno::EDEADLK) => true,
+        Reply::Ok | Reply::Fd(_) | Reply::Free | Reply::Held { .. } | Reply::Err(_) => false,
+    }
+}
+
+/// Appends the line of the cycle that these steps tell, if there are any.
+fn push_deadlock(text: &mut Vec<u8>, entry: &Entry, links: &[Link]) -> Result<(), Memory>
+    ensures { MatchResult result (λ unit. text.new.items ≡ text.old.items ++ deadlock_line entry.now links.now)
+        (λ error. Extends text.old.items text.new.items) }
+{
+    match links {
+        [first, rest @ ..] => push_cycle(text, entry, first, rest),
+        [] => Ok(()),
+    }
+}
+
+/// Appends the line of the cycle that the first step and those behind it tell.
+fn push_cycle(text: &mut Vec<u8>, entry: &Entry, first: &Link, rest: &[Link]) -> Result<(), Memory>
+    ensures { MatchResult result (λ unit. text.new.items ≡ text.old.items
+        ++ comment entry.now.p entry.now.n (first_step_text first.now ++ flat_map next_step_text rest.now ++ 10 ∷ []))
+        (λ error. Extends text.old.items text.new.items) }
+{
+    push_comment(text, entry, "would wait for ")?;
+    push_first_number(text, u64::from(first.process))?;
+    push_str(text, " (")?;
+    push_step_text(text, &first.step)?;
+    push_str(text, ")")?;
+    push_next_steps(text, rest)?;
+    push_str(text, "\n")
+}
+
+/// Appends the steps behind the first.
+fn push_next_steps(text: &mut Vec<u8>, links: &[Link]) -> Result<(), Memory>
+    ensures { MatchResult result (λ unit. text.new.items ≡ text.old.items ++ flat_map next_step_text links.now)
+        (λ error. Extends text.old.items text.new.items) }
+{
+    for link in links {
+        push_next_step(text, link)?;
+    }
+    Ok(())
+}
+
+/// Appends a step behind the first: the process, the request that waits for it, and what of it blocks that.
+fn push_next_step(text: &mut Vec<u8>, link: &Link) -> Result<(), Memory>
+    ensures { MatchResult result (λ unit. text.new.items ≡ text.old.items ++ next_step_text link.now) (λ error. Extends text.old.items text.new.items) }
+{
+    push_str(text, ", which waits for ")?;
+    push_first_number(text, u64::from(link.process))?;
+    push_str(text, " (")?;
+    push_request_name(text, link.wait.p, link.wait.n)?;
+    push_str(text, ", ")?;
+    push_step_text(text, &link.step)?;
+    push_str(text, ")")
+}
+
+/// Appends what makes a step, a lock or a wait, as the report says it.
+fn push_step_text(text: &mut Vec<u8>, step: &InTheWay) -> Result<(), Memory>
+    ensures { MatchResult result (λ unit. text.new.items ≡ text.old.items ++ step_text step.now) (λ error. Extends text.old.items text.new.items) }
+{
+    match step {
+        InTheWay::Lock(held) => push_held_text(text, held),
+        InTheWay::Wait(wait) => push_wait_text(text, wait),
     }
 }
 
@@ -254,6 +387,13 @@ fn push_tag(text: &mut Vec<u8>, p: u8, n: u64) -> Result<(), Memory>
     ensures { MatchResult result (λ unit. text.new.items ≡ text.old.items ++ (codes "# " ++ tag p n)) (λ error. Extends text.old.items text.new.items) }
 {
     push_str(text, "# ")?;
+    push_request_name(text, p, n)
+}
+
+/// Appends the process and the number of a request.
+fn push_request_name(text: &mut Vec<u8>, p: u8, n: u64) -> Result<(), Memory>
+    ensures { MatchResult result (λ unit. text.new.items ≡ text.old.items ++ tag p n) (λ error. Extends text.old.items text.new.items) }
+{
     push_first_number(text, u64::from(p))?;
     push_number(text, b'#', n)
 }

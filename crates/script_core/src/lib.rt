@@ -3,6 +3,7 @@
 
 mod arguments;
 mod commands;
+mod deadlock;
 mod entry;
 mod expected;
 mod explain;

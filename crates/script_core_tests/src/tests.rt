@@ -1,4 +1,5 @@
 //! Scripts and their faults line by line, and the texts of entries and reports.
+mod deadlocks;
 mod header_lines;
 mod journal_entries;
 mod journals;

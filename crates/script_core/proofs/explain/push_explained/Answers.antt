@@ -12,7 +12,7 @@ loop-entry-init c =
 pub loop-entry-preserved : goal.loop-entry-preserved
 loop-entry-preserved c =
     let pushed = c.in_ok-push_step.ensures in
-    explained_more c.step_has_one_outcome.ensures c.args.rules c.args.processes c.args.journal.now c.loop-entry.entry-index c.loop-entry.manager
+    explained_more c.args.rules c.args.processes c.args.journal.now c.loop-entry.entry-index c.loop-entry.manager
     c.push_step.new.manager c.args.text.now.items c.loop-entry.text.items c.push_step.new.text.items c.entry-item.result c.loop-entry.invariant
     c.loop-entry-test.true c.entry-item.is pushed.ok pushed.rules pushed.processes
 

@@ -1,13 +1,10 @@
-use Rattle.std.proofs.Common.{ℕ, ◌≡◌, ◌∷◌, ◌++◌, [], List, ap, ◌∙◌, append_assoc}
+use Rattle.std.proofs.Common.{ℕ, ◌≡◌, ◌∷◌, ◌++◌, [], ap, ◌∙◌}
 use Rattle.std.specs.Prelude.{codes, decimal}
 use Rattle.script_core.specs.EntryText.{tag}
 use Rattle.script_core.specs.Explaining.{more_text}
 use Rattle.script_core.proofs.TextLemmas.{then_pushed}
+use Rattle.script_core.proofs.ExplainLemmas.{and_then}
 use Rattle.script_core.proofs.explain.push_never_taken.Goals as goal
-
--- one more piece
-and_then : (old mid new front piece : List ℕ) → mid ≡ old ++ front → new ≡ mid ++ piece → new ≡ old ++ (front ++ piece)
-and_then old mid new front piece is pushed = pushed ∙ ap (λ (l : List ℕ). l ++ piece) is ∙ append_assoc old front piece
 
 pub returns : goal.returns
 returns c =

@@ -1,0 +1,258 @@
+-- What a step that is refused with EDEADLK has found: for `write_explained`, clause `ok`.
+use Rattle.std.proofs.Common.{ℕ, ◌≡◌, ◌==◌, ◌||◌, inl, inr, Bool, true, false, Option, Some, None, Result, Ok, List, [], ◌∷◌, ◌++◌, refl, sym, ap, subst, ◌∙◌, append-nil}
+use Rattle.std.specs.Prelude.{Err, MatchBool, MatchOption, MatchResult}
+use Rattle.range_core.specs.declared.Mode.{Mode}
+use Rattle.range_core.specs.declared.Mode.TheVariants as modes
+use Rattle.range_core.specs.declared.Span.{Span}
+use Rattle.range_core.specs.declared.RangeFault.{RangeFault}
+use Rattle.range_core.specs.declared.RangeFault.TheVariants as range_faults
+use Rattle.range_core.specs.Resolving.{resolution}
+use Rattle.lock_book.specs.Changes.{flock_mode_in}
+use Rattle.fd_table.specs.declared.FdFault.{FdFault}
+use Rattle.fd_table.specs.declared.FdFault.TheVariants.{BadFd, TooMany, Invalid, Taken, Memory}
+use Rattle.fd_table.specs.declared.tables.Look.{Look}
+use Rattle.fd_table.specs.Descriptors.{look_at}
+use Rattle.wait_core.specs.declared.Policy.{Policy}
+use Rattle.wait_core.specs.declared.Wait.{Wait}
+use Rattle.wait_core.specs.Blocking.{AllBlocked, IsBlocked}
+use Rattle.wait_core.specs.Cycles.{IsTraditional, ClosesCycle}
+use Rattle.wait_core.specs.Locks.{Locks}
+use Rattle.lock_manager.specs.declared.request.Rules.{Rules}
+use Rattle.lock_manager.specs.declared.request.Lock.{Lock}
+use Rattle.lock_manager.specs.declared.request.LkCmd.{LkCmd}
+use Rattle.lock_manager.specs.declared.request.LkCmd.TheVariants.{GetLk, SetLk, SetLkW, OGetLk, OSetLk, OSetLkW}
+use Rattle.lock_manager.specs.declared.request.FlockOp.{FlockOp}
+use Rattle.lock_manager.specs.declared.request.FlockOp.TheVariants.{Sh, Ex, Un}
+use Rattle.lock_manager.specs.declared.request.Reply.{Reply}
+use Rattle.lock_manager.specs.declared.request.Note.{Note}
+use Rattle.lock_manager.specs.declared.request.Note.TheVariants.{Answer, Waits}
+use Rattle.lock_manager.specs.declared.request.Request.{Request}
+use Rattle.lock_manager.specs.declared.request.Request.TheVariants.{OpenFile, Dup, DupTo, CloseFd, Seek, Resize, Lk, Flock, Fork, Exit, Signal, Kill}
+use Rattle.lock_manager.specs.declared.request.ProcState.{ProcState}
+use Rattle.lock_manager.specs.declared.request.ProcState.TheVariants.{Unborn, Live, Waiting, Ended}
+use Rattle.lock_manager.specs.State.{State, locks_held, opening_state}
+use Rattle.lock_manager.specs.Settling.{IsSettled, Settles, granted}
+use Rattle.lock_manager.specs.Outcomes.{Outcome, IsRefusal, answered, refused, range_error}
+use Rattle.lock_manager.specs.LockWords.{is_get, is_bad_argument, wanted_mode, permits, wanted_lock}
+use Rattle.lock_manager.specs.LockCommands.{CommandComesTo, DescribedComesTo, GetTells}
+use Rattle.lock_manager.specs.FlockCalls.{FlockTestComesTo, FlockModeComesTo, FlockOpComesTo, is_same_mode, wanted_flock}
+use Rattle.lock_manager.specs.ProcessCalls.{SignalComesTo, KillOtherComesTo}
+use Rattle.lock_manager.specs.Asking.{AsksFor, AsksForBytes}
+use Rattle.lock_manager.specs.Step.{ComesTo, Step}
+use Rattle.script_core.specs.Explaining.{is_edeadlk, is_deadlock}
+
+-- a settled state stays
+blocked_at : (policy : Policy) (locks : Locks) (earlier before : List Wait) (wait : Wait) (after : List Wait)
+    → AllBlocked policy locks earlier (before ++ wait ∷ after)
+    → IsBlocked policy locks (earlier ++ before) wait
+blocked_at policy locks earlier [] wait after h = subst (λ (l : List Wait). IsBlocked policy locks l wait) (sym (append-nil earlier)) h.0
+blocked_at policy locks earlier (first ∷ before) wait after h =
+    subst (λ (l : List Wait). IsBlocked policy locks l wait) (append_one earlier first before) (blocked_at policy locks (earlier ++ first ∷ []) before wait after h.1)
+  where
+    append_one : (xs : List Wait) (x : Wait) (ys : List Wait) → (xs ++ x ∷ []) ++ ys ≡ xs ++ x ∷ ys
+    append_one [] x ys = refl
+    append_one (y ∷ xs) x ys = ap (λ (l : List Wait). y ∷ l) (append_one xs x ys)
+
+stays_settled : (policy : Policy) (S : State) (grants : List Note) (T : State) → IsSettled policy S → Settles policy S grants T → T ≡ S
+stays_settled policy S [] T settled h = h.1
+stays_settled policy S (grant ∷ grants) T settled (before, wait, after, next, is, rest) =
+    absurd (next.ready (blocked_at policy (locks_held S) [] before wait after
+    (subst (AllBlocked policy (locks_held S) []) next.place settled)))
+
+-- settling leaves a settled state
+pub settled_then : (policy : Policy) (S : State) (grants : List Note) (T : State) → Settles policy S grants T → IsSettled policy T
+settled_then policy S [] T h = subst (IsSettled policy) (sym h.1) h.0
+settled_then policy S (grant ∷ grants) T (before, wait, after, next, is, rest) = settled_then policy (granted S before wait after) grants T rest
+
+-- and so is the opening
+pub opening_settled : (policy : Policy) → IsSettled policy opening_state
+unfolding opening_state
+opening_settled policy = tt
+
+-- the notes of a settling don't say EDEADLK
+deadlock_told : (policy : Policy) (S : State) (told grants : List Note) (T : State) → Settles policy S grants T → is_deadlock (told ++ grants) ≡ true
+    → is_deadlock told ≡ true
+deadlock_told policy S (Answer p n reply ∷ told) grants T h is = is
+deadlock_told policy S (Waits p n ∷ told) grants T h is = is
+deadlock_told policy S [] [] T h is = is
+deadlock_told policy S [] (grant ∷ grants) T (before, wait, after, next, same, rest) is =
+    absurd (let none = ap (λ (g : Note). is_deadlock (g ∷ grants)) same in let differ : true ≡ false = sym is ∙ none in cc)
+
+-- the outcome of the request is the refusal of a traditional lock whose wait would close a cycle
+pub record IsDeadlock (rules : Rules) (S : State) (p n : ℕ) (request : Request) (outcome : Outcome) : Type 0 where
+  pub stays : outcome.after ≡ S
+  pub wait : Wait
+  pub asks : AsksFor S p n request wait
+  pub traditional : IsTraditional wait
+  pub closes : ClosesCycle rules.policy (locks_held S) S.waits wait
+
+-- where EDEADLK is told it is
+abbrev TellsOnly : Rules → State → ℕ → ℕ → Request → Outcome → Type 0
+TellsOnly rules S p n request outcome = is_deadlock outcome.told ≡ true → IsDeadlock rules S p n request outcome
+
+other_told : (rules : Rules) (S : State) (p n : ℕ) (request : Request) (outcome other : Outcome) → outcome ≡ other → is_deadlock other.told ≡ false
+    → TellsOnly rules S p n request outcome
+other_told rules S p n request outcome other is none told =
+    absurd (let same = ap (λ (o : Outcome). is_deadlock o.told) is in let differ : true ≡ false = sym told ∙ same ∙ none in cc)
+
+refusal_told : (rules : Rules) (S : State) (p n : ℕ) (request : Request) (fault : FdFault) (outcome : Outcome) → IsRefusal S p n fault outcome
+    → TellsOnly rules S p n request outcome
+refusal_told rules S p n request BadFd outcome h = other_told rules S p n request outcome _ h refl
+refusal_told rules S p n request TooMany outcome h = other_told rules S p n request outcome _ h refl
+refusal_told rules S p n request Invalid outcome h = other_told rules S p n request outcome _ h refl
+refusal_told rules S p n request Taken outcome h = other_told rules S p n request outcome _ h refl
+refusal_told rules S p n request (Memory memory) outcome h = absurd h
+
+call_told : {X : Type 0} (rules : Rules) (S : State) (p n : ℕ) (request : Request) (result : Result X FdFault)
+    → (after : X → State) (reply : X → Reply) (outcome : Outcome)
+    → ((x : X) → is_edeadlk (reply x) ≡ false)
+    → MatchResult result (λ x. outcome ≡ answered (after x) p n (reply x)) (λ fault. IsRefusal S p n fault outcome)
+    → TellsOnly rules S p n request outcome
+call_told rules S p n request (Ok x) after reply outcome none h = other_told rules S p n request outcome _ h (none x)
+call_told rules S p n request (Err fault) after reply outcome none h = refusal_told rules S p n request fault outcome h
+
+signal_told : (rules : Rules) (S : State) (p n target : ℕ) (request : Request) (state : ProcState) (outcome : Outcome)
+    → SignalComesTo S p n target state outcome
+    → TellsOnly rules S p n request outcome
+signal_told rules S p n target request Unborn outcome h = other_told rules S p n request outcome _ h refl
+signal_told rules S p n target request Ended outcome h = other_told rules S p n request outcome _ h refl
+signal_told rules S p n target request Live outcome h = other_told rules S p n request outcome _ h refl
+signal_told rules S p n target request Waiting outcome h = other_told rules S p n request outcome _ h.2 refl
+
+kill_told : (rules : Rules) (S : State) (p n target : ℕ) (request : Request) (state : ProcState) (outcome : Outcome)
+    → KillOtherComesTo S p n target state outcome
+    → TellsOnly rules S p n request outcome
+kill_told rules S p n target request Unborn outcome h = other_told rules S p n request outcome _ h refl
+kill_told rules S p n target request Ended outcome h = other_told rules S p n request outcome _ h refl
+kill_told rules S p n target request Live outcome h = other_told rules S p n request outcome _ h.3 refl
+kill_told rules S p n target request Waiting outcome h = other_told rules S p n request outcome _ h.3 refl
+
+-- flock
+test_told : (rules : Rules) (S U : State) (p n : ℕ) (request : Request) (nb : Bool) (wanted : Wait) (grants : List Note) (outcome : Outcome)
+    → FlockTestComesTo rules U nb wanted grants outcome → TellsOnly rules S p n request outcome
+test_told rules S U p n request true wanted grants outcome (inl h) = other_told rules S p n request outcome _ h.1 refl
+test_told rules S U p n request true wanted grants outcome (inr h) = other_told rules S p n request outcome _ h.1 refl
+test_told rules S U p n request false wanted grants outcome (inl h) = other_told rules S p n request outcome _ h.1 refl
+test_told rules S U p n request false wanted grants outcome (inr h) = other_told rules S p n request outcome _ h.1 refl
+
+-- by cases
+pub if_bool : (b : Bool) (P Q X : Type 0) → MatchBool b P Q → (P → X) → (Q → X) → X
+if_bool true P Q X h one other = one h
+if_bool false P Q X h one other = other h
+
+pub if_option : {Y : Type 0} (o : Option Y) (P : Type 0) (Q : Y → Type 0) (X : Type 0) → MatchOption o P Q → (P → X) → ((y : Y) → o ≡ Some y → Q y → X) → X
+if_option None P Q X h one other = one h
+if_option (Some y) P Q X h one other = other y refl h
+
+pub if_result : {Y E : Type 0} (r : Result Y E) (P : Y → Type 0) (Q : E → Type 0) (X : Type 0) → MatchResult r P Q → ((y : Y) → r ≡ Ok y → P y → X)
+    → ((e : E) → Q e → X) → X
+if_result (Ok y) P Q X h one other = one y refl h
+if_result (Err e) P Q X h one other = other e h
+
+mode_told : (rules : Rules) (S : State) (p n : ℕ) (request : Request) (look : Look) (nb : Bool) (wanted : Wait) (held : Option Mode) (outcome : Outcome)
+    → FlockModeComesTo rules S look nb wanted held outcome → TellsOnly rules S p n request outcome
+mode_told rules S p n request look nb wanted None outcome h = test_told rules S S p n request nb wanted [] outcome h
+mode_told rules S p n request look nb wanted (Some held) outcome h =
+    if_bool (is_same_mode held wanted.mode) _ _ (TellsOnly rules S p n request outcome) h
+    (λ same. other_told rules S p n request outcome _ same refl)
+    (λ converted. test_told rules S converted.1 p n request nb wanted converted.0 outcome converted.3)
+
+op_told : (rules : Rules) (S : State) (p n : ℕ) (request : Request) (look : Look) (op : FlockOp) (nb : Bool) (outcome : Outcome)
+    → FlockOpComesTo rules S p n look op nb outcome → TellsOnly rules S p n request outcome
+op_told rules S p n request look Un nb outcome h = other_told rules S p n request outcome _ h refl
+op_told rules S p n request look Sh nb outcome h =
+    mode_told rules S p n request look nb (wanted_flock p n look modes.Read) (flock_mode_in S.flock_changes look.file look.desc) outcome h
+op_told rules S p n request look Ex nb outcome h =
+    mode_told rules S p n request look nb (wanted_flock p n look modes.Write) (flock_mode_in S.flock_changes look.file look.desc) outcome h
+
+-- the lock commands
+get_told : (rules : Rules) (S : State) (p n : ℕ) (request : Request) (wanted : Wait) (outcome : Outcome)
+    → GetTells ((locks_held S).bytes wanted.file) wanted.owner wanted.span wanted.mode (λ reply. outcome ≡ answered S wanted.p wanted.n reply)
+    → TellsOnly rules S p n request outcome
+get_told rules S p n request wanted outcome (inl h) = other_told rules S p n request outcome _ h.1.2 refl
+get_told rules S p n request wanted outcome (inr h) = other_told rules S p n request outcome _ h.1 refl
+
+command_told : (rules : Rules) (S : State) (p n fd : ℕ) (cmd : LkCmd) (lock : Lock) (look : Look) (span : Span) (mode : Mode) (outcome : Outcome)
+    → AsksForBytes S p n fd cmd lock (wanted_lock cmd p n look span mode)
+    → CommandComesTo rules S cmd (wanted_lock cmd p n look span mode) outcome → TellsOnly rules S p n (Lk fd cmd lock) outcome
+command_told rules S p n fd GetLk lock look span mode outcome asks h = get_told rules S p n (Lk fd GetLk lock) (wanted_lock GetLk p n look span mode) outcome h
+command_told rules S p n fd OGetLk lock look span mode outcome asks h = get_told rules S p n (Lk fd OGetLk lock) (wanted_lock OGetLk p n look span mode) outcome h
+command_told rules S p n fd SetLk lock look span mode outcome asks (inl h) = other_told rules S p n (Lk fd SetLk lock) outcome _ h.1 refl
+command_told rules S p n fd SetLk lock look span mode outcome asks (inr h) = other_told rules S p n (Lk fd SetLk lock) outcome _ h.1 refl
+command_told rules S p n fd OSetLk lock look span mode outcome asks (inl h) = other_told rules S p n (Lk fd OSetLk lock) outcome _ h.1 refl
+command_told rules S p n fd OSetLk lock look span mode outcome asks (inr h) = other_told rules S p n (Lk fd OSetLk lock) outcome _ h.1 refl
+command_told rules S p n fd OSetLkW lock look span mode outcome asks (inl h) = other_told rules S p n (Lk fd OSetLkW lock) outcome _ h.1 refl
+command_told rules S p n fd OSetLkW lock look span mode outcome asks (inr h) = other_told rules S p n (Lk fd OSetLkW lock) outcome _ h.1 refl
+command_told rules S p n fd SetLkW lock look span mode outcome asks (inr h) = other_told rules S p n (Lk fd SetLkW lock) outcome _ h.1 refl
+command_told rules S p n fd SetLkW lock look span mode outcome asks (inl (blocked, inr h)) = other_told rules S p n (Lk fd SetLkW lock) outcome _ h.1 refl
+command_told rules S p n fd SetLkW lock look span mode outcome asks (inl (blocked, inl h)) = λ told. record {
+  stays = ap (λ (o : Outcome). o.after) h.1;
+  wait = wanted_lock SetLkW p n look span mode;
+  asks = asks;
+  traditional = refl;
+  closes = h.0;
+}
+
+range_told : (rules : Rules) (S : State) (p n : ℕ) (request : Request) (fault : RangeFault) (outcome : Outcome) → outcome ≡ refused S p n (range_error fault)
+    → TellsOnly rules S p n request outcome
+range_told rules S p n request range_faults.Invalid outcome h = other_told rules S p n request outcome _ h refl
+range_told rules S p n request range_faults.Overflow outcome h = other_told rules S p n request outcome _ h refl
+
+described_told : (rules : Rules) (S : State) (p n fd : ℕ) (cmd : LkCmd) (lock : Lock) (look : Look) (outcome : Outcome)
+    → look_at S.descriptors p fd ≡ Some look
+    → DescribedComesTo rules S p n cmd lock look outcome → TellsOnly rules S p n (Lk fd cmd lock) outcome
+described_told rules S p n fd cmd lock look outcome opened h =
+    if_bool (is_bad_argument cmd lock) _ _ (TellsOnly rules S p n (Lk fd cmd lock) outcome) h
+    (λ bad. other_told rules S p n (Lk fd cmd lock) outcome _ bad refl)
+    (λ good. if_result (resolution lock.whence lock.start lock.len look.offset look.size) _ _ (TellsOnly rules S p n (Lk fd cmd lock) outcome) good
+    (λ span resolved ranged. if_option (wanted_mode lock.kind) _ _ (TellsOnly rules S p n (Lk fd cmd lock) outcome) ranged
+    (λ unlocked. other_told rules S p n (Lk fd cmd lock) outcome _ unlocked refl)
+    (λ mode kind wants. if_bool (is_get cmd || permits look.access mode) _ _ (TellsOnly rules S p n (Lk fd cmd lock) outcome) wants
+    (command_told rules S p n fd cmd lock look span mode outcome
+    (record { look = look; of_open = opened; span = span; of_range = resolved; mode = mode; of_kind = kind; is = refl }))
+    (λ denied. other_told rules S p n (Lk fd cmd lock) outcome _ denied refl)))
+    (λ fault no_range. range_told rules S p n (Lk fd cmd lock) fault outcome no_range))
+
+-- each request
+outcome_told : (rules : Rules) (processes : ℕ) (S : State) (p n : ℕ) (request : Request) (outcome : Outcome) → ComesTo rules processes S p n request outcome
+    → TellsOnly rules S p n request outcome
+outcome_told rules processes S p n (OpenFile file access) outcome h =
+    call_told rules S p n (OpenFile file access) h.0 _ _ outcome (λ x. refl) h.3
+outcome_told rules processes S p n (Dup fd) outcome h = call_told rules S p n (Dup fd) h.0 _ _ outcome (λ x. refl) h.3
+outcome_told rules processes S p n (DupTo fd to) outcome h = call_told rules S p n (DupTo fd to) h.0 _ _ outcome (λ x. refl) h.3
+outcome_told rules processes S p n (CloseFd fd) outcome h = call_told rules S p n (CloseFd fd) h.0 _ _ outcome (λ x. refl) h.3
+outcome_told rules processes S p n (Seek fd offset) outcome h = call_told rules S p n (Seek fd offset) h.0 _ _ outcome (λ x. refl) h.3
+outcome_told rules processes S p n (Resize fd size) outcome h = call_told rules S p n (Resize fd size) h.0 _ _ outcome (λ x. refl) h.3
+outcome_told rules processes S p n (Fork child) outcome h = call_told rules S p n (Fork child) h.0 _ _ outcome (λ x. refl) h.3
+outcome_told rules processes S p n (Lk fd cmd lock) outcome h =
+    if_option (look_at S.descriptors p fd) _ _ (TellsOnly rules S p n (Lk fd cmd lock) outcome) h
+    (λ closed. other_told rules S p n (Lk fd cmd lock) outcome _ closed refl)
+    (λ look opened described. described_told rules S p n fd cmd lock look outcome opened described)
+outcome_told rules processes S p n (Flock fd op nb) outcome h =
+    if_option (look_at S.descriptors p fd) _ _ (TellsOnly rules S p n (Flock fd op nb) outcome) h
+    (λ closed. other_told rules S p n (Flock fd op nb) outcome _ closed refl)
+    (λ look opened done. op_told rules S p n (Flock fd op nb) look op nb outcome done)
+outcome_told rules processes S p n Exit outcome h = other_told rules S p n Exit outcome _ h.3 refl
+outcome_told rules processes S p n (Signal target) outcome h = signal_told rules S p n target (Signal target) (S.states target) outcome h
+outcome_told rules processes S p n (Kill target) outcome h =
+    if_bool (target == p) _ _ (TellsOnly rules S p n (Kill target) outcome) h
+    (λ own. other_told rules S p n (Kill target) outcome _ own.3 refl)
+    (λ others. kill_told rules S p n target (Kill target) (S.states target) outcome others)
+
+-- what a step that was refused with EDEADLK has found, from a settled state: it leaves that state
+pub record HasClosed (rules : Rules) (p n : ℕ) (request : Request) (T : State) : Type 0 where
+  pub wait : Wait
+  pub asks : AsksFor T p n request wait
+  pub traditional : IsTraditional wait
+  pub closes : ClosesCycle rules.policy (locks_held T) T.waits wait
+
+pub step_closes : (rules : Rules) (processes : ℕ) (S : State) (p n : ℕ) (request : Request) (notes : List Note) (T : State) → IsSettled rules.policy S
+    → Step rules processes S p n request notes T → is_deadlock notes ≡ true → HasClosed rules p n request T
+step_closes rules processes S p n request notes T settled step told =
+    let all : is_deadlock (step.outcome.told ++ step.grants) ≡ true = ap is_deadlock (sym step.are_notes) ∙ told in
+    let first = deadlock_told rules.policy step.outcome.after step.outcome.told step.grants T step.settles all in
+    let found = outcome_told rules processes S p n request step.outcome step.comes_to first in
+    let settles : Settles rules.policy S step.grants T = subst (λ (U : State). Settles rules.policy U step.grants T) found.stays step.settles in
+    let same : T ≡ S = stays_settled rules.policy S step.grants T settled settles in
+    let here : HasClosed rules p n request S = record { wait = found.wait; asks = found.asks; traditional = found.traditional; closes = found.closes } in
+    subst (HasClosed rules p n request) (sym same) here

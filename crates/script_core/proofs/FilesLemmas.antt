@@ -1,0 +1,318 @@
+-- Each description and each wait is of one of the files, and each step keeps that: for `write_explained`, clause `ok`.
+use Rattle.std.proofs.Common.{ℕ, zero, suc, ◌≡◌, ◌==◌, ◌<◌, inl, inr, ◌||◌, not, Bool, true, false, Option, Some, None, Result, List, [], ◌∷◌, ◌++◌, All, length, refl, sym, subst, arith}
+use Rattle.std.specs.Prelude.{option_and_then, option_map, pred, slice_get}
+use Rattle.std.proofs.lemmas.List.Elements.{All-append, All-set, All-filter}
+use Rattle.std.proofs.lemmas.Option.{get_or_from_slice_get, slice_get_within}
+use Rattle.range_core.specs.declared.Mode.{Mode}
+use Rattle.range_core.specs.declared.Mode.TheVariants as modes
+use Rattle.range_core.specs.Resolving.{resolution}
+use Rattle.lock_book.specs.declared.Owner.{Owner}
+use Rattle.lock_book.specs.declared.Owner.TheVariants.{Process, Description}
+use Rattle.lock_book.specs.Changes.{flock_mode_in}
+use Rattle.fd_table.specs.declared.TheConstants.{FILES}
+use Rattle.fd_table.specs.declared.FdFault.{FdFault}
+use Rattle.fd_table.specs.declared.FdFault.TheVariants.{BadFd, TooMany, Invalid, Taken, Memory}
+use Rattle.fd_table.specs.declared.tables.Look.{Look}
+use Rattle.fd_table.specs.Released.{Released}
+use Rattle.fd_table.specs.Calls.{OpenGives, DupGives, DupToGives, CloseGives, SeekGives, ResizeGives, ForkGives}
+use Rattle.fd_table.specs.Descriptors.{look_of, Descriptors, OpenFileDescription, SameDescriptors, description_numbered, look_at, opening_descriptors}
+use Rattle.wait_core.specs.declared.Family.{Family}
+use Rattle.wait_core.specs.declared.Family.TheVariants.{Bytes, Whole}
+use Rattle.wait_core.specs.declared.Policy.{Policy}
+use Rattle.wait_core.specs.declared.Wait.{Wait}
+use Rattle.lock_manager.specs.declared.request.Rules.{Rules}
+use Rattle.lock_manager.specs.declared.request.Lock.{Lock}
+use Rattle.lock_manager.specs.declared.request.LkCmd.{LkCmd}
+use Rattle.lock_manager.specs.declared.request.LkCmd.TheVariants.{GetLk, SetLk, SetLkW, OGetLk, OSetLk, OSetLkW}
+use Rattle.lock_manager.specs.declared.request.FlockOp.{FlockOp}
+use Rattle.lock_manager.specs.declared.request.FlockOp.TheVariants.{Sh, Ex, Un}
+use Rattle.lock_manager.specs.declared.request.Note.{Note}
+use Rattle.lock_manager.specs.declared.request.Request.{Request}
+use Rattle.lock_manager.specs.declared.request.Request.TheVariants.{OpenFile, Dup, DupTo, CloseFd, Seek, Resize, Lk, Flock, Fork, Exit, Signal, Kill}
+use Rattle.lock_manager.specs.declared.request.ProcState.{ProcState}
+use Rattle.lock_manager.specs.declared.request.ProcState.TheVariants.{Unborn, Live, Waiting, Ended}
+use Rattle.lock_manager.specs.State.{State, locks_held, opening_state, with_flock_mode, with_lock_of}
+use Rattle.lock_manager.specs.Settling.{Settles, granted}
+use Rattle.lock_manager.specs.Outcomes.{Outcome, IsRefusal, answered, waits_then}
+use Rattle.lock_manager.specs.LockWords.{is_get, is_bad_argument, wanted_mode, permits, wanted_lock}
+use Rattle.lock_manager.specs.LockCommands.{CommandComesTo, DescribedComesTo, GetTells}
+use Rattle.lock_manager.specs.FlockCalls.{FlockTestComesTo, FlockModeComesTo, FlockOpComesTo, is_same_mode, wanted_flock}
+use Rattle.lock_manager.specs.ProcessCalls.{EndComesTo, SignalComesTo, KillOtherComesTo}
+use Rattle.lock_manager.specs.Asking.{AsksFor}
+use Rattle.lock_manager.specs.Step.{ComesTo, Step}
+use Rattle.script_core.specs.Files.{IsWithinFiles}
+use Rattle.script_core.proofs.DeadlockStepLemmas.{if_bool, if_option, if_result}
+
+abbrev InFiles : List OpenFileDescription → Type 0
+InFiles descriptions = All (λ opened. opened.file < FILES) descriptions
+
+abbrev WaitInFiles : Wait → Type 0
+WaitInFiles wait = wait.file < FILES
+
+-- lists, an item more or less
+all_one : {X : Type 0} (P : X → Type 0) (x : X) → P x → All P (x ∷ [])
+all_one P x holds zero d within = holds
+all_one P x holds (suc k) d within = absurd (omega (arith, within))
+
+all_after : {X : Type 0} (P : X → Type 0) (x : X) (xs : List X) → All P (x ∷ xs) → All P xs
+all_after P x xs h k d within = h (suc k) d (omega (arith, within))
+
+all_cons : {X : Type 0} (P : X → Type 0) (x : X) (xs : List X) → P x → All P xs → All P (x ∷ xs)
+all_cons P x xs holds h zero d within = holds
+all_cons P x xs holds h (suc k) d within = h k d (omega (arith, within))
+
+all_first : {X : Type 0} (P : X → Type 0) (x : X) (xs : List X) → All P (x ∷ xs) → P x
+all_first P x xs h = h 0 x (let n = length xs in omega arith)
+
+all_without : {X : Type 0} (P : X → Type 0) (before : List X) (x : X) (after : List X) → All P (before ++ x ∷ after) → All P (before ++ after)
+all_without P [] x after h = all_after P x after h
+all_without P (y ∷ before) x after h =
+    all_cons P y (before ++ after) (all_first P y (before ++ x ∷ after) h) (all_without P before x after (all_after P y (before ++ x ∷ after) h))
+
+all_at : {X : Type 0} (P : X → Type 0) (xs : List X) (k : ℕ) (x : X) → All P xs → slice_get xs k ≡ Some x → P x
+all_at P xs k x h is = subst P (get_or_from_slice_get xs k x x is) (h k x (slice_get_within xs k x is))
+
+-- at the opening there are none
+pub opening_files : IsWithinFiles opening_state
+unfolding opening_state opening_descriptors
+opening_files = record { descriptions = λ k d within. absurd (omega (arith, within)); waits = λ k d within. absurd (omega (arith, within)) }
+
+-- the description with a number, and what a descriptor refers to
+numbered_file : (descriptions : List OpenFileDescription) (number : ℕ) (opened : OpenFileDescription) → InFiles descriptions
+    → description_numbered descriptions number ≡ Some opened → opened.file < FILES
+numbered_file descriptions zero opened h is = absurd (cc)
+numbered_file descriptions (suc k) opened h is = all_at (λ (o : OpenFileDescription). o.file < FILES) descriptions k opened h is
+
+look_file : (D : Descriptors) (p fd : ℕ) (look : Look) → InFiles D.descriptions → look_at D p fd ≡ Some look → look.file < FILES
+look_file D p fd look h is = by_number (D.description_of p fd) is
+  where
+    by_opened : (number : ℕ) (opened : Option OpenFileDescription) → description_numbered D.descriptions number ≡ opened
+        → option_map (look_of D number) opened ≡ Some look → look.file < FILES
+    by_opened number None was is = absurd (cc)
+    by_opened number (Some opened) was is =
+        let same : look_of D number opened ≡ look = some_look is in
+        subst (λ (l : Look). l.file < FILES) same (numbered_file D.descriptions number opened h was)
+      where
+        some_look : {x y : Look} → Some x ≡ Some y → x ≡ y
+        some_look e = cc
+
+    by_number : (number : Option ℕ) → option_and_then (λ n. option_map (look_of D n) (description_numbered D.descriptions n)) number ≡ Some look
+        → look.file < FILES
+    by_number None is = absurd (cc)
+    by_number (Some number) is = by_opened number (description_numbered D.descriptions number) refl is
+
+-- a lock that is set changes neither
+lock_within : (family : Family) (owner : Owner) (S : State) (wait : Wait) → IsWithinFiles S → IsWithinFiles (with_lock_of family owner S wait)
+lock_within Bytes owner S wait h = record { descriptions = h.descriptions; waits = h.waits }
+lock_within Whole (Description description) S wait h = record { descriptions = h.descriptions; waits = h.waits }
+lock_within Whole (Process p) S wait h = h
+
+settles_within : (policy : Policy) (S : State) (grants : List Note) (T : State) → Settles policy S grants T → IsWithinFiles S → IsWithinFiles T
+settles_within policy S [] T h within = subst IsWithinFiles (sym h.1) within
+settles_within policy S (grant ∷ grants) T (before, wait, after, next, is, rest) within =
+    settles_within policy (granted S before wait after) grants T rest
+    (record {
+      descriptions = (lock_within wait.family wait.owner S wait within).descriptions;
+      waits = all_without WaitInFiles before wait after (subst (All WaitInFiles) next.place within.waits);
+    })
+
+-- an outcome
+leaves : (outcome other : Outcome) → outcome ≡ other → IsWithinFiles other.after → IsWithinFiles outcome.after
+leaves outcome other is within = subst (λ (o : Outcome). IsWithinFiles o.after) (sym is) within
+
+refusal_leaves : (S : State) (p n : ℕ) (fault : FdFault) (outcome : Outcome) → IsRefusal S p n fault outcome → IsWithinFiles S → IsWithinFiles outcome.after
+refusal_leaves S p n BadFd outcome h within = leaves outcome _ h within
+refusal_leaves S p n TooMany outcome h within = leaves outcome _ h within
+refusal_leaves S p n Invalid outcome h within = leaves outcome _ h within
+refusal_leaves S p n Taken outcome h within = leaves outcome _ h within
+refusal_leaves S p n (Memory memory) outcome h within = absurd h
+
+-- the same descriptions, or others that are of the files
+with_files : (S : State) (descriptors : Descriptors) → InFiles descriptors.descriptions → IsWithinFiles S
+    → IsWithinFiles (record S { descriptors = descriptors })
+with_files S descriptors files within = record { descriptions = files; waits = within.waits }
+
+same_files : (new old : Descriptors) → SameDescriptors new old → InFiles old.descriptions → InFiles new.descriptions
+same_files new old same files = subst InFiles (sym same.descriptions) files
+
+end_leaves : (S : State) (p : ℕ) (told : List Note) (outcome : Outcome) → EndComesTo S p told outcome → IsWithinFiles S → IsWithinFiles outcome.after
+end_leaves S p told outcome (released, descriptors, gives, is) within =
+    leaves outcome _ is (record {
+      descriptions = same_files descriptors _ gives.0 within.descriptions;
+      waits = All-filter (λ (wait : Wait). not (wait.p == p)) WaitInFiles S.waits within.waits;
+    })
+
+signal_leaves : (S : State) (p n target : ℕ) (state : ProcState) (outcome : Outcome) → SignalComesTo S p n target state outcome → IsWithinFiles S
+    → IsWithinFiles outcome.after
+signal_leaves S p n target Unborn outcome h within = leaves outcome _ h within
+signal_leaves S p n target Ended outcome h within = leaves outcome _ h within
+signal_leaves S p n target Live outcome h within = leaves outcome _ h within
+signal_leaves S p n target Waiting outcome h within =
+    leaves outcome _ h.2 (record {
+      descriptions = within.descriptions;
+      waits = All-filter (λ (wait : Wait). not (wait.p == target)) WaitInFiles S.waits within.waits;
+    })
+
+kill_leaves : (S : State) (p n target : ℕ) (state : ProcState) (outcome : Outcome) → KillOtherComesTo S p n target state outcome → IsWithinFiles S
+    → IsWithinFiles outcome.after
+kill_leaves S p n target Unborn outcome h within = leaves outcome _ h within
+kill_leaves S p n target Ended outcome h within = leaves outcome _ h within
+kill_leaves S p n target Live outcome h within = end_leaves S target _ outcome h within
+kill_leaves S p n target Waiting outcome h within = end_leaves S target _ outcome h within
+
+-- a wait more
+waits_leave : (S : State) (wait : Wait) (grants : List Note) (outcome : Outcome) → outcome ≡ waits_then S wait grants → wait.file < FILES → IsWithinFiles S
+    → IsWithinFiles outcome.after
+waits_leave S wait grants outcome is low within =
+    leaves outcome _ is (record {
+      descriptions = within.descriptions;
+      waits = All-append WaitInFiles S.waits (wait ∷ []) within.waits (all_one WaitInFiles wait low);
+    })
+
+test_leaves : (rules : Rules) (S : State) (nb : Bool) (wanted : Wait) (grants : List Note) (outcome : Outcome)
+    → FlockTestComesTo rules S nb wanted grants outcome
+    → wanted.file < FILES → IsWithinFiles S → IsWithinFiles outcome.after
+test_leaves rules S true wanted grants outcome (inl h) low within = leaves outcome _ h.1 within
+test_leaves rules S true wanted grants outcome (inr h) low within = leaves outcome _ h.1 (lock_within wanted.family wanted.owner S wanted within)
+test_leaves rules S false wanted grants outcome (inl h) low within = waits_leave S wanted grants outcome h.1 low within
+test_leaves rules S false wanted grants outcome (inr h) low within = leaves outcome _ h.1 (lock_within wanted.family wanted.owner S wanted within)
+
+mode_leaves : (rules : Rules) (S : State) (look : Look) (nb : Bool) (wanted : Wait) (held : Option Mode) (outcome : Outcome)
+    → FlockModeComesTo rules S look nb wanted held outcome
+    → wanted.file < FILES → IsWithinFiles S → IsWithinFiles outcome.after
+mode_leaves rules S look nb wanted None outcome h low within = test_leaves rules S nb wanted [] outcome h low within
+mode_leaves rules S look nb wanted (Some held) outcome h low within =
+    if_bool (is_same_mode held wanted.mode) _ _ (IsWithinFiles outcome.after) h (λ same. leaves outcome _ same within)
+    (λ converted.
+    test_leaves rules converted.1 nb wanted converted.0 outcome converted.3 low
+    (settles_within rules.policy (with_flock_mode S look.file look.desc None) converted.0 converted.1 converted.2
+    (record { descriptions = within.descriptions; waits = within.waits })))
+
+op_leaves : (rules : Rules) (S : State) (p n : ℕ) (look : Look) (op : FlockOp) (nb : Bool) (outcome : Outcome) → FlockOpComesTo rules S p n look op nb outcome
+    → look.file < FILES → IsWithinFiles S → IsWithinFiles outcome.after
+op_leaves rules S p n look Un nb outcome h low within = leaves outcome _ h (record { descriptions = within.descriptions; waits = within.waits })
+op_leaves rules S p n look Sh nb outcome h low within =
+    mode_leaves rules S look nb (wanted_flock p n look modes.Read) (flock_mode_in S.flock_changes look.file look.desc) outcome h low within
+op_leaves rules S p n look Ex nb outcome h low within =
+    mode_leaves rules S look nb (wanted_flock p n look modes.Write) (flock_mode_in S.flock_changes look.file look.desc) outcome h low within
+
+get_leaves : (S : State) (wanted : Wait) (outcome : Outcome)
+    → GetTells ((locks_held S).bytes wanted.file) wanted.owner wanted.span wanted.mode (λ reply. outcome ≡ answered S wanted.p wanted.n reply)
+    → IsWithinFiles S → IsWithinFiles outcome.after
+get_leaves S wanted outcome (inl h) within = leaves outcome _ h.1.2 within
+get_leaves S wanted outcome (inr h) within = leaves outcome _ h.1 within
+
+command_leaves : (rules : Rules) (S : State) (cmd : LkCmd) (wanted : Wait) (outcome : Outcome) → CommandComesTo rules S cmd wanted outcome
+    → wanted.file < FILES → IsWithinFiles S → IsWithinFiles outcome.after
+command_leaves rules S GetLk wanted outcome h low within = get_leaves S wanted outcome h within
+command_leaves rules S OGetLk wanted outcome h low within = get_leaves S wanted outcome h within
+command_leaves rules S SetLk wanted outcome (inl h) low within = leaves outcome _ h.1 within
+command_leaves rules S SetLk wanted outcome (inr h) low within = leaves outcome _ h.1 (lock_within wanted.family wanted.owner S wanted within)
+command_leaves rules S OSetLk wanted outcome (inl h) low within = leaves outcome _ h.1 within
+command_leaves rules S OSetLk wanted outcome (inr h) low within = leaves outcome _ h.1 (lock_within wanted.family wanted.owner S wanted within)
+command_leaves rules S OSetLkW wanted outcome (inl h) low within = waits_leave S wanted [] outcome h.1 low within
+command_leaves rules S OSetLkW wanted outcome (inr h) low within = leaves outcome _ h.1 (lock_within wanted.family wanted.owner S wanted within)
+command_leaves rules S SetLkW wanted outcome (inr h) low within = leaves outcome _ h.1 (lock_within wanted.family wanted.owner S wanted within)
+command_leaves rules S SetLkW wanted outcome (inl (blocked, inl h)) low within = leaves outcome _ h.1 within
+command_leaves rules S SetLkW wanted outcome (inl (blocked, inr h)) low within = waits_leave S wanted [] outcome h.1 low within
+
+described_leaves : (rules : Rules) (S : State) (p n : ℕ) (cmd : LkCmd) (lock : Lock) (look : Look) (outcome : Outcome)
+    → DescribedComesTo rules S p n cmd lock look outcome
+    → look.file < FILES → IsWithinFiles S → IsWithinFiles outcome.after
+described_leaves rules S p n cmd lock look outcome h low within =
+    if_bool (is_bad_argument cmd lock) _ _ (IsWithinFiles outcome.after) h (λ bad. leaves outcome _ bad within)
+    (λ good. if_result (resolution lock.whence lock.start lock.len look.offset look.size) _ _ (IsWithinFiles outcome.after) good
+    (λ span resolved ranged. if_option (wanted_mode lock.kind) _ _ (IsWithinFiles outcome.after) ranged
+    (λ unlocked. leaves outcome _ unlocked (record { descriptions = within.descriptions; waits = within.waits }))
+    (λ mode kind wants. if_bool (is_get cmd || permits look.access mode) _ _ (IsWithinFiles outcome.after) wants
+    (λ command. command_leaves rules S cmd (wanted_lock cmd p n look span mode) outcome command low within) (λ denied. leaves outcome _ denied within)))
+    (λ fault no_range. leaves outcome _ no_range within))
+
+outcome_leaves : (rules : Rules) (processes : ℕ) (S : State) (p n : ℕ) (request : Request) (outcome : Outcome) → ComesTo rules processes S p n request outcome
+    → IsWithinFiles S → IsWithinFiles outcome.after
+outcome_leaves rules processes S p n (OpenFile file access) outcome (result, descriptors, gives, comes) within =
+    if_result result _ _ (IsWithinFiles outcome.after) comes
+    (λ fd was is.
+    let given = subst (λ (r : Result ℕ FdFault). OpenGives rules.limits S.descriptors p file access r descriptors) was gives in
+    leaves outcome _ is (with_files S descriptors
+    (subst InFiles (sym given.3.descriptions)
+    (All-append (λ (o : OpenFileDescription). o.file < FILES) S.descriptors.descriptions _ within.descriptions (all_one (λ (o : OpenFileDescription). o.file < FILES) _ given.0))) within))
+    (λ fault refused. refusal_leaves S p n fault outcome refused within)
+outcome_leaves rules processes S p n (Dup fd) outcome (result, descriptors, gives, comes) within =
+    if_result result _ _ (IsWithinFiles outcome.after) comes
+    (λ free was is.
+    let given = subst (λ (r : Result ℕ FdFault). DupGives rules.limits S.descriptors p fd r descriptors) was gives in
+    leaves outcome _ is (with_files S descriptors (same_files descriptors _ given.3 within.descriptions) within))
+    (λ fault refused. refusal_leaves S p n fault outcome refused within)
+outcome_leaves rules processes S p n (DupTo fd to) outcome (result, descriptors, gives, comes) within =
+    if_result result _ _ (IsWithinFiles outcome.after) comes
+    (λ answer was is.
+    let given = subst (λ (r : Result (ℕ × Released) FdFault). DupToGives rules.limits S.descriptors p fd to r descriptors) was gives in
+    let files : InFiles descriptors.descriptions =
+    if_bool (to == fd) _ _ (InFiles descriptors.descriptions) given.4 (λ still. same_files descriptors _ still.1 within.descriptions)
+    (λ moved. same_files descriptors _ moved.0 within.descriptions) in
+    leaves outcome _ is (record { descriptions = files; waits = within.waits }))
+    (λ fault refused. refusal_leaves S p n fault outcome refused within)
+outcome_leaves rules processes S p n (CloseFd fd) outcome (result, descriptors, gives, comes) within =
+    if_result result _ _ (IsWithinFiles outcome.after) comes
+    (λ released was is.
+    let given = subst (λ (r : Result Released FdFault). CloseGives S.descriptors p fd r descriptors) was gives in
+    leaves outcome _ is (record { descriptions = same_files descriptors _ given.1 within.descriptions; waits = within.waits }))
+    (λ fault refused. refusal_leaves S p n fault outcome refused within)
+outcome_leaves rules processes S p n (Seek fd offset) outcome (result, descriptors, gives, comes) within =
+    if_result result _ _ (IsWithinFiles outcome.after) comes
+    (λ done was is.
+    let given = subst (λ (r : Result (Unit {0}) FdFault). SeekGives S.descriptors p fd offset r descriptors) was gives in
+    let low : given.0.file < FILES = numbered_file S.descriptors.descriptions given.1.number given.0 within.descriptions given.1.numbered in
+    leaves outcome _ is (with_files S descriptors
+    (subst InFiles (sym given.4.descriptions)
+    (All-set (λ (o : OpenFileDescription). o.file < FILES) S.descriptors.descriptions (pred given.1.number) _ low within.descriptions)) within))
+    (λ fault refused. refusal_leaves S p n fault outcome refused within)
+outcome_leaves rules processes S p n (Resize fd size) outcome (result, descriptors, gives, comes) within =
+    if_result result _ _ (IsWithinFiles outcome.after) comes
+    (λ done was is.
+    let given = subst (λ (r : Result (Unit {0}) FdFault). ResizeGives S.descriptors p fd size r descriptors) was gives in
+    leaves outcome _ is (with_files S descriptors (same_files descriptors _ given.4 within.descriptions) within))
+    (λ fault refused. refusal_leaves S p n fault outcome refused within)
+outcome_leaves rules processes S p n (Fork child) outcome (result, descriptors, gives, comes) within =
+    if_result result _ _ (IsWithinFiles outcome.after) comes
+    (λ done was is.
+    let given = subst (λ (r : Result (Unit {0}) FdFault). ForkGives processes S.descriptors p child r descriptors) was gives in
+    leaves outcome _ is (record { descriptions = same_files descriptors _ given.1 within.descriptions; waits = within.waits }))
+    (λ fault refused. refusal_leaves S p n fault outcome refused within)
+outcome_leaves rules processes S p n (Lk fd cmd lock) outcome h within =
+    if_option (look_at S.descriptors p fd) _ _ (IsWithinFiles outcome.after) h (λ closed. leaves outcome _ closed within)
+    (λ look opened described.
+    described_leaves rules S p n cmd lock look outcome described (look_file S.descriptors p fd look within.descriptions opened) within)
+outcome_leaves rules processes S p n (Flock fd op nb) outcome h within =
+    if_option (look_at S.descriptors p fd) _ _ (IsWithinFiles outcome.after) h (λ closed. leaves outcome _ closed within)
+    (λ look opened done. op_leaves rules S p n look op nb outcome done (look_file S.descriptors p fd look within.descriptions opened) within)
+outcome_leaves rules processes S p n Exit outcome h within = end_leaves S p [] outcome h within
+outcome_leaves rules processes S p n (Signal target) outcome h within = signal_leaves S p n target (S.states target) outcome h within
+outcome_leaves rules processes S p n (Kill target) outcome h within =
+    if_bool (target == p) _ _ (IsWithinFiles outcome.after) h (λ own. end_leaves S p [] outcome own within)
+    (λ others. kill_leaves S p n target (S.states target) outcome others within)
+
+-- each step keeps it
+pub step_files : (rules : Rules) (processes : ℕ) (S : State) (p n : ℕ) (request : Request) (notes : List Note) (T : State)
+    → Step rules processes S p n request notes T → IsWithinFiles S → IsWithinFiles T
+step_files rules processes S p n request notes T step within =
+    settles_within rules.policy step.outcome.after step.grants T step.settles
+    (outcome_leaves rules processes S p n request step.outcome step.comes_to within)
+
+-- the lock that a request asks for is of one of the files
+pub asks_file : (S : State) (p n : ℕ) (request : Request) (wait : Wait) → IsWithinFiles S → AsksFor S p n request wait → wait.file < FILES
+asks_file S p n (Lk fd cmd lock) wait within h =
+    subst (λ (w : Wait). w.file < FILES) (sym h.is) (look_file S.descriptors p fd h.look within.descriptions h.of_open)
+asks_file S p n (Flock fd op nb) wait within h =
+    subst (λ (w : Wait). w.file < FILES) (sym h.is) (look_file S.descriptors p fd h.look within.descriptions h.of_open)
+asks_file S p n (OpenFile file access) wait within h = absurd h
+asks_file S p n (Dup fd) wait within h = absurd h
+asks_file S p n (DupTo fd to) wait within h = absurd h
+asks_file S p n (CloseFd fd) wait within h = absurd h
+asks_file S p n (Seek fd offset) wait within h = absurd h
+asks_file S p n (Resize fd size) wait within h = absurd h
+asks_file S p n (Fork child) wait within h = absurd h
+asks_file S p n Exit wait within h = absurd h
+asks_file S p n (Signal target) wait within h = absurd h
+asks_file S p n (Kill target) wait within h = absurd h

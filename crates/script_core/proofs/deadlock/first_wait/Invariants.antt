@@ -1,0 +1,7 @@
+use Rattle.std.proofs.Common.{ℕ, ◌<◌, get_or}
+use Rattle.wait_core.specs.declared.Wait.{Wait}
+use Rattle.script_core.specs.Deadlocks.{IsWaitAgainst}
+use Rattle.script_core.proofs.deadlock.first_wait.Given as goal
+
+abbrev pub invariant-loop-other : goal.invariant-loop-other
+invariant-loop-other l = (k : ℕ) (d : Wait) → k < l.other-index → ¬ IsWaitAgainst l.q l.wait (get_or l.waits k d)

@@ -1,0 +1,8 @@
+use Rattle.std.proofs.lemmas.Option.{slice_get_within}
+use Rattle.std.proofs.Common.{arith}
+use Rattle.script_core.proofs.deadlock.link_from.Goals as goal
+
+pub returns : goal.returns
+returns c (place, blocks) =
+    let within = slice_get_within c.args.waits.now place blocks.wait blocks.at in
+    c.loop-place.invariant place (omega arith) blocks
