@@ -46,6 +46,8 @@ memory: build
 	sh tests/refuse-growths.sh $(PROGRAM) crates/lockreplay/stdin
 	sh tests/refuse-growths.sh $(PROGRAM) --help
 	sh tests/refuse-growths.sh $(PROGRAM) --threads tests/command-line/handed-over
+	sh tests/refuse-growths.sh $(PROGRAM) --explain tests/command-line/explained
+	sh tests/refuse-growths.sh $(PROGRAM) --threads --explain tests/command-line/handed-over
 	@for crate in $(TESTED) script_core_tests; do (cd crates/$$crate && rt test) > crates/$$crate/out/test.log 2>&1 \
 	    || { cat crates/$$crate/out/test.log >&2; exit 1; }; done
 	@for crate in $(filter %_tests,$(TESTED)); do sh tests/refuse-growths-in-tests.sh crates/$$crate/out/$${crate}_tests || exit 1; done

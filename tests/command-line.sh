@@ -100,6 +100,27 @@ check 2 empty both-flags.err conversion --check --threads
 check 2 empty both-flags.err empty --threads missing --check
 check 2 empty check-twice.err empty --check --check
 
+# What explains a run: what was in the way of a request, by a lock or by an earlier wait; which locks went with a close, a dup2, an exit and
+# a kill, and which a flock lost; and who was never born. It is legal as it stands, and without these lines it is the output.
+check 0 explained.out empty empty --explain explained
+check 0 explained.out empty explained --explain
+check 0 explained.out empty explained - --explain
+check 0 queued.explained empty empty --explain queued
+check 0 conversion.out empty empty --explain conversion
+check 0 empty.out empty conversion empty --explain
+check 0 empty empty explained.out --check
+grep -v '^#' explained.out > explained.plain
+check 0 explained.plain empty empty explained
+check 0 handed-over.explained empty empty --threads --explain handed-over
+check 0 handed-over.explained empty handed-over --explain --threads
+check 2 empty faulty.err faulty --explain
+check 2 empty faulty.err empty --explain --threads faulty
+check 1 empty read-failed.err empty --explain missing
+check 2 empty explain-check.err conversion --check --explain
+check 2 empty explain-check.err empty --explain missing --check
+check 2 empty both-flags.err empty --explain missing --check --threads
+check 2 empty explain-twice.err empty --explain --explain
+
 # In threads a script of one process prints the same.
 check 0 conversion.out empty empty --threads conversion
 check 0 conversion.out empty empty conversion --threads
@@ -129,6 +150,9 @@ status=1 output=empty errors=write-failed.err ended=0
 : > "$work/output"
 "$work/lockreplay" conversion > /dev/full 2> "$work/errors" || ended=$?
 judge "lockreplay conversion > /dev/full"
+status=1 output=empty errors=write-failed.err ended=0
+"$work/lockreplay" --explain explained > /dev/full 2> "$work/errors" || ended=$?
+judge "lockreplay --explain explained > /dev/full"
 
 echo "$passed passed, $failed failed"
 [ "$failed" -eq 0 ]

@@ -1,6 +1,6 @@
 #!/bin/sh
-# Replays each sample: the run of samples/NAME.lock must be samples/NAME.out, whose lines were derived by hand from docs/RULES.md. And
-# checks that run, behind the script's header lines: it must be legal.
+# Replays each sample: the run of samples/NAME.lock must be samples/NAME.out, whose lines were derived by hand from docs/RULES.md. Explained it
+# must be the same without the lines that begin with `#`. And checks the explained run, behind the script's header lines: it must be legal.
 # Usage: samples.sh PROGRAM
 set -eu
 program=$1
@@ -11,7 +11,8 @@ passed=0
 failed=0
 for script in "$samples"/*.lock; do
     if "$program" "$script" > "$work/output" 2> "$work/errors" && [ ! -s "$work/errors" ] && cmp -s "${script%.lock}.out" "$work/output" \
-        && { sed -n '/^policy /p; /^limits /p' "$script"; cat "${script%.lock}.out"; } > "$work/journal" \
+        && "$program" --explain "$script" > "$work/explained" 2>&1 && grep -v '^#' "$work/explained" | cmp -s "${script%.lock}.out" - \
+        && { sed -n '/^policy /p; /^limits /p' "$script"; cat "$work/explained"; } > "$work/journal" \
         && "$program" --check "$work/journal" > "$work/told" 2>&1 && [ ! -s "$work/told" ]
     then
         passed=$((passed + 1))

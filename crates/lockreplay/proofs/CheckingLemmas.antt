@@ -1,14 +1,13 @@
 -- A journal, byte by byte.
-use Rattle.std.proofs.Common.{◌≡◌, ◌<◌, ◌≤◌, ℕ, ◌+◌, ◌==◌, Bool, true, false, nat_lt, List, [], ◌∷◌, ◌++◌, Option, Some, None, Ok, Err, length, refl, sym, ap, subst, ◌∙◌, inl, inr, arith, append_assoc, append-nil, length-append, get_or, take, drop, take-append-drop}
+use Rattle.std.proofs.Common.{◌≡◌, ◌<◌, ◌≤◌, ℕ, ◌+◌, ◌==◌, true, false, nat_lt, List, [], ◌∷◌, ◌++◌, Option, Some, None, Ok, Err, length, refl, sym, ap, subst, ◌∙◌, inl, inr, arith, append_assoc, append-nil, length-append, get_or, take, drop, take-append-drop}
 use Rattle.std.specs.Prelude.{All, OnOk, Result, is_some}
 use Rattle.std.specs.List.{slice_split}
-use Rattle.std.proofs.lemmas.Bool.{lt-ltb, le-ltb}
+use Rattle.std.proofs.lemmas.Bool.{lt-ltb}
 use Rattle.std.proofs.lemmas.Bool.Decides.{eqb_tells}
 use Rattle.std.proofs.lemmas.List.{take_more}
 use Rattle.std.proofs.lemmas.List.Elements.{All-push}
 use Rattle.std.proofs.lemmas.List.Splits.{slice_split_none, slice_split_at}
 use Rattle.script_core.specs.declared.place.JournalLine.{JournalLine}
-use Rattle.script_core.specs.declared.place.JournalLine.TheVariants as lines
 use Rattle.script_core.specs.declared.script.Cause.{Cause}
 use Rattle.script_core.specs.declared.script.Cause.TheVariants.{TooLong}
 use Rattle.script_core.specs.declared.journal.JournalFault.{JournalFault}
@@ -16,8 +15,8 @@ use Rattle.script_core.specs.declared.journal.JournalFault.TheVariants as journa
 use Rattle.script_core.specs.declared.journal.JournalReader.{JournalReader}
 use Rattle.script_core.specs.Words.{lines_of, without_empty_end}
 use Rattle.script_core.specs.EntryReading.{entry_limit}
-use Rattle.script_core.specs.JournalReading.{JournalReading, JournalLineGives, MayGoOn, MayEnd, journal_start, reading_behind}
-use Rattle.script_core.specs.JournalView.{HasRead, Takes, Finishes, IsToldThere, expected_in}
+use Rattle.script_core.specs.JournalReading.{JournalReading, JournalLineGives, MayGoOn, journal_start, reading_behind}
+use Rattle.script_core.specs.JournalView.{HasRead, Takes, Finishes, expected_in}
 use Rattle.lockreplay.specs.declared.checking.Finding.{Finding}
 use Rattle.lockreplay.specs.declared.checking.Finding.TheVariants as findings
 use Rattle.lockreplay.specs.declared.checking.Checking.{Checking}

@@ -1,5 +1,5 @@
 -- What clap states of the program's command.
-use Rattle.std.proofs.Common.{◌≡◌, ◌≢◌, ◌∙◌, ap, ap₂, refl, Bool, true, false, ℕ, ◌==◌, ◌&&◌, codes, List, [], ◌∷◌, not, Option, Some, None, Result, subst, sym, inl, inr, arith}
+use Rattle.std.proofs.Common.{◌≡◌, ◌≢◌, ◌∙◌, ap, ap₂, refl, Bool, true, false, ℕ, ◌==◌, ◌&&◌, ◌||◌, codes, List, [], ◌∷◌, Option, Some, None, Result, subst, sym, inl, inr, arith}
 use Rattle.std.specs.Prelude.{if◌then◌else◌, is_some, length, option_and_then, option_map, IfOk, IsErr, Ok, Err}
 use Rattle.std.proofs.lemmas.Bool.Decides.{eqb_tells}
 use Rattle.clap.specs.Lexer.{long_of, long_of_rest, short_of, short_of_rest, strip_byte}
@@ -16,7 +16,7 @@ use Rattle.std.specs.Str.{bytes_eq}
 use Rattle.clap.specs.declared.error.Error.{Error}
 use Rattle.clap.specs.declared.parser.matches.ArgMatches.{ArgMatches}
 use Rattle.clap.proofs.WalkLemmas.{first_value-rows, one_text-rows}
-use Rattle.lockreplay.specs.CommandLine.{FollowsUsage, Asks, IsGiven, IsPlain, check_flag, check_of, check_word, command_line, file_of, threads_flag, threads_of, threads_word}
+use Rattle.lockreplay.specs.CommandLine.{FollowsUsage, Asks, Flag, Threads, Explain, Check, IsGiven, IsPlain, command_line, file_of, flag_in, flag_name, flag_rule, flag_word, has_flag, is_same_flag}
 use Rattle.lockreplay.specs.declared.options.Options.{Options}
 
 -- the first value of the argument is the file of the words
@@ -25,17 +25,11 @@ pub file_found : (app : App) (words : List Text) (m : ArgMatches) → app ≡ co
 file_found app words m is has =
     first_value-rows (found_of m) (codes "file") ∙ ap (first_of (codes "file")) ((has (ap is_simple is)).0 ∙ ap (λ a. matches_of a words) is)
 
--- the text of the flag is that of the words
-pub threads_found : (app : App) (words : List Text) (m : ArgMatches) → app ≡ command_line → HasMatchesOf app words m
-    → one_text (found_of m) (codes "threads") ≡ threads_of words
-threads_found app words m is has =
-    one_text-rows (found_of m) (codes "threads") ∙ ap (one_of (codes "threads")) ((has (ap is_simple is)).0 ∙ ap (λ a. matches_of a words) is)
-
--- and so is that of the other flag
-pub check_found : (app : App) (words : List Text) (m : ArgMatches) → app ≡ command_line → HasMatchesOf app words m
-    → one_text (found_of m) (codes "check") ≡ check_of words
-check_found app words m is has =
-    one_text-rows (found_of m) (codes "check") ∙ ap (one_of (codes "check")) ((has (ap is_simple is)).0 ∙ ap (λ a. matches_of a words) is)
+-- the text of a flag is that of the words
+pub flag_found : (flag : Flag) (app : App) (words : List Text) (m : ArgMatches) → app ≡ command_line → HasMatchesOf app words m
+    → one_text (found_of m) (flag_name flag) ≡ flag_in flag words
+flag_found flag app words m is has =
+    one_text-rows (found_of m) (flag_name flag) ∙ ap (one_of (flag_name flag)) ((has (ap is_simple is)).0 ∙ ap (λ a. matches_of a words) is)
 
 -- the words are refused by what clap states for the command
 pub fails_as_stated : (app : App) (words : List Text) (r : Result ArgMatches Error) → app ≡ command_line
@@ -140,146 +134,185 @@ more_fault name first second rest reads_first reads_second =
 
 -- ---- the flags
 
--- without a flag
-no_threads : (name : Text) → threads_of (name ∷ []) ≡ Some (codes "false")
-unfolding clap_on_literals
-no_threads name = refl
-
-no_check : (name : Text) → check_of (name ∷ []) ≡ Some (codes "false")
-unfolding clap_on_literals
-no_check name = refl
-
-no_threads_one : (name word : Text) → ReadsAsValue word → threads_of (name ∷ word ∷ []) ≡ Some (codes "false")
-unfolding clap_on_literals
-no_threads_one name word reads = ap (λ w. one_of (codes "threads") (finished arguments w.held)) (walked_value nothing_held 1 word reads)
-
-no_check_one : (name word : Text) → ReadsAsValue word → check_of (name ∷ word ∷ []) ≡ Some (codes "false")
-unfolding clap_on_literals
-no_check_one name word reads = ap (λ w. one_of (codes "check") (finished arguments w.held)) (walked_value nothing_held 1 word reads)
-
--- the word of a flag
-abbrev word_of : Bool → Text
-word_of true = check_word
-word_of false = threads_word
-
--- the rule of a flag
-abbrev flag_of : Bool → Rule
-flag_of true = check_flag
-flag_of false = threads_flag
-
 -- the text of a flag that is given, or isn't
 abbrev flag_text : Bool → Text
 flag_text true = codes "true"
 flag_text false = codes "false"
 
+-- without a flag
+no_flag : (name : Text) (flag : Flag) → flag_in flag (name ∷ []) ≡ Some (codes "false")
+unfolding clap_on_literals
+no_flag name Threads = refl
+no_flag name Explain = refl
+no_flag name Check = refl
+
+no_flag_one : (name word : Text) (flag : Flag) → ReadsAsValue word → flag_in flag (name ∷ word ∷ []) ≡ Some (codes "false")
+unfolding clap_on_literals
+no_flag_one name word Threads reads = ap (λ w. one_of (flag_name Threads) (finished arguments w.held)) (walked_value nothing_held 1 word reads)
+no_flag_one name word Explain reads = ap (λ w. one_of (flag_name Explain) (finished arguments w.held)) (walked_value nothing_held 1 word reads)
+no_flag_one name word Check reads = ap (λ w. one_of (flag_name Check) (finished arguments w.held)) (walked_value nothing_held 1 word reads)
+
 -- with a flag alone
-flag_file : (name : Text) (is_check : Bool) → file_of (name ∷ word_of is_check ∷ []) ≡ None
+flag_file : (name : Text) (flag : Flag) → file_of (name ∷ flag_word flag ∷ []) ≡ None
 unfolding clap_on_literals
-flag_file name true = refl
-flag_file name false = refl
+flag_file name Threads = refl
+flag_file name Explain = refl
+flag_file name Check = refl
 
-flag_threads : (name : Text) (is_check : Bool) → threads_of (name ∷ word_of is_check ∷ []) ≡ Some (flag_text (not is_check))
+flag_told : (name : Text) (flag other : Flag) → flag_in other (name ∷ flag_word flag ∷ []) ≡ Some (flag_text (is_same_flag flag other))
 unfolding clap_on_literals
-flag_threads name true = refl
-flag_threads name false = refl
+flag_told name Threads Threads = refl
+flag_told name Threads Explain = refl
+flag_told name Threads Check = refl
+flag_told name Explain Threads = refl
+flag_told name Explain Explain = refl
+flag_told name Explain Check = refl
+flag_told name Check Threads = refl
+flag_told name Check Explain = refl
+flag_told name Check Check = refl
 
-flag_check : (name : Text) (is_check : Bool) → check_of (name ∷ word_of is_check ∷ []) ≡ Some (flag_text is_check)
+flag_fault : (name : Text) (flag : Flag) → fault_of command_line (name ∷ flag_word flag ∷ []) ≡ []
 unfolding clap_on_literals
-flag_check name true = refl
-flag_check name false = refl
-
-flag_fault : (name : Text) (is_check : Bool) → fault_of command_line (name ∷ word_of is_check ∷ []) ≡ []
-unfolding clap_on_literals
-flag_fault name true = refl
-flag_fault name false = refl
+flag_fault name Threads = refl
+flag_fault name Explain = refl
+flag_fault name Check = refl
 
 -- what is held behind a flag
-abbrev flag_held : Bool → Held
-flag_held is_check = reacted arguments (filled (flag_of is_check)) [] nothing_held
+abbrev flag_held : Flag → Held
+flag_held flag = reacted arguments (filled (flag_rule (flag_name flag))) [] nothing_held
 
 -- with a flag before a file
-first_file : (name word : Text) (is_check : Bool) → ReadsAsValue word → file_of (name ∷ word_of is_check ∷ word ∷ []) ≡ Some word
+first_file : (name word : Text) (flag : Flag) → ReadsAsValue word → file_of (name ∷ flag_word flag ∷ word ∷ []) ≡ Some word
 unfolding clap_on_literals
-first_file name word true reads = ap (λ w. first_of (codes "file") (finished arguments w.held)) (walked_value (flag_held true) 1 word reads)
-first_file name word false reads = ap (λ w. first_of (codes "file") (finished arguments w.held)) (walked_value (flag_held false) 1 word reads)
+first_file name word Threads reads = ap (λ w. first_of (codes "file") (finished arguments w.held)) (walked_value (flag_held Threads) 1 word reads)
+first_file name word Explain reads = ap (λ w. first_of (codes "file") (finished arguments w.held)) (walked_value (flag_held Explain) 1 word reads)
+first_file name word Check reads = ap (λ w. first_of (codes "file") (finished arguments w.held)) (walked_value (flag_held Check) 1 word reads)
 
-first_threads : (name word : Text) (is_check : Bool) → ReadsAsValue word
-    → threads_of (name ∷ word_of is_check ∷ word ∷ []) ≡ Some (flag_text (not is_check))
+first_told : (name word : Text) (flag other : Flag) → ReadsAsValue word
+    → flag_in other (name ∷ flag_word flag ∷ word ∷ []) ≡ Some (flag_text (is_same_flag flag other))
 unfolding clap_on_literals
-first_threads name word true reads = ap (λ w. one_of (codes "threads") (finished arguments w.held)) (walked_value (flag_held true) 1 word reads)
-first_threads name word false reads = ap (λ w. one_of (codes "threads") (finished arguments w.held)) (walked_value (flag_held false) 1 word reads)
+first_told name word Threads Threads reads = ap (λ w. one_of (flag_name Threads) (finished arguments w.held)) (walked_value (flag_held Threads) 1 word reads)
+first_told name word Threads Explain reads = ap (λ w. one_of (flag_name Explain) (finished arguments w.held)) (walked_value (flag_held Threads) 1 word reads)
+first_told name word Threads Check reads = ap (λ w. one_of (flag_name Check) (finished arguments w.held)) (walked_value (flag_held Threads) 1 word reads)
+first_told name word Explain Threads reads = ap (λ w. one_of (flag_name Threads) (finished arguments w.held)) (walked_value (flag_held Explain) 1 word reads)
+first_told name word Explain Explain reads = ap (λ w. one_of (flag_name Explain) (finished arguments w.held)) (walked_value (flag_held Explain) 1 word reads)
+first_told name word Explain Check reads = ap (λ w. one_of (flag_name Check) (finished arguments w.held)) (walked_value (flag_held Explain) 1 word reads)
+first_told name word Check Threads reads = ap (λ w. one_of (flag_name Threads) (finished arguments w.held)) (walked_value (flag_held Check) 1 word reads)
+first_told name word Check Explain reads = ap (λ w. one_of (flag_name Explain) (finished arguments w.held)) (walked_value (flag_held Check) 1 word reads)
+first_told name word Check Check reads = ap (λ w. one_of (flag_name Check) (finished arguments w.held)) (walked_value (flag_held Check) 1 word reads)
 
-first_check : (name word : Text) (is_check : Bool) → ReadsAsValue word → check_of (name ∷ word_of is_check ∷ word ∷ []) ≡ Some (flag_text is_check)
+first_fault : (name word : Text) (flag : Flag) → ReadsAsValue word → fault_of command_line (name ∷ flag_word flag ∷ word ∷ []) ≡ []
 unfolding clap_on_literals
-first_check name word true reads = ap (λ w. one_of (codes "check") (finished arguments w.held)) (walked_value (flag_held true) 1 word reads)
-first_check name word false reads = ap (λ w. one_of (codes "check") (finished arguments w.held)) (walked_value (flag_held false) 1 word reads)
-
-first_fault : (name word : Text) (is_check : Bool) → ReadsAsValue word → fault_of command_line (name ∷ word_of is_check ∷ word ∷ []) ≡ []
-unfolding clap_on_literals
-first_fault name word true reads =
-    ap₂ (λ k w. or_else k (behind w)) (walk_value (flag_held true) 1 word [] reads) (walked_value (flag_held true) 1 word reads)
-first_fault name word false reads =
-    ap₂ (λ k w. or_else k (behind w)) (walk_value (flag_held false) 1 word [] reads) (walked_value (flag_held false) 1 word reads)
+first_fault name word Threads reads =
+    ap₂ (λ k w. or_else k (behind w)) (walk_value (flag_held Threads) 1 word [] reads) (walked_value (flag_held Threads) 1 word reads)
+first_fault name word Explain reads =
+    ap₂ (λ k w. or_else k (behind w)) (walk_value (flag_held Explain) 1 word [] reads) (walked_value (flag_held Explain) 1 word reads)
+first_fault name word Check reads =
+    ap₂ (λ k w. or_else k (behind w)) (walk_value (flag_held Check) 1 word [] reads) (walked_value (flag_held Check) 1 word reads)
 
 -- with a flag behind a file
-last_file : (name word : Text) (is_check : Bool) → ReadsAsValue word → file_of (name ∷ word ∷ word_of is_check ∷ []) ≡ Some word
+last_file : (name word : Text) (flag : Flag) → ReadsAsValue word → file_of (name ∷ word ∷ flag_word flag ∷ []) ≡ Some word
 unfolding clap_on_literals
-last_file name word true reads =
-    ap (λ w. first_of (codes "file") (finished arguments (walked arguments [] w check_word).held)) (walked_value nothing_held 1 word reads)
-last_file name word false reads =
-    ap (λ w. first_of (codes "file") (finished arguments (walked arguments [] w threads_word).held)) (walked_value nothing_held 1 word reads)
+last_file name word Threads reads =
+    ap (λ w. first_of (codes "file") (finished arguments (walked arguments [] w (flag_word Threads)).held)) (walked_value nothing_held 1 word reads)
+last_file name word Explain reads =
+    ap (λ w. first_of (codes "file") (finished arguments (walked arguments [] w (flag_word Explain)).held)) (walked_value nothing_held 1 word reads)
+last_file name word Check reads =
+    ap (λ w. first_of (codes "file") (finished arguments (walked arguments [] w (flag_word Check)).held)) (walked_value nothing_held 1 word reads)
 
-last_threads : (name word : Text) (is_check : Bool) → ReadsAsValue word
-    → threads_of (name ∷ word ∷ word_of is_check ∷ []) ≡ Some (flag_text (not is_check))
+last_told : (name word : Text) (flag other : Flag) → ReadsAsValue word
+    → flag_in other (name ∷ word ∷ flag_word flag ∷ []) ≡ Some (flag_text (is_same_flag flag other))
 unfolding clap_on_literals
-last_threads name word true reads =
-    ap (λ w. one_of (codes "threads") (finished arguments (walked arguments [] w check_word).held)) (walked_value nothing_held 1 word reads)
-last_threads name word false reads =
-    ap (λ w. one_of (codes "threads") (finished arguments (walked arguments [] w threads_word).held)) (walked_value nothing_held 1 word reads)
+last_told name word Threads Threads reads =
+    ap (λ w. one_of (flag_name Threads) (finished arguments (walked arguments [] w (flag_word Threads)).held)) (walked_value nothing_held 1 word reads)
+last_told name word Threads Explain reads =
+    ap (λ w. one_of (flag_name Explain) (finished arguments (walked arguments [] w (flag_word Threads)).held)) (walked_value nothing_held 1 word reads)
+last_told name word Threads Check reads =
+    ap (λ w. one_of (flag_name Check) (finished arguments (walked arguments [] w (flag_word Threads)).held)) (walked_value nothing_held 1 word reads)
+last_told name word Explain Threads reads =
+    ap (λ w. one_of (flag_name Threads) (finished arguments (walked arguments [] w (flag_word Explain)).held)) (walked_value nothing_held 1 word reads)
+last_told name word Explain Explain reads =
+    ap (λ w. one_of (flag_name Explain) (finished arguments (walked arguments [] w (flag_word Explain)).held)) (walked_value nothing_held 1 word reads)
+last_told name word Explain Check reads =
+    ap (λ w. one_of (flag_name Check) (finished arguments (walked arguments [] w (flag_word Explain)).held)) (walked_value nothing_held 1 word reads)
+last_told name word Check Threads reads =
+    ap (λ w. one_of (flag_name Threads) (finished arguments (walked arguments [] w (flag_word Check)).held)) (walked_value nothing_held 1 word reads)
+last_told name word Check Explain reads =
+    ap (λ w. one_of (flag_name Explain) (finished arguments (walked arguments [] w (flag_word Check)).held)) (walked_value nothing_held 1 word reads)
+last_told name word Check Check reads =
+    ap (λ w. one_of (flag_name Check) (finished arguments (walked arguments [] w (flag_word Check)).held)) (walked_value nothing_held 1 word reads)
 
-last_check : (name word : Text) (is_check : Bool) → ReadsAsValue word → check_of (name ∷ word ∷ word_of is_check ∷ []) ≡ Some (flag_text is_check)
+last_fault : (name word : Text) (flag : Flag) → ReadsAsValue word → fault_of command_line (name ∷ word ∷ flag_word flag ∷ []) ≡ []
 unfolding clap_on_literals
-last_check name word true reads =
-    ap (λ w. one_of (codes "check") (finished arguments (walked arguments [] w check_word).held)) (walked_value nothing_held 1 word reads)
-last_check name word false reads =
-    ap (λ w. one_of (codes "check") (finished arguments (walked arguments [] w threads_word).held)) (walked_value nothing_held 1 word reads)
-
-last_fault : (name word : Text) (is_check : Bool) → ReadsAsValue word → fault_of command_line (name ∷ word ∷ word_of is_check ∷ []) ≡ []
-unfolding clap_on_literals
-last_fault name word true reads =
-    ap₂ (λ k w. or_else k (behind (walked arguments [] w check_word)))
-    (walk_value nothing_held 1 word (check_word ∷ []) reads) (walked_value nothing_held 1 word reads)
-last_fault name word false reads =
-    ap₂ (λ k w. or_else k (behind (walked arguments [] w threads_word)))
-    (walk_value nothing_held 1 word (threads_word ∷ []) reads) (walked_value nothing_held 1 word reads)
+last_fault name word Threads reads =
+    ap₂ (λ k w. or_else k (behind (walked arguments [] w (flag_word Threads))))
+    (walk_value nothing_held 1 word (flag_word Threads ∷ []) reads) (walked_value nothing_held 1 word reads)
+last_fault name word Explain reads =
+    ap₂ (λ k w. or_else k (behind (walked arguments [] w (flag_word Explain))))
+    (walk_value nothing_held 1 word (flag_word Explain ∷ []) reads) (walked_value nothing_held 1 word reads)
+last_fault name word Check reads =
+    ap₂ (λ k w. or_else k (behind (walked arguments [] w (flag_word Check))))
+    (walk_value nothing_held 1 word (flag_word Check ∷ []) reads) (walked_value nothing_held 1 word reads)
 
 -- with a flag twice
-twice_fault : (name : Text) (is_check : Bool) (rest : List Text)
-    → fault_of command_line (name ∷ word_of is_check ∷ word_of is_check ∷ rest) ≡ kind.ArgumentConflict ∷ []
+twice_fault : (name : Text) (flag : Flag) (rest : List Text)
+    → fault_of command_line (name ∷ flag_word flag ∷ flag_word flag ∷ rest) ≡ kind.ArgumentConflict ∷ []
 unfolding clap_on_literals
-twice_fault name true rest = refl
-twice_fault name false rest = refl
+twice_fault name Threads rest = refl
+twice_fault name Explain rest = refl
+twice_fault name Check rest = refl
 
--- with both
-both_file : (name : Text) (is_check : Bool) → file_of (name ∷ word_of is_check ∷ word_of (not is_check) ∷ []) ≡ None
+-- with two flags, one before the other
+two_file : (name : Text) (first second : Flag) → is_same_flag first second ≡ false
+    → file_of (name ∷ flag_word first ∷ flag_word second ∷ []) ≡ None
 unfolding clap_on_literals
-both_file name true = refl
-both_file name false = refl
+two_file name Threads Threads other = absurd (cc)
+two_file name Threads Explain other = refl
+two_file name Threads Check other = refl
+two_file name Explain Threads other = refl
+two_file name Explain Explain other = absurd (cc)
+two_file name Explain Check other = refl
+two_file name Check Threads other = refl
+two_file name Check Explain other = refl
+two_file name Check Check other = absurd (cc)
 
-both_threads : (name : Text) (is_check : Bool) → threads_of (name ∷ word_of is_check ∷ word_of (not is_check) ∷ []) ≡ Some (codes "true")
+two_told : (name : Text) (first second flag : Flag) → is_same_flag first second ≡ false
+    → flag_in flag (name ∷ flag_word first ∷ flag_word second ∷ []) ≡ Some (flag_text (is_same_flag first flag || is_same_flag second flag))
 unfolding clap_on_literals
-both_threads name true = refl
-both_threads name false = refl
+two_told name Threads Threads flag other = absurd (cc)
+two_told name Threads Explain Threads other = refl
+two_told name Threads Explain Explain other = refl
+two_told name Threads Explain Check other = refl
+two_told name Threads Check Threads other = refl
+two_told name Threads Check Explain other = refl
+two_told name Threads Check Check other = refl
+two_told name Explain Threads Threads other = refl
+two_told name Explain Threads Explain other = refl
+two_told name Explain Threads Check other = refl
+two_told name Explain Explain flag other = absurd (cc)
+two_told name Explain Check Threads other = refl
+two_told name Explain Check Explain other = refl
+two_told name Explain Check Check other = refl
+two_told name Check Threads Threads other = refl
+two_told name Check Threads Explain other = refl
+two_told name Check Threads Check other = refl
+two_told name Check Explain Threads other = refl
+two_told name Check Explain Explain other = refl
+two_told name Check Explain Check other = refl
+two_told name Check Check flag other = absurd (cc)
 
-both_check : (name : Text) (is_check : Bool) → check_of (name ∷ word_of is_check ∷ word_of (not is_check) ∷ []) ≡ Some (codes "true")
+two_fault : (name : Text) (first second : Flag) → is_same_flag first second ≡ false
+    → fault_of command_line (name ∷ flag_word first ∷ flag_word second ∷ []) ≡ []
 unfolding clap_on_literals
-both_check name true = refl
-both_check name false = refl
-
-both_fault : (name : Text) (is_check : Bool) → fault_of command_line (name ∷ word_of is_check ∷ word_of (not is_check) ∷ []) ≡ []
-unfolding clap_on_literals
-both_fault name true = refl
-both_fault name false = refl
+two_fault name Threads Threads other = absurd (cc)
+two_fault name Threads Explain other = refl
+two_fault name Threads Check other = refl
+two_fault name Explain Threads other = refl
+two_fault name Explain Explain other = absurd (cc)
+two_fault name Explain Check other = refl
+two_fault name Check Threads other = refl
+two_fault name Check Explain other = refl
+two_fault name Check Check other = absurd (cc)
 
 -- ---- results
 
@@ -289,31 +322,35 @@ pub flag_read : (text : Option Text) (given : Bool) → (text ≡ None → given
 flag_read None given none set unset = none refl
 flag_read (Some text) given none set unset = (λ e. set (ap (λ t. Some t) e), λ e. unset (ap (λ t. Some t) e))
 
-given_is : (given threads : Bool) → IsGiven (Some (flag_text threads)) given → given ≡ threads
+given_is : (given flag : Bool) → IsGiven (Some (flag_text flag)) given → given ≡ flag
 given_is given true told = told.0 refl
 given_is given false told = told.1 refl
+
+-- what holds of each flag
+pub of_each : (P : Flag → Type 0) → P Threads → P Explain → P Check → (flag : Flag) → P flag
+of_each P threads explain check Threads = threads
+of_each P threads explain check Explain = explain
+of_each P threads explain check Check = check
 
 -- what the matches and the faults of the words make of a result
 abbrev HasOptions : List Text → Result Options Error → Type 0
 HasOptions words result =
     IfOk result (λ options. (option_map (λ f. f.now) options.file ≡ file_of words)
-    × IsGiven (threads_of words) options.threads × IsGiven (check_of words) options.check)
+    × ((flag : Flag) → IsGiven (flag_in flag words) (has_flag options flag)))
 
 -- what clap states of words: these flags are given, and this is the file
-record SayThat (words : List Text) (threads check : Bool) (file : Option Text) : Type 0 where
-  threads_are : threads_of words ≡ Some (flag_text threads)
-  check_is : check_of words ≡ Some (flag_text check)
+record SayThat (words : List Text) (given : Flag → Bool) (file : Option Text) : Type 0 where
+  flags_are : (flag : Flag) → flag_in flag words ≡ Some (flag_text (given flag))
   file_is : file_of words ≡ file
   no_fault : fault_of command_line words ≡ []
 
-asks : (words : List Text) (threads check : Bool) (file : Option Text) (result : Result Options Error)
-    → HasOptions words result → FailsBy (fault_of command_line words) result → SayThat words threads check file → Asks threads check file result
-asks words threads check file (Ok options) has fails say = (
-  given_is options.threads threads (subst (λ text. IsGiven text options.threads) say.threads_are has.1),
-  given_is options.check check (subst (λ text. IsGiven text options.check) say.check_is has.2),
+asks : (words : List Text) (given : Flag → Bool) (file : Option Text) (result : Result Options Error)
+    → HasOptions words result → FailsBy (fault_of command_line words) result → SayThat words given file → Asks given file result
+asks words given file (Ok options) has fails say = (
+  λ flag. given_is (has_flag options flag) (given flag) (subst (λ text. IsGiven text (has_flag options flag)) (say.flags_are flag) (has.1 flag)),
   has.0 ∙ say.file_is,
 )
-asks words threads check file (Err error) has fails say = elim (subst (λ kinds. HasKind kinds error) say.no_fault fails) [
+asks words given file (Err error) has fails say = elim (subst (λ kinds. HasKind kinds error) say.no_fault fails) [
   | inl memory ↦ memory
   | inr among ↦ absurd among
 ]
@@ -327,55 +364,47 @@ is_refused words (Ok options) kind fails refused =
 is_refused words (Err error) kind fails refused = refl
 
 -- the words are these, of which clap states so much
-asks_as : (words these : List Text) (threads check : Bool) (file : Option Text) (result : Result Options Error)
-    → HasOptions words result → FailsBy (fault_of command_line words) result → words ≡ these → SayThat these threads check file
-    → Asks threads check file result
-asks_as words these threads check file result has fails e say =
-    asks words threads check file result has fails (subst (λ (ws : List Text). SayThat ws threads check file) (sym e) say)
+asks_as : (words these : List Text) (given : Flag → Bool) (file : Option Text) (result : Result Options Error)
+    → HasOptions words result → FailsBy (fault_of command_line words) result → words ≡ these → SayThat these given file
+    → Asks given file result
+asks_as words these given file result has fails e say =
+    asks words given file result has fails (subst (λ (ws : List Text). SayThat ws given file) (sym e) say)
 
 refused_as : (words these : List Text) (result : Result Options Error) (kind : ErrorKind) → FailsBy (fault_of command_line words) result
     → words ≡ these → fault_of command_line these ≡ kind ∷ [] → IsErr result
 refused_as words these result kind fails e refused = is_refused words result kind fails (ap (fault_of command_line) e ∙ refused)
 
-say_alone : (name : Text) (is_check : Bool) → SayThat (name ∷ word_of is_check ∷ []) (not is_check) is_check None
-say_alone name is_check = record {
-  threads_are = flag_threads name is_check;
-  check_is = flag_check name is_check;
-  file_is = flag_file name is_check;
-  no_fault = flag_fault name is_check;
+say_alone : (name : Text) (flag : Flag) → SayThat (name ∷ flag_word flag ∷ []) (is_same_flag flag) None
+say_alone name flag = record { flags_are = flag_told name flag; file_is = flag_file name flag; no_fault = flag_fault name flag }
+
+say_first : (name word : Text) (flag : Flag) → ReadsAsValue word → SayThat (name ∷ flag_word flag ∷ word ∷ []) (is_same_flag flag) (Some word)
+say_first name word flag reads = record {
+  flags_are = λ other. first_told name word flag other reads;
+  file_is = first_file name word flag reads;
+  no_fault = first_fault name word flag reads;
 }
 
-say_first : (name word : Text) (is_check : Bool) → ReadsAsValue word → SayThat (name ∷ word_of is_check ∷ word ∷ []) (not is_check) is_check (Some word)
-say_first name word is_check reads = record {
-  threads_are = first_threads name word is_check reads;
-  check_is = first_check name word is_check reads;
-  file_is = first_file name word is_check reads;
-  no_fault = first_fault name word is_check reads;
+say_last : (name word : Text) (flag : Flag) → ReadsAsValue word → SayThat (name ∷ word ∷ flag_word flag ∷ []) (is_same_flag flag) (Some word)
+say_last name word flag reads = record {
+  flags_are = λ other. last_told name word flag other reads;
+  file_is = last_file name word flag reads;
+  no_fault = last_fault name word flag reads;
 }
 
-say_last : (name word : Text) (is_check : Bool) → ReadsAsValue word → SayThat (name ∷ word ∷ word_of is_check ∷ []) (not is_check) is_check (Some word)
-say_last name word is_check reads = record {
-  threads_are = last_threads name word is_check reads;
-  check_is = last_check name word is_check reads;
-  file_is = last_file name word is_check reads;
-  no_fault = last_fault name word is_check reads;
+say_two : (name : Text) (first second : Flag) → is_same_flag first second ≡ false
+    → SayThat (name ∷ flag_word first ∷ flag_word second ∷ []) (λ flag. is_same_flag first flag || is_same_flag second flag) None
+say_two name first second other = record {
+  flags_are = λ flag. two_told name first second flag other;
+  file_is = two_file name first second other;
+  no_fault = two_fault name first second other;
 }
 
-say_both : (name : Text) (is_check : Bool) → SayThat (name ∷ word_of is_check ∷ word_of (not is_check) ∷ []) true true None
-say_both name is_check = record {
-  threads_are = both_threads name is_check;
-  check_is = both_check name is_check;
-  file_is = both_file name is_check;
-  no_fault = both_fault name is_check;
-}
+say_none : (name : Text) → SayThat (name ∷ []) (λ flag. false) None
+say_none name = record { flags_are = no_flag name; file_is = no_file name; no_fault = no_fault name }
 
-say_none : (name : Text) → SayThat (name ∷ []) false false None
-say_none name = record { threads_are = no_threads name; check_is = no_check name; file_is = no_file name; no_fault = no_fault name }
-
-say_one : (name word : Text) → ReadsAsValue word → SayThat (name ∷ word ∷ []) false false (Some word)
+say_one : (name word : Text) → ReadsAsValue word → SayThat (name ∷ word ∷ []) (λ flag. false) (Some word)
 say_one name word reads = record {
-  threads_are = no_threads_one name word reads;
-  check_is = no_check_one name word reads;
+  flags_are = λ flag. no_flag_one name word flag reads;
   file_is = one_file name word reads;
   no_fault = one_fault name word reads;
 }
@@ -383,19 +412,17 @@ say_one name word reads = record {
 pub follows_usage : (words : List Text) (result : Result Options Error) → HasOptions words result → FailsBy (fault_of command_line words) result
     → FollowsUsage words result
 follows_usage words result has fails = record {
-  none = λ name e. asks_as words _ false false None result has fails e (say_none name);
-  one = λ name word plain e. asks_as words _ false false (Some word) result has fails e (say_one name word (plain_value word plain));
+  none = λ name e. asks_as words _ (λ flag. false) None result has fails e (say_none name);
+  one = λ name word plain e. asks_as words _ (λ flag. false) (Some word) result has fails e (say_one name word (plain_value word plain));
   more = λ name first second rest plain_first plain_second e.
       refused_as words _ result kind.UnknownArgument fails e
       (more_fault name first second rest (plain_value first plain_first) (plain_value second plain_second));
-  threads = λ name e. asks_as words _ true false None result has fails e (say_alone name false);
-  threads_first = λ name word plain e. asks_as words _ true false (Some word) result has fails e (say_first name word false (plain_value word plain));
-  threads_last = λ name word plain e. asks_as words _ true false (Some word) result has fails e (say_last name word false (plain_value word plain));
-  twice = λ name rest e. refused_as words _ result kind.ArgumentConflict fails e (twice_fault name false rest);
-  check = λ name e. asks_as words _ false true None result has fails e (say_alone name true);
-  check_first = λ name word plain e. asks_as words _ false true (Some word) result has fails e (say_first name word true (plain_value word plain));
-  check_last = λ name word plain e. asks_as words _ false true (Some word) result has fails e (say_last name word true (plain_value word plain));
-  check_twice = λ name rest e. refused_as words _ result kind.ArgumentConflict fails e (twice_fault name true rest);
-  both = λ name e. asks_as words _ true true None result has fails e (say_both name false);
-  both_turned = λ name e. asks_as words _ true true None result has fails e (say_both name true);
+  flag = λ name flag e. asks_as words _ (is_same_flag flag) None result has fails e (say_alone name flag);
+  flag_first = λ name word flag plain e.
+      asks_as words _ (is_same_flag flag) (Some word) result has fails e (say_first name word flag (plain_value word plain));
+  flag_last = λ name word flag plain e.
+      asks_as words _ (is_same_flag flag) (Some word) result has fails e (say_last name word flag (plain_value word plain));
+  twice = λ name flag rest e. refused_as words _ result kind.ArgumentConflict fails e (twice_fault name flag rest);
+  two = λ name first second other e.
+      asks_as words _ (λ flag. is_same_flag first flag || is_same_flag second flag) None result has fails e (say_two name first second other);
 }

@@ -1,5 +1,5 @@
 -- A journal as a source gives it.
-use Rattle.std.proofs.Common.{◌≡◌, ◌≤◌, ◌<◌, ℕ, ◌+◌, Bool, List, [], ◌++◌, Option, Some, None, length, refl, sym, ap, subst, ◌∙◌, inl, inr, arith, nat_lt, length-append, append-nil}
+use Rattle.std.proofs.Common.{◌≡◌, ◌≤◌, ◌<◌, ℕ, ◌+◌, Bool, List, [], ◌++◌, Option, Some, None, length, refl, sym, subst, inl, inr, arith, length-append, append-nil}
 use Rattle.std.specs.Io.KnownBytes.{Consumes, IsAtEnd, Appends}
 use Rattle.std.proofs.KnownBytes.{Consumes-trans, Consumes-nil, Appends-nil}
 use Rattle.std.proofs.lemmas.Bool.{lt-ltb, le-ltb}
@@ -14,7 +14,7 @@ use Rattle.lockreplay.specs.declared.checking.Finding.TheVariants as findings
 use Rattle.lockreplay.specs.declared.checking.Checking.{Checking}
 use Rattle.lockreplay.specs.declared.replay.RunFault.{RunFault}
 use Rattle.lockreplay.specs.declared.replay.RunFault.TheVariants as faults
-use Rattle.lockreplay.specs.Checks.{Verdict, Faulty, journal_limit, illegal_line, verdict_at_end, HasChecked, HasJudged, IsCheckFault, IsCheckOutput, IsJournalFault, IsToldOf, JournalComes, LinesCome, ReadsFaultyJournal, ReadsChecked, TellsOf}
+use Rattle.lockreplay.specs.Checks.{Verdict, journal_limit, illegal_line, verdict_at_end, HasChecked, HasJudged, IsCheckFault, IsCheckOutput, IsJournalFault, IsToldOf, JournalComes, LinesCome, ReadsFaultyJournal, ReadsChecked, TellsOf}
 use Rattle.lockreplay.specs.Replays.{WritesOf}
 
 -- so much was read and checked, and so many bytes more may come

@@ -1,5 +1,5 @@
 -- What a check tells of a journal (the words are this project's choice).
-use Rattle.std.specs.Prelude.{◌≡◌, ℕ, ◌+◌, ◌≤◌, ◌==◌, ◌⊎◌, ⊤, false, Bool, IsTrue, nat_lt, MatchBool, MatchResult, Option, None, Some, Result, Ok, Err, List, [], ◌∷◌, ◌++◌, All, length, codes, decimal}
+use Rattle.std.specs.Prelude.{◌≡◌, ℕ, ◌+◌, ◌≤◌, ◌==◌, ◌⊎◌, ⊤, false, Bool, IsTrue, nat_lt, MatchBool, MatchResult, Option, None, Some, Result, Ok, List, [], ◌∷◌, ◌++◌, All, length, codes, decimal}
 use Rattle.std.specs.Io.KnownBytes.{Consumes, IsAtEnd}
 use Rattle.range_core.specs.Facts.{MatchFact}
 use Rattle.script_core.specs.declared.place.JournalLine.{JournalLine}

@@ -18,7 +18,7 @@ status_of faults.Thread = 1
 -- a command line that is refused or asks for two jobs, or asks for help or the version, ends with 2 as well (this project's choice)
 abbrev pub exit_status : Fault → ℕ
 exit_status (CommandLine error) = 2
-exit_status Conflict = 2
+exit_status (Conflict conflict) = 2
 exit_status OutOfMemory = 1
 exit_status (Run fault) = status_of fault
 

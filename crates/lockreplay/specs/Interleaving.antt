@@ -1,6 +1,6 @@
 -- What a script leads to whose processes run in threads of their own (the words are this project's choice).
 use Rattle.std.specs.Prelude.{◌≡◌, ℕ, ◌+◌, ◌++◌, Ok, Some, List, length, map, flat_map, slice_get, vec_items}
-use Rattle.lock_manager.specs.State.{State}
+use Rattle.lock_manager.specs.State.{State, opening_state}
 use Rattle.lock_manager.specs.ManagerView.{StandsFor, processes_of}
 use Rattle.lock_manager.specs.declared.request.Reply.{Reply}
 use Rattle.lock_manager.specs.declared.request.ProcState.TheVariants.{Live}
@@ -11,8 +11,12 @@ use Rattle.session_core.specs.SessionView.{manager_of, events_in}
 use Rattle.script_core.specs.ScriptText.{Meaning, IsProcess}
 use Rattle.script_core.specs.Reading.{Reads}
 use Rattle.script_core.specs.EntryText.{entry_line}
-use Rattle.script_core.specs.ReportText.{IsReport}
+use Rattle.script_core.specs.ReportText.{IsReport, AreCounts}
 use Rattle.script_core.specs.Output.{processes_in}
+use Rattle.script_core.specs.Explaining.{ExplainsRun, unborn_lines}
+use Rattle.lockreplay.specs.declared.options.Detail.{Detail}
+use Rattle.lockreplay.specs.declared.options.Detail.TheVariants.{Plain, Explained}
+use Rattle.lockreplay.specs.declared.replay.Ran.{Ran}
 use Rattle.lockreplay.specs.declared.threads.ThreadReport.{ThreadReport}
 
 -- the journal is a run under the script's rules, which leaves the state: of each process the requests were taken in the script's order,
@@ -48,3 +52,36 @@ pub record TellsInterleaved (bytes text : List ℕ) : Type 0 where
 -- the text is so, for some journal
 pub record IsThreadOutput (bytes text : List ℕ) : Type 0 where
   pub tells : ∥ TellsInterleaved bytes text ∥₁
+
+-- the script is accepted, and the text is the lines of such a journal with what explains each, then the report, and then who was never born
+pub record TellsExplained (bytes text : List ℕ) : Type 0 where
+  pub script : Meaning
+  pub accepted : Reads bytes (Ok script)
+  pub journal : List Event
+  pub state : State
+  pub interleaves : Interleaves script journal state
+  pub explained : List ℕ
+  pub explains : ExplainsRun script.rules (processes_in script) opening_state journal state explained
+  pub report : List ℕ
+  pub is_report : IsReport (processes_in script) state journal (λ p. length (requests_sent p script.arrivals)) report
+  pub is : text ≡ explained ++ report ++ unborn_lines state.states (λ p. length (requests_sent p script.arrivals)) 1 (processes_in script)
+
+-- the text is so, for some journal
+pub record IsThreadExplanation (bytes text : List ℕ) : Type 0 where
+  pub tells : ∥ TellsExplained bytes text ∥₁
+
+-- a text of a script's run in threads: plainly an output, or one that is explained
+abbrev pub IsThreadTextIn : Detail → List ℕ → List ℕ → Type 0
+IsThreadTextIn Plain bytes text = IsThreadOutput bytes text
+IsThreadTextIn Explained bytes text = IsThreadExplanation bytes text
+
+-- the script is accepted, and was run in threads: so the journal interleaves, the manager stands for the state that is left, and the counts
+-- are those of what each process sent
+pub record IsThreadRunOf (bytes : List ℕ) (ran : Ran) : Type 0 where
+  pub script : Meaning
+  pub accepted : Reads bytes (Ok script)
+  pub rules : ran.rules ≡ script.rules
+  pub processes : processes_of (manager_of ran.session) ≡ processes_in script
+  pub interleaves : ∥ ((S : State) × Interleaves script (events_in ran.session) S × StandsFor (manager_of ran.session) S) ∥₁
+  pub one_each : length ran.sent.items ≡ processes_of (manager_of ran.session)
+  pub counts : AreCounts ran.sent.items (λ p. length (requests_sent p script.arrivals))

@@ -1,7 +1,7 @@
 //! The command line of the program, read by `clap`.
 ghost use Rattle.std.specs.Prelude.{◌≡◌, IfOk, IfErr, map, option_map, string_bytes, false, true};
 ghost use Rattle.clap.specs.Words.{FailsBy, app_of, fault_of, kind_of, rule_of, takes};
-ghost use Rattle.lockreplay.specs.CommandLine.{FollowsUsage, IsGiven, check_of, command_line, file_of, flag_rule, threads_of};
+ghost use Rattle.lockreplay.specs.CommandLine.{Flag, FollowsUsage, IsGiven, command_line, file_of, flag_in, flag_rule, has_flag};
 
 use crate::options::Options;
 use clap::error::ErrorKind;
@@ -14,20 +14,20 @@ pub fn options<'a>(alloc: Global, words: &'a [String]) -> Result<Options<'a>, cl
     ensures file { IfOk result (λ options. option_map (λ file. file.now) options.file ≡ file_of (map string_bytes words.entry.now)) }
 
     // So are the flags.
-    ensures threads { IfOk result (λ options. IsGiven (threads_of (map string_bytes words.entry.now)) options.threads) }
-    ensures check { IfOk result (λ options. IsGiven (check_of (map string_bytes words.entry.now)) options.check) }
+    ensures flags { IfOk result (λ options. (flag : Flag) → IsGiven (flag_in flag (map string_bytes words.entry.now)) (has_flag options flag)) }
 
     // Words are refused just where clap's own condition for this command fails, and by the kind that it states, or for want of memory.
     ensures kind { FailsBy (fault_of command_line (map string_bytes words.entry.now)) result }
     ensures taken { IfErr result (λ error. takes command_line (map string_bytes words.entry.now) ≡ true → kind_of error ≡ ErrorKind.OutOfMemory) }
 
-    // So one word is the file, without one there is none, and two are refused, where they begin with no hyphen; --threads before or
-    // behind them asks for threads, --check for a check, and each is refused twice in front.
+    // So one word is the file, without one there is none, and two are refused, where they begin with no hyphen; each flag before or
+    // behind it asks for what it says, beside another too, and is refused twice in front.
     ensures usage { FollowsUsage (map string_bytes words.entry.now) result }
 {
     let matches = command(alloc)?.try_get_matches_from(words)?;
     Ok(Options {
         threads: matches.get_flag("threads"),
+        explain: matches.get_flag("explain"),
         check: matches.get_flag("check"),
         file: matches.get_str("file"),
     })
@@ -42,10 +42,15 @@ fn command<'a>(alloc: Global) -> Result<Command<'a>, AllocError>
         "threads",
         "A thread for each process that requests something",
     );
+    let explain = flag(
+        alloc,
+        "explain",
+        "Says what is in the way and which locks go, in lines of #",
+    );
     let check = flag(
         alloc,
         "check",
-        "Checks an output in place of a script; not with --threads",
+        "Checks an output in place of a script; with no other flag",
     );
     let file = Arg::new(alloc, "file").value_name("FILE").help(
         "What is read; without it, or where it is -, standard input",
@@ -55,6 +60,7 @@ fn command<'a>(alloc: Global) -> Result<Command<'a>, AllocError>
         .about(ABOUT)
         .after_help(GUIDE)
         .arg(threads)?
+        .arg(explain)?
         .arg(check)?
         .arg(file)
 }
@@ -76,11 +82,10 @@ const VERSION: &str = "0.2.0";
 /// What the program does.
 const ABOUT: &str = "Replays a script of advisory lock requests. No file of the machine is locked.";
 
-/// How a script is written, and what comes of it. With what clap puts before it, its first 11 lines fill a screen of 24.
+/// How a script is written, and what comes of it. With what clap puts before it, its first 10 lines fill a screen of 24.
 const GUIDE: &str = "Exit status:
-  0  the script was replayed, or what was checked is legal; 3  it is illegal
+  0  replayed, or legal; 3  illegal; 2  input or command line refused, --help
   1  FILE can't be opened, reading or writing failed, or no memory or thread
-  2  the input or the command line is refused; --help, --version (on stderr)
 
 Example:
   $ printf '1 open 0 rw\\n1 setlk 0 w set 0 100\\n' | lockreplay
@@ -149,6 +154,19 @@ Output:
                                               waiting, ended, or unborn: no fork
                                               made it
 
+Explain:
+  With --explain lines that begin with # stand behind the line of an event,
+  and at the end. Without these the output is the same:
+    # 2#1 blocked by lock 0 process 1 w 0 99  in the way of a request that got
+                                              EAGAIN or waits: the first lock
+    # 3#1 behind wait 2#1 0 process 2 w 0 9   or no lock but an earlier wait,
+                                              under queue
+    # 1#5 released lock 0 process 1 w 0 99    a close, dup2, exit or kill ended
+                                              each lock of its owner on a file
+    # 1#6 lost flock 0 description 1 sh       a flock that is refused or waits
+                                              has lost its old lock
+    # 3#1 and 1 more never taken: process 3 was never born
+
 Check:
   With --check an output is read, as a server may print it too: header lines as
   in a script, then entries, and then all lines of a report or none. Blank lines
@@ -174,4 +192,5 @@ Faults, on standard error:
   7 Memory   no memory; told as lockreplay: no memory
   8 Tag      in a check a word that isn't a process and a number, as 2#1
   Other faults: lockreplay: read failed, no memory, no thread (nothing went to
-  standard output), or write failed (part of the output may have).";
+  standard output), or write failed (part of the output may have). --help and
+  --version go to standard error, with status 2.";

@@ -1,4 +1,5 @@
-//! Replays a script of requests to the lock manager: prints each event, and then what is held. Or checks such a journal.
+//! Replays a script of requests to the lock manager: prints each event, also what explains it, and then what is held. Or checks such a
+//! journal.
 #![tactic(auto)]
 
 ghost use Rattle.std.specs.Prelude.{◌≡◌, ◌≢◌, ◌≤◌, ◌+◌, IfOk, IfErr, Err, IsTrue};
@@ -56,7 +57,7 @@ fn run(
         .map_err(Memory::from)
         .map_err(RunFault::Memory)?;
     let options = command_line::options(rt.alloc(), &words).map_err(Fault::of_command_line)?;
-    let job = options.job().ok_or(Fault::Conflict)?;
+    let job = options.job().map_err(Fault::Conflict)?;
     let mut sink = ToWriter::new(io::writer(rt));
     match options.path() {
         Some(path) => {
@@ -94,12 +95,12 @@ fn perform<T: AllocGlobal + Clock + Sync + Threads + Wait, R: Source, W: Sink>(
     ensures calls { R.calls source.new ≤ R.calls source.old + (limit_of job + 1) }
 {
     match job {
-        Job::Replay => {
-            replay(rt.alloc(), source, sink)?;
+        Job::Replay(detail) => {
+            replay(rt.alloc(), detail, source, sink)?;
             Ok(Outcome::Done)
         }
-        Job::ReplayInThreads => {
-            replay_in_threads(rt, rt.alloc(), source, sink)?;
+        Job::ReplayInThreads(detail) => {
+            replay_in_threads(rt, rt.alloc(), detail, source, sink)?;
             Ok(Outcome::Done)
         }
         Job::Check => check(rt.alloc(), source, sink),

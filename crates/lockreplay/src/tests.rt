@@ -11,6 +11,7 @@ mod rows;
 mod waiting_rows;
 
 use crate::devices::{FromReader, ToWriter};
+use crate::options::Detail;
 use crate::replay::{RunFault, replay};
 use limits_rows::LIMITS_ROWS;
 use policy_rows::POLICY_ROWS;
@@ -89,7 +90,7 @@ fn check_all_without_the_last_feed(
 fn check(rt: &impl Abort, alloc: Global, row: &Row, script: &str) -> Result<(), Fail> {
     let mut source = FromReader::new(script.as_bytes());
     let mut sink = ToWriter::new(Vec::new(alloc));
-    let outcome = replay(alloc, &mut source, &mut sink);
+    let outcome = replay(alloc, Detail::Plain, &mut source, &mut sink);
     look_at_outcome(rt, alloc, row, outcome, &sink.into_inner())
 }
 

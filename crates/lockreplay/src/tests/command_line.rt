@@ -1,6 +1,6 @@
 //! What command lines ask for, and which are refused. Their texts are tested on the program.
 use crate::command_line::options;
-use crate::options::{Job, Options};
+use crate::options::{Conflict, Detail, Job, Options};
 use clap::error::ErrorKind;
 use std::alloc::Global;
 use std::process::Abort;
@@ -33,6 +33,7 @@ fn asks_of(
         options(alloc, &given)?,
         Options {
             threads,
+            explain: false,
             check: false,
             file
         }
@@ -75,6 +76,7 @@ fn a_hyphen_is_standard_input(rt: HostRuntime) -> Result<(), Fail> {
     for (file, path) in paths {
         let options = Options {
             threads: false,
+            explain: false,
             check: false,
             file,
         };
@@ -97,23 +99,29 @@ fn takes_threads(rt: HostRuntime) -> Result<(), Fail> {
     asks_of(&rt, alloc, &both, true, Some("--threads"))
 }
 
-/// A journal is checked where --check is given, before or behind the file, and nothing is done where --threads is given too.
+/// The flags ask for a job, before or behind the file: a check stands alone.
 #[test]
-fn takes_a_check(rt: HostRuntime) -> Result<(), Fail> {
+fn flags_ask_for_a_job(rt: HostRuntime) -> Result<(), Fail> {
     let alloc = rt.alloc();
+    let plain = Detail::Plain;
+    let explained = Detail::Explained;
     let rows = [
-        (["lockreplay", "script", "--"], Some(Job::Replay)),
+        (["script", "--"], Ok(Job::Replay(plain))),
+        (["script", "--threads"], Ok(Job::ReplayInThreads(plain))),
+        (["--explain", "script"], Ok(Job::Replay(explained))),
+        (["script", "--explain"], Ok(Job::Replay(explained))),
         (
-            ["lockreplay", "script", "--threads"],
-            Some(Job::ReplayInThreads),
+            ["--explain", "--threads"],
+            Ok(Job::ReplayInThreads(explained)),
         ),
-        (["lockreplay", "--check", "-"], Some(Job::Check)),
-        (["lockreplay", "journal", "--check"], Some(Job::Check)),
-        (["lockreplay", "--threads", "--check"], None),
-        (["lockreplay", "--check", "--threads"], None),
+        (["--check", "-"], Ok(Job::Check)),
+        (["journal", "--check"], Ok(Job::Check)),
+        (["--threads", "--check"], Err(Conflict::Threads)),
+        (["--check", "--threads"], Err(Conflict::Threads)),
+        (["--check", "--explain"], Err(Conflict::Explain)),
     ];
-    for (given, job) in rows {
-        let given = words(alloc, &given)?;
+    for ([first, second], job) in rows {
+        let given = words(alloc, &["lockreplay", first, second])?;
         assert_eq!(rt; options(alloc, &given)?.job(), job);
     }
     let twice = ["lockreplay", "--check", "--check"];

@@ -1,5 +1,6 @@
 //! The worked script of a conversion, cut after each of its bytes.
 use crate::devices::{FromReader, ToWriter};
+use crate::options::Detail;
 use crate::replay::{RunFault, replay};
 use script_core::{Cause, ScriptFault};
 use std::alloc::Global;
@@ -159,7 +160,7 @@ proc 1 sent 3 taken 3 answered 3 live
 fn check(rt: &impl Abort, alloc: Global, len: usize, cut: &Cut) {
     let mut source = FromReader::new(&SCRIPT.as_bytes()[..len.min(SCRIPT.len())]);
     let mut sink = ToWriter::new(Vec::new(alloc));
-    let result = replay(alloc, &mut source, &mut sink);
+    let result = replay(alloc, Detail::Plain, &mut source, &mut sink);
     let (due, output) = match cut.comes {
         Ok(output) => (Ok(()), output),
         Err((line, cause)) => (Err(RunFault::Script(ScriptFault { line, cause })), ""),

@@ -2,6 +2,7 @@
 ghost use Rattle.std.specs.Prelude.{◌≤◌, None, false};
 
 use crate::devices::{DeviceFault, FromReader, Sink, Source, ToWriter};
+use crate::options::Detail;
 use crate::replay::{RunFault, replay};
 use script_core::{Cause, SCRIPT_MAX, ScriptFault};
 use std::alloc::Global;
@@ -262,7 +263,7 @@ fn tells_a_source_that_fails(rt: HostRuntime) -> Result<(), Fail> {
     for call in 1..=SCRIPT.len() as u64 + 1 {
         let mut source = Scripted::new(SCRIPT.as_bytes(), call);
         let mut sink = ToWriter::new(Vec::new(rt.alloc()));
-        let result = replay(rt.alloc(), &mut source, &mut sink);
+        let result = replay(rt.alloc(), Detail::Plain, &mut source, &mut sink);
         assert_eq!(rt; result, Err(RunFault::Read), "at call {call}");
         assert_eq!(rt; source.calls, call, "the calls where call {call} fails");
         assert!(rt;
@@ -279,7 +280,10 @@ fn reads_no_further_than_the_end(rt: HostRuntime) -> Result<(), Fail> {
     let calls = SCRIPT.len() as u64 + 1;
     let mut source = Scripted::new(SCRIPT.as_bytes(), calls + 1);
     let mut sink = ToWriter::new(Vec::new(rt.alloc()));
-    assert_eq!(rt; replay(rt.alloc(), &mut source, &mut sink), Ok(()));
+    assert_eq!(rt;
+        replay(rt.alloc(), Detail::Plain, &mut source, &mut sink),
+        Ok(())
+    );
     assert_eq!(rt; source.calls, calls);
     assert_eq!(rt; sink.into_inner().as_slice(), OUTPUT.as_bytes());
     Ok(())
@@ -292,7 +296,7 @@ fn writes_to_a_narrow_sink(rt: HostRuntime) -> Result<(), Fail> {
         let mut source = FromReader::new(SCRIPT.as_bytes());
         let mut sink = Narrow::new(rt.alloc(), at_once, OUTPUT.len());
         assert_eq!(rt;
-            replay(rt.alloc(), &mut source, &mut sink),
+            replay(rt.alloc(), Detail::Plain, &mut source, &mut sink),
             Ok(()),
             "{at_once} at once"
         );
@@ -311,7 +315,7 @@ fn tells_a_sink_that_fails(rt: HostRuntime) -> Result<(), Fail> {
     for len in 0..OUTPUT.len() {
         let mut source = FromReader::new(SCRIPT.as_bytes());
         let mut sink = Narrow::new(rt.alloc(), 7, len);
-        let result = replay(rt.alloc(), &mut source, &mut sink);
+        let result = replay(rt.alloc(), Detail::Plain, &mut source, &mut sink);
         assert_eq!(rt; result, Err(RunFault::Write), "after {len} bytes");
         assert_eq!(rt;
             sink.written.as_slice(),
@@ -327,7 +331,7 @@ fn tells_a_sink_that_fails(rt: HostRuntime) -> Result<(), Fail> {
 fn tells_a_writer_that_takes_nothing(rt: HostRuntime) -> Result<(), Fail> {
     let mut source = FromReader::new(SCRIPT.as_bytes());
     let mut sink = ToWriter::new(Full);
-    let result = replay(rt.alloc(), &mut source, &mut sink);
+    let result = replay(rt.alloc(), Detail::Plain, &mut source, &mut sink);
     assert_eq!(rt; result, Err(RunFault::Write));
     Ok(())
 }
@@ -337,13 +341,13 @@ fn tells_a_writer_that_takes_nothing(rt: HostRuntime) -> Result<(), Fail> {
 fn tells_an_interrupted_call(rt: HostRuntime) -> Result<(), Fail> {
     let mut source = FromReader::new(InterruptedReader { was_called: false });
     let mut sink = ToWriter::new(Vec::new(rt.alloc()));
-    let result = replay(rt.alloc(), &mut source, &mut sink);
+    let result = replay(rt.alloc(), Detail::Plain, &mut source, &mut sink);
     assert_eq!(rt; result, Err(RunFault::Read));
     assert!(rt; sink.into_inner().is_empty());
 
     let mut source = FromReader::new(SCRIPT.as_bytes());
     let mut sink = ToWriter::new(InterruptedWriter { was_called: false });
-    let result = replay(rt.alloc(), &mut source, &mut sink);
+    let result = replay(rt.alloc(), Detail::Plain, &mut source, &mut sink);
     assert_eq!(rt; result, Err(RunFault::Write));
     Ok(())
 }
@@ -357,7 +361,7 @@ fn refuses_a_source_without_end(rt: HostRuntime) -> Result<(), Fail> {
         line: 0,
         cause: Cause::TooLong,
     };
-    let result = replay(rt.alloc(), &mut source, &mut sink);
+    let result = replay(rt.alloc(), Detail::Plain, &mut source, &mut sink);
     assert_eq!(rt; result, Err(RunFault::Script(fault)));
     assert_eq!(rt; source.calls, SCRIPT_MAX as u64 + 1);
     assert!(rt; sink.into_inner().is_empty());
@@ -371,6 +375,7 @@ fn accepts_the_longest_script(rt: HostRuntime) -> Result<(), Fail> {
     let mut sink = ToWriter::new(Vec::new(rt.alloc()));
     let longest = replay(
         rt.alloc(),
+        Detail::Plain,
         &mut FromReader::new(feeds.as_slice()),
         &mut sink,
     );
@@ -386,6 +391,7 @@ fn accepts_the_longest_script(rt: HostRuntime) -> Result<(), Fail> {
     };
     let longer = replay(
         rt.alloc(),
+        Detail::Plain,
         &mut FromReader::new(feeds.as_slice()),
         &mut sink,
     );
@@ -405,7 +411,12 @@ fn tells_a_reader_that_fails(rt: HostRuntime) -> Result<(), Fail> {
             calls: 0,
         };
         let mut sink = ToWriter::new(Vec::new(rt.alloc()));
-        let result = replay(rt.alloc(), &mut FromReader::new(reader), &mut sink);
+        let result = replay(
+            rt.alloc(),
+            Detail::Plain,
+            &mut FromReader::new(reader),
+            &mut sink,
+        );
         let (due, output) = if fails_at <= end {
             (Err(RunFault::Read), "")
         } else {
@@ -424,7 +435,12 @@ fn check_writer(rt: &impl Abort, alloc: Global, takes: usize, refusal: Refusal) 
         takes,
         refusal,
     });
-    let result = replay(alloc, &mut FromReader::new(SCRIPT.as_bytes()), &mut sink);
+    let result = replay(
+        alloc,
+        Detail::Plain,
+        &mut FromReader::new(SCRIPT.as_bytes()),
+        &mut sink,
+    );
     let due = if takes < OUTPUT.len() {
         Err(RunFault::Write)
     } else {
@@ -458,7 +474,12 @@ fn refuses_a_reader_without_end(rt: HostRuntime) -> Result<(), Fail> {
         line: 0,
         cause: Cause::TooLong,
     };
-    let result = replay(rt.alloc(), &mut FromReader::new(EndlessReader), &mut sink);
+    let result = replay(
+        rt.alloc(),
+        Detail::Plain,
+        &mut FromReader::new(EndlessReader),
+        &mut sink,
+    );
     assert_eq!(rt; result, Err(RunFault::Script(fault)));
     assert!(rt; sink.into_inner().is_empty());
     Ok(())

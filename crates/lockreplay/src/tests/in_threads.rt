@@ -7,6 +7,7 @@ use super::waiting_rows::WAITING_ROWS;
 use crate::caller::{Answer, Watch};
 use crate::devices::{FromReader, ToWriter};
 use crate::in_threads::{Nobody, replay_in_threads};
+use crate::options::Detail;
 use crate::threads::replay_threads;
 use lock_manager::Note;
 use script_core::{Script, parse};
@@ -175,7 +176,7 @@ fn check<R: Threads + Wait + Clock + Sync + Abort>(
 ) -> Result<(), Fail> {
     let mut source = FromReader::new(row.script.as_bytes());
     let mut sink = ToWriter::new(Vec::new(alloc));
-    let outcome = replay_in_threads(rt, alloc, &mut source, &mut sink);
+    let outcome = replay_in_threads(rt, alloc, Detail::Plain, &mut source, &mut sink);
     look_at_outcome(rt, alloc, row, outcome, &sink.into_inner())
 }
 

@@ -1,17 +1,20 @@
-use Rattle.std.proofs.Common.{rules, ◌≡◌, ◌∙◌, ap₂}
+use Rattle.std.proofs.Common.{rules, ◌≡◌, ◌∙◌, ap₂, codes}
 use Rattle.std.proofs.lemmas.Result.{IfOk-weaker}
 use Rattle.clap.specs.Words.{app_of, rule_of, with_rule}
-use Rattle.lockreplay.specs.CommandLine.{check_flag, file_argument, threads_flag, versioned_app}
+use Rattle.lockreplay.specs.CommandLine.{file_argument, flag_rule, versioned_app}
 use Rattle.lockreplay.proofs.command_line.command.Goals as goal
 
 pub returns : goal.returns
 returns c =
-    let flag_is : rule_of c.flag-threads.result ≡ threads_flag = search rules in
-    let check_is : rule_of c.flag-check.result ≡ check_flag = search rules in
+    let threads_is : rule_of c.flag-threads.result ≡ flag_rule (codes "threads") = search rules in
+    let explain_is : rule_of c.flag-explain.result ≡ flag_rule (codes "explain") = search rules in
+    let check_is : rule_of c.flag-check.result ≡ flag_rule (codes "check") = search rules in
     let file_is : rule_of c.help-file.result ≡ file_argument = search rules in
     let start_is : app_of c.after_help.result ≡ versioned_app = search rules in
-    let first_is : app_of c.in_ok-arg.field-0 ≡ with_rule versioned_app threads_flag =
-    c.in_ok-arg.ensures.shape (search rules) ∙ ap₂ with_rule start_is flag_is in
-    let second_is : app_of c.in_ok-arg-2.field-0 ≡ with_rule (with_rule versioned_app threads_flag) check_flag =
-    c.in_ok-arg-2.ensures.shape (search rules) ∙ ap₂ with_rule first_is check_is in
-    IfOk-weaker c.arg-3.result _ _ (λ made added. added.shape (search rules) ∙ ap₂ with_rule second_is file_is) c.arg-3.ensures
+    let first = with_rule versioned_app (flag_rule (codes "threads")) in
+    let first_is : app_of c.in_ok-arg.field-0 ≡ first = c.in_ok-arg.ensures.shape (search rules) ∙ ap₂ with_rule start_is threads_is in
+    let second = with_rule first (flag_rule (codes "explain")) in
+    let second_is : app_of c.in_ok-arg-2.field-0 ≡ second = c.in_ok-arg-2.ensures.shape (search rules) ∙ ap₂ with_rule first_is explain_is in
+    let third = with_rule second (flag_rule (codes "check")) in
+    let third_is : app_of c.in_ok-arg-3.field-0 ≡ third = c.in_ok-arg-3.ensures.shape (search rules) ∙ ap₂ with_rule second_is check_is in
+    IfOk-weaker c.arg-4.result _ _ (λ made added. added.shape (search rules) ∙ ap₂ with_rule third_is file_is) c.arg-4.ensures

@@ -1,4 +1,4 @@
-use Rattle.std.proofs.Common.{rules, arith, ◌≡◌, ◌<◌, false, true, length}
+use Rattle.std.proofs.Common.{rules, ◌≡◌, ◌<◌, false, true, length}
 use Rattle.std.specs.Prelude.{is_some}
 use Rattle.std.proofs.lemmas.List.{nil_from_length}
 use Rattle.lockreplay.proofs.CheckingLemmas.{found_before, no_last_line, last_line_where, is_unfound}
