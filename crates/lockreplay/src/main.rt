@@ -12,6 +12,7 @@ mod command_line;
 mod devices;
 mod faults;
 mod in_threads;
+mod laws;
 mod options;
 mod pause;
 mod replay;

@@ -25,3 +25,4 @@ pub mod JournalViewLemmas
 pub mod JournalStageLemmas
 pub mod JournalReportLemmas
 pub mod JournalSeamLemmas
+pub mod AnswerLaws
