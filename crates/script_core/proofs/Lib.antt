@@ -26,3 +26,6 @@ pub mod JournalStageLemmas
 pub mod JournalReportLemmas
 pub mod JournalSeamLemmas
 pub mod AnswerLaws
+pub mod FitLemmas
+pub mod OutcomeFitLemmas
+pub mod RunFitLemmas

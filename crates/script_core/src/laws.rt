@@ -3,6 +3,7 @@ ghost use Rattle.script_core.specs.Explaining.{ExplanationsAreComments};
 ghost use Rattle.script_core.specs.JournalReading.{EntriesAreReadBack, JournalsAreReadBack, JournalsHaveOneEnd, LinesHaveOneMeaning};
 ghost use Rattle.script_core.specs.JournalView.{OneIsTold};
 ghost use Rattle.script_core.specs.Output.{ScriptsHaveOneOutput};
+ghost use Rattle.script_core.specs.OutputReading.{EntriesOfOutputsAreLegal};
 ghost use Rattle.script_core.specs.ReportReading.{ReportsAreReadBack};
 ghost use Rattle.script_core.specs.WithoutHeaders.{HeadersChangeNothingElse};
 
@@ -51,6 +52,12 @@ pub fn lines_have_one_answer()
 pub fn journals_are_read_back()
     ensures read { EntriesAreReadBack }
     ensures legal { JournalsAreReadBack }
+{}
+
+/// The entries of an output are a legal journal, under the rules of its script: each has at most 64 notes and numbers that its line may have,
+/// and they are a run. Of the report behind them this says nothing.
+pub fn entries_of_outputs_are_legal()
+    ensures { EntriesOfOutputsAreLegal }
 {}
 
 /// What is explained of a script is its output and lines that begin with `#`: without these it is the output.
