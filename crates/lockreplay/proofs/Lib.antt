@@ -6,3 +6,4 @@ pub mod GatheringLemmas
 pub mod JournalSourceLemmas
 pub mod ListLemmas
 pub mod OutputLemmas
+pub mod VerdictLaws

@@ -9,7 +9,8 @@ use Rattle.script_core.specs.declared.script.Cause.TheVariants.{TooLong}
 use Rattle.script_core.specs.declared.script.ScriptFault.{ScriptFault}
 use Rattle.script_core.specs.Words.{lines_of}
 use Rattle.script_core.specs.EntryReading.{entry_limit}
-use Rattle.script_core.specs.JournalReading.{JournalReading, JournalLineGives, MayGoOn, MayEnd, journal_start, reading_behind}
+use Rattle.script_core.specs.JournalReading.{JournalReading, JournalEnd, JournalGives, JournalLineGives, MayGoOn, MayEnd, journal_start, reading_behind}
+use Rattle.script_core.specs.JournalReading as journals
 use Rattle.script_core.specs.JournalView.{HasRead, IsToldThere, expected_in}
 use Rattle.lockreplay.specs.declared.check.Outcome.{Outcome}
 use Rattle.lockreplay.specs.declared.check.Outcome.TheVariants as outcomes
@@ -49,6 +50,23 @@ abbrev pub JournalComes : List ℕ → Verdict → Type 0
 JournalComes bytes verdict =
     MatchBool (nat_lt journal_limit (length bytes)) (verdict ≡ Faulty (record { line = 0; cause = TooLong }))
     (LinesCome 1 journal_start (lines_of bytes) verdict)
+
+-- two verdicts of the same bytes are equal
+abbrev pub JournalsHaveOneVerdict : Type 0
+JournalsHaveOneVerdict = (bytes : List ℕ) (a b : Verdict) → JournalComes bytes a → JournalComes bytes b → a ≡ b
+
+-- the end of a journal of this verdict, in which no text tells what is expected
+abbrev pub end_of : Verdict → JournalEnd
+end_of Legal = journals.Legal
+end_of (Illegal number expected) = journals.Illegal number
+end_of (Faulty fault) = journals.Faulty fault.line fault.cause
+
+-- the verdict of lines, behind any reading, is one of their end; and where that is the legal one, they have the legal verdict
+pub record VerdictsAreOfEnds : Type 0 where
+  pub ends : (number : ℕ) (reading : JournalReading) (lines : List (List ℕ)) (verdict : Verdict) → LinesCome number reading lines verdict
+      → JournalGives number reading lines (end_of verdict)
+  pub legal : (number : ℕ) (reading : JournalReading) (lines : List (List ℕ)) → JournalGives number reading lines journals.Legal
+      → LinesCome number reading lines Legal
 
 -- the line that is written of an illegal journal
 abbrev pub illegal_line : ℕ → List ℕ → List ℕ

@@ -13,6 +13,7 @@ mod command_line;
 mod devices;
 mod faults;
 mod in_threads;
+mod laws;
 mod options;
 mod pause;
 mod replay;

@@ -1,6 +1,7 @@
 -- The lines of a report in a journal, for `JournalReader`: whether it may go on with one, and whether it may end.
-use Rattle.std.proofs.Common.{◌≡◌, ◌≢◌, ℕ, ◌^◌, ◌<◌, Bool, true, false, List, [], ◌∷◌, ◌++◌, Option, Some, None, MatchOption, inl, inr, ⊎_elim, refl, sym, ap, ap₂, ◌∙◌, subst, arith, lit<, append_assoc, append-nil, map}
+use Rattle.std.proofs.Common.{◌≡◌, ◌≢◌, ℕ, ◌+◌, ◌^◌, ◌<◌, Bool, true, false, List, [], ◌∷◌, ◌++◌, Option, Some, None, MatchOption, inl, inr, ⊎_elim, refl, sym, ap, ap₂, ◌∙◌, subst, arith, lit<, append_assoc, append-nil, map, drop, suc, length}
 use Rattle.std.specs.Prelude.{IsTrue, if◌then◌else◌}
+use Rattle.std.proofs.lemmas.List.{drop-drop}
 use Rattle.lock_book.specs.Changes.{mode_in, flock_mode_in}
 use Rattle.lock_book.specs.OneReport.{LocksHaveOneReport}
 use Rattle.lock_manager.specs.State.{State}
@@ -12,8 +13,8 @@ use Rattle.script_core.specs.declared.place.Place.{Place}
 use Rattle.script_core.specs.declared.report.ReportLine.{ReportLine}
 use Rattle.script_core.specs.declared.report.ReportLine.TheVariants as lines
 use Rattle.script_core.specs.ReportText.{is_reported, process_text}
-use Rattle.script_core.specs.ReportReading.{line_text, IsLineOf, MayBeLeftOut, may_be_left_out, AreTextsOf, IsFirstDue, first_due, GoesOn, AreReportLines, lines_from}
-use Rattle.script_core.specs.JournalReading.{rules_at, processes_at, IsReportAt, IsReportFront, IsWholeReport}
+use Rattle.script_core.specs.ReportReading.{line_text, IsLineOf, MayBeLeftOut, may_be_left_out, AreTextsOf, IsFirstDue, first_due, GoesOn, AreLastOf, AreReportLines, lines_from}
+use Rattle.script_core.specs.JournalReading.{rules_at, processes_at, AreLegal, IsReportAt, IsReportFront, IsWholeReport}
 use Rattle.script_core.specs.JournalView.{AreLeft}
 
 -- each line has a text
@@ -29,15 +30,21 @@ some_text (lines.Waits wait) = (line_text (lines.Waits wait), refl)
 some_text (lines.Process told) = (process_text (record told { sent = 1 }), (1, lit< tt, reported_once told.state, refl))
 
 -- so some texts are those of any lines
-some_texts : (reported : List ReportLine) → (texts : List (List ℕ)) × AreTextsOf reported texts
+pub some_texts : (reported : List ReportLine) → (texts : List (List ℕ)) × AreTextsOf reported texts
 some_texts [] = ([], refl)
 some_texts (line ∷ more) =
     let first = some_text line in
     let rest = some_texts more in
     (first.0 ∷ rest.0, inl (first.1, rest.1))
 
+-- as many as there are lines
+pub all_texts : (reported : List ReportLine) → length (some_texts reported).0 ≡ length reported
+unfolding some_texts
+all_texts [] = refl
+all_texts (line ∷ more) = ap suc (all_texts more)
+
 -- a state after these events has one list of lines
-one_report : LocksHaveOneReport → (processes : ℕ) (S : State) (events : List Event) (a b : List ReportLine) → AreReportLines processes S events a
+pub one_report : LocksHaveOneReport → (processes : ℕ) (S : State) (events : List Event) (a b : List ReportLine) → AreReportLines processes S events a
     → AreReportLines processes S events b → a ≡ b
 one_report one processes S events a b h k =
     h.is
@@ -46,22 +53,29 @@ one_report one processes S events a b h k =
     ∙ sym k.is
 
 -- before the first line all are left
-pub AreLeft-first : (place : Place) (entries : List Event) (reported : List ReportLine)
+pub AreLeft-first : (place : Place) (entries : List Event) (reported : List ReportLine) → AreLegal place entries
     → ((T : State) → IsRun (rules_at place) (processes_at place) entries T → AreReportLines (processes_at place) T entries reported)
     → AreLeft place entries [] reported
-AreLeft-first place entries reported are =
-    record { reported = reported; lines = are; goes_on = λ more. ((λ texts. texts), (λ texts. texts)) }
+AreLeft-first place entries reported legal are =
+    record { legal = legal; reported = reported; lines = are; last = (0, refl); goes_on = λ more. ((λ texts. texts), (λ texts. texts)) }
 
 behind : (reported : List ReportLine) (texts : List (List ℕ)) (text : List ℕ) (more : List (List ℕ)) → AreTextsOf reported (texts ++ text ∷ [] ++ more)
     → AreTextsOf reported (texts ++ (text ∷ more))
 behind reported texts text more are = subst (λ l. AreTextsOf reported l) (append_assoc texts (text ∷ []) more) are
 
+-- the last of the last lines are the last
+last_of_last : (reported old new : List ReportLine) → AreLastOf reported old → AreLastOf old new → AreLastOf reported new
+last_of_last reported old new first next =
+    (first.0 + next.0, next.1 ∙ ap (drop next.0) first.1 ∙ drop-drop next.0 first.0 reported)
+
 -- one more line came
 pub AreLeft-more : (place : Place) (entries : List Event) (texts : List (List ℕ)) (old new : List ReportLine) (text : List ℕ) → AreLeft place entries texts old
-    → GoesOn old text new → AreLeft place entries (texts ++ text ∷ []) new
-AreLeft-more place entries texts old new text left goes = record {
+    → GoesOn old text new → AreLastOf old new → AreLeft place entries (texts ++ text ∷ []) new
+AreLeft-more place entries texts old new text left goes last = record {
+  legal = left.legal;
   reported = left.reported;
   lines = left.lines;
+  last = last_of_last left.reported old new left.last last;
   goes_on = λ more. (
     (λ are. (goes more).0 ((left.goes_on (text ∷ more)).0 (behind left.reported texts text more are))),
     (λ are.

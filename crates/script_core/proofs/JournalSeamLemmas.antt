@@ -21,7 +21,7 @@ use Rattle.script_core.specs.declared.report.ReportFault.{ReportFault}
 use Rattle.script_core.specs.declared.report.ReportFault.TheVariants as reports
 use Rattle.script_core.specs.declared.report.ReportLine.{ReportLine}
 use Rattle.script_core.specs.ExpectedText.{due_text}
-use Rattle.script_core.specs.ReportReading.{AreTextsOf, IsFirstDue, first_due, GoesOn, AreReportLines}
+use Rattle.script_core.specs.ReportReading.{AreTextsOf, IsFirstDue, first_due, GoesOn, AreLastOf, AreReportLines}
 use Rattle.script_core.specs.JournalReading.{JournalReading, AreLegal, IsBeforeReport, MayGoOn, MayEnd, rules_at, processes_at, reading_behind}
 use Rattle.script_core.specs.JournalView.{HasRead, HasChecked, HasReported, ReportsAt, AreLeft, IsStageOf, IsAtOpening, TakesSaid, Finishes, place_of, is_spent, is_cut, cuts, expected_in, text_expected, report_expected, report_fault_of}
 use Rattle.script_core.proofs.JournalReportLemmas.{AreLeft-first, AreLeft-more, front_more, no_front, due_is, nothing_due, whole_ends, ends_whole, first_due-none}
@@ -95,11 +95,11 @@ unfolding cuts
 cut_is reader left due stage report told = ap is_some (due_is left due told) ∙ sym (ap₂ is_cut stage report)
 
 -- what is left of a report that was begun behind no line of it
-pub left_first : (place : Place) (entries : List Event) (texts : List (List ℕ)) (now report : List ReportLine) → texts ≡ []
+pub left_first : (place : Place) (entries : List Event) (texts : List (List ℕ)) (now report : List ReportLine) → texts ≡ [] → AreLegal place entries
     → ((T : State) → IsRun (rules_at place) (processes_at place) entries T → AreReportLines (processes_at place) T entries report) → now ≡ report
     → AreLeft place entries texts now
-left_first place entries texts now report none are same =
-    subst (λ t. AreLeft place entries t now) (sym none) (subst (λ l. AreLeft place entries [] l) (sym same) (AreLeft-first place entries report are))
+left_first place entries texts now report none legal are same =
+    subst (λ t. AreLeft place entries t now) (sym none) (subst (λ l. AreLeft place entries [] l) (sym same) (AreLeft-first place entries report legal are))
 
 some_line : (texts : List (List ℕ)) (text : List ℕ) → texts ++ text ∷ [] ≢ []
 some_line [] text none = cc
@@ -107,11 +107,12 @@ some_line (first ∷ texts) text none = cc
 
 -- a line of the report was taken down
 pub report_taken : (old new : JournalReader) (reading : JournalReading) (text : List ℕ) (before now : List ReportLine) → HasRead old reading
-    → AreLeft reading.place reading.entries reading.report before → GoesOn before text now → new.place ≡ record old.place { stage = stages.Report }
+    → AreLeft reading.place reading.entries reading.report before → GoesOn before text now → AreLastOf before now
+    → new.place ≡ record old.place { stage = stages.Report }
     → new.checker ≡ old.checker → new.illegal ≡ old.illegal → new.report ≡ Some now → TakesSaid new reading text lines.Report (Ok tt)
 unfolding place_of is_spent HasChecked HasReported
-report_taken old new reading text before now read left goes placed checker illegal report =
-    let after = AreLeft-more reading.place reading.entries reading.report before now text left goes in
+report_taken old new reading text before now read left goes last placed checker illegal report =
+    let after = AreLeft-more reading.place reading.entries reading.report before now text left goes last in
     let run = read.checked.run in (
       front_more reading.place reading.entries (reading.report ++ text ∷ []) now run.0 run.1 after,
       record {
@@ -119,7 +120,7 @@ report_taken old new reading text before now read left goes placed checker illeg
         stage = some_line reading.report text;
         unspent = ap is_some illegal ∙ read.unspent;
         checked = subst (λ c. HasAccepted (rules_at reading.place) (processes_at reading.place) c reading.entries) (sym checker) read.checked;
-        reported = rw report (record { reported = after.reported; lines = after.lines; goes_on = after.goes_on });
+        reported = rw report (record { legal = after.legal; reported = after.reported; lines = after.lines; last = after.last; goes_on = after.goes_on });
       },
     )
 

@@ -30,3 +30,7 @@ pub mod JournalViewLemmas
 pub mod JournalStageLemmas
 pub mod JournalReportLemmas
 pub mod JournalSeamLemmas
+pub mod AnswerLaws
+pub mod FitLemmas
+pub mod OutcomeFitLemmas
+pub mod RunFitLemmas

@@ -1,16 +1,17 @@
 -- The arrivals of a script: they are of its processes, and no more than its lines.
-use Rattle.std.proofs.Common.{ℕ, ◌≡◌, ◌≤◌, ap, arith, length-append, refl, sym, subst, Bool, true, false, List, [], ◌∷◌, inl, inr, Result, Ok, Err, All}
-use Rattle.std.proofs.lemmas.List.Elements.{All-push, All-nil}
+use Rattle.std.proofs.Common.{ℕ, ◌≡◌, ◌≤◌, ap, arith, length-append, refl, sym, subst, Bool, true, false, List, [], ◌∷◌, inl, inr, Option, Some, None, MatchOption, Result, Ok, Err, All}
+use Rattle.std.proofs.lemmas.List.Elements.{All-push, All-nil, All-weaker}
 use Rattle.fd_table.specs.declared.Limits.{Limits}
 use Rattle.fd_table.specs.declared.Limits.TheVariants.{Small}
 use Rattle.lock_manager.specs.declared.request.Request.{Request}
 use Rattle.script_core.specs.declared.line.Line.{Line}
 use Rattle.script_core.specs.declared.line.Line.TheVariants as lines
 use Rattle.script_core.specs.declared.script.Cause.{Cause}
-use Rattle.script_core.specs.declared.script.Cause.TheVariants.{Byte, Process, TooLong}
+use Rattle.script_core.specs.declared.script.Cause.TheVariants.{Byte, Process, TooLong, Word}
 use Rattle.script_core.specs.declared.script.ScriptFault.{ScriptFault}
-use Rattle.script_core.specs.ScriptText.{Meaning, IsProcess}
-use Rattle.script_core.specs.Reading.{Reading, start, limits_of, meaning_of, reading_after, is_comment, is_empty, says_policy, says_limits, ArrivalGives, PolicyGives, LimitsGive, ProcessGives, WordsGive, LineGives, LinesGive, Reads}
+use Rattle.script_core.specs.ScriptText.{Meaning, IsProcess, IsWritable}
+use Rattle.script_core.specs.Reading.{Reading, start, limits_of, meaning_of, reading_after, is_comment, is_empty, says_policy, says_limits, ArgumentsGive, CommandGives, RequestGives, ArrivalGives, PolicyGives, LimitsGive, ProcessGives, WordsGive, LineGives, LinesGive, Reads}
+use Rattle.script_core.specs.Arguments.{Command, command_named, has_count}
 use Rattle.script_core.specs.Words.{words_of, is_printable, lines_of, without_empty_end, line_limit, script_limit}
 use Rattle.std.specs.List.{slice_split}
 use Rattle.std.proofs.lemmas.Bool.{ltb-false}
@@ -18,34 +19,62 @@ use Rattle.std.proofs.lemmas.List.Sums.{count_by-le-length}
 use Rattle.std.proofs.lemmas.List.Splits.{length-slice_split}
 use Rattle.std.specs.Prelude.{nat_lt, length, MatchBool, ◌+◌, ◌==◌, ◌&&◌, codes, bytes_eq, is_none}
 
--- each arrival is of a process that the limits have
-abbrev AreOfProcesses : Reading → Type 0
-AreOfProcesses reading = All (λ arrival. IsProcess (limits_of reading) arrival.0) reading.arrivals
+-- the arrival is of a process that the limits have, and its request is one that they have
+abbrev pub IsArrivalOf : Limits → ℕ × Request → Type 0
+IsArrivalOf limits arrival = IsProcess limits arrival.0 × IsWritable limits arrival.1
+
+-- so is each
+abbrev AreOfLimits : Reading → Type 0
+AreOfLimits reading = All (IsArrivalOf (limits_of reading)) reading.arrivals
 
 -- what a line says keeps it so: limits are said before all arrivals
 Keeps : Reading → Result Line Cause → Type 0
 Keeps reading (Ok lines.Skipped) = Unit {0}
 Keeps reading (Ok (lines.Policy policy)) = Unit {0}
 Keeps reading (Ok (lines.Limits limits)) = reading.arrivals ≡ []
-Keeps reading (Ok (lines.Arrival p request)) = IsProcess (limits_of reading) p
+Keeps reading (Ok (lines.Arrival p request)) = IsArrivalOf (limits_of reading) (p, request)
 Keeps reading (Err cause) = Unit {0}
 
 keeps_by : (reading : Reading) (expected result : Result Line Cause) → Keeps reading expected → result ≡ expected → Keeps reading result
 keeps_by reading expected result is e = subst (Keeps reading) (sym e) is
+
+-- read as this request
+abbrev read_as : Request → Result Request Cause
+read_as request = Ok request
 
 -- a choice by a test, each side leading to the same
 join_by : (test : Bool) (P Q R : Type 0) → (test ≡ true → P → R) → (Q → R) → MatchBool test P Q → R
 join_by true P Q R f g h = f refl h
 join_by false P Q R f g h = g h
 
-keeps_arrival : (reading : Reading) (p : ℕ) (next : Result Request Cause) (result : Result Line Cause) → IsProcess (limits_of reading) p → ArrivalGives p next result → Keeps reading result
+-- words that are read as a request have numbers of the limits
+of_arguments : (limits : Limits) (words : List (List ℕ)) (command : Command) (arguments : List (List ℕ)) (request : Request)
+    → ArgumentsGive limits words command arguments (Ok request) → IsWritable limits request
+of_arguments limits words command arguments request (inl fault) = absurd (cc)
+of_arguments limits words command arguments request (inr given) =
+    let same : given.0 ≡ request = cc in subst (IsWritable limits) same given.1.writable
+
+of_command : (limits : Limits) (words : List (List ℕ)) (arguments : List (List ℕ)) (request : Request) (command : Option Command)
+    → MatchOption command (read_as request ≡ Err Word) (λ command. CommandGives limits words command arguments (Ok request)) → IsWritable limits request
+of_command limits words arguments request None gives = absurd (cc)
+of_command limits words arguments request (Some command) gives =
+    join_by (has_count command (length arguments)) _ _ (IsWritable limits request) (λ e. of_arguments limits words command arguments request)
+    (λ bad. absurd (cc)) gives
+
+of_request : (limits : Limits) (words : List (List ℕ)) (request : Request) → RequestGives limits words (Ok request) → IsWritable limits request
+of_request limits [] request gives = absurd (cc)
+of_request limits (name ∷ arguments) request gives = of_command limits (name ∷ arguments) arguments request (command_named limits name) gives
+
+keeps_arrival : (reading : Reading) (p : ℕ) (words : List (List ℕ)) (next : Result Request Cause) (result : Result Line Cause) → IsProcess (limits_of reading) p
+    → RequestGives (limits_of reading) words next → ArrivalGives p next result → Keeps reading result
 unfolding Keeps
-keeps_arrival reading p (Ok request) result process is = keeps_by reading (Ok (lines.Arrival p request)) result process is
-keeps_arrival reading p (Err cause) result process is = keeps_by reading (Err cause) result tt is
+keeps_arrival reading p words (Ok request) result process gives is =
+    keeps_by reading (Ok (lines.Arrival p request)) result (process, of_request (limits_of reading) words request gives) is
+keeps_arrival reading p words (Err cause) result process gives is = keeps_by reading (Err cause) result tt is
 
 keeps_process : (reading : Reading) (first : List ℕ) (rest : List (List ℕ)) (result : Result Line Cause) → ProcessGives (limits_of reading) first rest result → Keeps reading result
 unfolding Keeps
-keeps_process reading first rest result (inl arrival) = keeps_arrival reading arrival.0 arrival.3 result arrival.1 arrival.5
+keeps_process reading first rest result (inl arrival) = keeps_arrival reading arrival.0 rest arrival.3 result arrival.1 arrival.4 arrival.5
 keeps_process reading first rest result (inr fault) = keeps_by reading (Err Process) result tt fault.1
 
 keeps_policy : (reading : Reading) (rest : List (List ℕ)) (result : Result Line Cause) → PolicyGives rest result → Keeps reading result
@@ -87,15 +116,15 @@ keeps_line reading line result gives =
     (join_by (is_printable line) _ _ (Keeps reading result) (λ e. keeps_words reading (words_of line) result) (keeps_by reading (Err Byte) result tt)) gives
 
 -- no arrivals are of processes under any limits
-none_yet : (limits : Limits) (arrivals : List (ℕ × Request)) → arrivals ≡ [] → All (λ arrival. IsProcess limits arrival.0) arrivals
-none_yet limits arrivals e = subst (All (λ arrival. IsProcess limits arrival.0)) (sym e) (All-nil (λ arrival. IsProcess limits arrival.0))
+none_yet : (limits : Limits) (arrivals : List (ℕ × Request)) → arrivals ≡ [] → All (IsArrivalOf limits) arrivals
+none_yet limits arrivals e = subst (All (IsArrivalOf limits)) (sym e) (All-nil (IsArrivalOf limits))
 
-kept : (reading : Reading) (said : Line) → Keeps reading (Ok said) → AreOfProcesses reading → AreOfProcesses (reading_after reading said)
+kept : (reading : Reading) (said : Line) → Keeps reading (Ok said) → AreOfLimits reading → AreOfLimits (reading_after reading said)
 unfolding Keeps
 kept reading lines.Skipped is before = before
 kept reading (lines.Policy policy) is before = before
 kept reading (lines.Limits limits) is before = none_yet limits reading.arrivals is
-kept reading (lines.Arrival p request) is before = All-push (λ arrival. IsProcess (limits_of reading) arrival.0) reading.arrivals (p, request) before is
+kept reading (lines.Arrival p request) is before = All-push (IsArrivalOf (limits_of reading)) reading.arrivals (p, request) before is
 
 -- a script that is accepted
 abbrev accepted : Meaning → Result Meaning ScriptFault
@@ -105,19 +134,23 @@ accepted meaning = Ok meaning
 success : (meaning other : Meaning) → accepted meaning ≡ accepted other → meaning ≡ other
 success meaning other e = cc
 
-of_lines : (number : ℕ) (reading : Reading) (lines : List (List ℕ)) (meaning : Meaning) → AreOfProcesses reading → LinesGive number reading lines (Ok meaning)
-    → All (λ arrival. IsProcess meaning.rules.limits arrival.0) meaning.arrivals
+of_lines : (number : ℕ) (reading : Reading) (lines : List (List ℕ)) (meaning : Meaning) → AreOfLimits reading → LinesGive number reading lines (Ok meaning)
+    → All (IsArrivalOf meaning.rules.limits) meaning.arrivals
 of_lines number reading [] meaning before gives =
-    subst (λ (m : Meaning). All (λ arrival. IsProcess m.rules.limits arrival.0) m.arrivals) (sym (success meaning (meaning_of reading) gives)) before
+    subst (λ (m : Meaning). All (IsArrivalOf m.rules.limits) m.arrivals) (sym (success meaning (meaning_of reading) gives)) before
 of_lines number reading (line ∷ rest) meaning before (Ok said, gives, more) =
     of_lines (number + 1) (reading_after reading said) rest meaning (kept reading said (keeps_line reading line (Ok said) gives) before) more
 of_lines number reading (line ∷ rest) meaning before (Err cause, gives, refused) = absurd (cc)
 
--- the arrivals of an accepted script are of its processes
+-- the arrivals of an accepted script are of its limits
+pub arrivals_read : (bytes : List ℕ) (meaning : Meaning) → Reads bytes (Ok meaning) → All (IsArrivalOf meaning.rules.limits) meaning.arrivals
+arrivals_read bytes meaning reads =
+    join_by (nat_lt script_limit (length bytes)) _ _ (All (IsArrivalOf meaning.rules.limits) meaning.arrivals)
+    (λ e long. absurd (cc)) (of_lines 1 start (lines_of bytes) meaning (All-nil (IsArrivalOf Small))) reads
+
 pub processes_read : (bytes : List ℕ) (meaning : Meaning) → Reads bytes (Ok meaning) → All (λ arrival. IsProcess meaning.rules.limits arrival.0) meaning.arrivals
 processes_read bytes meaning reads =
-    join_by (nat_lt script_limit (length bytes)) _ _ (All (λ arrival. IsProcess meaning.rules.limits arrival.0) meaning.arrivals)
-    (λ e long. absurd (cc)) (of_lines 1 start (lines_of bytes) meaning (All-nil (λ arrival. IsProcess Small arrival.0))) reads
+    All-weaker (IsArrivalOf meaning.rules.limits) (λ arrival. IsProcess meaning.rules.limits arrival.0) (λ arrival is. is.0) meaning.arrivals (arrivals_read bytes meaning reads)
 
 -- a line is one arrival at most
 grows : (reading : Reading) (said : Line) → length (reading_after reading said).arrivals ≤ length reading.arrivals + 1

@@ -104,6 +104,10 @@ JournalLineGives place line result =
 abbrev pub HasOneMeaning : Place → List ℕ → Type 0
 HasOneMeaning place line = (a b : Result JournalLine Cause) → JournalLineGives place line a → JournalLineGives place line b → a ≡ b
 
+-- so it is of each line, wherever it stands
+abbrev pub LinesHaveOneMeaning : Type 0
+LinesHaveOneMeaning = (place : Place) (line : List ℕ) → HasOneMeaning place line
+
 -- the place behind a line that says this
 abbrev pub place_behind : Place → JournalLine → Place
 place_behind place lines.Skipped = place

@@ -19,10 +19,10 @@ use Rattle.script_core.specs.declared.journal.JournalReader.{JournalReader}
 use Rattle.script_core.specs.declared.report.ReportFault.{ReportFault}
 use Rattle.script_core.specs.declared.report.ReportFault.TheVariants as reports
 use Rattle.script_core.specs.declared.report.ReportLine.{ReportLine}
-use Rattle.script_core.specs.ReportReading.{first_due, AreTextsOf, AreReportLines}
+use Rattle.script_core.specs.ReportReading.{first_due, AreTextsOf, AreLastOf, AreReportLines}
 use Rattle.script_core.specs.EntryReading.{pieces_of, HaveNote}
 use Rattle.script_core.specs.ExpectedText.{expected_text, due_text}
-use Rattle.script_core.specs.JournalReading.{JournalReading, JournalLineGives, limits_at, rules_at, processes_at, reading_behind, MayGoOn, MayEnd}
+use Rattle.script_core.specs.JournalReading.{JournalReading, JournalLineGives, AreLegal, limits_at, rules_at, processes_at, reading_behind, MayGoOn, MayEnd}
 
 -- the fault that a line has of this cause
 abbrev pub fault_of : Cause → JournalFault
@@ -70,10 +70,12 @@ is_cut stages.Report (Some left) = is_some (first_due left)
 unfoldable pub cuts : JournalReader → Bool
 cuts reader = is_cut reader.place.stage reader.report
 
--- these lines of the report are to come, behind those texts
+-- the entries are a run, and of the report of each state that they leave these last lines are to come, behind those texts
 pub record AreLeft (place : Place) (entries : List Event) (texts : List (List ℕ)) (left : List ReportLine) : Type 0 where
+  pub legal : AreLegal place entries
   pub reported : List ReportLine
   pub lines : (T : State) → IsRun (rules_at place) (processes_at place) entries T → AreReportLines (processes_at place) T entries reported
+  pub last : AreLastOf reported left
   pub goes_on : (more : List (List ℕ)) → (AreTextsOf reported (texts ++ more) → AreTextsOf left more) × (AreTextsOf left more → AreTextsOf reported (texts ++ more))
 
 -- these lines are to come of the report, if it was begun, and no text of it came if not
@@ -158,6 +160,10 @@ Finishes reader reading (Ok done) = MayEnd reading
 Finishes reader reading (Err (Grammar cause)) = ⊥
 Finishes reader reading (Err Illegal) = (¬ MayEnd reading) × IsToldThere reading lines.Report (expected_in reader)
 Finishes reader reading (Err (Memory memory)) = ⊥
+
+-- behind a reading one text at most is told in place of a line that says this
+abbrev pub OneIsTold : Type 0
+OneIsTold = (reading : JournalReading) (said : JournalLine) (a b : List ℕ) → IsToldThere reading said a → IsToldThere reading said b → a ≡ b
 
 -- the new reader stands at this place and has accepted no entry; or memory was refused, and it is as it was
 abbrev pub IsAtOpening : JournalReader → JournalReader → Place → Result Unit JournalFault → Type 0

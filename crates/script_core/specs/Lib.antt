@@ -12,6 +12,7 @@ pub mod JournalReading
 pub mod ReportText
 pub mod ReportReading
 pub mod Output
+pub mod OutputReading
 pub mod ExpectedText
 pub mod JournalView
 pub mod Files

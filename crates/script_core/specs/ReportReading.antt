@@ -1,5 +1,5 @@
 -- How the lines of a report are read, one after another (this project's choice).
-use Rattle.std.specs.Prelude.{◌≡◌, ℕ, zero, suc, ◌+◌, ◌^◌, ◌<◌, Bool, true, false, IsTrue, if◌then◌else◌, Option, Some, None, List, [], ◌∷◌, ◌++◌, length, map, flat_map}
+use Rattle.std.specs.Prelude.{◌≡◌, ℕ, zero, suc, ◌+◌, ◌^◌, ◌<◌, Bool, true, false, IsTrue, if◌then◌else◌, Option, Some, None, List, [], ◌∷◌, ◌++◌, length, drop, map, flat_map}
 use Rattle.range_core.specs.Facts.{MatchFact}
 use Rattle.lock_book.specs.declared.Held.{Held}
 use Rattle.lock_book.specs.Changes.{mode_in, flock_mode_in}
@@ -67,6 +67,10 @@ first_due (line ∷ more) = if may_be_left_out line then first_due more else Som
 abbrev pub GoesOn : List ReportLine → List ℕ → List ReportLine → Type 0
 GoesOn old text new =
     (more : List (List ℕ)) → (AreTextsOf old (text ∷ more) → AreTextsOf new more) × (AreTextsOf new more → AreTextsOf old (text ∷ more))
+
+-- these are the last of those lines
+abbrev pub AreLastOf : List ReportLine → List ReportLine → Type 0
+AreLastOf reported left = (passed : ℕ) × (left ≡ drop passed reported)
 
 -- the line of a process that stands so after these events; of the counts that it may have sent it tells the least
 abbrev pub least_line : (ℕ → ProcState) → List Event → ℕ → ProcessLine

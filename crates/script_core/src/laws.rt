@@ -1,11 +1,14 @@
 //! Laws of the definitions of a script and its output. Each is the contract of a function that does nothing.
 ghost use Rattle.script_core.specs.Explaining.{ExplanationsAreComments};
-ghost use Rattle.script_core.specs.JournalReading.{EntriesAreReadBack, JournalsAreReadBack, JournalsHaveOneEnd};
+ghost use Rattle.script_core.specs.JournalReading.{EntriesAreReadBack, JournalsAreReadBack, JournalsHaveOneEnd, LinesHaveOneMeaning};
+ghost use Rattle.script_core.specs.JournalView.{OneIsTold};
 ghost use Rattle.script_core.specs.Output.{ScriptsHaveOneOutput};
+ghost use Rattle.script_core.specs.OutputReading.{EntriesOfOutputsAreLegal};
 ghost use Rattle.script_core.specs.ReportReading.{ReportsAreReadBack};
 ghost use Rattle.script_core.specs.WithoutHeaders.{HeadersChangeNothingElse};
 
 use lock_book::locks_have_one_report;
+use lock_manager::step_has_one_outcome;
 use session_core::arrivals_have_one_drain;
 
 /// A script has one output: two outputs of the same bytes are equal.
@@ -34,11 +37,27 @@ pub fn journals_have_one_end()
     ensures { JournalsHaveOneEnd }
 {}
 
+/// A line of a journal has one answer, wherever it stands: one meaning, and where the journal may not go on with it, one text that tells
+/// what is there in its place.
+pub fn lines_have_one_answer()
+    ensures meaning { LinesHaveOneMeaning }
+    ensures told { OneIsTold }
+{
+    locks_have_one_report();
+    step_has_one_outcome();
+}
+
 /// What is written of entries with at most 64 notes, each on a line of its own, is read as just these entries, where their numbers are
 /// those of the limits and the report has not begun; and where they are a run behind the entries before, it is legal.
 pub fn journals_are_read_back()
     ensures read { EntriesAreReadBack }
     ensures legal { JournalsAreReadBack }
+{}
+
+/// The entries of an output are a legal journal, under the rules of its script: each has at most 64 notes and numbers that its line may have,
+/// and they are a run. Of the report behind them this says nothing.
+pub fn entries_of_outputs_are_legal()
+    ensures { EntriesOfOutputsAreLegal }
 {}
 
 /// What is explained of a script is its output and lines that begin with `#`: without these it is the output.

@@ -8,7 +8,7 @@ ghost use Rattle.session_core.specs.Runs.{IsRun};
 ghost use Rattle.session_core.specs.Checking.{HasAccepted};
 ghost use Rattle.script_core.specs.Words.{texts};
 ghost use Rattle.script_core.specs.ReportText.{process_text};
-ghost use Rattle.script_core.specs.ReportReading.{AreTextsOf, IsFirstDue, GoesOn, AreReportLines, least_line, lines_from};
+ghost use Rattle.script_core.specs.ReportReading.{AreTextsOf, IsFirstDue, GoesOn, AreLastOf, AreReportLines, least_line, lines_from};
 ghost use Rattle.script_core.specs.declared.report.ReportLine.{ReportLine};
 ghost use Rattle.script_core.specs.declared.report.ReportLine.TheVariants as report_lines;
 ghost use Rattle.script_core.specs.Output.{Extends};
@@ -168,6 +168,7 @@ impl ReportReader {
     /// `Illegal` where it doesn't, whatever would follow. `Memory` may come in place of either answer. Both leave the reader as it was.
     pub fn next(&mut self, text: &str) -> Result<(), ReportFault>
         ensures goes_on { OnOk result (GoesOn self.old text.now self.new) }
+        ensures last { AreLastOf self.old self.new }
         ensures illegal { result ≡ Err ReportFault.Illegal → (more : List (List ℕ)) → ¬ AreTextsOf self.old (text.now ∷ more) }
         ensures refused { (fault : ReportFault) → result ≡ Err fault → self.new ≡ self.old }
     {

@@ -1,0 +1,13 @@
+//! Laws of the definition of a verdict. Each is the contract of a function that does nothing.
+ghost use Rattle.lockreplay.specs.Checks.{JournalsHaveOneVerdict, VerdictsAreOfEnds};
+
+use script_core::lines_have_one_answer;
+
+/// A journal has one verdict: two verdicts of the same bytes are equal, with the line and the text of what is expected there. It is that of
+/// the end of the journal's lines, where the bytes aren't too many.
+pub fn journals_have_one_verdict()
+    ensures one { JournalsHaveOneVerdict }
+    ensures ends { VerdictsAreOfEnds }
+{
+    lines_have_one_answer();
+}

@@ -1,0 +1,158 @@
+-- A line of a journal has one answer: one meaning, and one text of what is there in its place.
+use Rattle.std.proofs.Common.{◌≡◌, ◌≢◌, ℕ, zero, suc, ◌+◌, ◌-◌, ◌<◌, ◌≤◌, ◌==◌, List, [], ◌∷◌, ◌++◌, length, drop, inl, inr, codes, decimal, Some, None, IfSome, slice_get, refl, sym, ap, ◌∙◌, subst, arith, eq-eqb}
+use Rattle.std.proofs.lemmas.List.{length-drop}
+use Rattle.std.proofs.lemmas.List.Elements.{filter-append}
+use Rattle.lock_book.specs.OneReport.{LocksHaveOneReport}
+use Rattle.lock_manager.specs.declared.request.Rules.{Rules}
+use Rattle.lock_manager.specs.declared.request.Note.{Note}
+use Rattle.lock_manager.specs.declared.request.ProcState.{ProcState}
+use Rattle.lock_manager.specs.declared.request.ProcState.TheVariants.{Live}
+use Rattle.lock_manager.specs.State.{State, opening_state}
+use Rattle.lock_manager.specs.OneOutcome.{StepHasOneOutcome}
+use Rattle.session_core.specs.declared.check.Expected.{Expected}
+use Rattle.session_core.specs.declared.check.Expected.TheVariants.{NoRequest, NumberAfter, Notes}
+use Rattle.session_core.specs.Event.{Event}
+use Rattle.session_core.specs.Runs.{Leads, IsStep, IsRun, events_of}
+use Rattle.session_core.specs.Legality.{IsIllegal, WouldHave}
+use Rattle.script_core.specs.declared.place.Place.{Place}
+use Rattle.script_core.specs.declared.place.JournalLine.TheVariants as lines
+use Rattle.script_core.specs.declared.report.ReportLine.{ReportLine}
+use Rattle.script_core.specs.EntryText.{tag, entry_text}
+use Rattle.script_core.specs.ReportText.{state_word}
+use Rattle.script_core.specs.ExpectedText.{expected_text, due_text}
+use Rattle.script_core.specs.ReportReading.{AreTextsOf, first_due}
+use Rattle.script_core.specs.JournalReading.{JournalReading, LinesHaveOneMeaning, rules_at, processes_at}
+use Rattle.script_core.specs.JournalView.{AreLeft, OneIsTold}
+use Rattle.script_core.proofs.JournalLemmas.{one_meaning}
+use Rattle.script_core.proofs.JournalReportLemmas.{some_texts, all_texts, one_report}
+
+pub one_meaning_each : LinesHaveOneMeaning
+one_meaning_each place line = one_meaning place line
+
+-- ---- what is expected in place of an entry
+
+-- events lead to one state
+one_state : StepHasOneOutcome → (rules : Rules) (processes : ℕ) (S : State) (events : List Event) (T U : State)
+    → Leads rules processes S events T → Leads rules processes S events U → T ≡ U
+one_state one rules processes S [] T U h k = h ∙ sym k
+one_state one rules processes S (event ∷ events) T U h k =
+    let outcome : (event.notes ≡ event.notes) × (h.0 ≡ k.0) =
+    one rules processes S event.p event.n event.request event.notes event.notes h.0 k.0 h.1 k.1 in
+    one_state one rules processes k.0 events T U (subst (λ X. Leads rules processes X events T) outcome.1 h.2) k.2
+
+-- the last of the events is a step from the state that the others lead to
+last_step : (rules : Rules) (processes : ℕ) (S : State) (events : List Event) (event : Event) (T : State) → Leads rules processes S (events ++ event ∷ []) T
+    → (U : State) × Leads rules processes S events U × (V : State) × IsStep rules processes U event V
+last_step rules processes S [] event T h = (S, refl, h.0, h.1)
+last_step rules processes S (first ∷ events) event T h =
+    let rest = last_step rules processes h.0 events event T h.2 in (rest.0, (h.0, h.1, rest.1), rest.2, rest.3)
+
+-- which is that state
+last_step_at : StepHasOneOutcome → (rules : Rules) (processes : ℕ) (events : List Event) (event : Event) (S T : State)
+    → IsRun rules processes events S → IsRun rules processes (events ++ event ∷ []) T → (V : State) × IsStep rules processes S event V
+last_step_at one rules processes events event S T run more =
+    let last = last_step rules processes opening_state events event T more.leads in
+    let same : last.0 ≡ S = one_state one rules processes opening_state events last.0 S last.1 run.leads in
+    (last.2, subst (λ X. IsStep rules processes X event last.2) same last.3)
+
+at_end : {X : Type 0} (xs : List X) (x : X) → slice_get (xs ++ x ∷ []) (length xs) ≡ Some x
+at_end [] x = refl
+at_end (first ∷ xs) x = at_end xs x
+
+-- and its number is the one behind those of its process
+last_number : (rules : Rules) (processes : ℕ) (events : List Event) (event : Event) (T : State) → IsRun rules processes (events ++ event ∷ []) T
+    → event.n ≡ length (events_of event.p events) + 1
+last_number rules processes events event T run =
+    let own = events_of event.p events in
+    let all : events_of event.p (events ++ event ∷ []) ≡ own ++ event ∷ [] =
+    filter-append (λ (other : Event). other.p == event.p) events (event ∷ []) ∙ rw (eq-eqb event.p event.p refl) refl in
+    let here : slice_get (events_of event.p (events ++ event ∷ [])) (length own) ≡ Some event = ap (λ l. slice_get l (length own)) all ∙ at_end own event in
+    subst (λ found. IfSome found (λ (other : Event). other.n ≡ length own + 1)) here (run.numbered event.p (length own))
+
+-- what would be there is told in one way
+expected_as : StepHasOneOutcome → (rules : Rules) (processes : ℕ) (events : List Event) (event : Event) (S : State) (a b : Expected)
+    → IsRun rules processes events S → WouldHave rules processes events S event a → WouldHave rules processes events S event b
+    → expected_text event a ≡ expected_text event b
+expected_as one rules processes events event S (NoRequest state) (NoRequest other) run h k =
+    ap (λ s. codes "process " ++ decimal event.p ++ codes " is " ++ state_word s) (sym h.0 ∙ k.0)
+expected_as one rules processes events event S (NoRequest state) (NumberAfter taken) run h k = absurd (h.1 (sym h.0 ∙ k.0))
+expected_as one rules processes events event S (NoRequest state) (Notes notes) run h k =
+    let step = last_step_at one rules processes events (record event { notes = notes.items }) S k.1.0 run k.1.1 in
+    absurd (h.1 (sym h.0 ∙ step.1.live))
+expected_as one rules processes events event S (NumberAfter taken) (NoRequest state) run h k = absurd (k.1 (sym k.0 ∙ h.0))
+expected_as one rules processes events event S (NumberAfter taken) (NumberAfter other) run h k =
+    ap (λ n. tag event.p (n + 1) ++ codes " expected") (h.1 ∙ sym k.1)
+expected_as one rules processes events event S (NumberAfter taken) (Notes notes) run h k =
+    absurd (h.2 (last_number rules processes events (record event { notes = notes.items }) k.1.0 k.1.1 ∙ ap (λ n. n + 1) (sym h.1)))
+expected_as one rules processes events event S (Notes notes) (NoRequest state) run h k =
+    let step = last_step_at one rules processes events (record event { notes = notes.items }) S h.1.0 run h.1.1 in
+    absurd (k.1 (sym k.0 ∙ step.1.live))
+expected_as one rules processes events event S (Notes notes) (NumberAfter taken) run h k =
+    absurd (k.2 (last_number rules processes events (record event { notes = notes.items }) h.1.0 h.1.1 ∙ ap (λ n. n + 1) (sym k.1)))
+expected_as one rules processes events event S (Notes notes) (Notes others) run h k =
+    let first = last_step_at one rules processes events (record event { notes = notes.items }) S h.1.0 run h.1.1 in
+    let second = last_step_at one rules processes events (record event { notes = others.items }) S k.1.0 run k.1.1 in
+    let same = one rules processes S event.p event.n event.request notes.items others.items first.0 second.0 first.1 second.1 in
+    ap (λ (l : List Note). entry_text (record event { notes = l }) ++ codes " expected") same.0
+
+one_expected : StepHasOneOutcome → (rules : Rules) (processes : ℕ) (events : List Event) (event : Event) (a b : Expected)
+    → IsIllegal rules processes events event a → IsIllegal rules processes events event b → expected_text event a ≡ expected_text event b
+one_expected one rules processes events event a b h k =
+    let same : k.state ≡ h.state = one_state one rules processes opening_state events k.state h.state k.run.leads h.run.leads in
+    expected_as one rules processes events event h.state a b h.run h.would_have (subst (λ S. WouldHave rules processes events S event b) same k.would_have)
+
+-- ---- which lines of a report are to come
+
+fewer : {X : Type 0} (xs : List X) (n : ℕ) → length (drop n xs) ≤ length xs
+fewer xs n = let less = length-drop n xs in omega (arith, less)
+
+-- last lines that are as many are the same
+as_many : {X : Type 0} (xs : List X) (a b : ℕ) → length (drop a xs) ≡ length (drop b xs) → drop a xs ≡ drop b xs
+as_many [] zero zero same = refl
+as_many [] zero (suc b) same = refl
+as_many [] (suc a) zero same = refl
+as_many [] (suc a) (suc b) same = refl
+as_many (x ∷ xs) zero zero same = refl
+as_many (x ∷ xs) zero (suc b) same = absurd (let less = fewer xs b in omega (arith, same, less))
+as_many (x ∷ xs) (suc a) zero same = absurd (let less = fewer xs a in omega (arith, same, less))
+as_many (x ∷ xs) (suc a) (suc b) same = as_many xs a b same
+
+-- lines have no more texts than there are of them
+no_more_texts : (left : List ReportLine) (texts : List (List ℕ)) → AreTextsOf left texts → length texts ≤ length left
+no_more_texts [] texts are = let none = ap length are in omega (arith, none)
+no_more_texts (line ∷ left) [] are = omega arith
+no_more_texts (line ∷ left) (text ∷ texts) (inl here) = let rest = no_more_texts left texts here.1 in omega (arith, rest)
+no_more_texts (line ∷ left) (text ∷ texts) (inr out) = let rest = no_more_texts left (text ∷ texts) out.1.1 in omega (arith, rest)
+
+-- and may have as many, so lines whose texts others have are no more than these
+no_more_left : (a b : List ReportLine) → ((texts : List (List ℕ)) → AreTextsOf a texts → AreTextsOf b texts) → length a ≤ length b
+no_more_left a b has =
+    let texts = some_texts a in
+    let few = no_more_texts b texts.0 (has texts.0 texts.1) in
+    let all = all_texts a in omega (arith, few, all)
+
+one_left : LocksHaveOneReport → (place : Place) (entries : List Event) (texts : List (List ℕ)) (a b : List ReportLine) → AreLeft place entries texts a
+    → AreLeft place entries texts b → a ≡ b
+one_left one place entries texts a b h k =
+    let T = h.legal.0 in
+    let run = h.legal.1 in
+    let same = one_report one (processes_at place) T entries h.reported k.reported (h.lines T run) (k.lines T run) in
+    let there = no_more_left a b (λ more are.
+    (k.goes_on more).0 (subst (λ l. AreTextsOf l (texts ++ more)) same ((h.goes_on more).1 are))) in
+    let back = no_more_left b a (λ more are.
+    (h.goes_on more).0 (subst (λ l. AreTextsOf l (texts ++ more)) (sym same) ((k.goes_on more).1 are))) in
+    let other : b ≡ drop k.last.0 h.reported = k.last.1 ∙ ap (drop k.last.0) (sym same) in
+    let many : length (drop h.last.0 h.reported) ≡ length (drop k.last.0 h.reported) =
+    let first = ap length h.last.1 in let second = ap length other in omega (arith, there, back, first, second) in
+    h.last.1 ∙ as_many h.reported h.last.0 k.last.0 many ∙ sym other
+
+-- ---- what is told
+
+pub one_told : LocksHaveOneReport → StepHasOneOutcome → OneIsTold
+one_told report step reading lines.Skipped a b h k = absurd h
+one_told report step reading (lines.Policy policy) a b h k = absurd h
+one_told report step reading (lines.Limits limits) a b h k = absurd h
+one_told report step reading (lines.Entry event) a b h k =
+    h.2 ∙ one_expected step (rules_at reading.place) (processes_at reading.place) reading.entries event h.0 k.0 h.1 k.1 ∙ sym k.2
+one_told report step reading lines.Report a b h k =
+    h.2 ∙ ap (λ l. due_text (first_due l)) (one_left report reading.place reading.entries reading.report h.0 k.0 h.1 k.1) ∙ sym k.2

@@ -1,0 +1,330 @@
+-- What a request comes to has numbers that a line may have: its notes, and the waits and locks that it leaves; and the notes are few.
+use Rattle.std.proofs.Common.{◌≡◌, ◌≢◌, ℕ, zero, suc, ◌+◌, ◌-◌, ◌^◌, ◌<◌, ◌≤◌, ◌==◌, ◌&&◌, ◌||◌, ◌⊎◌, Bool, true, false, not, nat_le, List, [], ◌∷◌, ◌++◌, length, map, filter, filter_map, find, Option, Some, None, option_map, Result, Ok, Err, MatchBool, MatchOption, MatchResult, inl, inr, ⊎_elim, refl, sym, ap, ap₂, ◌∙◌, subst, arith, lit<, lit≤, eq-eqb, ne_eqb, append_assoc, append-nil, ℤ, pos, negsuc}
+use Rattle.std.specs.Prelude.{⊤, if◌then◌else◌, FitsSigned, IsTrue, IsFalse, IfSome}
+use Rattle.std.specs.Int.{w64}
+use Rattle.std.specs.List.{AllByRecursion as Each, IsDistinct, list_any, cons_option}
+use Rattle.std.proofs.lemmas.Bool.{cases_eq}
+use Rattle.std.proofs.lemmas.Map.Steps.{length-le_from_distinct_below}
+use Rattle.range_core.specs.declared.TheConstants.{OFFMAX}
+use Rattle.range_core.specs.declared.Mode.{Mode}
+use Rattle.range_core.specs.declared.Span.{Span}
+use Rattle.range_core.specs.Facts.{MatchFact}
+use Rattle.lock_book.specs.declared.Owner.{Owner}
+use Rattle.lock_book.specs.declared.Owner.TheVariants.{Process, Description}
+use Rattle.lock_book.specs.Owners.{is_same_owner}
+use Rattle.lock_book.specs.Changes.{Change, FlockChange, mode_from, mode_in, sets_byte, whole_file}
+use Rattle.fd_table.specs.declared.Limits.{Limits}
+use Rattle.fd_table.specs.declared.Limits.TheVariants.{Small, Wide}
+use Rattle.fd_table.specs.Descriptors.{Descriptors, OpenFileDescription, process_limit, description_numbered}
+use Rattle.fd_table.specs.Released.{Released}
+use Rattle.wait_core.specs.declared.Policy.{Policy}
+use Rattle.wait_core.specs.declared.Family.TheVariants.{Bytes, Whole}
+use Rattle.wait_core.specs.declared.Wait.{Wait}
+use Rattle.wait_core.specs.Locks.{Locks}
+use Rattle.wait_core.specs.Blocking.{IsBlocked, AllBlocked, IsNextBetween}
+use Rattle.wait_core.specs.WaitsView.{wait_of, without_wait_of}
+use Rattle.lock_manager.specs.declared.request.Note.{Note}
+use Rattle.lock_manager.specs.declared.request.Note.TheVariants as notes
+use Rattle.lock_manager.specs.declared.request.Reply.{Reply}
+use Rattle.lock_manager.specs.declared.request.Reply.TheVariants as replies
+use Rattle.lock_manager.specs.declared.request.ProcState.{ProcState}
+use Rattle.lock_manager.specs.declared.request.ProcState.TheVariants.{Unborn, Live, Waiting, Ended}
+use Rattle.lock_manager.specs.State.{State, locks_held, with_lock, with_lock_of, with_process}
+use Rattle.lock_manager.specs.Settling.{Settles, IsSettled, granted}
+use Rattle.lock_manager.specs.DescriptorCalls.{with_released, process_releases, description_releases}
+use Rattle.script_core.specs.ScriptText.{IsProcess}
+use Rattle.script_core.specs.EntryReading.{IsWritableNote, IsWritableReply}
+
+-- ---- what has such numbers
+
+-- the owner is a description, or a process of 64
+abbrev pub IsSmallOwner : Owner → Type 0
+IsSmallOwner (Process p) = p ≤ 64
+IsSmallOwner (Description d) = ⊤
+
+-- the change is of such an owner, and within files
+pub record FitsChange (change : Change) : Type 0 where
+  pub owner : IsSmallOwner change.owner
+  pub last : change.span.last ≤ OFFMAX
+
+-- the wait is of a process that the limits have, which waits, and for a lock of such an owner within files
+pub record FitsWait (limits : Limits) (states : ℕ → ProcState) (wait : Wait) : Type 0 where
+  pub process : IsProcess limits wait.p
+  pub number : wait.n < 2 ^ 64
+  pub owner : IsSmallOwner wait.owner
+  pub last : wait.span.last ≤ OFFMAX
+  pub waiting : states wait.p ≡ Waiting
+
+-- no two waits are of one process
+abbrev pub AreApart : List Wait → Type 0
+AreApart [] = ⊤
+AreApart (wait ∷ waits) = Each (λ other. other.p ≢ wait.p) waits × AreApart waits
+
+-- the state has such locks and waits, and who isn't unborn was alive
+pub record Fits (limits : Limits) (S : State) : Type 0 where
+  pub changes : Each FitsChange S.changes
+  pub waits : Each (FitsWait limits S.states) S.waits
+  pub apart : AreApart S.waits
+  pub born : (p : ℕ) → S.states p ≢ Unborn → S.descriptors.ever_alive p ≡ true
+
+-- ---- lists
+
+pub each_append : {X : Type 0} (P : X → Type 0) (xs ys : List X) → Each P xs → Each P ys → Each P (xs ++ ys)
+each_append P [] ys first second = second
+each_append P (x ∷ xs) ys first second = (first.0, each_append P xs ys first.1 second)
+
+pub each_map : {X : Type 0} (P Q : X → Type 0) (xs : List X) → ((x : X) → P x → Q x) → Each P xs → Each Q xs
+each_map P Q [] f all = tt
+each_map P Q (x ∷ xs) f all = (f x all.0, each_map P Q xs f all.1)
+
+pub each_both : {X : Type 0} (P Q R : X → Type 0) (xs : List X) → ((x : X) → P x → Q x → R x) → Each P xs → Each Q xs → Each R xs
+each_both P Q R [] f all both = tt
+each_both P Q R (x ∷ xs) f all both = (f x all.0 both.0, each_both P Q R xs f all.1 both.1)
+
+pub each_middle : {X : Type 0} (P : X → Type 0) (xs : List X) (x : X) (ys : List X) → Each P (xs ++ x ∷ ys) → P x × Each P (xs ++ ys)
+each_middle P [] x ys all = all
+each_middle P (first ∷ xs) x ys all = let rest = each_middle P xs x ys all.1 in (rest.0, (all.0, rest.1))
+
+apart_middle : (before : List Wait) (wait : Wait) (after : List Wait) → AreApart (before ++ wait ∷ after)
+    → AreApart (before ++ after) × Each (λ other. other.p ≢ wait.p) (before ++ after)
+apart_middle [] wait after apart = (apart.1, apart.0)
+apart_middle (first ∷ before) wait after apart =
+    let rest = apart_middle before wait after apart.1 in
+    let own = each_middle (λ (other : Wait). other.p ≢ first.p) before wait after apart.0 in
+    ((own.1, rest.0), ((λ e. own.0 (sym e)), rest.1))
+
+pub apart_push : (waits : List Wait) (wait : Wait) → AreApart waits → Each (λ other. other.p ≢ wait.p) waits → AreApart (waits ++ wait ∷ [])
+apart_push [] wait apart others = (tt, tt)
+apart_push (first ∷ waits) wait apart others = (
+  each_append (λ (other : Wait). other.p ≢ first.p) waits (wait ∷ []) apart.0 ((λ e. others.0 (sym e)), tt),
+  apart_push waits wait apart.1 others.1,
+)
+
+-- ---- who waits
+
+-- a process that lives has no wait
+pub others_wait : (limits : Limits) (S : State) (p : ℕ) → S.states p ≢ Waiting → Fits limits S → Each (λ wait. wait.p ≢ p) S.waits
+others_wait limits S p idle fits =
+    each_map (FitsWait limits S.states) (λ (wait : Wait). wait.p ≢ p) S.waits (λ wait is e. idle (ap S.states (sym e) ∙ is.waiting)) fits.waits
+
+pub few_processes : (limits : Limits) (p : ℕ) → IsProcess limits p → p ≤ 64
+few_processes Small p is = let high = is.1 in omega (arith, high)
+few_processes Wide p is = is.1
+
+numbers_of : List Wait → List ℕ
+numbers_of waits = map (λ wait. wait.p) waits
+
+each_number : (waits : List Wait) (p : ℕ) → Each (λ wait. wait.p ≢ p) waits → Each (λ q. (p == q) ≡ false) (numbers_of waits)
+unfolding numbers_of
+each_number [] p others = tt
+each_number (wait ∷ waits) p others = (ne_eqb p wait.p (λ e. others.0 (sym e)), each_number waits p others.1)
+
+distinct : (waits : List Wait) → AreApart waits → IsDistinct (λ p q. p == q) (numbers_of waits)
+unfolding numbers_of IsDistinct
+distinct [] apart = tt
+distinct (wait ∷ waits) apart = (each_number waits wait.p apart.0, distinct waits apart.1)
+
+no_zero : (limits : Limits) (states : ℕ → ProcState) (waits : List Wait) → Each (FitsWait limits states) waits → Each (λ q. (0 == q) ≡ false) (numbers_of waits)
+unfolding numbers_of
+no_zero limits states [] fits = tt
+no_zero limits states (wait ∷ waits) fits =
+    (ne_eqb 0 wait.p (λ e. let low = fits.0.process.0 in omega (arith, e, low)), no_zero limits states waits fits.1)
+
+below : (limits : Limits) (states : ℕ → ProcState) (waits : List Wait) → Each (FitsWait limits states) waits → (q : ℕ)
+    → list_any (λ p. q == p) (numbers_of waits) ≡ true → q < 65
+unfolding numbers_of
+below limits states [] fits q among = absurd (let bad : false ≡ true = among in cc)
+below limits states (wait ∷ waits) fits q among =
+    ⊎_elim
+    (λ same. let few = few_processes limits wait.p fits.0.process in omega (arith, same, few))
+    (λ other.
+    let later : list_any (λ p. q == p) (numbers_of waits) ≡ true =
+    subst (λ b. (b || list_any (λ p. q == p) (numbers_of waits)) ≡ true) (ne_eqb q wait.p other) among in
+    below limits states waits fits.1 q later)
+    (cases_eq q wait.p)
+
+below_more : (limits : Limits) (states : ℕ → ProcState) (waits : List Wait) (p : ℕ) → p ≤ 64 → Each (FitsWait limits states) waits → (q : ℕ)
+    → list_any (λ r. q == r) (0 ∷ p ∷ numbers_of waits) ≡ true → q < 65
+below_more limits states waits p few fits q among =
+    ⊎_elim (λ none. omega (arith, none))
+    (λ some. ⊎_elim (λ same. omega (arith, same, few))
+    (λ other.
+    let later : list_any (λ r. q == r) (numbers_of waits) ≡ true =
+    subst (λ b. (b || list_any (λ r. q == r) (numbers_of waits)) ≡ true) (ne_eqb q p other)
+    (subst (λ b. (b || ((q == p) || list_any (λ r. q == r) (numbers_of waits))) ≡ true) (ne_eqb q 0 some) among) in
+    below limits states waits fits q later)
+    (cases_eq q p))
+    (cases_eq q 0)
+
+-- while a process lives, 63 others wait at most
+pub few_wait : (limits : Limits) (S : State) (p : ℕ) → IsProcess limits p → S.states p ≡ Live → Fits limits S → length S.waits + 1 ≤ 64
+unfolding numbers_of IsDistinct
+few_wait limits S p is live fits =
+    let idle : S.states p ≢ Waiting = λ e. let bad : Live ≡ Waiting = sym live ∙ e in cc in
+    let few = few_processes limits p is in
+    let low = is.0 in
+    let others = each_number S.waits p (others_wait limits S p idle fits) in
+    let counted = length-le_from_distinct_below (0 ∷ p ∷ numbers_of S.waits) 65
+    ((ne_eqb 0 p (λ e. omega (arith, e, low)), no_zero limits S.states S.waits fits.waits), (others, distinct S.waits fits.apart))
+    (below_more limits S.states S.waits p few fits.waits) in
+    let all = many S.waits in
+    omega (arith, counted, all)
+  where
+    many : (waits : List Wait) → length (numbers_of waits) ≡ length waits
+    many [] = refl
+    many (wait ∷ waits) = ap suc (many waits)
+
+-- ---- changes
+
+-- a lock that is set for a wait fits
+pub lock_changes : (limits : Limits) (S : State) (wait : Wait) → IsSmallOwner wait.owner → wait.span.last ≤ OFFMAX → Each FitsChange S.changes
+    → Each FitsChange (with_lock S wait).changes
+lock_changes limits S wait owner last changes =
+    elim wait.family as (λ family. Each FitsChange (with_lock_of family wait.owner S wait).changes) [
+      | Bytes ↦ each_append FitsChange S.changes _ changes (record { owner = owner; last = last }, tt)
+      | Whole ↦
+          elim wait.owner as (λ owner. Each FitsChange (with_lock_of Whole owner S wait).changes) [
+            | Process p ↦ changes
+            | Description d ↦ changes
+          ]
+    ]
+
+-- it leaves the processes and the waits
+pub record SameProcesses (S T : State) : Type 0 where
+  pub states : T.states ≡ S.states
+  pub waits : T.waits ≡ S.waits
+  pub alive : (p : ℕ) → T.descriptors.ever_alive p ≡ S.descriptors.ever_alive p
+
+pub same_locked : (S : State) (wait : Wait) → SameProcesses S (with_lock S wait)
+same_locked S wait =
+    elim wait.family as (λ family. SameProcesses S (with_lock_of family wait.owner S wait)) [
+      | Bytes ↦ record { states = refl; waits = refl; alive = λ p. refl }
+      | Whole ↦
+          elim wait.owner as (λ owner. SameProcesses S (with_lock_of Whole owner S wait)) [
+            | Process p ↦ record { states = refl; waits = refl; alive = λ p. refl }
+            | Description d ↦ record { states = refl; waits = refl; alive = λ p. refl }
+          ]
+    ]
+
+pub fits_same : (limits : Limits) (S T : State) → Fits limits S → SameProcesses S T → Each FitsChange T.changes → Fits limits T
+fits_same limits S T fits same changes = record {
+  changes = changes;
+  waits = subst (λ (waits : List Wait). Each (FitsWait limits T.states) waits) (sym same.waits)
+      (subst (λ (states : ℕ → ProcState). Each (FitsWait limits states) S.waits) (sym same.states) fits.waits);
+  apart = subst AreApart (sym same.waits) fits.apart;
+  born = λ p there. same.alive p ∙ fits.born p (λ e. there (ap (λ (states : ℕ → ProcState). states p) same.states ∙ e));
+}
+
+-- what a process releases fits
+released_files : (p : ℕ) (files : List ℕ) → p ≤ 64 → Each FitsChange (process_releases p files)
+released_files p [] few = tt
+released_files p (file ∷ files) few = (record { owner = few; last = omega arith }, released_files p files few)
+
+each_filtered : {X Y : Type 0} (P : Y → Type 0) (f : X → Option Y) (xs : List X) → ((x : X) → IfSome (f x) P) → Each P (filter_map f xs)
+each_filtered P f [] is = tt
+each_filtered {Y = Y} P f (x ∷ xs) is = first (f x) (is x) (each_filtered P f xs is)
+  where
+    first : (y : Option Y) → IfSome y P → Each P (filter_map f xs) → Each P (cons_option y (filter_map f xs))
+    first None is rest = rest
+    first (Some y) is rest = (is, rest)
+
+released_descriptions : (opened : List OpenFileDescription) (descriptions : List ℕ) → Each FitsChange (description_releases opened descriptions)
+released_descriptions opened descriptions = each_filtered FitsChange _ descriptions (λ d. one d (description_numbered opened d))
+  where
+    one : (d : ℕ) (found : Option OpenFileDescription)
+        → IfSome (option_map (λ (x : OpenFileDescription). record { file = x.file; owner = Description d; span = whole_file; mode = None }) found) FitsChange
+    one d None = tt
+    one d (Some x) = record { owner = tt; last = omega arith }
+
+pub released_changes : (S : State) (D : Descriptors) (p : ℕ) (released : Released) → p ≤ 64 → Each FitsChange S.changes
+    → Each FitsChange (with_released S D p released).changes
+released_changes S D p released few changes =
+    let files = process_releases p released.files in
+    each_append FitsChange (S.changes ++ files) _ (each_append FitsChange S.changes files changes (released_files p released.files few))
+    (released_descriptions D.descriptions released.descriptions)
+
+-- ---- settling
+
+-- a wait leaves the list, and its process lives
+granted_fits : (limits : Limits) (S : State) (before : List Wait) (wait : Wait) (after : List Wait) → S.waits ≡ before ++ wait ∷ after → Fits limits S
+    → Fits limits (granted S before wait after)
+granted_fits limits S before wait after place fits =
+    let all = each_middle (FitsWait limits S.states) before wait after (subst (λ (l : List Wait). Each (FitsWait limits S.states) l) place fits.waits) in
+    let apart = apart_middle before wait after (subst AreApart place fits.apart) in
+    let locked = same_locked S wait in
+    let states : (with_lock S wait).states ≡ S.states = locked.states in
+    record {
+      changes = lock_changes limits S wait all.0.owner all.0.last fits.changes;
+      waits = each_both (λ (other : Wait). other.p ≢ wait.p) (FitsWait limits S.states) (FitsWait limits (granted S before wait after).states) (before ++ after)
+          (λ other differs is. record {
+            process = is.process;
+            number = is.number;
+            owner = is.owner;
+            last = is.last;
+            waiting = rw (ne_eqb other.p wait.p differs) (ap (λ (states : ℕ → ProcState). states other.p) states ∙ is.waiting);
+          }) apart.1 all.1;
+      apart = apart.0;
+      born = λ p there. ⊎_elim
+          (λ same. locked.alive p ∙ fits.born p (λ e. let bad : Waiting ≡ Unborn = sym all.0.waiting ∙ ap S.states (sym same) ∙ e in cc))
+          (λ differs. locked.alive p ∙ fits.born p (λ e. there (rw (ne_eqb p wait.p differs) (ap (λ (states : ℕ → ProcState). states p) states ∙ e))))
+          (cases_eq p wait.p);
+    }
+
+-- the waits that settling grants leave the list, and what it tells can be written
+pub record SettlesFit (limits : Limits) (S : State) (grants : List Note) (T : State) : Type 0 where
+  pub after : Fits limits T
+  pub told : Each (IsWritableNote limits) grants
+  pub count : length grants + length T.waits ≡ length S.waits
+  pub live : (p : ℕ) → S.states p ≡ Live → T.states p ≡ Live
+
+pub settles_fit : (limits : Limits) (policy : Policy) (S : State) (grants : List Note) (T : State) → Fits limits S → Settles policy S grants T
+    → SettlesFit limits S grants T
+settles_fit limits policy S [] T fits settles =
+    record { after = subst (Fits limits) (sym settles.1) fits; told = tt; count = (let same = ap (λ (X : State). length X.waits) settles.1 in omega (arith, same)); live = λ p live. ap (λ (X : State). X.states p) settles.1 ∙ live }
+settles_fit limits policy S (grant ∷ grants) T fits (before, wait, after, next, is, rest) =
+    let U = granted S before wait after in
+    let later = settles_fit limits policy U grants T (granted_fits limits S before wait after next.place fits) rest in
+    let own = (each_middle (FitsWait limits S.states) before wait after (subst (λ (l : List Wait). Each (FitsWait limits S.states) l) next.place fits.waits)).0 in
+    let size : length S.waits ≡ suc (length (before ++ after)) = ap length next.place ∙ one_more before wait after in
+    record {
+      after = later.after;
+      told = (subst (IsWritableNote limits) (sym is) (own.process, own.number, tt), later.told);
+      count = (let count = later.count in omega (arith, count, size));
+      live = λ p live. later.live p (still_live p live);
+    }
+  where
+    one_more : (before : List Wait) (wait : Wait) (after : List Wait) → length (before ++ wait ∷ after) ≡ suc (length (before ++ after))
+    one_more [] wait after = refl
+    one_more (first ∷ before) wait after = ap suc (one_more before wait after)
+    still_live : (p : ℕ) → S.states p ≡ Live → (granted S before wait after).states p ≡ Live
+    still_live p live = ⊎_elim (λ same. rw (eq-eqb p wait.p same) refl)
+        (λ differs. rw (ne_eqb p wait.p differs) (ap (λ (states : ℕ → ProcState). states p) (same_locked S wait).states ∙ live)) (cases_eq p wait.p)
+
+-- settling leaves a settled state
+pub settles_settled : (policy : Policy) (S : State) (grants : List Note) (T : State) → Settles policy S grants T → IsSettled policy T
+settles_settled policy S [] T settles = subst (IsSettled policy) (sym settles.1) settles.0
+settles_settled policy S (grant ∷ grants) T (before, wait, after, next, is, rest) = settles_settled policy (granted S before wait after) grants T rest
+
+blocked_at : (policy : Policy) (locks : Locks) (earlier before : List Wait) (wait : Wait) (after : List Wait)
+    → AllBlocked policy locks earlier (before ++ wait ∷ after) → IsBlocked policy locks (earlier ++ before) wait
+blocked_at policy locks earlier [] wait after all = subst (λ (l : List Wait). IsBlocked policy locks l wait) (sym (append-nil earlier)) all.0
+blocked_at policy locks earlier (first ∷ before) wait after all =
+    subst (λ (l : List Wait). IsBlocked policy locks l wait) (append_assoc earlier (first ∷ []) before)
+    (blocked_at policy locks (earlier ++ first ∷ []) before wait after all.1)
+
+-- in a settled state it grants nothing
+pub nothing_granted : (policy : Policy) (S : State) (grants : List Note) (T : State) → IsSettled policy S → Settles policy S grants T → grants ≡ []
+nothing_granted policy S [] T settled settles = refl
+nothing_granted policy S (grant ∷ grants) T settled (before, wait, after, next, is, rest) =
+    absurd (next.ready (blocked_at policy (locks_held S) [] before wait after
+    (subst (λ (l : List Wait). AllBlocked policy (locks_held S) [] l) next.place settled)))
+
+-- a blocked wait behind blocked ones is blocked there
+pub blocked_more : (policy : Policy) (locks : Locks) (earlier waits : List Wait) (wait : Wait) → AllBlocked policy locks earlier waits
+    → IsBlocked policy locks (earlier ++ waits) wait → AllBlocked policy locks earlier (waits ++ wait ∷ [])
+blocked_more policy locks earlier [] wait all is = (subst (λ (l : List Wait). IsBlocked policy locks l wait) (append-nil earlier) is, tt)
+blocked_more policy locks earlier (first ∷ waits) wait all is = (
+  all.0,
+  blocked_more policy locks (earlier ++ first ∷ []) waits wait all.1
+      (subst (λ (l : List Wait). IsBlocked policy locks l wait) (sym (append_assoc earlier (first ∷ []) waits)) is),
+)

@@ -1,0 +1,655 @@
+-- Whatever a request comes to fits, one case for each request: the notes can be written, and there is no more than one for each process.
+use Rattle.std.proofs.Common.{◌≡◌, ◌≢◌, ℕ, zero, suc, ◌+◌, ◌-◌, ◌^◌, ◌<◌, ◌≤◌, ◌==◌, ◌&&◌, ◌||◌, ◌⊎◌, Bool, true, false, not, nat_le, nat_lt, List, [], ◌∷◌, ◌++◌, length, filter, find, Option, Some, None, Result, Ok, Err, MatchBool, MatchOption, MatchResult, inl, inr, ⊎_elim, refl, sym, ap, ◌∙◌, subst, arith, lit<, lit≤, eq-eqb, ne_eqb, append-nil, ℤ, pos, negsuc}
+use Rattle.std.specs.Prelude.{⊤, if◌then◌else◌, FitsSigned, IsTrue, IsFalse, int_lt, ◌+ℤ◌, ◌-ℤ◌, nat_abs}
+use Rattle.std.specs.Int.{w64}
+use Rattle.std.specs.List.{AllByRecursion as Each}
+use Rattle.std.proofs.lemmas.Int.{ints}
+use Rattle.std.proofs.lemmas.Bool.{cases_eq, eqb-true, leb-true, ltb-false}
+use Rattle.range_core.specs.declared.TheConstants.{OFFMAX}
+use Rattle.range_core.specs.declared.Kind.{Kind}
+use Rattle.range_core.specs.declared.Mode.{Mode}
+use Rattle.range_core.specs.declared.Mode.TheVariants as modes
+use Rattle.range_core.specs.declared.Span.{Span}
+use Rattle.range_core.specs.declared.RangeFault.{RangeFault}
+use Rattle.range_core.specs.declared.RangeFault.TheVariants.{Invalid, Overflow}
+use Rattle.range_core.specs.Facts.{MatchFact}
+use Rattle.range_core.specs.Changes.{is_covered}
+use Rattle.range_core.specs.Ranges.{HeldConflicts}
+use Rattle.range_core.specs.Resolving.{resolution, range_between, first_byte, last_byte, base_of}
+use Rattle.lock_book.specs.declared.Owner.{Owner}
+use Rattle.lock_book.specs.declared.Owner.TheVariants.{Process, Description}
+use Rattle.lock_book.specs.declared.Blocker.{Blocker}
+use Rattle.lock_book.specs.Owners.{is_same_owner}
+use Rattle.lock_book.specs.Changes.{Change, FlockChange, mode_from, mode_in, sets_byte, whole_file, flock_mode_in}
+use Rattle.lock_book.specs.Conflicts.{IsFirstBlocker}
+use Rattle.fd_table.specs.declared.Access.{Access}
+use Rattle.fd_table.specs.declared.FdFault.{FdFault}
+use Rattle.fd_table.specs.declared.FdFault.TheVariants as faults
+use Rattle.fd_table.specs.declared.Limits.{Limits}
+use Rattle.fd_table.specs.declared.Limits.TheVariants.{Small, Wide}
+use Rattle.fd_table.specs.declared.tables.Look.{Look}
+use Rattle.fd_table.specs.Released.{Released}
+use Rattle.fd_table.specs.Descriptors.{Descriptors, SameDescriptors, process_limit, descriptor_limit, look_at, with_descriptor}
+use Rattle.fd_table.specs.Releasing.{AreReleased}
+use Rattle.fd_table.specs.Calls.{nothing, OpenGives, DupGives, DupToGives, CloseGives, SeekGives, ResizeGives, ForkGives, EndGives}
+use Rattle.wait_core.specs.declared.Wait.{Wait}
+use Rattle.wait_core.specs.Blocking.{IsBlocked, AllBlocked}
+use Rattle.wait_core.specs.WaitsView.{wait_of, without_wait_of}
+use Rattle.lock_manager.specs.declared.request.Rules.{Rules}
+use Rattle.lock_manager.specs.declared.request.Errno.{Errno}
+use Rattle.lock_manager.specs.declared.request.Errno.TheVariants.{EBADF}
+use Rattle.lock_manager.specs.declared.request.Lock.{Lock}
+use Rattle.lock_manager.specs.declared.request.LkCmd.{LkCmd}
+use Rattle.lock_manager.specs.declared.request.LkCmd.TheVariants.{GetLk, SetLk, SetLkW, OGetLk, OSetLk, OSetLkW}
+use Rattle.lock_manager.specs.declared.request.FlockOp.{FlockOp}
+use Rattle.lock_manager.specs.declared.request.FlockOp.TheVariants.{Sh, Ex, Un}
+use Rattle.lock_manager.specs.declared.request.Request.{Request}
+use Rattle.lock_manager.specs.declared.request.Request.TheVariants.{OpenFile, Dup, DupTo, CloseFd, Seek, Resize, Lk, Flock, Fork, Exit, Signal, Kill}
+use Rattle.lock_manager.specs.declared.request.Note.{Note}
+use Rattle.lock_manager.specs.declared.request.Note.TheVariants as notes
+use Rattle.lock_manager.specs.declared.request.Reply.{Reply}
+use Rattle.lock_manager.specs.declared.request.Reply.TheVariants as replies
+use Rattle.lock_manager.specs.declared.request.ProcState.{ProcState}
+use Rattle.lock_manager.specs.declared.request.ProcState.TheVariants.{Unborn, Live, Waiting, Ended}
+use Rattle.lock_manager.specs.State.{State, locks_held, with_lock, with_byte_mode, with_flock_mode, with_process}
+use Rattle.lock_manager.specs.Settling.{Settles, IsSettled}
+use Rattle.lock_manager.specs.Outcomes.{Outcome, answered, answered_then, refused, waits_then, range_error, IsRefusal}
+use Rattle.lock_manager.specs.DescriptorCalls.{with_released, OpenComesTo, DupComesTo, DupToComesTo, CloseComesTo, DoneComesTo, SeekComesTo, ResizeComesTo}
+use Rattle.lock_manager.specs.LockWords.{is_get, is_bad_argument, is_ofd, wanted_mode, permits, held_reply, reported_pid, lock_owner, wanted_lock}
+use Rattle.lock_manager.specs.LockCommands.{LockComesTo, DescribedComesTo, RangeComesTo, ModeComesTo, CommandComesTo, GetComesTo, SetComesTo, SetOrWaitComesTo, WaitOrDeadlockComesTo}
+use Rattle.lock_manager.specs.FlockCalls.{FlockComesTo, FlockOpComesTo, FlockModeComesTo, FlockTestComesTo, ConversionComesTo, is_same_mode, wanted_flock}
+use Rattle.lock_manager.specs.ProcessCalls.{ForkComesTo, EndComesTo, SignalComesTo, KillOtherComesTo, KillComesTo, without_wait}
+use Rattle.lock_manager.specs.Step.{ComesTo}
+use Rattle.script_core.specs.ScriptText.{IsProcess, IsWritable}
+use Rattle.script_core.specs.EntryReading.{IsWritableNote, IsWritableReply}
+use Rattle.script_core.proofs.FitLemmas.{IsSmallOwner, FitsChange, FitsWait, AreApart, Fits, SameProcesses, SettlesFit, each_append, each_map, each_both, apart_push, others_wait, few_processes, few_wait, lock_changes, same_locked, fits_same, released_changes, settles_fit, settles_settled, nothing_granted, blocked_more}
+
+-- a process of the limits, which lives, makes a request with such a number in a state that fits and is settled
+pub record IsAtHand (rules : Rules) (S : State) (p n : ℕ) : Type 0 where
+  pub fits : Fits rules.limits S
+  pub settled : IsSettled rules.policy S
+  pub live : S.states p ≡ Live
+  pub process : IsProcess rules.limits p
+  pub number : n < 2 ^ 64
+
+-- the outcome fits: its notes and waits are 64 at most, or its notes are, and nothing is granted
+pub record OutcomeFits (rules : Rules) (outcome : Outcome) : Type 0 where
+  pub after : Fits rules.limits outcome.after
+  pub told : Each (IsWritableNote rules.limits) outcome.told
+  pub few : (length outcome.told + length outcome.after.waits ≤ 64) ⊎ ((length outcome.told ≤ 64) × IsSettled rules.policy outcome.after)
+
+-- ---- answers
+
+-- the caller is answered in a state with the same processes
+answers_fit : (rules : Rules) (S T : State) (p n : ℕ) (reply : Reply) (outcome : Outcome) → IsAtHand rules S p n → SameProcesses S T
+    → Each FitsChange T.changes → IsWritableReply reply → outcome ≡ answered T p n reply → OutcomeFits rules outcome
+answers_fit rules S T p n reply outcome h same changes writable is =
+    let few = few_wait rules.limits S p h.process h.live h.fits in
+    let waits = ap length same.waits in
+    subst (OutcomeFits rules) (sym is)
+    (record {
+      after = fits_same rules.limits S T h.fits same changes;
+      told = ((h.process, h.number, writable), tt);
+      few = inl (omega (arith, few, waits));
+    })
+
+same_all : (S : State) → SameProcesses S S
+same_all S = record { states = refl; waits = refl; alive = λ p. refl }
+
+refused_fits : (rules : Rules) (S : State) (p n : ℕ) (error : Errno) (outcome : Outcome) → IsAtHand rules S p n → outcome ≡ refused S p n error
+    → OutcomeFits rules outcome
+refused_fits rules S p n error outcome h is = answers_fit rules S S p n (replies.Err error) outcome h (same_all S) h.fits.changes tt is
+
+refusal_fits : (rules : Rules) (S : State) (p n : ℕ) (fault : FdFault) (outcome : Outcome) → IsAtHand rules S p n → IsRefusal S p n fault outcome
+    → OutcomeFits rules outcome
+refusal_fits rules S p n faults.BadFd outcome h is = refused_fits rules S p n _ outcome h is
+refusal_fits rules S p n faults.TooMany outcome h is = refused_fits rules S p n _ outcome h is
+refusal_fits rules S p n faults.Invalid outcome h is = refused_fits rules S p n _ outcome h is
+refusal_fits rules S p n faults.Taken outcome h is = refused_fits rules S p n _ outcome h is
+refusal_fits rules S p n (faults.Memory memory) outcome h is = absurd is
+
+-- ---- descriptors
+
+small_descriptor : (limits : Limits) (fd : ℕ) → fd < descriptor_limit limits → fd < 2 ^ 32
+small_descriptor Small fd within = omega (arith, within)
+small_descriptor Wide fd within = omega (arith, within)
+
+same_but : (S : State) (D : Descriptors) → ((p : ℕ) → D.ever_alive p ≡ S.descriptors.ever_alive p) → SameProcesses S (record S { descriptors = D })
+same_but S D alive = record { states = refl; waits = refl; alive = alive }
+
+open_fits : (rules : Rules) (S : State) (p n file : ℕ) (access : Access) (outcome : Outcome) → IsAtHand rules S p n
+    → OpenComesTo rules S p n file access outcome → OutcomeFits rules outcome
+open_fits rules S p n file access outcome h (Ok fd, D, gives, is) =
+    answers_fit rules S (record S { descriptors = D }) p n (replies.Fd fd) outcome h (same_but S D gives.3.ever_alive) h.fits.changes
+    (small_descriptor rules.limits fd gives.2.within) is
+open_fits rules S p n file access outcome h (Err fault, D, gives, is) = refusal_fits rules S p n fault outcome h is
+
+dup_fits : (rules : Rules) (S : State) (p n fd : ℕ) (outcome : Outcome) → IsAtHand rules S p n → DupComesTo rules S p n fd outcome
+    → OutcomeFits rules outcome
+dup_fits rules S p n fd outcome h (Ok free, D, gives, is) =
+    answers_fit rules S (record S { descriptors = D }) p n (replies.Fd free) outcome h (same_but S D gives.3.ever_alive) h.fits.changes
+    (small_descriptor rules.limits free gives.2.within) is
+dup_fits rules S p n fd outcome h (Err fault, D, gives, is) = refusal_fits rules S p n fault outcome h is
+
+-- what is released leaves the processes
+same_released : (S : State) (D : Descriptors) (p : ℕ) (released : Released) → ((q : ℕ) → D.ever_alive q ≡ S.descriptors.ever_alive q)
+    → SameProcesses S (with_released S D p released)
+same_released S D p released alive = record { states = refl; waits = refl; alive = alive }
+
+moved_alive : (old : Descriptors) (p fd to description : ℕ) (released : Released) (new : Descriptors) (same : Bool)
+    → MatchBool same ((released ≡ nothing) × SameDescriptors new old)
+    (SameDescriptors new (with_descriptor old p to description) × AreReleased old new p (λ k. k == to) released)
+    → (q : ℕ) → new.ever_alive q ≡ old.ever_alive q
+moved_alive old p fd to description released new true is q = is.1.ever_alive q
+moved_alive old p fd to description released new false is q = is.0.ever_alive q
+
+dup_to_fits : (rules : Rules) (S : State) (p n fd to : ℕ) (outcome : Outcome) → IsAtHand rules S p n → DupToComesTo rules S p n fd to outcome
+    → OutcomeFits rules outcome
+dup_to_fits rules S p n fd to outcome h (Ok answer, D, gives, is) =
+    let alive = moved_alive S.descriptors p fd to gives.0 answer.1 D (to == fd) gives.4 in
+    let within : answer.0 < descriptor_limit rules.limits = subst (λ (k : ℕ). k < descriptor_limit rules.limits) (sym gives.3) gives.2 in
+    answers_fit rules S (with_released S D p answer.1) p n (replies.Fd answer.0) outcome h (same_released S D p answer.1 alive)
+    (released_changes S D p answer.1 (few_processes rules.limits p h.process) h.fits.changes) (small_descriptor rules.limits answer.0 within) is
+dup_to_fits rules S p n fd to outcome h (Err fault, D, gives, is) = refusal_fits rules S p n fault outcome h is
+
+close_fits : (rules : Rules) (S : State) (p n fd : ℕ) (outcome : Outcome) → IsAtHand rules S p n → CloseComesTo S p n fd outcome
+    → OutcomeFits rules outcome
+close_fits rules S p n fd outcome h (Ok released, D, gives, is) =
+    answers_fit rules S (with_released S D p released) p n replies.Ok outcome h (same_released S D p released gives.1.ever_alive)
+    (released_changes S D p released (few_processes rules.limits p h.process) h.fits.changes) tt is
+close_fits rules S p n fd outcome h (Err fault, D, gives, is) = refusal_fits rules S p n fault outcome h is
+
+seek_fits : (rules : Rules) (S : State) (p n fd : ℕ) (offset : ℤ) (outcome : Outcome) → IsAtHand rules S p n → SeekComesTo S p n fd offset outcome
+    → OutcomeFits rules outcome
+seek_fits rules S p n fd offset outcome h (Ok done, D, gives, is) =
+    answers_fit rules S (record S { descriptors = D }) p n replies.Ok outcome h (same_but S D gives.4.ever_alive) h.fits.changes tt is
+seek_fits rules S p n fd offset outcome h (Err fault, D, gives, is) = refusal_fits rules S p n fault outcome h is
+
+resize_fits : (rules : Rules) (S : State) (p n fd : ℕ) (size : ℤ) (outcome : Outcome) → IsAtHand rules S p n → ResizeComesTo S p n fd size outcome
+    → OutcomeFits rules outcome
+resize_fits rules S p n fd size outcome h (Ok done, D, gives, is) =
+    answers_fit rules S (record S { descriptors = D }) p n replies.Ok outcome h (same_but S D gives.4.ever_alive) h.fits.changes tt is
+resize_fits rules S p n fd size outcome h (Err fault, D, gives, is) = refusal_fits rules S p n fault outcome h is
+
+-- ---- waits
+
+-- the caller waits, behind these grants, where the waits before are blocked and it too
+waits_fit : (rules : Rules) (S U : State) (wait : Wait) (grants : List Note) (outcome : Outcome) → IsAtHand rules S wait.p wait.n
+    → Fits rules.limits U → IsSettled rules.policy U → U.states wait.p ≡ Live → Each (IsWritableNote rules.limits) grants → length grants ≤ 63
+    → IsSmallOwner wait.owner → wait.span.last ≤ OFFMAX → IsBlocked rules.policy (locks_held U) U.waits wait → outcome ≡ waits_then U wait grants
+    → OutcomeFits rules outcome
+waits_fit rules S U wait grants outcome h fits settled live told few owner last blocked is =
+    let idle : U.states wait.p ≢ Waiting = λ e. let bad : Live ≡ Waiting = sym live ∙ e in cc in
+    let others = others_wait rules.limits U wait.p idle fits in
+    let T = (waits_then U wait grants).after in
+    subst (OutcomeFits rules) (sym is)
+    (record {
+      after = record {
+        changes = fits.changes;
+        waits = each_append (FitsWait rules.limits T.states) U.waits (wait ∷ [])
+            (each_both (λ (other : Wait). other.p ≢ wait.p) (FitsWait rules.limits U.states) (FitsWait rules.limits T.states) U.waits
+            (λ other differs at. record {
+              process = at.process;
+              number = at.number;
+              owner = at.owner;
+              last = at.last;
+              waiting = rw (ne_eqb other.p wait.p differs) at.waiting;
+            }) others fits.waits)
+            (record { process = h.process; number = h.number; owner = owner; last = last; waiting = rw (eq-eqb wait.p wait.p refl) refl }, tt);
+        apart = apart_push U.waits wait fits.apart others;
+        born = λ q there. ⊎_elim
+            (λ same. fits.born q (λ e. let bad : Live ≡ Unborn = sym live ∙ ap U.states (sym same) ∙ e in cc))
+            (λ differs. fits.born q (λ e. there (rw (ne_eqb q wait.p differs) e)))
+            (cases_eq q wait.p);
+      };
+      told = ((h.process, h.number), told);
+      few = inr (omega (arith, few), blocked_more rules.policy (locks_held U) [] U.waits wait settled blocked);
+    })
+
+-- the caller's lock is set, behind these grants
+locked_fits : (rules : Rules) (S U : State) (wait : Wait) (grants : List Note) (outcome : Outcome) → IsAtHand rules S wait.p wait.n
+    → Fits rules.limits U → Each (IsWritableNote rules.limits) grants → length grants + length U.waits ≤ 63
+    → IsSmallOwner wait.owner → wait.span.last ≤ OFFMAX → outcome ≡ answered_then (with_lock U wait) wait.p wait.n replies.Ok grants
+    → OutcomeFits rules outcome
+locked_fits rules S U wait grants outcome h fits told few owner last is =
+    let same = same_locked U wait in
+    let waits = ap length same.waits in
+    subst (OutcomeFits rules) (sym is)
+    (record {
+      after = fits_same rules.limits U (with_lock U wait) fits same (lock_changes rules.limits U wait owner last fits.changes);
+      told = ((h.process, h.number, tt), told);
+      few = inl (omega (arith, few, waits));
+    })
+
+-- ---- lock commands
+
+-- a mode that is held was set by a change, whose owner and bytes fit
+same_owner : (one other : Owner) → is_same_owner one other ≡ true → IsSmallOwner one → IsSmallOwner other
+same_owner (Process p) (Process q) is small = let same = eqb-true p q is in omega (arith, same, small)
+same_owner (Process p) (Description e) is small = tt
+same_owner (Description d) (Process q) is small = absurd (let bad : false ≡ true = is in cc)
+same_owner (Description d) (Description e) is small = tt
+
+both_true : (a b : Bool) → a && b ≡ true → (a ≡ true) × (b ≡ true)
+both_true true true is = (refl, refl)
+both_true true false is = absurd (let bad : false ≡ true = is in cc)
+both_true false b is = absurd (let bad : false ≡ true = is in cc)
+
+mode_fits : (changes : List Change) (before : Option Mode) (file : ℕ) (owner : Owner) (byte : ℕ) (mode : Mode) → Each FitsChange changes
+    → mode_from before changes file owner byte ≡ Some mode → (before ≡ Some mode → IsSmallOwner owner × (byte ≤ OFFMAX))
+    → IsSmallOwner owner × (byte ≤ OFFMAX)
+mode_fits [] before file owner byte mode fits is start = start is
+mode_fits (change ∷ changes) before file owner byte mode fits is start =
+    by_set (sets_byte change file owner byte) refl is (mode_fits changes change.mode file owner byte mode fits.1) (λ given. mode_fits changes before file owner byte mode fits.1 given start)
+  where
+    by_set : (b : Bool) → sets_byte change file owner byte ≡ b → mode_from (if b then change.mode else before) changes file owner byte ≡ Some mode
+        → (mode_from change.mode changes file owner byte ≡ Some mode → (change.mode ≡ Some mode → IsSmallOwner owner × (byte ≤ OFFMAX)) → IsSmallOwner owner × (byte ≤ OFFMAX))
+        → (mode_from before changes file owner byte ≡ Some mode → IsSmallOwner owner × (byte ≤ OFFMAX))
+        → IsSmallOwner owner × (byte ≤ OFFMAX)
+    by_set true sets is own other =
+        let first = both_true ((change.file == file) && is_same_owner change.owner owner) (is_covered change.span byte) sets in
+        let second = both_true (change.file == file) (is_same_owner change.owner owner) first.0 in
+        let third = both_true (nat_le change.span.first byte) (nat_le byte change.span.last) first.1 in
+        let within = leb-true byte change.span.last third.1 in
+        let last = fits.0.last in
+        own is (λ e. (same_owner change.owner owner second.1 fits.0.owner, omega (arith, within, last)))
+    by_set false sets is own other = other is
+
+pid_fits : (owner : Owner) → IsSmallOwner owner → FitsSigned w64 (reported_pid owner)
+pid_fits (Process p) small = record { sfits = omega (arith, small) }
+pid_fits (Description d) small = record { sfits = omega arith }
+
+length_fits : (span : Span) → span.last ≤ OFFMAX → (b : Bool) → (if b then 0 else (span.last - span.first + 1)) < 2 ^ 64
+length_fits span last true = lit< tt
+length_fits span last false = omega (arith, last)
+
+held_fits : (S : State) (wanted : Wait) (blocker : Blocker) → Each FitsChange S.changes
+    → IsFirstBlocker ((locks_held S).bytes wanted.file) wanted.owner wanted.span wanted.mode blocker → IsWritableReply (held_reply blocker)
+held_fits S wanted blocker changes is =
+    let span = blocker.span in
+    let covered = is.run.covered in
+    let at_first = is.run.constant span.first (omega arith, omega (arith, covered.0, covered.1)) in
+    let at_last = is.run.constant span.last (omega (arith, covered.0, covered.1), omega arith) in
+    let first = mode_fits S.changes None wanted.file blocker.owner span.first blocker.mode changes at_first (λ e. absurd cc) in
+    let last = mode_fits S.changes None wanted.file blocker.owner span.last blocker.mode changes at_last (λ e. absurd cc) in
+    let low = first.1 in
+    (omega (arith, low), length_fits span last.1 (span.last == OFFMAX), pid_fits blocker.owner first.0)
+
+get_fits : (rules : Rules) (S : State) (wanted : Wait) (outcome : Outcome) → IsAtHand rules S wanted.p wanted.n → GetComesTo S wanted outcome
+    → OutcomeFits rules outcome
+get_fits rules S wanted outcome h is =
+    ⊎_elim
+    (λ held. answers_fit rules S S wanted.p wanted.n (held_reply held.1.0) outcome h (same_all S) h.fits.changes
+    (held_fits S wanted held.1.0 h.fits.changes held.1.1) held.1.2)
+    (λ free. answers_fit rules S S wanted.p wanted.n replies.Free outcome h (same_all S) h.fits.changes tt free.1) is
+
+lock_fits : (rules : Rules) (S : State) (wanted : Wait) (outcome : Outcome) → IsAtHand rules S wanted.p wanted.n → IsSmallOwner wanted.owner
+    → wanted.span.last ≤ OFFMAX → outcome ≡ answered (with_lock S wanted) wanted.p wanted.n replies.Ok → OutcomeFits rules outcome
+lock_fits rules S wanted outcome h owner last is =
+    let few = few_wait rules.limits S wanted.p h.process h.live h.fits in
+    locked_fits rules S S wanted [] outcome h h.fits tt (omega (arith, few)) owner last is
+
+set_fits : (rules : Rules) (S : State) (wanted : Wait) (outcome : Outcome) → IsAtHand rules S wanted.p wanted.n → IsSmallOwner wanted.owner
+    → wanted.span.last ≤ OFFMAX → SetComesTo S wanted outcome → OutcomeFits rules outcome
+set_fits rules S wanted outcome h owner last is =
+    ⊎_elim (λ no. refused_fits rules S wanted.p wanted.n _ outcome h no.1) (λ yes. lock_fits rules S wanted outcome h owner last yes.1) is
+
+joins_fit : (rules : Rules) (S : State) (wanted : Wait) (outcome : Outcome) → IsAtHand rules S wanted.p wanted.n → IsSmallOwner wanted.owner
+    → wanted.span.last ≤ OFFMAX → IsBlocked rules.policy (locks_held S) S.waits wanted → outcome ≡ waits_then S wanted [] → OutcomeFits rules outcome
+joins_fit rules S wanted outcome h owner last blocked is =
+    waits_fit rules S S wanted [] outcome h h.fits h.settled h.live tt (omega arith) owner last blocked is
+
+set_or_wait_fits : (rules : Rules) (S : State) (wanted : Wait) (outcome : Outcome) → IsAtHand rules S wanted.p wanted.n → IsSmallOwner wanted.owner
+    → wanted.span.last ≤ OFFMAX → SetOrWaitComesTo rules S wanted outcome → OutcomeFits rules outcome
+set_or_wait_fits rules S wanted outcome h owner last is =
+    ⊎_elim (λ waits. joins_fit rules S wanted outcome h owner last waits.0 waits.1) (λ yes. lock_fits rules S wanted outcome h owner last yes.1) is
+
+wait_or_deadlock_fits : (rules : Rules) (S : State) (wanted : Wait) (outcome : Outcome) → IsAtHand rules S wanted.p wanted.n
+    → IsSmallOwner wanted.owner → wanted.span.last ≤ OFFMAX → WaitOrDeadlockComesTo rules S wanted outcome → OutcomeFits rules outcome
+wait_or_deadlock_fits rules S wanted outcome h owner last is =
+    ⊎_elim
+    (λ blocked. ⊎_elim (λ no. refused_fits rules S wanted.p wanted.n _ outcome h no.1)
+    (λ waits. joins_fit rules S wanted outcome h owner last blocked.0 waits.1) blocked.1)
+    (λ yes. lock_fits rules S wanted outcome h owner last yes.1) is
+
+command_fits : (rules : Rules) (S : State) (cmd : LkCmd) (wanted : Wait) (outcome : Outcome) → IsAtHand rules S wanted.p wanted.n
+    → IsSmallOwner wanted.owner → wanted.span.last ≤ OFFMAX → CommandComesTo rules S cmd wanted outcome → OutcomeFits rules outcome
+command_fits rules S GetLk wanted outcome h owner last is = get_fits rules S wanted outcome h is
+command_fits rules S OGetLk wanted outcome h owner last is = get_fits rules S wanted outcome h is
+command_fits rules S SetLk wanted outcome h owner last is = set_fits rules S wanted outcome h owner last is
+command_fits rules S OSetLk wanted outcome h owner last is = set_fits rules S wanted outcome h owner last is
+command_fits rules S SetLkW wanted outcome h owner last is = wait_or_deadlock_fits rules S wanted outcome h owner last is
+command_fits rules S OSetLkW wanted outcome h owner last is = set_or_wait_fits rules S wanted outcome h owner last is
+
+owner_fits : (cmd : LkCmd) (p : ℕ) (look : Look) → p ≤ 64 → IsSmallOwner (lock_owner cmd p look)
+owner_fits cmd p look few =
+    elim (is_ofd cmd) as (λ b. IsSmallOwner (if b then Description look.desc else Process p)) [ true ↦ tt | false ↦ few ]
+
+by_bool : {Yes No R : Type 0} (b : Bool) → MatchBool b Yes No → (Yes → R) → (No → R) → R
+by_bool true is hit miss = hit is
+by_bool false is hit miss = miss is
+
+mode_comes_fit : (rules : Rules) (S : State) (p n : ℕ) (cmd : LkCmd) (look : Look) (span : Span) (mode : Mode) (outcome : Outcome) → IsAtHand rules S p n
+    → span.last ≤ OFFMAX → ModeComesTo rules S p n cmd look span mode outcome → OutcomeFits rules outcome
+mode_comes_fit rules S p n cmd look span mode outcome h last is =
+    by_bool (is_get cmd || permits look.access mode) is
+    (λ yes. command_fits rules S cmd (wanted_lock cmd p n look span mode) outcome h (owner_fits cmd p look (few_processes rules.limits p h.process)) last yes)
+    (λ no. refused_fits rules S p n _ outcome h no)
+
+range_fits : (rules : Rules) (S : State) (p n : ℕ) (cmd : LkCmd) (kind : Kind) (look : Look) (span : Span) (wanted : Option Mode) (outcome : Outcome)
+    → IsAtHand rules S p n → span.last ≤ OFFMAX
+    → MatchOption wanted (outcome ≡ answered (with_byte_mode S look.file (lock_owner cmd p look) span None) p n replies.Ok)
+    (λ mode. ModeComesTo rules S p n cmd look span mode outcome) → OutcomeFits rules outcome
+range_fits rules S p n cmd kind look span None outcome h last is =
+    answers_fit rules S (with_byte_mode S look.file (lock_owner cmd p look) span None) p n replies.Ok outcome h
+    (record { states = refl; waits = refl; alive = λ q. refl })
+    (each_append FitsChange S.changes _ h.fits.changes (record { owner = owner_fits cmd p look (few_processes rules.limits p h.process); last = last }, tt)) tt is
+range_fits rules S p n cmd kind look span (Some mode) outcome h last is = mode_comes_fit rules S p n cmd look span mode outcome h last is
+
+-- ---- a range lies within files
+
+not_negative : (z : ℤ) → int_lt z (pos 0) ≡ false → (n : ℕ) × (z ≡ pos n)
+not_negative (pos n) is = (n, refl)
+not_negative (negsuc n) is = absurd (let bad : true ≡ false = is in cc)
+
+within_file : (n : ℕ) → int_lt (pos OFFMAX) (pos n) ≡ false → n ≤ OFFMAX
+within_file n is = ltb-false OFFMAX n is
+
+-- where the first byte of a description isn't before the file, the last is none before it
+last_not_negative : (start len : ℤ) → int_lt (first_byte start len) (pos 0) ≡ false → (n : ℕ) × (last_byte start len ≡ pos n)
+last_not_negative start (pos zero) low = (OFFMAX, refl)
+last_not_negative start (pos (suc n)) low =
+    let at = not_negative start low in (at.0 + n, ap (λ (z : ℤ). z +ℤ pos n) at.1)
+last_not_negative start (negsuc n) low =
+    let at = not_negative (start +ℤ negsuc n) low in
+    let from : start +ℤ negsuc n ≡ pos at.0 = at.1 in (at.0 + n, omega (arith, ints, from))
+
+last_within : (last : ℤ) (first : ℤ) (span : Span) → ((n : ℕ) × (last ≡ pos n)) → int_lt (pos OFFMAX) last ≡ false
+    → ◌≡◌ {A = Result Span RangeFault} (Ok (record { first = nat_abs first; last = nat_abs last })) (Ok span) → span.last ≤ OFFMAX
+last_within last first span at low is =
+    let n : ℕ = at.0 in
+    let whole : int_lt (pos OFFMAX) (pos n) ≡ false = subst (λ (z : ℤ). int_lt (pos OFFMAX) z ≡ false) at.1 low in
+    let same : span.last ≡ n = ap span_last (sym is) ∙ ap nat_abs at.1 in
+    let few = within_file n whole in
+    omega (arith, same, few)
+  where
+    span_last : Result Span RangeFault → ℕ
+    span_last (Ok s) = s.last
+    span_last (Err fault) = 0
+
+between : (first last : ℤ) (span : Span) (low high far : Bool) → int_lt first (pos 0) ≡ low → int_lt (pos OFFMAX) first ≡ high → int_lt (pos OFFMAX) last ≡ far
+    → (int_lt first (pos 0) ≡ false → (n : ℕ) × (last ≡ pos n)) → range_between first last ≡ Ok span → span.last ≤ OFFMAX
+between first last span true high far is_low is_high is_far some is =
+    absurd (let bad : ◌≡◌ {A = Result Span RangeFault} (Err Invalid) (Ok span) = rw is_low at is in cc)
+between first last span false true far is_low is_high is_far some is =
+    absurd (let bad : ◌≡◌ {A = Result Span RangeFault} (Err Overflow) (Ok span) = rw (is_low, is_high) at is in cc)
+between first last span false false true is_low is_high is_far some is =
+    absurd (let bad : ◌≡◌ {A = Result Span RangeFault} (Err Overflow) (Ok span) = rw (is_low, is_high, is_far) at is in cc)
+between first last span false false false is_low is_high is_far some is =
+    last_within last first span (some is_low) is_far (rw (is_low, is_high, is_far) at is)
+
+resolved_within : (lock : Lock) (look : Look) (span : Span) → resolution lock.whence lock.start lock.len look.offset look.size ≡ Ok span → span.last ≤ OFFMAX
+resolved_within lock look span is =
+    let from = pos (base_of lock.whence look.offset look.size) +ℤ lock.start in
+    between (first_byte from lock.len) (last_byte from lock.len) span _ _ _ refl refl refl (last_not_negative from lock.len) is
+
+described_fits : (rules : Rules) (S : State) (p n : ℕ) (cmd : LkCmd) (lock : Lock) (look : Look) (outcome : Outcome) → IsAtHand rules S p n
+    → DescribedComesTo rules S p n cmd lock look outcome → OutcomeFits rules outcome
+described_fits rules S p n cmd lock look outcome h is =
+    by_bool (is_bad_argument cmd lock) is (λ bad. refused_fits rules S p n _ outcome h bad)
+    (λ good. ranged (resolution lock.whence lock.start lock.len look.offset look.size) refl good)
+  where
+    ranged : (range : Result Span RangeFault) → resolution lock.whence lock.start lock.len look.offset look.size ≡ range
+        → MatchResult range (λ span. RangeComesTo rules S p n cmd lock.kind look span outcome) (λ fault. outcome ≡ refused S p n (range_error fault))
+        → OutcomeFits rules outcome
+    ranged (Ok span) at is = range_fits rules S p n cmd lock.kind look span (wanted_mode lock.kind) outcome h (resolved_within lock look span at) is
+    ranged (Err fault) at is = refused_fits rules S p n (range_error fault) outcome h is
+
+lock_comes_fit : (rules : Rules) (S : State) (p n : ℕ) (cmd : LkCmd) (lock : Lock) (look : Option Look) (outcome : Outcome) → IsAtHand rules S p n
+    → MatchOption look (outcome ≡ refused S p n EBADF) (λ look. DescribedComesTo rules S p n cmd lock look outcome) → OutcomeFits rules outcome
+lock_comes_fit rules S p n cmd lock None outcome h is = refused_fits rules S p n EBADF outcome h is
+lock_comes_fit rules S p n cmd lock (Some look) outcome h is = described_fits rules S p n cmd lock look outcome h is
+
+-- ---- flock
+
+same_flock : (S : State) (file description : ℕ) (mode : Option Mode) → SameProcesses S (with_flock_mode S file description mode)
+same_flock S file description mode = record { states = refl; waits = refl; alive = λ p. refl }
+
+-- the test of a request behind these grants, in a state that fits, where the caller lives and no more wait than it leaves
+test_fits : (rules : Rules) (S U : State) (nb : Bool) (wanted : Wait) (grants : List Note) (outcome : Outcome) → IsAtHand rules S wanted.p wanted.n
+    → Fits rules.limits U → IsSettled rules.policy U → U.states wanted.p ≡ Live → Each (IsWritableNote rules.limits) grants
+    → length grants + length U.waits ≤ 63 → IsSmallOwner wanted.owner → wanted.span.last ≤ OFFMAX
+    → FlockTestComesTo rules U nb wanted grants outcome → OutcomeFits rules outcome
+test_fits rules S U true wanted grants outcome h fits settled live told few owner last is =
+    ⊎_elim
+    (λ no. subst (OutcomeFits rules) (sym no.1)
+    (record { after = fits; told = ((h.process, h.number, tt), told); few = inl (omega (arith, few)) }))
+    (λ yes. locked_fits rules S U wanted grants outcome h fits told few owner last yes.1) is
+test_fits rules S U false wanted grants outcome h fits settled live told few owner last is =
+    ⊎_elim
+    (λ waits. waits_fit rules S U wanted grants outcome h fits settled live told (omega (arith, few)) owner last waits.0 waits.1)
+    (λ yes. locked_fits rules S U wanted grants outcome h fits told few owner last yes.1) is
+
+at_once_fits : (rules : Rules) (S : State) (nb : Bool) (wanted : Wait) (outcome : Outcome) → IsAtHand rules S wanted.p wanted.n
+    → IsSmallOwner wanted.owner → wanted.span.last ≤ OFFMAX → FlockTestComesTo rules S nb wanted [] outcome → OutcomeFits rules outcome
+at_once_fits rules S nb wanted outcome h owner last is =
+    let few = few_wait rules.limits S wanted.p h.process h.live h.fits in
+    test_fits rules S S nb wanted [] outcome h h.fits h.settled h.live tt (omega (arith, few)) owner last is
+
+conversion_fits : (rules : Rules) (S : State) (look : Look) (nb : Bool) (wanted : Wait) (outcome : Outcome) → IsAtHand rules S wanted.p wanted.n
+    → IsSmallOwner wanted.owner → wanted.span.last ≤ OFFMAX → ConversionComesTo rules S look nb wanted outcome → OutcomeFits rules outcome
+conversion_fits rules S look nb wanted outcome h owner last (grants, settled, removes, test) =
+    let U = with_flock_mode S look.file look.desc None in
+    let fits = fits_same rules.limits S U h.fits (same_flock S look.file look.desc None) h.fits.changes in
+    let all = settles_fit rules.limits rules.policy U grants settled fits removes in
+    let few = few_wait rules.limits S wanted.p h.process h.live h.fits in
+    let count = all.count in
+    test_fits rules S settled nb wanted grants outcome h all.after (settles_settled rules.policy U grants settled removes) (all.live wanted.p h.live)
+    all.told (omega (arith, few, count)) owner last test
+
+flock_mode_fits : (rules : Rules) (S : State) (look : Look) (nb : Bool) (wanted : Wait) (held : Option Mode) (outcome : Outcome)
+    → IsAtHand rules S wanted.p wanted.n → IsSmallOwner wanted.owner → wanted.span.last ≤ OFFMAX
+    → FlockModeComesTo rules S look nb wanted held outcome → OutcomeFits rules outcome
+flock_mode_fits rules S look nb wanted None outcome h owner last is = at_once_fits rules S nb wanted outcome h owner last is
+flock_mode_fits rules S look nb wanted (Some held) outcome h owner last is =
+    by_bool (is_same_mode held wanted.mode) is
+    (λ same. answers_fit rules S S wanted.p wanted.n replies.Ok outcome h (same_all S) h.fits.changes tt same)
+    (λ other. conversion_fits rules S look nb wanted outcome h owner last other)
+
+flock_op_fits : (rules : Rules) (S : State) (p n : ℕ) (look : Look) (op : FlockOp) (nb : Bool) (outcome : Outcome) → IsAtHand rules S p n
+    → FlockOpComesTo rules S p n look op nb outcome → OutcomeFits rules outcome
+flock_op_fits rules S p n look Un nb outcome h is =
+    answers_fit rules S (with_flock_mode S look.file look.desc None) p n replies.Ok outcome h (same_flock S look.file look.desc None) h.fits.changes tt is
+flock_op_fits rules S p n look Sh nb outcome h is =
+    flock_mode_fits rules S look nb (wanted_flock p n look modes.Read) (flock_mode_in S.flock_changes look.file look.desc) outcome h tt (omega arith) is
+flock_op_fits rules S p n look Ex nb outcome h is =
+    flock_mode_fits rules S look nb (wanted_flock p n look modes.Write) (flock_mode_in S.flock_changes look.file look.desc) outcome h tt (omega arith) is
+
+flock_fits : (rules : Rules) (S : State) (p n : ℕ) (op : FlockOp) (nb : Bool) (look : Option Look) (outcome : Outcome) → IsAtHand rules S p n
+    → MatchOption look (outcome ≡ refused S p n EBADF) (λ look. FlockOpComesTo rules S p n look op nb outcome) → OutcomeFits rules outcome
+flock_fits rules S p n op nb None outcome h is = refused_fits rules S p n EBADF outcome h is
+flock_fits rules S p n op nb (Some look) outcome h is = flock_op_fits rules S p n look op nb outcome h is
+
+-- ---- processes
+
+-- a process that is born lives, and no wait was of it
+fork_fits : (rules : Rules) (processes : ℕ) (S : State) (p n child : ℕ) (outcome : Outcome) → IsAtHand rules S p n
+    → ForkComesTo processes S p n child outcome → OutcomeFits rules outcome
+fork_fits rules processes S p n child outcome h (Ok done, D, gives, is) =
+    let unborn : S.descriptors.ever_alive child ≡ false = gives.0.2 in
+    let idle : S.states child ≢ Waiting = λ e.
+    let born = h.fits.born child (λ k. let bad : Waiting ≡ Unborn = sym e ∙ k in cc) in let bad : true ≡ false = sym born ∙ unborn in cc in
+    let others = others_wait rules.limits S child idle h.fits in
+    let few = few_wait rules.limits S p h.process h.live h.fits in
+    let T = with_process (record S { descriptors = D }) child Live in
+    subst (OutcomeFits rules) (sym is)
+    (record {
+      after = record {
+        changes = h.fits.changes;
+        waits = each_both (λ (other : Wait). other.p ≢ child) (FitsWait rules.limits S.states) (FitsWait rules.limits T.states) S.waits
+            (λ other differs at. record {
+              process = at.process;
+              number = at.number;
+              owner = at.owner;
+              last = at.last;
+              waiting = rw (ne_eqb other.p child differs) at.waiting;
+            }) others h.fits.waits;
+        apart = h.fits.apart;
+        born = λ q there. ⊎_elim (λ same. gives.1.ever_alive q ∙ rw (eq-eqb q child same) refl)
+            (λ differs. gives.1.ever_alive q
+            ∙ rw (ne_eqb q child differs) (h.fits.born q (λ e. there (rw (ne_eqb q child differs) e))))
+            (cases_eq q child);
+      };
+      told = ((h.process, h.number, tt), tt);
+      few = inl (omega (arith, few));
+    })
+fork_fits rules processes S p n child outcome h (Err fault, D, gives, is) = refusal_fits rules S p n fault outcome h is
+
+-- the waits of all others
+each_other : (P : Wait → Type 0) (waits : List Wait) (p : ℕ) → Each P waits → Each P (without_wait_of waits p)
+each_other P [] p all = tt
+each_other P (wait ∷ waits) p all =
+    elim (wait.p == p) as (λ b. Each P (if not b then wait ∷ without_wait_of waits p else without_wait_of waits p)) [
+      | true ↦ each_other P waits p all.1
+      | false ↦ (all.0, each_other P waits p all.1)
+    ]
+
+others_left : (waits : List Wait) (p : ℕ) → Each (λ wait. wait.p ≢ p) (without_wait_of waits p)
+others_left [] p = tt
+others_left (wait ∷ waits) p = ⊎_elim
+    (λ same. rw (eq-eqb wait.p p same) (others_left waits p))
+    (λ differs. rw (ne_eqb wait.p p differs) (differs, others_left waits p)) (cases_eq wait.p p)
+
+apart_left : (waits : List Wait) (p : ℕ) → AreApart waits → AreApart (without_wait_of waits p)
+apart_left [] p apart = tt
+apart_left (wait ∷ waits) p apart =
+    elim (wait.p == p) as (λ b. AreApart (if not b then wait ∷ without_wait_of waits p else without_wait_of waits p)) [
+      | true ↦ apart_left waits p apart.1
+      | false ↦ (each_other (λ other. other.p ≢ wait.p) waits p apart.0, apart_left waits p apart.1)
+    ]
+
+fewer_left : (waits : List Wait) (p : ℕ) → length (without_wait_of waits p) ≤ length waits
+fewer_left [] p = omega arith
+fewer_left (wait ∷ waits) p =
+    let rest = fewer_left waits p in
+    elim (wait.p == p) as (λ b. length (if not b then wait ∷ without_wait_of waits p else without_wait_of waits p) ≤ length (wait ∷ waits)) [
+      | true ↦ omega (arith, rest)
+      | false ↦ omega (arith, rest)
+    ]
+
+-- the wait that a process has is one of them, and leaves one fewer
+record IsWaitOf (P : Wait → Type 0) (waits : List Wait) (p : ℕ) (wait : Wait) : Type 0 where
+  own : P wait
+  process : wait.p ≡ p
+  fewer : length (without_wait_of waits p) + 1 ≤ length waits
+
+wait_found : (P : Wait → Type 0) (waits : List Wait) (p : ℕ) (wait : Wait) → Each P waits → wait_of waits p ≡ Some wait → IsWaitOf P waits p wait
+wait_found P [] p wait all is = absurd cc
+wait_found P (first ∷ waits) p wait all is = ⊎_elim
+    (λ same.
+    let rest = fewer_left waits p in
+    let found : Some first ≡ Some wait = rw (eq-eqb first.p p same) at is in
+    let this : first ≡ wait = cc in
+    record {
+      own = subst P this all.0;
+      process = ap (λ (w : Wait). w.p) (sym this) ∙ same;
+      fewer = rw (eq-eqb first.p p same) (omega (arith, rest));
+    })
+    (λ differs.
+    let later : wait_of waits p ≡ Some wait = rw (ne_eqb first.p p differs) at is in
+    let at = wait_found P waits p wait all.1 later in
+    let fewer = at.fewer in
+    record { own = at.own; process = at.process; fewer = rw (ne_eqb first.p p differs) (omega (arith, fewer)) })
+    (cases_eq first.p p)
+
+-- without its wait a process stands otherwise, and was alive
+left_fits : (limits : Limits) (S T : State) (p : ℕ) (state : ProcState) → Fits limits S → S.states p ≢ Unborn
+    → T.states ≡ (λ q. if q == p then state else S.states q) → T.waits ≡ without_wait_of S.waits p
+    → ((q : ℕ) → T.descriptors.ever_alive q ≡ S.descriptors.ever_alive q) → Each FitsChange T.changes → Fits limits T
+left_fits limits S T p state fits there states waits alive changes =
+    let left = without_wait_of S.waits p in
+    let now = λ (q : ℕ). if q == p then state else S.states q in
+    record {
+      changes = changes;
+      waits = subst (λ (l : List Wait). Each (FitsWait limits T.states) l) (sym waits)
+          (subst (λ (f : ℕ → ProcState). Each (FitsWait limits f) left) (sym states)
+          (each_both (λ (other : Wait). other.p ≢ p) (FitsWait limits S.states) (FitsWait limits now) left
+          (λ other differs at. record {
+            process = at.process;
+            number = at.number;
+            owner = at.owner;
+            last = at.last;
+            waiting = rw (ne_eqb other.p p differs) at.waiting;
+          }) (others_left S.waits p) (each_other (FitsWait limits S.states) S.waits p fits.waits)));
+      apart = subst AreApart (sym waits) (apart_left S.waits p fits.apart);
+      born = λ q stands. alive q ∙ ⊎_elim
+          (λ same. fits.born q (λ e. there (ap S.states (sym same) ∙ e)))
+          (λ differs. fits.born q (λ e. stands (ap (λ (f : ℕ → ProcState). f q) states ∙ rw (ne_eqb q p differs) e)))
+          (cases_eq q p);
+    }
+
+-- a process ends, and this was told: of that and of the others' waits there are 64 at most
+end_fits : (rules : Rules) (S : State) (p : ℕ) (told : List Note) (outcome : Outcome) → Fits rules.limits S → S.states p ≢ Unborn → p ≤ 64
+    → Each (IsWritableNote rules.limits) told → length told + length S.waits ≤ 64 → EndComesTo S p told outcome → OutcomeFits rules outcome
+end_fits rules S p told outcome fits there small writable few (released, D, gives, is) =
+    let T = with_process (with_released (without_wait S p) D p released) p Ended in
+    let fewer = fewer_left S.waits p in
+    subst (OutcomeFits rules) (sym is)
+    (record {
+      after = left_fits rules.limits S T p Ended fits there refl refl gives.0.ever_alive (released_changes (without_wait S p) D p released small fits.changes);
+      told = writable;
+      few = inl (omega (arith, few, fewer));
+    })
+
+-- who was alive is one of the limits' processes: the target is one that a line may have
+kill_fits : (rules : Rules) (S : State) (p n target : ℕ) (state : ProcState) (outcome : Outcome) → IsAtHand rules S p n → target ≤ 64
+    → S.states target ≡ state → KillOtherComesTo S p n target state outcome → OutcomeFits rules outcome
+kill_fits rules S p n target Unborn outcome h small at is = refused_fits rules S p n _ outcome h is
+kill_fits rules S p n target Ended outcome h small at is = refused_fits rules S p n _ outcome h is
+kill_fits rules S p n target Live outcome h small at is =
+    let few = few_wait rules.limits S p h.process h.live h.fits in
+    end_fits rules S target _ outcome h.fits (λ e. let bad : Live ≡ Unborn = sym at ∙ e in cc) small ((h.process, h.number, tt), tt) (omega (arith, few)) is
+kill_fits rules S p n target Waiting outcome h small at is =
+    let few = few_wait rules.limits S p h.process h.live h.fits in
+    end_fits rules S target _ outcome h.fits (λ e. let bad : Waiting ≡ Unborn = sym at ∙ e in cc) small ((h.process, h.number, tt), tt) (omega (arith, few)) is
+
+exit_fits : (rules : Rules) (S : State) (p n : ℕ) (outcome : Outcome) → IsAtHand rules S p n → EndComesTo S p [] outcome → OutcomeFits rules outcome
+exit_fits rules S p n outcome h is =
+    let few = few_wait rules.limits S p h.process h.live h.fits in
+    end_fits rules S p [] outcome h.fits (λ e. let bad : Live ≡ Unborn = sym h.live ∙ e in cc) (few_processes rules.limits p h.process) tt (omega (arith, few)) is
+
+signal_fits : (rules : Rules) (S : State) (p n target : ℕ) (state : ProcState) (outcome : Outcome) → IsAtHand rules S p n
+    → S.states target ≡ state → SignalComesTo S p n target state outcome → OutcomeFits rules outcome
+signal_fits rules S p n target Unborn outcome h at is = refused_fits rules S p n _ outcome h is
+signal_fits rules S p n target Ended outcome h at is = refused_fits rules S p n _ outcome h is
+signal_fits rules S p n target Live outcome h at is = answers_fit rules S S p n replies.Ok outcome h (same_all S) h.fits.changes tt is
+signal_fits rules S p n target Waiting outcome h at (wait, found, is) =
+    let few = few_wait rules.limits S p h.process h.live h.fits in
+    let own = wait_found (FitsWait rules.limits S.states) S.waits target wait h.fits.waits found in
+    let fewer = own.fewer in
+    let T = with_process (without_wait S target) target Live in
+    subst (OutcomeFits rules) (sym is)
+    (record {
+      after = left_fits rules.limits S T target Live h.fits (λ e. let bad : Waiting ≡ Unborn = sym at ∙ e in cc) refl refl (λ q. refl) h.fits.changes;
+      told = ((h.process, h.number, tt), ((subst (IsProcess rules.limits) own.process own.own.process, own.own.number, tt), tt));
+      few = inl (omega (arith, few, fewer));
+    })
+
+-- ---- each request
+
+pub request_fits : (rules : Rules) (processes : ℕ) (S : State) (p n : ℕ) (request : Request) (outcome : Outcome) → IsAtHand rules S p n
+    → IsWritable rules.limits request → ComesTo rules processes S p n request outcome → OutcomeFits rules outcome
+request_fits rules processes S p n (OpenFile file access) outcome h writable is = open_fits rules S p n file access outcome h is
+request_fits rules processes S p n (Dup fd) outcome h writable is = dup_fits rules S p n fd outcome h is
+request_fits rules processes S p n (DupTo fd to) outcome h writable is = dup_to_fits rules S p n fd to outcome h is
+request_fits rules processes S p n (CloseFd fd) outcome h writable is = close_fits rules S p n fd outcome h is
+request_fits rules processes S p n (Seek fd offset) outcome h writable is = seek_fits rules S p n fd offset outcome h is
+request_fits rules processes S p n (Resize fd size) outcome h writable is = resize_fits rules S p n fd size outcome h is
+request_fits rules processes S p n (Lk fd cmd lock) outcome h writable is = lock_comes_fit rules S p n cmd lock (look_at S.descriptors p fd) outcome h is
+request_fits rules processes S p n (Flock fd op nb) outcome h writable is = flock_fits rules S p n op nb (look_at S.descriptors p fd) outcome h is
+request_fits rules processes S p n (Fork child) outcome h writable is = fork_fits rules processes S p n child outcome h is
+request_fits rules processes S p n Exit outcome h writable is = exit_fits rules S p n outcome h is
+request_fits rules processes S p n (Signal target) outcome h writable is = signal_fits rules S p n target (S.states target) outcome h refl is
+request_fits rules processes S p n (Kill target) outcome h writable is =
+    by_bool (target == p) is (λ own. exit_fits rules S p n outcome h own)
+    (λ other. kill_fits rules S p n target (S.states target) outcome h (few_processes rules.limits target writable) refl other)

@@ -1,0 +1,209 @@
+-- The entries of an output can be written, and are a run.
+use Rattle.std.proofs.Common.{◌≡◌, ◌≢◌, true, ℕ, zero, suc, ◌+◌, ◌^◌, ◌<◌, ◌≤◌, ◌==◌, List, [], ◌∷◌, ◌++◌, length, length-append, map, filter, All, Some, None, IfSome, slice_get, Ok, inl, inr, ⊎_elim, refl, sym, ap, ap₂, ◌∙◌, subst, arith, eq-eqb, ne_eqb, append_assoc, append-nil}
+use Rattle.std.specs.List.{AllByRecursion as Each}
+use Rattle.std.proofs.lemmas.Bool.{cases_eq}
+use Rattle.std.proofs.lemmas.List.Elements.{All-from_recursion, recursion_from_All, filter-append}
+use Rattle.fd_table.specs.declared.Limits.{Limits}
+use Rattle.fd_table.specs.Descriptors.{process_limit, opening_descriptors}
+use Rattle.lock_manager.specs.declared.request.Rules.{Rules}
+use Rattle.lock_manager.specs.declared.request.Request.{Request}
+use Rattle.lock_manager.specs.declared.request.ProcState.TheVariants.{Unborn}
+use Rattle.lock_manager.specs.State.{State, opening_state}
+use Rattle.lock_manager.specs.Settling.{IsSettled}
+use Rattle.lock_manager.specs.Step.{Step}
+use Rattle.session_core.specs.Event.{Event}
+use Rattle.session_core.specs.Runs.{Leads, IsStep, IsRun, AreNumbered, events_of}
+use Rattle.session_core.specs.Mail.{requests_sent}
+use Rattle.session_core.specs.Draining.{next_untaken, IsNext, TakesMail, DrainsFrom, IsDrain}
+use Rattle.script_core.specs.declared.place.Place.{Place}
+use Rattle.script_core.specs.Words.{script_limit}
+use Rattle.script_core.specs.ScriptText.{Meaning, IsProcess, IsWritable}
+use Rattle.script_core.specs.Reading.{Reads}
+use Rattle.script_core.specs.EntryReading.{IsWritableNote, IsWritableEvent}
+use Rattle.script_core.specs.JournalReading.{rules_at, processes_at, limits_at, AreLegal}
+use Rattle.script_core.specs.Output.{IsOutput, processes_in}
+use Rattle.script_core.specs.OutputReading.{EntriesOfOutputsAreLegal}
+use Rattle.script_core.proofs.ProcessLemmas.{IsArrivalOf, arrivals_read, few_read}
+use Rattle.script_core.proofs.JournalBackLemmas.{journals_read_back}
+use Rattle.script_core.proofs.FitLemmas.{Fits, each_append, settles_fit, settles_settled, nothing_granted}
+use Rattle.script_core.proofs.OutcomeFitLemmas.{OutcomeFits, request_fits}
+
+-- ---- a step
+
+-- the event can be written, and the state behind it fits
+record StepFits (rules : Rules) (event : Event) (T : State) : Type 0 where
+  after : Fits rules.limits T
+  settled : IsSettled rules.policy T
+  writable : IsWritableEvent rules.limits event
+
+step_fits : (rules : Rules) (processes : ℕ) (S : State) (event : Event) (T : State) → Fits rules.limits S → IsSettled rules.policy S
+    → IsArrivalOf rules.limits (event.p, event.request) → event.n < 2 ^ 64 → IsStep rules processes S event T → StepFits rules event T
+step_fits rules processes S event T fits settled of small step =
+    let o = request_fits rules processes S event.p event.n event.request step.outcome
+    (record { fits = fits; settled = settled; live = step.live; process = of.0; number = small }) of.1 step.comes_to in
+    let told = step.outcome.told in
+    let grants = step.grants in
+    let s = settles_fit rules.limits rules.policy step.outcome.after grants T o.after step.settles in
+    let notes = each_append (IsWritableNote rules.limits) told grants o.told s.told in
+    let count = s.count in
+    let size : length event.notes ≡ length told + length grants = ap length step.are_notes ∙ length-append told grants in
+    let few : length event.notes ≤ 64 =
+    ⊎_elim (λ all. omega (arith, size, count, all))
+    (λ rest.
+    let none : length grants ≡ 0 = ap length (nothing_granted rules.policy step.outcome.after grants T rest.1 step.settles) in
+    let own = rest.0 in omega (arith, size, none, own)) o.few in
+    record {
+      after = s.after;
+      settled = settles_settled rules.policy step.outcome.after grants T step.settles;
+      writable = record {
+        process = of.0;
+        number = small;
+        request = of.1;
+        notes = subst (All (IsWritableNote rules.limits)) (sym step.are_notes) (All-from_recursion (IsWritableNote rules.limits) (told ++ grants) notes);
+        few = few;
+      };
+    }
+
+-- ---- mail
+
+-- what a process sent is what arrived of it
+abbrev SentOf : (ℕ × Request → Type 0) → ℕ → List (ℕ × Request) → Type 0
+SentOf P p arrivals =
+    (k : ℕ) (request : Request) → slice_get (requests_sent p arrivals) k ≡ Some request → P (p, request) × (k < length arrivals)
+
+sent_here : (P : ℕ × Request → Type 0) (p q : ℕ) (first : Request) (arrivals : List (ℕ × Request)) (k : ℕ) (request : Request) → q ≡ p
+    → P (q, first) → SentOf P p arrivals → slice_get (first ∷ requests_sent p arrivals) k ≡ Some request → P (p, request) × (k < length arrivals + 1)
+sent_here P p q first arrivals zero request same own later is =
+    let this : first ≡ request = cc in (subst P (ap₂ (λ (a : ℕ) (b : Request). (a, b)) same this) own, omega arith)
+sent_here P p q first arrivals (suc k) request same own later is =
+    let rest = later k request is in let below = rest.1 in (rest.0, omega (arith, below))
+
+sent_of : (P : ℕ × Request → Type 0) (p : ℕ) (arrivals : List (ℕ × Request)) → Each P arrivals → SentOf P p arrivals
+sent_of P p [] all k request is = absurd (let bad : None ≡ Some request = is in cc)
+sent_of P p ((q, first) ∷ arrivals) all k request is =
+    ⊎_elim
+    (λ same.
+    let own : requests_sent p ((q, first) ∷ arrivals) ≡ first ∷ requests_sent p arrivals = rw (eq-eqb q p same) refl in
+    let here = sent_here P p q first arrivals k request same all.0 (sent_of P p arrivals all.1) (ap (λ l. slice_get l k) (sym own) ∙ is) in
+    let below = here.1 in (here.0, omega (arith, below)))
+    (λ differs.
+    let others : requests_sent p ((q, first) ∷ arrivals) ≡ requests_sent p arrivals = rw (ne_eqb q p differs) refl in
+    let rest = sent_of P p arrivals all.1 k request (ap (λ l. slice_get l k) (sym others) ∙ is) in
+    let below = rest.1 in (rest.0, omega (arith, below)))
+    (cases_eq q p)
+
+-- what is taken, with events that can be written before it
+record TakesFit (rules : Rules) (more : List Event) (T : State) : Type 0 where
+  after : Fits rules.limits T
+  settled : IsSettled rules.policy T
+  writable : Each (IsWritableEvent rules.limits) more
+
+takes_fit : (rules : Rules) (processes : ℕ) (arrivals : List (ℕ × Request)) (events : List Event) (S : State) (more : List Event) (T : State)
+    → Each (IsArrivalOf rules.limits) arrivals → length arrivals ≤ script_limit + 1 → Fits rules.limits S → IsSettled rules.policy S
+    → TakesMail rules processes (λ p. requests_sent p arrivals) events S more T → TakesFit rules more T
+takes_fit rules processes arrivals events S [] T of few fits settled takes =
+    record { after = subst (Fits rules.limits) (sym takes) fits; settled = subst (IsSettled rules.policy) (sym takes) settled; writable = tt }
+takes_fit rules processes arrivals events S (event ∷ more) T of few fits settled (next, between, step, rest) =
+    let arrived = sent_of (IsArrivalOf rules.limits) event.p arrivals of (length (events_of event.p events)) event.request next.request in
+    let below = arrived.1 in
+    let number = next.number in
+    let first = step_fits rules processes S event between fits settled arrived.0 (omega (arith, below, number, few)) step in
+    let later = takes_fit rules processes arrivals (events ++ event ∷ []) between more T of few first.after first.settled rest in
+    record { after = later.after; settled = later.settled; writable = (first.writable, later.writable) }
+
+drains_fit : (rules : Rules) (processes : ℕ) (arrived : List (ℕ × Request)) (events : List Event) (S : State) (later : List (ℕ × Request))
+    (journal : List Event) (T : State) → Each (IsArrivalOf rules.limits) (arrived ++ later) → length (arrived ++ later) ≤ script_limit + 1
+    → Fits rules.limits S → IsSettled rules.policy S → Each (IsWritableEvent rules.limits) events
+    → DrainsFrom rules processes arrived events S later journal T → Each (IsWritableEvent rules.limits) journal
+drains_fit rules processes arrived events S [] journal T of few fits settled writable drains =
+    subst (Each (IsWritableEvent rules.limits)) (sym drains.0) writable
+drains_fit rules processes arrived events S (arrival ∷ later) journal T of few fits settled writable (more, between, takes, rest) =
+    let now = arrived ++ arrival ∷ [] in
+    let cut : arrived ++ arrival ∷ later ≡ now ++ later = sym (append_assoc arrived (arrival ∷ []) later) in
+    let all = subst (Each (IsArrivalOf rules.limits)) cut of in
+    let many : length (now ++ later) ≤ script_limit + 1 = subst (λ l. length l ≤ script_limit + 1) cut few in
+    let size = length-append now later in
+    let first = takes_fit rules processes now events S more between (each_front (IsArrivalOf rules.limits) now later all) (omega (arith, many, size)) fits settled takes.0 in
+    drains_fit rules processes now (events ++ more) between later journal T all many first.after first.settled
+    (each_append (IsWritableEvent rules.limits) events more writable first.writable) rest
+  where
+    each_front : {X : Type 0} (P : X → Type 0) (xs ys : List X) → Each P (xs ++ ys) → Each P xs
+    each_front P [] ys all = tt
+    each_front P (x ∷ xs) ys all = (all.0, each_front P xs ys all.1)
+
+-- ---- a drain is a run
+
+leads_then : (rules : Rules) (processes : ℕ) (S : State) (xs ys : List Event) (U T : State) → Leads rules processes S xs U → Leads rules processes U ys T
+    → Leads rules processes S (xs ++ ys) T
+leads_then rules processes S [] ys U T first second = subst (λ X. Leads rules processes X ys T) first second
+leads_then rules processes S (x ∷ xs) ys U T first second = (first.0, first.1, leads_then rules processes first.0 xs ys U T first.2 second)
+
+push_each : {X : Type 0} (Q : ℕ → X → Type 0) (xs : List X) (x : X) → ((k : ℕ) → IfSome (slice_get xs k) (Q k)) → Q (length xs) x
+    → (k : ℕ) → IfSome (slice_get (xs ++ x ∷ []) k) (Q k)
+push_each Q [] x before is zero = is
+push_each Q [] x before is (suc k) = tt
+push_each Q (y ∷ xs) x before is zero = before zero
+push_each Q (y ∷ xs) x before is (suc k) = push_each (λ k. Q (suc k)) xs x (λ k. before (suc k)) is k
+
+numbered_more : (events : List Event) (event : Event) → AreNumbered events → event.n ≡ length (events_of event.p events) + 1
+    → AreNumbered (events ++ event ∷ [])
+numbered_more events event before number p place =
+    let cut = filter-append (λ (other : Event). other.p == p) events (event ∷ []) in
+    let Q = λ (k : ℕ) (other : Event). other.n ≡ k + 1 in
+    ⊎_elim
+    (λ same.
+    let own : events_of p (events ++ event ∷ []) ≡ events_of p events ++ event ∷ [] = cut ∙ rw (eq-eqb event.p p same) refl in
+    subst (λ l. IfSome (slice_get l place) (Q place)) (sym own)
+    (push_each Q (events_of p events) event (before p) (number ∙ ap (λ q. length (events_of q events) + 1) same) place))
+    (λ differs.
+    let own : events_of p (events ++ event ∷ []) ≡ events_of p events = cut ∙ rw (ne_eqb event.p p differs) (append-nil (events_of p events)) in
+    subst (λ l. IfSome (slice_get l place) (Q place)) (sym own) (before p place))
+    (cases_eq event.p p)
+
+takes_run : (rules : Rules) (processes : ℕ) (sent : ℕ → List Request) (events : List Event) (S : State) (more : List Event) (T : State)
+    → AreNumbered events → TakesMail rules processes sent events S more T → Leads rules processes S more T × AreNumbered (events ++ more)
+takes_run rules processes sent events S [] T numbered takes = (takes, subst AreNumbered (sym (append-nil events)) numbered)
+takes_run rules processes sent events S (event ∷ more) T numbered (next, between, step, rest) =
+    let later = takes_run rules processes sent (events ++ event ∷ []) between more T (numbered_more events event numbered next.number) rest in
+    ((between, step, later.0), subst AreNumbered (append_assoc events (event ∷ []) more) later.1)
+
+drains_run : (rules : Rules) (processes : ℕ) (arrived : List (ℕ × Request)) (events : List Event) (S : State) (later : List (ℕ × Request))
+    (journal : List Event) (T : State) → Leads rules processes opening_state events S → AreNumbered events
+    → DrainsFrom rules processes arrived events S later journal T → IsRun rules processes journal T
+drains_run rules processes arrived events S [] journal T leads numbered drains =
+    subst (λ l. IsRun rules processes l T) (sym drains.0)
+    (subst (λ X. IsRun rules processes events X) (sym drains.1) (record { leads = leads; numbered = numbered }))
+drains_run rules processes arrived events S (arrival ∷ later) journal T leads numbered (more, between, takes, rest) =
+    let first = takes_run rules processes (λ p. requests_sent p (arrived ++ arrival ∷ [])) events S more between numbered takes.0 in
+    drains_run rules processes (arrived ++ arrival ∷ []) (events ++ more) between later journal T
+    (leads_then rules processes opening_state events more S between leads first.0) first.1 rest
+
+-- ---- an output
+
+pub run_of_output : (bytes text : List ℕ) (output : IsOutput bytes text)
+    → IsRun output.script.rules (processes_in output.script) output.journal output.state
+run_of_output bytes text output =
+    drains_run output.script.rules (processes_in output.script) [] [] opening_state output.script.arrivals output.journal output.state refl (λ p place. tt) output.drained
+
+opening_fits : (rules : Rules) → Fits rules.limits opening_state × IsSettled rules.policy opening_state
+unfolding opening_state opening_descriptors
+opening_fits rules = (record { changes = tt; waits = tt; apart = tt; born = born }, tt)
+  where
+    born : (p : ℕ) → opening_state.states p ≢ Unborn → opening_state.descriptors.ever_alive p ≡ true
+    born p there = ⊎_elim (λ same. rw (eq-eqb p 1 same) refl) (λ differs. absurd (there (rw (ne_eqb p 1 differs) refl))) (cases_eq p 1)
+
+pub writable_output : (bytes text : List ℕ) (output : IsOutput bytes text) → All (IsWritableEvent output.script.rules.limits) output.journal
+writable_output bytes text output =
+    let script = output.script in
+    let opening = opening_fits script.rules in
+    All-from_recursion (IsWritableEvent script.rules.limits) output.journal
+    (drains_fit script.rules (processes_in script) [] [] opening_state script.arrivals output.journal output.state
+    (recursion_from_All (IsArrivalOf script.rules.limits) script.arrivals (arrivals_read bytes script output.accepted)) (few_read bytes script output.accepted)
+    opening.0 opening.1 tt output.drained)
+
+pub entries_legal : EntriesOfOutputsAreLegal
+entries_legal bytes text output number place before same =
+    let rules : output.script.rules ≡ rules_at place = sym same in
+    journals_read_back number (record { place = place; entries = []; report = [] }) output.journal before refl
+    (subst (λ (r : Rules). All (IsWritableEvent r.limits) output.journal) rules (writable_output bytes text output))
+    (output.state, subst (λ (r : Rules). IsRun r (process_limit r.limits) output.journal output.state) rules (run_of_output bytes text output))
