@@ -296,6 +296,7 @@ settles_fit limits policy S (grant ∷ grants) T fits (before, wait, after, next
     one_more : (before : List Wait) (wait : Wait) (after : List Wait) → length (before ++ wait ∷ after) ≡ suc (length (before ++ after))
     one_more [] wait after = refl
     one_more (first ∷ before) wait after = ap suc (one_more before wait after)
+
     still_live : (p : ℕ) → S.states p ≡ Live → (granted S before wait after).states p ≡ Live
     still_live p live = ⊎_elim (λ same. rw (eq-eqb p wait.p same) refl)
         (λ differs. rw (ne_eqb p wait.p differs) (ap (λ (states : ℕ → ProcState). states p) (same_locked S wait).states ∙ live)) (cases_eq p wait.p)
