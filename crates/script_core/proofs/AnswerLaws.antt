@@ -1,12 +1,10 @@
 -- A line of a journal has one answer: one meaning, and one text of what is there in its place.
-use Rattle.std.proofs.Common.{◌≡◌, ◌≢◌, ℕ, zero, suc, ◌+◌, ◌-◌, ◌<◌, ◌≤◌, ◌==◌, List, [], ◌∷◌, ◌++◌, length, drop, inl, inr, codes, decimal, Some, None, IfSome, slice_get, refl, sym, ap, ◌∙◌, subst, arith, eq-eqb}
+use Rattle.std.proofs.Common.{◌≡◌, ℕ, zero, suc, ◌+◌, ◌≤◌, ◌==◌, List, [], ◌∷◌, ◌++◌, length, drop, inl, inr, codes, decimal, Some, IfSome, slice_get, refl, sym, ap, ◌∙◌, subst, arith, eq-eqb}
 use Rattle.std.proofs.lemmas.List.{length-drop}
 use Rattle.std.proofs.lemmas.List.Elements.{filter-append}
 use Rattle.lock_book.specs.OneReport.{LocksHaveOneReport}
 use Rattle.lock_manager.specs.declared.request.Rules.{Rules}
 use Rattle.lock_manager.specs.declared.request.Note.{Note}
-use Rattle.lock_manager.specs.declared.request.ProcState.{ProcState}
-use Rattle.lock_manager.specs.declared.request.ProcState.TheVariants.{Live}
 use Rattle.lock_manager.specs.State.{State, opening_state}
 use Rattle.lock_manager.specs.OneOutcome.{StepHasOneOutcome}
 use Rattle.session_core.specs.declared.check.Expected.{Expected}
@@ -21,7 +19,7 @@ use Rattle.script_core.specs.EntryText.{tag, entry_text}
 use Rattle.script_core.specs.ReportText.{state_word}
 use Rattle.script_core.specs.ExpectedText.{expected_text, due_text}
 use Rattle.script_core.specs.ReportReading.{AreTextsOf, first_due}
-use Rattle.script_core.specs.JournalReading.{JournalReading, LinesHaveOneMeaning, rules_at, processes_at}
+use Rattle.script_core.specs.JournalReading.{LinesHaveOneMeaning, rules_at, processes_at}
 use Rattle.script_core.specs.JournalView.{AreLeft, OneIsTold}
 use Rattle.script_core.proofs.JournalLemmas.{one_meaning}
 use Rattle.script_core.proofs.JournalReportLemmas.{some_texts, all_texts, one_report}

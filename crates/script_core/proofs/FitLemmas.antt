@@ -1,39 +1,30 @@
 -- What a request comes to has numbers that a line may have: its notes, and the waits and locks that it leaves; and the notes are few.
-use Rattle.std.proofs.Common.{◌≡◌, ◌≢◌, ℕ, zero, suc, ◌+◌, ◌-◌, ◌^◌, ◌<◌, ◌≤◌, ◌==◌, ◌&&◌, ◌||◌, ◌⊎◌, Bool, true, false, not, nat_le, List, [], ◌∷◌, ◌++◌, length, map, filter, filter_map, find, Option, Some, None, option_map, Result, Ok, Err, MatchBool, MatchOption, MatchResult, inl, inr, ⊎_elim, refl, sym, ap, ap₂, ◌∙◌, subst, arith, lit<, lit≤, eq-eqb, ne_eqb, append_assoc, append-nil, ℤ, pos, negsuc}
-use Rattle.std.specs.Prelude.{⊤, if◌then◌else◌, FitsSigned, IsTrue, IsFalse, IfSome}
-use Rattle.std.specs.Int.{w64}
+use Rattle.std.proofs.Common.{◌≡◌, ◌≢◌, ℕ, suc, ◌+◌, ◌^◌, ◌<◌, ◌≤◌, ◌==◌, ◌||◌, true, false, List, [], ◌∷◌, ◌++◌, length, map, filter_map, Option, Some, None, option_map, ⊎_elim, refl, sym, ap, ◌∙◌, subst, arith, eq-eqb, ne_eqb, append_assoc, append-nil}
+use Rattle.std.specs.Prelude.{⊤, IfSome}
 use Rattle.std.specs.List.{AllByRecursion as Each, IsDistinct, list_any, cons_option}
 use Rattle.std.proofs.lemmas.Bool.{cases_eq}
 use Rattle.std.proofs.lemmas.Map.Steps.{length-le_from_distinct_below}
 use Rattle.range_core.specs.declared.TheConstants.{OFFMAX}
-use Rattle.range_core.specs.declared.Mode.{Mode}
-use Rattle.range_core.specs.declared.Span.{Span}
-use Rattle.range_core.specs.Facts.{MatchFact}
 use Rattle.lock_book.specs.declared.Owner.{Owner}
 use Rattle.lock_book.specs.declared.Owner.TheVariants.{Process, Description}
-use Rattle.lock_book.specs.Owners.{is_same_owner}
-use Rattle.lock_book.specs.Changes.{Change, FlockChange, mode_from, mode_in, sets_byte, whole_file}
+use Rattle.lock_book.specs.Changes.{Change, whole_file}
 use Rattle.fd_table.specs.declared.Limits.{Limits}
 use Rattle.fd_table.specs.declared.Limits.TheVariants.{Small, Wide}
-use Rattle.fd_table.specs.Descriptors.{Descriptors, OpenFileDescription, process_limit, description_numbered}
+use Rattle.fd_table.specs.Descriptors.{Descriptors, OpenFileDescription, description_numbered}
 use Rattle.fd_table.specs.Released.{Released}
 use Rattle.wait_core.specs.declared.Policy.{Policy}
 use Rattle.wait_core.specs.declared.Family.TheVariants.{Bytes, Whole}
 use Rattle.wait_core.specs.declared.Wait.{Wait}
 use Rattle.wait_core.specs.Locks.{Locks}
-use Rattle.wait_core.specs.Blocking.{IsBlocked, AllBlocked, IsNextBetween}
-use Rattle.wait_core.specs.WaitsView.{wait_of, without_wait_of}
+use Rattle.wait_core.specs.Blocking.{IsBlocked, AllBlocked}
 use Rattle.lock_manager.specs.declared.request.Note.{Note}
-use Rattle.lock_manager.specs.declared.request.Note.TheVariants as notes
-use Rattle.lock_manager.specs.declared.request.Reply.{Reply}
-use Rattle.lock_manager.specs.declared.request.Reply.TheVariants as replies
 use Rattle.lock_manager.specs.declared.request.ProcState.{ProcState}
-use Rattle.lock_manager.specs.declared.request.ProcState.TheVariants.{Unborn, Live, Waiting, Ended}
-use Rattle.lock_manager.specs.State.{State, locks_held, with_lock, with_lock_of, with_process}
+use Rattle.lock_manager.specs.declared.request.ProcState.TheVariants.{Unborn, Live, Waiting}
+use Rattle.lock_manager.specs.State.{State, locks_held, with_lock, with_lock_of}
 use Rattle.lock_manager.specs.Settling.{Settles, IsSettled, granted}
 use Rattle.lock_manager.specs.DescriptorCalls.{with_released, process_releases, description_releases}
 use Rattle.script_core.specs.ScriptText.{IsProcess}
-use Rattle.script_core.specs.EntryReading.{IsWritableNote, IsWritableReply}
+use Rattle.script_core.specs.EntryReading.{IsWritableNote}
 
 -- ---- what has such numbers
 

@@ -1,5 +1,5 @@
 -- The texts of events, line by line, are read as a journal of these events.
-use Rattle.std.proofs.Common.{◌≡◌, ◌≢◌, ℕ, zero, suc, ◌+◌, ◌<◌, ◌≤◌, ◌^◌, ◌==◌, Bool, true, false, not, cond, Option, Some, None, Result, Ok, Err, List, [], ◌∷◌, ◌++◌, length, filter, map, get_or, slice_get, IfSome, codes, decimal, flat_map, refl, sym, ap, ◌∙◌, subst, inl, arith, lit<, lit≤, tests, append_assoc, append-nil, MatchBool, MatchResult, ne_eqb}
+use Rattle.std.proofs.Common.{◌≡◌, ℕ, zero, suc, ◌+◌, ◌<◌, ◌≤◌, ◌==◌, false, None, Ok, Err, List, [], ◌∷◌, ◌++◌, length, map, get_or, slice_get, IfSome, codes, decimal, flat_map, refl, sym, ap, ◌∙◌, subst, inl, arith, lit<, append_assoc, append-nil, ne_eqb}
 use Rattle.std.specs.Prelude.{All, bytes_eq, nat_lt}
 use Rattle.std.specs.List.{slice_split}
 use Rattle.std.proofs.lemmas.List.Elements.{filter-append}
@@ -7,21 +7,19 @@ use Rattle.fd_table.specs.declared.Limits.{Limits}
 use Rattle.lock_manager.specs.declared.request.Rules.{Rules}
 use Rattle.lock_manager.specs.State.{State, opening_state}
 use Rattle.session_core.specs.Event.{Event}
-use Rattle.session_core.specs.Runs.{IsRun, IsStep, Leads, AreNumbered, events_of}
+use Rattle.session_core.specs.Runs.{Leads, events_of}
 use Rattle.script_core.specs.declared.place.Stage.{Stage}
 use Rattle.script_core.specs.declared.place.Stage.TheVariants as stages
 use Rattle.script_core.specs.declared.place.Place.{Place}
-use Rattle.script_core.specs.declared.place.JournalLine.{JournalLine}
 use Rattle.script_core.specs.declared.place.JournalLine.TheVariants as lines
-use Rattle.script_core.specs.declared.script.Cause.{Cause}
 use Rattle.script_core.specs.declared.script.Cause.TheVariants.{Byte, TooLong}
 use Rattle.script_core.specs.RequestText.{request_text}
 use Rattle.script_core.specs.EntryText.{tag, note_text, entry_text}
 use Rattle.script_core.specs.Words.{words_of, is_printable}
 use Rattle.script_core.specs.ScriptText.{IsProcess}
 use Rattle.script_core.specs.Reading.{is_comment}
-use Rattle.script_core.specs.EntryReading.{entry_limit, pieces_of, PiecesGive, EntryGives, IsWritableEvent}
-use Rattle.script_core.specs.JournalReading.{OtherGives, HeadGives, TextGives, JournalLineGives, JournalReading, Legal, JournalGives, JournalsAreReadBack, EntriesAreReadBack, IsBeforeReport, AreLegal, reading_behind, limits_at, rules_at, processes_at}
+use Rattle.script_core.specs.EntryReading.{entry_limit, IsWritableEvent}
+use Rattle.script_core.specs.JournalReading.{OtherGives, HeadGives, JournalLineGives, JournalReading, Legal, JournalGives, JournalsAreReadBack, EntriesAreReadBack, IsBeforeReport, AreLegal, reading_behind, limits_at, rules_at, processes_at}
 use Rattle.script_core.proofs.NumberLemmas.{BeginsPlainly-decimal}
 use Rattle.script_core.proofs.ReadingLemmas.{small_process}
 use Rattle.script_core.proofs.FirstWordsLemmas.{MatchBool-map}

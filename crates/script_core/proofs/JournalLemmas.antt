@@ -1,11 +1,10 @@
 -- The lines of a journal: what their first words say, that each has one meaning, and that a journal has one end.
-use Rattle.std.proofs.Common.{◌≡◌, ℕ, ◌+◌, ◌<◌, ◌≤◌, Bool, true, false, Option, Some, None, Result, Ok, Err, List, [], ◌∷◌, ◌++◌, length, take, get_or, refl, sym, ap, ◌∙◌, subst, inl, inr, arith, ⊎_elim, MatchBool, MatchResult, codes}
-use Rattle.std.specs.Prelude.{bytes_eq, nat_lt}
+use Rattle.std.proofs.Common.{◌≡◌, ℕ, ◌+◌, ◌<◌, true, Option, Some, None, Result, Ok, Err, List, [], ◌∷◌, length, take, get_or, refl, sym, ap, ◌∙◌, subst, inl, inr, arith, ⊎_elim, MatchResult}
+use Rattle.std.specs.Prelude.{nat_lt}
 use Rattle.std.proofs.lemmas.Bool.{cases_lt}
 use Rattle.std.proofs.lemmas.List.{length-take-le, take_all}
 use Rattle.range_core.specs.Facts.{MatchFact}
 use Rattle.fd_table.specs.declared.Limits.{Limits}
-use Rattle.wait_core.specs.declared.Policy.{Policy}
 use Rattle.session_core.specs.Event.{Event}
 use Rattle.script_core.specs.declared.place.Stage.{Stage}
 use Rattle.script_core.specs.declared.place.Stage.TheVariants as stages
@@ -18,8 +17,8 @@ use Rattle.script_core.specs.HeaderText.{policy_word, limits_word}
 use Rattle.script_core.specs.Words.{words_of, begins_with_hash, is_printable}
 use Rattle.script_core.specs.Arguments.{Argument, PolicyWord, LimitsWord, Spells}
 use Rattle.script_core.specs.Reading.{is_comment, IsOfScript}
-use Rattle.script_core.specs.EntryReading.{entry_limit, pieces_of, PiecesGive}
-use Rattle.script_core.specs.JournalReading.{ValueGives, OtherGives, HeadGives, BodyGives, TextGives, JournalLineGives, HasOneMeaning, JournalReading, JournalEnd, Faulty, Illegal, Legal, JournalGives, JournalsHaveOneEnd, MayGoOn, MayEnd, reading_behind, limits_at, journal_says_policy, journal_says_limits, is_report_word}
+use Rattle.script_core.specs.EntryReading.{entry_limit, pieces_of}
+use Rattle.script_core.specs.JournalReading.{ValueGives, OtherGives, HeadGives, BodyGives, TextGives, HasOneMeaning, JournalReading, JournalEnd, Faulty, Illegal, Legal, JournalGives, JournalsHaveOneEnd, MayGoOn, MayEnd, reading_behind, limits_at, journal_says_policy, journal_says_limits, is_report_word}
 use Rattle.script_core.proofs.LineLemmas.{comment_word}
 use Rattle.script_core.proofs.FirstWordsLemmas.{MatchBool-map, many_refused}
 use Rattle.script_core.proofs.HeaderLemmas.{MatchBool-join}

@@ -1,6 +1,6 @@
 -- The lines of a report in a journal, for `JournalReader`: whether it may go on with one, and whether it may end.
-use Rattle.std.proofs.Common.{◌≡◌, ◌≢◌, ℕ, ◌+◌, ◌^◌, ◌<◌, Bool, true, false, List, [], ◌∷◌, ◌++◌, Option, Some, None, MatchOption, inl, inr, ⊎_elim, refl, sym, ap, ap₂, ◌∙◌, subst, arith, lit<, append_assoc, append-nil, map, drop, suc, length}
-use Rattle.std.specs.Prelude.{IsTrue, if◌then◌else◌}
+use Rattle.std.proofs.Common.{◌≡◌, ℕ, ◌+◌, Bool, true, false, List, [], ◌∷◌, ◌++◌, Option, Some, None, MatchOption, inl, ⊎_elim, refl, sym, ap, ◌∙◌, subst, lit<, append_assoc, append-nil, map, drop, suc, length}
+use Rattle.std.specs.Prelude.{if◌then◌else◌}
 use Rattle.std.proofs.lemmas.List.{drop-drop}
 use Rattle.lock_book.specs.Changes.{mode_in, flock_mode_in}
 use Rattle.lock_book.specs.OneReport.{LocksHaveOneReport}
@@ -14,7 +14,7 @@ use Rattle.script_core.specs.declared.report.ReportLine.{ReportLine}
 use Rattle.script_core.specs.declared.report.ReportLine.TheVariants as lines
 use Rattle.script_core.specs.ReportText.{is_reported, process_text}
 use Rattle.script_core.specs.ReportReading.{line_text, IsLineOf, MayBeLeftOut, may_be_left_out, AreTextsOf, IsFirstDue, first_due, GoesOn, AreLastOf, AreReportLines, lines_from}
-use Rattle.script_core.specs.JournalReading.{rules_at, processes_at, AreLegal, IsReportAt, IsReportFront, IsWholeReport}
+use Rattle.script_core.specs.JournalReading.{rules_at, processes_at, AreLegal, IsReportFront, IsWholeReport}
 use Rattle.script_core.specs.JournalView.{AreLeft}
 
 -- each line has a text

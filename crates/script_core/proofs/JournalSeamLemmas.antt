@@ -1,18 +1,16 @@
 -- What a `JournalReader` has read once a header line, an entry or a line of the report was taken down, and whether it may end.
-use Rattle.std.proofs.Common.{◌≡◌, ◌≢◌, ℕ, Bool, true, false, List, [], ◌∷◌, ◌++◌, Option, Some, None, MatchOption, Result, Ok, Err, inl, inr, ⊎_elim, refl, sym, ap, ap₂, ◌∙◌, subst}
+use Rattle.std.proofs.Common.{◌≡◌, ◌≢◌, ℕ, true, false, List, [], ◌∷◌, ◌++◌, Option, Some, None, MatchOption, Result, Ok, Err, inl, inr, ⊎_elim, refl, sym, ap, ap₂, ◌∙◌, subst}
 use Rattle.std.specs.Prelude.{is_some, if◌then◌else◌}
 use Rattle.fd_table.specs.declared.Limits.{Limits}
 use Rattle.lock_book.specs.OneReport.{LocksHaveOneReport}
 use Rattle.lock_manager.specs.declared.request.Rules.{Rules}
 use Rattle.lock_manager.specs.State.{State}
-use Rattle.session_core.specs.declared.check.JournalChecker.{JournalChecker}
 use Rattle.session_core.specs.Checking.{HasAccepted, expected_by}
 use Rattle.session_core.specs.Event.{Event}
 use Rattle.session_core.specs.Runs.{IsRun}
 use Rattle.script_core.specs.declared.place.Stage.{Stage}
 use Rattle.script_core.specs.declared.place.Stage.TheVariants as stages
 use Rattle.script_core.specs.declared.place.Place.{Place}
-use Rattle.script_core.specs.declared.place.JournalLine.{JournalLine}
 use Rattle.script_core.specs.declared.place.JournalLine.TheVariants as lines
 use Rattle.script_core.specs.declared.journal.JournalFault.{JournalFault}
 use Rattle.script_core.specs.declared.journal.JournalFault.TheVariants as faults
@@ -22,7 +20,7 @@ use Rattle.script_core.specs.declared.report.ReportFault.TheVariants as reports
 use Rattle.script_core.specs.declared.report.ReportLine.{ReportLine}
 use Rattle.script_core.specs.ExpectedText.{due_text}
 use Rattle.script_core.specs.ReportReading.{AreTextsOf, IsFirstDue, first_due, GoesOn, AreLastOf, AreReportLines}
-use Rattle.script_core.specs.JournalReading.{JournalReading, AreLegal, IsBeforeReport, MayGoOn, MayEnd, rules_at, processes_at, reading_behind}
+use Rattle.script_core.specs.JournalReading.{JournalReading, AreLegal, IsBeforeReport, MayEnd, rules_at, processes_at}
 use Rattle.script_core.specs.JournalView.{HasRead, HasChecked, HasReported, ReportsAt, AreLeft, IsStageOf, IsAtOpening, TakesSaid, Finishes, place_of, is_spent, is_cut, cuts, expected_in, text_expected, report_expected, report_fault_of}
 use Rattle.script_core.proofs.JournalReportLemmas.{AreLeft-first, AreLeft-more, front_more, no_front, due_is, nothing_due, whole_ends, ends_whole, first_due-none}
 

@@ -1,5 +1,5 @@
 -- Which lines may stand where in a journal, for `JournalReader`: header lines before all others, and entries before the report.
-use Rattle.std.proofs.Common.{◌≡◌, ℕ, nat_lt, length, Bool, true, false, ◌&&◌, Option, Some, None, Result, Ok, Err, List, [], ◌∷◌, MatchBool, MatchResult, refl, sym, subst, ⊎_elim}
+use Rattle.std.proofs.Common.{◌≡◌, ℕ, nat_lt, length, Bool, true, false, ◌&&◌, Option, Some, None, Result, Ok, Err, List, [], ◌∷◌, MatchBool, MatchResult, refl, subst, ⊎_elim}
 use Rattle.std.specs.Prelude.{⊤, bytes_eq, is_none, codes}
 use Rattle.fd_table.specs.declared.Limits.{Limits}
 use Rattle.session_core.specs.Event.{Event}

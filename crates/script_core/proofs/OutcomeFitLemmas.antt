@@ -1,6 +1,6 @@
 -- Whatever a request comes to fits, one case for each request: the notes can be written, and there is no more than one for each process.
-use Rattle.std.proofs.Common.{◌≡◌, ◌≢◌, ℕ, zero, suc, ◌+◌, ◌-◌, ◌^◌, ◌<◌, ◌≤◌, ◌==◌, ◌&&◌, ◌||◌, ◌⊎◌, Bool, true, false, not, nat_le, nat_lt, List, [], ◌∷◌, ◌++◌, length, filter, find, Option, Some, None, Result, Ok, Err, MatchBool, MatchOption, MatchResult, inl, inr, ⊎_elim, refl, sym, ap, ◌∙◌, subst, arith, lit<, lit≤, eq-eqb, ne_eqb, append-nil, ℤ, pos, negsuc}
-use Rattle.std.specs.Prelude.{⊤, if◌then◌else◌, FitsSigned, IsTrue, IsFalse, int_lt, ◌+ℤ◌, ◌-ℤ◌, nat_abs}
+use Rattle.std.proofs.Common.{◌≡◌, ◌≢◌, ℕ, zero, suc, ◌+◌, ◌-◌, ◌^◌, ◌<◌, ◌≤◌, ◌==◌, ◌&&◌, ◌||◌, ◌⊎◌, Bool, true, false, not, nat_le, List, [], ◌∷◌, length, Option, Some, None, Result, Ok, Err, MatchBool, MatchOption, MatchResult, inl, inr, ⊎_elim, refl, sym, ap, ◌∙◌, subst, arith, lit<, eq-eqb, ne_eqb, ℤ, pos, negsuc}
+use Rattle.std.specs.Prelude.{if◌then◌else◌, FitsSigned, int_lt, ◌+ℤ◌, nat_abs}
 use Rattle.std.specs.Int.{w64}
 use Rattle.std.specs.List.{AllByRecursion as Each}
 use Rattle.std.proofs.lemmas.Int.{ints}
@@ -12,15 +12,13 @@ use Rattle.range_core.specs.declared.Mode.TheVariants as modes
 use Rattle.range_core.specs.declared.Span.{Span}
 use Rattle.range_core.specs.declared.RangeFault.{RangeFault}
 use Rattle.range_core.specs.declared.RangeFault.TheVariants.{Invalid, Overflow}
-use Rattle.range_core.specs.Facts.{MatchFact}
 use Rattle.range_core.specs.Changes.{is_covered}
-use Rattle.range_core.specs.Ranges.{HeldConflicts}
 use Rattle.range_core.specs.Resolving.{resolution, range_between, first_byte, last_byte, base_of}
 use Rattle.lock_book.specs.declared.Owner.{Owner}
 use Rattle.lock_book.specs.declared.Owner.TheVariants.{Process, Description}
 use Rattle.lock_book.specs.declared.Blocker.{Blocker}
 use Rattle.lock_book.specs.Owners.{is_same_owner}
-use Rattle.lock_book.specs.Changes.{Change, FlockChange, mode_from, mode_in, sets_byte, whole_file, flock_mode_in}
+use Rattle.lock_book.specs.Changes.{Change, mode_from, sets_byte, flock_mode_in}
 use Rattle.lock_book.specs.Conflicts.{IsFirstBlocker}
 use Rattle.fd_table.specs.declared.Access.{Access}
 use Rattle.fd_table.specs.declared.FdFault.{FdFault}
@@ -29,11 +27,11 @@ use Rattle.fd_table.specs.declared.Limits.{Limits}
 use Rattle.fd_table.specs.declared.Limits.TheVariants.{Small, Wide}
 use Rattle.fd_table.specs.declared.tables.Look.{Look}
 use Rattle.fd_table.specs.Released.{Released}
-use Rattle.fd_table.specs.Descriptors.{Descriptors, SameDescriptors, process_limit, descriptor_limit, look_at, with_descriptor}
+use Rattle.fd_table.specs.Descriptors.{Descriptors, SameDescriptors, descriptor_limit, look_at, with_descriptor}
 use Rattle.fd_table.specs.Releasing.{AreReleased}
-use Rattle.fd_table.specs.Calls.{nothing, OpenGives, DupGives, DupToGives, CloseGives, SeekGives, ResizeGives, ForkGives, EndGives}
+use Rattle.fd_table.specs.Calls.{nothing}
 use Rattle.wait_core.specs.declared.Wait.{Wait}
-use Rattle.wait_core.specs.Blocking.{IsBlocked, AllBlocked}
+use Rattle.wait_core.specs.Blocking.{IsBlocked}
 use Rattle.wait_core.specs.WaitsView.{wait_of, without_wait_of}
 use Rattle.lock_manager.specs.declared.request.Rules.{Rules}
 use Rattle.lock_manager.specs.declared.request.Errno.{Errno}
@@ -46,23 +44,22 @@ use Rattle.lock_manager.specs.declared.request.FlockOp.TheVariants.{Sh, Ex, Un}
 use Rattle.lock_manager.specs.declared.request.Request.{Request}
 use Rattle.lock_manager.specs.declared.request.Request.TheVariants.{OpenFile, Dup, DupTo, CloseFd, Seek, Resize, Lk, Flock, Fork, Exit, Signal, Kill}
 use Rattle.lock_manager.specs.declared.request.Note.{Note}
-use Rattle.lock_manager.specs.declared.request.Note.TheVariants as notes
 use Rattle.lock_manager.specs.declared.request.Reply.{Reply}
 use Rattle.lock_manager.specs.declared.request.Reply.TheVariants as replies
 use Rattle.lock_manager.specs.declared.request.ProcState.{ProcState}
 use Rattle.lock_manager.specs.declared.request.ProcState.TheVariants.{Unborn, Live, Waiting, Ended}
 use Rattle.lock_manager.specs.State.{State, locks_held, with_lock, with_byte_mode, with_flock_mode, with_process}
-use Rattle.lock_manager.specs.Settling.{Settles, IsSettled}
+use Rattle.lock_manager.specs.Settling.{IsSettled}
 use Rattle.lock_manager.specs.Outcomes.{Outcome, answered, answered_then, refused, waits_then, range_error, IsRefusal}
-use Rattle.lock_manager.specs.DescriptorCalls.{with_released, OpenComesTo, DupComesTo, DupToComesTo, CloseComesTo, DoneComesTo, SeekComesTo, ResizeComesTo}
+use Rattle.lock_manager.specs.DescriptorCalls.{with_released, OpenComesTo, DupComesTo, DupToComesTo, CloseComesTo, SeekComesTo, ResizeComesTo}
 use Rattle.lock_manager.specs.LockWords.{is_get, is_bad_argument, is_ofd, wanted_mode, permits, held_reply, reported_pid, lock_owner, wanted_lock}
-use Rattle.lock_manager.specs.LockCommands.{LockComesTo, DescribedComesTo, RangeComesTo, ModeComesTo, CommandComesTo, GetComesTo, SetComesTo, SetOrWaitComesTo, WaitOrDeadlockComesTo}
-use Rattle.lock_manager.specs.FlockCalls.{FlockComesTo, FlockOpComesTo, FlockModeComesTo, FlockTestComesTo, ConversionComesTo, is_same_mode, wanted_flock}
-use Rattle.lock_manager.specs.ProcessCalls.{ForkComesTo, EndComesTo, SignalComesTo, KillOtherComesTo, KillComesTo, without_wait}
+use Rattle.lock_manager.specs.LockCommands.{DescribedComesTo, RangeComesTo, ModeComesTo, CommandComesTo, GetComesTo, SetComesTo, SetOrWaitComesTo, WaitOrDeadlockComesTo}
+use Rattle.lock_manager.specs.FlockCalls.{FlockOpComesTo, FlockModeComesTo, FlockTestComesTo, ConversionComesTo, is_same_mode, wanted_flock}
+use Rattle.lock_manager.specs.ProcessCalls.{ForkComesTo, EndComesTo, SignalComesTo, KillOtherComesTo, without_wait}
 use Rattle.lock_manager.specs.Step.{ComesTo}
 use Rattle.script_core.specs.ScriptText.{IsProcess, IsWritable}
 use Rattle.script_core.specs.EntryReading.{IsWritableNote, IsWritableReply}
-use Rattle.script_core.proofs.FitLemmas.{IsSmallOwner, FitsChange, FitsWait, AreApart, Fits, SameProcesses, SettlesFit, each_append, each_map, each_both, apart_push, others_wait, few_processes, few_wait, lock_changes, same_locked, fits_same, released_changes, settles_fit, settles_settled, nothing_granted, blocked_more}
+use Rattle.script_core.proofs.FitLemmas.{IsSmallOwner, FitsChange, FitsWait, AreApart, Fits, SameProcesses, each_append, each_both, apart_push, others_wait, few_processes, few_wait, lock_changes, same_locked, fits_same, released_changes, settles_fit, settles_settled, blocked_more}
 
 -- a process of the limits, which lives, makes a request with such a number in a state that fits and is settled
 pub record IsAtHand (rules : Rules) (S : State) (p n : ℕ) : Type 0 where

@@ -1,32 +1,27 @@
 -- The entries of an output can be written, and are a run.
-use Rattle.std.proofs.Common.{◌≡◌, ◌≢◌, true, ℕ, zero, suc, ◌+◌, ◌^◌, ◌<◌, ◌≤◌, ◌==◌, List, [], ◌∷◌, ◌++◌, length, length-append, map, filter, All, Some, None, IfSome, slice_get, Ok, inl, inr, ⊎_elim, refl, sym, ap, ap₂, ◌∙◌, subst, arith, eq-eqb, ne_eqb, append_assoc, append-nil}
+use Rattle.std.proofs.Common.{◌≡◌, ◌≢◌, true, ℕ, zero, suc, ◌+◌, ◌^◌, ◌<◌, ◌≤◌, ◌==◌, List, [], ◌∷◌, ◌++◌, length, length-append, All, Some, None, IfSome, slice_get, ⊎_elim, refl, sym, ap, ap₂, ◌∙◌, subst, arith, eq-eqb, ne_eqb, append_assoc, append-nil}
 use Rattle.std.specs.List.{AllByRecursion as Each}
 use Rattle.std.proofs.lemmas.Bool.{cases_eq}
 use Rattle.std.proofs.lemmas.List.Elements.{All-from_recursion, recursion_from_All, filter-append}
-use Rattle.fd_table.specs.declared.Limits.{Limits}
 use Rattle.fd_table.specs.Descriptors.{process_limit, opening_descriptors}
 use Rattle.lock_manager.specs.declared.request.Rules.{Rules}
 use Rattle.lock_manager.specs.declared.request.Request.{Request}
 use Rattle.lock_manager.specs.declared.request.ProcState.TheVariants.{Unborn}
 use Rattle.lock_manager.specs.State.{State, opening_state}
 use Rattle.lock_manager.specs.Settling.{IsSettled}
-use Rattle.lock_manager.specs.Step.{Step}
 use Rattle.session_core.specs.Event.{Event}
 use Rattle.session_core.specs.Runs.{Leads, IsStep, IsRun, AreNumbered, events_of}
 use Rattle.session_core.specs.Mail.{requests_sent}
-use Rattle.session_core.specs.Draining.{next_untaken, IsNext, TakesMail, DrainsFrom, IsDrain}
-use Rattle.script_core.specs.declared.place.Place.{Place}
+use Rattle.session_core.specs.Draining.{TakesMail, DrainsFrom}
 use Rattle.script_core.specs.Words.{script_limit}
-use Rattle.script_core.specs.ScriptText.{Meaning, IsProcess, IsWritable}
-use Rattle.script_core.specs.Reading.{Reads}
 use Rattle.script_core.specs.EntryReading.{IsWritableNote, IsWritableEvent}
-use Rattle.script_core.specs.JournalReading.{rules_at, processes_at, limits_at, AreLegal}
+use Rattle.script_core.specs.JournalReading.{rules_at}
 use Rattle.script_core.specs.Output.{IsOutput, processes_in}
 use Rattle.script_core.specs.OutputReading.{EntriesOfOutputsAreLegal}
 use Rattle.script_core.proofs.ProcessLemmas.{IsArrivalOf, arrivals_read, few_read}
 use Rattle.script_core.proofs.JournalBackLemmas.{journals_read_back}
 use Rattle.script_core.proofs.FitLemmas.{Fits, each_append, settles_fit, settles_settled, nothing_granted}
-use Rattle.script_core.proofs.OutcomeFitLemmas.{OutcomeFits, request_fits}
+use Rattle.script_core.proofs.OutcomeFitLemmas.{request_fits}
 
 -- ---- a step
 

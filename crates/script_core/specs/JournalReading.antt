@@ -23,7 +23,7 @@ use Rattle.script_core.specs.Reading.{is_comment}
 use Rattle.script_core.specs.EntryText.{entry_text}
 use Rattle.script_core.specs.declared.report.ReportLine.{ReportLine}
 use Rattle.script_core.specs.ReportReading.{AreTextsOf, AreReportLines}
-use Rattle.script_core.specs.EntryReading.{entry_limit, pieces_of, PiecesGive, HaveNote, IsWritableEvent}
+use Rattle.script_core.specs.EntryReading.{entry_limit, pieces_of, PiecesGive, IsWritableEvent}
 
 -- no line said anything
 abbrev pub opening_place : Place
