@@ -11,6 +11,7 @@ sed -n 's/^## /lockreplay /p' "$(dirname "$0")/../CHANGELOG.md" | head -n 1 > "$
 cd "$work/here"
 cp conversion ./-conversion
 cp deadlock ./-
+for name in -- --help --threads; do cp conversion "./$name"; done
 passed=0
 failed=0
 
@@ -59,6 +60,7 @@ check 0 long.out empty long
 check 0 conversion.out empty conversion -
 check 0 conversion.out empty conversion -- -
 check 0 deadlock.out empty conversion ./-
+for name in -- --help --threads; do check 0 conversion.out empty deadlock -- "$name"; done
 check 2 empty faulty.err empty faulty
 check 2 empty faulty.err faulty
 
@@ -82,6 +84,11 @@ check 2 empty two-files.err empty -- conversion missing
 check 2 empty unknown-flag.err empty --thread
 check 2 empty unknown-flag.err conversion --thread conversion
 check 2 empty threads-twice.err empty --threads --threads
+check 2 empty valued-flag.err empty --threads=true
+check 2 empty short-flag.err empty -t
+check 2 empty short-flag.err empty -t conversion
+check 2 empty help.err empty conversion -h
+check 2 empty version.err empty -V conversion
 
 # A check of an output: it is legal as a whole, and as far as its entries go; the first line is told that no run has there; and the
 # first that is faulty. The header lines of its script stand before it.
@@ -91,6 +98,7 @@ check 0 empty empty empty deadlock.out --check
 check 0 empty empty empty --check empty
 check 3 illegal.out empty empty --check illegal
 check 3 illegal.out empty illegal --check -
+check 3 illegal.out empty empty illegal --check
 check 3 cut.out empty empty --check cut
 check 0 empty empty queued.journal --check
 check 3 queued.out empty empty --check queued.headless
@@ -125,6 +133,7 @@ check 2 empty explain-twice.err empty --explain --explain
 check 0 conversion.out empty empty --threads conversion
 check 0 conversion.out empty empty conversion --threads
 check 0 conversion.out empty conversion --threads
+check 0 conversion.out empty deadlock --threads -- --threads
 check 0 empty.out empty conversion --threads empty
 check 0 long.out empty long --threads
 check 2 empty faulty.err empty --threads faulty

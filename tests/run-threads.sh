@@ -11,11 +11,11 @@ trap 'rm -rf "$work"' EXIT
 # serial SCRIPT OUTPUT: the script in the order of the journal that the output begins with.
 serial() {
     awk '
-        NR == FNR && (NF == 0 || /^#/) { next }
-        NR == FNR && !/^[0-9]/ { print; next }
-        NR == FNR { line[$1, ++sent[$1]] = $0; next }
+        script && (NF == 0 || /^#/) { next }
+        script && !/^[0-9]/ { print; next }
+        script { line[$1, ++sent[$1]] = $0; next }
         /^[0-9]+#/ { split($1, event, "#"); print line[event[1], event[2]]; taken[event[1]] = event[2] }
-        END { for (p in sent) for (n = taken[p] + 1; n <= sent[p]; n++) print line[p, n] }' "$1" "$2"
+        END { for (p in sent) for (n = taken[p] + 1; n <= sent[p]; n++) print line[p, n] }' script=1 "$1" script=0 "$2"
 }
 
 # judge SCRIPT OUTPUT: the output is that of its own order.

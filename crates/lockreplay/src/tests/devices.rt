@@ -1,10 +1,9 @@
-//! Runs on devices that fail, move a byte at a time, or never end.
-ghost use Rattle.std.specs.Prelude.{◌≤◌, None, false};
+//! Runs on devices that fail, are interrupted, or move a byte at a time.
+ghost use Rattle.std.specs.Prelude.{◌≤◌, None};
 
 use crate::devices::{DeviceFault, FromReader, Sink, Source, ToWriter};
 use crate::options::Detail;
 use crate::replay::{RunFault, replay};
-use script_core::{Cause, SCRIPT_MAX, ScriptFault};
 use std::alloc::Global;
 use std::io;
 use std::io::{Read, Write};
@@ -63,33 +62,6 @@ impl Source for Scripted {
     }
 }
 
-/// The same byte without end.
-#[derive(Drop)]
-pub struct Endless {
-    byte: u8,
-    pub calls: u64,
-}
-
-impl Endless {
-    /// A source of this byte.
-    pub fn new(byte: u8) -> Endless {
-        Endless { byte, calls: 0 }
-    }
-}
-
-impl Source for Endless {
-    ghost remaining = { λ source. None };
-
-    ghost failed = { λ source. false };
-
-    ghost calls = { λ source. source.calls };
-
-    fn read_byte(&mut self) -> Result<Option<u8>, DeviceFault> {
-        self.calls = self.calls.saturating_add(1);
-        Ok(Some(self.byte))
-    }
-}
-
 /// A sink that takes so many bytes of each text at most, and fails once it has so many.
 #[derive(Drop)]
 pub struct Narrow {
@@ -133,20 +105,6 @@ impl Sink for Narrow {
             return Err(DeviceFault);
         }
         Ok(count)
-    }
-}
-
-/// A writer that takes nothing.
-#[derive(Drop)]
-struct Full;
-
-impl Write for Full {
-    fn write(&mut self, buf: &[u8]) -> io::Result<usize> {
-        Ok(0)
-    }
-
-    fn flush(&mut self) -> io::Result<()> {
-        Ok(())
     }
 }
 
@@ -246,17 +204,6 @@ impl Write for FailingWriter {
     }
 }
 
-/// A reader that gives line feeds without end.
-#[derive(Drop)]
-struct EndlessReader;
-
-impl Read for EndlessReader {
-    fn read(&mut self, buf: &mut [u8]) -> io::Result<usize> {
-        buf.fill(b'\n');
-        Ok(buf.len())
-    }
-}
-
 /// Where a source fails, the run is told so, and nothing is written: at each byte, and where the end would come.
 #[test]
 fn tells_a_source_that_fails(rt: HostRuntime) -> Result<(), Fail> {
@@ -326,16 +273,6 @@ fn tells_a_sink_that_fails(rt: HostRuntime) -> Result<(), Fail> {
     Ok(())
 }
 
-/// A write of no byte is a fault.
-#[test]
-fn tells_a_writer_that_takes_nothing(rt: HostRuntime) -> Result<(), Fail> {
-    let mut source = FromReader::new(SCRIPT.as_bytes());
-    let mut sink = ToWriter::new(Full);
-    let result = replay(rt.alloc(), Detail::Plain, &mut source, &mut sink);
-    assert_eq!(rt; result, Err(RunFault::Write));
-    Ok(())
-}
-
 /// An interrupted call of a reader or a writer is a fault, as each error is, and isn't made again.
 #[test]
 fn tells_an_interrupted_call(rt: HostRuntime) -> Result<(), Fail> {
@@ -349,54 +286,6 @@ fn tells_an_interrupted_call(rt: HostRuntime) -> Result<(), Fail> {
     let mut sink = ToWriter::new(InterruptedWriter { was_called: false });
     let result = replay(rt.alloc(), Detail::Plain, &mut source, &mut sink);
     assert_eq!(rt; result, Err(RunFault::Write));
-    Ok(())
-}
-
-/// A source without end is read up to one byte past the longest script.
-#[test]
-fn refuses_a_source_without_end(rt: HostRuntime) -> Result<(), Fail> {
-    let mut source = Endless::new(b' ');
-    let mut sink = ToWriter::new(Vec::new(rt.alloc()));
-    let fault = ScriptFault {
-        line: 0,
-        cause: Cause::TooLong,
-    };
-    let result = replay(rt.alloc(), Detail::Plain, &mut source, &mut sink);
-    assert_eq!(rt; result, Err(RunFault::Script(fault)));
-    assert_eq!(rt; source.calls, SCRIPT_MAX as u64 + 1);
-    assert!(rt; sink.into_inner().is_empty());
-    Ok(())
-}
-
-/// The longest script has [`SCRIPT_MAX`] bytes, whatever its lines are.
-#[test]
-fn accepts_the_longest_script(rt: HostRuntime) -> Result<(), Fail> {
-    let mut feeds = vec![in rt.alloc(); b'\n'; SCRIPT_MAX]?;
-    let mut sink = ToWriter::new(Vec::new(rt.alloc()));
-    let longest = replay(
-        rt.alloc(),
-        Detail::Plain,
-        &mut FromReader::new(feeds.as_slice()),
-        &mut sink,
-    );
-    assert_eq!(rt; longest, Ok(()));
-    let empty = "proc 1 sent 0 taken 0 answered 0 live\n";
-    assert_eq!(rt; sink.into_inner().as_slice(), empty.as_bytes());
-
-    feeds.push(b'\n')?;
-    let mut sink = ToWriter::new(Vec::new(rt.alloc()));
-    let fault = ScriptFault {
-        line: 0,
-        cause: Cause::TooLong,
-    };
-    let longer = replay(
-        rt.alloc(),
-        Detail::Plain,
-        &mut FromReader::new(feeds.as_slice()),
-        &mut sink,
-    );
-    assert_eq!(rt; longer, Err(RunFault::Script(fault)));
-    assert!(rt; sink.into_inner().is_empty());
     Ok(())
 }
 
@@ -463,24 +352,5 @@ fn tells_a_writer_that_fails(rt: HostRuntime) -> Result<(), Fail> {
         check_writer(&rt, rt.alloc(), takes, Refusal::Fails);
         check_writer(&rt, rt.alloc(), takes, Refusal::TakesNothing);
     }
-    Ok(())
-}
-
-/// A reader without end has too long a script, whatever its lines are.
-#[test]
-fn refuses_a_reader_without_end(rt: HostRuntime) -> Result<(), Fail> {
-    let mut sink = ToWriter::new(Vec::new(rt.alloc()));
-    let fault = ScriptFault {
-        line: 0,
-        cause: Cause::TooLong,
-    };
-    let result = replay(
-        rt.alloc(),
-        Detail::Plain,
-        &mut FromReader::new(EndlessReader),
-        &mut sink,
-    );
-    assert_eq!(rt; result, Err(RunFault::Script(fault)));
-    assert!(rt; sink.into_inner().is_empty());
     Ok(())
 }

@@ -1,13 +1,6 @@
 //! Scripts whose processes run in threads of their own.
-use super::limits_rows::LIMITS_ROWS;
-use super::look_at_outcome;
-use super::policy_rows::POLICY_ROWS;
-use super::rows::{ROWS, Row};
-use super::waiting_rows::WAITING_ROWS;
 use crate::caller::{Answer, Watch};
-use crate::devices::{FromReader, ToWriter};
-use crate::in_threads::{Nobody, replay_in_threads};
-use crate::options::Detail;
+use crate::in_threads::Nobody;
 use crate::threads::replay_threads;
 use lock_manager::Note;
 use script_core::{Script, parse};
@@ -114,104 +107,48 @@ fn look_at_run<R: Threads + Wait + Clock + Sync + Abort>(
     Ok(())
 }
 
-/// Runs the script of the row in threads, again and again.
-fn run_often<R: Threads + Wait + Clock + Sync + Abort>(
-    rt: &R,
-    alloc: Global,
-    row: &Row,
-) -> Result<(), Fail> {
-    if let Ok(script) = parse(alloc, row.script.as_bytes()) {
+/// Scripts of waits that end in each way, one under the other policy.
+const SCRIPTS: [&str; 3] = [
+    "1 open 0 rw
+1 fork 2
+1 setlk 0 w set 0 1
+2 setlk 0 w set 1 1
+1 setlkw 0 w set 1 1
+2 setlkw 0 w set 0 1
+2 setlk 0 u set 1 1
+",
+    "1 open 0 rw
+1 fork 2
+1 fork 3
+1 setlk 0 w set 0 1
+2 setlkw 0 w set 0 1
+3 signal 2
+2 flock 0 ex
+3 kill 2
+3 exit
+",
+    "policy queue
+1 open 0 rw
+1 fork 2
+1 fork 3
+1 setlk 0 r set 0 10
+2 setlkw 0 w set 0 10
+3 setlkw 0 r set 0 10
+1 setlk 0 u set 0 10
+",
+];
+
+/// The journals of all orders that come are runs, of which each process collected its answers.
+#[test]
+fn processes_collect_their_answers_often(rt: HostRuntime) -> Result<(), Fail> {
+    let alloc = rt.alloc();
+    for text in SCRIPTS {
+        let script = parse(alloc, text.as_bytes())?;
         for _ in 0..RUNS {
-            look_at_run(rt, alloc, &script)?;
+            look_at_run(&rt, alloc, &script)?;
         }
     }
     Ok(())
-}
-
-/// Runs the scripts of the rows in threads, again and again.
-fn run_all_often<R: Threads + Wait + Clock + Sync + Abort>(
-    rt: &R,
-    alloc: Global,
-    rows: &[Row],
-) -> Result<(), Fail> {
-    for row in rows {
-        run_often(rt, alloc, row)?;
-    }
-    Ok(())
-}
-
-#[test]
-fn scripts_run_in_threads_often(rt: HostRuntime) -> Result<(), Fail> {
-    run_all_often(&rt, rt.alloc(), &ROWS)
-}
-
-#[test]
-fn waits_run_in_threads_often(rt: HostRuntime) -> Result<(), Fail> {
-    run_all_often(&rt, rt.alloc(), &WAITING_ROWS)
-}
-
-#[test]
-fn policies_run_in_threads_often(rt: HostRuntime) -> Result<(), Fail> {
-    run_all_often(&rt, rt.alloc(), &POLICY_ROWS)
-}
-
-#[test]
-fn limits_run_in_threads_often(rt: HostRuntime) -> Result<(), Fail> {
-    run_all_often(&rt, rt.alloc(), &LIMITS_ROWS)
-}
-
-/// Whether the text of the script's run is open to the order of its processes.
-fn has_several_processes(alloc: Global, row: &Row) -> bool {
-    match parse(alloc, row.script.as_bytes()) {
-        Ok(script) => script.arrivals.iter().any(|arrival| arrival.0 != 1),
-        Err(_) => false,
-    }
-}
-
-/// The script gives the same in threads, where one process requests, or it is faulty.
-fn check<R: Threads + Wait + Clock + Sync + Abort>(
-    rt: &R,
-    alloc: Global,
-    row: &Row,
-) -> Result<(), Fail> {
-    let mut source = FromReader::new(row.script.as_bytes());
-    let mut sink = ToWriter::new(Vec::new(alloc));
-    let outcome = replay_in_threads(rt, alloc, Detail::Plain, &mut source, &mut sink);
-    look_at_outcome(rt, alloc, row, outcome, &sink.into_inner())
-}
-
-/// The scripts of one process, and the faulty ones.
-fn check_all<R: Threads + Wait + Clock + Sync + Abort>(
-    rt: &R,
-    alloc: Global,
-    rows: &[Row],
-) -> Result<(), Fail> {
-    for row in rows {
-        if !has_several_processes(alloc, row) {
-            check(rt, alloc, row)?;
-        }
-    }
-    Ok(())
-}
-
-#[test]
-fn one_process_prints_the_same_in_a_thread(rt: HostRuntime) -> Result<(), Fail> {
-    check_all(&rt, rt.alloc(), &ROWS)
-}
-
-#[test]
-fn one_process_that_waits_prints_the_same_in_a_thread(rt: HostRuntime) -> Result<(), Fail> {
-    check_all(&rt, rt.alloc(), &WAITING_ROWS)
-}
-
-#[test]
-fn one_process_with_a_policy_prints_the_same_in_a_thread(rt: HostRuntime) -> Result<(), Fail> {
-    check_all(&rt, rt.alloc(), &POLICY_ROWS)
-}
-
-#[test]
-fn one_process_with_limits_prints_the_same_in_a_thread(rt: HostRuntime) -> Result<(), Fail> {
-    check_all(&rt, rt.alloc(), &LIMITS_ROWS)
 }
 
 /// A script of 64 processes, each of which opens a file and locks a byte.
