@@ -45,7 +45,7 @@ edits:
 	tests/edit-reasons $(EDITS)
 
 # Refuses each growth of runs on the sample in turn, and of the tests that look what a refusal leaves, on what was built.
-TESTED := lock_book_tests fd_table_tests lock_server_tests lock_manager_tests session_core_tests call_table
+TESTED := lock_book_tests fd_table_tests lock_server_tests lock_manager_tests session_core_tests
 memory: build
 	sh tests/refuse-growths.sh $(PROGRAM)
 	sh tests/refuse-growths.sh $(PROGRAM) crates/lockreplay/stdin
@@ -53,10 +53,10 @@ memory: build
 	sh tests/refuse-growths.sh $(PROGRAM) --threads tests/command-line/handed-over
 	sh tests/refuse-growths.sh $(PROGRAM) --explain tests/command-line/explained
 	sh tests/refuse-growths.sh $(PROGRAM) --threads --explain tests/command-line/handed-over
-	@for crate in $(TESTED) script_core_tests; do (cd crates/$$crate && rt test) > crates/$$crate/out/test.log 2>&1 \
+	@for crate in $(TESTED) call_table_tests script_core_tests; do (cd crates/$$crate && rt test) > crates/$$crate/out/test.log 2>&1 \
 	    || { cat crates/$$crate/out/test.log >&2; exit 1; }; done
-	@for crate in $(filter %_tests,$(TESTED)); do sh tests/refuse-growths-in-tests.sh crates/$$crate/out/$${crate}_tests || exit 1; done
-	sh tests/refuse-growths-in-tests.sh crates/call_table/out/call_table_tests . 'Memory|SpawnError'
+	@for crate in $(TESTED); do sh tests/refuse-growths-in-tests.sh crates/$$crate/out/$${crate}_tests || exit 1; done
+	sh tests/refuse-growths-in-tests.sh crates/call_table_tests/out/call_table_tests_tests . 'Memory|SpawnError'
 	sh tests/refuse-growths-in-tests.sh crates/script_core_tests/out/script_core_tests_tests memory
 
 # Refuses each thread and each growth of runs in threads in turn, and runs scripts in threads TIMES times: each order is judged by a run

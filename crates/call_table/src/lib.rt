@@ -18,8 +18,6 @@ mod served;
 mod setup;
 mod spelling;
 mod tally;
-#[cfg(test)]
-mod tests;
 mod view;
 
 pub use before::Before;

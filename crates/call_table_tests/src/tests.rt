@@ -1,19 +1,16 @@
-//! Clients and a desk, in one thread and in several: what no clause says of a table.
+//! Benches and tables, in one thread and in several: what no clause says of them.
+mod bench;
 mod threads;
 
-ghost use Rattle.std.specs.Prelude.{◌≡◌, ◌≤◌, IfOk};
+ghost use Rattle.std.specs.Prelude.{◌≤◌, IfOk};
 ghost use Rattle.fd_table.specs.Descriptors.{process_limit};
 ghost use Rattle.call_table.specs.Desks.{IsDeskOf, IsOpened, SameDesk};
 ghost use Rattle.call_table.specs.Shown.{IsClientOf};
 
-use crate::indexes::{
-    answer_index, answered_index, posted_index, request_index, taken_index, words_in,
-};
-use crate::spelling::{spell_answer, spell_request};
-use crate::{Busy, Client, Desk, Gate, Hub, Served, Setup, open_hub};
+use call_table::{Busy, Client, Desk, Gate, Hub, Served, open_hub};
 use fd_table::{Access, Limits};
-use lock_manager::{Errno, LkCmd, Lock, Reply, Request, Rules};
-use range_core::{Kind, Memory, Whence};
+use lock_manager::{Reply, Request, Rules};
+use range_core::Memory;
 use std::alloc::Global;
 use std::process::Abort;
 use std::test::Fail;
@@ -155,57 +152,5 @@ fn the_last_of_many_clients_has_its_cells(rt: HostRuntime) -> Result<(), Fail> {
     let busy = Err(Busy { request: FORK });
     assert_eq!(rt; last.post(&hub, FORK), busy);
     assert_eq!(rt; last.collect(&hub), None);
-    Ok(())
-}
-
-fn setup_of(processes: u8, depth: u8) -> Setup
-    ensures { (result.processes ≡ processes) × (result.depth ≡ depth) }
-{
-    Setup {
-        processes,
-        depth,
-        rules: RULES,
-    }
-}
-
-/// The words stand where the documents say.
-#[test]
-fn words_have_their_places(rt: HostRuntime) -> Result<(), Fail> {
-    assert_eq!(rt; words_in(&setup_of(2, 1)), 31);
-    assert_eq!(rt; words_in(&setup_of(64, 32)), 24769);
-    let setup = setup_of(2, 4);
-    assert_eq!(rt; posted_index(&setup, 2), 2);
-    assert_eq!(rt; taken_index(&setup, 2), 4);
-    assert_eq!(rt; answered_index(&setup, 2), 6);
-    assert_eq!(rt; request_index(&setup, 1, 4, 0), 7);
-    assert_eq!(rt; request_index(&setup, 1, 4, 5), 12);
-    assert_eq!(rt; answer_index(&setup, 1, 4, 0), 31);
-    assert_eq!(rt; answer_index(&setup, 1, 4, 5), 36);
-    Ok(())
-}
-
-/// A request and an answer are spelled as the documents say.
-#[test]
-fn words_spell(rt: HostRuntime) -> Result<(), Fail> {
-    let lock = Lock {
-        kind: Kind::Write,
-        whence: Whence::Set,
-        start: 10,
-        len: -10,
-        pid: 0,
-    };
-    let request = Request::Lk {
-        fd: 0,
-        cmd: LkCmd::SetLk,
-        lock,
-    };
-    assert_eq!(rt;
-        spell_request(request),
-        [8, 0, 1, 10, 18446744073709551606, 0]
-    );
-    assert_eq!(rt;
-        spell_answer(Reply::Err(Errno::EMFILE), 9),
-        [5, 7, 0, 0, 0, 9]
-    );
     Ok(())
 }

@@ -1,7 +1,7 @@
 //! More requests than any plausible cap of a table.
 use super::super::table_of_two;
 use super::{Caller, Open, Server, make_second, with_hub};
-use crate::Served;
+use call_table::Served;
 use lock_manager::{Reply, Request};
 use range_core::Memory;
 use std::process::Abort;

@@ -1,5 +1,5 @@
-use Rattle.call_table.proofs.PoppedLemmas.{popped_last}
-use Rattle.call_table.proofs.tests.last_of_many.Goals as goal
+use Rattle.call_table_tests.proofs.PoppedLemmas.{popped_last}
+use Rattle.call_table_tests.proofs.tests.last_of_many.Goals as goal
 
 pub returns : goal.returns
 returns g c =

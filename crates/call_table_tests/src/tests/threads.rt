@@ -5,7 +5,7 @@ ghost use Rattle.call_table.specs.Desks.{IsDeskOf};
 ghost use Rattle.call_table.specs.Shown.{IsClientOf};
 
 use super::{FORK, OPEN, OPEN_TO_READ, Open, RULES, serve, table_of_two};
-use crate::{Busy, Client, Desk, Gate, Hub, Served};
+use call_table::{Busy, Client, Desk, Gate, Hub, Served};
 use lock_manager::{LkCmd, Lock, Note, ProcState, Reply, Request};
 use range_core::{Kind, Memory, Whence};
 use session_core::{Session, check_journal};
