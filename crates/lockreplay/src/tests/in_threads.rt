@@ -138,15 +138,25 @@ const SCRIPTS: [&str; 3] = [
 ",
 ];
 
+/// Runs the script in threads, again and again.
+fn run_often<R: Threads + Wait + Clock + Sync + Abort>(
+    rt: &R,
+    alloc: Global,
+    text: &str,
+) -> Result<(), Fail> {
+    let script = parse(alloc, text.as_bytes())?;
+    for _ in 0..RUNS {
+        look_at_run(rt, alloc, &script)?;
+    }
+    Ok(())
+}
+
 /// The journals of all orders that come are runs, of which each process collected its answers.
 #[test]
 fn processes_collect_their_answers_often(rt: HostRuntime) -> Result<(), Fail> {
     let alloc = rt.alloc();
-    for text in SCRIPTS {
-        let script = parse(alloc, text.as_bytes())?;
-        for _ in 0..RUNS {
-            look_at_run(&rt, alloc, &script)?;
-        }
+    for text in &SCRIPTS {
+        run_often(&rt, alloc, text)?;
     }
     Ok(())
 }
