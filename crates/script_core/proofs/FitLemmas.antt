@@ -59,6 +59,7 @@ pub record FitsLocks (S : State) : Type 0 where
 -- the lock that is asked for is of such an owner, within a file that there is
 pub record FitsWanted (wait : Wait) : Type 0 where
   pub owner : IsSmallOwner wait.owner
+  pub first : wait.span.first ≤ OFFMAX
   pub last : wait.span.last ≤ OFFMAX
   pub file : wait.file < FILES
 

@@ -231,6 +231,10 @@ locked_fits rules S U wait grants outcome h fits told few fit is =
 
 -- ---- lock commands
 
+-- no byte lies past the largest offset
+abbrev IsWithin : Span → Type 0
+IsWithin span = (span.first ≤ OFFMAX) × (span.last ≤ OFFMAX)
+
 -- a mode that is held was set by a change, whose owner and bytes fit
 same_owner : (one other : Owner) → is_same_owner one other ≡ true → IsSmallOwner one → IsSmallOwner other
 same_owner (Process p) (Process q) is small = let same = eqb-true p q is in omega (arith, same, small)
@@ -334,26 +338,26 @@ by_bool true is hit miss = hit is
 by_bool false is hit miss = miss is
 
 mode_comes_fit : (rules : Rules) (S : State) (p n : ℕ) (cmd : LkCmd) (look : Look) (span : Span) (mode : Mode) (outcome : Outcome) → IsAtHand rules S p n
-    → FitsLook look → span.last ≤ OFFMAX → ModeComesTo rules S p n cmd look span mode outcome → OutcomeFits rules outcome
-mode_comes_fit rules S p n cmd look span mode outcome h fit last is =
+    → FitsLook look → IsWithin span → ModeComesTo rules S p n cmd look span mode outcome → OutcomeFits rules outcome
+mode_comes_fit rules S p n cmd look span mode outcome h fit within is =
     by_bool (is_get cmd || permits look.access mode) is
     (λ yes. command_fits rules S cmd (wanted_lock cmd p n look span mode) outcome h
-    (record { owner = owner_fits cmd p look (few_processes rules.limits p h.process) fit; last = last; file = fit.0 }) yes)
+    (record { owner = owner_fits cmd p look (few_processes rules.limits p h.process) fit; first = within.0; last = within.1; file = fit.0 }) yes)
     (λ no. refused_fits rules S p n _ outcome h no)
 
 range_fits : (rules : Rules) (S : State) (p n : ℕ) (cmd : LkCmd) (kind : Kind) (look : Look) (span : Span) (wanted : Option Mode) (outcome : Outcome)
-    → IsAtHand rules S p n → FitsLook look → span.last ≤ OFFMAX
+    → IsAtHand rules S p n → FitsLook look → IsWithin span
     → MatchOption wanted (outcome ≡ answered (with_byte_mode S look.file (lock_owner cmd p look) span None) p n replies.Ok)
     (λ mode. ModeComesTo rules S p n cmd look span mode outcome) → OutcomeFits rules outcome
-range_fits rules S p n cmd kind look span None outcome h fit last is =
+range_fits rules S p n cmd kind look span None outcome h fit within is =
     answers_fit rules S (with_byte_mode S look.file (lock_owner cmd p look) span None) p n replies.Ok outcome h
     (record { states = refl; waits = refl; alive = λ q. refl })
     (record {
-      changes = each_append FitsChange S.changes _ h.fits.locks.changes (record { owner = owner_fits cmd p look (few_processes rules.limits p h.process) fit; last = last }, tt);
+      changes = each_append FitsChange S.changes _ h.fits.locks.changes (record { owner = owner_fits cmd p look (few_processes rules.limits p h.process) fit; last = within.1 }, tt);
       flocks = h.fits.locks.flocks;
       files = h.fits.locks.files;
     }) tt is
-range_fits rules S p n cmd kind look span (Some mode) outcome h fit last is = mode_comes_fit rules S p n cmd look span mode outcome h fit last is
+range_fits rules S p n cmd kind look span (Some mode) outcome h fit within is = mode_comes_fit rules S p n cmd look span mode outcome h fit within is
 
 -- ---- a range lies within files
 
@@ -373,21 +377,23 @@ last_not_negative start (negsuc n) low =
     let at = not_negative (start +ℤ negsuc n) low in
     let from : start +ℤ negsuc n ≡ pos at.0 = at.1 in (at.0 + n, omega (arith, ints, from))
 
-last_within : (last : ℤ) (first : ℤ) (span : Span) → ((n : ℕ) × (last ≡ pos n)) → int_lt (pos OFFMAX) last ≡ false
-    → ◌≡◌ {A = Result Span RangeFault} (Ok (record { first = nat_abs first; last = nat_abs last })) (Ok span) → span.last ≤ OFFMAX
-last_within last first span at low is =
-    let n : ℕ = at.0 in
-    let whole : int_lt (pos OFFMAX) (pos n) ≡ false = subst (λ (z : ℤ). int_lt (pos OFFMAX) z ≡ false) at.1 low in
-    let same : span.last ≡ n = ap span_last (sym is) ∙ ap nat_abs at.1 in
-    let few = within_file n whole in
-    omega (arith, same, few)
+-- what the range of two such bytes is
+is_range : (first last : ℤ) (span : Span) → ((n : ℕ) × (first ≡ pos n)) → ((n : ℕ) × (last ≡ pos n)) → int_lt (pos OFFMAX) first ≡ false
+    → int_lt (pos OFFMAX) last ≡ false
+    → ◌≡◌ {A = Result Span RangeFault} (Ok (record { first = nat_abs first; last = nat_abs last })) (Ok span) → IsWithin span
+is_range first last span at to low high is =
+    let begins = within_file at.0 (subst (λ (z : ℤ). int_lt (pos OFFMAX) z ≡ false) at.1 low) in
+    let ends = within_file to.0 (subst (λ (z : ℤ). int_lt (pos OFFMAX) z ≡ false) to.1 high) in
+    let first_is : span.first ≡ at.0 = ap (λ r. (span_of r).first) (sym is) ∙ ap nat_abs at.1 in
+    let last_is : span.last ≡ to.0 = ap (λ r. (span_of r).last) (sym is) ∙ ap nat_abs to.1 in
+    (omega (arith, first_is, begins), omega (arith, last_is, ends))
   where
-    span_last : Result Span RangeFault → ℕ
-    span_last (Ok s) = s.last
-    span_last (Err fault) = 0
+    span_of : Result Span RangeFault → Span
+    span_of (Ok s) = s
+    span_of (Err fault) = span
 
 between : (first last : ℤ) (span : Span) (low high far : Bool) → int_lt first (pos 0) ≡ low → int_lt (pos OFFMAX) first ≡ high → int_lt (pos OFFMAX) last ≡ far
-    → (int_lt first (pos 0) ≡ false → (n : ℕ) × (last ≡ pos n)) → range_between first last ≡ Ok span → span.last ≤ OFFMAX
+    → (int_lt first (pos 0) ≡ false → (n : ℕ) × (last ≡ pos n)) → range_between first last ≡ Ok span → IsWithin span
 between first last span true high far is_low is_high is_far some is =
     absurd (let bad : ◌≡◌ {A = Result Span RangeFault} (Err Invalid) (Ok span) = rw is_low at is in cc)
 between first last span false true far is_low is_high is_far some is =
@@ -395,9 +401,9 @@ between first last span false true far is_low is_high is_far some is =
 between first last span false false true is_low is_high is_far some is =
     absurd (let bad : ◌≡◌ {A = Result Span RangeFault} (Err Overflow) (Ok span) = rw (is_low, is_high, is_far) at is in cc)
 between first last span false false false is_low is_high is_far some is =
-    last_within last first span (some is_low) is_far (rw (is_low, is_high, is_far) at is)
+    is_range first last span (not_negative first is_low) (some is_low) is_high is_far (rw (is_low, is_high, is_far) at is)
 
-resolved_within : (lock : Lock) (look : Look) (span : Span) → resolution lock.whence lock.start lock.len look.offset look.size ≡ Ok span → span.last ≤ OFFMAX
+resolved_within : (lock : Lock) (look : Look) (span : Span) → resolution lock.whence lock.start lock.len look.offset look.size ≡ Ok span → IsWithin span
 resolved_within lock look span is =
     let from = pos (base_of lock.whence look.offset look.size) +ℤ lock.start in
     between (first_byte from lock.len) (last_byte from lock.len) span _ _ _ refl refl refl (last_not_negative from lock.len) is
@@ -480,10 +486,10 @@ flock_op_fits rules S p n look Un nb outcome h fit is =
     (flock_locks S look.file look.desc None fit.1 h.fits.locks) tt is
 flock_op_fits rules S p n look Sh nb outcome h fit is =
     flock_mode_fits rules S look nb (wanted_flock p n look modes.Read) (flock_mode_in S.flock_changes look.file look.desc) outcome h fit
-    (record { owner = fit.1; last = omega arith; file = fit.0 }) is
+    (record { owner = fit.1; first = omega arith; last = omega arith; file = fit.0 }) is
 flock_op_fits rules S p n look Ex nb outcome h fit is =
     flock_mode_fits rules S look nb (wanted_flock p n look modes.Write) (flock_mode_in S.flock_changes look.file look.desc) outcome h fit
-    (record { owner = fit.1; last = omega arith; file = fit.0 }) is
+    (record { owner = fit.1; first = omega arith; last = omega arith; file = fit.0 }) is
 
 flock_fits : (rules : Rules) (S : State) (p n fd : ℕ) (op : FlockOp) (nb : Bool) (look : Option Look) (outcome : Outcome) → IsAtHand rules S p n
     → look_at S.descriptors p fd ≡ look

@@ -17,7 +17,6 @@ use Rattle.script_core.specs.Words.{script_limit}
 use Rattle.script_core.specs.EntryReading.{IsWritableNote, IsWritableEvent}
 use Rattle.script_core.specs.JournalReading.{rules_at}
 use Rattle.script_core.specs.Output.{IsOutput, processes_in}
-use Rattle.script_core.specs.OutputReading.{EntriesOfOutputsAreLegal}
 use Rattle.script_core.proofs.ProcessLemmas.{IsArrivalOf, arrivals_read, few_read}
 use Rattle.script_core.proofs.JournalBackLemmas.{journals_read_back}
 use Rattle.script_core.proofs.FitLemmas.{Fits, each_append, settles_fit, settles_settled, nothing_granted}
@@ -209,10 +208,3 @@ output_fits bytes text output =
 pub writable_output : (bytes text : List ℕ) (output : IsOutput bytes text) → All (IsWritableEvent output.script.rules.limits) output.journal
 writable_output bytes text output =
     All-from_recursion (IsWritableEvent output.script.rules.limits) output.journal (output_fits bytes text output).writable
-
-pub entries_legal : EntriesOfOutputsAreLegal
-entries_legal bytes text output number place before same =
-    let rules : output.script.rules ≡ rules_at place = sym same in
-    journals_read_back number (record { place = place; entries = []; report = [] }) output.journal before refl
-    (subst (λ (r : Rules). All (IsWritableEvent r.limits) output.journal) rules (writable_output bytes text output))
-    (output.state, subst (λ (r : Rules). IsRun r (process_limit r.limits) output.journal output.state) rules (run_of_output bytes text output))
