@@ -52,10 +52,10 @@ use Rattle.script_core.specs.Deadlocks.{step_text, first_step_text, next_step_te
 use Rattle.script_core.specs.Explaining.{comment, obstacle_line, deadlock_line, is_same_place, word_of_loss, loss_line, loss_lines, Explains, ExplainsRun, more_text, never_born_line, unborn_line, unborn_lines, is_comment_line, without_comments, ExplanationsAreComments}
 
 -- no byte ends a line
-abbrev goes_on : ℕ → Bool
+abbrev pub goes_on : ℕ → Bool
 goes_on byte = not (byte == 10)
 
-abbrev InLine : List ℕ → Type 0
+abbrev pub InLine : List ℕ → Type 0
 InLine bytes = list_all goes_on bytes ≡ true
 
 both : (one other : List ℕ) → InLine one → InLine other → InLine (one ++ other)
@@ -91,7 +91,7 @@ keeps_first : (line piece : List ℕ) (pieces : List (List ℕ)) → without_emp
 keeps_first [] piece pieces = refl
 keeps_first (byte ∷ line) piece pieces = refl
 
-lines_first : (line rest : List ℕ) → InLine line → lines_of (line ++ 10 ∷ rest) ≡ line ∷ lines_of rest
+pub lines_first : (line rest : List ℕ) → InLine line → lines_of (line ++ 10 ∷ rest) ≡ line ∷ lines_of rest
 lines_first line rest is =
     let next = piece_first rest in
     ap without_empty_end (split_end line rest is ∙ ap (λ (l : List (List ℕ)). line ∷ l) next.2)

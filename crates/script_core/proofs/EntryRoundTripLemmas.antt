@@ -1,7 +1,7 @@
 -- The line that is written of an entry is read as that entry.
-use Rattle.std.proofs.Common.{◌≡◌, ℕ, suc, ◌*◌, ◌^◌, ◌<◌, ◌≤◌, ◌==◌, ◌&&◌, nat_le, true, false, not, List, [], ◌∷◌, ◌++◌, length, filter, flat_map, codes, decimal, Ok, inl, inr, refl, sym, ap, ◌∙◌, subst, arith, lit<, lit≤, length-append, append_assoc, append-nil}
+use Rattle.std.proofs.Common.{◌≡◌, ℕ, suc, ◌*◌, ◌^◌, ◌<◌, ◌≤◌, ◌==◌, ◌&&◌, nat_le, true, false, not, List, [], ◌∷◌, ◌++◌, length, filter, flat_map, codes, decimal, Ok, inl, inr, refl, sym, ap, ◌∙◌, subst, arith, lit<, lit≤, length-append, append_assoc, append-nil, tests}
 use Rattle.std.specs.Prelude.{All, bytes_eq}
-use Rattle.std.specs.List.{slice_split, join_with_byte}
+use Rattle.std.specs.List.{slice_split, join_with_byte, list_all}
 use Rattle.std.proofs.lemmas.Fmt.{length-decimal-le}
 use Rattle.std.proofs.lemmas.Bool.{le-ltb}
 use Rattle.std.proofs.lemmas.Bool.Decides.{nat_tests}
@@ -23,16 +23,16 @@ use Rattle.script_core.specs.EntryReading.{entry_limit, pieces_of, TakenGives, I
 use Rattle.script_core.proofs.RoundTripLemmas.{AreVisible, IsWord, AreWords, IsWord-tested, IsWord-decimal, IsWord-process, IsWord-descriptor, IsWord-signed_decimal, AreWords-request_words, slice_split-words, words_of-join, not_empty, more_length, length-join, length-process, length-descriptor, length-signed_decimal, more_length-request_words, gives_request, join_cons}
 
 -- each byte is a space or one that words have
-AreSpoken : List ℕ → Type 0
+unfoldable pub AreSpoken : List ℕ → Type 0
 AreSpoken [] = Unit {0}
 AreSpoken (byte ∷ bytes) = (32 ≤ byte) × (byte ≤ 122) × AreSpoken bytes
 
-AreSpoken-append : (bytes more : List ℕ) → AreSpoken bytes → AreSpoken more → AreSpoken (bytes ++ more)
+pub AreSpoken-append : (bytes more : List ℕ) → AreSpoken bytes → AreSpoken more → AreSpoken (bytes ++ more)
 unfolding AreSpoken
 AreSpoken-append [] more are rest = rest
 AreSpoken-append (byte ∷ bytes) more are rest = (are.0, are.1, AreSpoken-append bytes more are.2 rest)
 
-AreSpoken-word : (word : List ℕ) → AreVisible word → AreSpoken word
+pub AreSpoken-word : (word : List ℕ) → AreVisible word → AreSpoken word
 unfolding AreSpoken AreVisible
 AreSpoken-word [] visible = tt
 AreSpoken-word (byte ∷ bytes) visible = (omega (arith, visible.0), visible.1, AreSpoken-word bytes visible.2)
@@ -75,6 +75,17 @@ printable_then : (bytes rest : List ℕ) → AreSpoken bytes → is_printable re
 unfolding AreSpoken
 printable_then [] rest are printable = printable
 printable_then (byte ∷ bytes) rest are printable = rw (printable_byte byte are.0 are.1) (printable_then bytes rest are.2 printable)
+
+pub printable_spoken : (bytes : List ℕ) → AreSpoken bytes → is_printable bytes ≡ true
+unfolding AreSpoken
+printable_spoken [] are = refl
+printable_spoken (byte ∷ bytes) are = rw (printable_byte byte are.0 are.1) (printable_spoken bytes are.2)
+
+pub AreSpoken-tested : (bytes : List ℕ) → list_all (λ byte. nat_le 32 byte && nat_le byte 122) bytes ≡ true → AreSpoken bytes
+unfolding AreSpoken
+AreSpoken-tested [] tested = tt
+AreSpoken-tested (byte ∷ bytes) tested =
+    (grind (arith, tests), grind (arith, tests), AreSpoken-tested bytes (grind (arith, tests)))
 
 -- the words of a note
 note_words : Note → List (List ℕ)

@@ -1,16 +1,19 @@
 -- What a request comes to has numbers that a line may have: its notes, and the waits and locks that it leaves; and the notes are few.
-use Rattle.std.proofs.Common.{◌≡◌, ◌≢◌, ℕ, suc, ◌+◌, ◌^◌, ◌<◌, ◌≤◌, ◌==◌, ◌||◌, true, false, List, [], ◌∷◌, ◌++◌, length, map, filter_map, Option, Some, None, option_map, ⊎_elim, refl, sym, ap, ◌∙◌, subst, arith, eq-eqb, ne_eqb, append_assoc, append-nil}
-use Rattle.std.specs.Prelude.{⊤, IfSome}
+use Rattle.std.proofs.Common.{◌≡◌, ◌≢◌, ℕ, zero, suc, pred, slice_get, ◌+◌, ◌^◌, ◌<◌, ◌≤◌, ◌==◌, ◌||◌, true, false, List, [], ◌∷◌, ◌++◌, length, length-append, map, filter_map, Option, Some, None, option_map, ⊎_elim, refl, sym, ap, ◌∙◌, subst, arith, eq-eqb, ne_eqb, append_assoc, append-nil}
+use Rattle.std.specs.Prelude.{⊤, IfSome, slice_set, option_and_then}
 use Rattle.std.specs.List.{AllByRecursion as Each, IsDistinct, list_any, cons_option}
 use Rattle.std.proofs.lemmas.Bool.{cases_eq}
+use Rattle.std.proofs.lemmas.Option.{slice_get_within}
 use Rattle.std.proofs.lemmas.Map.Steps.{length-le_from_distinct_below}
 use Rattle.range_core.specs.declared.TheConstants.{OFFMAX}
 use Rattle.lock_book.specs.declared.Owner.{Owner}
 use Rattle.lock_book.specs.declared.Owner.TheVariants.{Process, Description}
-use Rattle.lock_book.specs.Changes.{Change, whole_file}
+use Rattle.lock_book.specs.Changes.{Change, FlockChange, whole_file}
+use Rattle.fd_table.specs.declared.TheConstants.{FILES}
+use Rattle.fd_table.specs.declared.tables.Look.{Look}
 use Rattle.fd_table.specs.declared.Limits.{Limits}
 use Rattle.fd_table.specs.declared.Limits.TheVariants.{Small, Wide}
-use Rattle.fd_table.specs.Descriptors.{Descriptors, OpenFileDescription, description_numbered}
+use Rattle.fd_table.specs.Descriptors.{Descriptors, OpenFileDescription, description_limit, description_numbered, look_of}
 use Rattle.fd_table.specs.Released.{Released}
 use Rattle.wait_core.specs.declared.Policy.{Policy}
 use Rattle.wait_core.specs.declared.Family.TheVariants.{Bytes, Whole}
@@ -22,28 +25,49 @@ use Rattle.lock_manager.specs.declared.request.ProcState.{ProcState}
 use Rattle.lock_manager.specs.declared.request.ProcState.TheVariants.{Unborn, Live, Waiting}
 use Rattle.lock_manager.specs.State.{State, locks_held, with_lock, with_lock_of}
 use Rattle.lock_manager.specs.Settling.{Settles, IsSettled, granted}
-use Rattle.lock_manager.specs.DescriptorCalls.{with_released, process_releases, description_releases}
+use Rattle.lock_manager.specs.DescriptorCalls.{with_released, process_releases, description_releases, flock_releases}
 use Rattle.script_core.specs.ScriptText.{IsProcess}
 use Rattle.script_core.specs.EntryReading.{IsWritableNote}
 
 -- ---- what has such numbers
 
--- the owner is a description, or a process of 64
+-- the owner is a description that may have been made, or a process of 64
 abbrev pub IsSmallOwner : Owner → Type 0
 IsSmallOwner (Process p) = p ≤ 64
-IsSmallOwner (Description d) = ⊤
+IsSmallOwner (Description d) = d ≤ description_limit
 
 -- the change is of such an owner, and within files
 pub record FitsChange (change : Change) : Type 0 where
   pub owner : IsSmallOwner change.owner
   pub last : change.span.last ≤ OFFMAX
 
--- the wait is of a process that the limits have, which waits, and for a lock of such an owner within files
+-- the change is of such a description
+abbrev pub FitsFlock : FlockChange → Type 0
+FitsFlock change = change.description ≤ description_limit
+
+-- no more descriptions were made than may be, each of a file that there is
+pub record FitsFiles (D : Descriptors) : Type 0 where
+  pub few : length D.descriptions ≤ description_limit
+  pub files : Each (λ opened. opened.file < FILES) D.descriptions
+
+-- the state has such changes and such descriptions
+pub record FitsLocks (S : State) : Type 0 where
+  pub changes : Each FitsChange S.changes
+  pub flocks : Each FitsFlock S.flock_changes
+  pub files : FitsFiles S.descriptors
+
+-- the lock that is asked for is of such an owner, within a file that there is
+pub record FitsWanted (wait : Wait) : Type 0 where
+  pub owner : IsSmallOwner wait.owner
+  pub first : wait.span.first ≤ OFFMAX
+  pub last : wait.span.last ≤ OFFMAX
+  pub file : wait.file < FILES
+
+-- the wait is of a process that the limits have, which waits, and for such a lock
 pub record FitsWait (limits : Limits) (states : ℕ → ProcState) (wait : Wait) : Type 0 where
   pub process : IsProcess limits wait.p
   pub number : wait.n < 2 ^ 64
-  pub owner : IsSmallOwner wait.owner
-  pub last : wait.span.last ≤ OFFMAX
+  pub wanted : FitsWanted wait
   pub waiting : states wait.p ≡ Waiting
 
 -- no two waits are of one process
@@ -53,10 +77,14 @@ AreApart (wait ∷ waits) = Each (λ other. other.p ≢ wait.p) waits × AreApar
 
 -- the state has such locks and waits, and who isn't unborn was alive
 pub record Fits (limits : Limits) (S : State) : Type 0 where
-  pub changes : Each FitsChange S.changes
+  pub locks : FitsLocks S
   pub waits : Each (FitsWait limits S.states) S.waits
   pub apart : AreApart S.waits
   pub born : (p : ℕ) → S.states p ≢ Unborn → S.descriptors.ever_alive p ≡ true
+
+-- it still is, where its process still waits
+pub still_waits : (limits : Limits) (states now : ℕ → ProcState) (wait : Wait) → FitsWait limits states wait → now wait.p ≡ Waiting → FitsWait limits now wait
+still_waits limits states now wait is waiting = record { process = is.process; number = is.number; wanted = is.wanted; waiting = waiting }
 
 -- ---- lists
 
@@ -168,17 +196,21 @@ few_wait limits S p is live fits =
 -- ---- changes
 
 -- a lock that is set for a wait fits
-pub lock_changes : (limits : Limits) (S : State) (wait : Wait) → IsSmallOwner wait.owner → wait.span.last ≤ OFFMAX → Each FitsChange S.changes
-    → Each FitsChange (with_lock S wait).changes
-lock_changes limits S wait owner last changes =
-    elim wait.family as (λ family. Each FitsChange (with_lock_of family wait.owner S wait).changes) [
-      | Bytes ↦ each_append FitsChange S.changes _ changes (record { owner = owner; last = last }, tt)
-      | Whole ↦
-          elim wait.owner as (λ owner. Each FitsChange (with_lock_of Whole owner S wait).changes) [
-            | Process p ↦ changes
-            | Description d ↦ changes
-          ]
+pub lock_locks : (S : State) (wait : Wait) → FitsWanted wait → FitsLocks S → FitsLocks (with_lock S wait)
+lock_locks S wait wanted locks =
+    elim wait.family as (λ family. FitsLocks (with_lock_of family wait.owner S wait)) [
+      | Bytes ↦ record {
+          changes = each_append FitsChange S.changes _ locks.changes (record { owner = wanted.owner; last = wanted.last }, tt);
+          flocks = locks.flocks;
+          files = locks.files;
+        }
+      | Whole ↦ whole wait.owner wanted.owner
     ]
+  where
+    whole : (owner : Owner) → IsSmallOwner owner → FitsLocks (with_lock_of Whole owner S wait)
+    whole (Process p) small = locks
+    whole (Description d) small =
+        record { changes = locks.changes; flocks = each_append FitsFlock S.flock_changes _ locks.flocks (small, tt); files = locks.files }
 
 -- it leaves the processes and the waits
 pub record SameProcesses (S T : State) : Type 0 where
@@ -197,9 +229,9 @@ same_locked S wait =
           ]
     ]
 
-pub fits_same : (limits : Limits) (S T : State) → Fits limits S → SameProcesses S T → Each FitsChange T.changes → Fits limits T
-fits_same limits S T fits same changes = record {
-  changes = changes;
+pub fits_same : (limits : Limits) (S T : State) → Fits limits S → SameProcesses S T → FitsLocks T → Fits limits T
+fits_same limits S T fits same locks = record {
+  locks = locks;
   waits = subst (λ (waits : List Wait). Each (FitsWait limits T.states) waits) (sym same.waits)
       (subst (λ (states : ℕ → ProcState). Each (FitsWait limits states) S.waits) (sym same.states) fits.waits);
   apart = subst AreApart (sym same.waits) fits.apart;
@@ -219,20 +251,108 @@ each_filtered {Y = Y} P f (x ∷ xs) is = first (f x) (is x) (each_filtered P f 
     first None is rest = rest
     first (Some y) is rest = (is, rest)
 
-released_descriptions : (opened : List OpenFileDescription) (descriptions : List ℕ) → Each FitsChange (description_releases opened descriptions)
-released_descriptions opened descriptions = each_filtered FitsChange _ descriptions (λ d. one d (description_numbered opened d))
-  where
-    one : (d : ℕ) (found : Option OpenFileDescription)
-        → IfSome (option_map (λ (x : OpenFileDescription). record { file = x.file; owner = Description d; span = whole_file; mode = None }) found) FitsChange
-    one d None = tt
-    one d (Some x) = record { owner = tt; last = omega arith }
+-- a description that was made has a number of those
+numbered_within : (opened : List OpenFileDescription) (d : ℕ) (x : OpenFileDescription) → description_numbered opened d ≡ Some x → d ≤ length opened
+numbered_within opened zero x is = absurd (let bad : None ≡ Some x = is in cc)
+numbered_within opened (suc k) x is = let below = slice_get_within opened k x is in omega (arith, below)
 
-pub released_changes : (S : State) (D : Descriptors) (p : ℕ) (released : Released) → p ≤ 64 → Each FitsChange S.changes
-    → Each FitsChange (with_released S D p released).changes
-released_changes S D p released few changes =
-    let files = process_releases p released.files in
-    each_append FitsChange (S.changes ++ files) _ (each_append FitsChange S.changes files changes (released_files p released.files few))
-    (released_descriptions D.descriptions released.descriptions)
+released_descriptions : (opened : List OpenFileDescription) (descriptions : List ℕ) → length opened ≤ description_limit
+    → Each FitsChange (description_releases opened descriptions)
+released_descriptions opened descriptions few = each_filtered FitsChange _ descriptions (λ d. one d (description_numbered opened d) refl)
+  where
+    one : (d : ℕ) (found : Option OpenFileDescription) → description_numbered opened d ≡ found
+        → IfSome (option_map (λ (x : OpenFileDescription). record { file = x.file; owner = Description d; span = whole_file; mode = None }) found) FitsChange
+    one d None is = tt
+    one d (Some x) is = let within = numbered_within opened d x is in record { owner = omega (arith, within, few); last = omega arith }
+
+released_flocks : (opened : List OpenFileDescription) (descriptions : List ℕ) → length opened ≤ description_limit
+    → Each FitsFlock (flock_releases opened descriptions)
+released_flocks opened descriptions few = each_filtered FitsFlock _ descriptions (λ d. one d (description_numbered opened d) refl)
+  where
+    one : (d : ℕ) (found : Option OpenFileDescription) → description_numbered opened d ≡ found
+        → IfSome (option_map (λ (x : OpenFileDescription). record { file = x.file; description = d; mode = None }) found) FitsFlock
+    one d None is = tt
+    one d (Some x) is = let within = numbered_within opened d x is in omega (arith, within, few)
+
+pub released_locks : (S : State) (D : Descriptors) (p : ℕ) (released : Released) → p ≤ 64 → FitsLocks S → FitsFiles D
+    → FitsLocks (with_released S D p released)
+released_locks S D p released small locks files =
+    let own = process_releases p released.files in
+    record {
+      changes = each_append FitsChange (S.changes ++ own) _ (each_append FitsChange S.changes own locks.changes (released_files p released.files small))
+          (released_descriptions D.descriptions released.descriptions files.few);
+      flocks = each_append FitsFlock S.flock_changes _ locks.flocks (released_flocks D.descriptions released.descriptions files.few);
+      files = files;
+    }
+
+-- ---- what a descriptor refers to
+
+each_at : {X : Type 0} (P : X → Type 0) (xs : List X) (k : ℕ) (x : X) → Each P xs → slice_get xs k ≡ Some x → P x
+each_at P [] k x all is = absurd (let bad : None ≡ Some x = is in cc)
+each_at P (first ∷ xs) zero x all is = let same : first ≡ x = cc in subst P same all.0
+each_at P (first ∷ xs) (suc k) x all is = each_at P xs k x all.1 is
+
+-- the descriptor refers to a description of a file that there is
+abbrev pub FitsLook : Look → Type 0
+FitsLook look = (look.file < FILES) × (look.desc ≤ description_limit)
+
+file_of : (D : Descriptors) (number : ℕ) (x : OpenFileDescription) → FitsFiles D → description_numbered D.descriptions number ≡ Some x → x.file < FILES
+file_of D zero x fits is = absurd (let bad : None ≡ Some x = is in cc)
+file_of D (suc k) x fits is = each_at (λ (opened : OpenFileDescription). opened.file < FILES) D.descriptions k x fits.files is
+
+look_by : (D : Descriptors) (number : ℕ) (found : Option OpenFileDescription) (look : Look) → FitsFiles D → description_numbered D.descriptions number ≡ found
+    → option_map (look_of D number) found ≡ Some look → FitsLook look
+look_by D number None look fits at is = absurd (let bad : None ≡ Some look = is in cc)
+look_by D number (Some x) look fits at is =
+    let same : look_of D number x ≡ look = cc in
+    let within = numbered_within D.descriptions number x at in
+    let few = fits.few in
+    subst FitsLook same (file_of D number x fits at, omega (arith, within, few))
+
+pub look_fits : (D : Descriptors) (found : Option ℕ) (look : Look) → FitsFiles D
+    → option_and_then (λ number. option_map (look_of D number) (description_numbered D.descriptions number)) found ≡ Some look → FitsLook look
+look_fits D None look fits is = absurd (let bad : None ≡ Some look = is in cc)
+look_fits D (Some number) look fits is = look_by D number (description_numbered D.descriptions number) look fits refl is
+
+-- the same descriptions
+pub same_files : (old new : Descriptors) → new.descriptions ≡ old.descriptions → FitsFiles old → FitsFiles new
+same_files old new same fits = record {
+  few = subst (λ (l : List OpenFileDescription). length l ≤ description_limit) (sym same) fits.few;
+  files = subst (λ (l : List OpenFileDescription). Each (λ opened. opened.file < FILES) l) (sym same) fits.files;
+}
+
+-- one more, of a file that there is
+pub one_more_file : (old new : Descriptors) (x : OpenFileDescription) → new.descriptions ≡ old.descriptions ++ x ∷ [] → x.file < FILES
+    → length old.descriptions < description_limit → FitsFiles old → FitsFiles new
+one_more_file old new x same file room fits =
+    let size = length-append old.descriptions (x ∷ []) in
+    record {
+      few = subst (λ (l : List OpenFileDescription). length l ≤ description_limit) (sym same) (omega (arith, size, room));
+      files = subst (λ (l : List OpenFileDescription). Each (λ opened. opened.file < FILES) l) (sym same)
+          (each_append (λ (opened : OpenFileDescription). opened.file < FILES) old.descriptions (x ∷ []) fits.files (file, tt));
+    }
+
+each_set : {X : Type 0} (P : X → Type 0) (xs : List X) (k : ℕ) (x : X) → Each P xs → P x → Each P (slice_set xs k x)
+each_set P [] k x all is = tt
+each_set P (first ∷ xs) zero x all is = (is, all.1)
+each_set P (first ∷ xs) (suc k) x all is = (all.0, each_set P xs k x all.1 is)
+
+length_set : {X : Type 0} (xs : List X) (k : ℕ) (x : X) → length (slice_set xs k x) ≡ length xs
+length_set [] k x = refl
+length_set (first ∷ xs) zero x = refl
+length_set (first ∷ xs) (suc k) x = ap suc (length_set xs k x)
+
+-- one with another offset
+pub moved_file : (old new : Descriptors) (number offset : ℕ) (x : OpenFileDescription) → description_numbered old.descriptions number ≡ Some x
+    → new.descriptions ≡ slice_set old.descriptions (pred number) (record x { offset = offset }) → FitsFiles old → FitsFiles new
+moved_file old new number offset x at same fits =
+    let size = length_set old.descriptions (pred number) (record x { offset = offset }) in
+    let few = fits.few in
+    record {
+      few = subst (λ (l : List OpenFileDescription). length l ≤ description_limit) (sym same) (omega (arith, size, few));
+      files = subst (λ (l : List OpenFileDescription). Each (λ opened. opened.file < FILES) l) (sym same)
+          (each_set (λ (opened : OpenFileDescription). opened.file < FILES) old.descriptions (pred number) (record x { offset = offset }) fits.files (file_of old number x fits at));
+    }
 
 -- ---- settling
 
@@ -244,16 +364,13 @@ granted_fits limits S before wait after place fits =
     let apart = apart_middle before wait after (subst AreApart place fits.apart) in
     let locked = same_locked S wait in
     let states : (with_lock S wait).states ≡ S.states = locked.states in
+    let set = lock_locks S wait all.0.wanted fits.locks in
+    let locks_kept : FitsLocks (granted S before wait after) = record { changes = set.changes; flocks = set.flocks; files = set.files } in
     record {
-      changes = lock_changes limits S wait all.0.owner all.0.last fits.changes;
+      locks = locks_kept;
       waits = each_both (λ (other : Wait). other.p ≢ wait.p) (FitsWait limits S.states) (FitsWait limits (granted S before wait after).states) (before ++ after)
-          (λ other differs is. record {
-            process = is.process;
-            number = is.number;
-            owner = is.owner;
-            last = is.last;
-            waiting = rw (ne_eqb other.p wait.p differs) (ap (λ (states : ℕ → ProcState). states other.p) states ∙ is.waiting);
-          }) apart.1 all.1;
+          (λ other differs is. still_waits limits S.states (granted S before wait after).states other is
+          (rw (ne_eqb other.p wait.p differs) (ap (λ (states : ℕ → ProcState). states other.p) states ∙ is.waiting))) apart.1 all.1;
       apart = apart.0;
       born = λ p there. ⊎_elim
           (λ same. locked.alive p ∙ fits.born p (λ e. let bad : Waiting ≡ Unborn = sym all.0.waiting ∙ ap S.states (sym same) ∙ e in cc))

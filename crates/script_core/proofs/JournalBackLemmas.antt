@@ -94,7 +94,7 @@ head_of_entry place event writable before =
     subst (λ ws. HeadGives place ws (Ok None)) (sym words) (head_given place word (words_of rest) (digit_tag (limits_at place) event.p event.n writable.process) before)
 
 -- the line of an event says that event
-line_of_entry : (place : Place) (event : Event) → IsWritableEvent (limits_at place) event → IsBeforeReport place.stage
+pub line_of_entry : (place : Place) (event : Event) → IsWritableEvent (limits_at place) event → IsBeforeReport place.stage
     → JournalLineGives place (entry_text event) (Ok (lines.Entry event))
 line_of_entry place event writable before =
     let line = entry_text event in
@@ -121,7 +121,7 @@ events_of-front : (p : ℕ) (front rest : List Event) → events_of p (front ++ 
 events_of-front p front rest = filter-append (λ event. event.p == p) front rest
 
 -- the front of a run is a run
-legal_front : (place : Place) (front rest : List Event) → AreLegal place (front ++ rest) → AreLegal place front
+pub legal_front : (place : Place) (front rest : List Event) → AreLegal place (front ++ rest) → AreLegal place front
 legal_front place front rest legal =
     let leads = leads_front (rules_at place) (processes_at place) opening_state front rest legal.0 legal.1.leads in (
       leads.0,

@@ -34,3 +34,5 @@ pub mod AnswerLaws
 pub mod FitLemmas
 pub mod OutcomeFitLemmas
 pub mod RunFitLemmas
+pub mod ReportFitLemmas
+pub mod OutputReadingLaws

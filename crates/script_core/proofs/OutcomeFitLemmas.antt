@@ -27,7 +27,7 @@ use Rattle.fd_table.specs.declared.Limits.{Limits}
 use Rattle.fd_table.specs.declared.Limits.TheVariants.{Small, Wide}
 use Rattle.fd_table.specs.declared.tables.Look.{Look}
 use Rattle.fd_table.specs.Released.{Released}
-use Rattle.fd_table.specs.Descriptors.{Descriptors, SameDescriptors, descriptor_limit, look_at, with_descriptor}
+use Rattle.fd_table.specs.Descriptors.{Descriptors, SameDescriptors, descriptor_limit, look_at, with_descriptor, description_limit}
 use Rattle.fd_table.specs.Releasing.{AreReleased}
 use Rattle.fd_table.specs.Calls.{nothing}
 use Rattle.wait_core.specs.declared.Wait.{Wait}
@@ -59,7 +59,7 @@ use Rattle.lock_manager.specs.ProcessCalls.{ForkComesTo, EndComesTo, SignalComes
 use Rattle.lock_manager.specs.Step.{ComesTo}
 use Rattle.script_core.specs.ScriptText.{IsProcess, IsWritable}
 use Rattle.script_core.specs.EntryReading.{IsWritableNote, IsWritableReply}
-use Rattle.script_core.proofs.FitLemmas.{IsSmallOwner, FitsChange, FitsWait, AreApart, Fits, SameProcesses, each_append, each_both, apart_push, others_wait, few_processes, few_wait, lock_changes, same_locked, fits_same, released_changes, settles_fit, settles_settled, blocked_more}
+use Rattle.script_core.proofs.FitLemmas.{IsSmallOwner, FitsChange, FitsFlock, FitsFiles, FitsLocks, FitsWanted, FitsWait, FitsLook, AreApart, Fits, SameProcesses, each_append, each_both, still_waits, apart_push, others_wait, few_processes, few_wait, lock_locks, same_locked, fits_same, released_locks, look_fits, same_files, one_more_file, moved_file, settles_fit, settles_settled, blocked_more}
 
 -- a process of the limits, which lives, makes a request with such a number in a state that fits and is settled
 pub record IsAtHand (rules : Rules) (S : State) (p n : ℕ) : Type 0 where
@@ -79,13 +79,13 @@ pub record OutcomeFits (rules : Rules) (outcome : Outcome) : Type 0 where
 
 -- the caller is answered in a state with the same processes
 answers_fit : (rules : Rules) (S T : State) (p n : ℕ) (reply : Reply) (outcome : Outcome) → IsAtHand rules S p n → SameProcesses S T
-    → Each FitsChange T.changes → IsWritableReply reply → outcome ≡ answered T p n reply → OutcomeFits rules outcome
-answers_fit rules S T p n reply outcome h same changes writable is =
+    → FitsLocks T → IsWritableReply reply → outcome ≡ answered T p n reply → OutcomeFits rules outcome
+answers_fit rules S T p n reply outcome h same locks writable is =
     let few = few_wait rules.limits S p h.process h.live h.fits in
     let waits = ap length same.waits in
     subst (OutcomeFits rules) (sym is)
     (record {
-      after = fits_same rules.limits S T h.fits same changes;
+      after = fits_same rules.limits S T h.fits same locks;
       told = ((h.process, h.number, writable), tt);
       few = inl (omega (arith, few, waits));
     })
@@ -95,7 +95,7 @@ same_all S = record { states = refl; waits = refl; alive = λ p. refl }
 
 refused_fits : (rules : Rules) (S : State) (p n : ℕ) (error : Errno) (outcome : Outcome) → IsAtHand rules S p n → outcome ≡ refused S p n error
     → OutcomeFits rules outcome
-refused_fits rules S p n error outcome h is = answers_fit rules S S p n (replies.Err error) outcome h (same_all S) h.fits.changes tt is
+refused_fits rules S p n error outcome h is = answers_fit rules S S p n (replies.Err error) outcome h (same_all S) h.fits.locks tt is
 
 refusal_fits : (rules : Rules) (S : State) (p n : ℕ) (fault : FdFault) (outcome : Outcome) → IsAtHand rules S p n → IsRefusal S p n fault outcome
     → OutcomeFits rules outcome
@@ -114,18 +114,23 @@ small_descriptor Wide fd within = omega (arith, within)
 same_but : (S : State) (D : Descriptors) → ((p : ℕ) → D.ever_alive p ≡ S.descriptors.ever_alive p) → SameProcesses S (record S { descriptors = D })
 same_but S D alive = record { states = refl; waits = refl; alive = alive }
 
+-- other descriptors
+with_files : (S : State) (D : Descriptors) → FitsLocks S → FitsFiles D → FitsLocks (record S { descriptors = D })
+with_files S D locks files = record { changes = locks.changes; flocks = locks.flocks; files = files }
+
 open_fits : (rules : Rules) (S : State) (p n file : ℕ) (access : Access) (outcome : Outcome) → IsAtHand rules S p n
     → OpenComesTo rules S p n file access outcome → OutcomeFits rules outcome
 open_fits rules S p n file access outcome h (Ok fd, D, gives, is) =
-    answers_fit rules S (record S { descriptors = D }) p n (replies.Fd fd) outcome h (same_but S D gives.3.ever_alive) h.fits.changes
+    answers_fit rules S (record S { descriptors = D }) p n (replies.Fd fd) outcome h (same_but S D gives.3.ever_alive)
+    (with_files S D h.fits.locks (one_more_file S.descriptors D _ gives.3.descriptions gives.0 gives.1 h.fits.locks.files))
     (small_descriptor rules.limits fd gives.2.within) is
 open_fits rules S p n file access outcome h (Err fault, D, gives, is) = refusal_fits rules S p n fault outcome h is
 
 dup_fits : (rules : Rules) (S : State) (p n fd : ℕ) (outcome : Outcome) → IsAtHand rules S p n → DupComesTo rules S p n fd outcome
     → OutcomeFits rules outcome
 dup_fits rules S p n fd outcome h (Ok free, D, gives, is) =
-    answers_fit rules S (record S { descriptors = D }) p n (replies.Fd free) outcome h (same_but S D gives.3.ever_alive) h.fits.changes
-    (small_descriptor rules.limits free gives.2.within) is
+    answers_fit rules S (record S { descriptors = D }) p n (replies.Fd free) outcome h (same_but S D gives.3.ever_alive)
+    (with_files S D h.fits.locks (same_files S.descriptors D gives.3.descriptions h.fits.locks.files)) (small_descriptor rules.limits free gives.2.within) is
 dup_fits rules S p n fd outcome h (Err fault, D, gives, is) = refusal_fits rules S p n fault outcome h is
 
 -- what is released leaves the processes
@@ -140,32 +145,44 @@ moved_alive : (old : Descriptors) (p fd to description : ℕ) (released : Releas
 moved_alive old p fd to description released new true is q = is.1.ever_alive q
 moved_alive old p fd to description released new false is q = is.0.ever_alive q
 
+moved_descriptions : (old : Descriptors) (p fd to description : ℕ) (released : Released) (new : Descriptors) (same : Bool)
+    → MatchBool same ((released ≡ nothing) × SameDescriptors new old)
+    (SameDescriptors new (with_descriptor old p to description) × AreReleased old new p (λ k. k == to) released)
+    → new.descriptions ≡ old.descriptions
+moved_descriptions old p fd to description released new true is = is.1.descriptions
+moved_descriptions old p fd to description released new false is = is.0.descriptions
+
 dup_to_fits : (rules : Rules) (S : State) (p n fd to : ℕ) (outcome : Outcome) → IsAtHand rules S p n → DupToComesTo rules S p n fd to outcome
     → OutcomeFits rules outcome
 dup_to_fits rules S p n fd to outcome h (Ok answer, D, gives, is) =
     let alive = moved_alive S.descriptors p fd to gives.0 answer.1 D (to == fd) gives.4 in
     let within : answer.0 < descriptor_limit rules.limits = subst (λ (k : ℕ). k < descriptor_limit rules.limits) (sym gives.3) gives.2 in
     answers_fit rules S (with_released S D p answer.1) p n (replies.Fd answer.0) outcome h (same_released S D p answer.1 alive)
-    (released_changes S D p answer.1 (few_processes rules.limits p h.process) h.fits.changes) (small_descriptor rules.limits answer.0 within) is
+    (released_locks S D p answer.1 (few_processes rules.limits p h.process) h.fits.locks
+    (same_files S.descriptors D (moved_descriptions S.descriptors p fd to gives.0 answer.1 D (to == fd) gives.4) h.fits.locks.files)) (small_descriptor rules.limits answer.0 within) is
 dup_to_fits rules S p n fd to outcome h (Err fault, D, gives, is) = refusal_fits rules S p n fault outcome h is
 
 close_fits : (rules : Rules) (S : State) (p n fd : ℕ) (outcome : Outcome) → IsAtHand rules S p n → CloseComesTo S p n fd outcome
     → OutcomeFits rules outcome
 close_fits rules S p n fd outcome h (Ok released, D, gives, is) =
     answers_fit rules S (with_released S D p released) p n replies.Ok outcome h (same_released S D p released gives.1.ever_alive)
-    (released_changes S D p released (few_processes rules.limits p h.process) h.fits.changes) tt is
+    (released_locks S D p released (few_processes rules.limits p h.process) h.fits.locks
+    (same_files S.descriptors D gives.1.descriptions h.fits.locks.files)) tt is
 close_fits rules S p n fd outcome h (Err fault, D, gives, is) = refusal_fits rules S p n fault outcome h is
 
 seek_fits : (rules : Rules) (S : State) (p n fd : ℕ) (offset : ℤ) (outcome : Outcome) → IsAtHand rules S p n → SeekComesTo S p n fd offset outcome
     → OutcomeFits rules outcome
 seek_fits rules S p n fd offset outcome h (Ok done, D, gives, is) =
-    answers_fit rules S (record S { descriptors = D }) p n replies.Ok outcome h (same_but S D gives.4.ever_alive) h.fits.changes tt is
+    answers_fit rules S (record S { descriptors = D }) p n replies.Ok outcome h (same_but S D gives.4.ever_alive)
+    (with_files S D h.fits.locks
+    (moved_file S.descriptors D gives.1.number gives.2 gives.0 gives.1.numbered gives.4.descriptions h.fits.locks.files)) tt is
 seek_fits rules S p n fd offset outcome h (Err fault, D, gives, is) = refusal_fits rules S p n fault outcome h is
 
 resize_fits : (rules : Rules) (S : State) (p n fd : ℕ) (size : ℤ) (outcome : Outcome) → IsAtHand rules S p n → ResizeComesTo S p n fd size outcome
     → OutcomeFits rules outcome
 resize_fits rules S p n fd size outcome h (Ok done, D, gives, is) =
-    answers_fit rules S (record S { descriptors = D }) p n replies.Ok outcome h (same_but S D gives.4.ever_alive) h.fits.changes tt is
+    answers_fit rules S (record S { descriptors = D }) p n replies.Ok outcome h (same_but S D gives.4.ever_alive)
+    (with_files S D h.fits.locks (same_files S.descriptors D gives.4.descriptions h.fits.locks.files)) tt is
 resize_fits rules S p n fd size outcome h (Err fault, D, gives, is) = refusal_fits rules S p n fault outcome h is
 
 -- ---- waits
@@ -173,26 +190,20 @@ resize_fits rules S p n fd size outcome h (Err fault, D, gives, is) = refusal_fi
 -- the caller waits, behind these grants, where the waits before are blocked and it too
 waits_fit : (rules : Rules) (S U : State) (wait : Wait) (grants : List Note) (outcome : Outcome) → IsAtHand rules S wait.p wait.n
     → Fits rules.limits U → IsSettled rules.policy U → U.states wait.p ≡ Live → Each (IsWritableNote rules.limits) grants → length grants ≤ 63
-    → IsSmallOwner wait.owner → wait.span.last ≤ OFFMAX → IsBlocked rules.policy (locks_held U) U.waits wait → outcome ≡ waits_then U wait grants
+    → FitsWanted wait → IsBlocked rules.policy (locks_held U) U.waits wait → outcome ≡ waits_then U wait grants
     → OutcomeFits rules outcome
-waits_fit rules S U wait grants outcome h fits settled live told few owner last blocked is =
+waits_fit rules S U wait grants outcome h fits settled live told few fit blocked is =
     let idle : U.states wait.p ≢ Waiting = λ e. let bad : Live ≡ Waiting = sym live ∙ e in cc in
     let others = others_wait rules.limits U wait.p idle fits in
     let T = (waits_then U wait grants).after in
     subst (OutcomeFits rules) (sym is)
     (record {
       after = record {
-        changes = fits.changes;
+        locks = record { changes = fits.locks.changes; flocks = fits.locks.flocks; files = fits.locks.files };
         waits = each_append (FitsWait rules.limits T.states) U.waits (wait ∷ [])
             (each_both (λ (other : Wait). other.p ≢ wait.p) (FitsWait rules.limits U.states) (FitsWait rules.limits T.states) U.waits
-            (λ other differs at. record {
-              process = at.process;
-              number = at.number;
-              owner = at.owner;
-              last = at.last;
-              waiting = rw (ne_eqb other.p wait.p differs) at.waiting;
-            }) others fits.waits)
-            (record { process = h.process; number = h.number; owner = owner; last = last; waiting = rw (eq-eqb wait.p wait.p refl) refl }, tt);
+            (λ other differs at. still_waits rules.limits U.states T.states other at (rw (ne_eqb other.p wait.p differs) at.waiting)) others fits.waits)
+            (record { process = h.process; number = h.number; wanted = fit; waiting = rw (eq-eqb wait.p wait.p refl) refl }, tt);
         apart = apart_push U.waits wait fits.apart others;
         born = λ q there. ⊎_elim
             (λ same. fits.born q (λ e. let bad : Live ≡ Unborn = sym live ∙ ap U.states (sym same) ∙ e in cc))
@@ -206,33 +217,37 @@ waits_fit rules S U wait grants outcome h fits settled live told few owner last 
 -- the caller's lock is set, behind these grants
 locked_fits : (rules : Rules) (S U : State) (wait : Wait) (grants : List Note) (outcome : Outcome) → IsAtHand rules S wait.p wait.n
     → Fits rules.limits U → Each (IsWritableNote rules.limits) grants → length grants + length U.waits ≤ 63
-    → IsSmallOwner wait.owner → wait.span.last ≤ OFFMAX → outcome ≡ answered_then (with_lock U wait) wait.p wait.n replies.Ok grants
+    → FitsWanted wait → outcome ≡ answered_then (with_lock U wait) wait.p wait.n replies.Ok grants
     → OutcomeFits rules outcome
-locked_fits rules S U wait grants outcome h fits told few owner last is =
+locked_fits rules S U wait grants outcome h fits told few fit is =
     let same = same_locked U wait in
     let waits = ap length same.waits in
     subst (OutcomeFits rules) (sym is)
     (record {
-      after = fits_same rules.limits U (with_lock U wait) fits same (lock_changes rules.limits U wait owner last fits.changes);
+      after = fits_same rules.limits U (with_lock U wait) fits same (lock_locks U wait fit fits.locks);
       told = ((h.process, h.number, tt), told);
       few = inl (omega (arith, few, waits));
     })
 
 -- ---- lock commands
 
+-- no byte lies past the largest offset
+abbrev IsWithin : Span → Type 0
+IsWithin span = (span.first ≤ OFFMAX) × (span.last ≤ OFFMAX)
+
 -- a mode that is held was set by a change, whose owner and bytes fit
 same_owner : (one other : Owner) → is_same_owner one other ≡ true → IsSmallOwner one → IsSmallOwner other
 same_owner (Process p) (Process q) is small = let same = eqb-true p q is in omega (arith, same, small)
-same_owner (Process p) (Description e) is small = tt
+same_owner (Process p) (Description e) is small = absurd (let bad : false ≡ true = is in cc)
 same_owner (Description d) (Process q) is small = absurd (let bad : false ≡ true = is in cc)
-same_owner (Description d) (Description e) is small = tt
+same_owner (Description d) (Description e) is small = let same = eqb-true d e is in omega (arith, same, small)
 
 both_true : (a b : Bool) → a && b ≡ true → (a ≡ true) × (b ≡ true)
 both_true true true is = (refl, refl)
 both_true true false is = absurd (let bad : false ≡ true = is in cc)
 both_true false b is = absurd (let bad : false ≡ true = is in cc)
 
-mode_fits : (changes : List Change) (before : Option Mode) (file : ℕ) (owner : Owner) (byte : ℕ) (mode : Mode) → Each FitsChange changes
+pub mode_fits : (changes : List Change) (before : Option Mode) (file : ℕ) (owner : Owner) (byte : ℕ) (mode : Mode) → Each FitsChange changes
     → mode_from before changes file owner byte ≡ Some mode → (before ≡ Some mode → IsSmallOwner owner × (byte ≤ OFFMAX))
     → IsSmallOwner owner × (byte ≤ OFFMAX)
 mode_fits [] before file owner byte mode fits is start = start is
@@ -276,72 +291,73 @@ get_fits : (rules : Rules) (S : State) (wanted : Wait) (outcome : Outcome) → I
     → OutcomeFits rules outcome
 get_fits rules S wanted outcome h is =
     ⊎_elim
-    (λ held. answers_fit rules S S wanted.p wanted.n (held_reply held.1.0) outcome h (same_all S) h.fits.changes
-    (held_fits S wanted held.1.0 h.fits.changes held.1.1) held.1.2)
-    (λ free. answers_fit rules S S wanted.p wanted.n replies.Free outcome h (same_all S) h.fits.changes tt free.1) is
+    (λ held. answers_fit rules S S wanted.p wanted.n (held_reply held.1.0) outcome h (same_all S) h.fits.locks
+    (held_fits S wanted held.1.0 h.fits.locks.changes held.1.1) held.1.2)
+    (λ free. answers_fit rules S S wanted.p wanted.n replies.Free outcome h (same_all S) h.fits.locks tt free.1) is
 
-lock_fits : (rules : Rules) (S : State) (wanted : Wait) (outcome : Outcome) → IsAtHand rules S wanted.p wanted.n → IsSmallOwner wanted.owner
-    → wanted.span.last ≤ OFFMAX → outcome ≡ answered (with_lock S wanted) wanted.p wanted.n replies.Ok → OutcomeFits rules outcome
-lock_fits rules S wanted outcome h owner last is =
+lock_fits : (rules : Rules) (S : State) (wanted : Wait) (outcome : Outcome) → IsAtHand rules S wanted.p wanted.n → FitsWanted wanted → outcome ≡ answered (with_lock S wanted) wanted.p wanted.n replies.Ok → OutcomeFits rules outcome
+lock_fits rules S wanted outcome h fit is =
     let few = few_wait rules.limits S wanted.p h.process h.live h.fits in
-    locked_fits rules S S wanted [] outcome h h.fits tt (omega (arith, few)) owner last is
+    locked_fits rules S S wanted [] outcome h h.fits tt (omega (arith, few)) fit is
 
-set_fits : (rules : Rules) (S : State) (wanted : Wait) (outcome : Outcome) → IsAtHand rules S wanted.p wanted.n → IsSmallOwner wanted.owner
-    → wanted.span.last ≤ OFFMAX → SetComesTo S wanted outcome → OutcomeFits rules outcome
-set_fits rules S wanted outcome h owner last is =
-    ⊎_elim (λ no. refused_fits rules S wanted.p wanted.n _ outcome h no.1) (λ yes. lock_fits rules S wanted outcome h owner last yes.1) is
+set_fits : (rules : Rules) (S : State) (wanted : Wait) (outcome : Outcome) → IsAtHand rules S wanted.p wanted.n → FitsWanted wanted → SetComesTo S wanted outcome → OutcomeFits rules outcome
+set_fits rules S wanted outcome h fit is =
+    ⊎_elim (λ no. refused_fits rules S wanted.p wanted.n _ outcome h no.1) (λ yes. lock_fits rules S wanted outcome h fit yes.1) is
 
-joins_fit : (rules : Rules) (S : State) (wanted : Wait) (outcome : Outcome) → IsAtHand rules S wanted.p wanted.n → IsSmallOwner wanted.owner
-    → wanted.span.last ≤ OFFMAX → IsBlocked rules.policy (locks_held S) S.waits wanted → outcome ≡ waits_then S wanted [] → OutcomeFits rules outcome
-joins_fit rules S wanted outcome h owner last blocked is =
-    waits_fit rules S S wanted [] outcome h h.fits h.settled h.live tt (omega arith) owner last blocked is
+joins_fit : (rules : Rules) (S : State) (wanted : Wait) (outcome : Outcome) → IsAtHand rules S wanted.p wanted.n → FitsWanted wanted → IsBlocked rules.policy (locks_held S) S.waits wanted → outcome ≡ waits_then S wanted [] → OutcomeFits rules outcome
+joins_fit rules S wanted outcome h fit blocked is =
+    waits_fit rules S S wanted [] outcome h h.fits h.settled h.live tt (omega arith) fit blocked is
 
-set_or_wait_fits : (rules : Rules) (S : State) (wanted : Wait) (outcome : Outcome) → IsAtHand rules S wanted.p wanted.n → IsSmallOwner wanted.owner
-    → wanted.span.last ≤ OFFMAX → SetOrWaitComesTo rules S wanted outcome → OutcomeFits rules outcome
-set_or_wait_fits rules S wanted outcome h owner last is =
-    ⊎_elim (λ waits. joins_fit rules S wanted outcome h owner last waits.0 waits.1) (λ yes. lock_fits rules S wanted outcome h owner last yes.1) is
+set_or_wait_fits : (rules : Rules) (S : State) (wanted : Wait) (outcome : Outcome) → IsAtHand rules S wanted.p wanted.n → FitsWanted wanted → SetOrWaitComesTo rules S wanted outcome → OutcomeFits rules outcome
+set_or_wait_fits rules S wanted outcome h fit is =
+    ⊎_elim (λ waits. joins_fit rules S wanted outcome h fit waits.0 waits.1) (λ yes. lock_fits rules S wanted outcome h fit yes.1) is
 
 wait_or_deadlock_fits : (rules : Rules) (S : State) (wanted : Wait) (outcome : Outcome) → IsAtHand rules S wanted.p wanted.n
-    → IsSmallOwner wanted.owner → wanted.span.last ≤ OFFMAX → WaitOrDeadlockComesTo rules S wanted outcome → OutcomeFits rules outcome
-wait_or_deadlock_fits rules S wanted outcome h owner last is =
+    → FitsWanted wanted → WaitOrDeadlockComesTo rules S wanted outcome → OutcomeFits rules outcome
+wait_or_deadlock_fits rules S wanted outcome h fit is =
     ⊎_elim
     (λ blocked. ⊎_elim (λ no. refused_fits rules S wanted.p wanted.n _ outcome h no.1)
-    (λ waits. joins_fit rules S wanted outcome h owner last blocked.0 waits.1) blocked.1)
-    (λ yes. lock_fits rules S wanted outcome h owner last yes.1) is
+    (λ waits. joins_fit rules S wanted outcome h fit blocked.0 waits.1) blocked.1)
+    (λ yes. lock_fits rules S wanted outcome h fit yes.1) is
 
 command_fits : (rules : Rules) (S : State) (cmd : LkCmd) (wanted : Wait) (outcome : Outcome) → IsAtHand rules S wanted.p wanted.n
-    → IsSmallOwner wanted.owner → wanted.span.last ≤ OFFMAX → CommandComesTo rules S cmd wanted outcome → OutcomeFits rules outcome
-command_fits rules S GetLk wanted outcome h owner last is = get_fits rules S wanted outcome h is
-command_fits rules S OGetLk wanted outcome h owner last is = get_fits rules S wanted outcome h is
-command_fits rules S SetLk wanted outcome h owner last is = set_fits rules S wanted outcome h owner last is
-command_fits rules S OSetLk wanted outcome h owner last is = set_fits rules S wanted outcome h owner last is
-command_fits rules S SetLkW wanted outcome h owner last is = wait_or_deadlock_fits rules S wanted outcome h owner last is
-command_fits rules S OSetLkW wanted outcome h owner last is = set_or_wait_fits rules S wanted outcome h owner last is
+    → FitsWanted wanted → CommandComesTo rules S cmd wanted outcome → OutcomeFits rules outcome
+command_fits rules S GetLk wanted outcome h fit is = get_fits rules S wanted outcome h is
+command_fits rules S OGetLk wanted outcome h fit is = get_fits rules S wanted outcome h is
+command_fits rules S SetLk wanted outcome h fit is = set_fits rules S wanted outcome h fit is
+command_fits rules S OSetLk wanted outcome h fit is = set_fits rules S wanted outcome h fit is
+command_fits rules S SetLkW wanted outcome h fit is = wait_or_deadlock_fits rules S wanted outcome h fit is
+command_fits rules S OSetLkW wanted outcome h fit is = set_or_wait_fits rules S wanted outcome h fit is
 
-owner_fits : (cmd : LkCmd) (p : ℕ) (look : Look) → p ≤ 64 → IsSmallOwner (lock_owner cmd p look)
-owner_fits cmd p look few =
-    elim (is_ofd cmd) as (λ b. IsSmallOwner (if b then Description look.desc else Process p)) [ true ↦ tt | false ↦ few ]
+owner_fits : (cmd : LkCmd) (p : ℕ) (look : Look) → p ≤ 64 → FitsLook look → IsSmallOwner (lock_owner cmd p look)
+owner_fits cmd p look few fit =
+    elim (is_ofd cmd) as (λ b. IsSmallOwner (if b then Description look.desc else Process p)) [ true ↦ fit.1 | false ↦ few ]
 
 by_bool : {Yes No R : Type 0} (b : Bool) → MatchBool b Yes No → (Yes → R) → (No → R) → R
 by_bool true is hit miss = hit is
 by_bool false is hit miss = miss is
 
 mode_comes_fit : (rules : Rules) (S : State) (p n : ℕ) (cmd : LkCmd) (look : Look) (span : Span) (mode : Mode) (outcome : Outcome) → IsAtHand rules S p n
-    → span.last ≤ OFFMAX → ModeComesTo rules S p n cmd look span mode outcome → OutcomeFits rules outcome
-mode_comes_fit rules S p n cmd look span mode outcome h last is =
+    → FitsLook look → IsWithin span → ModeComesTo rules S p n cmd look span mode outcome → OutcomeFits rules outcome
+mode_comes_fit rules S p n cmd look span mode outcome h fit within is =
     by_bool (is_get cmd || permits look.access mode) is
-    (λ yes. command_fits rules S cmd (wanted_lock cmd p n look span mode) outcome h (owner_fits cmd p look (few_processes rules.limits p h.process)) last yes)
+    (λ yes. command_fits rules S cmd (wanted_lock cmd p n look span mode) outcome h
+    (record { owner = owner_fits cmd p look (few_processes rules.limits p h.process) fit; first = within.0; last = within.1; file = fit.0 }) yes)
     (λ no. refused_fits rules S p n _ outcome h no)
 
 range_fits : (rules : Rules) (S : State) (p n : ℕ) (cmd : LkCmd) (kind : Kind) (look : Look) (span : Span) (wanted : Option Mode) (outcome : Outcome)
-    → IsAtHand rules S p n → span.last ≤ OFFMAX
+    → IsAtHand rules S p n → FitsLook look → IsWithin span
     → MatchOption wanted (outcome ≡ answered (with_byte_mode S look.file (lock_owner cmd p look) span None) p n replies.Ok)
     (λ mode. ModeComesTo rules S p n cmd look span mode outcome) → OutcomeFits rules outcome
-range_fits rules S p n cmd kind look span None outcome h last is =
+range_fits rules S p n cmd kind look span None outcome h fit within is =
     answers_fit rules S (with_byte_mode S look.file (lock_owner cmd p look) span None) p n replies.Ok outcome h
     (record { states = refl; waits = refl; alive = λ q. refl })
-    (each_append FitsChange S.changes _ h.fits.changes (record { owner = owner_fits cmd p look (few_processes rules.limits p h.process); last = last }, tt)) tt is
-range_fits rules S p n cmd kind look span (Some mode) outcome h last is = mode_comes_fit rules S p n cmd look span mode outcome h last is
+    (record {
+      changes = each_append FitsChange S.changes _ h.fits.locks.changes (record { owner = owner_fits cmd p look (few_processes rules.limits p h.process) fit; last = within.1 }, tt);
+      flocks = h.fits.locks.flocks;
+      files = h.fits.locks.files;
+    }) tt is
+range_fits rules S p n cmd kind look span (Some mode) outcome h fit within is = mode_comes_fit rules S p n cmd look span mode outcome h fit within is
 
 -- ---- a range lies within files
 
@@ -361,21 +377,23 @@ last_not_negative start (negsuc n) low =
     let at = not_negative (start +ℤ negsuc n) low in
     let from : start +ℤ negsuc n ≡ pos at.0 = at.1 in (at.0 + n, omega (arith, ints, from))
 
-last_within : (last : ℤ) (first : ℤ) (span : Span) → ((n : ℕ) × (last ≡ pos n)) → int_lt (pos OFFMAX) last ≡ false
-    → ◌≡◌ {A = Result Span RangeFault} (Ok (record { first = nat_abs first; last = nat_abs last })) (Ok span) → span.last ≤ OFFMAX
-last_within last first span at low is =
-    let n : ℕ = at.0 in
-    let whole : int_lt (pos OFFMAX) (pos n) ≡ false = subst (λ (z : ℤ). int_lt (pos OFFMAX) z ≡ false) at.1 low in
-    let same : span.last ≡ n = ap span_last (sym is) ∙ ap nat_abs at.1 in
-    let few = within_file n whole in
-    omega (arith, same, few)
+-- what the range of two such bytes is
+is_range : (first last : ℤ) (span : Span) → ((n : ℕ) × (first ≡ pos n)) → ((n : ℕ) × (last ≡ pos n)) → int_lt (pos OFFMAX) first ≡ false
+    → int_lt (pos OFFMAX) last ≡ false
+    → ◌≡◌ {A = Result Span RangeFault} (Ok (record { first = nat_abs first; last = nat_abs last })) (Ok span) → IsWithin span
+is_range first last span at to low high is =
+    let begins = within_file at.0 (subst (λ (z : ℤ). int_lt (pos OFFMAX) z ≡ false) at.1 low) in
+    let ends = within_file to.0 (subst (λ (z : ℤ). int_lt (pos OFFMAX) z ≡ false) to.1 high) in
+    let first_is : span.first ≡ at.0 = ap (λ r. (span_of r).first) (sym is) ∙ ap nat_abs at.1 in
+    let last_is : span.last ≡ to.0 = ap (λ r. (span_of r).last) (sym is) ∙ ap nat_abs to.1 in
+    (omega (arith, first_is, begins), omega (arith, last_is, ends))
   where
-    span_last : Result Span RangeFault → ℕ
-    span_last (Ok s) = s.last
-    span_last (Err fault) = 0
+    span_of : Result Span RangeFault → Span
+    span_of (Ok s) = s
+    span_of (Err fault) = span
 
 between : (first last : ℤ) (span : Span) (low high far : Bool) → int_lt first (pos 0) ≡ low → int_lt (pos OFFMAX) first ≡ high → int_lt (pos OFFMAX) last ≡ far
-    → (int_lt first (pos 0) ≡ false → (n : ℕ) × (last ≡ pos n)) → range_between first last ≡ Ok span → span.last ≤ OFFMAX
+    → (int_lt first (pos 0) ≡ false → (n : ℕ) × (last ≡ pos n)) → range_between first last ≡ Ok span → IsWithin span
 between first last span true high far is_low is_high is_far some is =
     absurd (let bad : ◌≡◌ {A = Result Span RangeFault} (Err Invalid) (Ok span) = rw is_low at is in cc)
 between first last span false true far is_low is_high is_far some is =
@@ -383,31 +401,39 @@ between first last span false true far is_low is_high is_far some is =
 between first last span false false true is_low is_high is_far some is =
     absurd (let bad : ◌≡◌ {A = Result Span RangeFault} (Err Overflow) (Ok span) = rw (is_low, is_high, is_far) at is in cc)
 between first last span false false false is_low is_high is_far some is =
-    last_within last first span (some is_low) is_far (rw (is_low, is_high, is_far) at is)
+    is_range first last span (not_negative first is_low) (some is_low) is_high is_far (rw (is_low, is_high, is_far) at is)
 
-resolved_within : (lock : Lock) (look : Look) (span : Span) → resolution lock.whence lock.start lock.len look.offset look.size ≡ Ok span → span.last ≤ OFFMAX
+resolved_within : (lock : Lock) (look : Look) (span : Span) → resolution lock.whence lock.start lock.len look.offset look.size ≡ Ok span → IsWithin span
 resolved_within lock look span is =
     let from = pos (base_of lock.whence look.offset look.size) +ℤ lock.start in
     between (first_byte from lock.len) (last_byte from lock.len) span _ _ _ refl refl refl (last_not_negative from lock.len) is
 
 described_fits : (rules : Rules) (S : State) (p n : ℕ) (cmd : LkCmd) (lock : Lock) (look : Look) (outcome : Outcome) → IsAtHand rules S p n
-    → DescribedComesTo rules S p n cmd lock look outcome → OutcomeFits rules outcome
-described_fits rules S p n cmd lock look outcome h is =
+    → FitsLook look → DescribedComesTo rules S p n cmd lock look outcome → OutcomeFits rules outcome
+described_fits rules S p n cmd lock look outcome h fit is =
     by_bool (is_bad_argument cmd lock) is (λ bad. refused_fits rules S p n _ outcome h bad)
     (λ good. ranged (resolution lock.whence lock.start lock.len look.offset look.size) refl good)
   where
     ranged : (range : Result Span RangeFault) → resolution lock.whence lock.start lock.len look.offset look.size ≡ range
         → MatchResult range (λ span. RangeComesTo rules S p n cmd lock.kind look span outcome) (λ fault. outcome ≡ refused S p n (range_error fault))
         → OutcomeFits rules outcome
-    ranged (Ok span) at is = range_fits rules S p n cmd lock.kind look span (wanted_mode lock.kind) outcome h (resolved_within lock look span at) is
+    ranged (Ok span) at is = range_fits rules S p n cmd lock.kind look span (wanted_mode lock.kind) outcome h fit (resolved_within lock look span at) is
     ranged (Err fault) at is = refused_fits rules S p n (range_error fault) outcome h is
 
-lock_comes_fit : (rules : Rules) (S : State) (p n : ℕ) (cmd : LkCmd) (lock : Lock) (look : Option Look) (outcome : Outcome) → IsAtHand rules S p n
+lock_comes_fit : (rules : Rules) (S : State) (p n fd : ℕ) (cmd : LkCmd) (lock : Lock) (look : Option Look) (outcome : Outcome) → IsAtHand rules S p n
+    → look_at S.descriptors p fd ≡ look
     → MatchOption look (outcome ≡ refused S p n EBADF) (λ look. DescribedComesTo rules S p n cmd lock look outcome) → OutcomeFits rules outcome
-lock_comes_fit rules S p n cmd lock None outcome h is = refused_fits rules S p n EBADF outcome h is
-lock_comes_fit rules S p n cmd lock (Some look) outcome h is = described_fits rules S p n cmd lock look outcome h is
+lock_comes_fit rules S p n fd cmd lock None outcome h at is = refused_fits rules S p n EBADF outcome h is
+lock_comes_fit rules S p n fd cmd lock (Some look) outcome h at is =
+    described_fits rules S p n cmd lock look outcome h (look_fits S.descriptors (S.descriptors.description_of p fd) look h.fits.locks.files at) is
 
 -- ---- flock
+
+-- with another flock mode of a description that may have been made
+flock_locks : (S : State) (file description : ℕ) (mode : Option Mode) → description ≤ description_limit → FitsLocks S
+    → FitsLocks (with_flock_mode S file description mode)
+flock_locks S file description mode small locks =
+    record { changes = locks.changes; flocks = each_append FitsFlock S.flock_changes _ locks.flocks (small, tt); files = locks.files }
 
 same_flock : (S : State) (file description : ℕ) (mode : Option Mode) → SameProcesses S (with_flock_mode S file description mode)
 same_flock S file description mode = record { states = refl; waits = refl; alive = λ p. refl }
@@ -415,57 +441,62 @@ same_flock S file description mode = record { states = refl; waits = refl; alive
 -- the test of a request behind these grants, in a state that fits, where the caller lives and no more wait than it leaves
 test_fits : (rules : Rules) (S U : State) (nb : Bool) (wanted : Wait) (grants : List Note) (outcome : Outcome) → IsAtHand rules S wanted.p wanted.n
     → Fits rules.limits U → IsSettled rules.policy U → U.states wanted.p ≡ Live → Each (IsWritableNote rules.limits) grants
-    → length grants + length U.waits ≤ 63 → IsSmallOwner wanted.owner → wanted.span.last ≤ OFFMAX
+    → length grants + length U.waits ≤ 63 → FitsWanted wanted
     → FlockTestComesTo rules U nb wanted grants outcome → OutcomeFits rules outcome
-test_fits rules S U true wanted grants outcome h fits settled live told few owner last is =
+test_fits rules S U true wanted grants outcome h fits settled live told few fit is =
     ⊎_elim
     (λ no. subst (OutcomeFits rules) (sym no.1)
     (record { after = fits; told = ((h.process, h.number, tt), told); few = inl (omega (arith, few)) }))
-    (λ yes. locked_fits rules S U wanted grants outcome h fits told few owner last yes.1) is
-test_fits rules S U false wanted grants outcome h fits settled live told few owner last is =
+    (λ yes. locked_fits rules S U wanted grants outcome h fits told few fit yes.1) is
+test_fits rules S U false wanted grants outcome h fits settled live told few fit is =
     ⊎_elim
-    (λ waits. waits_fit rules S U wanted grants outcome h fits settled live told (omega (arith, few)) owner last waits.0 waits.1)
-    (λ yes. locked_fits rules S U wanted grants outcome h fits told few owner last yes.1) is
+    (λ waits. waits_fit rules S U wanted grants outcome h fits settled live told (omega (arith, few)) fit waits.0 waits.1)
+    (λ yes. locked_fits rules S U wanted grants outcome h fits told few fit yes.1) is
 
 at_once_fits : (rules : Rules) (S : State) (nb : Bool) (wanted : Wait) (outcome : Outcome) → IsAtHand rules S wanted.p wanted.n
-    → IsSmallOwner wanted.owner → wanted.span.last ≤ OFFMAX → FlockTestComesTo rules S nb wanted [] outcome → OutcomeFits rules outcome
-at_once_fits rules S nb wanted outcome h owner last is =
+    → FitsWanted wanted → FlockTestComesTo rules S nb wanted [] outcome → OutcomeFits rules outcome
+at_once_fits rules S nb wanted outcome h fit is =
     let few = few_wait rules.limits S wanted.p h.process h.live h.fits in
-    test_fits rules S S nb wanted [] outcome h h.fits h.settled h.live tt (omega (arith, few)) owner last is
+    test_fits rules S S nb wanted [] outcome h h.fits h.settled h.live tt (omega (arith, few)) fit is
 
 conversion_fits : (rules : Rules) (S : State) (look : Look) (nb : Bool) (wanted : Wait) (outcome : Outcome) → IsAtHand rules S wanted.p wanted.n
-    → IsSmallOwner wanted.owner → wanted.span.last ≤ OFFMAX → ConversionComesTo rules S look nb wanted outcome → OutcomeFits rules outcome
-conversion_fits rules S look nb wanted outcome h owner last (grants, settled, removes, test) =
+    → FitsLook look → FitsWanted wanted → ConversionComesTo rules S look nb wanted outcome → OutcomeFits rules outcome
+conversion_fits rules S look nb wanted outcome h look_fit fit (grants, settled, removes, test) =
     let U = with_flock_mode S look.file look.desc None in
-    let fits = fits_same rules.limits S U h.fits (same_flock S look.file look.desc None) h.fits.changes in
+    let fits = fits_same rules.limits S U h.fits (same_flock S look.file look.desc None) (flock_locks S look.file look.desc None look_fit.1 h.fits.locks) in
     let all = settles_fit rules.limits rules.policy U grants settled fits removes in
     let few = few_wait rules.limits S wanted.p h.process h.live h.fits in
     let count = all.count in
     test_fits rules S settled nb wanted grants outcome h all.after (settles_settled rules.policy U grants settled removes) (all.live wanted.p h.live)
-    all.told (omega (arith, few, count)) owner last test
+    all.told (omega (arith, few, count)) fit test
 
 flock_mode_fits : (rules : Rules) (S : State) (look : Look) (nb : Bool) (wanted : Wait) (held : Option Mode) (outcome : Outcome)
-    → IsAtHand rules S wanted.p wanted.n → IsSmallOwner wanted.owner → wanted.span.last ≤ OFFMAX
+    → IsAtHand rules S wanted.p wanted.n → FitsLook look → FitsWanted wanted
     → FlockModeComesTo rules S look nb wanted held outcome → OutcomeFits rules outcome
-flock_mode_fits rules S look nb wanted None outcome h owner last is = at_once_fits rules S nb wanted outcome h owner last is
-flock_mode_fits rules S look nb wanted (Some held) outcome h owner last is =
+flock_mode_fits rules S look nb wanted None outcome h look_fit fit is = at_once_fits rules S nb wanted outcome h fit is
+flock_mode_fits rules S look nb wanted (Some held) outcome h look_fit fit is =
     by_bool (is_same_mode held wanted.mode) is
-    (λ same. answers_fit rules S S wanted.p wanted.n replies.Ok outcome h (same_all S) h.fits.changes tt same)
-    (λ other. conversion_fits rules S look nb wanted outcome h owner last other)
+    (λ same. answers_fit rules S S wanted.p wanted.n replies.Ok outcome h (same_all S) h.fits.locks tt same)
+    (λ other. conversion_fits rules S look nb wanted outcome h look_fit fit other)
 
 flock_op_fits : (rules : Rules) (S : State) (p n : ℕ) (look : Look) (op : FlockOp) (nb : Bool) (outcome : Outcome) → IsAtHand rules S p n
-    → FlockOpComesTo rules S p n look op nb outcome → OutcomeFits rules outcome
-flock_op_fits rules S p n look Un nb outcome h is =
-    answers_fit rules S (with_flock_mode S look.file look.desc None) p n replies.Ok outcome h (same_flock S look.file look.desc None) h.fits.changes tt is
-flock_op_fits rules S p n look Sh nb outcome h is =
-    flock_mode_fits rules S look nb (wanted_flock p n look modes.Read) (flock_mode_in S.flock_changes look.file look.desc) outcome h tt (omega arith) is
-flock_op_fits rules S p n look Ex nb outcome h is =
-    flock_mode_fits rules S look nb (wanted_flock p n look modes.Write) (flock_mode_in S.flock_changes look.file look.desc) outcome h tt (omega arith) is
+    → FitsLook look → FlockOpComesTo rules S p n look op nb outcome → OutcomeFits rules outcome
+flock_op_fits rules S p n look Un nb outcome h fit is =
+    answers_fit rules S (with_flock_mode S look.file look.desc None) p n replies.Ok outcome h (same_flock S look.file look.desc None)
+    (flock_locks S look.file look.desc None fit.1 h.fits.locks) tt is
+flock_op_fits rules S p n look Sh nb outcome h fit is =
+    flock_mode_fits rules S look nb (wanted_flock p n look modes.Read) (flock_mode_in S.flock_changes look.file look.desc) outcome h fit
+    (record { owner = fit.1; first = omega arith; last = omega arith; file = fit.0 }) is
+flock_op_fits rules S p n look Ex nb outcome h fit is =
+    flock_mode_fits rules S look nb (wanted_flock p n look modes.Write) (flock_mode_in S.flock_changes look.file look.desc) outcome h fit
+    (record { owner = fit.1; first = omega arith; last = omega arith; file = fit.0 }) is
 
-flock_fits : (rules : Rules) (S : State) (p n : ℕ) (op : FlockOp) (nb : Bool) (look : Option Look) (outcome : Outcome) → IsAtHand rules S p n
+flock_fits : (rules : Rules) (S : State) (p n fd : ℕ) (op : FlockOp) (nb : Bool) (look : Option Look) (outcome : Outcome) → IsAtHand rules S p n
+    → look_at S.descriptors p fd ≡ look
     → MatchOption look (outcome ≡ refused S p n EBADF) (λ look. FlockOpComesTo rules S p n look op nb outcome) → OutcomeFits rules outcome
-flock_fits rules S p n op nb None outcome h is = refused_fits rules S p n EBADF outcome h is
-flock_fits rules S p n op nb (Some look) outcome h is = flock_op_fits rules S p n look op nb outcome h is
+flock_fits rules S p n fd op nb None outcome h at is = refused_fits rules S p n EBADF outcome h is
+flock_fits rules S p n fd op nb (Some look) outcome h at is =
+    flock_op_fits rules S p n look op nb outcome h (look_fits S.descriptors (S.descriptors.description_of p fd) look h.fits.locks.files at) is
 
 -- ---- processes
 
@@ -482,15 +513,9 @@ fork_fits rules processes S p n child outcome h (Ok done, D, gives, is) =
     subst (OutcomeFits rules) (sym is)
     (record {
       after = record {
-        changes = h.fits.changes;
+        locks = record { changes = h.fits.locks.changes; flocks = h.fits.locks.flocks; files = same_files S.descriptors D gives.1.descriptions h.fits.locks.files };
         waits = each_both (λ (other : Wait). other.p ≢ child) (FitsWait rules.limits S.states) (FitsWait rules.limits T.states) S.waits
-            (λ other differs at. record {
-              process = at.process;
-              number = at.number;
-              owner = at.owner;
-              last = at.last;
-              waiting = rw (ne_eqb other.p child differs) at.waiting;
-            }) others h.fits.waits;
+            (λ other differs at. still_waits rules.limits S.states T.states other at (rw (ne_eqb other.p child differs) at.waiting)) others h.fits.waits;
         apart = h.fits.apart;
         born = λ q there. ⊎_elim (λ same. gives.1.ever_alive q ∙ rw (eq-eqb q child same) refl)
             (λ differs. gives.1.ever_alive q
@@ -562,22 +587,16 @@ wait_found P (first ∷ waits) p wait all is = ⊎_elim
 -- without its wait a process stands otherwise, and was alive
 left_fits : (limits : Limits) (S T : State) (p : ℕ) (state : ProcState) → Fits limits S → S.states p ≢ Unborn
     → T.states ≡ (λ q. if q == p then state else S.states q) → T.waits ≡ without_wait_of S.waits p
-    → ((q : ℕ) → T.descriptors.ever_alive q ≡ S.descriptors.ever_alive q) → Each FitsChange T.changes → Fits limits T
-left_fits limits S T p state fits there states waits alive changes =
+    → ((q : ℕ) → T.descriptors.ever_alive q ≡ S.descriptors.ever_alive q) → FitsLocks T → Fits limits T
+left_fits limits S T p state fits there states waits alive locks =
     let left = without_wait_of S.waits p in
     let now = λ (q : ℕ). if q == p then state else S.states q in
     record {
-      changes = changes;
+      locks = locks;
       waits = subst (λ (l : List Wait). Each (FitsWait limits T.states) l) (sym waits)
           (subst (λ (f : ℕ → ProcState). Each (FitsWait limits f) left) (sym states)
           (each_both (λ (other : Wait). other.p ≢ p) (FitsWait limits S.states) (FitsWait limits now) left
-          (λ other differs at. record {
-            process = at.process;
-            number = at.number;
-            owner = at.owner;
-            last = at.last;
-            waiting = rw (ne_eqb other.p p differs) at.waiting;
-          }) (others_left S.waits p) (each_other (FitsWait limits S.states) S.waits p fits.waits)));
+          (λ other differs at. still_waits limits S.states now other at (rw (ne_eqb other.p p differs) at.waiting)) (others_left S.waits p) (each_other (FitsWait limits S.states) S.waits p fits.waits)));
       apart = subst AreApart (sym waits) (apart_left S.waits p fits.apart);
       born = λ q stands. alive q ∙ ⊎_elim
           (λ same. fits.born q (λ e. there (ap S.states (sym same) ∙ e)))
@@ -590,10 +609,12 @@ end_fits : (rules : Rules) (S : State) (p : ℕ) (told : List Note) (outcome : O
     → Each (IsWritableNote rules.limits) told → length told + length S.waits ≤ 64 → EndComesTo S p told outcome → OutcomeFits rules outcome
 end_fits rules S p told outcome fits there small writable few (released, D, gives, is) =
     let T = with_process (with_released (without_wait S p) D p released) p Ended in
+    let locks = released_locks S D p released small fits.locks (same_files S.descriptors D gives.0.descriptions fits.locks.files) in
+    let ended : FitsLocks T = record { changes = locks.changes; flocks = locks.flocks; files = locks.files } in
     let fewer = fewer_left S.waits p in
     subst (OutcomeFits rules) (sym is)
     (record {
-      after = left_fits rules.limits S T p Ended fits there refl refl gives.0.ever_alive (released_changes (without_wait S p) D p released small fits.changes);
+      after = left_fits rules.limits S T p Ended fits there refl refl gives.0.ever_alive ended;
       told = writable;
       few = inl (omega (arith, few, fewer));
     })
@@ -619,7 +640,7 @@ signal_fits : (rules : Rules) (S : State) (p n target : ℕ) (state : ProcState)
     → S.states target ≡ state → SignalComesTo S p n target state outcome → OutcomeFits rules outcome
 signal_fits rules S p n target Unborn outcome h at is = refused_fits rules S p n _ outcome h is
 signal_fits rules S p n target Ended outcome h at is = refused_fits rules S p n _ outcome h is
-signal_fits rules S p n target Live outcome h at is = answers_fit rules S S p n replies.Ok outcome h (same_all S) h.fits.changes tt is
+signal_fits rules S p n target Live outcome h at is = answers_fit rules S S p n replies.Ok outcome h (same_all S) h.fits.locks tt is
 signal_fits rules S p n target Waiting outcome h at (wait, found, is) =
     let few = few_wait rules.limits S p h.process h.live h.fits in
     let own = wait_found (FitsWait rules.limits S.states) S.waits target wait h.fits.waits found in
@@ -627,7 +648,8 @@ signal_fits rules S p n target Waiting outcome h at (wait, found, is) =
     let T = with_process (without_wait S target) target Live in
     subst (OutcomeFits rules) (sym is)
     (record {
-      after = left_fits rules.limits S T target Live h.fits (λ e. let bad : Waiting ≡ Unborn = sym at ∙ e in cc) refl refl (λ q. refl) h.fits.changes;
+      after = left_fits rules.limits S T target Live h.fits (λ e. let bad : Waiting ≡ Unborn = sym at ∙ e in cc) refl refl (λ q. refl)
+          (record { changes = h.fits.locks.changes; flocks = h.fits.locks.flocks; files = h.fits.locks.files });
       told = ((h.process, h.number, tt), ((subst (IsProcess rules.limits) own.process own.own.process, own.own.number, tt), tt));
       few = inl (omega (arith, few, fewer));
     })
@@ -642,8 +664,8 @@ request_fits rules processes S p n (DupTo fd to) outcome h writable is = dup_to_
 request_fits rules processes S p n (CloseFd fd) outcome h writable is = close_fits rules S p n fd outcome h is
 request_fits rules processes S p n (Seek fd offset) outcome h writable is = seek_fits rules S p n fd offset outcome h is
 request_fits rules processes S p n (Resize fd size) outcome h writable is = resize_fits rules S p n fd size outcome h is
-request_fits rules processes S p n (Lk fd cmd lock) outcome h writable is = lock_comes_fit rules S p n cmd lock (look_at S.descriptors p fd) outcome h is
-request_fits rules processes S p n (Flock fd op nb) outcome h writable is = flock_fits rules S p n op nb (look_at S.descriptors p fd) outcome h is
+request_fits rules processes S p n (Lk fd cmd lock) outcome h writable is = lock_comes_fit rules S p n fd cmd lock (look_at S.descriptors p fd) outcome h refl is
+request_fits rules processes S p n (Flock fd op nb) outcome h writable is = flock_fits rules S p n fd op nb (look_at S.descriptors p fd) outcome h refl is
 request_fits rules processes S p n (Fork child) outcome h writable is = fork_fits rules processes S p n child outcome h is
 request_fits rules processes S p n Exit outcome h writable is = exit_fits rules S p n outcome h is
 request_fits rules processes S p n (Signal target) outcome h writable is = signal_fits rules S p n target (S.states target) outcome h refl is

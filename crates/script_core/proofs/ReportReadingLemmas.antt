@@ -67,7 +67,7 @@ skips_one lines text i d within skips other out =
     SkipsTo-more lines text (get_or lines i d) (drop (i + 1) lines) (subst (SkipsTo lines text) cut skips) other out
 
 -- a word before a space is the first of the words
-words_of-first : (word rest : List ℕ) → IsWord word → words_of (word ++ 32 ∷ rest) ≡ word ∷ words_of rest
+pub words_of-first : (word rest : List ℕ) → IsWord word → words_of (word ++ 32 ∷ rest) ≡ word ∷ words_of rest
 words_of-first word rest is =
     ap (λ pieces. filter (λ word. not (length word == 0)) pieces) (slice_split-words word rest is.visible)
     ∙ rw (not_empty (length word) is.some) refl

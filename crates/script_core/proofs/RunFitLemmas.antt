@@ -17,7 +17,6 @@ use Rattle.script_core.specs.Words.{script_limit}
 use Rattle.script_core.specs.EntryReading.{IsWritableNote, IsWritableEvent}
 use Rattle.script_core.specs.JournalReading.{rules_at}
 use Rattle.script_core.specs.Output.{IsOutput, processes_in}
-use Rattle.script_core.specs.OutputReading.{EntriesOfOutputsAreLegal}
 use Rattle.script_core.proofs.ProcessLemmas.{IsArrivalOf, arrivals_read, few_read}
 use Rattle.script_core.proofs.JournalBackLemmas.{journals_read_back}
 use Rattle.script_core.proofs.FitLemmas.{Fits, each_append, settles_fit, settles_settled, nothing_granted}
@@ -88,39 +87,50 @@ sent_of P p ((q, first) ∷ arrivals) all k request is =
     (cases_eq q p)
 
 -- what is taken, with events that can be written before it
-record TakesFit (rules : Rules) (more : List Event) (T : State) : Type 0 where
-  after : Fits rules.limits T
-  settled : IsSettled rules.policy T
-  writable : Each (IsWritableEvent rules.limits) more
+pub record TakesFit (rules : Rules) (more : List Event) (T : State) : Type 0 where
+  pub after : Fits rules.limits T
+  pub settled : IsSettled rules.policy T
+  pub writable : Each (IsWritableEvent rules.limits) more
+  pub numbers : Each (λ event. event.n ≤ script_limit + 1) more
 
 takes_fit : (rules : Rules) (processes : ℕ) (arrivals : List (ℕ × Request)) (events : List Event) (S : State) (more : List Event) (T : State)
     → Each (IsArrivalOf rules.limits) arrivals → length arrivals ≤ script_limit + 1 → Fits rules.limits S → IsSettled rules.policy S
     → TakesMail rules processes (λ p. requests_sent p arrivals) events S more T → TakesFit rules more T
 takes_fit rules processes arrivals events S [] T of few fits settled takes =
-    record { after = subst (Fits rules.limits) (sym takes) fits; settled = subst (IsSettled rules.policy) (sym takes) settled; writable = tt }
+    record { after = subst (Fits rules.limits) (sym takes) fits; settled = subst (IsSettled rules.policy) (sym takes) settled; writable = tt; numbers = tt }
 takes_fit rules processes arrivals events S (event ∷ more) T of few fits settled (next, between, step, rest) =
     let arrived = sent_of (IsArrivalOf rules.limits) event.p arrivals of (length (events_of event.p events)) event.request next.request in
     let below = arrived.1 in
     let number = next.number in
     let first = step_fits rules processes S event between fits settled arrived.0 (omega (arith, below, number, few)) step in
     let later = takes_fit rules processes arrivals (events ++ event ∷ []) between more T of few first.after first.settled rest in
-    record { after = later.after; settled = later.settled; writable = (first.writable, later.writable) }
+    record {
+      after = later.after;
+      settled = later.settled;
+      writable = (first.writable, later.writable);
+      numbers = (omega (arith, below, number, few), later.numbers);
+    }
 
 drains_fit : (rules : Rules) (processes : ℕ) (arrived : List (ℕ × Request)) (events : List Event) (S : State) (later : List (ℕ × Request))
     (journal : List Event) (T : State) → Each (IsArrivalOf rules.limits) (arrived ++ later) → length (arrived ++ later) ≤ script_limit + 1
-    → Fits rules.limits S → IsSettled rules.policy S → Each (IsWritableEvent rules.limits) events
-    → DrainsFrom rules processes arrived events S later journal T → Each (IsWritableEvent rules.limits) journal
-drains_fit rules processes arrived events S [] journal T of few fits settled writable drains =
-    subst (Each (IsWritableEvent rules.limits)) (sym drains.0) writable
-drains_fit rules processes arrived events S (arrival ∷ later) journal T of few fits settled writable (more, between, takes, rest) =
+    → TakesFit rules events S → DrainsFrom rules processes arrived events S later journal T → TakesFit rules journal T
+drains_fit rules processes arrived events S [] journal T of few fits drains =
+    subst (λ l. TakesFit rules l T) (sym drains.0) (subst (λ X. TakesFit rules events X) (sym drains.1) fits)
+drains_fit rules processes arrived events S (arrival ∷ later) journal T of few fits (more, between, takes, rest) =
     let now = arrived ++ arrival ∷ [] in
     let cut : arrived ++ arrival ∷ later ≡ now ++ later = sym (append_assoc arrived (arrival ∷ []) later) in
     let all = subst (Each (IsArrivalOf rules.limits)) cut of in
     let many : length (now ++ later) ≤ script_limit + 1 = subst (λ l. length l ≤ script_limit + 1) cut few in
     let size = length-append now later in
-    let first = takes_fit rules processes now events S more between (each_front (IsArrivalOf rules.limits) now later all) (omega (arith, many, size)) fits settled takes.0 in
-    drains_fit rules processes now (events ++ more) between later journal T all many first.after first.settled
-    (each_append (IsWritableEvent rules.limits) events more writable first.writable) rest
+    let first = takes_fit rules processes now events S more between (each_front (IsArrivalOf rules.limits) now later all) (omega (arith, many, size)) fits.after
+    fits.settled takes.0 in
+    drains_fit rules processes now (events ++ more) between later journal T all many
+    (record {
+      after = first.after;
+      settled = first.settled;
+      writable = each_append (IsWritableEvent rules.limits) events more fits.writable first.writable;
+      numbers = each_append (λ (event : Event). event.n ≤ script_limit + 1) events more fits.numbers first.numbers;
+    }) rest
   where
     each_front : {X : Type 0} (P : X → Type 0) (xs ys : List X) → Each P (xs ++ ys) → Each P xs
     each_front P [] ys all = tt
@@ -182,23 +192,19 @@ run_of_output bytes text output =
 
 opening_fits : (rules : Rules) → Fits rules.limits opening_state × IsSettled rules.policy opening_state
 unfolding opening_state opening_descriptors
-opening_fits rules = (record { changes = tt; waits = tt; apart = tt; born = born }, tt)
+opening_fits rules = (record { locks = record { changes = tt; flocks = tt; files = record { few = omega arith; files = tt } }; waits = tt; apart = tt; born = born }, tt)
   where
     born : (p : ℕ) → opening_state.states p ≢ Unborn → opening_state.descriptors.ever_alive p ≡ true
     born p there = ⊎_elim (λ same. rw (eq-eqb p 1 same) refl) (λ differs. absurd (there (rw (ne_eqb p 1 differs) refl))) (cases_eq p 1)
 
-pub writable_output : (bytes text : List ℕ) (output : IsOutput bytes text) → All (IsWritableEvent output.script.rules.limits) output.journal
-writable_output bytes text output =
+pub output_fits : (bytes text : List ℕ) (output : IsOutput bytes text) → TakesFit output.script.rules output.journal output.state
+output_fits bytes text output =
     let script = output.script in
     let opening = opening_fits script.rules in
-    All-from_recursion (IsWritableEvent script.rules.limits) output.journal
-    (drains_fit script.rules (processes_in script) [] [] opening_state script.arrivals output.journal output.state
+    drains_fit script.rules (processes_in script) [] [] opening_state script.arrivals output.journal output.state
     (recursion_from_All (IsArrivalOf script.rules.limits) script.arrivals (arrivals_read bytes script output.accepted)) (few_read bytes script output.accepted)
-    opening.0 opening.1 tt output.drained)
+    (record { after = opening.0; settled = opening.1; writable = tt; numbers = tt }) output.drained
 
-pub entries_legal : EntriesOfOutputsAreLegal
-entries_legal bytes text output number place before same =
-    let rules : output.script.rules ≡ rules_at place = sym same in
-    journals_read_back number (record { place = place; entries = []; report = [] }) output.journal before refl
-    (subst (λ (r : Rules). All (IsWritableEvent r.limits) output.journal) rules (writable_output bytes text output))
-    (output.state, subst (λ (r : Rules). IsRun r (process_limit r.limits) output.journal output.state) rules (run_of_output bytes text output))
+pub writable_output : (bytes text : List ℕ) (output : IsOutput bytes text) → All (IsWritableEvent output.script.rules.limits) output.journal
+writable_output bytes text output =
+    All-from_recursion (IsWritableEvent output.script.rules.limits) output.journal (output_fits bytes text output).writable

@@ -3,7 +3,7 @@ ghost use Rattle.script_core.specs.Explaining.{ExplanationsAreComments};
 ghost use Rattle.script_core.specs.JournalReading.{EntriesAreReadBack, JournalsAreReadBack, JournalsHaveOneEnd, LinesHaveOneMeaning};
 ghost use Rattle.script_core.specs.JournalView.{OneIsTold};
 ghost use Rattle.script_core.specs.Output.{ScriptsHaveOneOutput};
-ghost use Rattle.script_core.specs.OutputReading.{EntriesOfOutputsAreLegal};
+ghost use Rattle.script_core.specs.OutputReading.{OutputsAreLegal};
 ghost use Rattle.script_core.specs.ReportReading.{ReportsAreReadBack};
 ghost use Rattle.script_core.specs.WithoutHeaders.{HeadersChangeNothingElse};
 
@@ -54,11 +54,13 @@ pub fn journals_are_read_back()
     ensures legal { JournalsAreReadBack }
 {}
 
-/// The entries of an output are a legal journal, under the rules of its script: each has at most 64 notes and numbers that its line may have,
-/// and they are a run. Of the report behind them this says nothing.
-pub fn entries_of_outputs_are_legal()
-    ensures { EntriesOfOutputsAreLegal }
-{}
+/// An output is a legal journal, its entries and its report, where the rules are those of its script: each event tells 64 notes at most, with
+/// numbers that its line may have, the events are a run, and each line of the report is read as the one that it is.
+pub fn outputs_are_legal()
+    ensures { OutputsAreLegal }
+{
+    locks_have_one_report();
+}
 
 /// What is explained of a script is its output and lines that begin with `#`: without these it is the output.
 pub fn explanations_are_comments()

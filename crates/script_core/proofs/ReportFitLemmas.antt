@@ -1,0 +1,451 @@
+-- The report of an output: its numbers are such as its lines may have, and each line is read as one of the report.
+use Rattle.std.proofs.Common.{◌≡◌, ◌≢◌, ℕ, zero, suc, ◌+◌, ◌*◌, ◌^◌, ◌<◌, ◌≤◌, ◌==◌, ◌&&◌, Bool, true, false, not, nat_le, nat_lt, List, [], ◌∷◌, ◌++◌, length, length-append, map, filter, All, Option, Some, None, Ok, IfSome, slice_get, inl, inr, ⊎_elim, refl, sym, ap, ◌∙◌, subst, arith, lit<, lit≤, eq-eqb, ne_eqb, codes, decimal}
+use Rattle.std.specs.Prelude.{⊤, if◌then◌else◌, IsTrue, IsFalse}
+use Rattle.std.specs.List.{AllByRecursion as Each, list_all}
+use Rattle.std.proofs.lemmas.Bool.{cases_eq, eqb-true, le-ltb}
+use Rattle.std.proofs.lemmas.Fmt.{length-decimal-le}
+use Rattle.std.proofs.lemmas.List.Elements.{recursion_from_All, filter-append}
+use Rattle.std.proofs.lemmas.List.Filters.{length-filter_both}
+use Rattle.range_core.specs.declared.TheConstants.{OFFMAX}
+use Rattle.range_core.specs.declared.Mode.{Mode}
+use Rattle.range_core.specs.declared.Mode.TheVariants.{Read, Write}
+use Rattle.range_core.specs.declared.Span.{Span}
+use Rattle.lock_book.specs.declared.Held.{Held}
+use Rattle.lock_book.specs.declared.Owner.{Owner}
+use Rattle.lock_book.specs.declared.Owner.TheVariants.{Process, Description}
+use Rattle.lock_book.specs.Changes.{FlockChange, mode_in, flock_mode_from, flock_mode_in}
+use Rattle.lock_book.specs.Conflicts.{ByteModes, FlockModes}
+use Rattle.lock_book.specs.Reports.{IsFlockLine, IsFileReport, AreFileReports, IsHeldReport}
+use Rattle.range_core.specs.Ranges.{IsRun}
+use Rattle.fd_table.specs.declared.TheConstants.{FILES}
+use Rattle.fd_table.specs.declared.Limits.{Limits}
+use Rattle.fd_table.specs.Descriptors.{description_limit, process_limit}
+use Rattle.wait_core.specs.declared.Family.{Family}
+use Rattle.wait_core.specs.declared.Family.TheVariants.{Bytes, Whole}
+use Rattle.wait_core.specs.declared.Wait.{Wait}
+use Rattle.lock_manager.specs.declared.request.Request.{Request}
+use Rattle.lock_manager.specs.declared.request.Note.{Note}
+use Rattle.lock_manager.specs.declared.request.Note.TheVariants as notes
+use Rattle.lock_manager.specs.declared.request.ProcState.{ProcState}
+use Rattle.lock_manager.specs.declared.request.ProcState.TheVariants.{Unborn, Live, Waiting, Ended}
+use Rattle.lock_manager.specs.State.{State}
+use Rattle.session_core.specs.Event.{Event}
+use Rattle.session_core.specs.Runs.{AreNumbered}
+use Rattle.session_core.specs.Mail.{events_of, answers_in, answers_from, answers_to, requests_sent}
+use Rattle.script_core.specs.declared.place.Place.{Place}
+use Rattle.script_core.specs.declared.place.JournalLine.TheVariants as lines
+use Rattle.script_core.specs.declared.text.ProcessLine.{ProcessLine}
+use Rattle.script_core.specs.declared.report.ReportLine.{ReportLine}
+use Rattle.script_core.specs.declared.report.ReportLine.TheVariants as report_lines
+use Rattle.script_core.specs.Words.{words_of, is_printable, script_limit}
+use Rattle.script_core.specs.RequestText.{mode_word}
+use Rattle.script_core.specs.EntryText.{tag}
+use Rattle.script_core.specs.EntryReading.{entry_limit, IsWritableEvent}
+use Rattle.script_core.specs.ScriptText.{IsProcess}
+use Rattle.script_core.specs.ReportText.{owner_text, flock_word, byte_lock_text, flock_text, held_text, wanted_text, wait_text, state_word, counts_text, process_text}
+use Rattle.script_core.specs.ReportReading.{IsLineOf, AreTextsOf, AreReportLines, AreSmall, least_line, lines_from}
+use Rattle.script_core.specs.JournalReading.{HeadGives, JournalLineGives}
+use Rattle.script_core.proofs.RoundTripLemmas.{IsWord, IsWord-tested, IsWord-decimal}
+use Rattle.script_core.proofs.ReportReadingLemmas.{words_of-first}
+use Rattle.script_core.proofs.EntryRoundTripLemmas.{AreSpoken, AreSpoken-append, AreSpoken-word, AreSpoken-tested, printable_spoken}
+use Rattle.script_core.proofs.FitLemmas.{IsSmallOwner, FitsChange, FitsFlock, FitsLocks, FitsWait, Fits, few_processes, each_append, each_map}
+use Rattle.script_core.proofs.OutcomeFitLemmas.{mode_fits}
+use Rattle.script_core.proofs.RunFitLemmas.{TakesFit}
+
+-- ---- the locks that are held
+
+-- the line is of a file that there is, of such an owner, and within the file
+record FitsHeld (held : Held) : Type 0 where
+  file : held.file < 64
+  owner : IsSmallOwner held.owner
+  first : held.span.first ≤ OFFMAX
+  last : held.span.last ≤ OFFMAX
+
+second_true : (a b : Bool) → a && b ≡ true → b ≡ true
+second_true true b is = is
+second_true false b is = absurd (let bad : false ≡ true = is in cc)
+
+-- a flock mode that is held was set by a change of that description
+flock_fits : (changes : List FlockChange) (before : Option Mode) (file description : ℕ) (mode : Mode) → Each FitsFlock changes
+    → flock_mode_from before changes file description ≡ Some mode → (before ≡ Some mode → description ≤ description_limit) → description ≤ description_limit
+flock_fits [] before file description mode fits is start = start is
+flock_fits (change ∷ changes) before file description mode fits is start =
+    by_set ((change.file == file) && (change.description == description)) refl is (flock_fits changes change.mode file description mode fits.1)
+    (λ given. flock_fits changes before file description mode fits.1 given start)
+  where
+    by_set : (b : Bool) → (change.file == file) && (change.description == description) ≡ b
+        → flock_mode_from (if b then change.mode else before) changes file description ≡ Some mode
+        → (flock_mode_from change.mode changes file description ≡ Some mode → (change.mode ≡ Some mode → description ≤ description_limit) → description ≤ description_limit)
+        → (flock_mode_from before changes file description ≡ Some mode → description ≤ description_limit) → description ≤ description_limit
+    by_set true sets is own other =
+        let same = eqb-true change.description description (second_true (change.file == file) (change.description == description) sets) in
+        let small = fits.0 in
+        own is (λ e. omega (arith, same, small))
+    by_set false sets is own other = other is
+
+byte_lock_fits : (S : State) (file : ℕ) → file < 64 → FitsLocks S → (x : Held) → (x.file ≡ file) × IsFalse x.whole × IsRun (mode_in S.changes file x.owner) x.span.first x.mode x.span
+    → FitsHeld x
+byte_lock_fits S file few locks x is =
+    let run = is.2 in
+    let covered = run.covered in
+    let first = mode_fits S.changes None file x.owner x.span.first x.mode locks.changes (run.constant x.span.first covered) (λ e. absurd cc) in
+    let last = mode_fits S.changes None file x.owner x.span.last x.mode locks.changes
+    (run.constant x.span.last (omega (arith, covered.0, covered.1), omega arith)) (λ e. absurd cc) in
+    let same = is.0 in
+    record { file = omega (arith, same, few); owner = first.0; first = first.1; last = last.1 }
+
+flock_line_fits : (S : State) (file : ℕ) → file < 64 → FitsLocks S → (x : Held) → IsFlockLine file (flock_mode_in S.flock_changes file) x → FitsHeld x
+flock_line_fits S file few locks x is =
+    let same = is.same_file in
+    let small = flock_fits S.flock_changes None file is.description x.mode locks.flocks is.mode (λ e. absurd cc) in
+    record {
+      file = omega (arith, same, few);
+      owner = subst IsSmallOwner (sym is.owner) small;
+      first = (let at = ap (λ (s : Span). s.first) is.span in omega (arith, at));
+      last = (let at = ap (λ (s : Span). s.last) is.span in omega (arith, at));
+    }
+
+file_fits : (S : State) (file : ℕ) (report : List Held) → file < 64 → FitsLocks S
+    → IsFileReport file (mode_in S.changes file) (flock_mode_in S.flock_changes file) report → Each FitsHeld report
+file_fits S file report few locks is =
+    subst (Each FitsHeld) (sym is.is)
+    (each_append FitsHeld is.byte_locks is.flock_locks
+    (each_map _ FitsHeld is.byte_locks (byte_lock_fits S file few locks) (recursion_from_All _ is.byte_locks is.are_bytes.each))
+    (each_map _ FitsHeld is.flock_locks (flock_line_fits S file few locks) (recursion_from_All _ is.flock_locks is.are_flocks.each)))
+
+files_fit : (S : State) (file more : ℕ) (report : List Held) → file + more ≤ 64 → FitsLocks S
+    → AreFileReports file more (mode_in S.changes) (flock_mode_in S.flock_changes) report → Each FitsHeld report
+files_fit S file zero report few locks is = subst (Each FitsHeld) (sym is) tt
+files_fit S file (suc more) report few locks (first, rest, is, one, others) =
+    subst (Each FitsHeld) (sym is)
+    (each_append FitsHeld first rest (file_fits S file first (omega (arith, few)) locks one) (files_fit S (file + 1) more rest (omega (arith, few)) locks others))
+
+held_fit : (S : State) (held : List Held) → FitsLocks S → IsHeldReport (mode_in S.changes) (flock_mode_in S.flock_changes) held → Each FitsHeld held
+unfolding IsHeldReport
+held_fit S held locks is = files_fit S 0 64 held (omega arith) locks is
+
+-- ---- counts
+
+-- of a numbered list whose numbers are so small there is no more
+numbered_few : (base limit : ℕ) (xs : List Event) → base ≤ limit → ((k : ℕ) → IfSome (slice_get xs k) (λ event. event.n ≡ base + k + 1))
+    → Each (λ event. event.n ≤ limit) xs → base + length xs ≤ limit
+numbered_few base limit [] low numbered small = omega (arith, low)
+numbered_few base limit (x ∷ xs) low numbered small =
+    let first : x.n ≡ base + 0 + 1 = numbered 0 in
+    let own = small.0 in
+    let rest = numbered_few (base + 1) limit xs (omega (arith, first, own))
+    (λ k. next xs k (numbered (suc k))) small.1 in
+    omega (arith, rest)
+  where
+    next : (xs : List Event) (k : ℕ) → IfSome (slice_get xs k) (λ event. event.n ≡ base + suc k + 1)
+        → IfSome (slice_get xs k) (λ event. event.n ≡ base + 1 + k + 1)
+    next [] k is = tt
+    next (y ∷ ys) zero is = omega (arith, is)
+    next (y ∷ ys) (suc k) is = shift (slice_get ys k) is
+      where
+        shift : (found : Option Event) → IfSome found (λ event. event.n ≡ base + suc (suc k) + 1) → IfSome found (λ event. event.n ≡ base + 1 + suc k + 1)
+        shift None is = tt
+        shift (Some event) is = omega (arith, is)
+
+each_filtered : {X : Type 0} (P : X → Type 0) (test : X → Bool) (xs : List X) → Each P xs → Each P (filter test xs)
+each_filtered P test [] all = tt
+each_filtered P test (x ∷ xs) all =
+    elim (test x) as (λ b. Each P (if b then x ∷ filter test xs else filter test xs)) [
+      | true ↦ (all.0, each_filtered P test xs all.1)
+      | false ↦ each_filtered P test xs all.1
+    ]
+
+taken_few : (events : List Event) (p : ℕ) → AreNumbered events → Each (λ event. event.n ≤ script_limit + 1) events → length (events_of p events) ≤ script_limit + 1
+taken_few events p numbered small =
+    let few = numbered_few 0 (script_limit + 1) (events_of p events) (omega arith) (λ k. plain (slice_get (events_of p events) k) k (numbered p k))
+    (each_filtered (λ (event : Event). event.n ≤ script_limit + 1) (λ event. event.p == p) events small) in
+    omega (arith, few)
+  where
+    plain : (found : Option Event) (k : ℕ) → IfSome found (λ event. event.n ≡ k + 1) → IfSome found (λ event. event.n ≡ 0 + k + 1)
+    plain None k is = tt
+    plain (Some event) k is = omega (arith, is)
+
+-- so many for each of so many processes
+all_of : ℕ → ℕ → ℕ
+all_of zero few = 0
+all_of (suc more) few = all_of more few + few
+
+fewer : {X : Type 0} (test other : X → Bool) (xs : List X) → length (filter test (filter other xs)) ≤ length (filter test xs)
+fewer test other [] = omega arith
+fewer test other (x ∷ xs) =
+    let rest = fewer test other xs in
+    elim (other x) as (λ b. length (filter test (if b then x ∷ filter other xs else filter other xs)) ≤ length (filter test (x ∷ xs))) [
+      | true ↦ elim (test x) as (λ b. length (if b then x ∷ filter test (filter other xs) else filter test (filter other xs)) ≤ length (if b then x ∷ filter test xs else filter test xs)) [
+          | true ↦ omega (arith, rest)
+          | false ↦ rest
+        ]
+      | false ↦ elim (test x) as (λ b. length (filter test (filter other xs)) ≤ length (if b then x ∷ filter test xs else filter test xs)) [
+          | true ↦ omega (arith, rest)
+          | false ↦ rest
+        ]
+    ]
+
+others_below : (n : ℕ) (events : List Event) → Each (λ event. (1 ≤ event.p) × (event.p ≤ suc n)) events
+    → Each (λ event. (1 ≤ event.p) × (event.p ≤ n)) (filter (λ event. not (event.p == suc n)) events)
+others_below n [] all = tt
+others_below n (event ∷ events) all =
+    ⊎_elim (λ same. rw (eq-eqb event.p (suc n) same) (others_below n events all.1))
+    (λ differs. rw (ne_eqb event.p (suc n) differs)
+    ((all.0.0, (let high = all.0.1 in not_last event.p n high differs)), others_below n events all.1)) (cases_eq event.p (suc n))
+  where
+    not_last : (p n : ℕ) → p ≤ suc n → p ≢ suc n → p ≤ n
+    not_last p n high differs = omega (arith, high, differs)
+
+all_few : (n few : ℕ) (events : List Event) → Each (λ event. (1 ≤ event.p) × (event.p ≤ n)) events → ((p : ℕ) → length (events_of p events) ≤ few)
+    → length events ≤ all_of n few
+unfolding all_of
+all_few zero few [] all each = omega arith
+all_few zero few (event ∷ events) all each = absurd (let low = all.0.0 in let high = all.0.1 in omega (arith, low, high))
+all_few (suc n) few events all each =
+    let others = filter (λ (event : Event). not (event.p == suc n)) events in
+    let rest = all_few n few others (others_below n events all)
+    (λ p. let own = each p in let less = fewer (λ (event : Event). event.p == p) (λ event. not (event.p == suc n)) events in omega (arith, own, less)) in
+    let own = each (suc n) in
+    let both = length-filter_both (λ (event : Event). event.p == suc n) (λ event. not (event.p == suc n)) (λ event. refl) events in
+    omega (arith, rest, own, both)
+
+few_events : (limits : Limits) (events : List Event) → Each (IsWritableEvent limits) events → ((p : ℕ) → length (events_of p events) ≤ script_limit + 1)
+    → length events ≤ 67108928
+unfolding all_of
+few_events limits events writable each =
+    all_few 64 (script_limit + 1) events
+    (each_map (IsWritableEvent limits) _ events (λ event is. (is.process.0, few_processes limits event.p is.process)) writable) each
+
+few_answers_in : (p place : ℕ) (told : List Note) → length (answers_in p place told) ≤ length told
+few_answers_in p place [] = omega arith
+few_answers_in p place (notes.Answer q n reply ∷ told) =
+    let rest = few_answers_in p place told in
+    elim (q == p) as (λ b. length (if b then (n, reply, place) ∷ answers_in p place told else answers_in p place told) ≤ length (notes.Answer q n reply ∷ told)) [
+      | true ↦ omega (arith, rest)
+      | false ↦ omega (arith, rest)
+    ]
+few_answers_in p place (notes.Waits q n ∷ told) = let rest = few_answers_in p place told in omega (arith, rest)
+
+few_answers : (limits : Limits) (p place : ℕ) (events : List Event) → Each (IsWritableEvent limits) events
+    → length (answers_from p place events) ≤ 64 * length events
+few_answers limits p place [] writable = omega arith
+few_answers limits p place (event ∷ events) writable =
+    let rest = few_answers limits p (place + 1) events writable.1 in
+    let own = few_answers_in p place event.notes in
+    let few = writable.0.few in
+    let size = length-append (answers_in p place event.notes) (answers_from p (place + 1) events) in
+    omega (arith, rest, own, few, size)
+
+pub sent_small : (arrivals : List (ℕ × Request)) → length arrivals ≤ script_limit + 1 → AreSmall (λ p. length (requests_sent p arrivals))
+sent_small arrivals few p = let less = sent_few p arrivals in omega (arith, few, less)
+  where
+    sent_few : (p : ℕ) (arrivals : List (ℕ × Request)) → length (requests_sent p arrivals) ≤ length arrivals
+    sent_few p [] = omega arith
+    sent_few p (arrival ∷ arrivals) =
+        let rest = sent_few p arrivals in
+        elim (arrival.0 == p) as
+        (λ b. length (map (λ (a : ℕ × Request). a.1) (if b then arrival ∷ filter (λ a. a.0 == p) arrivals else filter (λ a. a.0 == p) arrivals)) ≤ length (arrival ∷ arrivals)) [
+          | true ↦ omega (arith, rest)
+          | false ↦ omega (arith, rest)
+        ]
+
+-- ---- texts
+
+-- the text has bytes of words and spaces, and no more than so many
+record Said (k : ℕ) (text : List ℕ) : Type 0 where
+  spoken : AreSpoken text
+  short : length text ≤ k
+
+both : {a b : ℕ} (x y : List ℕ) → Said a x → Said b y → Said (a + b) (x ++ y)
+both x y h k =
+    let size = length-append x y in
+    let first = h.short in
+    let second = k.short in
+    record { spoken = AreSpoken-append x y h.spoken k.spoken; short = omega (arith, size, first, second) }
+
+given : (k : ℕ) (text : List ℕ) → list_all (λ byte. nat_le 32 byte && nat_le byte 122) text ≡ true → length text ≤ k → Said k text
+given k text tested short = record { spoken = AreSpoken-tested text tested; short = short }
+
+spaced : {a b : ℕ} (x y : List ℕ) → Said a x → Said b y → Said (a + 1 + b) (x ++ codes " " ++ y)
+spaced x y h k = both (x ++ codes " ") y (both x (codes " ") h (given 1 (codes " ") refl (lit≤ tt))) k
+
+number : (n : ℕ) → n < 2 ^ 64 → Said 20 (decimal n)
+number n small = record { spoken = AreSpoken-word (decimal n) (IsWord-decimal n small).visible; short = length-decimal-le 20 n (lit< tt) (omega (arith, small)) (omega (arith, small)) }
+
+said_mode : (mode : Mode) → Said 1 (mode_word mode)
+said_mode Read = given 1 (codes "r") refl (lit≤ tt)
+said_mode Write = given 1 (codes "w") refl (lit≤ tt)
+
+said_flock_word : (mode : Mode) → Said 2 (flock_word mode)
+said_flock_word Read = given 2 (codes "sh") refl (lit≤ tt)
+said_flock_word Write = given 2 (codes "ex") refl (lit≤ tt)
+
+said_owner : (owner : Owner) → IsSmallOwner owner → Said 32 (owner_text owner)
+said_owner (Process p) small =
+    let is = both (codes "process ") (decimal p) (given 12 (codes "process ") refl (lit≤ tt)) (number p (omega (arith, small))) in is
+said_owner (Description d) small =
+    let is = both (codes "description ") (decimal d) (given 12 (codes "description ") refl (lit≤ tt)) (number d (omega (arith, small))) in is
+
+said_state : (state : ProcState) → Said 7 (state_word state)
+said_state Unborn = given 7 (codes "unborn") refl (lit≤ tt)
+said_state Live = given 7 (codes "live") refl (lit≤ tt)
+said_state Waiting = given 7 (codes "waiting") refl (lit≤ tt)
+said_state Ended = given 7 (codes "ended") refl (lit≤ tt)
+
+said_byte_lock : (file : ℕ) (owner : Owner) (mode : Mode) (span : Span) → file < 64 → IsSmallOwner owner → span.first ≤ OFFMAX → span.last ≤ OFFMAX
+    → Said 97 (byte_lock_text file owner mode span)
+said_byte_lock file owner mode span few small first last =
+    spaced (decimal file ++ codes " " ++ owner_text owner ++ codes " " ++ mode_word mode ++ codes " " ++ decimal span.first) (decimal span.last)
+    (spaced (decimal file ++ codes " " ++ owner_text owner ++ codes " " ++ mode_word mode) (decimal span.first)
+    (spaced (decimal file ++ codes " " ++ owner_text owner) (mode_word mode)
+    (spaced (decimal file) (owner_text owner) (number file (omega (arith, few))) (said_owner owner small)) (said_mode mode))
+    (number span.first (omega (arith, first)))) (number span.last (omega (arith, last)))
+
+said_flock : (owner : Owner) (mode : Mode) → IsSmallOwner owner → Said 35 (flock_text owner mode)
+said_flock owner mode small = spaced (owner_text owner) (flock_word mode) (said_owner owner small) (said_flock_word mode)
+
+-- ---- lines
+
+-- the text is read as a line of the report, wherever it stands
+pub record IsReportText (text : List ℕ) : Type 0 where
+  pub printable : is_printable text ≡ true
+  pub gives : (place : Place) → JournalLineGives place text (Ok lines.Report)
+
+-- texts that begin with such a word are
+of_word : {k : ℕ} (word rest text : List ℕ) → text ≡ word ++ 32 ∷ rest → IsWord word
+    → ((place : Place) (words : List (List ℕ)) → HeadGives place (word ∷ words) (Ok (Some lines.Report))) → k ≤ entry_limit → Said k text → IsReportText text
+of_word word rest text is word_is head few said =
+    let short = said.short in
+    let printable = printable_spoken text said.spoken in
+    record {
+      printable = printable;
+      gives = λ place.
+          let heads : HeadGives place (words_of text) (Ok (Some lines.Report)) =
+          subst (λ ws. HeadGives place ws (Ok (Some lines.Report))) (sym (ap words_of is ∙ words_of-first word rest word_is)) (head place (words_of rest)) in
+          rw (le-ltb entry_limit (length text) (omega (arith, short, few)), printable) (Ok (Some lines.Report), heads, refl);
+    }
+
+held_reads : (held : Held) → FitsHeld held → IsReportText (held_text held)
+held_reads held fits =
+    elim held.whole as
+    (λ b. IsReportText (if b then codes "flock " ++ decimal held.file ++ codes " " ++ flock_text held.owner held.mode
+    else codes "lock " ++ byte_lock_text held.file held.owner held.mode held.span)) [
+      | true ↦
+          let file = fits.file in
+          let text = codes "flock " ++ decimal held.file ++ codes " " ++ flock_text held.owner held.mode in
+          of_word (codes "flock") (decimal held.file ++ codes " " ++ flock_text held.owner held.mode) text refl (IsWord-tested (codes "flock") refl) (λ place words. refl) (lit≤ tt)
+          (spaced (codes "flock " ++ decimal held.file) (flock_text held.owner held.mode)
+          (both (codes "flock ") (decimal held.file) (given 6 (codes "flock ") refl (lit≤ tt)) (number held.file (omega (arith, file))))
+          (said_flock held.owner held.mode fits.owner))
+      | false ↦
+          let text = byte_lock_text held.file held.owner held.mode held.span in
+          of_word (codes "lock") text (codes "lock " ++ text) refl (IsWord-tested (codes "lock") refl) (λ place words. refl) (lit≤ tt)
+          (both (codes "lock ") text (given 5 (codes "lock ") refl (lit≤ tt)) (said_byte_lock held.file held.owner held.mode held.span fits.file fits.owner fits.first fits.last))
+    ]
+
+-- the wait has numbers that its line may have
+record FitsWaitLine (wait : Wait) : Type 0 where
+  p : wait.p < 2 ^ 64
+  n : wait.n < 2 ^ 64
+  file : wait.file < 64
+  owner : IsSmallOwner wait.owner
+  first : wait.span.first ≤ OFFMAX
+  last : wait.span.last ≤ OFFMAX
+
+said_wanted : (family : Family) (wait : Wait) → FitsWaitLine wait → Said 97 (wanted_text family wait)
+said_wanted Bytes wait fits = said_byte_lock wait.file wait.owner wait.mode wait.span fits.file fits.owner fits.first fits.last
+said_wanted Whole wait fits =
+    let file = fits.file in
+    let is = both (decimal wait.file ++ codes " flock ") (flock_text wait.owner wait.mode)
+    (both (decimal wait.file) (codes " flock ") (number wait.file (omega (arith, file))) (given 7 (codes " flock ") refl (lit≤ tt))) (said_flock wait.owner wait.mode fits.owner) in
+    let short = is.short in
+    record { spoken = is.spoken; short = omega (arith, short) }
+
+said_tag : (p n : ℕ) → p < 2 ^ 64 → n < 2 ^ 64 → Said 41 (tag p n)
+said_tag p n p_small n_small =
+    both (decimal p ++ codes "#") (decimal n) (both (decimal p) (codes "#") (number p p_small) (given 1 (codes "#") refl (lit≤ tt))) (number n n_small)
+
+wait_reads : (wait : Wait) → FitsWaitLine wait → IsReportText (wait_text wait)
+wait_reads wait fits =
+    of_word (codes "wait") (tag wait.p wait.n ++ codes " " ++ wanted_text wait.family wait) (wait_text wait) refl (IsWord-tested (codes "wait") refl) (λ place words. refl) (lit≤ tt)
+    (spaced (codes "wait " ++ tag wait.p wait.n) (wanted_text wait.family wait)
+    (both (codes "wait ") (tag wait.p wait.n) (given 5 (codes "wait ") refl (lit≤ tt)) (said_tag wait.p wait.n fits.p fits.n)) (said_wanted wait.family wait fits))
+
+-- so does a process
+record FitsProcessLine (told : ProcessLine) : Type 0 where
+  p : told.p < 2 ^ 64
+  taken : told.taken < 2 ^ 64
+  answered : told.answered < 2 ^ 64
+
+said_counts : (told : ProcessLine) → told.sent < 2 ^ 64 → FitsProcessLine told → Said 82 (counts_text told)
+said_counts told sent fits =
+    let is = both (codes "sent " ++ decimal told.sent ++ codes " taken " ++ decimal told.taken ++ codes " answered ") (decimal told.answered)
+    (both (codes "sent " ++ decimal told.sent ++ codes " taken " ++ decimal told.taken) (codes " answered ")
+    (both (codes "sent " ++ decimal told.sent ++ codes " taken ") (decimal told.taken)
+    (both (codes "sent " ++ decimal told.sent) (codes " taken ")
+    (both (codes "sent ") (decimal told.sent) (given 5 (codes "sent ") refl (lit≤ tt)) (number told.sent sent)) (given 7 (codes " taken ") refl (lit≤ tt)))
+    (number told.taken fits.taken)) (given 10 (codes " answered ") refl (lit≤ tt))) (number told.answered fits.answered) in is
+
+process_reads : (told : ProcessLine) → told.sent < 2 ^ 64 → FitsProcessLine told → IsReportText (process_text told)
+process_reads told sent fits =
+    of_word (codes "proc") (decimal told.p ++ codes " " ++ counts_text told ++ codes " " ++ state_word told.state) (process_text told) refl
+    (IsWord-tested (codes "proc") refl) (λ place words. refl) (lit≤ tt)
+    (spaced (codes "proc " ++ decimal told.p ++ codes " " ++ counts_text told) (state_word told.state)
+    (spaced (codes "proc " ++ decimal told.p) (counts_text told)
+    (both (codes "proc ") (decimal told.p) (given 5 (codes "proc ") refl (lit≤ tt)) (number told.p fits.p)) (said_counts told sent fits)) (said_state told.state))
+
+-- ---- the report
+
+FitsLine : ReportLine → Type 0
+FitsLine (report_lines.Held held) = FitsHeld held
+FitsLine (report_lines.Waits wait) = FitsWaitLine wait
+FitsLine (report_lines.Process told) = FitsProcessLine told
+
+line_reads : (line : ReportLine) (text : List ℕ) → FitsLine line → IsLineOf line text → IsReportText text
+unfolding FitsLine
+line_reads (report_lines.Held held) text fits is = subst IsReportText (sym is) (held_reads held fits)
+line_reads (report_lines.Waits wait) text fits is = subst IsReportText (sym is) (wait_reads wait fits)
+line_reads (report_lines.Process told) text fits (sent, small, reported, is) =
+    subst IsReportText (sym is) (process_reads (record told { sent = sent }) small (record { p = fits.p; taken = fits.taken; answered = fits.answered }))
+
+texts_read : (reported : List ReportLine) (texts : List (List ℕ)) → Each FitsLine reported → AreTextsOf reported texts → Each IsReportText texts
+texts_read [] texts fits are = subst (Each IsReportText) (sym are) tt
+texts_read (line ∷ reported) [] fits are = tt
+texts_read (line ∷ reported) (text ∷ texts) fits (inl here) = (line_reads line text fits.0 here.0, texts_read reported texts fits.1 here.1)
+texts_read (line ∷ reported) (text ∷ texts) fits (inr out) = texts_read reported (text ∷ texts) fits.1 out.1.1
+
+each_of : {X : Type 0} (P : X → Type 0) (line : X → ReportLine) (xs : List X) → ((x : X) → P x → FitsLine (line x)) → Each P xs → Each FitsLine (map line xs)
+each_of P line [] f all = tt
+each_of P line (x ∷ xs) f all = (f x all.0, each_of P line xs f all.1)
+
+processes_fit : (limits : Limits) (states : ℕ → ProcState) (events : List Event) (p more : ℕ) → p + more ≤ 65 → Each (IsWritableEvent limits) events
+    → ((q : ℕ) → length (events_of q events) ≤ script_limit + 1) → Each FitsLine (lines_from states events p more)
+unfolding lines_from FitsLine
+processes_fit limits states events p zero few writable counts = tt
+processes_fit limits states events p (suc more) few writable counts =
+    let taken = counts p in
+    let answered = few_answers limits p 1 events writable in
+    let all = few_events limits events writable counts in (
+      record { p = omega (arith, few); taken = omega (arith, taken); answered = omega (arith, answered, all) },
+      processes_fit limits states events (p + 1) more (omega (arith, few)) writable counts,
+    )
+
+wait_line_fits : (limits : Limits) (states : ℕ → ProcState) (wait : Wait) → FitsWait limits states wait → FitsWaitLine wait
+wait_line_fits limits states wait is =
+    let few = few_processes limits wait.p is.process in
+    let wanted = is.wanted in
+    record { p = omega (arith, few); n = is.number; file = wanted.file; owner = wanted.owner; first = wanted.first; last = wanted.last }
+
+-- the texts of the report of what these events leave are read as lines of it
+pub report_reads : (limits : Limits) (processes : ℕ) (S : State) (events : List Event) (reported : List ReportLine) (texts : List (List ℕ)) → processes ≤ 64
+    → Fits limits S → Each (IsWritableEvent limits) events → Each (λ event. event.n ≤ script_limit + 1) events → AreNumbered events
+    → AreReportLines processes S events reported → AreTextsOf reported texts → Each IsReportText texts
+unfolding FitsLine
+report_reads limits processes S events reported texts few fits writable numbers numbered are told =
+    texts_read reported texts
+    (subst (Each FitsLine) (sym are.is)
+    (each_append FitsLine (map report_lines.Held are.held ++ map report_lines.Waits S.waits) (lines_from S.states events 1 processes)
+    (each_append FitsLine (map report_lines.Held are.held) (map report_lines.Waits S.waits)
+    (each_of FitsHeld report_lines.Held are.held (λ held is. is) (held_fit S are.held fits.locks are.is_held))
+    (each_of (FitsWait limits S.states) report_lines.Waits S.waits (wait_line_fits limits S.states) fits.waits))
+    (processes_fit limits S.states events 1 processes (omega (arith, few)) writable (λ p. taken_few events p numbered numbers)))) told
