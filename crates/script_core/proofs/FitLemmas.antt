@@ -200,10 +200,10 @@ pub lock_locks : (S : State) (wait : Wait) → FitsWanted wait → FitsLocks S �
 lock_locks S wait wanted locks =
     elim wait.family as (λ family. FitsLocks (with_lock_of family wait.owner S wait)) [
       | Bytes ↦ record {
-          changes = each_append FitsChange S.changes _ locks.changes (record { owner = wanted.owner; last = wanted.last }, tt);
-          flocks = locks.flocks;
-          files = locks.files;
-        }
+        changes = each_append FitsChange S.changes _ locks.changes (record { owner = wanted.owner; last = wanted.last }, tt);
+        flocks = locks.flocks;
+        files = locks.files;
+      }
       | Whole ↦ whole wait.owner wanted.owner
     ]
   where

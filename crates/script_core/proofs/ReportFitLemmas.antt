@@ -176,13 +176,13 @@ fewer test other (x ∷ xs) =
     let rest = fewer test other xs in
     elim (other x) as (λ b. length (filter test (if b then x ∷ filter other xs else filter other xs)) ≤ length (filter test (x ∷ xs))) [
       | true ↦ elim (test x) as (λ b. length (if b then x ∷ filter test (filter other xs) else filter test (filter other xs)) ≤ length (if b then x ∷ filter test xs else filter test xs)) [
-          | true ↦ omega (arith, rest)
-          | false ↦ rest
-        ]
+        | true ↦ omega (arith, rest)
+        | false ↦ rest
+      ]
       | false ↦ elim (test x) as (λ b. length (filter test (filter other xs)) ≤ length (if b then x ∷ filter test xs else filter test xs)) [
-          | true ↦ omega (arith, rest)
-          | false ↦ rest
-        ]
+        | true ↦ omega (arith, rest)
+        | false ↦ rest
+      ]
     ]
 
 others_below : (n : ℕ) (events : List Event) → Each (λ event. (1 ≤ event.p) × (event.p ≤ suc n)) events

@@ -25,8 +25,8 @@ pub use entry::parse_entry;
 pub use explain::{write_explained, write_unborn};
 pub use journal::{JournalFault, JournalReader};
 pub use laws::{
-    explanations_are_comments, headers_change_nothing_else,
-    journals_are_read_back, journals_have_one_end, lines_have_one_answer, outputs_are_legal, reports_are_read_back,
+    explanations_are_comments, headers_change_nothing_else, journals_are_read_back,
+    journals_have_one_end, lines_have_one_answer, outputs_are_legal, reports_are_read_back,
     scripts_have_one_output,
 };
 pub use report::{ReportFault, ReportLine, ReportReader};
