@@ -23,7 +23,7 @@ use Rattle.lockreplay.specs.declared.checking.Checking.{Checking}
 use Rattle.lockreplay.specs.Checks.{Verdict, Legal, Illegal, Faulty, HasChecked, HasJudged, HasReadLines, Judges, LinesCome, LeadsTo, AreDecided, HasReadBytes, IsFoundOf, IsFoundAt, verdict_of, AreLinesRead, verdict_at_end}
 
 -- no byte ends a line
-abbrev InLine : List ℕ → Type 0
+abbrev pub InLine : List ℕ → Type 0
 InLine bytes = All (λ byte. (byte == 10) ≡ false) bytes
 
 -- ---- lines
@@ -43,7 +43,7 @@ keeps_first [] piece pieces = refl
 keeps_first (byte ∷ line) piece pieces = refl
 
 -- a line that a line feed ends is the first
-lines_first : (line rest : List ℕ) → InLine line → lines_of (line ++ 10 ∷ rest) ≡ line ∷ lines_of rest
+pub lines_first : (line rest : List ℕ) → InLine line → lines_of (line ++ 10 ∷ rest) ≡ line ∷ lines_of rest
 lines_first line rest on =
     let next = piece_first rest in
     let split = slice_split_at (λ (byte : ℕ). byte == 10) line 10 rest on refl in

@@ -91,7 +91,7 @@ legal_line number reading line rest later (Ok said) (inl goes) = inl (goes.0, la
 legal_line number reading line rest later (Ok said) (inr stops) = absurd (let bad = stops.1 in cc)
 legal_line number reading line rest later (Err cause) is = absurd cc
 
-legal_of : (number : ℕ) (reading : JournalReading) (lines : List (List ℕ)) → JournalGives number reading lines journals.Legal
+pub legal_of : (number : ℕ) (reading : JournalReading) (lines : List (List ℕ)) → JournalGives number reading lines journals.Legal
     → LinesCome number reading lines Legal
 legal_of number reading [] (inl may) = inl (may.0, refl)
 legal_of number reading [] (inr due) = absurd (let bad = due.1 in cc)

@@ -11,6 +11,10 @@ use Rattle.script_core.specs.Words.{lines_of}
 use Rattle.script_core.specs.EntryReading.{entry_limit}
 use Rattle.script_core.specs.JournalReading.{JournalReading, JournalEnd, JournalGives, JournalLineGives, MayGoOn, MayEnd, journal_start, reading_behind}
 use Rattle.script_core.specs.JournalReading as journals
+use Rattle.lock_manager.specs.declared.request.Rules.{Rules}
+use Rattle.script_core.specs.HeaderText.{policy_word, limits_word}
+use Rattle.script_core.specs.WithoutHeaders.{plain_rules}
+use Rattle.script_core.specs.Output.{IsOutput}
 use Rattle.script_core.specs.JournalView.{HasRead, IsToldThere, expected_in}
 use Rattle.lockreplay.specs.declared.check.Outcome.{Outcome}
 use Rattle.lockreplay.specs.declared.check.Outcome.TheVariants as outcomes
@@ -67,6 +71,18 @@ pub record VerdictsAreOfEnds : Type 0 where
       → JournalGives number reading lines (end_of verdict)
   pub legal : (number : ℕ) (reading : JournalReading) (lines : List (List ℕ)) → JournalGives number reading lines journals.Legal
       → LinesCome number reading lines Legal
+
+-- the header lines that say these rules, each with its line feed
+abbrev pub header_lines : Rules → List ℕ
+header_lines rules = codes "policy " ++ policy_word rules.policy ++ 10 ∷ [] ++ codes "limits " ++ limits_word rules.limits ++ 10 ∷ []
+
+-- each output that is no longer than a journal may be is a legal one behind the header lines of its script's rules, and also without them
+-- where its script is under the held policy and small limits
+pub record OutputsAreJudgedLegal : Type 0 where
+  pub plain : (bytes text : List ℕ) (output : IsOutput bytes text) → output.script.rules ≡ plain_rules → length text ≤ journal_limit
+      → JournalComes text Legal
+  pub headed : (bytes text : List ℕ) (output : IsOutput bytes text) → length (header_lines output.script.rules ++ text) ≤ journal_limit
+      → JournalComes (header_lines output.script.rules ++ text) Legal
 
 -- the line that is written of an illegal journal
 abbrev pub illegal_line : ℕ → List ℕ → List ℕ

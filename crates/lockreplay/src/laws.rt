@@ -1,7 +1,7 @@
 //! Laws of the definition of a verdict. Each is the contract of a function that does nothing.
-ghost use Rattle.lockreplay.specs.Checks.{JournalsHaveOneVerdict, VerdictsAreOfEnds};
+ghost use Rattle.lockreplay.specs.Checks.{JournalsHaveOneVerdict, OutputsAreJudgedLegal, VerdictsAreOfEnds};
 
-use script_core::lines_have_one_answer;
+use script_core::{lines_have_one_answer, outputs_are_legal};
 
 /// A journal has one verdict: two verdicts of the same bytes are equal, with the line and the text of what is expected there. It is that of
 /// the end of the journal's lines, where the bytes aren't too many.
@@ -10,4 +10,12 @@ pub fn journals_have_one_verdict()
     ensures ends { VerdictsAreOfEnds }
 {
     lines_have_one_answer();
+}
+
+/// What a replay writes is judged legal: an output is a legal journal behind the header lines of its script's rules, and under the held
+/// policy and small limits without them too, where the journal isn't longer than one may be.
+pub fn outputs_are_judged_legal()
+    ensures { OutputsAreJudgedLegal }
+{
+    outputs_are_legal();
 }
