@@ -34,6 +34,7 @@ each_tested (byte ∷ bytes) tested = (first (byte == 10) (list_all (λ b. not (
     first : (ends others : Bool) → not ends && others ≡ true → ends ≡ false
     first true others is = absurd (let bad : false ≡ true = is in cc)
     first false others is = refl
+
     later : (ends others : Bool) → not ends && others ≡ true → others ≡ true
     later true others is = absurd (let bad : false ≡ true = is in cc)
     later false others is = is
