@@ -3,6 +3,7 @@
 # and to standard error, and its exit status must be those that are written here.
 # worked-scripts/NAME: a script; NAME.out is its output, or NAME.err its fault, with status 2.
 # checked-journals/NAME: a journal for --check; NAME.out is what is told of an illegal one, NAME.err the fault of a faulty one.
+# explained-cycles/NAME: a script; NAME.part stands in what is explained of it, from the line of an entry on.
 # cuts/script: a script; FIRST-LAST.out or FIRST-LAST.err is what comes of it where it is cut behind any of these bytes.
 # Usage: worked-scripts.sh PROGRAM
 set -eu
@@ -135,6 +136,17 @@ check 2 "$work/empty" "$work/fault" '64 MiB of spaces' "$work/spaces" --check
 printf ' ' >> "$work/spaces"
 fault 0 '6 TooLong'
 check 2 "$work/empty" "$work/fault" '64 MiB of spaces and one more' "$work/spaces" --check
+
+# Each cycle is told step by step.
+for part in "$here"/explained-cycles/*.part; do
+    script=${part%.part}
+    ended=0
+    "$program" --explain "$script" > "$work/explained" 2> "$work/errors" || ended=$?
+    first=$(head -n 1 "$part")
+    grep -n -x -F -e "$first" "$work/explained" | head -n 1 | cut -d: -f1 > "$work/place"
+    tail -n "+$(cat "$work/place")" "$work/explained" | head -n "$(wc -l < "$part")" > "$work/output"
+    judge 0 "$part" "$work/empty" "lockreplay --explain $script"
+done
 
 echo "worked scripts: $passed passed, $failed failed"
 [ "$failed" -eq 0 ] && [ "$passed" -gt 0 ]

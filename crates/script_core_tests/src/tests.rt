@@ -1,5 +1,4 @@
 //! Scripts and their faults line by line, and the texts of entries and reports.
-mod deadlocks;
 mod header_lines;
 mod journal_entries;
 mod journals;
