@@ -277,7 +277,7 @@ pub(super) const CASES: [Case; 37] = [
         expects: Expects::Nothing,
     },
     Case {
-        name: "at the last place process 3 alone can ask, with number 2: not request 0 of process 0",
+        name: "at the last place process 3 alone can ask, with number 2: not 0#0",
         processes: 3,
         front: 7,
         rest: &[Line {
@@ -290,7 +290,7 @@ pub(super) const CASES: [Case; 37] = [
         expects: Expects::NoRequest(ProcState::Unborn),
     },
     Case {
-        name: "at the last place process 3 alone can ask, with number 2: not request 1 of process 0",
+        name: "at the last place process 3 alone can ask, with number 2: not 0#1",
         processes: 3,
         front: 7,
         rest: &[Line {
@@ -303,7 +303,7 @@ pub(super) const CASES: [Case; 37] = [
         expects: Expects::NoRequest(ProcState::Unborn),
     },
     Case {
-        name: "at the last place process 3 alone can ask, with number 2: not request 5 of process 1",
+        name: "at the last place process 3 alone can ask, with number 2: not 1#5",
         processes: 3,
         front: 7,
         rest: &[Line {
@@ -316,7 +316,7 @@ pub(super) const CASES: [Case; 37] = [
         expects: Expects::NoRequest(ProcState::Waiting),
     },
     Case {
-        name: "at the last place process 3 alone can ask, with number 2: not request 3 of process 2",
+        name: "at the last place process 3 alone can ask, with number 2: not 2#3",
         processes: 3,
         front: 7,
         rest: &[Line {
@@ -329,7 +329,7 @@ pub(super) const CASES: [Case; 37] = [
         expects: Expects::NoRequest(ProcState::Waiting),
     },
     Case {
-        name: "at the last place process 3 alone can ask, with number 2: not request 1 of process 1",
+        name: "at the last place process 3 alone can ask, with number 2: not 1#1",
         processes: 3,
         front: 7,
         rest: &[Line {
@@ -342,7 +342,7 @@ pub(super) const CASES: [Case; 37] = [
         expects: Expects::NoRequest(ProcState::Waiting),
     },
     Case {
-        name: "at the last place process 3 alone can ask, with number 2: not request 1 of process 2",
+        name: "at the last place process 3 alone can ask, with number 2: not 2#1",
         processes: 3,
         front: 7,
         rest: &[Line {
@@ -355,7 +355,7 @@ pub(super) const CASES: [Case; 37] = [
         expects: Expects::NoRequest(ProcState::Waiting),
     },
     Case {
-        name: "at the last place process 3 alone can ask, with number 2: not request 0 of process 3",
+        name: "at the last place process 3 alone can ask, with number 2: not 3#0",
         processes: 3,
         front: 7,
         rest: &[Line {
@@ -368,7 +368,7 @@ pub(super) const CASES: [Case; 37] = [
         expects: Expects::NumberAfter(1),
     },
     Case {
-        name: "at the last place process 3 alone can ask, with number 2: not request 1 of process 3",
+        name: "at the last place process 3 alone can ask, with number 2: not 3#1",
         processes: 3,
         front: 7,
         rest: &[Line {
@@ -381,7 +381,7 @@ pub(super) const CASES: [Case; 37] = [
         expects: Expects::NumberAfter(1),
     },
     Case {
-        name: "at the last place process 3 alone can ask, with number 2: not request 3 of process 3",
+        name: "at the last place process 3 alone can ask, with number 2: not 3#3",
         processes: 3,
         front: 7,
         rest: &[Line {
@@ -407,7 +407,7 @@ pub(super) const CASES: [Case; 37] = [
         expects: Expects::NumberAfter(1),
     },
     Case {
-        name: "at the last place process 3 alone can ask, with number 2: not request 1 of process 4",
+        name: "at the last place process 3 alone can ask, with number 2: not 4#1",
         processes: 3,
         front: 7,
         rest: &[Line {
@@ -420,7 +420,7 @@ pub(super) const CASES: [Case; 37] = [
         expects: Expects::NoRequest(ProcState::Unborn),
     },
     Case {
-        name: "at the last place process 3 alone can ask, with number 2: not request 1 of process 255",
+        name: "at the last place process 3 alone can ask, with number 2: not 255#1",
         processes: 3,
         front: 7,
         rest: &[Line {
