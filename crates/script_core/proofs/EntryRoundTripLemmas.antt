@@ -76,6 +76,7 @@ unfolding AreSpoken
 printable_then [] rest are printable = printable
 printable_then (byte ∷ bytes) rest are printable = rw (printable_byte byte are.0 are.1) (printable_then bytes rest are.2 printable)
 
+-- such bytes are printable
 pub printable_spoken : (bytes : List ℕ) → AreSpoken bytes → is_printable bytes ≡ true
 unfolding AreSpoken
 printable_spoken [] are = refl

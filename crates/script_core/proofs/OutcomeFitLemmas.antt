@@ -242,7 +242,7 @@ same_owner (Process p) (Description e) is small = absurd (let bad : false ≡ tr
 same_owner (Description d) (Process q) is small = absurd (let bad : false ≡ true = is in cc)
 same_owner (Description d) (Description e) is small = let same = eqb-true d e is in omega (arith, same, small)
 
-both_true : (a b : Bool) → a && b ≡ true → (a ≡ true) × (b ≡ true)
+pub both_true : (a b : Bool) → a && b ≡ true → (a ≡ true) × (b ≡ true)
 both_true true true is = (refl, refl)
 both_true true false is = absurd (let bad : false ≡ true = is in cc)
 both_true false b is = absurd (let bad : false ≡ true = is in cc)

@@ -22,8 +22,8 @@ use Rattle.script_core.specs.Words.{lines_of, is_printable}
 use Rattle.script_core.specs.EntryText.{entry_text, entry_line}
 use Rattle.script_core.specs.EntryReading.{entry_limit, IsWritableEvent}
 use Rattle.script_core.specs.ReportReading.{AreTextsOf, AreReportLines, lines_from, joined}
-use Rattle.script_core.specs.JournalReading.{Legal, JournalReading, JournalGives, IsBeforeReport, IsReportAt, IsWholeReport, AreLegal, rules_at, processes_at, limits_at, reading_behind}
-use Rattle.script_core.specs.Output.{IsOutput, processes_in}
+use Rattle.script_core.specs.JournalReading.{Legal, JournalReading, JournalGives, IsBeforeReport, IsReportAt, IsWholeReport, AreLegal, rules_at, limits_at, reading_behind}
+use Rattle.script_core.specs.Output.{processes_in}
 use Rattle.script_core.specs.OutputReading.{OutputsAreLegal}
 use Rattle.script_core.proofs.ProcessLemmas.{few_read}
 use Rattle.script_core.proofs.EntryRoundTripLemmas.{entry_reads_back, all_first, all_later}
@@ -31,21 +31,18 @@ use Rattle.script_core.proofs.CommentLaws.{InLine, lines_first}
 use Rattle.script_core.proofs.JournalBackLemmas.{line_of_entry, legal_front}
 use Rattle.script_core.proofs.ReportReadingLaws.{reports_read_back}
 use Rattle.script_core.proofs.FitLemmas.{each_append, each_map}
+use Rattle.script_core.proofs.OutcomeFitLemmas.{both_true}
 use Rattle.script_core.proofs.RunFitLemmas.{run_of_output, output_fits, writable_output}
 use Rattle.script_core.proofs.ReportFitLemmas.{IsReportText, report_reads, sent_small}
 
 -- ---- lines
-
-second : (a b : Bool) → a && b ≡ true → b ≡ true
-second true b is = is
-second false b is = absurd (let bad : false ≡ true = is in cc)
 
 -- what is printable ends no line
 in_line : (line : List ℕ) → is_printable line ≡ true → InLine line
 in_line [] is = refl
 in_line (byte ∷ line) is = elim (eqb_tells byte 10) [
   | inl ends ↦ absurd (let bad : false ≡ true = subst (λ (b : ℕ). is_printable (b ∷ line) ≡ true) ends.1 is in cc)
-  | inr goes ↦ rw goes.0 (in_line line (second (nat_le 32 byte && nat_le byte 126) (is_printable line) is))
+  | inr goes ↦ rw goes.0 (in_line line (both_true (nat_le 32 byte && nat_le byte 126) (is_printable line) is).1)
 ]
 
 -- texts, each with its line feed, are the lines

@@ -1,10 +1,10 @@
 -- The report of an output: its numbers are such as its lines may have, and each line is read as one of the report.
-use Rattle.std.proofs.Common.{◌≡◌, ◌≢◌, ℕ, zero, suc, ◌+◌, ◌*◌, ◌^◌, ◌<◌, ◌≤◌, ◌==◌, ◌&&◌, Bool, true, false, not, nat_le, nat_lt, List, [], ◌∷◌, ◌++◌, length, length-append, map, filter, All, Option, Some, None, Ok, IfSome, slice_get, inl, inr, ⊎_elim, refl, sym, ap, ◌∙◌, subst, arith, lit<, lit≤, eq-eqb, ne_eqb, codes, decimal}
-use Rattle.std.specs.Prelude.{⊤, if◌then◌else◌, IsTrue, IsFalse}
+use Rattle.std.proofs.Common.{◌≡◌, ◌≢◌, ℕ, zero, suc, ◌+◌, ◌*◌, ◌^◌, ◌<◌, ◌≤◌, ◌==◌, ◌&&◌, Bool, true, false, not, nat_le, List, [], ◌∷◌, ◌++◌, length, length-append, map, filter, Option, Some, None, Ok, IfSome, slice_get, inl, inr, ⊎_elim, refl, sym, ap, ◌∙◌, subst, arith, lit<, lit≤, eq-eqb, ne_eqb, codes, decimal}
+use Rattle.std.specs.Prelude.{if◌then◌else◌, IsFalse}
 use Rattle.std.specs.List.{AllByRecursion as Each, list_all}
 use Rattle.std.proofs.lemmas.Bool.{cases_eq, eqb-true, le-ltb}
 use Rattle.std.proofs.lemmas.Fmt.{length-decimal-le}
-use Rattle.std.proofs.lemmas.List.Elements.{recursion_from_All, filter-append}
+use Rattle.std.proofs.lemmas.List.Elements.{recursion_from_All}
 use Rattle.std.proofs.lemmas.List.Filters.{length-filter_both}
 use Rattle.range_core.specs.declared.TheConstants.{OFFMAX}
 use Rattle.range_core.specs.declared.Mode.{Mode}
@@ -14,12 +14,10 @@ use Rattle.lock_book.specs.declared.Held.{Held}
 use Rattle.lock_book.specs.declared.Owner.{Owner}
 use Rattle.lock_book.specs.declared.Owner.TheVariants.{Process, Description}
 use Rattle.lock_book.specs.Changes.{FlockChange, mode_in, flock_mode_from, flock_mode_in}
-use Rattle.lock_book.specs.Conflicts.{ByteModes, FlockModes}
 use Rattle.lock_book.specs.Reports.{IsFlockLine, IsFileReport, AreFileReports, IsHeldReport}
 use Rattle.range_core.specs.Ranges.{IsRun}
-use Rattle.fd_table.specs.declared.TheConstants.{FILES}
 use Rattle.fd_table.specs.declared.Limits.{Limits}
-use Rattle.fd_table.specs.Descriptors.{description_limit, process_limit}
+use Rattle.fd_table.specs.Descriptors.{description_limit}
 use Rattle.wait_core.specs.declared.Family.{Family}
 use Rattle.wait_core.specs.declared.Family.TheVariants.{Bytes, Whole}
 use Rattle.wait_core.specs.declared.Wait.{Wait}
@@ -31,7 +29,7 @@ use Rattle.lock_manager.specs.declared.request.ProcState.TheVariants.{Unborn, Li
 use Rattle.lock_manager.specs.State.{State}
 use Rattle.session_core.specs.Event.{Event}
 use Rattle.session_core.specs.Runs.{AreNumbered}
-use Rattle.session_core.specs.Mail.{events_of, answers_in, answers_from, answers_to, requests_sent}
+use Rattle.session_core.specs.Mail.{events_of, answers_in, answers_from, requests_sent}
 use Rattle.script_core.specs.declared.place.Place.{Place}
 use Rattle.script_core.specs.declared.place.JournalLine.TheVariants as lines
 use Rattle.script_core.specs.declared.text.ProcessLine.{ProcessLine}
@@ -41,16 +39,14 @@ use Rattle.script_core.specs.Words.{words_of, is_printable, script_limit}
 use Rattle.script_core.specs.RequestText.{mode_word}
 use Rattle.script_core.specs.EntryText.{tag}
 use Rattle.script_core.specs.EntryReading.{entry_limit, IsWritableEvent}
-use Rattle.script_core.specs.ScriptText.{IsProcess}
 use Rattle.script_core.specs.ReportText.{owner_text, flock_word, byte_lock_text, flock_text, held_text, wanted_text, wait_text, state_word, counts_text, process_text}
-use Rattle.script_core.specs.ReportReading.{IsLineOf, AreTextsOf, AreReportLines, AreSmall, least_line, lines_from}
+use Rattle.script_core.specs.ReportReading.{IsLineOf, AreTextsOf, AreReportLines, AreSmall, lines_from}
 use Rattle.script_core.specs.JournalReading.{HeadGives, JournalLineGives}
 use Rattle.script_core.proofs.RoundTripLemmas.{IsWord, IsWord-tested, IsWord-decimal}
 use Rattle.script_core.proofs.ReportReadingLemmas.{words_of-first}
 use Rattle.script_core.proofs.EntryRoundTripLemmas.{AreSpoken, AreSpoken-append, AreSpoken-word, AreSpoken-tested, printable_spoken}
-use Rattle.script_core.proofs.FitLemmas.{IsSmallOwner, FitsChange, FitsFlock, FitsLocks, FitsWait, Fits, few_processes, each_append, each_map}
-use Rattle.script_core.proofs.OutcomeFitLemmas.{mode_fits}
-use Rattle.script_core.proofs.RunFitLemmas.{TakesFit}
+use Rattle.script_core.proofs.FitLemmas.{IsSmallOwner, FitsFlock, FitsLocks, FitsWait, Fits, few_processes, each_append, each_map}
+use Rattle.script_core.proofs.OutcomeFitLemmas.{both_true, mode_fits}
 
 -- ---- the locks that are held
 
@@ -60,10 +56,6 @@ record FitsHeld (held : Held) : Type 0 where
   owner : IsSmallOwner held.owner
   first : held.span.first ≤ OFFMAX
   last : held.span.last ≤ OFFMAX
-
-second_true : (a b : Bool) → a && b ≡ true → b ≡ true
-second_true true b is = is
-second_true false b is = absurd (let bad : false ≡ true = is in cc)
 
 -- a flock mode that is held was set by a change of that description
 flock_fits : (changes : List FlockChange) (before : Option Mode) (file description : ℕ) (mode : Mode) → Each FitsFlock changes
@@ -78,7 +70,7 @@ flock_fits (change ∷ changes) before file description mode fits is start =
         → (flock_mode_from change.mode changes file description ≡ Some mode → (change.mode ≡ Some mode → description ≤ description_limit) → description ≤ description_limit)
         → (flock_mode_from before changes file description ≡ Some mode → description ≤ description_limit) → description ≤ description_limit
     by_set true sets is own other =
-        let same = eqb-true change.description description (second_true (change.file == file) (change.description == description) sets) in
+        let same = eqb-true change.description description (both_true (change.file == file) (change.description == description) sets).1 in
         let small = fits.0 in
         own is (λ e. omega (arith, same, small))
     by_set false sets is own other = other is

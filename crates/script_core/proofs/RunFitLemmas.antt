@@ -3,7 +3,7 @@ use Rattle.std.proofs.Common.{◌≡◌, ◌≢◌, true, ℕ, zero, suc, ◌+�
 use Rattle.std.specs.List.{AllByRecursion as Each}
 use Rattle.std.proofs.lemmas.Bool.{cases_eq}
 use Rattle.std.proofs.lemmas.List.Elements.{All-from_recursion, recursion_from_All, filter-append}
-use Rattle.fd_table.specs.Descriptors.{process_limit, opening_descriptors}
+use Rattle.fd_table.specs.Descriptors.{opening_descriptors}
 use Rattle.lock_manager.specs.declared.request.Rules.{Rules}
 use Rattle.lock_manager.specs.declared.request.Request.{Request}
 use Rattle.lock_manager.specs.declared.request.ProcState.TheVariants.{Unborn}
@@ -15,10 +15,8 @@ use Rattle.session_core.specs.Mail.{requests_sent}
 use Rattle.session_core.specs.Draining.{TakesMail, DrainsFrom}
 use Rattle.script_core.specs.Words.{script_limit}
 use Rattle.script_core.specs.EntryReading.{IsWritableNote, IsWritableEvent}
-use Rattle.script_core.specs.JournalReading.{rules_at}
 use Rattle.script_core.specs.Output.{IsOutput, processes_in}
 use Rattle.script_core.proofs.ProcessLemmas.{IsArrivalOf, arrivals_read, few_read}
-use Rattle.script_core.proofs.JournalBackLemmas.{journals_read_back}
 use Rattle.script_core.proofs.FitLemmas.{Fits, each_append, settles_fit, settles_settled, nothing_granted}
 use Rattle.script_core.proofs.OutcomeFitLemmas.{request_fits}
 
