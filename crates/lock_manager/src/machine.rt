@@ -118,7 +118,7 @@ impl Machine {
     }
 
     /// Serves a request of a live process, but for the settling with which the event ends: the notes are told here.
-    #[tactic(auto, using(crate::proofs::ReplyLemmas::untold_by, crate::proofs::ReplyLemmas::few_by))]
+    #[tactic(auto, using(crate::proofs::calls::ReplyLemmas::untold_by, crate::proofs::calls::ReplyLemmas::few_by))]
     pub fn serve(
         &mut self,
         p: u8,

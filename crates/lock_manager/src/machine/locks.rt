@@ -56,7 +56,7 @@ impl Machine {
     /// A lock command on a range: an unlock is never refused, and a get command asks. A lock is refused where the access
     /// mode doesn't allow it (POSIX.1-2017 fcntl, `F_GETLK`, `F_SETLK` and `EBADF`; fcntl_locking(2), `F_OFD_GETLK` and
     /// `F_OFD_SETLK`).
-    #[tactic(auto, using(crate::proofs::CommandLemmas::may_lock_waiting))]
+    #[tactic(auto, using(crate::proofs::calls::CommandLemmas::may_lock_waiting))]
     fn range_command(
         &mut self,
         p: u8,

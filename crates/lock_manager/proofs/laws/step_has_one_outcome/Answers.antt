@@ -1,4 +1,4 @@
-use Rattle.lock_manager.proofs.OutcomeLaws.{Step-unique}
+use Rattle.lock_manager.proofs.unique.OutcomeLaws.{Step-unique}
 use Rattle.lock_manager.proofs.laws.step_has_one_outcome.Goals as goal
 
 pub returns : goal.returns

@@ -1,4 +1,4 @@
-use Rattle.lock_manager.proofs.WholeLemmas.{some_step}
+use Rattle.lock_manager.proofs.some.WholeLemmas.{some_step}
 use Rattle.lock_manager.proofs.laws.step_has_some_outcome.Goals as goal
 
 pub returns : goal.returns

@@ -7,12 +7,12 @@ use Rattle.wait_core.specs.Cycles.{IsFreeOfCycles}
 use Rattle.wait_core.specs.WaitsView.{waits_of, AreTold, AgreeButOwner}
 use Rattle.lock_book.specs.declared.Owner.TheVariants.{Process}
 use Rattle.lock_manager.specs.LockReleases.{ReleasesLocks}
-use Rattle.lock_manager.proofs.BookLemmas.{book_at}
-use Rattle.lock_manager.proofs.ReleaseLemmas.{released_file, released_room}
-use Rattle.lock_manager.proofs.KeptLemmas.{process_alone, stays_known}
-use Rattle.lock_manager.proofs.WaitLemmas.{agree_elsewhere}
+use Rattle.lock_manager.proofs.kept.BookLemmas.{book_at}
+use Rattle.lock_manager.proofs.kept.ReleaseLemmas.{released_file, released_room}
+use Rattle.lock_manager.proofs.kept.KeptLemmas.{process_alone, stays_known}
+use Rattle.lock_manager.proofs.kept.WaitLemmas.{agree_elsewhere}
 use Rattle.wait_core.specs.Settled.{AreBlockedElsewhere, AgreeElsewhere}
-use Rattle.lock_manager.proofs.WaitCloseLemmas.{free_released}
+use Rattle.lock_manager.proofs.kept.WaitCloseLemmas.{free_released}
 use Rattle.lock_manager.proofs.releasing.release.Goals as goal
 
 pub loop-file-preserved : goal.loop-file-preserved

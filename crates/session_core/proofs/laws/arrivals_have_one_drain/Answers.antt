@@ -1,4 +1,4 @@
-use Rattle.session_core.proofs.DrainLaws.{IsDrain-unique}
+use Rattle.session_core.proofs.runs.DrainLaws.{IsDrain-unique}
 use Rattle.session_core.proofs.laws.arrivals_have_one_drain.Goals as goal
 
 pub returns : goal.returns

@@ -1,4 +1,4 @@
-use Rattle.session_core.proofs.GoingOnLaws.{goes_on}
+use Rattle.session_core.proofs.runs.GoingOnLaws.{goes_on}
 use Rattle.session_core.proofs.laws.every_run_goes_on.Goals as goal
 
 pub returns : goal.returns

@@ -1,4 +1,4 @@
-use Rattle.session_core.proofs.DoorLaws.{joins_the_queue}
+use Rattle.session_core.proofs.queue.JoiningLaws.{joins_the_queue}
 use Rattle.session_core.proofs.laws.requests_join_the_queue.Goals as goal
 
 pub returns : goal.returns

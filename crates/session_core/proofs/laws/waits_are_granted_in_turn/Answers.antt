@@ -1,5 +1,5 @@
-use Rattle.session_core.proofs.TurnLaws.{grants_in_turn}
-use Rattle.session_core.proofs.DoorLaws.{notes_of_waits}
+use Rattle.session_core.proofs.queue.TurnLaws.{grants_in_turn}
+use Rattle.session_core.proofs.queue.JoiningLaws.{notes_of_waits}
 use Rattle.session_core.proofs.laws.waits_are_granted_in_turn.Goals as goal
 
 pub returns-clause-in_turn : goal.returns-clause-in_turn

@@ -1,5 +1,5 @@
 use Rattle.std.proofs.Common.{◌∙◌, sym}
-use Rattle.session_core.proofs.DrainLemmas.{mail_left-takes, TakesSome-push, Drains-from, TakesNext-some, TakesNext-none, at_rest_still}
+use Rattle.session_core.proofs.runs.DrainLemmas.{mail_left-takes, TakesSome-push, Drains-from, TakesNext-some, TakesNext-none, at_rest_still}
 use Rattle.session_core.proofs.run.drain.Goals as goal
 
 pub loop-smaller : goal.loop-smaller

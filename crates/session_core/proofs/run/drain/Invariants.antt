@@ -1,7 +1,7 @@
 use Rattle.lock_manager.specs.ManagerView.{processes_of}
 use Rattle.session_core.specs.SessionView.{manager_of, events_in, sent_of}
 use Rattle.session_core.specs.Deliveries.{TakesSome}
-use Rattle.session_core.proofs.DrainLemmas.{mail_left}
+use Rattle.session_core.proofs.runs.DrainLemmas.{mail_left}
 use Rattle.session_core.proofs.run.drain.Given as goal
 
 abbrev pub invariant-loop : goal.invariant-loop

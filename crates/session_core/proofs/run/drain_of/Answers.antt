@@ -3,7 +3,7 @@ use Rattle.lock_manager.specs.declared.manager.Manager.{Manager}
 use Rattle.lock_manager.specs.declared.request.ProcState.TheVariants.{Live}
 use Rattle.lock_manager.specs.ManagerView.{state_at}
 use Rattle.session_core.specs.SessionView.{manager_of}
-use Rattle.session_core.proofs.DrainLemmas.{at_rest_all, Drains-none}
+use Rattle.session_core.proofs.runs.DrainLemmas.{at_rest_all, Drains-none}
 use Rattle.session_core.proofs.run.drain_of.Goals as goal
 
 pub returns-then-not-able-clause-drains : goal.returns-then-not-able-clause-drains

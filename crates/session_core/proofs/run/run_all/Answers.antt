@@ -4,7 +4,7 @@ use Rattle.std.proofs.lemmas.Result.{err_from_is_err_and}
 use Rattle.session_core.specs.declared.TheConstants.{N_MAX}
 use Rattle.session_core.specs.Mail.{requests_sent}
 use Rattle.session_core.specs.SessionView.{manager_of, events_in, sent_of}
-use Rattle.session_core.proofs.DrainLemmas.{HasRun-opening, HasRun-more, at_rest_empty, too_many, Err-unique}
+use Rattle.session_core.proofs.runs.DrainLemmas.{HasRun-opening, HasRun-more, at_rest_empty, too_many, Err-unique}
 use Rattle.session_core.proofs.run.run_all.Goals as goal
 
 pub returns-in_err-deliver-clause-full : goal.returns-in_err-deliver-clause-full

@@ -1,6 +1,6 @@
 use Rattle.std.proofs.Common.{take}
 use Rattle.session_core.specs.Deliveries.{IsAtRest}
-use Rattle.session_core.proofs.DrainLemmas.{HasRun}
+use Rattle.session_core.proofs.runs.DrainLemmas.{HasRun}
 use Rattle.session_core.proofs.run.run_all.Given as goal
 
 abbrev pub invariant-loop-p : goal.invariant-loop-p

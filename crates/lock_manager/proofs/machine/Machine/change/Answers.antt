@@ -2,10 +2,10 @@ use Rattle.std.proofs.Common.{◌<◌, sym, ap, subst, refl, length, arith}
 use Rattle.std.specs.Prelude.{slice_set}
 use Rattle.lock_manager.specs.WaitsKept.{AreStanding}
 use Rattle.lock_manager.specs.MachineView.{machine_locks, machine_state}
-use Rattle.lock_manager.proofs.BookLemmas.{book_at, OnOk-map, OnErr-map}
-use Rattle.lock_manager.proofs.KeptLemmas.{kept_by_change, stays_known}
-use Rattle.lock_manager.proofs.WaitLemmas.{keeps_same}
-use Rattle.lock_manager.proofs.StandsLemmas.{with_change, same_by_book}
+use Rattle.lock_manager.proofs.kept.BookLemmas.{book_at, OnOk-map, OnErr-map}
+use Rattle.lock_manager.proofs.kept.KeptLemmas.{kept_by_change, stays_known}
+use Rattle.lock_manager.proofs.kept.WaitLemmas.{keeps_same}
+use Rattle.lock_manager.proofs.kept.NextStateLemmas.{with_change, same_by_book}
 use Rattle.lock_manager.proofs.machine.Machine.change.Goals as goal
 
 pub invariant_of-self-clause-kept : goal.invariant_of-self-clause-kept

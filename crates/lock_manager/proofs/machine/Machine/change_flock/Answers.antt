@@ -4,9 +4,9 @@ use Rattle.lock_book.specs.Books.{SetsFlock}
 use Rattle.lock_manager.specs.WaitsKept.{has_place_at, AreStanding}
 use Rattle.lock_manager.specs.MachineView.{machine_locks, machine_state}
 use Rattle.wait_core.specs.Locks.{locks_of}
-use Rattle.lock_manager.proofs.WaitLemmas.{agree_elsewhere, places_kept}
-use Rattle.lock_manager.proofs.BookLemmas.{book_at}
-use Rattle.lock_manager.proofs.FlockLemmas.{flock_frees_none, none_from_test, kept_by_flock, flock_place_kept, with_flock_change}
+use Rattle.lock_manager.proofs.kept.WaitLemmas.{agree_elsewhere, places_kept}
+use Rattle.lock_manager.proofs.kept.BookLemmas.{book_at}
+use Rattle.lock_manager.proofs.kept.ChangedFlockLemmas.{flock_frees_none, none_from_test, kept_by_flock, flock_place_kept, with_flock_change}
 use Rattle.lock_manager.proofs.machine.Machine.change_flock.Goals as goal
 
 pub invariant_of-self-clause-kept : goal.invariant_of-self-clause-kept

@@ -1,11 +1,11 @@
 use Rattle.std.proofs.Common.{◌≤◌, length, arith}
 use Rattle.wait_core.specs.WaitsView.{waits_of}
 use Rattle.lock_manager.specs.MachineView.{machine_state}
-use Rattle.lock_manager.proofs.ClosingLemmas.{end_closes}
-use Rattle.lock_manager.proofs.AfterCloseLemmas.{ended, standing_ended}
-use Rattle.lock_manager.proofs.KeptLemmas.{kept_by_release}
-use Rattle.lock_manager.proofs.ProcessLemmas.{place_of_live}
-use Rattle.lock_manager.proofs.WaitLemmas.{waits_of_others}
+use Rattle.lock_manager.proofs.kept.ClosingLemmas.{end_closes}
+use Rattle.lock_manager.proofs.kept.AfterCloseLemmas.{ended, standing_ended}
+use Rattle.lock_manager.proofs.kept.KeptLemmas.{kept_by_release}
+use Rattle.lock_manager.proofs.kept.ProcessLemmas.{place_of_live}
+use Rattle.lock_manager.proofs.kept.WaitLemmas.{waits_of_others}
 use Rattle.lock_manager.proofs.machine.Machine.end.Goals as goal
 
 pub stand-requires : goal.stand-requires

@@ -1,7 +1,7 @@
 use Rattle.std.proofs.Common.{◌<◌, length, arith}
 use Rattle.lock_manager.specs.MachineView.{machine_locks}
-use Rattle.lock_manager.proofs.BookLemmas.{book_at}
-use Rattle.lock_manager.proofs.AskingLemmas.{first_of_bytes, first_of_flocks}
+use Rattle.lock_manager.proofs.kept.BookLemmas.{book_at}
+use Rattle.lock_manager.proofs.calls.AskingLemmas.{first_of_bytes, first_of_flocks}
 use Rattle.lock_manager.proofs.machine.Machine.first_lock.Goals as goal
 
 pub returns-in-Bytes : goal.returns-in-Bytes

@@ -1,6 +1,6 @@
 use Rattle.std.proofs.Common.{◌≡◌, ◌≢◌, ◌<◌, ◌∷◌, ◌++◌, [], ◌∙◌, ap, length, arith, rules}
-use Rattle.lock_manager.proofs.BookLemmas.{book_at}
-use Rattle.lock_manager.proofs.FlockCallLemmas.{flock_tested, flock_held, flock_converted, place_of_held}
+use Rattle.lock_manager.proofs.kept.BookLemmas.{book_at}
+use Rattle.lock_manager.proofs.calls.FlockCallLemmas.{flock_tested, flock_held, flock_converted, place_of_held}
 use Rattle.lock_manager.proofs.machine.Machine.flock_mode.Goals as goal
 
 pub returns-in_default-clause-told : goal.returns-in_default-clause-told

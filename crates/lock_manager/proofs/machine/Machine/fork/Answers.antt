@@ -5,11 +5,11 @@ use Rattle.wait_core.specs.WaitsView.{waits_of}
 use Rattle.lock_manager.specs.declared.request.ProcState.TheVariants.{Live}
 use Rattle.lock_manager.specs.declared.request.Reply.TheVariants as replies
 use Rattle.lock_manager.specs.declared.request.Request.TheVariants.{Fork}
-use Rattle.lock_manager.proofs.AfterCloseLemmas.{standing_forked}
-use Rattle.lock_manager.proofs.CallLemmas.{Forks, with_child_alive, served_by_fork, done_by, refused_by}
-use Rattle.lock_manager.proofs.StandsLemmas.{with_tables_and_process}
-use Rattle.lock_manager.proofs.StayOpenLemmas.{forked_stays, kept_by_call, kept_by_refusal}
-use Rattle.lock_manager.proofs.WaitLemmas.{never_alive, standing_in}
+use Rattle.lock_manager.proofs.kept.AfterCloseLemmas.{standing_forked}
+use Rattle.lock_manager.proofs.calls.DescriptorCallLemmas.{Forks, with_child_alive, served_by_fork, done_by, refused_by}
+use Rattle.lock_manager.proofs.kept.NextStateLemmas.{with_tables_and_process}
+use Rattle.lock_manager.proofs.kept.StayOpenLemmas.{forked_stays, kept_by_call, kept_by_refusal}
+use Rattle.lock_manager.proofs.kept.WaitLemmas.{never_alive, standing_in}
 use Rattle.lock_manager.proofs.machine.Machine.fork.Goals as goal
 
 pub stand-requires : goal.stand-requires

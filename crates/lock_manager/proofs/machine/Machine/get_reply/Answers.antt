@@ -2,8 +2,8 @@ use Rattle.std.proofs.Common.{◌≡◌, ◌<◌, refl, length, inr, arith}
 use Rattle.lock_book.specs.Books.{byte_modes_of}
 use Rattle.lock_manager.specs.declared.request.Reply.TheVariants as replies
 use Rattle.lock_manager.specs.MachineView.{machine_locks}
-use Rattle.lock_manager.proofs.BookLemmas.{book_at}
-use Rattle.lock_manager.proofs.CommandLemmas.{tells_at, tells_blocker}
+use Rattle.lock_manager.proofs.kept.BookLemmas.{book_at}
+use Rattle.lock_manager.proofs.calls.CommandLemmas.{tells_at, tells_blocker}
 use Rattle.lock_manager.proofs.machine.Machine.get_reply.Goals as goal
 
 pub returns-in-Some : goal.returns-in-Some

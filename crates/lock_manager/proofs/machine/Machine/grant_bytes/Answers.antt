@@ -11,12 +11,12 @@ use Rattle.lock_manager.specs.ProcessCalls.{without_wait}
 use Rattle.lock_manager.specs.declared.request.ProcState.TheVariants.{Live}
 use Rattle.lock_manager.specs.WaitsKept.{AreApart, IsSuspended, AreStanding, HaveRoom, has_place_at}
 use Rattle.lock_manager.specs.MachineView.{machine_locks, machine_state, machine_waits, machine_rules, machine_processes}
-use Rattle.lock_manager.proofs.BookLemmas.{book_at}
-use Rattle.lock_manager.proofs.GrantLemmas.{room_for_grant, room_granted, may_lock_granted, owner_granted, shows_granted}
-use Rattle.lock_manager.proofs.ProcessCallLemmas.{found_holds}
-use Rattle.lock_manager.proofs.KeptLemmas.{kept_in_room, stays_known}
-use Rattle.lock_manager.proofs.StandsLemmas.{with_change}
-use Rattle.lock_manager.proofs.WaitLemmas.{places_kept}
+use Rattle.lock_manager.proofs.kept.BookLemmas.{book_at}
+use Rattle.lock_manager.proofs.kept.GrantLemmas.{room_for_grant, room_granted, may_lock_granted, owner_granted, shows_granted}
+use Rattle.lock_manager.proofs.calls.ProcessCallLemmas.{found_holds}
+use Rattle.lock_manager.proofs.kept.KeptLemmas.{kept_in_room, stays_known}
+use Rattle.lock_manager.proofs.kept.NextStateLemmas.{with_change}
+use Rattle.lock_manager.proofs.kept.WaitLemmas.{places_kept}
 use Rattle.lock_manager.proofs.machine.Machine.grant_bytes.Goals as goal
 
 pub interrupt-requires : goal.interrupt-requires

@@ -8,9 +8,9 @@ use Rattle.lock_manager.specs.DescriptionLocks.{MayLock}
 use Rattle.lock_manager.specs.declared.request.ProcState.TheVariants.{Live}
 use Rattle.lock_manager.specs.WaitsKept.{AreApart, IsSuspended, has_place_at, is_flock_wait}
 use Rattle.lock_manager.specs.MachineView.{machine_state, machine_waits}
-use Rattle.lock_manager.proofs.GrantLemmas.{may_lock_granted}
-use Rattle.lock_manager.proofs.ProcessCallLemmas.{found_holds}
-use Rattle.lock_manager.proofs.FlockCallLemmas.{found_asks, is_its_own_flock, shows_granted_flock}
+use Rattle.lock_manager.proofs.kept.GrantLemmas.{may_lock_granted}
+use Rattle.lock_manager.proofs.calls.ProcessCallLemmas.{found_holds}
+use Rattle.lock_manager.proofs.calls.FlockCallLemmas.{found_asks, is_its_own_flock, shows_granted_flock}
 use Rattle.lock_manager.proofs.machine.Machine.grant_flock.Goals as goal
 
 pub interrupt-requires : goal.interrupt-requires

@@ -1,6 +1,6 @@
 use Rattle.std.proofs.Common.{◌≡◌, ◌<◌, ◌++◌, length, true, is_ok, arith, rules, refl}
-use Rattle.lock_manager.proofs.BookLemmas.{book_at}
-use Rattle.lock_manager.proofs.ReportLemmas.{reports_more, held_in_state}
+use Rattle.lock_manager.proofs.kept.BookLemmas.{book_at}
+use Rattle.lock_manager.proofs.calls.ReportLemmas.{reports_more, held_in_state}
 use Rattle.lock_manager.proofs.machine.Machine.held.Goals as goal
 
 pub loop-file-preserved : goal.loop-file-preserved

@@ -3,8 +3,8 @@ use Rattle.wait_core.specs.WaitsView.{waits_of}
 use Rattle.lock_manager.specs.WaitsKept.{AreStanding}
 use Rattle.lock_manager.specs.declared.request.ProcState.TheVariants.{Live}
 use Rattle.lock_manager.specs.MachineView.{machine_state, machine_waits}
-use Rattle.lock_manager.proofs.ProcessLemmas.{place_of_waiting, live_still, stands_set}
-use Rattle.lock_manager.proofs.ProcessCallLemmas.{fewer_without, kept_by_leave, standing_left, with_wait_gone}
+use Rattle.lock_manager.proofs.kept.ProcessLemmas.{place_of_waiting, live_still, stands_set}
+use Rattle.lock_manager.proofs.calls.ProcessCallLemmas.{fewer_without, kept_by_leave, standing_left, with_wait_gone}
 use Rattle.lock_manager.proofs.machine.Machine.interrupt.Goals as goal
 
 pub stand-requires : goal.stand-requires

@@ -7,8 +7,8 @@ use Rattle.wait_core.specs.Locks.{locks_of}
 use Rattle.wait_core.specs.WaitsView.{waits_of}
 use Rattle.lock_manager.specs.LockWords.{may_wait}
 use Rattle.lock_manager.specs.MachineView.{machine_rules, machine_waits, machine_locks}
-use Rattle.lock_manager.proofs.BookLemmas.{book_at}
-use Rattle.lock_manager.proofs.SetLemmas.{by_book, told_first, told_second, told_none}
+use Rattle.lock_manager.proofs.kept.BookLemmas.{book_at}
+use Rattle.lock_manager.proofs.calls.SetLemmas.{by_book, told_first, told_second, told_none}
 use Rattle.lock_manager.proofs.machine.Machine.is_blocked.Goals as goal
 
 pub returns-then-blocked : goal.returns-then-blocked

@@ -7,9 +7,9 @@ use Rattle.wait_core.specs.Blocking.{IsBlockedByLock, IsQueued}
 use Rattle.wait_core.specs.Locks.{locks_of}
 use Rattle.wait_core.specs.WaitsView.{waits_of}
 use Rattle.lock_manager.specs.MachineView.{machine_rules, machine_waits, machine_locks}
-use Rattle.lock_manager.proofs.BookLemmas.{book_at}
-use Rattle.lock_manager.proofs.SetLemmas.{told_first}
-use Rattle.lock_manager.proofs.FlockCallLemmas.{by_flock, flock_second, flock_none}
+use Rattle.lock_manager.proofs.kept.BookLemmas.{book_at}
+use Rattle.lock_manager.proofs.calls.SetLemmas.{told_first}
+use Rattle.lock_manager.proofs.calls.FlockCallLemmas.{by_flock, flock_second, flock_none}
 use Rattle.lock_manager.proofs.machine.Machine.is_flock_blocked.Goals as goal
 
 pub returns-then-flock_blocked : goal.returns-then-flock_blocked

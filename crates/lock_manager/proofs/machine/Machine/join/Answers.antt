@@ -5,9 +5,9 @@ use Rattle.wait_core.specs.Settled.{AreBlockedElsewhere}
 use Rattle.wait_core.specs.WaitsView.{waits_of, AreTold}
 use Rattle.lock_manager.specs.MachineView.{machine_rules, machine_state, machine_locks, machine_waits}
 use Rattle.lock_manager.specs.WaitsKept.{AreStanding}
-use Rattle.lock_manager.proofs.ProcessLemmas.{place_of_live}
-use Rattle.lock_manager.proofs.SuspendLemmas.{kept_by_join, standing_joined, with_wait, no_wait}
-use Rattle.lock_manager.proofs.WaitLemmas.{waits_of_others}
+use Rattle.lock_manager.proofs.kept.ProcessLemmas.{place_of_live}
+use Rattle.lock_manager.proofs.kept.SuspendLemmas.{kept_by_join, standing_joined, with_wait, no_wait}
+use Rattle.lock_manager.proofs.kept.WaitLemmas.{waits_of_others}
 use Rattle.lock_manager.proofs.machine.Machine.join.Goals as goal
 
 pub join_blocked-requires-clause-none : goal.join_blocked-requires-clause-none

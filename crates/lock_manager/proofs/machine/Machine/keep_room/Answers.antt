@@ -2,9 +2,9 @@ use Rattle.std.proofs.Common.{◌<◌, ◌∙◌, ap, refl, length, arith}
 use Rattle.std.specs.Prelude.{slice_set}
 use Rattle.wait_core.specs.Locks.{locks_of}
 use Rattle.lock_manager.specs.MachineView.{machine_locks}
-use Rattle.lock_manager.proofs.BookLemmas.{book_at, locks_stay}
-use Rattle.lock_manager.proofs.StandsLemmas.{same_by_book}
-use Rattle.lock_manager.proofs.SuspendLemmas.{kept_by_book, room_taken, roomy}
+use Rattle.lock_manager.proofs.kept.BookLemmas.{book_at, locks_stay}
+use Rattle.lock_manager.proofs.kept.NextStateLemmas.{same_by_book}
+use Rattle.lock_manager.proofs.kept.SuspendLemmas.{kept_by_book, room_taken, roomy}
 use Rattle.lock_manager.proofs.machine.Machine.keep_room.Goals as goal
 
 pub invariant_of-self-clause-kept : goal.invariant_of-self-clause-kept

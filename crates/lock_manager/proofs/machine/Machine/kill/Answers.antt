@@ -10,7 +10,7 @@ use Rattle.lock_manager.specs.declared.request.ProcState.TheVariants.{Unborn, Li
 use Rattle.lock_manager.specs.State.{with_process}
 use Rattle.lock_manager.specs.ProcessCalls.{without_wait}
 use Rattle.lock_manager.specs.MachineView.{Tells}
-use Rattle.lock_manager.proofs.ProcessCallLemmas.{kills_itself, kills_other, ends_waiting}
+use Rattle.lock_manager.proofs.calls.ProcessCallLemmas.{kills_itself, kills_other, ends_waiting}
 use Rattle.lock_manager.proofs.machine.Machine.kill.Goals as goal
 use Rattle.lock_manager.proofs.machine.Machine.kill.Goals.{in-Unborn, in-Live, in-Waiting}
 

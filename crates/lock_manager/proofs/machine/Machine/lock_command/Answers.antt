@@ -1,7 +1,7 @@
 use Rattle.std.proofs.Common.{sym, ◌∙◌, ap, rules, FitsSigned, to_z, of_z, w64}
 use Rattle.std.proofs.lemmas.Int.{to_z-of_z}
 use Rattle.range_core.specs.Resolving.{resolution}
-use Rattle.lock_manager.proofs.CommandLemmas.{on_range, may_wait_looked}
+use Rattle.lock_manager.proofs.calls.CommandLemmas.{on_range, may_wait_looked}
 use Rattle.lock_manager.proofs.machine.Machine.lock_command.Goals as goal
 
 pub range_command-requires-clause-may_wait : goal.range_command-requires-clause-may_wait

@@ -2,8 +2,8 @@ use Rattle.std.proofs.Common.{◌≡◌, ◌<◌, None, sym, subst, length, arit
 use Rattle.lock_book.specs.declared.Owner.{Owner}
 use Rattle.wait_core.specs.Locks.{locks_of}
 use Rattle.lock_manager.specs.MachineView.{machine_locks}
-use Rattle.lock_manager.proofs.BookLemmas.{book_at}
-use Rattle.lock_manager.proofs.UnlockLemmas.{none_held_at}
+use Rattle.lock_manager.proofs.kept.BookLemmas.{book_at}
+use Rattle.lock_manager.proofs.kept.UnlockLemmas.{none_held_at}
 use Rattle.lock_manager.proofs.machine.Machine.may_hold.Goals as goal
 
 pub returns-in-Process : goal.returns-in-Process

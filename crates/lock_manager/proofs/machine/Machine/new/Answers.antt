@@ -3,11 +3,11 @@ use Rattle.wait_core.specs.Locks.{locks_of}
 use Rattle.wait_core.specs.Cycles.{IsFreeOfCycles}
 use Rattle.wait_core.specs.WaitsView.{waits_of}
 use Rattle.lock_manager.specs.WaitsKept.{AreApart, IsSuspended, HaveRoom}
-use Rattle.lock_manager.proofs.WaitLemmas.{room_for_none}
-use Rattle.lock_manager.proofs.BookLemmas.{unlocked_bytes}
-use Rattle.lock_manager.proofs.OwnedLemmas.{owned_at_opening, of_no_wait}
-use Rattle.lock_manager.proofs.SafetyLemmas.{compatible_without_locks, free_without_waits}
-use Rattle.lock_manager.proofs.StandsLemmas.{at_opening, first_lives, none_waits}
+use Rattle.lock_manager.proofs.kept.WaitLemmas.{room_for_none}
+use Rattle.lock_manager.proofs.kept.BookLemmas.{unlocked_bytes}
+use Rattle.lock_manager.proofs.kept.OwnedLemmas.{owned_at_opening, of_no_wait}
+use Rattle.lock_manager.proofs.kept.SafetyLemmas.{compatible_without_locks, free_without_waits}
+use Rattle.lock_manager.proofs.kept.NextStateLemmas.{at_opening, first_lives, none_waits}
 use Rattle.lock_manager.proofs.machine.Machine.new.Goals as goal
 
 pub invariant_of-result-clause-kept : goal.invariant_of-result-clause-kept

@@ -1,13 +1,13 @@
-use Rattle.lock_manager.proofs.CallLemmas.{Opens, with_descriptors, served_by_open}
-use Rattle.lock_manager.proofs.StandsLemmas.{with_tables}
+use Rattle.lock_manager.proofs.calls.DescriptorCallLemmas.{Opens, with_descriptors, served_by_open}
+use Rattle.lock_manager.proofs.kept.NextStateLemmas.{with_tables}
 use Rattle.lock_manager.specs.declared.request.Reply.TheVariants as replies
 use Rattle.lock_manager.specs.declared.request.Request.TheVariants.{OpenFile}
-use Rattle.lock_manager.proofs.CallLemmas.{done_by, refused_by}
-use Rattle.lock_manager.proofs.WaitLemmas.{standing_in}
+use Rattle.lock_manager.proofs.calls.DescriptorCallLemmas.{done_by, refused_by}
+use Rattle.lock_manager.proofs.kept.WaitLemmas.{standing_in}
 use Rattle.std.proofs.Common.{refl}
 use Rattle.fd_table.specs.TablesView.{limits_of}
 use Rattle.wait_core.specs.WaitsView.{waits_of}
-use Rattle.lock_manager.proofs.StayOpenLemmas.{opened_stays, kept_by_call}
+use Rattle.lock_manager.proofs.kept.StayOpenLemmas.{opened_stays, kept_by_call}
 use Rattle.lock_manager.proofs.machine.Machine.open_file.Goals as goal
 
 pub invariant_of-self-clause-kept : goal.invariant_of-self-clause-kept

@@ -3,9 +3,9 @@ use Rattle.std.specs.Prelude.{filter}
 use Rattle.wait_core.specs.WaitsView.{waits_of, processes_of}
 use Rattle.lock_manager.specs.MachineView.{machine_processes, machine_state, machine_waits}
 use Rattle.lock_manager.specs.WaitsKept.{is_byte_wait}
-use Rattle.lock_manager.proofs.ProcessLemmas.{place_of_live}
-use Rattle.lock_manager.proofs.SuspendLemmas.{no_wait, some_of}
-use Rattle.lock_manager.proofs.WaitLemmas.{waits_of_others}
+use Rattle.lock_manager.proofs.kept.ProcessLemmas.{place_of_live}
+use Rattle.lock_manager.proofs.kept.SuspendLemmas.{no_wait, some_of}
+use Rattle.lock_manager.proofs.kept.WaitLemmas.{waits_of_others}
 use Rattle.lock_manager.proofs.machine.Machine.pending.Goals as goal
 
 pub returns-clause-few : goal.returns-clause-few

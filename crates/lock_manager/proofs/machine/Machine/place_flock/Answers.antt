@@ -1,9 +1,9 @@
 use Rattle.std.proofs.Common.{◌<◌, ap, refl, length, arith}
 use Rattle.std.specs.Prelude.{slice_set}
-use Rattle.lock_manager.proofs.BookLemmas.{book_at}
-use Rattle.lock_manager.proofs.FlockLemmas.{place_taken, placed}
-use Rattle.lock_manager.proofs.StandsLemmas.{same_by_book}
-use Rattle.lock_manager.proofs.SuspendLemmas.{kept_by_book}
+use Rattle.lock_manager.proofs.kept.BookLemmas.{book_at}
+use Rattle.lock_manager.proofs.kept.ChangedFlockLemmas.{place_taken, placed}
+use Rattle.lock_manager.proofs.kept.NextStateLemmas.{same_by_book}
+use Rattle.lock_manager.proofs.kept.SuspendLemmas.{kept_by_book}
 use Rattle.lock_manager.proofs.machine.Machine.place_flock.Goals as goal
 
 pub invariant_of-self-clause-kept : goal.invariant_of-self-clause-kept

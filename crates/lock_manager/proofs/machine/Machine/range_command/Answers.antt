@@ -1,7 +1,7 @@
 use Rattle.std.proofs.Common.{◌≤◌, refl, sym, ◌∙◌, length, arith}
 use Rattle.lock_manager.specs.MachineView.{machine_processes, machine_state}
-use Rattle.lock_manager.proofs.CommandLemmas.{asked}
-use Rattle.lock_manager.proofs.ProcessLemmas.{place_of_live}
+use Rattle.lock_manager.proofs.calls.CommandLemmas.{asked}
+use Rattle.lock_manager.proofs.kept.ProcessLemmas.{place_of_live}
 use Rattle.lock_manager.proofs.machine.Machine.range_command.Goals as goal
 
 pub returns-then-is_get-clause-told : goal.returns-then-is_get-clause-told

@@ -1,13 +1,13 @@
-use Rattle.lock_manager.proofs.WaitLemmas.{standing_in}
+use Rattle.lock_manager.proofs.kept.WaitLemmas.{standing_in}
 use Rattle.std.proofs.Common.{refl, subst, Ok, Err, rules, FitsSigned, to_z, of_z, w64}
 use Rattle.std.proofs.lemmas.Int.{to_z-of_z}
 use Rattle.fd_table.specs.Calls.{ResizeGives}
 use Rattle.lock_manager.specs.declared.request.Reply.TheVariants as replies
 use Rattle.lock_manager.specs.declared.request.Request.TheVariants.{Resize}
-use Rattle.lock_manager.proofs.CallLemmas.{Gave, with_descriptors, done_by, refused_by}
-use Rattle.lock_manager.proofs.StandsLemmas.{with_tables}
+use Rattle.lock_manager.proofs.calls.DescriptorCallLemmas.{Gave, with_descriptors, done_by, refused_by}
+use Rattle.lock_manager.proofs.kept.NextStateLemmas.{with_tables}
 use Rattle.wait_core.specs.WaitsView.{waits_of}
-use Rattle.lock_manager.proofs.StayOpenLemmas.{resized_stays, kept_by_call}
+use Rattle.lock_manager.proofs.kept.StayOpenLemmas.{resized_stays, kept_by_call}
 use Rattle.lock_manager.proofs.machine.Machine.resize.Goals as goal
 
 pub invariant_of-self-clause-kept : goal.invariant_of-self-clause-kept

@@ -4,7 +4,7 @@ use Rattle.wait_core.specs.Locks.{locks_of}
 use Rattle.wait_core.specs.WaitsView.{waits_of}
 use Rattle.lock_manager.specs.WaitsKept.{AreStanding}
 use Rattle.lock_manager.specs.MachineView.{machine_locks, machine_rules, machine_waits}
-use Rattle.lock_manager.proofs.SettleLemmas.{kept_at_rest}
+use Rattle.lock_manager.proofs.calls.SettleLemmas.{kept_at_rest}
 use Rattle.lock_manager.proofs.machine.Machine.rest.Goals as goal
 
 pub invariant_of-self-clause-kept : goal.invariant_of-self-clause-kept

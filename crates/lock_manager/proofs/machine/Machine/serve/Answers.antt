@@ -1,7 +1,7 @@
 use Rattle.std.proofs.Common.{[], sym, ap, ◌∙◌, rules, FitsSigned, w64}
 use Rattle.std.proofs.lemmas.Int.{to_z-of_z}
 use Rattle.lock_manager.specs.declared.request.Request.TheVariants.{Seek, Resize}
-use Rattle.lock_manager.proofs.ReplyLemmas.{told_by}
+use Rattle.lock_manager.proofs.calls.ReplyLemmas.{told_by}
 use Rattle.lock_manager.proofs.machine.Machine.serve.Goals as goal
 
 pub returns-in-OpenFile-clause-told : goal.returns-in-OpenFile-clause-told

@@ -1,7 +1,7 @@
 use Rattle.std.proofs.Common.{inl, inr, sym, ◌∙◌}
 use Rattle.lock_manager.specs.MachineView.{machine_rules, machine_locks, machine_waits}
-use Rattle.lock_manager.proofs.CommandLemmas.{may_lock_waiting}
-use Rattle.lock_manager.proofs.SetLemmas.{is_blocked, locked, deadlocked, waiting}
+use Rattle.lock_manager.proofs.calls.CommandLemmas.{may_lock_waiting}
+use Rattle.lock_manager.proofs.calls.SetLemmas.{is_blocked, locked, deadlocked, waiting}
 use Rattle.lock_manager.proofs.machine.Machine.set_command.Goals as goal
 
 pub change-requires-clause-owner : goal.change-requires-clause-owner

@@ -7,7 +7,7 @@ use Rattle.lock_manager.specs.declared.request.ProcState.TheVariants.{Live}
 use Rattle.lock_manager.specs.State.{state_numbered}
 use Rattle.lock_manager.specs.WaitsKept.{has_place_at}
 use Rattle.lock_manager.specs.MachineView.{machine_state}
-use Rattle.lock_manager.proofs.SettleLemmas.{leads_nowhere, next_is_free, leads_on, settled_here}
+use Rattle.lock_manager.proofs.calls.SettleLemmas.{leads_nowhere, next_is_free, leads_on, settled_here}
 use Rattle.lock_manager.proofs.machine.Machine.settle.Goals as goal
 
 pub loop-wait-init : goal.loop-wait-init

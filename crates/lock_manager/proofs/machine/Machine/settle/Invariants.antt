@@ -1,7 +1,7 @@
 use Rattle.std.proofs.Common.{◌≡◌, ◌+◌, ◌≤◌, ◌++◌, List, length, vec_capacity}
 use Rattle.lock_manager.specs.declared.request.Note.{Note}
 use Rattle.lock_manager.specs.MachineView.{StayLive, KeepPlaces, machine_rules, machine_processes, machine_waits}
-use Rattle.lock_manager.proofs.SettleLemmas.{LeadsOn}
+use Rattle.lock_manager.proofs.calls.SettleLemmas.{LeadsOn}
 use Rattle.lock_manager.proofs.machine.Machine.settle.Given as goal
 
 -- there is room for a note to each wait, and these notes are the grants so far

@@ -3,7 +3,7 @@ use Rattle.std.specs.Prelude.{slice_get, filter}
 use Rattle.lock_manager.specs.MachineView.{machine_processes, machine_waits}
 use Rattle.lock_manager.specs.DescriptionLocks.{MayWait}
 use Rattle.lock_manager.specs.WaitsKept.{is_byte_wait, room_at}
-use Rattle.lock_manager.proofs.SuspendLemmas.{room_joined}
+use Rattle.lock_manager.proofs.kept.SuspendLemmas.{room_joined}
 use Rattle.lock_manager.proofs.machine.Machine.suspend.Goals as goal
 
 pub overflow_add-waits : goal.overflow_add-waits

@@ -3,13 +3,13 @@ use Rattle.std.specs.Prelude.{slice_get}
 use Rattle.wait_core.specs.declared.Wait.{Wait}
 use Rattle.lock_manager.specs.DescriptionLocks.{MayWait}
 use Rattle.lock_manager.specs.WaitsKept.{has_place_at}
-use Rattle.lock_manager.proofs.FlockLemmas.{room_joined_flock, well_formed_flock}
-use Rattle.lock_manager.proofs.ProcessLemmas.{place_of_live}
+use Rattle.lock_manager.proofs.kept.ChangedFlockLemmas.{room_joined_flock, well_formed_flock}
+use Rattle.lock_manager.proofs.kept.ProcessLemmas.{place_of_live}
 use Rattle.lock_manager.specs.MachineView.{machine_rules, machine_processes, machine_state, machine_locks, machine_waits}
 use Rattle.lock_book.specs.declared.Owner.TheVariants.{Process, Description}
-use Rattle.lock_manager.proofs.CommandLemmas.{may_lock_waiting}
-use Rattle.lock_manager.proofs.SetLemmas.{is_blocked}
-use Rattle.lock_manager.proofs.FlockCallLemmas.{flock_locked, flock_held_off, flock_waiting}
+use Rattle.lock_manager.proofs.calls.CommandLemmas.{may_lock_waiting}
+use Rattle.lock_manager.proofs.calls.SetLemmas.{is_blocked}
+use Rattle.lock_manager.proofs.calls.FlockCallLemmas.{flock_locked, flock_held_off, flock_waiting}
 use Rattle.lock_manager.proofs.machine.Machine.test_flock.Goals as goal
 
 pub change_flock-requires-clause-owner : goal.change_flock-requires-clause-owner

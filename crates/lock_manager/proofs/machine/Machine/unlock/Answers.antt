@@ -1,4 +1,4 @@
-use Rattle.lock_manager.proofs.UnlockLemmas.{with_no_change}
+use Rattle.lock_manager.proofs.kept.UnlockLemmas.{with_no_change}
 use Rattle.lock_manager.proofs.machine.Machine.unlock.Goals as goal
 
 pub returns-else-may_hold-clause-ok : goal.returns-else-may_hold-clause-ok

@@ -1,5 +1,5 @@
 use Rattle.wait_core.specs.Blocking.{WaitsConflict}
-use Rattle.lock_manager.proofs.AskingLemmas.{first_at}
+use Rattle.lock_manager.proofs.calls.AskingLemmas.{first_at}
 use Rattle.lock_manager.proofs.machine.asking.first_conflicting.Goals as goal
 
 pub returns-then-conflicts_with : goal.returns-then-conflicts_with

@@ -1,5 +1,5 @@
 use Rattle.lock_manager.specs.Asking.{IsFlockAgainst}
-use Rattle.lock_manager.proofs.AskingLemmas.{first_at}
+use Rattle.lock_manager.proofs.calls.AskingLemmas.{first_at}
 use Rattle.lock_manager.proofs.machine.asking.first_flock.Goals as goal
 
 pub returns-then-is_flock_against : goal.returns-then-is_flock_against

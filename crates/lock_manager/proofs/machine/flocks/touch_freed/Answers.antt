@@ -1,4 +1,4 @@
-use Rattle.lock_manager.proofs.WaitLemmas.{elsewhere_still}
+use Rattle.lock_manager.proofs.kept.WaitLemmas.{elsewhere_still}
 use Rattle.lock_manager.proofs.machine.flocks.touch_freed.Goals as goal
 
 pub returns-else-freed-clause-blocked : goal.returns-else-freed-clause-blocked

@@ -1,5 +1,5 @@
 use Rattle.std.proofs.Common.{◌-◌, arith}
-use Rattle.lock_manager.proofs.ProcessLemmas.{state_numbered-set}
+use Rattle.lock_manager.proofs.kept.ProcessLemmas.{state_numbered-set}
 use Rattle.lock_manager.proofs.machine.processes.stand.Goals as goal
 
 pub returns-clause-stands : goal.returns-clause-stands

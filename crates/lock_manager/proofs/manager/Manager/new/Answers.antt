@@ -2,7 +2,7 @@ use Rattle.std.proofs.Common.{[], sym, subst}
 use Rattle.wait_core.specs.Blocking.{AllBlocked}
 use Rattle.lock_manager.specs.MachineView.{machine_rules, machine_locks}
 use Rattle.lock_manager.specs.State.{opening_state}
-use Rattle.lock_manager.proofs.ManagerLemmas.{safe_machine, stands_for}
+use Rattle.lock_manager.proofs.calls.ManagerLemmas.{safe_machine, stands_for}
 use Rattle.lock_manager.proofs.manager.Manager.new.Goals as goal
 
 pub invariant_of-result : goal.invariant_of-result

@@ -1,4 +1,4 @@
-use Rattle.lock_manager.proofs.ManagerLemmas.{one_step, safe_machine}
+use Rattle.lock_manager.proofs.calls.ManagerLemmas.{one_step, safe_machine}
 use Rattle.lock_manager.proofs.manager.Manager.take.Goals as goal
 
 pub invariant_of-self-2 : goal.invariant_of-self-2

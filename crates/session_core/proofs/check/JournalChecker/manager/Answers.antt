@@ -1,5 +1,5 @@
 use Rattle.session_core.specs.Checking.{HasRepeated}
-use Rattle.session_core.proofs.ReplayLemmas.{after_made}
+use Rattle.session_core.proofs.runs.ReplayLemmas.{after_made}
 use Rattle.session_core.proofs.check.JournalChecker.manager.Goals as goal
 
 pub returns : goal.returns

@@ -1,7 +1,7 @@
 use Rattle.std.proofs.Common.{subst, refl}
 use Rattle.session_core.specs.Replaying.{Repeats}
 use Rattle.session_core.specs.Checking.{HasRepeated, expected_by}
-use Rattle.session_core.proofs.ReplayLemmas.{run_of}
+use Rattle.session_core.proofs.runs.ReplayLemmas.{run_of}
 use Rattle.session_core.proofs.check.JournalChecker.next.Goals as goal
 
 pub returns-in-None-clause-checks : goal.returns-in-None-clause-checks

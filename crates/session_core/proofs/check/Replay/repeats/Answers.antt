@@ -1,6 +1,6 @@
 use Rattle.std.proofs.Common.{◌≡◌, ◌≢◌, ◌∙◌, ap, sym, subst, refl, false, true}
 use Rattle.session_core.specs.Replaying.{Makes}
-use Rattle.session_core.proofs.ReplayLemmas.{Repeats-out_of_turn, Repeats-other_notes}
+use Rattle.session_core.proofs.runs.ReplayLemmas.{Repeats-out_of_turn, Repeats-other_notes}
 use Rattle.session_core.proofs.check.Replay.repeats.Goals as goal
 
 pub returns-in-Some-clause-ok : goal.returns-in-Some-clause-ok

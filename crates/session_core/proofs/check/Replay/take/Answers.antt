@@ -5,7 +5,7 @@ use Rattle.lock_manager.specs.ManagerView.{StandsFor, rules_of, processes_of}
 use Rattle.session_core.specs.Event.{Event}
 use Rattle.session_core.specs.Mail.{answers_in}
 use Rattle.session_core.specs.LastAnswers.{latest, last_of}
-use Rattle.session_core.proofs.ReplayLemmas.{Makes-told}
+use Rattle.session_core.proofs.runs.ReplayLemmas.{Makes-told}
 use Rattle.session_core.proofs.check.Replay.take.Goals as goal
 
 pub returns-clause-ok : goal.returns-clause-ok

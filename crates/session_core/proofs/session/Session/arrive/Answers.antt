@@ -3,7 +3,7 @@ use Rattle.std.proofs.lemmas.Result.{IfErr-weaker}
 use Rattle.std.proofs.Math.Logic.{∥∥₁_map}
 use Rattle.session_core.specs.SessionView.{manager_of, events_in, sent_of}
 use Rattle.session_core.proofs.MailLemmas.{StandsAt-index, IsMailInside-set, IsMailKept-written, mailbox_of-there, mailbox_of-set_same, mail_sent-kept, mail_sent-pushed, length-mail_sent-there, Holds-sent, SameManager-refl, IfOk-both}
-use Rattle.session_core.proofs.JournalLemmas.{mail_sent-few}
+use Rattle.session_core.proofs.runs.JournalLemmas.{mail_sent-few}
 use Rattle.session_core.proofs.session.Session.arrive.Goals as goal
 
 pub invariant_of-self : goal.invariant_of-self

@@ -5,7 +5,7 @@ use Rattle.lock_manager.specs.ManagerView.{processes_of}
 use Rattle.session_core.specs.Mailboxes.{IsMailKept}
 use Rattle.session_core.specs.SessionView.{manager_of, events_in, sent_of}
 use Rattle.std.proofs.lemmas.Grind.{merely}
-use Rattle.session_core.proofs.JournalLemmas.{Holds-opening, nothing_sent, mail_sent-few}
+use Rattle.session_core.proofs.runs.JournalLemmas.{Holds-opening, nothing_sent, mail_sent-few}
 use Rattle.session_core.proofs.session.Session.new.Goals as goal
 
 pub invariant_of-result : goal.invariant_of-result

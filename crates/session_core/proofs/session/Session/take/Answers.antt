@@ -8,7 +8,7 @@ use Rattle.session_core.specs.SessionView.{manager_of, events_in, sent_of}
 use Rattle.session_core.specs.Headline.{Holds}
 use Rattle.session_core.specs.Mailboxes.{IsMailKept, mail_sent}
 use Rattle.session_core.proofs.MailLemmas.{StandsAt-index, IsMailInside-set, HasMail-there}
-use Rattle.session_core.proofs.JournalLemmas.{Holds-same, Holds-taken, mail_sent-took, next_waits, IsMailKept-push}
+use Rattle.session_core.proofs.runs.JournalLemmas.{Holds-same, Holds-taken, mail_sent-took, next_waits, IsMailKept-push}
 use Rattle.session_core.proofs.LastLemmas.{AreLastAnswers-push}
 use Rattle.session_core.proofs.session.Session.take.Goals as goal
 

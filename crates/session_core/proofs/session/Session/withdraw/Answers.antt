@@ -1,7 +1,7 @@
 use Rattle.std.proofs.Math.Logic.{∥∥₁_map}
 use Rattle.session_core.specs.SessionView.{manager_of, events_in, sent_of}
 use Rattle.session_core.proofs.MailLemmas.{StandsAt-index, mailbox_of-there, IsMailInside-set, IsMailKept-written, HasMail-there, mail_sent-withdrawn, untaken_waits, Holds-sent}
-use Rattle.session_core.proofs.JournalLemmas.{mail_sent-few}
+use Rattle.session_core.proofs.runs.JournalLemmas.{mail_sent-few}
 use Rattle.session_core.proofs.session.Session.withdraw.Goals as goal
 
 pub withdraw-requires : goal.withdraw-requires

@@ -1,0 +1,247 @@
+-- What flock comes to: at once, refused, or later.
+use Rattle.std.proofs.Common.{ℕ, ◌≡◌, ◌≢◌, refl, sym, ◌∙◌, ap, subst, Bool, true, false, Option, Some, None, List, [], ◌∷◌, ◌++◌, inl, inr, ◌⊎◌, IsTrue}
+use Rattle.std.proofs.lemmas.Bool.{eq-eqb}
+use Rattle.std.proofs.lemmas.Option.{same_Some}
+use Rattle.range_core.specs.declared.Mode.{Mode}
+use Rattle.range_core.specs.declared.Mode.TheVariants.{Read, Write}
+use Rattle.lock_book.specs.Changes.{flock_mode_in}
+use Rattle.std.specs.Prelude.{IsFalse, IsSome, ◌↔◌, slice_get, slice_set, ◌==◌, ◌&&◌, ◌||◌, if◌then◌else◌}
+use Rattle.std.specs.List.{list_any}
+use Rattle.lock_book.specs.declared.Owner.TheVariants.{Description}
+use Rattle.lock_book.specs.declared.book.Book.{Book}
+use Rattle.lock_book.specs.Books.{flock_modes_of, has_flock_place}
+use Rattle.lock_book.specs.Conflicts.{FlockConflict}
+use Rattle.fd_table.specs.declared.tables.Look.{Look}
+use Rattle.wait_core.specs.declared.Family.TheVariants.{Whole}
+use Rattle.wait_core.specs.declared.Wait.{Wait}
+use Rattle.wait_core.specs.Locks.{Locks, locks_of, flock_modes_at}
+use Rattle.wait_core.specs.Blocking.{IsBlockedByLock, IsBlocked, IsQueued}
+use Rattle.wait_core.specs.WaitsView.{wait_of, without_wait_of}
+use Rattle.lock_manager.specs.declared.machine.Machine.{Machine}
+use Rattle.lock_manager.specs.declared.request.Errno.TheVariants.{EAGAIN}
+use Rattle.lock_manager.specs.declared.request.Reply.TheVariants as replies
+use Rattle.lock_manager.specs.declared.request.Note.{Note}
+use Rattle.lock_manager.specs.declared.request.Note.TheVariants.{Answer, Waits}
+use Rattle.lock_manager.specs.declared.request.ProcState.TheVariants.{Live, Waiting}
+use Rattle.lock_manager.specs.State.{State, locks_held, with_flock_mode, with_lock_of, with_lock, with_process}
+use Rattle.lock_manager.specs.FlockCalls.{is_same_mode, wanted_flock, FlockTestComesTo, FlockModeComesTo, ConversionComesTo}
+use Rattle.lock_manager.specs.ProcessCalls.{without_wait}
+use Rattle.lock_manager.specs.Settling.{Settles, granted}
+use Rattle.lock_manager.specs.declared.request.Rules.{Rules}
+use Rattle.lock_manager.specs.WaitsKept.{AreApart, is_flock_wait, has_place_at}
+use Rattle.lock_manager.specs.MachineView.{Shows, machine_rules, machine_locks, machine_waits}
+use Rattle.lock_manager.proofs.calls.SetLemmas.{at_state, is_blocked, not_blocked}
+use Rattle.lock_manager.proofs.kept.GrantLemmas.{without_middle}
+
+-- a request for a flock lock is blocked by a lock just where the file's book says so
+pub by_flock : (books : List Book) (book : Book) (wanted : Wait) (look : Look) → slice_get books look.file ≡ Some book → wanted ≡ wanted_flock wanted.p wanted.n look wanted.mode
+    → FlockConflict (flock_modes_of book) (Description look.desc) wanted.mode ↔ IsBlockedByLock (locks_of books) wanted
+by_flock books book wanted look was is = (
+  λ h. subst (λ w. IsBlockedByLock (locks_of books) w) (sym is) (subst (λ e. FlockConflict (flock_modes_at e) (Description look.desc) wanted.mode) (sym was) h),
+  λ h. subst (λ e. FlockConflict (flock_modes_at e) (Description look.desc) wanted.mode) was (subst (λ w. IsBlockedByLock (locks_of books) w) is h),
+)
+
+-- of two reasons the second alone is asked for
+pub flock_second : (first nb result : Bool) (Found One Other : Type 0) → first ≡ false → IsTrue first ↔ Found → Found ↔ One → nb ≡ false → IsTrue result ↔ Other
+    → IsTrue result ↔ (One ⊎ (IsFalse nb × Other))
+flock_second first nb result Found One Other none tells same is second = (
+  λ h. inr (is, second.0 h),
+  λ any. elim any [ inl one ↦ absurd (let found : first ≡ true = tells.1 (same.1 one) in cc) | inr other ↦ second.1 other.1 ],
+)
+
+-- of two reasons the second isn't asked for
+pub flock_none : (first nb result : Bool) (Found One Other : Type 0) → first ≡ false → IsTrue first ↔ Found → Found ↔ One → nb ≡ true → result ≡ false
+    → IsTrue result ↔ (One ⊎ (IsFalse nb × Other))
+flock_none first nb result Found One Other none tells same is never = (
+  λ h. absurd (cc),
+  λ any. elim any [ inl one ↦ absurd (let found : first ≡ true = tells.1 (same.1 one) in cc) | inr other ↦ absurd (let no = other.0 in cc) ],
+)
+
+-- where a wait in the list passes a test, some wait does
+pub found_asks : (test : Wait → Bool) (waits : List Wait) (p : ℕ) (wait : Wait) → wait_of waits p ≡ Some wait → test wait ≡ true → list_any test waits ≡ true
+found_asks test [] p wait found passes = absurd (cc)
+found_asks test (first ∷ rest) p wait found passes = at (first.p == p) found (λ there. found_asks test rest p wait there passes)
+  where
+    or_true : (a b : Bool) → b ≡ true → (a || b) ≡ true
+    or_true true b e = refl
+    or_true false b e = e
+
+    here : (a b : Bool) → a ≡ true → (a || b) ≡ true
+    here true b e = refl
+    here false b e = cc
+
+    at : (b : Bool) → (if b then Some first else wait_of rest p) ≡ Some wait → (wait_of rest p ≡ Some wait → list_any test rest ≡ true)
+        → list_any test (first ∷ rest) ≡ true
+    at true e later = here (test first) (list_any test rest) (ap test (same_Some first wait e) ∙ passes)
+    at false e later = or_true (test first) (list_any test rest) (later e)
+
+-- a wait for a flock lock is one for that of its description on its file
+pub is_its_own_flock : (wait : Wait) (description : ℕ) → wait.family ≡ Whole → wait.owner ≡ Description description → is_flock_wait wait.file description wait ≡ true
+is_its_own_flock wait description family owner = rw (family, owner) (two (wait.file == wait.file) (description == description) (eq-eqb wait.file wait.file refl) (eq-eqb description description refl))
+  where
+    two : (a b : Bool) → a ≡ true → b ≡ true → (a && b) ≡ true
+    two a b e k = rw (e, k) refl
+
+-- a machine that shows the state without the wait and with its flock lock shows what is granted
+pub shows_granted_flock : (machine : Machine) (S : State) (before : List Wait) (wait : Wait) (after : List Wait) (description : ℕ) → wait.family ≡ Whole → wait.owner ≡ Description description
+    → AreApart S.waits → S.waits ≡ before ++ wait ∷ after
+    → Shows machine (with_flock_mode (with_process (without_wait S wait.p) wait.p Live) wait.file description (Some wait.mode))
+    → Shows machine (granted S before wait after)
+shows_granted_flock machine S before wait after description family owner apart place h =
+    let left : without_wait_of S.waits wait.p ≡ before ++ after =
+    ap (λ ws. without_wait_of ws wait.p) place ∙ without_middle before wait after (subst AreApart place apart) in
+    subst (λ f. Shows machine (with_process (record (with_lock_of f wait.owner S wait) { waits = before ++ after }) wait.p Live)) (sym family)
+    (subst (λ o. Shows machine (with_process (record (with_lock_of Whole o S wait) { waits = before ++ after }) wait.p Live)) (sym owner)
+    (record { bytes = h.bytes; flocks = h.flocks; descriptors = h.descriptors; waits = h.waits ∙ left; states = h.states }))
+
+-- in each state that old shows the test comes to this note, before whatever grants, and new shows the state that it leaves
+abbrev pub TestTells : Machine → Machine → Bool → Wait → Note → Type 0
+TestTells old new nb wanted note =
+    (grants : List Note) (S : State) → Shows old S →
+    (T : State) × FlockTestComesTo (machine_rules old) S nb wanted grants (record { told = note ∷ grants; after = T }) × Shows new T
+
+-- what blocks the test
+abbrev pub IsTestBlocked : Machine → Bool → Wait → Locks → List Wait → Type 0
+IsTestBlocked old nb wanted locks waits = IsBlockedByLock locks wanted ⊎ (IsFalse nb × IsQueued (machine_rules old).policy waits wanted)
+
+-- nothing blocks it
+pub flock_locked : (old new : Machine) (nb : Bool) (look : Look) (wanted : Wait) (note : Note) → wanted ≡ wanted_flock wanted.p wanted.n look wanted.mode
+    → note ≡ Answer wanted.p wanted.n replies.Ok → ¬ IsTestBlocked old nb wanted (machine_locks old) (machine_waits old)
+    → ((S : State) → Shows old S → Shows new (with_flock_mode S look.file look.desc (Some wanted.mode))) → TestTells old new nb wanted note
+flock_locked old new true look wanted note is note_is free stands grants S h = (
+  with_lock S wanted,
+  inr (λ b. at_state old S (λ locks waits. ¬ IsTestBlocked old true wanted locks waits) h free (inl b), ap (λ k. record { told = k ∷ grants; after = with_lock S wanted }) note_is),
+  subst (λ w. Shows new (with_lock S w)) (sym is) (stands S h),
+)
+flock_locked old new false look wanted note is note_is free stands grants S h =
+    let here = at_state old S (λ locks waits. ¬ IsTestBlocked old false wanted locks waits) h free in (
+      with_lock S wanted,
+      inr (not_blocked (machine_rules old).policy (locks_held S) S.waits wanted (λ b. here (inl b)) (λ q. here (inr (refl, q))), ap (λ k. record { told = k ∷ grants; after = with_lock S wanted }) note_is),
+      subst (λ w. Shows new (with_lock S w)) (sym is) (stands S h),
+    )
+
+-- a lock blocks it, and it doesn't wait
+pub flock_held_off : (old : Machine) (nb : Bool) (wanted : Wait) (note : Note) → nb ≡ true → note ≡ Answer wanted.p wanted.n (replies.Err EAGAIN)
+    → IsTestBlocked old nb wanted (machine_locks old) (machine_waits old) → TestTells old old nb wanted note
+flock_held_off old false wanted note never note_is blocked grants S h = absurd (cc)
+flock_held_off old true wanted note never note_is blocked grants S h = (
+  S,
+  elim (at_state old S (IsTestBlocked old true wanted) h blocked) [
+    | inl b ↦ inl (b, ap (λ k. record { told = k ∷ grants; after = S }) note_is)
+    | inr q ↦ absurd (let no = q.0 in cc)
+  ],
+  h,
+)
+
+-- it waits
+pub flock_waiting : (old new : Machine) (nb : Bool) (wanted : Wait) → nb ≡ false
+    → IsTestBlocked old nb wanted (machine_locks old) (machine_waits old)
+    → ((S : State) → Shows old S → Shows new (with_process (record S { waits = S.waits ++ wanted ∷ [] }) wanted.p Waiting))
+    → TestTells old new nb wanted (Waits wanted.p wanted.n)
+flock_waiting old new true wanted waits blocked stands grants S h = absurd (cc)
+flock_waiting old new false wanted waits blocked stands grants S h = (
+  with_process (record S { waits = S.waits ++ wanted ∷ [] }) wanted.p Waiting,
+  inl (either (at_state old S (IsTestBlocked old false wanted) h blocked), refl),
+  stands S h,
+)
+  where
+    either : IsTestBlocked old false wanted (locks_held S) S.waits → IsBlocked (machine_rules old).policy (locks_held S) S.waits wanted
+    either (inl b) = is_blocked (machine_rules old).policy (locks_held S) S.waits wanted (inl b)
+    either (inr q) = is_blocked (machine_rules old).policy (locks_held S) S.waits wanted (inr q.1)
+
+-- a conversion: what the removal, the settling and the test come to
+pub converted : (old removed settled new : Machine) (nb : Bool) (look : Look) (wanted : Wait) (note : Note) (grants told : List Note)
+    → machine_rules removed ≡ machine_rules old → machine_rules settled ≡ machine_rules removed
+    → ((S : State) → Shows old S → Shows removed (with_flock_mode S look.file look.desc None))
+    → ((S : State) → Shows removed S → (T : State) × Settles (machine_rules removed).policy S grants T × Shows settled T)
+    → TestTells settled new nb wanted note → told ≡ note ∷ grants
+    → (S : State) → Shows old S → (T : State) × ConversionComesTo (machine_rules old) S look nb wanted (record { told = told; after = T }) × Shows new T
+converted old removed settled new nb look wanted note grants told first second removes settles tests is S h =
+    let given = settles (with_flock_mode S look.file look.desc None) (removes S h) in
+    let tested = tests grants given.0 given.2 in (
+      tested.0,
+      (
+        grants,
+        given.0,
+        subst (λ (rs : Rules). Settles rs.policy (with_flock_mode S look.file look.desc None) grants given.0) first given.1,
+        subst (λ t. FlockTestComesTo (machine_rules old) given.0 nb wanted grants (record { told = t; after = tested.0 })) (sym is)
+            (subst (λ (rs : Rules). FlockTestComesTo rs given.0 nb wanted grants (record { told = note ∷ grants; after = tested.0 })) (second ∙ first) tested.1),
+      ),
+      tested.2,
+    )
+
+-- the first note of a list is another one
+pub first_set : (a b : Note) (grants items : List Note) → items ≡ (a ∷ []) ++ grants → slice_set items 0 b ≡ b ∷ grants
+first_set a b grants items is = ap (λ notes. slice_set notes 0 b) is
+
+-- the mode that the file's book has for the description is the one in each state that the machine shows
+pub flock_in_state : (machine : Machine) (S : State) (file description : ℕ) (book : Book) (mode : Option Mode)
+    → slice_get machine.books.items file ≡ Some book → mode ≡ flock_modes_of book description → Shows machine S
+    → mode ≡ flock_mode_in S.flock_changes file description
+unfolding machine_locks
+flock_in_state machine S file description book mode was is h =
+    is ∙ ap (λ e. flock_modes_at e description) (sym was) ∙ h.flocks file description
+
+-- without a lock the request is tested at once
+pub flock_tested : (old middle new : Machine) (nb : Bool) (look : Look) (wanted : Wait) (note : Note) (book : Book) (mode : Option Mode) (told : List Note)
+    → slice_get old.books.items look.file ≡ Some book → mode ≡ flock_modes_of book look.desc → mode ≡ None
+    → ((S : State) → Shows old S → Shows middle S) → machine_rules middle ≡ machine_rules old
+    → TestTells middle new nb wanted note → told ≡ note ∷ []
+    → (S : State) → Shows old S
+    → (T : State) × FlockModeComesTo (machine_rules old) S look nb wanted (flock_mode_in S.flock_changes look.file look.desc) (record { told = told; after = T }) × Shows new T
+flock_tested old middle new nb look wanted note book mode told was is none same rules tests told_is S h =
+    let tested = tests [] S (same S h) in (
+      tested.0,
+      subst (λ held. FlockModeComesTo (machine_rules old) S look nb wanted held (record { told = told; after = tested.0 }))
+          (sym none ∙ flock_in_state old S look.file look.desc book mode was is h)
+          (subst (λ t. FlockTestComesTo (machine_rules old) S nb wanted [] (record { told = t; after = tested.0 })) (sym told_is)
+          (subst (λ (rs : Rules). FlockTestComesTo rs S nb wanted [] (record { told = note ∷ []; after = tested.0 })) rules tested.1)),
+      tested.2,
+    )
+
+-- the mode that is held already changes nothing
+pub flock_held : (machine : Machine) (nb : Bool) (look : Look) (wanted : Wait) (book : Book) (mode : Option Mode) (held : Mode) (told : List Note)
+    → slice_get machine.books.items look.file ≡ Some book → mode ≡ flock_modes_of book look.desc → mode ≡ Some held → held ≡ wanted.mode
+    → told ≡ Answer wanted.p wanted.n replies.Ok ∷ []
+    → (S : State) → Shows machine S
+    → (T : State) × FlockModeComesTo (machine_rules machine) S look nb wanted (flock_mode_in S.flock_changes look.file look.desc) (record { told = told; after = T }) × Shows machine T
+flock_held machine nb look wanted book mode held told was is some same told_is S h = (
+  S,
+  subst (λ m. FlockModeComesTo (machine_rules machine) S look nb wanted m (record { told = told; after = S }))
+      (sym some ∙ flock_in_state machine S look.file look.desc book mode was is h)
+      (rw (one_mode held wanted.mode same) (ap (λ t. record { told = t; after = S }) told_is)),
+  h,
+)
+  where
+    one_mode : (one other : Mode) → one ≡ other → is_same_mode one other ≡ true
+    one_mode Read Read e = refl
+    one_mode Read Write e = cc
+    one_mode Write Read e = cc
+    one_mode Write Write e = refl
+
+-- another mode is converted
+pub flock_converted : (old new : Machine) (nb : Bool) (look : Look) (wanted : Wait) (book : Book) (mode : Option Mode) (held : Mode) (told : List Note)
+    → slice_get old.books.items look.file ≡ Some book → mode ≡ flock_modes_of book look.desc → mode ≡ Some held → held ≢ wanted.mode
+    → ((S : State) → Shows old S → (T : State) × ConversionComesTo (machine_rules old) S look nb wanted (record { told = told; after = T }) × Shows new T)
+    → (S : State) → Shows old S
+    → (T : State) × FlockModeComesTo (machine_rules old) S look nb wanted (flock_mode_in S.flock_changes look.file look.desc) (record { told = told; after = T }) × Shows new T
+flock_converted old new nb look wanted book mode held told was is some other converts S h =
+    let given = converts S h in (
+      given.0,
+      subst (λ m. FlockModeComesTo (machine_rules old) S look nb wanted m (record { told = told; after = given.0 }))
+          (sym some ∙ flock_in_state old S look.file look.desc book mode was is h)
+          (rw (two_modes held wanted.mode other) given.1),
+      given.2,
+    )
+  where
+    two_modes : (one other : Mode) → one ≢ other → is_same_mode one other ≡ false
+    two_modes Read Read e = absurd (e refl)
+    two_modes Read Write e = refl
+    two_modes Write Read e = refl
+    two_modes Write Write e = absurd (e refl)
+
+-- a description with a mode has a place
+pub place_of_held : (books : List Book) (file description : ℕ) (book : Book) (mode : Option Mode) (held : Mode) → slice_get books file ≡ Some book
+    → (IsSome mode → IsTrue (has_flock_place book description)) → mode ≡ Some held → has_place_at (slice_get books file) description ≡ true
+place_of_held books file description book (Some m) held was place is = subst (λ e. has_place_at e description ≡ true) (sym was) (place refl)
+place_of_held books file description book None held was place is = absurd (cc)

@@ -1,0 +1,249 @@
+-- What fork, exit, signal and kill do to the waits and to the states that a machine shows.
+use Rattle.std.proofs.Common.{ℕ, suc, ◌≡◌, ◌≢◌, ◌≤◌, ◌+◌, refl, sym, ◌∙◌, ap, subst, List, [], ◌∷◌, length, Some, Bool, true, false, All, get_or, inl, inr, arith}
+use Rattle.std.proofs.Math.Logic.{∥∥₁_map}
+use Rattle.std.proofs.lemmas.Bool.{cases_Bool}
+use Rattle.std.proofs.lemmas.Bool.Decides.{eqb_tells}
+use Rattle.std.proofs.lemmas.List.Elements.{All-filter, filter_passes}
+use Rattle.std.proofs.lemmas.List.Kept.{AllPairs-filter}
+use Rattle.std.specs.Prelude.{◌==◌, if◌then◌else◌, not}
+use Rattle.std.specs.List.{filter, list_any}
+use Rattle.lock_book.specs.declared.book.Book.{Book}
+use Rattle.fd_table.specs.declared.tables.Tables.{Tables}
+use Rattle.fd_table.specs.TablesView.{StandFor, ever_alive}
+use Rattle.wait_core.specs.declared.Wait.{Wait}
+use Rattle.wait_core.specs.declared.waits.Waits.{Waits}
+use Rattle.wait_core.specs.Cycles.{IsFreeOfCycles}
+use Rattle.wait_core.specs.FreeOfCycles.{FreeWhenOneLeaves}
+use Rattle.wait_core.specs.Locks.{Locks, locks_of}
+use Rattle.wait_core.specs.Settled.{AreBlockedElsewhere}
+use Rattle.wait_core.specs.WaitsView.{waits_of, wait_of, without_wait_of, AreTold}
+use Rattle.lock_manager.specs.declared.machine.Machine.{Machine}
+use Rattle.lock_manager.specs.declared.request.ProcState.{ProcState}
+use Rattle.lock_manager.specs.declared.request.ProcState.TheVariants.{Live, Ended}
+use Rattle.lock_manager.specs.State.{State, state_numbered, with_process, StandsSo}
+use Rattle.lock_manager.specs.ProcessCalls.{EndComesTo, KillOtherComesTo, without_wait}
+use Rattle.lock_manager.specs.DescriptorCalls.{with_released}
+use Rattle.lock_manager.specs.Outcomes.{Outcome}
+use Rattle.lock_manager.specs.declared.request.Note.{Note}
+use Rattle.lock_manager.specs.declared.request.Request.TheVariants.{Kill}
+use Rattle.lock_manager.specs.DescriptionLocks.{MayWaitAs, AreOwned}
+use Rattle.lock_manager.specs.MachineView.{Shows, Tells, machine_state, machine_locks, machine_waits}
+use Rattle.lock_manager.specs.WaitsKept.{AreKept, AreApart, IsSuspended, AreStanding, HaveRoom, is_byte_wait, is_flock_wait}
+use Rattle.lock_manager.proofs.kept.ProcessLemmas.{waiting_still, waited_before}
+
+-- no wait of a process is left without it
+pub without_passes : (waits : List Wait) (p : ℕ) → All (λ wait. wait.p ≢ p) (without_wait_of waits p)
+without_passes waits p k d within e =
+    let test : Wait → Bool = λ wait. not (wait.p == p) in
+    let wait = get_or (filter test waits) k d in
+    let passes : not (wait.p == p) ≡ true = filter_passes test waits k d within in
+    elim (eqb_tells wait.p p) [
+      | inl same ↦ (let tested = same.0 in cc)
+      | inr other ↦ other.1 e
+    ]
+
+-- a process without a wait leaves nothing
+pub without_absent : (waits : List Wait) (p : ℕ) → All (λ wait. wait.p ≢ p) waits → without_wait_of waits p ≡ waits
+without_absent [] p others = refl
+without_absent (wait ∷ waits) p others = elim (eqb_tells wait.p p) [
+  | inl same ↦ absurd (others 0 wait (let n = length waits in omega arith) same.1)
+  | inr other ↦ rw other.0 (ap (λ ws. wait ∷ ws) (without_absent waits p (λ k d within. others (suc k) d (omega (arith, within)))))
+]
+
+-- no more waits are left than there were
+length_without : (waits : List Wait) (p : ℕ) → length (without_wait_of waits p) ≤ length waits
+length_without [] p = omega arith
+length_without (wait ∷ waits) p =
+    let rest : length (without_wait_of waits p) ≤ length waits = length_without waits p in
+    elim (eqb_tells wait.p p) [
+      | inl same ↦ rw same.0 (omega (arith, rest))
+      | inr other ↦ rw other.0 (omega (arith, rest))
+    ]
+
+-- a wait that is found is one fewer where it leaves
+pub fewer_without : (waits : List Wait) (p : ℕ) (found : Wait) → wait_of waits p ≡ Some found → length (without_wait_of waits p) + 1 ≤ length waits
+fewer_without [] p found is = absurd (cc)
+fewer_without (wait ∷ waits) p found is = elim (eqb_tells wait.p p) [
+  | inl same ↦ let rest : length (without_wait_of waits p) ≤ length waits = length_without waits p in rw same.0 (omega (arith, rest))
+  | inr other ↦
+      let rest : length (without_wait_of waits p) + 1 ≤ length waits = fewer_without waits p found (rw other.0 at is) in
+      rw other.0 (omega (arith, rest))
+]
+
+-- a wait that is found is the process' own
+pub found_of : (waits : List Wait) (p : ℕ) (found : Wait) → wait_of waits p ≡ Some found → found.p ≡ p
+found_of [] p found is = absurd (cc)
+found_of (wait ∷ waits) p found is = elim (eqb_tells wait.p p) [
+  | inl same ↦ let here : Some wait ≡ Some found = rw same.0 at is in let it : wait ≡ found = cc in ap (λ (w : Wait). w.p) (sym it) ∙ same.1
+  | inr other ↦ found_of waits p found (rw other.0 at is)
+]
+
+-- what holds of all waits holds of the one that is found
+pub found_holds : (P : Wait → Type 0) (waits : List Wait) (p : ℕ) (found : Wait) → wait_of waits p ≡ Some found → All P waits → P found
+found_holds P [] p found is all = absurd (cc)
+found_holds P (wait ∷ waits) p found is all = elim (eqb_tells wait.p p) [
+  | inl same ↦
+      let here : Some wait ≡ Some found = rw same.0 at is in
+      let it : wait ≡ found = cc in
+      subst P it (all 0 wait (let n = length waits in omega arith))
+  | inr other ↦ found_holds P waits p found (rw other.0 at is) (λ k d within. all (suc k) d (omega (arith, within)))
+]
+
+-- the wait of another process is found as before
+pub other_found : (waits : List Wait) (p q : ℕ) → q ≢ p → wait_of (without_wait_of waits p) q ≡ wait_of waits q
+other_found [] p q differs = refl
+other_found (wait ∷ waits) p q differs = elim (eqb_tells wait.p p) [
+  | inl gone ↦ elim (eqb_tells wait.p q) [
+    | inl same ↦ absurd (differs (sym same.1 ∙ gone.1))
+    | inr other ↦ rw (gone.0, other.0) (other_found waits p q differs)
+  ]
+  | inr stays ↦ elim (eqb_tells wait.p q) [
+    | inl same ↦ rw (stays.0, same.0) refl
+    | inr other ↦ rw (stays.0, other.0) (other_found waits p q differs)
+  ]
+]
+
+-- no more waits of a kind are left than there were
+pub counted_without : (test : Wait → Bool) (waits : List Wait) (p : ℕ) → length (filter test (without_wait_of waits p)) ≤ length (filter test waits)
+counted_without test [] p = omega arith
+counted_without test (wait ∷ waits) p =
+    let rest : length (filter test (without_wait_of waits p)) ≤ length (filter test waits) = counted_without test waits p in
+    elim (cases_Bool (test wait)) [
+      | inl hit ↦ elim (eqb_tells wait.p p) [
+        | inl gone ↦ rw (gone.0, hit) (omega (arith, rest))
+        | inr stays ↦ rw (stays.0, hit) (omega (arith, rest))
+      ]
+      | inr missed ↦ elim (eqb_tells wait.p p) [
+        | inl gone ↦ rw (gone.0, missed) rest
+        | inr stays ↦ rw (stays.0, missed) rest
+      ]
+    ]
+
+-- nor of a kind that there wasn't
+pub found_without : (test : Wait → Bool) (waits : List Wait) (p : ℕ) → list_any test (without_wait_of waits p) ≡ true → list_any test waits ≡ true
+found_without test [] p is = is
+found_without test (wait ∷ waits) p is = elim (cases_Bool (test wait)) [
+  | inl hit ↦ rw hit refl
+  | inr missed ↦ elim (eqb_tells wait.p p) [
+    | inl gone ↦ rw missed (found_without test waits p (rw gone.0 at is))
+    | inr stays ↦ rw missed (found_without test waits p (rw (stays.0, missed) at is))
+  ]
+]
+
+-- so there is room for the waits that are left
+pub room_without : (books : List Book) (waits : List Wait) (p : ℕ) → HaveRoom books waits → HaveRoom books (without_wait_of waits p)
+room_without books waits p h =
+    record {
+      rooms = λ file owner. let fewer = counted_without (is_byte_wait file owner) waits p in let enough = h.rooms file owner in omega (arith, fewer, enough);
+      places = λ file d asked. h.places file d (found_without (is_flock_wait file d) waits p asked);
+    }
+
+-- those are of descriptions that their processes have open
+pub owned_without : (tables : Tables) (locks : Locks) (waits : List Wait) (p : ℕ) → AreOwned tables locks waits → AreOwned tables locks (without_wait_of waits p)
+owned_without tables locks waits p owned =
+    ∥∥₁_map owned (λ given. (
+      given.0,
+      given.1,
+      given.2,
+      All-filter (λ (wait : Wait). not (wait.p == p)) (λ wait. MayWaitAs given.0 wait wait.owner) waits given.3,
+    ))
+
+-- the process whose wait is over lives, and the others wait on
+pub standing_left : (tables : Tables) (states states' : List ProcState) (waits : List Wait) (p : ℕ) (found : Wait) → StandsSo states states' p Live
+    → wait_of waits p ≡ Some found → AreStanding tables states waits → AreStanding tables states' (without_wait_of waits p)
+standing_left tables states states' waits p found set is h = record {
+  alive = λ q live. elim (eqb_tells q p) [
+    | inl same ↦
+        let born : ever_alive tables found.p ≡ true = (found_holds (IsSuspended tables states) waits p found is h.suspended).born in
+        subst (λ r. ever_alive tables r ≡ true) (found_of waits p found is ∙ sym same.1) born
+    | inr other ↦ h.alive q (ap (λ b. if b then Live else state_numbered states q) (sym other.0) ∙ sym (set q) ∙ live)
+  ];
+  suspended = λ k d inside.
+      let wait = get_or (without_wait_of waits p) k d in
+      let was = All-filter (λ (wait : Wait). not (wait.p == p)) (IsSuspended tables states) waits h.suspended k d inside in
+      record { born = was.born; waiting = waiting_still states states' p Live set wait.p (without_passes waits p k d inside) was.waiting };
+  awaited = λ q waits_on none.
+      let before = waited_before states states' p Live set (λ e. cc) q waits_on in
+      h.awaited q before.1 (sym (other_found waits p q before.0) ∙ none);
+}
+
+-- what is kept stays where a wait is over
+pub kept_by_leave : FreeWhenOneLeaves → (m : Machine) (waits : Waits) (p : ℕ) → waits_of waits ≡ without_wait_of (waits_of m.waits) p
+    → ((locks : Locks) → AreTold m.waits locks → AreTold waits locks) → ((locks : Locks) → AreBlockedElsewhere m.waits locks → AreBlockedElsewhere waits locks)
+    → AreKept m.rules.policy m.tables m.books.items waits
+kept_by_leave leaves m waits p rest told blocked =
+    let books = m.books.items in
+    let locks = locks_of books in
+    let before = waits_of m.waits in
+    record {
+      compatible = m.kept.compatible;
+      owned = subst (AreOwned m.tables locks) (sym rest) (owned_without m.tables locks before p m.kept.owned);
+      within = m.kept.within;
+      told = ∥∥₁_map m.kept.told (told locks);
+      blocked = ∥∥₁_map m.kept.blocked (blocked locks);
+      apart = subst AreApart (sym rest) (AllPairs-filter (λ (v w : Wait). v.p ≢ w.p) (λ (wait : Wait). not (wait.p == p)) before m.kept.apart);
+      room = subst (HaveRoom books) (sym rest) (room_without books before p m.kept.room);
+      free_of_cycles = subst (IsFreeOfCycles m.rules.policy locks) (sym rest) (leaves m.rules.policy locks before p m.kept.free_of_cycles);
+    }
+
+-- with the same books and tables the machine shows the state without the wait, in which the process stands so
+pub with_wait_gone : (old new : Machine) (S : State) (p : ℕ) (state : ProcState) → new.books ≡ old.books → new.tables ≡ old.tables
+    → StandsSo old.states.items new.states.items p state
+    → waits_of new.waits ≡ without_wait_of (waits_of old.waits) p
+    → Shows old S → Shows new (with_process (without_wait S p) p state)
+unfolding machine_locks machine_state machine_waits
+with_wait_gone old new S p state books tables states waits h =
+    record {
+      bytes = λ file owner byte. rw books (h.bytes file owner byte);
+      flocks = λ file description. rw books (h.flocks file description);
+      descriptors = subst (λ t. StandFor t S.descriptors) (sym tables) h.descriptors;
+      waits = waits ∙ ap (λ ws. without_wait_of ws p) h.waits;
+      states = λ q. states q ∙ ap (λ s. if q == p then state else s) (h.states q);
+    }
+
+-- the end of a process right after its wait is over is the end of one that waits
+pub ends_waiting : (new : Machine) (S : State) (p : ℕ) (told : List Note)
+    → (T : State) × EndComesTo (with_process (without_wait S p) p Live) p told (record { told = told; after = T }) × Shows new T
+    → (T : State) × EndComesTo S p told (record { told = told; after = T }) × Shows new T
+ends_waiting new S p told given =
+    let released = given.1.0 in
+    let E = given.1.1 in
+    let live : State = with_process (without_wait S p) p Live in
+    let shown : Shows new (with_process (with_released (without_wait live p) E p released) p Ended) = subst (Shows new) (ap (λ (o : Outcome). o.after) given.1.3) given.2 in (
+      with_process (with_released (without_wait S p) E p released) p Ended,
+      (released, E, given.1.2, refl),
+      record {
+        bytes = shown.bytes;
+        flocks = shown.flocks;
+        descriptors = shown.descriptors;
+        waits = shown.waits ∙ without_absent (without_wait_of S.waits p) p (without_passes S.waits p);
+        states = λ q. shown.states q ∙ last (q == p) (S.states q);
+      },
+    )
+  where
+    last : (b : Bool) (was : ProcState) → (if b then Ended else if b then Live else was) ≡ (if b then Ended else was)
+    last true was = refl
+    last false was = refl
+
+-- a kill of oneself is an exit, of which nothing is told
+pub kills_itself : (old new : Machine) (p n target : ℕ) → target ≡ p
+    → ((S : State) → Shows old S → (T : State) × EndComesTo S p [] (record { told = []; after = T }) × Shows new T)
+    → Tells old new p n (Kill target) []
+kills_itself old new p n target same ends S h =
+    let given = ends S h in
+    elim (eqb_tells target p) [
+      | inl met ↦ (given.0, rw met.0 given.1, given.2)
+      | inr other ↦ absurd (other.1 same)
+    ]
+
+-- a kill of another process is told as it comes where this one stands
+pub kills_other : (old new : Machine) (p n target : ℕ) (state : ProcState) (told : List Note) → target ≢ p → machine_state old target ≡ state
+    → ((S : State) → Shows old S → (T : State) × KillOtherComesTo S p n target state (record { told = told; after = T }) × Shows new T)
+    → Tells old new p n (Kill target) told
+kills_other old new p n target state told differs stands comes S h =
+    let given = comes S h in
+    let at : S.states target ≡ state = sym (h.states target) ∙ stands in
+    elim (eqb_tells target p) [
+      | inl same ↦ absurd (differs same.1)
+      | inr other ↦ (given.0, rw (other.0, at) given.1, given.2)
+    ]

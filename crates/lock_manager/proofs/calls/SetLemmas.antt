@@ -1,0 +1,160 @@
+-- What a set command comes to: at once, refused, or later.
+use Rattle.std.proofs.Common.{◌≡◌, refl, sym, ◌∙◌, ap, subst, Bool, true, false, Some, List, [], ◌∷◌, ◌++◌, inl, inr, ◌⊎◌, IsTrue}
+use Rattle.std.specs.Prelude.{IsFalse, ◌↔◌, slice_get}
+use Rattle.lock_book.specs.declared.book.Book.{Book}
+use Rattle.lock_book.specs.Books.{byte_modes_of}
+use Rattle.lock_book.specs.Conflicts.{ByteConflict}
+use Rattle.wait_core.specs.declared.Family.TheVariants.{Bytes}
+use Rattle.wait_core.specs.declared.Policy.{Policy}
+use Rattle.wait_core.specs.declared.Policy.TheVariants.{Held, Queue}
+use Rattle.wait_core.specs.declared.Wait.{Wait}
+use Rattle.wait_core.specs.Locks.{Locks, locks_of, byte_modes_at}
+use Rattle.wait_core.specs.Blocking.{IsBlockedIn, IsBlockedByLock, IsBlocked, IsQueued}
+use Rattle.wait_core.specs.Cycles.{ClosesCycle}
+use Rattle.lock_manager.specs.declared.machine.Machine.{Machine}
+use Rattle.lock_manager.specs.declared.request.Rules.{Rules}
+use Rattle.lock_manager.specs.declared.request.LkCmd.{LkCmd}
+use Rattle.lock_manager.specs.declared.request.LkCmd.TheVariants.{GetLk, SetLk, SetLkW, OGetLk, OSetLk, OSetLkW}
+use Rattle.lock_manager.specs.declared.request.Errno.TheVariants.{EDEADLK}
+use Rattle.lock_manager.specs.declared.request.Reply.TheVariants as replies
+use Rattle.lock_manager.specs.declared.request.Note.{Note}
+use Rattle.lock_manager.specs.declared.request.Note.TheVariants.{Answer, Waits}
+use Rattle.lock_manager.specs.declared.request.ProcState.TheVariants.{Waiting}
+use Rattle.lock_manager.specs.State.{State, locks_held, with_byte_mode, with_lock_of, with_lock, with_process}
+use Rattle.lock_manager.specs.Outcomes.{Outcome, refused, waits_then}
+use Rattle.lock_manager.specs.LockWords.{is_ofd, is_get, may_wait}
+use Rattle.lock_manager.specs.LockCommands.{IsLocked, CommandComesTo}
+use Rattle.lock_manager.specs.MachineView.{Shows, machine_rules, machine_locks, machine_waits}
+use Rattle.lock_manager.proofs.calls.ReportLemmas.{same_locks}
+
+-- a request for bytes is blocked by a lock just where the file's book says so
+pub by_book : (books : List Book) (book : Book) (wanted : Wait) → slice_get books wanted.file ≡ Some book → wanted.family ≡ Bytes
+    → ByteConflict (byte_modes_of book) wanted.owner wanted.span wanted.mode ↔ IsBlockedByLock (locks_of books) wanted
+by_book books book wanted was family = (
+  λ h. subst (λ f. IsBlockedIn f (locks_of books) wanted) (sym family) (subst (λ e. ByteConflict (byte_modes_at e) wanted.owner wanted.span wanted.mode) (sym was) h),
+  λ h. subst (λ e. ByteConflict (byte_modes_at e) wanted.owner wanted.span wanted.mode) was (subst (λ f. IsBlockedIn f (locks_of books) wanted) family h),
+)
+
+-- of two reasons the first is there
+pub told_first : (result : Bool) (Found One Other : Type 0) → result ≡ true → IsTrue result ↔ Found → Found ↔ One → IsTrue result ↔ (One ⊎ Other)
+told_first result Found One Other is tells same = (λ h. inl (same.0 (tells.0 h)), λ any. is)
+
+-- of two reasons the second alone is asked for
+pub told_second : (first asked result : Bool) (Found One Other : Type 0) → first ≡ false → IsTrue first ↔ Found → Found ↔ One → IsTrue asked → IsTrue result ↔ Other
+    → IsTrue result ↔ (One ⊎ (IsTrue asked × Other))
+told_second first asked result Found One Other none tells same is second = (
+  λ h. inr (is, second.0 h),
+  λ any. elim any [ inl one ↦ absurd (let found : first ≡ true = tells.1 (same.1 one) in cc) | inr other ↦ second.1 other.1 ],
+)
+
+-- of two reasons the second isn't asked for
+pub told_none : (first asked result : Bool) (Found One Other : Type 0) → first ≡ false → IsTrue first ↔ Found → Found ↔ One → result ≡ false → result ≡ asked
+    → IsTrue result ↔ (One ⊎ (IsTrue asked × Other))
+told_none first asked result Found One Other none tells same never is = (
+  λ h. absurd (cc),
+  λ any. elim any [ inl one ↦ absurd (let found : first ≡ true = tells.1 (same.1 one) in cc) | inr other ↦ is ∙ other.0 ],
+)
+
+-- in each state that old shows the set command comes to this note alone, and new shows the state that it leaves
+abbrev pub CommandTells : Machine → Machine → LkCmd → Wait → Note → Type 0
+CommandTells old new cmd wanted note =
+    (S : State) → Shows old S → (T : State) × CommandComesTo (machine_rules old) S cmd wanted (record { told = note ∷ []; after = T }) × Shows new T
+
+-- what holds of the machine's locks and waits holds of those of each state that it shows
+pub at_state : (m : Machine) (S : State) (P : Locks → List Wait → Type 0) → Shows m S → P (machine_locks m) (machine_waits m) → P (locks_held S) S.waits
+at_state m S P h given = subst (P (locks_held S)) h.waits (subst (λ locks. P locks (machine_waits m)) (same_locks m S h) given)
+
+-- a wait is blocked by a held lock, or in the queue
+pub is_blocked : (policy : Policy) (locks : Locks) (waits : List Wait) (wanted : Wait) → IsBlockedByLock locks wanted ⊎ IsQueued policy waits wanted → IsBlocked policy locks waits wanted
+is_blocked Held locks waits wanted (inl h) = h
+is_blocked Held locks waits wanted (inr h) = absurd h
+is_blocked Queue locks waits wanted h = h
+
+pub not_blocked : (policy : Policy) (locks : Locks) (waits : List Wait) (wanted : Wait) → ¬ IsBlockedByLock locks wanted → ¬ IsQueued policy waits wanted → ¬ IsBlocked policy locks waits wanted
+not_blocked Held locks waits wanted free alone h = free h
+not_blocked Queue locks waits wanted free alone (inl h) = free h
+not_blocked Queue locks waits wanted free alone (inr h) = alone h
+
+-- the command finds its way blocked: where it would wait, as a wait is
+abbrev pub IsCommandBlocked : Rules → LkCmd → Wait → Locks → List Wait → Type 0
+IsCommandBlocked rules cmd wanted locks waits = IsBlockedByLock locks wanted ⊎ (IsTrue (may_wait cmd) × IsQueued rules.policy waits wanted)
+
+-- nothing blocks it
+comes_free : (rules : Rules) (S : State) (cmd : LkCmd) (wanted : Wait) (outcome : Outcome) → is_get cmd ≡ false
+    → ¬ IsCommandBlocked rules cmd wanted (locks_held S) S.waits → IsLocked S wanted outcome → CommandComesTo rules S cmd wanted outcome
+comes_free rules S GetLk wanted outcome set free done = absurd (cc)
+comes_free rules S OGetLk wanted outcome set free done = absurd (cc)
+comes_free rules S SetLk wanted outcome set free done = inr (λ h. free (inl h), done)
+comes_free rules S OSetLk wanted outcome set free done = inr (λ h. free (inl h), done)
+comes_free rules S SetLkW wanted outcome set free done =
+    inr (not_blocked rules.policy (locks_held S) S.waits wanted (λ h. free (inl h)) (λ h. free (inr (refl, h))), done)
+comes_free rules S OSetLkW wanted outcome set free done =
+    inr (not_blocked rules.policy (locks_held S) S.waits wanted (λ h. free (inl h)) (λ h. free (inr (refl, h))), done)
+
+-- what blocks a command that would wait would block the wait
+blocks_wait : (rules : Rules) (cmd : LkCmd) (wanted : Wait) (locks : Locks) (waits : List Wait) → IsCommandBlocked rules cmd wanted locks waits → IsBlocked rules.policy locks waits wanted
+blocks_wait rules cmd wanted locks waits (inl h) = is_blocked rules.policy locks waits wanted (inl h)
+blocks_wait rules cmd wanted locks waits (inr h) = is_blocked rules.policy locks waits wanted (inr h.1)
+
+-- it would wait, and close a cycle
+comes_deadlock : (rules : Rules) (S : State) (cmd : LkCmd) (wanted : Wait) → is_get cmd ≡ false → may_wait cmd ≡ true → IsFalse (is_ofd cmd)
+    → IsCommandBlocked rules cmd wanted (locks_held S) S.waits → ClosesCycle rules.policy (locks_held S) S.waits wanted
+    → CommandComesTo rules S cmd wanted (refused S wanted.p wanted.n EDEADLK)
+comes_deadlock rules S GetLk wanted set waits traditional blocked cycle = absurd (cc)
+comes_deadlock rules S OGetLk wanted set waits traditional blocked cycle = absurd (cc)
+comes_deadlock rules S SetLk wanted set waits traditional blocked cycle = absurd (cc)
+comes_deadlock rules S OSetLk wanted set waits traditional blocked cycle = absurd (cc)
+comes_deadlock rules S SetLkW wanted set waits traditional blocked cycle =
+    inl (blocks_wait rules SetLkW wanted (locks_held S) S.waits blocked, inl (cycle, refl))
+comes_deadlock rules S OSetLkW wanted set waits traditional blocked cycle = absurd (cc)
+
+-- it waits
+comes_waiting : (rules : Rules) (S : State) (cmd : LkCmd) (wanted : Wait) → is_get cmd ≡ false → may_wait cmd ≡ true
+    → IsCommandBlocked rules cmd wanted (locks_held S) S.waits → ¬ (IsFalse (is_ofd cmd) × ClosesCycle rules.policy (locks_held S) S.waits wanted)
+    → CommandComesTo rules S cmd wanted (waits_then S wanted [])
+comes_waiting rules S GetLk wanted set waits blocked free = absurd (cc)
+comes_waiting rules S OGetLk wanted set waits blocked free = absurd (cc)
+comes_waiting rules S SetLk wanted set waits blocked free = absurd (cc)
+comes_waiting rules S OSetLk wanted set waits blocked free = absurd (cc)
+comes_waiting rules S SetLkW wanted set waits blocked free =
+    inl (blocks_wait rules SetLkW wanted (locks_held S) S.waits blocked, inr (λ cycle. free (refl, cycle), refl))
+comes_waiting rules S OSetLkW wanted set waits blocked free =
+    inl (blocks_wait rules OSetLkW wanted (locks_held S) S.waits blocked, refl)
+
+-- a lock that was set
+pub locked : (old new : Machine) (cmd : LkCmd) (wanted : Wait) (note : Note) → is_get cmd ≡ false → wanted.family ≡ Bytes → note ≡ Answer wanted.p wanted.n replies.Ok
+    → ¬ IsCommandBlocked (machine_rules old) cmd wanted (machine_locks old) (machine_waits old)
+    → ((S : State) → Shows old S → Shows new (with_byte_mode S wanted.file wanted.owner wanted.span (Some wanted.mode))) → CommandTells old new cmd wanted note
+locked old new cmd wanted note set family note_is free stands S h =
+    let T = with_lock S wanted in (
+      T,
+      comes_free (machine_rules old) S cmd wanted (record { told = note ∷ []; after = T }) set
+          (at_state old S (λ locks waits. ¬ IsCommandBlocked (machine_rules old) cmd wanted locks waits) h free)
+          (ap (λ k. record { told = k ∷ []; after = T }) note_is),
+      subst (λ f. Shows new (with_lock_of f wanted.owner S wanted)) (sym family) (stands S h),
+    )
+
+-- a command that was refused because of a cycle
+pub deadlocked : (old : Machine) (cmd : LkCmd) (wanted : Wait) (note : Note) → is_get cmd ≡ false → may_wait cmd ≡ true → note ≡ Answer wanted.p wanted.n (replies.Err EDEADLK)
+    → IsCommandBlocked (machine_rules old) cmd wanted (machine_locks old) (machine_waits old)
+    → IsFalse (is_ofd cmd) × ClosesCycle (machine_rules old).policy (machine_locks old) (machine_waits old) wanted → CommandTells old old cmd wanted note
+deadlocked old cmd wanted note set waits note_is blocked cycle S h = (
+  S,
+  subst (λ k. CommandComesTo (machine_rules old) S cmd wanted (record { told = k ∷ []; after = S })) (sym note_is)
+      (comes_deadlock (machine_rules old) S cmd wanted set waits cycle.0 (at_state old S (IsCommandBlocked (machine_rules old) cmd wanted) h blocked)
+      (at_state old S (λ locks ws. ClosesCycle (machine_rules old).policy locks ws wanted) h cycle.1)),
+  h,
+)
+
+-- a command that waits
+pub waiting : (old new : Machine) (cmd : LkCmd) (wanted : Wait) → is_get cmd ≡ false → may_wait cmd ≡ true
+    → IsCommandBlocked (machine_rules old) cmd wanted (machine_locks old) (machine_waits old)
+    → ¬ (IsFalse (is_ofd cmd) × ClosesCycle (machine_rules old).policy (machine_locks old) (machine_waits old) wanted)
+    → ((S : State) → Shows old S → Shows new (with_process (record S { waits = S.waits ++ wanted ∷ [] }) wanted.p Waiting))
+    → CommandTells old new cmd wanted (Waits wanted.p wanted.n)
+waiting old new cmd wanted set waits blocked free stands S h = (
+  with_process (record S { waits = S.waits ++ wanted ∷ [] }) wanted.p Waiting,
+  comes_waiting (machine_rules old) S cmd wanted set waits (at_state old S (IsCommandBlocked (machine_rules old) cmd wanted) h blocked)
+      (at_state old S (λ locks ws. ¬ (IsFalse (is_ofd cmd) × ClosesCycle (machine_rules old).policy locks ws wanted)) h free),
+  stands S h,
+)

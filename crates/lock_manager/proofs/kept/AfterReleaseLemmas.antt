@@ -1,0 +1,234 @@
+-- The locks that a release leaves are those of the definition's state.
+use Rattle.std.proofs.Common.{ℕ, ◌≡◌, ◌<◌, ◌==◌, refl, sym, ◌∙◌, ap, subst, List, [], ◌∷◌, ◌++◌, Some, None, Option, Bool, true, false, get_or, inl, inr, arith, Contains, eq-eqb}
+use Rattle.std.specs.Prelude.{◌&&◌, ◌||◌, if◌then◌else◌, option_map}
+use Rattle.std.specs.List.{list_any, cons_option}
+use Rattle.std.proofs.lemmas.Bool.{eqb-true, cases_lt, le-leb}
+use Rattle.std.proofs.lemmas.Option.{same_Some}
+use Rattle.std.proofs.lemmas.List.Folds.{Any-from_list_any, list_any_at}
+use Rattle.range_core.specs.declared.TheConstants.{OFFMAX}
+use Rattle.range_core.specs.declared.Mode.{Mode}
+use Rattle.range_core.specs.Changes.{is_covered}
+use Rattle.lock_book.specs.declared.Owner.{Owner}
+use Rattle.lock_book.specs.declared.Owner.TheVariants.{Process, Description}
+use Rattle.lock_book.specs.Owners.{is_same_owner}
+use Rattle.lock_book.specs.Changes.{Change, FlockChange, whole_file, sets_byte, mode_from, mode_in, flock_mode_from, flock_mode_in}
+use Rattle.fd_table.specs.Descriptors.{Descriptors, OpenFileDescription, description_numbered}
+use Rattle.fd_table.specs.Released.{Released}
+use Rattle.wait_core.specs.Locks.{Locks}
+use Rattle.lock_manager.specs.State.{State}
+use Rattle.lock_manager.specs.DescriptorCalls.{process_releases, description_releases, flock_releases, with_released}
+use Rattle.lock_manager.specs.DescriptionLocks.{IsOpenOn, AreOfOpenDescriptions, AreWithinFiles}
+use Rattle.lock_manager.specs.LockReleases.{is_one_of, is_released, ReleasesLocks}
+use Rattle.lock_manager.proofs.kept.ClosingLemmas.{Closing, one_of, is_member, file_released}
+use Rattle.lock_manager.proofs.kept.SafetyLemmas.{both}
+
+-- changes made one list after the other
+mode_from-append : (before : Option Mode) (xs ys : List Change) (f : ℕ) (o : Owner) (byte : ℕ) → mode_from before (xs ++ ys) f o byte ≡ mode_from (mode_from before xs f o byte) ys f o byte
+mode_from-append before [] ys f o byte = refl
+mode_from-append before (x ∷ xs) ys f o byte = mode_from-append (if sets_byte x f o byte then x.mode else before) xs ys f o byte
+
+flock_mode_from-append : (before : Option Mode) (xs ys : List FlockChange) (f d : ℕ) → flock_mode_from before (xs ++ ys) f d ≡ flock_mode_from (flock_mode_from before xs f d) ys f d
+flock_mode_from-append before [] ys f d = refl
+flock_mode_from-append before (x ∷ xs) ys f d =
+    flock_mode_from-append (if (x.file == f) && (x.description == d) then x.mode else before) xs ys f d
+
+-- one removal after another
+both_release : (before now : Bool) (old : Option Mode) → (if now then None else (if before then None else old)) ≡ (if before || now then None else old)
+both_release true true old = refl
+both_release true false old = refl
+both_release false true old = refl
+both_release false false old = refl
+
+and_false : (a b : Bool) → (a && false && b) ≡ false
+and_false true b = refl
+and_false false b = refl
+
+or_and : (a b r : Bool) → ((a && r) || (b && r)) ≡ ((a || b) && r)
+or_and true true true = refl
+or_and true true false = refl
+or_and true false true = refl
+or_and true false false = refl
+or_and false b r = refl
+
+-- whether the description is of this file
+abbrev is_of_file : Option OpenFileDescription → ℕ → Bool
+is_of_file None f = false
+is_of_file (Some opened) f = opened.file == f
+
+-- whether the changes for these descriptions remove the owner's locks from the file
+abbrev removes_on : List OpenFileDescription → List ℕ → ℕ → Owner → Bool
+removes_on opened descriptions f o = list_any (λ e. is_of_file (description_numbered opened e) f && is_same_owner (Description e) o) descriptions
+
+-- what the changes for the files of the process leave
+process_modes : (p : ℕ) (files : List ℕ) (before : Option Mode) (f : ℕ) (o : Owner) (byte : ℕ)
+    → mode_from before (process_releases p files) f o byte ≡ (if is_one_of files f && is_same_owner (Process p) o && is_covered whole_file byte then None else before)
+process_modes p [] before f o byte = refl
+process_modes p (file ∷ files) before f o byte =
+    let same = is_same_owner (Process p) o in
+    let whole = is_covered whole_file byte in
+    process_modes p files (if (file == f) && same && whole then None else before) f o byte
+    ∙ both_release ((file == f) && same && whole) (is_one_of files f && same && whole) before
+    ∙ ap (λ b. if b then None else before) (or_and ((file == f) && same) (is_one_of files f && same) whole)
+    ∙ ap (λ b. if b && whole then None else before) (or_and (file == f) (is_one_of files f) same)
+
+-- what the change for one description leaves, where there is such a description, and the changes for others
+one_description : (x : Option OpenFileDescription) (e : ℕ) (rest : List Change) (removed : Bool) (before : Option Mode) (f : ℕ) (o : Owner) (byte : ℕ)
+    → ((mode : Option Mode) → mode_from mode rest f o byte ≡ (if removed && is_covered whole_file byte then None else mode))
+    → mode_from before (cons_option (option_map (λ x. record { file = x.file; owner = Description e; span = whole_file; mode = None }) x) rest) f o byte
+    ≡ (if ((is_of_file x f && is_same_owner (Description e) o) || removed) && is_covered whole_file byte then None else before)
+one_description None e rest removed before f o byte others = others before
+one_description (Some x) e rest removed before f o byte others =
+    let whole = is_covered whole_file byte in
+    let same = is_same_owner (Description e) o in
+    others (if (x.file == f) && same && whole then None else before)
+    ∙ both_release ((x.file == f) && same && whole) (removed && whole) before
+    ∙ ap (λ b. if b then None else before) (or_and ((x.file == f) && same) removed whole)
+
+-- what the changes for the descriptions leave
+description_modes : (opened : List OpenFileDescription) (descriptions : List ℕ) (before : Option Mode) (f : ℕ) (o : Owner) (byte : ℕ)
+    → mode_from before (description_releases opened descriptions) f o byte ≡ (if removes_on opened descriptions f o && is_covered whole_file byte then None else before)
+description_modes opened [] before f o byte = refl
+description_modes opened (e ∷ es) before f o byte =
+    one_description (description_numbered opened e) e (description_releases opened es) (removes_on opened es f o) before f o byte
+    (λ mode. description_modes opened es mode f o byte)
+
+-- the same of flock locks
+one_flock : (x : Option OpenFileDescription) (e : ℕ) (rest : List FlockChange) (removed : Bool) (before : Option Mode) (f d : ℕ)
+    → ((mode : Option Mode) → flock_mode_from mode rest f d ≡ (if removed then None else mode))
+    → flock_mode_from before (cons_option (option_map (λ x. record { file = x.file; description = e; mode = None }) x) rest) f d
+    ≡ (if (is_of_file x f && (e == d)) || removed then None else before)
+one_flock None e rest removed before f d others = others before
+one_flock (Some x) e rest removed before f d others =
+    others (if (x.file == f) && (e == d) then None else before) ∙ both_release ((x.file == f) && (e == d)) removed before
+
+flock_modes : (opened : List OpenFileDescription) (descriptions : List ℕ) (before : Option Mode) (f d : ℕ)
+    → flock_mode_from before (flock_releases opened descriptions) f d ≡ (if removes_on opened descriptions f (Description d) then None else before)
+flock_modes opened [] before f d = refl
+flock_modes opened (e ∷ es) before f d =
+    one_flock (description_numbered opened e) e (flock_releases opened es) (removes_on opened es f (Description d)) before f d
+    (λ mode. flock_modes opened es mode f d)
+
+-- no change for a description is one of a process
+removes_no_process : (opened : List OpenFileDescription) (descriptions : List ℕ) (f q : ℕ) → removes_on opened descriptions f (Process q) ≡ false
+removes_no_process opened [] f q = refl
+removes_no_process opened (e ∷ es) f q =
+    ap (λ b. b || removes_on opened es f (Process q)) (never (is_of_file (description_numbered opened e) f)) ∙ removes_no_process opened es f q
+  where
+    never : (b : Bool) → (b && false) ≡ false
+    never true = refl
+    never false = refl
+
+-- past the largest offset, where there is nothing, it doesn't matter what is removed
+whole_or_not : (whole removed : Bool) (mode : Option Mode) → (whole ≡ false → mode ≡ None) → (if removed then None else mode) ≡ (if removed && whole then None else mode)
+whole_or_not true true mode past = refl
+whole_or_not true false mode past = refl
+whole_or_not false true mode past = sym (past refl)
+whole_or_not false false mode past = refl
+
+-- two removals agree where the one that removes more removes only what isn't there
+agree : (more less : Bool) (mode : Option Mode) → (more ≡ true → less ≡ false → mode ≡ None) → (less ≡ true → more ≡ true) → (if more then None else mode) ≡ (if less then None else mode)
+agree true true mode spare within = refl
+agree true false mode spare within = sym (spare refl refl)
+agree false true mode spare within = absurd (let wrong : false ≡ true = within refl in cc)
+agree false false mode spare within = refl
+
+of_file : (x : Option OpenFileDescription) (f : ℕ) → option_map (λ opened. opened.file) x ≡ Some f → is_of_file x f ≡ true
+of_file None f is = absurd (cc)
+of_file (Some x) f is = eq-eqb x.file f (same_Some x.file f is)
+
+file_of : (x : Option OpenFileDescription) (f : ℕ) → is_of_file x f ≡ true → option_map (λ opened. opened.file) x ≡ Some f
+file_of None f is = absurd (cc)
+file_of (Some x) f is = ap Some (eqb-true x.file f is)
+
+-- where a description that was closed for good is of the file, its locks are removed from it
+removed_there : (D E : Descriptors) (p : ℕ) (released : Released) (f d : ℕ) → Closing D E p released → IsOpenOn D f d → is_one_of released.descriptions d ≡ true
+    → removes_on E.descriptions released.descriptions f (Description d) ≡ true
+removed_there D E p released f d closing is told =
+    let member = is_member released.descriptions d told in
+    let after : option_map (λ opened. opened.file) (description_numbered E.descriptions d) ≡ Some f =
+    ap (λ ds. option_map (λ (opened : OpenFileDescription). opened.file) (description_numbered ds d)) closing.descriptions ∙ is.of_file in
+    list_any_at (λ e. is_of_file (description_numbered E.descriptions e) f && (e == d)) released.descriptions member.0 d member.1
+    (subst (λ e. (is_of_file (description_numbered E.descriptions e) f && (e == d)) ≡ true) (sym member.2)
+    (rw (of_file (description_numbered E.descriptions d) f after) (eq-eqb d d refl)))
+
+-- and where they are removed, both it and its file are released
+only_there : (D E : Descriptors) (p : ℕ) (released : Released) (f d : ℕ) → Closing D E p released → removes_on E.descriptions released.descriptions f (Description d) ≡ true
+    → (is_one_of released.files f && is_one_of released.descriptions d) ≡ true
+only_there D E p released f d closing removed =
+    let any = Any-from_list_any (λ e. is_of_file (description_numbered E.descriptions e) f && (e == d)) released.descriptions removed in
+    let e = any.1 in
+    let tests : (is_of_file (description_numbered E.descriptions e) f ≡ true) × ((e == d) ≡ true) =
+    both (is_of_file (description_numbered E.descriptions e) f) (e == d) any.4 in
+    let same : e ≡ d = eqb-true e d tests.1 in
+    let told : Contains released.descriptions d = (any.0, any.2, subst (λ n. get_or released.descriptions any.0 n ≡ n) same any.3) in
+    let closed = (closing.are_released.descriptions.each d).0 told in
+    let here : option_map (λ opened. opened.file) (description_numbered D.descriptions d) ≡ Some f =
+    ap (λ ds. option_map (λ (opened : OpenFileDescription). opened.file) (description_numbered ds d)) (sym closing.descriptions)
+    ∙ file_of (description_numbered E.descriptions d) f (subst (λ n. is_of_file (description_numbered E.descriptions n) f ≡ true) same tests.0) in
+    let file : is_one_of released.files f ≡ true = file_released D E p released f d closing (record { is_open = closed.0; of_file = here }) closed.1 in
+    rw file (one_of released.descriptions d told)
+
+-- a byte that the whole file doesn't cover
+outside_file : (byte : ℕ) → is_covered whole_file byte ≡ false → OFFMAX < byte
+outside_file byte outside = elim (cases_lt OFFMAX byte) [
+  | inl past ↦ past
+  | inr inside ↦ absurd (let covered : is_covered whole_file byte ≡ true = rw (le-leb 0 byte (omega arith), le-leb byte OFFMAX inside) in cc)
+]
+
+-- the byte locks after the release are those of the state
+pub bytes_after : (old new : Locks) (S : State) (E : Descriptors) (p : ℕ) (released : Released)
+    → ((f : ℕ) (o : Owner) (byte : ℕ) → old.bytes f o byte ≡ mode_in S.changes f o byte)
+    → AreOfOpenDescriptions S.descriptors old → AreWithinFiles old → Closing S.descriptors E p released → ReleasesLocks old new p released.files released.descriptions
+    → (f : ℕ) (o : Owner) (byte : ℕ) → new.bytes f o byte ≡ mode_in (with_released S E p released).changes f o byte
+bytes_after old new S E p released shown owned within closing releases f o byte =
+    releases.bytes f o byte
+    ∙ at o
+    ∙ sym (description_modes E.descriptions released.descriptions (mode_from (old.bytes f o byte) (process_releases p released.files) f o byte) f o byte)
+    ∙ ap (λ m. mode_from (mode_from m (process_releases p released.files) f o byte) (description_releases E.descriptions released.descriptions) f o byte) (shown f o byte)
+    ∙ ap (λ m. mode_from m (description_releases E.descriptions released.descriptions) f o byte) (sym (mode_from-append None S.changes (process_releases p released.files) f o byte))
+    ∙ sym (mode_from-append None (S.changes ++ process_releases p released.files) (description_releases E.descriptions released.descriptions) f o byte)
+  where
+    past : (o : Owner) → is_covered whole_file byte ≡ false → old.bytes f o byte ≡ None
+    past o outside = within f o byte (outside_file byte outside)
+
+    spare : (d : ℕ) → (is_one_of released.files f && is_one_of released.descriptions d) ≡ true → removes_on E.descriptions released.descriptions f (Description d) ≡ false
+        → old.bytes f (Description d) byte ≡ None
+    spare d told kept = owned.bytes f d
+        (λ is. let removed = removed_there S.descriptors E p released f d closing is (both (is_one_of released.files f) (is_one_of released.descriptions d) told).1 in cc)
+        byte
+
+    at : (o : Owner) → (if is_one_of released.files f && is_released p released.descriptions o then None else old.bytes f o byte)
+        ≡ (if removes_on E.descriptions released.descriptions f o && is_covered whole_file byte then None else mode_from (old.bytes f o byte) (process_releases p released.files) f o byte)
+    at (Process q) =
+        let m = old.bytes f (Process q) byte in
+        let whole = is_covered whole_file byte in
+        whole_or_not whole (is_one_of released.files f && (p == q)) m (past (Process q))
+        ∙ sym (process_modes p released.files m f (Process q) byte)
+        ∙ ap (λ b. if b && whole then None else mode_from m (process_releases p released.files) f (Process q) byte)
+        (sym (removes_no_process E.descriptions released.descriptions f q))
+    at (Description d) =
+        let m = old.bytes f (Description d) byte in
+        let whole = is_covered whole_file byte in
+        let removed = removes_on E.descriptions released.descriptions f (Description d) in
+        agree (is_one_of released.files f && is_one_of released.descriptions d) removed m (spare d) (only_there S.descriptors E p released f d closing)
+        ∙ whole_or_not whole removed m (past (Description d))
+        ∙ ap (λ k. if removed && whole then None else k)
+        (sym (process_modes p released.files m f (Description d) byte ∙ ap (λ b. if b then None else m) (and_false (is_one_of released.files f) whole)))
+
+-- and so are the flock locks
+pub flocks_after : (old new : Locks) (S : State) (E : Descriptors) (p : ℕ) (released : Released)
+    → ((f d : ℕ) → old.flocks f d ≡ flock_mode_in S.flock_changes f d)
+    → AreOfOpenDescriptions S.descriptors old → Closing S.descriptors E p released → ReleasesLocks old new p released.files released.descriptions
+    → (f d : ℕ) → new.flocks f d ≡ flock_mode_in (with_released S E p released).flock_changes f d
+flocks_after old new S E p released shown owned closing releases f d =
+    releases.flocks f d
+    ∙ agree (is_one_of released.files f && is_one_of released.descriptions d) (removes_on E.descriptions released.descriptions f (Description d)) (old.flocks f d)
+    spare (only_there S.descriptors E p released f d closing)
+    ∙ sym (flock_modes E.descriptions released.descriptions (old.flocks f d) f d)
+    ∙ ap (λ m. flock_mode_from m (flock_releases E.descriptions released.descriptions) f d) (shown f d)
+    ∙ sym (flock_mode_from-append None S.flock_changes (flock_releases E.descriptions released.descriptions) f d)
+  where
+    spare : (is_one_of released.files f && is_one_of released.descriptions d) ≡ true → removes_on E.descriptions released.descriptions f (Description d) ≡ false
+        → old.flocks f d ≡ None
+    spare told kept = owned.flocks f d
+        (λ is. let removed = removed_there S.descriptors E p released f d closing is (both (is_one_of released.files f) (is_one_of released.descriptions d) told).1 in cc)

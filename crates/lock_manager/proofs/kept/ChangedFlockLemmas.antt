@@ -1,0 +1,302 @@
+-- What holds of the machine after a change of one flock lock.
+use Rattle.std.proofs.Common.{ℕ, ◌≡◌, ◌≢◌, ◌<◌, ◌≤◌, ◌+◌, refl, sym, ◌∙◌, ap, subst, List, [], ◌∷◌, ◌++◌, length, Some, None, Option, Bool, true, false, arith, Result, Ok, Err, OnOk, OnErr}
+use Rattle.std.proofs.Math.Logic.{∥∥₁_map, ∥∥₁_elim}
+use Rattle.std.proofs.lemmas.Bool.{eqb-true, eq-eqb, or_right}
+use Rattle.std.specs.Prelude.{slice_get, slice_set, ◌==◌, ◌&&◌, ◌||◌, if◌then◌else◌, filter}
+use Rattle.range_core.specs.declared.Memory.{Memory}
+use Rattle.range_core.specs.declared.Mode.{Mode}
+use Rattle.range_core.specs.Ranges.{Conflict, HeldConflicts}
+use Rattle.lock_book.specs.declared.Owner.{Owner}
+use Rattle.lock_book.specs.declared.Owner.TheVariants.{Process, Description}
+use Rattle.lock_book.specs.declared.book.Book.{Book}
+use Rattle.lock_book.specs.Books.{flock_modes_of, room_in, has_flock_place, SetsFlock, ReservesFlock, SameBook}
+use Rattle.lock_book.specs.Changes.{FlockChange, flock_mode_from}
+use Rattle.lock_book.specs.Conflicts.{FlockConflict}
+use Rattle.fd_table.specs.declared.tables.Tables.{Tables}
+use Rattle.fd_table.specs.TablesView.{StandFor}
+use Rattle.wait_core.specs.declared.Wait.{Wait}
+use Rattle.wait_core.specs.declared.waits.Waits.{Waits}
+use Rattle.wait_core.specs.WellFormed.{IsWellFormed}
+use Rattle.fd_table.specs.declared.tables.Look.{Look}
+use Rattle.lock_manager.specs.FlockCalls.{wanted_flock}
+use Rattle.wait_core.specs.Locks.{Locks, locks_of, flock_modes_at}
+use Rattle.wait_core.specs.Cycles.{IsFreeOfCycles}
+use Rattle.wait_core.specs.Blocking.{IsBlockedIn}
+use Rattle.wait_core.specs.Settled.{AreBlockedElsewhere}
+use Rattle.wait_core.specs.WaitsView.{waits_of, AreTold}
+use Rattle.wait_core.specs.FreeOfCycles.{FreeWhenDescriptionLocksChange}
+use Rattle.lock_manager.specs.declared.machine.Machine.{Machine}
+use Rattle.lock_manager.specs.State.{State, with_flock_mode}
+use Rattle.lock_manager.specs.Safety.{AreCompatible}
+use Rattle.lock_manager.specs.DescriptionLocks.{IsOpenOn, AreOwned, AreWithinFiles, MayLock}
+use Rattle.lock_manager.specs.MachineView.{Shows, machine_locks, machine_state, machine_waits}
+use Rattle.lock_manager.specs.WaitsKept.{AreKept, AreApart, HaveRoom, is_byte_wait, is_flock_wait, is_of_bytes, is_of_whole, has_place_at, SameWaits, StayBlocked}
+use Rattle.lock_manager.proofs.kept.BookLemmas.{slice_get-set, slice_get-set_same, entry_is, same_bytes}
+use Rattle.lock_manager.proofs.kept.SafetyLemmas.{both, conflict_back, same_owner}
+use Rattle.lock_manager.proofs.kept.OwnedLemmas.{none_but_set}
+use Rattle.lock_manager.proofs.kept.WaitLemmas.{told_by_bytes, room_with, same_room, KeepsLocks, keeps_same}
+use Rattle.lock_manager.proofs.kept.SuspendLemmas.{counted}
+use Rattle.std.specs.List.{list_any}
+use Rattle.std.specs.Option.{is_some}
+use Rattle.std.proofs.lemmas.List.Folds.{list_any-append}
+use Rattle.lock_book.specs.Owners.{is_same_owner}
+use Rattle.wait_core.specs.declared.Family.{Family}
+use Rattle.wait_core.specs.declared.Family.TheVariants.{Bytes, Whole}
+
+-- the flock locks of a book that was changed, or of another one
+flocks_at : (is_it : Bool) (entry : Option Book) (old new : Book) (description : ℕ) (mode : Option Mode) (d : ℕ) → (is_it ≡ true → entry ≡ Some old) → SetsFlock old new description mode
+    → flock_modes_at (if is_it then Some new else entry) d ≡ (if is_it && (description == d) then mode else flock_modes_at entry d)
+flocks_at true entry old new description mode d was sets = sets.flocks d ∙ ap (λ e. if description == d then mode else flock_modes_at e d) (sym (was refl))
+flocks_at false entry old new description mode d was sets = refl
+
+-- all byte locks stay
+flock_set_bytes : (books : List Book) (file : ℕ) (old new : Book) (description : ℕ) (mode : Option Mode)
+    → file < length books → slice_get books file ≡ Some old → SetsFlock old new description mode
+    → (f : ℕ) (o : Owner) (byte : ℕ) → (locks_of (slice_set books file new)).bytes f o byte ≡ (locks_of books).bytes f o byte
+flock_set_bytes books file old new description mode within was sets f o byte =
+    same_bytes books file old new within was sets.bytes f o byte
+
+-- and of the flock locks all but the one
+flock_set_flocks : (books : List Book) (file : ℕ) (old new : Book) (description : ℕ) (mode : Option Mode)
+    → file < length books → slice_get books file ≡ Some old → SetsFlock old new description mode
+    → (f d : ℕ) → (locks_of (slice_set books file new)).flocks f d ≡ (if (file == f) && (description == d) then mode else (locks_of books).flocks f d)
+flock_set_flocks books file old new description mode within was sets f d =
+    rw (slice_get-set books file f new within)
+    (flocks_at (file == f) (slice_get books f) old new description mode d (entry_is books file f old was) sets)
+
+-- one more change counts where it is of this description on this file
+flock_mode_from-push : (before : Option Mode) (changes : List FlockChange) (change : FlockChange) (file description : ℕ)
+    → flock_mode_from before (changes ++ change ∷ []) file description
+    ≡ (if (change.file == file) && (change.description == description) then change.mode else flock_mode_from before changes file description)
+flock_mode_from-push before [] change file description = refl
+flock_mode_from-push before (first ∷ changes) change file description =
+    flock_mode_from-push (if (first.file == file) && (first.description == description) then first.mode else before) changes change file description
+
+-- the file and the description that a change is of
+is_of : (file description f d : ℕ) → ((file == f) && (description == d)) ≡ true → (file ≡ f) × (description ≡ d)
+is_of file description f d e =
+    let is : ((file == f) ≡ true) × ((description == d) ≡ true) = both (file == f) (description == d) e in
+    (eqb-true file f is.0, eqb-true description d is.1)
+
+-- of two descriptions with conflicting modes after a change, neither is the one that changed without standing against the other before
+no_conflict : (locks : Locks) (file description : ℕ) (mode : Option Mode) → AreCompatible locks
+    → ((m : Mode) → mode ≡ Some m → ¬ FlockConflict (locks.flocks file) (Description description) m)
+    → (f one other : ℕ) (m k : Mode) (a b : Bool) → one ≢ other
+    → ((file == f) && (description == one)) ≡ a → ((file == f) && (description == other)) ≡ b
+    → (if a then mode else locks.flocks f one) ≡ Some m → (if b then mode else locks.flocks f other) ≡ Some k → ¬ Conflict m k
+no_conflict locks file description mode before free f one other m k true true distinct a_is b_is m_is k_is conflict =
+    distinct (sym (is_of file description f one a_is).1 ∙ (is_of file description f other b_is).1)
+no_conflict locks file description mode before free f one other m k true false distinct a_is b_is m_is k_is conflict =
+    let here = is_of file description f one a_is in
+    free m m_is (record {
+      description = other;
+      another = λ e. (let same : other ≡ description = cc in distinct (sym here.1 ∙ sym same));
+      conflicts = subst (λ held. HeldConflicts held m) (sym k_is ∙ ap (λ g. locks.flocks g other) (sym here.0)) (conflict_back m k conflict);
+    })
+no_conflict locks file description mode before free f one other m k false true distinct a_is b_is m_is k_is conflict =
+    let here = is_of file description f other b_is in
+    free k k_is (record {
+      description = one;
+      another = λ e. (let same : one ≡ description = cc in distinct (same ∙ here.1));
+      conflicts = subst (λ held. HeldConflicts held k) (sym m_is ∙ ap (λ g. locks.flocks g one) (sym here.0)) conflict;
+    })
+no_conflict locks file description mode before free f one other m k false false distinct a_is b_is m_is k_is conflict =
+    before.flocks f one other m k distinct m_is k_is conflict
+
+-- a change of a flock lock that nothing blocks makes no conflict
+compatible_flock : (old new : Locks) (file description : ℕ) (mode : Option Mode) → AreCompatible old
+    → ((m : Mode) → mode ≡ Some m → ¬ FlockConflict (old.flocks file) (Description description) m)
+    → ((f : ℕ) (o : Owner) (byte : ℕ) → new.bytes f o byte ≡ old.bytes f o byte)
+    → ((f d : ℕ) → new.flocks f d ≡ (if (file == f) && (description == d) then mode else old.flocks f d)) → AreCompatible new
+compatible_flock old new file description mode before free bytes flocks = record {
+  bytes = λ f one other byte m k distinct m_is k_is.
+      before.bytes f one other byte m k distinct (sym (bytes f one byte) ∙ m_is) (sym (bytes f other byte) ∙ k_is);
+  flocks = λ f one other m k distinct m_is k_is.
+      no_conflict old file description mode before free f one other m k _ _ distinct refl refl (sym (flocks f one) ∙ m_is) (sym (flocks f other) ∙ k_is);
+}
+
+-- the description that has it is open
+owned_flock : (tables : Tables) (waits : List Wait) (old new : Locks) (file description : ℕ) (mode : Option Mode) → MayLock tables file (Description description)
+    → ((f : ℕ) (o : Owner) (byte : ℕ) → new.bytes f o byte ≡ old.bytes f o byte)
+    → ((f d : ℕ) → new.flocks f d ≡ (if (file == f) && (description == d) then mode else old.flocks f d))
+    → AreOwned tables old waits → AreOwned tables new waits
+owned_flock tables waits old new file description mode may bytes flocks owned =
+    ∥∥₁_map owned (λ given. (
+      given.0,
+      given.1,
+      record {
+        bytes = λ f d closed byte. bytes f (Description d) byte ∙ given.2.bytes f d closed byte;
+        flocks = λ f d closed. flocks f d
+            ∙ none_but_set ((file == f) && (description == d)) mode (old.flocks f d)
+            (λ e. let at = is_of file description f d e in
+            ∥∥₁_elim (may given.0 given.1) (λ x y. absurd x)
+            (λ is_open. closed (subst (λ g. IsOpenOn given.0 g d) at.0 (subst (λ k. IsOpenOn given.0 file k) at.1 is_open))))
+            (given.2.flocks f d closed);
+      },
+      given.3,
+    ))
+
+-- a place that is kept is kept on
+pub flock_place_kept : (old new : Book) (description : ℕ) (mode : Option Mode) → SetsFlock old new description mode → (d : ℕ)
+    → has_flock_place old d ≡ true → has_flock_place new d ≡ true
+flock_place_kept old new description mode sets d there = sets.places d ∙ or_right _ (has_flock_place old d) there
+
+-- what holds of the machine holds after a change of a flock lock that nothing blocks
+pub kept_by_flock : FreeWhenDescriptionLocksChange → (m : Machine) (books : List Book) (waits : Waits) (file : ℕ) (old new : Book) (description : ℕ) (mode : Option Mode)
+    → books ≡ slice_set m.books.items file new → file < length m.books.items → slice_get m.books.items file ≡ Some old
+    → MayLock m.tables file (Description description)
+    → ((k : Mode) → mode ≡ Some k → ¬ FlockConflict ((locks_of m.books.items).flocks file) (Description description) k)
+    → SetsFlock old new description mode → SameWaits m.waits waits → ((locks : Locks) → AreTold m.waits locks → AreTold waits locks)
+    → (AreBlockedElsewhere m.waits (locks_of m.books.items) → AreBlockedElsewhere waits (locks_of (slice_set m.books.items file new)))
+    → AreKept m.rules.policy m.tables books waits
+kept_by_flock all m books waits file old new description mode is within was may free sets waits_same told blocked =
+    let before = m.books.items in
+    let after = slice_set before file new in
+    let list = waits_of m.waits in
+    let bytes = flock_set_bytes before file old new description mode within was sets in
+    let flocks = flock_set_flocks before file old new description mode within was sets in
+    record {
+      compatible = subst (λ bs. AreCompatible (locks_of bs)) (sym is) (compatible_flock (locks_of before) (locks_of after) file description mode m.kept.compatible free bytes flocks);
+      owned = subst (λ bs. AreOwned m.tables (locks_of bs) (waits_of waits)) (sym is)
+          (subst (AreOwned m.tables (locks_of after)) (sym waits_same.waits)
+          (owned_flock m.tables list (locks_of before) (locks_of after) file description mode may bytes flocks m.kept.owned));
+      within = subst (λ bs. AreWithinFiles (locks_of bs)) (sym is) (λ f o byte past. bytes f o byte ∙ m.kept.within f o byte past);
+      told = subst (λ bs. ∥ AreTold waits (locks_of bs) ∥₁) (sym is)
+          (∥∥₁_map m.kept.told (λ known. told (locks_of after) (told_by_bytes m.waits (locks_of before) (locks_of after) bytes known)));
+      blocked = subst (λ bs. ∥ AreBlockedElsewhere waits (locks_of bs) ∥₁) (sym is)
+          (∥∥₁_map m.kept.blocked blocked);
+      apart = subst AreApart (sym waits_same.waits) m.kept.apart;
+      room = subst (λ bs. HaveRoom bs (waits_of waits)) (sym is)
+          (subst (HaveRoom after) (sym waits_same.waits)
+          (room_with before list file old new within was (λ o. same_room (room_in old o) (room_in new o) (sets.rooms o)) (flock_place_kept old new description mode sets) m.kept.room));
+      free_of_cycles = subst (λ bs. IsFreeOfCycles m.rules.policy (locks_of bs) (waits_of waits)) (sym is)
+          (subst (IsFreeOfCycles m.rules.policy (locks_of after)) (sym waits_same.waits)
+          (all m.rules.policy (locks_of before) (locks_of after) list m.kept.free_of_cycles (λ f q byte. bytes f (Process q) byte)));
+    }
+
+-- the machine shows the state with the changed flock lock
+pub with_flock_change : (old new : Machine) (S : State) (file : ℕ) (book changed : Book) (description : ℕ) (mode : Option Mode)
+    → new.books.items ≡ slice_set old.books.items file changed → new.tables ≡ old.tables → new.states ≡ old.states
+    → file < length old.books.items → slice_get old.books.items file ≡ Some book → SetsFlock book changed description mode → waits_of new.waits ≡ waits_of old.waits
+    → Shows old S → Shows new (with_flock_mode S file description mode)
+unfolding machine_locks machine_state machine_waits
+with_flock_change old new S file book changed description mode books tables states within was sets waits h =
+    let change : FlockChange = record { file = file; description = description; mode = mode } in
+    record {
+      bytes = λ f o byte. rw books (flock_set_bytes old.books.items file book changed description mode within was sets f o byte ∙ h.bytes f o byte);
+      flocks = λ f d. rw books
+          (flock_set_flocks old.books.items file book changed description mode within was sets f d
+          ∙ ap (λ m. if (file == f) && (description == d) then mode else m) (h.flocks f d)
+          ∙ sym (flock_mode_from-push None S.flock_changes change f d));
+      descriptors = subst (λ t. StandFor t S.descriptors) (sym tables) h.descriptors;
+      waits = waits ∙ h.waits;
+      states = λ p. rw states (h.states p);
+    }
+
+pub none_from_test : (mode : Option Mode) → is_some mode ≡ false → mode ≡ None
+none_from_test None test = refl
+none_from_test (Some mode) test = (let differ : true ≡ false = test in cc)
+
+-- a lock that conflicts stands where there was none only if it stood there before
+conflict_still : (is_it : Bool) (mode held : Option Mode) (wanted : Mode) → (is_it ≡ true → held ≡ None) → HeldConflicts held wanted → HeldConflicts (if is_it then mode else held) wanted
+conflict_still true mode held wanted none conflict = absurd (subst (λ h. HeldConflicts h wanted) (none refl) conflict)
+conflict_still false mode held wanted none conflict = conflict
+
+-- where a description without a flock lock gets one, or none, whoever was blocked stays so
+pub flock_frees_none : (books : List Book) (file : ℕ) (old new : Book) (description : ℕ) (mode : Option Mode)
+    → file < length books → slice_get books file ≡ Some old → SetsFlock old new description mode → flock_modes_of old description ≡ None
+    → StayBlocked (locks_of books) (locks_of (slice_set books file new))
+flock_frees_none books file old new description mode within was sets none wait blocked = of_family wait.family blocked
+  where
+    before : Locks
+    before = locks_of books
+
+    after : Locks
+    after = locks_of (slice_set books file new)
+
+    held : ℕ → ℕ → Option Mode
+    held f d = flock_modes_at (slice_get books f) d
+
+    there : held file description ≡ None
+    there = rw was none
+
+    of_family : (family : Family) → IsBlockedIn family before wait → IsBlockedIn family after wait
+    of_family Bytes h = record {
+      byte = h.byte;
+      covered = h.covered;
+      other = h.other;
+      blocks = record {
+        another = h.blocks.another;
+        conflicts = subst (λ m. HeldConflicts m wait.mode) (sym (flock_set_bytes books file old new description mode within was sets wait.file h.other h.byte)) h.blocks.conflicts;
+      };
+    }
+    of_family Whole h = record {
+      description = h.description;
+      another = h.another;
+      conflicts = subst (λ m. HeldConflicts m wait.mode) (sym (flock_set_flocks books file old new description mode within was sets wait.file h.description))
+          (conflict_still ((file == wait.file) && (description == h.description)) mode (held wait.file h.description) wait.mode
+          (λ is. let is_both = is_of file description wait.file h.description is in
+          subst (λ (n : ℕ). held n h.description ≡ None) is_both.0 (subst (λ (n : ℕ). held file n ≡ None) is_both.1 there)) h.conflicts);
+    }
+
+or_else : (a b : Bool) → b ≡ true → (a || b) ≡ true
+or_else true b is = refl
+or_else false b is = is
+
+-- a book in which a place was asked for, refused or not, keeps its locks
+pub place_taken : (old new : Book) (description : ℕ) (result : Result (Unit {0}) Memory) → OnOk result (ReservesFlock old new description) → OnErr result (SameBook old new)
+    → KeepsLocks old new
+place_taken old new description (Ok done) reserves same = record {
+  bytes = reserves.bytes;
+  rooms = λ o. same_room (room_in old o) (room_in new o) (reserves.rooms o);
+  flocks = reserves.flocks;
+  places = λ d there. reserves.places d ∙ or_else (description == d) (has_flock_place old d) there;
+}
+place_taken old new description (Err memory) reserves same = keeps_same old new same
+
+-- the place is there then
+pub placed : (before books : List Book) (file : ℕ) (old new : Book) (description : ℕ) (result : Result (Unit {0}) Memory)
+    → books ≡ slice_set before file new → file < length before
+    → OnOk result (ReservesFlock old new description) → OnOk result (has_place_at (slice_get books file) description ≡ true)
+placed before books file old new description (Ok done) is within reserves =
+    subst (λ bs. has_place_at (slice_get bs file) description ≡ true) (sym is)
+    (subst (λ e. has_place_at e description ≡ true) (sym (slice_get-set_same before file new within)) (reserves.places description ∙ own (description == description) (eq-eqb description description refl)))
+  where
+    own : (a : Bool) → a ≡ true → (a || has_flock_place old description) ≡ true
+    own true is = refl
+    own false is = cc
+placed before books file old new description (Err memory) is within reserves = tt
+
+-- the room for a flock lock that is waited for is its place
+pub room_joined_flock : (books : List Book) (waits : List Wait) (wait : Wait) (description : ℕ) → wait.family ≡ Whole → wait.owner ≡ Description description
+    → has_place_at (slice_get books wait.file) description ≡ true → HaveRoom books waits → HaveRoom books (waits ++ wait ∷ [])
+room_joined_flock books waits wait description family owner there h = record {
+  rooms = λ f o. let same = counted (is_byte_wait f o) waits wait ∙ ap (λ b. length (filter (is_byte_wait f o) waits) + (if b then 1 else 0)) (not_bytes f o) in
+      let enough = h.rooms f o in omega (arith, same, enough);
+  places = λ f d asked. at f d (is_flock_wait f d wait) refl asked;
+}
+  where
+    not_bytes : (f : ℕ) (o : Owner) → is_byte_wait f o wait ≡ false
+    not_bytes f o = ap (λ k. is_of_bytes k && (wait.file == f) && is_same_owner wait.owner o) family
+
+    before : (a b : Bool) → b ≡ false → (a || (b || false)) ≡ true → a ≡ true
+    before true b none e = refl
+    before false b none e = absurd (let no : false ≡ true = sym (ap (λ x. x || false) none) ∙ e in cc)
+
+    at : (f d : ℕ) (b : Bool) → is_flock_wait f d wait ≡ b → list_any (is_flock_wait f d) (waits ++ wait ∷ []) ≡ true → has_place_at (slice_get books f) d ≡ true
+    at f d true e asked =
+        let outer : ((is_of_whole wait.family && (wait.file == f)) ≡ true) × (is_same_owner wait.owner (Description d) ≡ true) =
+        both (is_of_whole wait.family && (wait.file == f)) (is_same_owner wait.owner (Description d)) e in
+        let file : wait.file ≡ f = eqb-true wait.file f (both (is_of_whole wait.family) (wait.file == f) outer.0).1 in
+        let is : Description description ≡ Description d = sym owner ∙ same_owner wait.owner (Description d) outer.1 in
+        let same : description ≡ d = cc in
+        subst (λ g. has_place_at (slice_get books g) d ≡ true) file (subst (λ k. has_place_at (slice_get books wait.file) k ≡ true) same there)
+    at f d false e asked =
+        h.places f d (before (list_any (is_flock_wait f d) waits) (is_flock_wait f d wait) e (sym (list_any-append (is_flock_wait f d) waits (wait ∷ [])) ∙ asked))
+
+-- a request for a flock lock of a process that there is, on a file that there is, can be asked for
+pub well_formed_flock : {processes : ℕ} (wanted : Wait) (look : Look) → wanted ≡ wanted_flock wanted.p wanted.n look wanted.mode → 1 ≤ wanted.p → wanted.p ≤ processes → look.file < 64
+    → IsWellFormed processes wanted
+well_formed_flock {processes} wanted look is one most file =
+    subst (λ w. IsWellFormed processes w) (sym is)
+    (record { from_one = one; process = most; file = file; range = (omega arith, omega arith); owner = refl })

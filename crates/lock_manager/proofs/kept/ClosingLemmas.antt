@@ -1,0 +1,116 @@
+-- What a call that closes descriptors leaves open, and what it releases.
+use Rattle.std.proofs.Common.{ℕ, ◌≡◌, ◌==◌, refl, sym, ◌∙◌, ap, subst, List, Some, None, Bool, true, false, MatchBool, Ok, Contains, get_or, eq-eqb, arith}
+use Rattle.std.proofs.lemmas.Bool.{eqb-true}
+use Rattle.std.proofs.lemmas.List.Folds.{Any-from_list_any, list_any_at}
+use Rattle.std.specs.Prelude.{◌&&◌, if◌then◌else◌, option_map}
+use Rattle.fd_table.specs.Released.{Released}
+use Rattle.fd_table.specs.declared.Limits.{Limits}
+use Rattle.fd_table.specs.Descriptors.{Descriptors, OpenFileDescription, IsOpen, SameDescriptors, description_numbered, without_descriptors, with_descriptor}
+use Rattle.fd_table.specs.Releasing.{ClosesFile, AreReleased}
+use Rattle.fd_table.specs.Calls.{CloseGives, DupToGives, EndGives, nothing}
+use Rattle.lock_manager.specs.DescriptionLocks.{IsOpenOn}
+use Rattle.lock_manager.specs.LockReleases.{is_one_of}
+use Rattle.lock_manager.proofs.kept.SafetyLemmas.{both}
+
+-- a member of the list is found
+pub one_of : (numbers : List ℕ) (number : ℕ) → Contains numbers number → is_one_of numbers number ≡ true
+one_of numbers number h = list_any_at (λ other. other == number) numbers h.0 number h.1 (eq-eqb (get_or numbers h.0 number) number h.2)
+
+-- what is found is a member
+pub is_member : (numbers : List ℕ) (number : ℕ) → is_one_of numbers number ≡ true → Contains numbers number
+is_member numbers number e =
+    let any = Any-from_list_any (λ other. other == number) numbers e in
+    (any.0, any.2, subst (λ n. get_or numbers any.0 n ≡ n) (eqb-true any.1 number any.4) any.3)
+
+-- all but these descriptors of the process stay, and this is released by that
+pub record Closing (D E : Descriptors) (p : ℕ) (released : Released) : Type 0 where
+  pub closed : ℕ → Bool
+  pub kept : (q k : ℕ) → ((q == p) && closed k) ≡ false → E.description_of q k ≡ D.description_of q k
+  pub descriptions : E.descriptions ≡ D.descriptions
+  pub are_released : AreReleased D E p closed released
+
+-- the descriptors without some of them
+without_kept : (D E : Descriptors) (p : ℕ) (closed : ℕ → Bool) (released : Released) → SameDescriptors E (without_descriptors D p closed)
+    → AreReleased D E p closed released → Closing D E p released
+without_kept D E p closed released same are =
+    record {
+      closed = closed;
+      kept = λ q k other. same.description_of q k ∙ ap (λ b. if b then None else D.description_of q k) other;
+      descriptions = same.descriptions;
+      are_released = are;
+    }
+
+-- close
+pub close_closes : (D E : Descriptors) (p fd : ℕ) (released : Released) → CloseGives D p fd (Ok released) E → Closing D E p released
+close_closes D E p fd released gives = without_kept D E p (λ k. k == fd) released gives.1 gives.2
+
+-- the end of a process
+pub end_closes : (D E : Descriptors) (p : ℕ) (released : Released) → EndGives D p released E → Closing D E p released
+end_closes D E p released gives = without_kept D E p (λ k. true) released gives.0 gives.1
+
+-- where nothing changes nothing is closed
+nothing_closes : (D E : Descriptors) (p : ℕ) → SameDescriptors E D → Closing D E p nothing
+nothing_closes D E p same =
+    record {
+      closed = λ k. false;
+      kept = λ q k other. same.description_of q k;
+      descriptions = same.descriptions;
+      are_released = record {
+        files = record { rising = λ k within. absurd (omega arith); each = λ x. (λ h. absurd (omega (arith, h.1)), λ h. absurd (let e : false ≡ true = h.is_closed in cc)) };
+        descriptions = record {
+          rising = λ k within. absurd (omega arith);
+          each = λ x. (λ h. absurd (omega (arith, h.1)), λ h. absurd (h.1 (record { process = h.0.process; fd = h.0.fd; refers = same.description_of h.0.process h.0.fd ∙ h.0.refers })));
+        };
+      };
+    }
+
+-- dup2
+pub dup2_closes : (limits : Limits) (D E : Descriptors) (p fd to : ℕ) (answer : ℕ × Released) → DupToGives limits D p fd to (Ok answer) E → Closing D E p answer.1
+dup2_closes limits D E p fd to answer gives = moves (to == fd) gives.4
+  where
+    moves : (onto_itself : Bool)
+        → MatchBool onto_itself ((answer.1 ≡ nothing) × SameDescriptors E D) (SameDescriptors E (with_descriptor D p to gives.0) × AreReleased D E p (λ k. k == to) answer.1)
+        → Closing D E p answer.1
+    moves true h = subst (λ r. Closing D E p r) (sym h.0) (nothing_closes D E p h.1)
+    moves false h = record {
+      closed = λ k. k == to;
+      kept = λ q k other. h.0.description_of q k ∙ ap (λ b. if b then Some gives.0 else D.description_of q k) other;
+      descriptions = h.0.descriptions;
+      are_released = h.1;
+    }
+
+-- what is open on a file after the call was open on it before, where it was open at all
+pub open_after : (D E : Descriptors) (p : ℕ) (released : Released) (f d : ℕ) → Closing D E p released → IsOpenOn D f d → IsOpen E d → IsOpenOn E f d
+open_after D E p released f d closing is after =
+    record {
+      is_open = after;
+      of_file = ap (λ ds. option_map (λ (opened : OpenFileDescription). opened.file) (description_numbered ds d)) closing.descriptions ∙ is.of_file;
+    }
+
+-- the file of a description that was closed for good is released
+pub file_released : (D E : Descriptors) (p : ℕ) (released : Released) (f d : ℕ) → Closing D E p released → IsOpenOn D f d → ¬ IsOpen E d → is_one_of released.files f ≡ true
+file_released D E p released f d closing is gone =
+    let q = is.is_open.process in
+    let k = is.is_open.fd in
+    one_of released.files f ((closing.are_released.files.each f).1 (at ((q == p) && closing.closed k) refl))
+  where
+    at : (b : Bool) → ((is.is_open.process == p) && closing.closed is.is_open.fd) ≡ b → ClosesFile D p closing.closed f
+    at true e =
+        let q = is.is_open.process in
+        let k = is.is_open.fd in
+        let place : ((q == p) ≡ true) × (closing.closed k ≡ true) = both (q == p) (closing.closed k) e in
+        record {
+          fd = k;
+          is_closed = place.1;
+          description = d;
+          refers = ap (λ r. D.description_of r k) (sym (eqb-true q p place.0)) ∙ is.is_open.refers;
+          of_file = is.of_file;
+        }
+    at false e =
+        absurd (gone (record { process = is.is_open.process; fd = is.is_open.fd; refers = closing.kept is.is_open.process is.is_open.fd e ∙ is.is_open.refers }))
+
+-- a description that was open and isn't told stays open, in that it can't be closed
+pub not_closed : (D E : Descriptors) (p : ℕ) (released : Released) (d : ℕ) → Closing D E p released → IsOpen D d → is_one_of released.descriptions d ≡ false → ¬ ¬ IsOpen E d
+not_closed D E p released d closing is other gone =
+    let told : is_one_of released.descriptions d ≡ true = one_of released.descriptions d ((closing.are_released.descriptions.each d).1 (is, gone)) in
+    cc

@@ -1,0 +1,158 @@
+-- A wait that is granted leaves the list, and its owner has the lock.
+use Rattle.std.proofs.Common.{ℕ, suc, ◌≡◌, ◌≢◌, ◌<◌, ◌≤◌, ◌+◌, refl, sym, ◌∙◌, ap, subst, List, [], ◌∷◌, ◌++◌, length, get_or, Some, Bool, true, false, inl, inr, arith}
+use Rattle.std.proofs.Math.Logic.{∥∥₁_elim, ∥∥₁_map}
+use Rattle.std.proofs.lemmas.Bool.{eqb-true, eq-eqb}
+use Rattle.std.proofs.lemmas.Bool.Decides.{eqb_tells}
+use Rattle.std.proofs.lemmas.Option.{same_Some}
+use Rattle.std.specs.Prelude.{◌==◌, ◌&&◌, if◌then◌else◌, slice_get, slice_set}
+use Rattle.std.specs.List.{filter}
+use Rattle.lock_book.specs.declared.Owner.{Owner}
+use Rattle.lock_book.specs.declared.Owner.TheVariants.{Process, Description}
+use Rattle.lock_book.specs.declared.book.Book.{Book}
+use Rattle.lock_book.specs.Owners.{is_same_owner}
+use Rattle.lock_book.specs.Books.{SetsOwnerMode, room_in}
+use Rattle.fd_table.specs.declared.tables.Tables.{Tables}
+use Rattle.wait_core.specs.declared.Family.TheVariants.{Bytes}
+use Rattle.wait_core.specs.declared.Wait.{Wait}
+use Rattle.wait_core.specs.Locks.{Locks}
+use Rattle.wait_core.specs.WaitsView.{wait_of, without_wait_of}
+use Rattle.lock_manager.specs.declared.machine.Machine.{Machine}
+use Rattle.lock_manager.specs.declared.request.ProcState.TheVariants.{Live}
+use Rattle.lock_manager.specs.ProcessCalls.{without_wait}
+use Rattle.lock_manager.specs.Settling.{granted}
+use Rattle.lock_manager.specs.State.{State, with_byte_mode, with_lock_of, with_process}
+use Rattle.lock_manager.specs.MachineView.{Shows}
+use Rattle.lock_manager.specs.DescriptionLocks.{MayWaitAs, AreOwned, MayLock}
+use Rattle.lock_manager.specs.WaitsKept.{AreApart, HaveRoom, is_byte_wait, is_flock_wait, room_at}
+use Rattle.lock_manager.proofs.kept.BookLemmas.{slice_get-set, entry_is}
+use Rattle.lock_manager.proofs.kept.OwnedLemmas.{stay_open_in_all}
+use Rattle.lock_manager.proofs.calls.ProcessCallLemmas.{found_holds, counted_without, found_without, without_absent}
+use Rattle.lock_manager.proofs.kept.SafetyLemmas.{same_owner, itself}
+use Rattle.lock_manager.proofs.kept.WaitLemmas.{places_at}
+
+-- where the wait of a process passes a test, without it one less does
+pub one_fewer : (test : Wait → Bool) (waits : List Wait) (p : ℕ) (wait : Wait) → wait_of waits p ≡ Some wait → test wait ≡ true
+    → length (filter test (without_wait_of waits p)) + 1 ≤ length (filter test waits)
+one_fewer test [] p wait found passes = absurd (cc)
+one_fewer test (first ∷ rest) p wait found passes =
+    at (first.p == p) (test first) refl refl (λ there. one_fewer test rest p wait there passes)
+  where
+    at : (a b : Bool) → (first.p == p) ≡ a → test first ≡ b
+        → (wait_of rest p ≡ Some wait → length (filter test (without_wait_of rest p)) + 1 ≤ length (filter test rest))
+        → length (filter test (without_wait_of (first ∷ rest) p)) + 1 ≤ length (filter test (first ∷ rest))
+    at true true e k before = rw (e, k) (let n = counted_without test rest p in omega arith)
+    at true false e k before =
+        let is : first ≡ wait = same_Some first wait (subst (λ b. (if b then Some first else wait_of rest p) ≡ Some wait) e found) in
+        absurd (let no : true ≡ false = sym passes ∙ ap test (sym is) ∙ k in cc)
+    at false true e k before =
+        let fewer = before (subst (λ b. (if b then Some first else wait_of rest p) ≡ Some wait) e found) in rw (e, k) (omega (arith, fewer))
+    at false false e k before =
+        let fewer = before (subst (λ b. (if b then Some first else wait_of rest p) ≡ Some wait) e found) in rw (e, k) fewer
+
+-- a wait for a byte lock is one for a lock of its owner on its file
+is_its_own : (wait : Wait) → wait.family ≡ Bytes → is_byte_wait wait.file wait.owner wait ≡ true
+is_its_own wait family = rw family (both (wait.file == wait.file) (is_same_owner wait.owner wait.owner) (eq-eqb wait.file wait.file refl) (itself wait.owner))
+  where
+    both : (a b : Bool) → a ≡ true → b ≡ true → (a && b) ≡ true
+    both a b e k = rw (e, k) refl
+
+-- so there is room for it
+pub room_for_grant : (books : List Book) (waits : List Wait) (wait : Wait) (old : Book) → wait_of waits wait.p ≡ Some wait → wait.family ≡ Bytes
+    → slice_get books wait.file ≡ Some old → HaveRoom books waits → 1 ≤ room_in old wait.owner
+room_for_grant books waits wait old found family was h =
+    let fewer = one_fewer (is_byte_wait wait.file wait.owner) waits wait.p wait found (is_its_own wait family) in
+    let enough : length (filter (is_byte_wait wait.file wait.owner) waits) ≤ room_in old wait.owner =
+    subst (λ e. length (filter (is_byte_wait wait.file wait.owner) waits) ≤ room_at e wait.owner) was (h.rooms wait.file wait.owner) in
+    omega (arith, fewer, enough)
+
+-- and for the others after it
+pub room_granted : (books : List Book) (waits : List Wait) (wait : Wait) (old new : Book) → wait_of waits wait.p ≡ Some wait → wait.family ≡ Bytes
+    → wait.file < length books → slice_get books wait.file ≡ Some old → SetsOwnerMode old new wait.owner wait.span (Some wait.mode)
+    → room_in old wait.owner ≤ room_in new wait.owner + 1 → HaveRoom books waits → HaveRoom (slice_set books wait.file new) (without_wait_of waits wait.p)
+room_granted books waits wait old new found family within was sets kept h =
+    record {
+      rooms = λ f o. rw (slice_get-set books wait.file f new within) (rooms f o (wait.file == f) refl);
+      places = λ f d asked. rw (slice_get-set books wait.file f new within)
+          (places_at (wait.file == f) (slice_get books f) old new d (entry_is books wait.file f old was) (λ there. sets.places d ∙ there)
+          (h.places f d (found_without (is_flock_wait f d) waits wait.p asked)));
+    }
+  where
+    left : ℕ → Owner → ℕ
+    left f o = length (filter (is_byte_wait f o) (without_wait_of waits wait.p))
+
+    here : (o : Owner) (b : Bool) → is_same_owner wait.owner o ≡ b → left wait.file o ≤ room_in new o
+    here o true same =
+        let is : wait.owner ≡ o = same_owner wait.owner o same in
+        subst (λ x. left wait.file x ≤ room_in new x) is
+        (let fewer = one_fewer (is_byte_wait wait.file wait.owner) waits wait.p wait found (is_its_own wait family) in
+        let enough : length (filter (is_byte_wait wait.file wait.owner) waits) ≤ room_in old wait.owner =
+        subst (λ e. length (filter (is_byte_wait wait.file wait.owner) waits) ≤ room_at e wait.owner) was (h.rooms wait.file wait.owner) in
+        omega (arith, fewer, enough, kept))
+    here o false differs =
+        let other : o ≢ wait.owner = λ e. (let is : is_same_owner wait.owner o ≡ true = subst (λ x. is_same_owner wait.owner x ≡ true) (sym e) (itself wait.owner) in cc) in
+        let fewer = counted_without (is_byte_wait wait.file o) waits wait.p in
+        let enough : length (filter (is_byte_wait wait.file o) waits) ≤ room_in old o =
+        subst (λ e. length (filter (is_byte_wait wait.file o) waits) ≤ room_at e o) was (h.rooms wait.file o) in
+        let same = sets.rooms o other in
+        omega (arith, fewer, enough, same)
+
+    rooms : (f : ℕ) (o : Owner) (b : Bool) → (wait.file == f) ≡ b → left f o ≤ room_at (if b then Some new else slice_get books f) o
+    rooms f o true same = subst (λ g. left g o ≤ room_in new o) (eqb-true wait.file f same) (here o (is_same_owner wait.owner o) refl)
+    rooms f o false differs = let fewer = counted_without (is_byte_wait f o) waits wait.p in let enough = h.rooms f o in omega (arith, fewer, enough)
+
+-- the owner of a wait may have the lock
+pub may_lock_granted : (tables : Tables) (locks : Locks) (waits : List Wait) (wait : Wait) → AreOwned tables locks waits → wait_of waits wait.p ≡ Some wait
+    → MayLock tables wait.file wait.owner
+may_lock_granted tables locks waits wait owned found = for_owner wait.owner refl
+  where
+    for_owner : (owner : Owner) → wait.owner ≡ owner → MayLock tables wait.file owner
+    for_owner (Process q) is = tt
+    for_owner (Description d) is = λ D stands. ∥∥₁_map owned (λ given.
+        let may : MayWaitAs given.0 wait (Description d) =
+        subst (MayWaitAs given.0 wait) is (found_holds (λ w. MayWaitAs given.0 w w.owner) waits wait.p wait found given.3) in
+        let has = stay_open_in_all tables given.0 D given.1 stands wait.file d wait.p may in
+        record { is_open = record { process = wait.p; fd = has.fd; refers = has.refers }; of_file = has.of_file })
+
+-- where it is a process, it is that of the wait
+pub owner_granted : (tables : Tables) (locks : Locks) (waits : List Wait) (wait : Wait) → AreOwned tables locks waits → wait_of waits wait.p ≡ Some wait
+    → (q : ℕ) → wait.owner ≡ Process q → q ≡ wait.p
+owner_granted tables locks waits wait owned found q is = elim (eqb_tells q wait.p) [
+  | inl same ↦ same.1
+  | inr other ↦ absurd (∥∥₁_elim owned (λ x y. absurd x)
+      (λ given. other.1 (subst (MayWaitAs given.0 wait) is (found_holds (λ w. MayWaitAs given.0 w w.owner) waits wait.p wait found given.3))))
+]
+
+-- without the wait between these others these are left
+pub without_middle : (before : List Wait) (wait : Wait) (after : List Wait) → AreApart (before ++ wait ∷ after)
+    → without_wait_of (before ++ wait ∷ after) wait.p ≡ before ++ after
+without_middle [] wait after apart = elim (eqb_tells wait.p wait.p) [
+  | inl same ↦ rw same.0 (without_absent after wait.p (λ k d within e. apart 0 (suc k) d (omega arith) (omega (arith, within)) (sym e)))
+  | inr other ↦ absurd (other.1 refl)
+]
+without_middle (first ∷ before) wait after apart = elim (eqb_tells first.p wait.p) [
+  | inl same ↦ absurd (apart_from_middle same.1)
+  | inr other ↦ rw other.0 (ap (λ ws. first ∷ ws) (without_middle before wait after (λ i j d less within. apart (suc i) (suc j) d (omega (arith, less)) (omega (arith, within)))))
+]
+  where
+    at_middle : (bs : List Wait) (d : Wait) → get_or (bs ++ wait ∷ after) (length bs) d ≡ wait
+    at_middle [] d = refl
+    at_middle (b ∷ bs) d = at_middle bs d
+
+    inside : (bs : List Wait) → length bs < length (bs ++ wait ∷ after)
+    inside [] = omega arith
+    inside (b ∷ bs) = let rest = inside bs in omega (arith, rest)
+
+    apart_from_middle : first.p ≢ wait.p
+    apart_from_middle e =
+        apart 0 (suc (length before)) wait (omega arith) (let in_rest = inside before in omega (arith, in_rest)) (e ∙ ap (λ (w : Wait). w.p) (sym (at_middle before wait)))
+
+-- a machine that shows the state without the wait and with its lock shows what is granted
+pub shows_granted : (machine : Machine) (S : State) (before : List Wait) (wait : Wait) (after : List Wait) → wait.family ≡ Bytes → AreApart S.waits
+    → S.waits ≡ before ++ wait ∷ after
+    → Shows machine (with_byte_mode (with_process (without_wait S wait.p) wait.p Live) wait.file wait.owner wait.span (Some wait.mode))
+    → Shows machine (granted S before wait after)
+shows_granted machine S before wait after family apart place h =
+    let left : without_wait_of S.waits wait.p ≡ before ++ after =
+    ap (λ ws. without_wait_of ws wait.p) place ∙ without_middle before wait after (subst AreApart place apart) in
+    subst (λ f. Shows machine (with_process (record (with_lock_of f wait.owner S wait) { waits = before ++ after }) wait.p Live)) (sym family)
+    (record { bytes = h.bytes; flocks = h.flocks; descriptors = h.descriptors; waits = h.waits ∙ left; states = h.states })

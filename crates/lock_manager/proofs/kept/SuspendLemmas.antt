@@ -1,0 +1,225 @@
+-- What holds of the machine when one more process waits.
+use Rattle.std.proofs.Common.{ℕ, ◌≡◌, ◌≢◌, ◌<◌, ◌≤◌, ◌+◌, refl, sym, ◌∙◌, ap, subst, List, [], ◌∷◌, ◌++◌, length, Some, None, Option, Bool, true, false, All, Result, Ok, Err, OnOk, OnErr, inl, inr, arith}
+use Rattle.std.proofs.Math.Logic.{∥∥₁_map}
+use Rattle.std.specs.Prelude.{slice_get, slice_set, ◌==◌, ◌&&◌, ◌||◌, if◌then◌else◌, filter, find}
+use Rattle.std.specs.Option.{option_or}
+use Rattle.std.specs.List.{list_any}
+use Rattle.std.proofs.lemmas.Bool.{cases_Bool, eqb-true, eq-eqb}
+use Rattle.std.proofs.lemmas.Bool.Decides.{eqb_tells}
+use Rattle.std.proofs.lemmas.List.Elements.{All-head, All-tail, All-push, filter-append}
+use Rattle.std.proofs.lemmas.List.Folds.{find-append, list_any-append}
+use Rattle.std.proofs.lemmas.List.Quantifiers.{all_pairs_push}
+use Rattle.std.proofs.lemmas.List.Sums.{length-filter, count_by-le-length}
+use Rattle.std.proofs.lemmas.List.{length-append}
+use Rattle.range_core.specs.declared.Memory.{Memory}
+use Rattle.lock_book.specs.declared.Owner.{Owner}
+use Rattle.lock_book.specs.declared.Owner.TheVariants.{Process, Description}
+use Rattle.lock_book.specs.declared.book.Book.{Book}
+use Rattle.lock_book.specs.Owners.{is_same_owner}
+use Rattle.lock_book.specs.Books.{room_in, SameButRoom, SameBook}
+use Rattle.fd_table.specs.declared.tables.Tables.{Tables}
+use Rattle.fd_table.specs.Descriptors.{Descriptors}
+use Rattle.fd_table.specs.TablesView.{StandFor}
+use Rattle.wait_core.specs.declared.Family.TheVariants.{Bytes}
+use Rattle.wait_core.specs.declared.Wait.{Wait}
+use Rattle.wait_core.specs.declared.waits.Waits.{Waits}
+use Rattle.wait_core.specs.Locks.{Locks, locks_of}
+use Rattle.wait_core.specs.Cycles.{IsTraditional, ClosesCycle, IsFreeOfCycles}
+use Rattle.wait_core.specs.Settled.{AreBlockedElsewhere}
+use Rattle.wait_core.specs.WaitsView.{waits_of, wait_of, AreTold}
+use Rattle.wait_core.specs.FreeOfCycles.{FreeWhenOneJoins}
+use Rattle.lock_manager.specs.declared.machine.Machine.{Machine}
+use Rattle.lock_manager.specs.declared.request.ProcState.{ProcState}
+use Rattle.lock_manager.specs.declared.request.ProcState.TheVariants.{Live, Waiting}
+use Rattle.lock_manager.specs.State.{State, state_numbered, with_process, StandsSo}
+use Rattle.lock_manager.specs.DescriptionLocks.{AreOwned, AreWithinFiles, MayWait, MayWaitAs}
+use Rattle.lock_manager.specs.Safety.{AreCompatible}
+use Rattle.lock_manager.specs.MachineView.{Shows, machine_state, machine_locks, machine_waits}
+use Rattle.lock_manager.specs.WaitsKept.{AreKept, AreStanding, AreApart, IsSuspended, HaveRoom, is_byte_wait, is_flock_wait, is_of_bytes, is_of_whole, room_at, has_place_at, StayKnown}
+use Rattle.lock_manager.proofs.kept.BookLemmas.{slice_get-set_same, locks_stay}
+use Rattle.lock_manager.proofs.kept.SafetyLemmas.{same_owner, itself, both}
+use Rattle.lock_manager.proofs.kept.ProcessLemmas.{waiting_still, stands_set, lived_before}
+use Rattle.lock_manager.proofs.kept.WaitLemmas.{waits_of_others, suspended_after, room_with, KeepsLocks, keeps_same}
+
+-- no wait of others is the process'
+pub no_wait : (waits : List Wait) (p : ℕ) → All (λ wait. wait.p ≢ p) waits → wait_of waits p ≡ None
+no_wait [] p others = refl
+no_wait (w ∷ waits) p others = elim (eqb_tells w.p p) [
+  | inl same ↦ absurd (All-head (λ wait. wait.p ≢ p) w waits others same.1)
+  | inr other ↦ rw other.0 (no_wait waits p (All-tail (λ wait. wait.p ≢ p) w waits others))
+]
+
+-- some of the waits are no more than all
+pub some_of : (p : Wait → Bool) (waits : List Wait) → length (filter p waits) ≤ length waits
+some_of p waits = omega (arith, length-filter p waits, count_by-le-length p waits)
+
+-- who may wait for the lock may wait as the wait says
+waits_as : (tables : Tables) (D : Descriptors) (wait : Wait) (owner : Owner) → StandFor tables D → MayWait tables wait.p wait.file owner → MayWaitAs D wait owner
+waits_as tables D wait (Process q) stands may = may
+waits_as tables D wait (Description d) stands may = may D stands
+
+-- one more wait of who may wait
+pub owned_joined : (tables : Tables) (locks : Locks) (waits : List Wait) (wait : Wait) → MayWait tables wait.p wait.file wait.owner → AreOwned tables locks waits → AreOwned tables locks (waits ++ wait ∷ [])
+owned_joined tables locks waits wait may owned =
+    ∥∥₁_map owned (λ given. (
+      given.0,
+      given.1,
+      given.2,
+      All-push (λ w. MayWaitAs given.0 w w.owner) waits wait given.3 (waits_as tables given.0 wait wait.owner given.1 may),
+    ))
+
+-- its process waits from now on, and is awaited in the longer list, as the others are
+pub standing_joined : (tables : Tables) (states states' : List ProcState) (waits : List Wait) (wait : Wait) → StandsSo states states' wait.p Waiting
+    → state_numbered states wait.p ≡ Live → AreStanding tables states waits → AreStanding tables states' (waits ++ wait ∷ [])
+standing_joined tables states states' waits wait set live h = record {
+  alive = λ p lives. h.alive p (lived_before states states' wait.p Waiting set (λ e. cc) p lives);
+  suspended = All-push (IsSuspended tables states') waits wait
+      (suspended_after tables tables states states' waits (λ q born. born) (λ q born waiting. still q waiting) h.suspended)
+      (record { born = h.alive wait.p live; waiting = stands_set states states' wait.p Waiting set });
+  awaited = λ q waiting none. elim (eqb_tells q wait.p) [
+    | inl same ↦ last (find (λ w. w.p == q) waits) (wait.p == q) (subst (λ k. (wait.p == k) ≡ true) (sym same.1) (eq-eqb wait.p wait.p refl)) (sym (found q) ∙ none)
+    | inr other ↦ h.awaited q (sym (set q ∙ rw other.0 refl) ∙ waiting) (first (find (λ w. w.p == q) waits) (find (λ w. w.p == q) (wait ∷ [])) (sym (found q) ∙ none))
+  ];
+}
+  where
+    still : (q : ℕ) → state_numbered states q ≡ Waiting → state_numbered states' q ≡ Waiting
+    still q waiting = waiting_still states states' wait.p Waiting set q (λ e. (let both : Waiting ≡ Live = sym waiting ∙ ap (state_numbered states) e ∙ live in cc)) waiting
+
+    found : (q : ℕ) → wait_of (waits ++ wait ∷ []) q ≡ option_or (find (λ w. w.p == q) waits) (find (λ w. w.p == q) (wait ∷ []))
+    found q = find-append (λ w. w.p == q) waits (wait ∷ [])
+
+    first : (one other : Option Wait) → option_or one other ≡ None → one ≡ None
+    first None other e = refl
+    first (Some w) other e = cc
+
+    last : (one : Option Wait) (b : Bool) → b ≡ true → option_or one (if b then Some wait else None) ≡ None → ⊥
+    last None true is e = cc
+    last None false is e = cc
+    last (Some w) b is e = cc
+
+-- one more wait counts where it passes the test
+pub counted : (p : Wait → Bool) (waits : List Wait) (wait : Wait) → length (filter p (waits ++ wait ∷ [])) ≡ length (filter p waits) + (if p wait then 1 else 0)
+counted p waits wait =
+    ap length (filter-append p waits (wait ∷ [])) ∙ length-append (filter p waits) (filter p (wait ∷ [])) ∙ ap (λ n. length (filter p waits) + n) (one (p wait))
+  where
+    one : (b : Bool) → length (if b then wait ∷ [] else []) ≡ (if b then 1 else 0)
+    one true = refl
+    one false = refl
+
+one_at_most : (b : Bool) → (if b then 1 else 0) ≤ 1
+one_at_most true = omega arith
+one_at_most false = omega arith
+
+-- a wait counts for the lock that it is for
+asked_by : (wait : Wait) (file : ℕ) (owner : Owner) → is_byte_wait file owner wait ≡ true → (wait.file ≡ file) × (wait.owner ≡ owner)
+asked_by wait file owner is =
+    let outer : ((is_of_bytes wait.family && (wait.file == file)) ≡ true) × (is_same_owner wait.owner owner ≡ true) =
+    both (is_of_bytes wait.family && (wait.file == file)) (is_same_owner wait.owner owner) is in
+    (eqb-true wait.file file (both (is_of_bytes wait.family) (wait.file == file) outer.0).1, same_owner wait.owner owner outer.1)
+
+-- where there is room for one wait more, it may join
+pub room_joined : (books : List Book) (waits : List Wait) (wait : Wait) → wait.family ≡ Bytes
+    → length (filter (is_byte_wait wait.file wait.owner) waits) + 1 ≤ room_at (slice_get books wait.file) wait.owner
+    → HaveRoom books waits → HaveRoom books (waits ++ wait ∷ [])
+room_joined books waits wait family more h = record { rooms = λ f o. at f o (is_byte_wait f o wait) refl; places = λ f d asked. place f d asked }
+  where
+    here : length (filter (is_byte_wait wait.file wait.owner) (waits ++ wait ∷ [])) ≤ room_at (slice_get books wait.file) wait.owner
+    here = omega (arith, more, counted (is_byte_wait wait.file wait.owner) waits wait, one_at_most (is_byte_wait wait.file wait.owner wait))
+
+    at : (f : ℕ) (o : Owner) (b : Bool) → is_byte_wait f o wait ≡ b → length (filter (is_byte_wait f o) (waits ++ wait ∷ [])) ≤ room_at (slice_get books f) o
+    at f o true e =
+        let is = asked_by wait f o e in
+        subst (λ g. length (filter (is_byte_wait g o) (waits ++ wait ∷ [])) ≤ room_at (slice_get books g) o) is.0
+        (subst (λ (x : Owner). length (filter (is_byte_wait wait.file x) (waits ++ wait ∷ [])) ≤ room_at (slice_get books wait.file) x) is.1 here)
+    at f o false e =
+        let same : length (filter (is_byte_wait f o) (waits ++ wait ∷ [])) ≡ length (filter (is_byte_wait f o) waits) + 0 =
+        counted (is_byte_wait f o) waits wait ∙ ap (λ b. length (filter (is_byte_wait f o) waits) + (if b then 1 else 0)) e in
+        omega (arith, same, h.rooms f o)
+
+    not_whole : (f d : ℕ) → is_flock_wait f d wait ≡ false
+    not_whole f d = ap (λ k. is_of_whole k && (wait.file == f) && is_same_owner wait.owner (Description d)) family
+
+    before : (a b : Bool) → b ≡ false → (a || b) ≡ true → a ≡ true
+    before true b none e = refl
+    before false b none e = cc
+
+    single : (f d : ℕ) → list_any (is_flock_wait f d) (wait ∷ []) ≡ false
+    single f d = ap (λ b. b || false) (not_whole f d)
+
+    place : (f d : ℕ) → list_any (is_flock_wait f d) (waits ++ wait ∷ []) ≡ true → has_place_at (slice_get books f) d ≡ true
+    place f d asked = h.places f d
+        (before (list_any (is_flock_wait f d) waits) (list_any (is_flock_wait f d) (wait ∷ [])) (single f d) (sym (list_any-append (is_flock_wait f d) waits (wait ∷ [])) ∙ asked))
+
+-- where one owner's room grew, no owner has less
+no_less_room : (old new : Book) (owner : Owner) → SameButRoom old new owner → room_in old owner ≤ room_in new owner → (o : Owner) → room_in old o ≤ room_in new o
+no_less_room old new owner same kept o = elim (cases_Bool (is_same_owner o owner)) [
+  | inl is ↦ subst (λ (x : Owner). room_in old x ≤ room_in new x) (sym (same_owner o owner is)) kept
+  | inr differs ↦
+      let there : room_in new o ≡ room_in old o = same.rooms o (λ e. (let is : is_same_owner o owner ≡ true = subst (λ x. is_same_owner o x ≡ true) e (itself o) in cc)) in
+      omega (arith, there)
+]
+
+-- a book in which room was asked for, refused or not, keeps its locks
+pub room_taken : (old new : Book) (owner : Owner) (result : Result (Unit {0}) Memory) → OnOk result (SameButRoom old new owner) → OnOk result (room_in old owner ≤ room_in new owner)
+    → OnErr result (SameBook old new) → KeepsLocks old new
+room_taken old new owner (Ok done) reserves more same =
+    record { bytes = reserves.bytes; rooms = no_less_room old new owner reserves more; flocks = reserves.flocks; places = λ d there. reserves.places d ∙ there }
+room_taken old new owner (Err memory) reserves more same = keeps_same old new same
+
+-- the room is there then
+pub roomy : (before books : List Book) (file : ℕ) (old new : Book) (owner : Owner) (count : ℕ) (result : Result (Unit {0}) Memory)
+    → books ≡ slice_set before file new → file < length before → OnOk result (count ≤ room_in new owner) → OnOk result (count ≤ room_at (slice_get books file) owner)
+roomy before books file old new owner count (Ok done) is within enough =
+    subst (λ bs. count ≤ room_at (slice_get bs file) owner) (sym is)
+    (subst (λ e. count ≤ room_at e owner) (sym (slice_get-set_same before file new within)) enough)
+roomy before books file old new owner count (Err memory) is within enough = tt
+
+-- what is kept stays after a change of one book that keeps its locks
+pub kept_by_book : (m : Machine) (books : List Book) (file : ℕ) (old new : Book) → books ≡ slice_set m.books.items file new → file < length m.books.items
+    → slice_get m.books.items file ≡ Some old → KeepsLocks old new → AreKept m.rules.policy m.tables books m.waits
+kept_by_book m books file old new is within was keeps =
+    let before = m.books.items in
+    let locks : locks_of books ≡ locks_of before = ap (λ bs. locks_of bs) is ∙ locks_stay before file old new within was keeps.bytes keeps.flocks in
+    record {
+      compatible = subst AreCompatible (sym locks) m.kept.compatible;
+      owned = subst (λ ls. AreOwned m.tables ls (waits_of m.waits)) (sym locks) m.kept.owned;
+      within = subst AreWithinFiles (sym locks) m.kept.within;
+      told = subst (λ ls. ∥ AreTold m.waits ls ∥₁) (sym locks) m.kept.told;
+      blocked = subst (λ ls. ∥ AreBlockedElsewhere m.waits ls ∥₁) (sym locks) m.kept.blocked;
+      apart = m.kept.apart;
+      room = subst (λ bs. HaveRoom bs (waits_of m.waits)) (sym is) (room_with before (waits_of m.waits) file old new within was keeps.rooms keeps.places m.kept.room);
+      free_of_cycles = subst (λ ls. IsFreeOfCycles m.rules.policy ls (waits_of m.waits)) (sym locks) m.kept.free_of_cycles;
+    }
+
+-- and after a process has begun to wait, whose wait has its room and closes no cycle
+pub kept_by_join : FreeWhenOneJoins → (m : Machine) (waits : Waits) (wait : Wait) → MayWait m.tables wait.p wait.file wait.owner → state_numbered m.states.items wait.p ≡ Live
+    → (IsTraditional wait → ¬ ClosesCycle m.rules.policy (locks_of m.books.items) (waits_of m.waits) wait) → HaveRoom m.books.items (waits_of m.waits ++ wait ∷ [])
+    → waits_of waits ≡ waits_of m.waits ++ wait ∷ [] → StayKnown m.waits waits (locks_of m.books.items) (locks_of m.books.items)
+    → AreKept m.rules.policy m.tables m.books.items waits
+kept_by_join joins m waits wait may live free room list known =
+    let books = m.books.items in
+    let locks = locks_of books in
+    record {
+      compatible = m.kept.compatible;
+      owned = subst (AreOwned m.tables locks) (sym list) (owned_joined m.tables locks (waits_of m.waits) wait may m.kept.owned);
+      within = m.kept.within;
+      told = ∥∥₁_map m.kept.told known.told;
+      blocked = ∥∥₁_map m.kept.blocked known.blocked;
+      apart = subst AreApart (sym list)
+          (all_pairs_push (λ (v w : Wait). v.p ≢ w.p) (waits_of m.waits) wait m.kept.apart (waits_of_others m.tables m.states.items (waits_of m.waits) wait.p m.standing.suspended live));
+      room = subst (HaveRoom books) (sym list) room;
+      free_of_cycles = subst (IsFreeOfCycles m.rules.policy locks) (sym list) (joins m.rules.policy locks (waits_of m.waits) wait m.kept.free_of_cycles free);
+    }
+
+-- the machine shows the state in which the process waits
+pub with_wait : (old new : Machine) (S : State) (wait : Wait) → new.books ≡ old.books → new.tables ≡ old.tables → waits_of new.waits ≡ waits_of old.waits ++ wait ∷ []
+    → StandsSo old.states.items new.states.items wait.p Waiting → Shows old S → Shows new (with_process (record S { waits = S.waits ++ wait ∷ [] }) wait.p Waiting)
+unfolding machine_locks machine_state machine_waits
+with_wait old new S wait books tables waits states h =
+    record {
+      bytes = λ f o byte. rw books (h.bytes f o byte);
+      flocks = λ f d. rw books (h.flocks f d);
+      descriptors = subst (λ t. StandFor t S.descriptors) (sym tables) h.descriptors;
+      waits = waits ∙ ap (λ ws. ws ++ wait ∷ []) h.waits;
+      states = λ q. states q ∙ ap (λ s. if q == wait.p then Waiting else s) (h.states q);
+    }

@@ -1,0 +1,67 @@
+-- What an unlock leaves where the owner had no lock (`unlock`, the clause ok).
+use Rattle.std.proofs.Common.{ℕ, ◌≡◌, refl, sym, ◌∙◌, ap, subst, List, Bool, true, false, Some, None, Option}
+use Rattle.std.specs.Prelude.{if◌then◌else◌, slice_get}
+use Rattle.range_core.specs.declared.Mode.{Mode}
+use Rattle.range_core.specs.declared.Mode.TheVariants.{Read, Write}
+use Rattle.range_core.specs.declared.Span.{Span}
+use Rattle.range_core.specs.Ranges.{Covers, Conflict, HeldConflicts}
+use Rattle.lock_book.specs.declared.Owner.{Owner}
+use Rattle.lock_book.specs.declared.Owner.TheVariants.{Process, Description}
+use Rattle.lock_book.specs.declared.book.Book.{Book}
+use Rattle.lock_book.specs.Books.{byte_modes_of}
+use Rattle.lock_book.specs.Changes.{Change, mode_in, sets_byte}
+use Rattle.lock_book.specs.Conflicts.{ByteModes, ProcessBlocks}
+use Rattle.wait_core.specs.Locks.{locks_of, byte_modes_at}
+use Rattle.lock_manager.specs.declared.machine.Machine.{Machine}
+use Rattle.lock_manager.specs.State.{State, with_byte_mode}
+use Rattle.lock_manager.specs.MachineView.{Shows, machine_locks}
+use Rattle.lock_manager.proofs.kept.BookLemmas.{mode_from-push}
+use Rattle.lock_manager.proofs.kept.SafetyLemmas.{hit}
+
+-- what is none stays so where it is set to none
+none_still : (is_it : Bool) (mode : Option Mode) → (is_it ≡ true → mode ≡ None) → mode ≡ (if is_it then None else mode)
+none_still true mode is = is refl
+none_still false mode is = refl
+
+-- each lock is in the way of one that writes
+write_conflicts : (mode : Mode) → Conflict mode Write
+write_conflicts Read = tt
+write_conflicts Write = tt
+
+-- a mode that is in nobody's way is none
+none_of_mode : (mode : Option Mode) → ¬ HeldConflicts mode Write → mode ≡ None
+none_of_mode None free = refl
+none_of_mode (Some mode) free = absurd (free (write_conflicts mode))
+
+-- a process that would block no description on the range has no lock there
+pub none_held : (modes : ByteModes) (process description : ℕ) (span : Span) → ¬ ProcessBlocks modes process (Description description) span Write
+    → (byte : ℕ) → Covers span byte → modes (Process process) byte ≡ None
+none_held modes process description span free byte covers =
+    none_of_mode (modes (Process process) byte)
+    (λ held. free (record { byte = byte; covered = covers; blocks = record { another = λ same. cc; conflicts = held } }))
+
+-- nor on the file of this book
+pub none_held_at : (books : List Book) (file : ℕ) (book : Book) (process description : ℕ) (span : Span) → slice_get books file ≡ Some book
+    → ¬ ProcessBlocks (byte_modes_of book) process (Description description) span Write
+    → (byte : ℕ) → Covers span byte → (locks_of books).bytes file (Process process) byte ≡ None
+none_held_at books file book process description span was free byte covers =
+    ap (λ e. byte_modes_at e (Process process) byte) was ∙ none_held (byte_modes_of book) process description span free byte covers
+
+-- a machine in which the owner has no lock on the range shows the state in which it was removed
+pub with_no_change : (machine : Machine) (S : State) (file : ℕ) (owner : Owner) (span : Span)
+    → ((byte : ℕ) → Covers span byte → (machine_locks machine).bytes file owner byte ≡ None) → Shows machine S → Shows machine (with_byte_mode S file owner span None)
+with_no_change machine S file owner span none h =
+    let change : Change = record { file = file; owner = owner; span = span; mode = None } in
+    let held : ℕ → Owner → ℕ → Option Mode = (machine_locks machine).bytes in
+    record {
+      bytes = λ f o byte. h.bytes f o byte
+          ∙ none_still (sets_byte change f o byte) (mode_in S.changes f o byte)
+          (λ is. let hits = hit file owner span f o byte is in
+          sym (h.bytes f o byte)
+          ∙ subst (λ (n : ℕ). held n o byte ≡ None) hits.file_is (subst (λ (other : Owner). held file other byte ≡ None) hits.owner_is (none byte hits.covered)))
+          ∙ sym (mode_from-push None S.changes change f o byte);
+      flocks = h.flocks;
+      descriptors = h.descriptors;
+      waits = h.waits;
+      states = h.states;
+    }

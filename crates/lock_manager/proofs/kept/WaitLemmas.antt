@@ -1,0 +1,242 @@
+-- What holds of the waits stays so while locks, descriptors and processes change.
+use Rattle.std.proofs.Common.{ℕ, ◌≡◌, ◌≢◌, ◌<◌, ◌≤◌, refl, sym, ◌∙◌, ap, subst, List, [], ◌∷◌, ◌++◌, length, Some, Option, Bool, true, false, Result, Ok, Err, OnOk, OnErr, All, get_or, inl, inr, arith}
+use Rattle.std.proofs.Math.Logic.{∥∥₁_elim}
+use Rattle.std.proofs.lemmas.Bool.{cases_Bool}
+use Rattle.std.specs.Prelude.{◌==◌, ◌&&◌, if◌then◌else◌, slice_get, slice_set, IsFalse}
+use Rattle.std.specs.List.{filter}
+use Rattle.range_core.specs.declared.Memory.{Memory}
+use Rattle.range_core.specs.declared.Mode.{Mode}
+use Rattle.range_core.specs.declared.Span.{Span}
+use Rattle.lock_book.specs.declared.Owner.{Owner}
+use Rattle.lock_book.specs.declared.Owner.TheVariants.{Process, Description}
+use Rattle.lock_book.specs.declared.book.Book.{Book}
+use Rattle.lock_book.specs.Owners.{is_same_owner}
+use Rattle.lock_book.specs.Books.{SetsOwnerMode, SameBook, byte_modes_of, flock_modes_of, room_in, has_flock_place}
+use Rattle.range_core.specs.Changes.{is_covered}
+use Rattle.fd_table.specs.declared.tables.Tables.{Tables}
+use Rattle.fd_table.specs.Descriptors.{Descriptors}
+use Rattle.fd_table.specs.TablesView.{StandFor, ever_alive}
+use Rattle.wait_core.specs.declared.Policy.{Policy}
+use Rattle.wait_core.specs.declared.Policy.TheVariants.{Held, Queue}
+use Rattle.wait_core.specs.declared.Wait.{Wait}
+use Rattle.wait_core.specs.Locks.{Locks, locks_of, byte_modes_at, flock_modes_at}
+use Rattle.wait_core.specs.declared.waits.Waits.{Waits}
+use Rattle.wait_core.specs.Cycles.{IsFreeOfCycles, WaitsFor}
+use Rattle.wait_core.specs.Blocking.{IsBlocked, IsBlockedByLock}
+use Rattle.wait_core.specs.Settled.{AllBlockedWhere, AgreeElsewhere, AreBlockedElsewhere}
+use Rattle.wait_core.specs.WaitsView.{waits_of, policy_of, AreTold}
+use Rattle.wait_core.specs.FreeOfCycles.{FreeWhenLocksChange, FreeWhenDescriptionLocksChange}
+use Rattle.lock_manager.specs.declared.request.ProcState.{ProcState}
+use Rattle.lock_manager.specs.declared.request.ProcState.TheVariants.{Live, Waiting}
+use Rattle.lock_manager.specs.State.{state_numbered}
+use Rattle.lock_manager.specs.DescriptionLocks.{MayWaitAs, AreOwned}
+use Rattle.lock_manager.specs.WaitsKept.{StayBlocked, IsSuspended, AreStanding, HaveRoom, is_byte_wait, room_at, has_place_at}
+use Rattle.lock_manager.proofs.kept.BookLemmas.{slice_get-set, slice_get-set_other, entry_is, after_set, changed}
+use Rattle.lock_manager.proofs.kept.SafetyLemmas.{same_owner, itself, hit}
+
+-- a process stays suspended where it waits on
+pub suspended_after : (old new : Tables) (states states' : List ProcState) (waits : List Wait)
+    → ((q : ℕ) → ever_alive old q ≡ true → ever_alive new q ≡ true)
+    → ((q : ℕ) → ever_alive old q ≡ true → state_numbered states q ≡ Waiting → state_numbered states' q ≡ Waiting)
+    → All (IsSuspended old states) waits → All (IsSuspended new states') waits
+suspended_after old new states states' waits born stay h k d within =
+    let wait = get_or waits k d in
+    let was = h k d within in
+    record { born = born wait.p was.born; waiting = stay wait.p was.born was.waiting }
+
+-- no wait is of a live process
+pub waits_of_others : (tables : Tables) (states : List ProcState) (waits : List Wait) (p : ℕ) → All (IsSuspended tables states) waits → state_numbered states p ≡ Live
+    → All (λ wait. wait.p ≢ p) waits
+waits_of_others tables states waits p h live k d within e =
+    let both : Waiting ≡ Live = sym (h k d within).waiting ∙ ap (state_numbered states) e ∙ live in cc
+
+-- whoever stands so still does, where the same processes were ever alive and the waits are the same
+pub standing_in : (old new : Tables) (states : List ProcState) (before after : List Wait) → ((q : ℕ) → ever_alive new q ≡ ever_alive old q) → after ≡ before
+    → AreStanding old states before → AreStanding new states after
+standing_in old new states before after alive same h = subst (AreStanding new states) (sym same) (record {
+  alive = λ q live. alive q ∙ h.alive q live;
+  suspended = suspended_after old new states states before (λ q born. alive q ∙ born) (λ q born waits. waits) h.suspended;
+  awaited = h.awaited;
+})
+
+-- nor is its process the owner of one
+pub not_owned_by : (tables : Tables) (locks : Locks) (waits : List Wait) (p : ℕ) → AreOwned tables locks waits → All (λ wait. wait.p ≢ p) waits
+    → All (λ wait. wait.owner ≢ Process p) waits
+not_owned_by tables locks waits p owned others k d within e =
+    ∥∥₁_elim owned (λ x y. absurd x)
+    (λ given.
+    let wait = get_or waits k d in
+    let may : p ≡ wait.p = subst (λ o. MayWaitAs given.0 wait o) e (given.3 k d within) in
+    others k d within (sym may))
+
+-- a process that no descriptors count as alive was never alive
+pub never_alive : (tables : Tables) (locks : Locks) (waits : List Wait) (child : ℕ) → AreOwned tables locks waits
+    → ((D : Descriptors) → StandFor tables D → IsFalse (D.ever_alive child)) → ¬ (ever_alive tables child ≡ true)
+never_alive tables locks waits child owned free e =
+    ∥∥₁_elim owned (λ x y. absurd x)
+    (λ given.
+    let no = free given.0 given.1 in
+    let same = given.1.ever_alive child in
+    cc)
+
+-- the books but that of the file stay
+pub agree_elsewhere : (books : List Book) (file : ℕ) (new : Book) → AgreeElsewhere file (locks_of books) (locks_of (slice_set books file new))
+agree_elsewhere books file new = record {
+  bytes = λ other owner byte distinct. ap (λ e. byte_modes_at e owner byte) (slice_get-set_other books file other new distinct);
+  flocks = λ other description distinct. ap (λ e. flock_modes_at e description) (slice_get-set_other books file other new distinct);
+}
+
+-- a step by a lock is one where the byte locks are the same
+step_by_bytes : (old new : Locks) (waits : List Wait) (p q : ℕ) → ((file : ℕ) (owner : Owner) (byte : ℕ) → new.bytes file owner byte ≡ old.bytes file owner byte)
+    → WaitsFor Held old waits p q → WaitsFor Held new waits p q
+step_by_bytes old new waits p q same step = record {
+  before = step.before;
+  wait = step.wait;
+  after = step.after;
+  place = step.place;
+  of_p = step.of_p;
+  traditional = step.traditional;
+  blocked = record {
+    byte = step.blocked.byte;
+    covered = step.blocked.covered;
+    blocks = record {
+      another = step.blocked.blocks.another;
+      conflicts = rw (same step.wait.file (Process q) step.blocked.byte) step.blocked.blocks.conflicts;
+    };
+  };
+}
+
+-- no pair rests on a flock lock: where the byte locks stay, what is told stays true
+pub told_by_bytes : (waits : Waits) (old new : Locks) → ((file : ℕ) (owner : Owner) (byte : ℕ) → new.bytes file owner byte ≡ old.bytes file owner byte) → AreTold waits old → AreTold waits new
+told_by_bytes waits old new same told = record {
+  pairs = λ p q p_few q_one q_few. (
+    λ has. step_by_bytes old new (waits_of waits) p q same ((told.pairs p q p_few q_one q_few).0 has),
+    λ step. (told.pairs p q p_few q_one q_few).1 (step_by_bytes new old (waits_of waits) p q (λ file owner byte. sym (same file owner byte)) step),
+  );
+}
+
+-- a change on a byte is of its owner alone
+changed_else : (locks : Locks) (file : ℕ) (owner : Owner) (span : Span) (mode : Option Mode) (f : ℕ) (o : Owner) (byte : ℕ) → o ≢ owner
+    → changed locks file owner span mode f o byte ≡ locks.bytes f o byte
+changed_else locks file owner span mode f o byte other = at ((file == f) && is_same_owner owner o && is_covered span byte) refl
+  where
+    at : (b : Bool) → ((file == f) && is_same_owner owner o && is_covered span byte) ≡ b → (if b then mode else locks.bytes f o byte) ≡ locks.bytes f o byte
+    at true e = absurd (other (sym (hit file owner span f o byte e).owner_is))
+    at false e = refl
+
+process_not_description : (p d : ℕ) → Process p ≢ Description d
+process_not_description p d e = cc
+
+-- a change of the locks of an owner closes no cycle, where a process that is the owner doesn't wait
+free_changed : FreeWhenLocksChange → FreeWhenDescriptionLocksChange → (policy : Policy) (old new : Locks) (waits : List Wait) (file : ℕ) (owner : Owner) (span : Span) (mode : Option Mode)
+    → ((p : ℕ) → owner ≡ Process p → All (λ wait. wait.owner ≢ Process p) waits)
+    → ((f : ℕ) (o : Owner) (byte : ℕ) → new.bytes f o byte ≡ changed old file owner span mode f o byte)
+    → IsFreeOfCycles policy old waits → IsFreeOfCycles policy new waits
+free_changed one all policy old new waits file (Process p) span mode idle bytes free =
+    one policy old new waits (Process p) free
+    (λ f o byte other. bytes f o byte ∙ changed_else old file (Process p) span mode f o byte other) (idle p refl)
+free_changed one all policy old new waits file (Description d) span mode idle bytes free =
+    all policy old new waits free
+    (λ f q byte. bytes f (Process q) byte ∙ changed_else old file (Description d) span mode f (Process q) byte (process_not_description q d))
+
+-- one book's change, refused or not, closes no cycle
+pub free_after : FreeWhenLocksChange → FreeWhenDescriptionLocksChange
+    → (policy : Policy) (waits : List Wait) (books : List Book) (file : ℕ) (old new : Book) (owner : Owner) (span : Span) (mode : Option Mode) (result : Result (Unit {0}) Memory)
+    → file < length books → slice_get books file ≡ Some old
+    → ((p : ℕ) → owner ≡ Process p → All (λ wait. wait.owner ≢ Process p) waits)
+    → OnOk result (SetsOwnerMode old new owner span mode) → OnErr result (SameBook old new)
+    → IsFreeOfCycles policy (locks_of books) waits → IsFreeOfCycles policy (locks_of (slice_set books file new)) waits
+free_after one all policy waits books file old new owner span mode result within was idle sets same free =
+    after_set (λ locks. IsFreeOfCycles policy locks waits) books file old new owner span mode result within was sets same
+    (λ bytes flocks. free_changed one all policy (locks_of books) (locks_of (slice_set books file new)) waits file owner span mode idle bytes free)
+    (λ bytes flocks. all policy (locks_of books) (locks_of (slice_set books file new)) waits free (λ f q byte. bytes f (Process q) byte))
+
+-- of a book that was changed, or of another one
+pub rooms_at : (is_it : Bool) (entry : Option Book) (old new : Book) (owner : Owner) (count : ℕ) → (is_it ≡ true → entry ≡ Some old) → room_in old owner ≤ room_in new owner
+    → count ≤ room_at entry owner → count ≤ room_at (if is_it then Some new else entry) owner
+rooms_at true entry old new owner count was more enough =
+    let here : count ≤ room_in old owner = subst (λ e. count ≤ room_at e owner) (was refl) enough in omega (arith, here, more)
+rooms_at false entry old new owner count was more enough = enough
+
+pub places_at : (is_it : Bool) (entry : Option Book) (old new : Book) (d : ℕ) → (is_it ≡ true → entry ≡ Some old) → (has_flock_place old d ≡ true → has_flock_place new d ≡ true)
+    → has_place_at entry d ≡ true → has_place_at (if is_it then Some new else entry) d ≡ true
+places_at true entry old new d was kept there = kept (subst (λ e. has_place_at e d ≡ true) (was refl) there)
+places_at false entry old new d was kept there = there
+
+-- a book in whose place one stands that keeps its places
+pub places_kept : (books : List Book) (file : ℕ) (old new : Book) → file < length books → slice_get books file ≡ Some old
+    → ((d : ℕ) → has_flock_place old d ≡ true → has_flock_place new d ≡ true)
+    → (f d : ℕ) → has_place_at (slice_get books f) d ≡ true → has_place_at (slice_get (slice_set books file new) f) d ≡ true
+places_kept books file old new within was kept f d there =
+    rw (slice_get-set books file f new within)
+    (places_at (file == f) (slice_get books f) old new d (entry_is books file f old was) (kept d) there)
+
+-- it has room for the waits, where it also has no less room
+pub room_with : (books : List Book) (waits : List Wait) (file : ℕ) (old new : Book) → file < length books → slice_get books file ≡ Some old
+    → ((o : Owner) → room_in old o ≤ room_in new o) → ((d : ℕ) → has_flock_place old d ≡ true → has_flock_place new d ≡ true)
+    → HaveRoom books waits → HaveRoom (slice_set books file new) waits
+room_with books waits file old new within was more kept h =
+    record {
+      rooms = λ f o. rw (slice_get-set books file f new within)
+          (rooms_at (file == f) (slice_get books f) old new o (length (filter (is_byte_wait f o) waits)) (entry_is books file f old was) (more o) (h.rooms f o));
+      places = λ f d asked. places_kept books file old new within was kept f d (h.places f d asked);
+    }
+
+-- a set of one owner leaves at least the room that was there
+rooms_kept : (old new : Book) (owner : Owner) (span : Span) (mode : Option Mode) → SetsOwnerMode old new owner span mode → room_in old owner ≤ room_in new owner
+    → (o : Owner) → room_in old o ≤ room_in new o
+rooms_kept old new owner span mode sets kept o = elim (cases_Bool (is_same_owner o owner)) [
+  | inl same ↦ subst (λ (x : Owner). room_in old x ≤ room_in new x) (sym (same_owner o owner same)) kept
+  | inr differs ↦
+      let there : room_in new o ≡ room_in old o = sets.rooms o (λ e. (let is : is_same_owner o owner ≡ true = subst (λ x. is_same_owner o x ≡ true) e (itself o) in cc)) in
+      omega (arith, there)
+]
+
+pub same_room : (n m : ℕ) → m ≡ n → n ≤ m
+same_room n m e = omega (arith, e)
+
+-- it has the same locks, no less room, and the places that there were
+pub record KeepsLocks (old new : Book) : Type 0 where
+  pub bytes : (o : Owner) (byte : ℕ) → byte_modes_of new o byte ≡ byte_modes_of old o byte
+  pub rooms : (o : Owner) → room_in old o ≤ room_in new o
+  pub flocks : (d : ℕ) → flock_modes_of new d ≡ flock_modes_of old d
+  pub places : (d : ℕ) → has_flock_place old d ≡ true → has_flock_place new d ≡ true
+
+-- so it is after a refusal
+pub keeps_same : (old new : Book) → SameBook old new → KeepsLocks old new
+keeps_same old new same = record {
+  bytes = same.bytes;
+  rooms = λ o. same_room (room_in old o) (room_in new o) (same.rooms o);
+  flocks = same.flocks;
+  places = λ d there. same.places d ∙ there;
+}
+
+-- one book's set, refused or not, leaves room for the waits
+pub room_after : (waits : List Wait) (books : List Book) (file : ℕ) (old new : Book) (owner : Owner) (span : Span) (mode : Option Mode) (result : Result (Unit {0}) Memory)
+    → file < length books → slice_get books file ≡ Some old
+    → OnOk result (SetsOwnerMode old new owner span mode) → OnOk result (room_in old owner ≤ room_in new owner) → OnErr result (SameBook old new)
+    → HaveRoom books waits → HaveRoom (slice_set books file new) waits
+room_after waits books file old new owner span mode (Ok done) within was sets kept same h =
+    room_with books waits file old new within was (rooms_kept old new owner span mode sets kept) (λ d there. sets.places d ∙ there) h
+room_after waits books file old new owner span mode (Err memory) within was sets kept same h =
+    let keeps = keeps_same old new same in room_with books waits file old new within was keeps.rooms keeps.places h
+
+-- where nobody waits no room is wanted
+pub room_for_none : (books : List Book) → HaveRoom books []
+room_for_none books = record { rooms = λ file owner. omega arith; places = λ file d asked. absurd (cc) }
+
+blocked_still : (policy : Policy) (old new : Locks) (earlier : List Wait) (wait : Wait) → (IsBlockedByLock old wait → IsBlockedByLock new wait)
+    → IsBlocked policy old earlier wait → IsBlocked policy new earlier wait
+blocked_still Held old new earlier wait still blocked = still blocked
+blocked_still Queue old new earlier wait still (inl by_lock) = inl (still by_lock)
+blocked_still Queue old new earlier wait still (inr behind) = inr behind
+
+all_blocked_still : (Holds : Wait → Type 0) (policy : Policy) (old new : Locks) → StayBlocked old new → (earlier waits : List Wait)
+    → AllBlockedWhere Holds policy old earlier waits → AllBlockedWhere Holds policy new earlier waits
+all_blocked_still Holds policy old new still earlier [] all = tt
+all_blocked_still Holds policy old new still earlier (wait ∷ waits) all =
+    (λ holds. blocked_still policy old new earlier wait (still wait) (all.0 holds), all_blocked_still Holds policy old new still (earlier ++ wait ∷ []) waits all.1)
+
+-- each wait that was known to be blocked is, where no lock went that blocked one
+pub elsewhere_still : (waits : Waits) (old new : Locks) → StayBlocked old new → AreBlockedElsewhere waits old → AreBlockedElsewhere waits new
+elsewhere_still waits old new still known = record { blocked = all_blocked_still _ (policy_of waits) old new still [] (waits_of waits) known.blocked }

@@ -1,0 +1,165 @@
+-- Where a lock is blocked there is one that a get command reports.
+use Rattle.std.proofs.Common.{◌≡◌, ◌≢◌, ℕ, suc, ◌+◌, ◌-◌, ◌<◌, ◌≤◌, ◌==◌, ◌&&◌, ◌⊎◌, inl, inr, refl, sym, ◌∙◌, ap, subst, arith, Bool, true, false, nat_le, if◌then◌else◌, List, [], ◌∷◌, Option, Some, None}
+use Rattle.std.proofs.lemmas.Bool.{cases_lt, lt-leb}
+use Rattle.range_core.specs.declared.Mode.{Mode}
+use Rattle.range_core.specs.declared.Mode.TheVariants.{Read, Write}
+use Rattle.range_core.specs.declared.Span.{Span}
+use Rattle.range_core.specs.Changes.{is_covered}
+use Rattle.range_core.specs.Ranges.{Modes, Covers, HeldConflicts, IsRun}
+use Rattle.lock_book.specs.declared.Owner.{Owner}
+use Rattle.lock_book.specs.declared.Owner.TheVariants.{Process, Description}
+use Rattle.lock_book.specs.Changes.{Change, sets_byte, mode_from, mode_in}
+use Rattle.lock_book.specs.Owners.{IsBefore, is_same_owner}
+use Rattle.lock_book.specs.Conflicts.{ByteModes, Blocks, ByteConflict, IsFirstBlocker}
+use Rattle.lock_manager.proofs.some.AtLeastOneLemmas.{AtLeastOne, IsLeast, by_cases, some_least}
+
+-- no byte from this one on has a mode
+abbrev pub AreBelow : ℕ → Modes → Type 0
+AreBelow bound modes = (byte : ℕ) → bound ≤ byte → modes byte ≡ None
+
+is_or_not : (held : Option Mode) (mode : Mode) → (held ≡ Some mode) ⊎ (held ≢ Some mode)
+is_or_not None mode = inr (λ e. cc)
+is_or_not (Some Read) Read = inl refl
+is_or_not (Some Read) Write = inr (λ e. cc)
+is_or_not (Some Write) Read = inr (λ e. cc)
+is_or_not (Some Write) Write = inl refl
+
+-- from this byte on up to the other one each has the mode
+record HasModeFrom (modes : Modes) (byte : ℕ) (mode : Mode) (first : ℕ) : Type 0 where
+  before : first ≤ byte
+  each : (x : ℕ) → first ≤ x → x ≤ byte → modes x ≡ Some mode
+
+-- this byte behind the other one hasn't the mode
+record LacksModeBehind (modes : Modes) (byte : ℕ) (mode : Mode) (past : ℕ) : Type 0 where
+  behind : byte < past
+  lacks : modes past ≢ Some mode
+
+-- between the least byte from which on each has the mode and the least one behind that hasn't is the run
+run_between : (modes : Modes) (byte first past : ℕ) (mode : Mode) → modes byte ≡ Some mode → IsLeast (HasModeFrom modes byte mode) first
+    → IsLeast (LacksModeBehind modes byte mode) past → IsRun modes byte mode (record { first = first; last = past - 1 })
+run_between modes byte first past mode is left right =
+    let low = left.holds.before in
+    let high = right.holds.behind in
+    record {
+      covered = (low, omega arith);
+      constant = λ x covers. elim (cases_lt byte x) [
+        | inr up_to ↦ left.holds.each x covers.0 up_to
+        | inl behind ↦ elim (is_or_not (modes x) mode) [
+          | inl has ↦ has
+          | inr lacks ↦ absurd (right.least x (let h = covers.1 in omega arith) (record { behind = behind; lacks = lacks }))
+        ]
+      ];
+      largest = λ other covers constant. (
+        elim (cases_lt other.first first) [
+          | inl less ↦
+              absurd
+              (left.least other.first less
+              (record { before = covers.0; each = λ x from up_to. constant x (from, (let h = covers.1 in omega arith)) }))
+          | inr within ↦ within
+        ],
+        elim (cases_lt other.last past) [
+          | inl within ↦ omega arith
+          | inr more ↦ absurd (right.holds.lacks (constant past ((let h = covers.0 in omega arith), more)))
+        ],
+      );
+    }
+
+-- round a byte with a mode there is a run
+run_some : (modes : Modes) (bound byte : ℕ) (mode : Mode) → AreBelow bound modes → modes byte ≡ Some mode → AtLeastOne (IsRun modes byte mode)
+run_some modes bound byte mode within is none =
+    let last : ℕ = bound + 1 + byte in
+    some_least (HasModeFrom modes byte mode) byte
+    (record { before = omega arith; each = λ x from up_to. let same : x ≡ byte = omega arith in subst (λ b. modes b ≡ Some mode) (sym same) is })
+    (λ first left.
+    some_least (LacksModeBehind modes byte mode) last
+    (record { behind = omega arith; lacks = λ e. let nothing : modes last ≡ None = within last (omega arith) in cc })
+    (λ past right. none (record { first = first; last = past - 1 }) (run_between modes byte first past mode is left right)))
+
+-- a number above the bytes of all these changes
+pub bytes_below : List Change → ℕ
+bytes_below [] = 0
+bytes_below (change ∷ changes) = suc change.span.last + bytes_below changes
+
+never : (b : Bool) → (b && false) ≡ false
+never true = refl
+never false = refl
+
+not_covered : (span : Span) (byte : ℕ) → span.last < byte → is_covered span byte ≡ false
+not_covered span byte past = rw (lt-leb byte span.last past) (never (nat_le span.first byte))
+
+-- from it on they set no byte
+AreBelow-from : (before : Option Mode) (changes : List Change) (file : ℕ) (owner : Owner) (byte : ℕ) → before ≡ None → bytes_below changes ≤ byte
+    → mode_from before changes file owner byte ≡ None
+unfolding bytes_below
+AreBelow-from before [] file owner byte nothing past = nothing
+AreBelow-from before (change ∷ changes) file owner byte nothing past =
+    let outside : is_covered change.span byte ≡ false = not_covered change.span byte (omega arith) in
+    let unset : sets_byte change file owner byte ≡ false =
+    ap (λ covered. (change.file == file) && is_same_owner change.owner owner && covered) outside
+    ∙ never ((change.file == file) && is_same_owner change.owner owner) in
+    AreBelow-from (if sets_byte change file owner byte then change.mode else before) changes file owner byte (rw unset nothing) (omega arith)
+
+pub AreBelow-changes : (changes : List Change) (file : ℕ) (owner : Owner) → AreBelow (bytes_below changes) (mode_in changes file owner)
+AreBelow-changes changes file owner byte past = AreBelow-from None changes file owner byte refl past
+
+-- the owner is the first that meets the predicate
+record IsFirstOwner (P : Owner → Type 0) (owner : Owner) : Type 0 where
+  holds : P owner
+  least : (other : Owner) → IsBefore other owner → ¬ P other
+
+first_process : (P : Owner → Type 0) (p : ℕ) → IsLeast (λ q. P (Process q)) p → (other : Owner) → IsBefore other (Process p) → ¬ P other
+first_process P p h (Process q) before = h.least q before
+first_process P p h (Description d) before = absurd before
+
+first_description : (P : Owner → Type 0) (d : ℕ) → ¬ ((p : ℕ) × P (Process p)) → IsLeast (λ e. P (Description e)) d → (other : Owner)
+    → IsBefore other (Description d) → ¬ P other
+first_description P d none_first h (Process q) before = λ holds. none_first (q, holds)
+first_description P d none_first h (Description e) before = h.least e before
+
+some_description : (P : Owner → Type 0) (owner : Owner) → P owner → ¬ ((p : ℕ) × P (Process p)) → AtLeastOne (IsFirstOwner P)
+some_description P (Process p) h none_first none = none_first (p, h)
+some_description P (Description d) h none_first none =
+    some_least (λ e. P (Description e)) d h
+    (λ e least. none (Description e) (record { holds = least.holds; least = first_description P e none_first least }))
+
+some_first_owner : (P : Owner → Type 0) (owner : Owner) → P owner → AtLeastOne (IsFirstOwner P)
+some_first_owner P owner h none =
+    by_cases ((p : ℕ) × P (Process p))
+    (λ some.
+    some_least (λ p. P (Process p)) some.0 some.1
+    (λ p least. none (Process p) (record { holds = least.holds; least = first_process P p least })))
+    (λ none_first. some_description P owner h none_first none)
+
+-- what conflicts is a mode
+held_mode : (held : Option Mode) (wanted : Mode) → HeldConflicts held wanted → (mode : Mode) × (held ≡ Some mode)
+held_mode None wanted h = absurd h
+held_mode (Some mode) wanted h = (mode, refl)
+
+-- on this byte of the range some owner blocks
+abbrev IsBlockedAt : ByteModes → Owner → Span → Mode → ℕ → Type 0
+IsBlockedAt modes owner span wanted byte = Covers span byte × (other : Owner) × Blocks modes owner wanted byte other
+
+-- some lock is the first that blocks
+pub FirstBlocker-some : (modes : ByteModes) (bound : ℕ) (owner : Owner) (span : Span) (wanted : Mode)
+    → ((other : Owner) → AreBelow bound (modes other)) → ByteConflict modes owner span wanted
+    → AtLeastOne (IsFirstBlocker modes owner span wanted)
+FirstBlocker-some modes bound owner span wanted within h none =
+    some_least (IsBlockedAt modes owner span wanted) h.byte (h.covered, h.other, h.blocks)
+    (λ byte least.
+    some_first_owner (Blocks modes owner wanted byte) least.holds.1 least.holds.2
+    (λ other first.
+    let held = held_mode (modes other byte) wanted first.holds.conflicts in
+    run_some (modes other) bound byte held.0 (within other) held.1
+    (λ run is_run.
+    none (record { owner = other; mode = held.0; span = run })
+    (record {
+      byte = byte;
+      first = record {
+        covered = least.holds.0;
+        blocks = first.holds;
+        least_byte = λ before any from less blocks.
+            least.least before less ((from, (let high = least.holds.0.1 in omega arith)), any, blocks);
+        least_owner = first.least;
+      };
+      run = is_run;
+    }))))

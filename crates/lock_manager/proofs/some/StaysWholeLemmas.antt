@@ -1,0 +1,399 @@
+-- A step keeps what a step needs: open descriptors refer to descriptions that were made, and who waits has a wait in the list.
+use Rattle.std.proofs.Common.{◌≡◌, ◌≢◌, ℕ, ℤ, zero, suc, ◌+◌, ◌==◌, ◌&&◌, ◌||◌, Bool, true, false, Option, Some, None, IsSome, Result, Ok, Err, MatchBool, MatchOption, MatchResult, inl, inr, refl, sym, ◌∙◌, subst, arith, List, [], ◌∷◌, ◌++◌, length, pred}
+use Rattle.std.specs.Prelude.{if◌then◌else◌, slice_get, slice_set}
+use Rattle.std.proofs.lemmas.Bool.{cases_Bool, eq-eqb}
+use Rattle.std.proofs.lemmas.Bool.Decides.{eqb_tells}
+use Rattle.std.proofs.lemmas.Option.{same_Some}
+use Rattle.range_core.specs.Facts.{MatchFact}
+use Rattle.range_core.specs.declared.Mode.{Mode}
+use Rattle.range_core.specs.declared.Mode.TheVariants.{Read, Write}
+use Rattle.range_core.specs.Resolving.{resolution}
+use Rattle.lock_book.specs.declared.Owner.TheVariants.{Process, Description}
+use Rattle.lock_book.specs.Changes.{flock_mode_in}
+use Rattle.fd_table.specs.declared.Access.{Access}
+use Rattle.fd_table.specs.declared.FdFault.{FdFault}
+use Rattle.fd_table.specs.declared.FdFault.TheVariants.{BadFd, TooMany, Invalid, Taken, Memory}
+use Rattle.fd_table.specs.declared.tables.Look.{Look}
+use Rattle.fd_table.specs.Released.{Released}
+use Rattle.fd_table.specs.Descriptors.{Descriptors, OpenFileDescription, SameDescriptors, opening_descriptors, description_numbered, look_at, with_description, with_descriptor, without_descriptors, with_child, with_offset}
+use Rattle.fd_table.specs.Calls.{nothing}
+use Rattle.wait_core.specs.declared.Family.TheVariants.{Bytes, Whole}
+use Rattle.wait_core.specs.declared.Policy.{Policy}
+use Rattle.wait_core.specs.declared.Wait.{Wait}
+use Rattle.wait_core.specs.WaitsView.{wait_of, without_wait_of}
+use Rattle.lock_manager.specs.declared.request.Rules.{Rules}
+use Rattle.lock_manager.specs.declared.request.Lock.{Lock}
+use Rattle.lock_manager.specs.declared.request.LkCmd.{LkCmd}
+use Rattle.lock_manager.specs.declared.request.LkCmd.TheVariants.{GetLk, SetLk, SetLkW, OGetLk, OSetLk, OSetLkW}
+use Rattle.lock_manager.specs.declared.request.FlockOp.{FlockOp}
+use Rattle.lock_manager.specs.declared.request.FlockOp.TheVariants.{Sh, Ex, Un}
+use Rattle.lock_manager.specs.declared.request.Request.{Request}
+use Rattle.lock_manager.specs.declared.request.Request.TheVariants.{OpenFile, Dup, DupTo, CloseFd, Seek, Resize, Lk, Flock, Fork, Exit, Signal, Kill}
+use Rattle.lock_manager.specs.declared.request.Note.{Note}
+use Rattle.lock_manager.specs.declared.request.ProcState.{ProcState}
+use Rattle.lock_manager.specs.declared.request.ProcState.TheVariants.{Unborn, Live, Waiting, Ended}
+use Rattle.lock_manager.specs.State.{State, opening_state, with_lock, with_lock_of, with_flock_mode, with_process}
+use Rattle.lock_manager.specs.Settling.{Settles, granted}
+use Rattle.lock_manager.specs.Outcomes.{Outcome, IsRefusal}
+use Rattle.lock_manager.specs.DescriptorCalls.{OpenComesTo, DupComesTo, DupToComesTo, CloseComesTo, SeekComesTo, ResizeComesTo}
+use Rattle.lock_manager.specs.LockWords.{is_get, is_bad_argument, wanted_mode, permits, wanted_lock}
+use Rattle.lock_manager.specs.LockCommands.{CommandComesTo, LockComesTo}
+use Rattle.lock_manager.specs.FlockCalls.{FlockTestComesTo, FlockModeComesTo, FlockOpComesTo, is_same_mode, wanted_flock}
+use Rattle.lock_manager.specs.ProcessCalls.{ForkComesTo, EndComesTo, SignalComesTo, KillOtherComesTo}
+use Rattle.lock_manager.specs.Step.{ComesTo, Step}
+use Rattle.lock_manager.specs.SomeOutcome.{AreMade, AreAwaitedIn, IsWhole}
+use Rattle.lock_manager.proofs.calls.ProcessCallLemmas.{other_found}
+
+-- descriptors that say the same refer to descriptions that were made
+made_same : (D E : Descriptors) → SameDescriptors E D → AreMade D → AreMade E
+made_same D E same made p fd number is =
+    subst (λ l. IsSome (description_numbered l number)) (sym same.descriptions) (made p fd number (sym (same.description_of p fd) ∙ is))
+
+-- one more descriptor refers to a description that was made
+made_with : (D : Descriptors) (p fd d : ℕ) → IsSome (description_numbered D.descriptions d) → AreMade D → AreMade (with_descriptor D p fd d)
+made_with D p fd d there made q k number is = elim (cases_Bool ((q == p) && (k == fd))) [
+  | inl here ↦
+      let one : Some d ≡ Some number = rw here at is in
+      subst (λ n. IsSome (description_numbered D.descriptions n)) (same_Some d number one) there
+  | inr other ↦ made q k number (rw other at is)
+]
+
+-- what was made stays so
+numbered_longer : (xs ys : List OpenFileDescription) (number : ℕ) → IsSome (description_numbered xs number) → IsSome (description_numbered (xs ++ ys) number)
+numbered_longer xs ys zero h = cc
+numbered_longer [] ys (suc k) h = cc
+numbered_longer (x ∷ xs) ys (suc zero) h = refl
+numbered_longer (x ∷ xs) ys (suc (suc k)) h = numbered_longer xs ys (suc k) h
+
+numbered_last : (xs : List OpenFileDescription) (x : OpenFileDescription) → IsSome (slice_get (xs ++ x ∷ []) (length xs))
+numbered_last [] x = refl
+numbered_last (y ∷ xs) x = numbered_last xs x
+
+set_still : (xs : List OpenFileDescription) (i : ℕ) (x : OpenFileDescription) (k : ℕ) → IsSome (slice_get xs k) → IsSome (slice_get (slice_set xs i x) k)
+set_still [] i x k h = cc
+set_still (y ∷ xs) zero x zero h = refl
+set_still (y ∷ xs) zero x (suc k) h = h
+set_still (y ∷ xs) (suc i) x zero h = refl
+set_still (y ∷ xs) (suc i) x (suc k) h = set_still xs i x k h
+
+made_opened : (D : Descriptors) (p file : ℕ) (access : Access) (fd : ℕ) → AreMade D
+    → AreMade (with_descriptor (with_description D file access) p fd (length D.descriptions + 1))
+made_opened D p file access fd made =
+    let opened : OpenFileDescription = record { file = file; access = access; offset = 0 } in
+    let next : suc (length D.descriptions) ≡ length D.descriptions + 1 = omega arith in
+    made_with (with_description D file access) p fd (length D.descriptions + 1)
+    (subst (λ n. IsSome (description_numbered (D.descriptions ++ opened ∷ []) n)) next (numbered_last D.descriptions opened))
+    (λ q k number is. numbered_longer D.descriptions (opened ∷ []) number (made q k number is))
+
+made_without : (D : Descriptors) (p : ℕ) (closed : ℕ → Bool) → AreMade D → AreMade (without_descriptors D p closed)
+made_without D p closed made q k number is = elim (cases_Bool ((q == p) && closed k)) [
+  | inl gone ↦ (let none : None ≡ Some number = rw gone at is in cc)
+  | inr stays ↦ made q k number (rw stays at is)
+]
+
+made_child : (D : Descriptors) (p child : ℕ) → AreMade D → AreMade (with_child D p child)
+made_child D p child made q k number is = elim (cases_Bool (q == child)) [
+  | inl copy ↦ made p k number (rw copy at is)
+  | inr other ↦ made q k number (rw other at is)
+]
+
+made_offset : (D : Descriptors) (number : ℕ) (opened : OpenFileDescription) (offset : ℕ) → AreMade D → AreMade (with_offset D number opened offset)
+made_offset D number opened offset made q k n is = still n (made q k n is)
+  where
+    still : (m : ℕ) → IsSome (description_numbered D.descriptions m)
+        → IsSome (description_numbered (slice_set D.descriptions (pred number) (record opened { offset = offset })) m)
+    still zero h = cc
+    still (suc m) h = set_still D.descriptions (pred number) (record opened { offset = offset }) m h
+
+-- the wait of another process is found still
+find_longer : (xs ys : List Wait) (q : ℕ) → wait_of xs q ≢ None → wait_of (xs ++ ys) q ≢ None
+find_longer [] ys q h = λ e. h refl
+find_longer (x ∷ xs) ys q h = elim (eqb_tells x.p q) [
+  | inl own ↦ rw own.0 (λ e. cc)
+  | inr other ↦ rw other.0 (find_longer xs ys q (rw other.0 at h))
+]
+
+find_last : (xs : List Wait) (w : Wait) (q : ℕ) → w.p ≡ q → wait_of (xs ++ w ∷ []) q ≢ None
+find_last [] w q own = rw (eq-eqb w.p q own) (λ e. cc)
+find_last (x ∷ xs) w q own = elim (eqb_tells x.p q) [
+  | inl here ↦ rw here.0 (λ e. cc)
+  | inr other ↦ rw other.0 (find_last xs w q own)
+]
+
+find_without : (before : List Wait) (w : Wait) (after : List Wait) (q : ℕ) → w.p ≢ q → wait_of (before ++ w ∷ after) q ≡ wait_of (before ++ after) q
+find_without [] w after q differs = elim (eqb_tells w.p q) [
+  | inl own ↦ absurd (differs own.1)
+  | inr other ↦ rw other.0 refl
+]
+find_without (x ∷ before) w after q differs = elim (eqb_tells x.p q) [
+  | inl own ↦ rw own.0 refl
+  | inr other ↦ rw other.0 (find_without before w after q differs)
+]
+
+-- where one process no longer waits, the others' waits are what counts
+awaited_moved : (waits left : List Wait) (states : ℕ → ProcState) (p : ℕ) (state : ProcState) → state ≢ Waiting
+    → ((q : ℕ) → q ≢ p → wait_of waits q ≢ None → wait_of left q ≢ None) → AreAwaitedIn waits states
+    → AreAwaitedIn left (λ q. if q == p then state else states q)
+awaited_moved waits left states p state differs keep awaited q is = elim (eqb_tells q p) [
+  | inl own ↦ absurd (differs (rw own.0 at is))
+  | inr other ↦ keep q other.1 (awaited q (rw other.0 at is))
+]
+
+awaited_joined : (waits : List Wait) (states : ℕ → ProcState) (wait : Wait) → AreAwaitedIn waits states
+    → AreAwaitedIn (waits ++ wait ∷ []) (λ q. if q == wait.p then Waiting else states q)
+awaited_joined waits states wait awaited q is = elim (eqb_tells q wait.p) [
+  | inl own ↦ find_last waits wait q (sym own.1)
+  | inr other ↦ find_longer waits (wait ∷ []) q (awaited q (rw other.0 at is))
+]
+
+Live≢Waiting : Live ≢ Waiting
+Live≢Waiting e = cc
+
+Ended≢Waiting : Ended ≢ Waiting
+Ended≢Waiting e = cc
+
+-- at the opening
+pub whole_opening : IsWhole opening_state
+unfolding opening_state opening_descriptors
+whole_opening = record { made = λ p fd number is. cc; awaited = λ p is. nobody (p == 1) is }
+  where
+    nobody : (b : Bool) → (if b then Live else Unborn) ≡ Waiting → wait_of [] 0 ≢ None
+    nobody true is = absurd (Live≢Waiting is)
+    nobody false is = cc
+
+-- the state of this outcome is whole
+abbrev Stays : Outcome → Type 0
+Stays outcome = IsWhole outcome.after
+
+-- a lock that is set moves no wait
+locked_whole : (S : State) (wait : Wait) → IsWhole S → IsWhole (with_lock S wait) × ((with_lock S wait).waits ≡ S.waits)
+locked_whole S wait h =
+    elim wait.family as (λ family. IsWhole (with_lock_of family wait.owner S wait) × ((with_lock_of family wait.owner S wait).waits ≡ S.waits)) [
+      | Bytes ↦ (record { made = h.made; awaited = h.awaited }, refl)
+      | Whole ↦
+          elim wait.owner as (λ owner. IsWhole (with_lock_of Whole owner S wait) × ((with_lock_of Whole owner S wait).waits ≡ S.waits)) [
+            | Description d ↦ (record { made = h.made; awaited = h.awaited }, refl)
+            | Process p ↦ (h, refl)
+          ]
+    ]
+
+granted_whole : (S : State) (before : List Wait) (wait : Wait) (after : List Wait) → S.waits ≡ before ++ wait ∷ after → IsWhole S
+    → IsWhole (granted S before wait after)
+granted_whole S before wait after place h =
+    let (locked, same) = locked_whole S wait h in
+    record {
+      made = locked.made;
+      awaited =
+          awaited_moved (before ++ wait ∷ after) (before ++ after) (with_lock S wait).states wait.p Live Live≢Waiting
+          (λ q differs there e. there (find_without before wait after q (λ own. differs (sym own)) ∙ e))
+          (subst (λ ws. AreAwaitedIn ws (with_lock S wait).states) (same ∙ place) locked.awaited);
+    }
+
+settled_whole : (policy : Policy) (S : State) (grants : List Note) (T : State) → Settles policy S grants T → IsWhole S → IsWhole T
+settled_whole policy S [] T h whole = subst IsWhole (sym h.1) whole
+settled_whole policy S (grant ∷ grants) T h whole =
+    settled_whole policy (granted S h.0 h.1 h.2) grants T h.5 (granted_whole S h.0 h.1 h.2 h.3.place whole)
+
+-- the outcome is this one
+stays_as : (given outcome : Outcome) → outcome ≡ given → Stays given → Stays outcome
+stays_as given outcome is h = subst Stays (sym is) h
+
+refusal_stays : (S : State) (p n : ℕ) (fault : FdFault) (outcome : Outcome) → IsRefusal S p n fault outcome → IsWhole S → Stays outcome
+refusal_stays S p n BadFd outcome is h = stays_as _ outcome is h
+refusal_stays S p n TooMany outcome is h = stays_as _ outcome is h
+refusal_stays S p n Invalid outcome is h = stays_as _ outcome is h
+refusal_stays S p n Taken outcome is h = stays_as _ outcome is h
+refusal_stays S p n (Memory memory) outcome is h = absurd is
+
+-- the descriptors are others
+with_made : (S : State) (E : Descriptors) → AreMade E → IsWhole S → IsWhole (record S { descriptors = E })
+with_made S E made h = record { made = made; awaited = h.awaited }
+
+open_stays : (rules : Rules) (S : State) (p n file : ℕ) (access : Access) (outcome : Outcome) → OpenComesTo rules S p n file access outcome
+    → IsWhole S → Stays outcome
+open_stays rules S p n file access outcome (Ok fd, E, gives, is) h =
+    stays_as _ outcome is (with_made S E (made_same _ E gives.3 (made_opened S.descriptors p file access fd h.made)) h)
+open_stays rules S p n file access outcome (Err fault, E, gives, is) h = refusal_stays S p n fault outcome is h
+
+dup_stays : (rules : Rules) (S : State) (p n fd : ℕ) (outcome : Outcome) → DupComesTo rules S p n fd outcome → IsWhole S → Stays outcome
+dup_stays rules S p n fd outcome (Ok free, E, gives, is) h =
+    stays_as _ outcome is
+    (with_made S E (made_same _ E gives.3 (made_with S.descriptors p free gives.0 (h.made p fd gives.0 gives.1) h.made)) h)
+dup_stays rules S p n fd outcome (Err fault, E, gives, is) h = refusal_stays S p n fault outcome is h
+
+moved_made : (D E : Descriptors) (p to d : ℕ) (onto_itself : Bool) (released : Released) (Released' : Type 0)
+    → MatchBool onto_itself ((released ≡ nothing) × SameDescriptors E D) (SameDescriptors E (with_descriptor D p to d) × Released')
+    → IsSome (description_numbered D.descriptions d) → AreMade D → AreMade E
+moved_made D E p to d true released Released' h there made = made_same D E h.1 made
+moved_made D E p to d false released Released' h there made = made_same _ E h.0 (made_with D p to d there made)
+
+dup_to_stays : (rules : Rules) (S : State) (p n fd to : ℕ) (outcome : Outcome) → DupToComesTo rules S p n fd to outcome → IsWhole S → Stays outcome
+dup_to_stays rules S p n fd to outcome (Ok answer, E, gives, is) h =
+    let made = moved_made S.descriptors E p to gives.0 (to == fd) answer.1 _ gives.4 (h.made p fd gives.0 gives.1) h.made in
+    stays_as _ outcome is (record { made = made; awaited = h.awaited })
+dup_to_stays rules S p n fd to outcome (Err fault, E, gives, is) h = refusal_stays S p n fault outcome is h
+
+close_stays : (S : State) (p n fd : ℕ) (outcome : Outcome) → CloseComesTo S p n fd outcome → IsWhole S → Stays outcome
+close_stays S p n fd outcome (Ok released, E, gives, is) h =
+    stays_as _ outcome is (record { made = made_same _ E gives.1 (made_without S.descriptors p (λ k. k == fd) h.made); awaited = h.awaited })
+close_stays S p n fd outcome (Err fault, E, gives, is) h = refusal_stays S p n fault outcome is h
+
+seek_stays : (S : State) (p n fd : ℕ) (offset : ℤ) (outcome : Outcome) → SeekComesTo S p n fd offset outcome → IsWhole S → Stays outcome
+seek_stays S p n fd offset outcome (Ok done, E, gives, is) h =
+    stays_as _ outcome is (with_made S E (made_same _ E gives.4 (made_offset S.descriptors gives.1.number gives.0 gives.2 h.made)) h)
+seek_stays S p n fd offset outcome (Err fault, E, gives, is) h = refusal_stays S p n fault outcome is h
+
+resize_stays : (S : State) (p n fd : ℕ) (size : ℤ) (outcome : Outcome) → ResizeComesTo S p n fd size outcome → IsWhole S → Stays outcome
+resize_stays S p n fd size outcome (Ok done, E, gives, is) h =
+    stays_as _ outcome is (with_made S E (made_same _ E gives.4 (λ q k number refers. h.made q k number refers)) h)
+resize_stays S p n fd size outcome (Err fault, E, gives, is) h = refusal_stays S p n fault outcome is h
+
+fork_stays : (processes : ℕ) (S : State) (p n child : ℕ) (outcome : Outcome) → ForkComesTo processes S p n child outcome → IsWhole S → Stays outcome
+fork_stays processes S p n child outcome (Ok done, E, gives, is) h =
+    stays_as _ outcome is
+    (record {
+      made = made_same _ E gives.1 (made_child S.descriptors p child h.made);
+      awaited = awaited_moved S.waits S.waits S.states child Live Live≢Waiting (λ q differs there. there) h.awaited;
+    })
+fork_stays processes S p n child outcome (Err fault, E, gives, is) h = refusal_stays S p n fault outcome is h
+
+-- without its wait a process waits no more
+awaited_left : (S : State) (target : ℕ) (state : ProcState) → state ≢ Waiting → IsWhole S
+    → AreAwaitedIn (without_wait_of S.waits target) (λ q. if q == target then state else S.states q)
+awaited_left S target state differs h =
+    awaited_moved S.waits (without_wait_of S.waits target) S.states target state differs
+    (λ q other there e. there (sym (other_found S.waits target q other) ∙ e)) h.awaited
+
+end_stays : (S : State) (p : ℕ) (told : List Note) (outcome : Outcome) → EndComesTo S p told outcome → IsWhole S → Stays outcome
+end_stays S p told outcome (released, E, gives, is) h =
+    stays_as _ outcome is
+    (record {
+      made = made_same _ E gives.0 (made_without S.descriptors p (λ k. true) h.made);
+      awaited = awaited_left S p Ended Ended≢Waiting h;
+    })
+
+signal_stays : (S : State) (p n target : ℕ) (state : ProcState) (outcome : Outcome) → SignalComesTo S p n target state outcome → IsWhole S
+    → Stays outcome
+signal_stays S p n target Unborn outcome is h = stays_as _ outcome is h
+signal_stays S p n target Ended outcome is h = stays_as _ outcome is h
+signal_stays S p n target Live outcome is h = stays_as _ outcome is h
+signal_stays S p n target Waiting outcome is h =
+    stays_as _ outcome is.2 (record { made = h.made; awaited = awaited_left S target Live Live≢Waiting h })
+
+kill_other_stays : (S : State) (p n target : ℕ) (state : ProcState) (outcome : Outcome) → KillOtherComesTo S p n target state outcome
+    → IsWhole S → Stays outcome
+kill_other_stays S p n target Unborn outcome is h = stays_as _ outcome is h
+kill_other_stays S p n target Ended outcome is h = stays_as _ outcome is h
+kill_other_stays S p n target Live outcome is h = end_stays S target _ outcome is h
+kill_other_stays S p n target Waiting outcome is h = end_stays S target _ outcome is h
+
+-- what both cases of a choice come to
+bool_stays : (b : Bool) (P Q : Type 0) (outcome : Outcome) → MatchBool b P Q → (P → Stays outcome) → (Q → Stays outcome) → Stays outcome
+bool_stays true P Q outcome h first second = first h
+bool_stays false P Q outcome h first second = second h
+
+fact_stays : (Fact P Q : Type 0) (outcome : Outcome) → MatchFact Fact P Q → (P → Stays outcome) → (Q → Stays outcome) → Stays outcome
+fact_stays Fact P Q outcome (inl h) first second = first h.1
+fact_stays Fact P Q outcome (inr h) first second = second h.1
+
+option_stays : {X : Type 0} (o : Option X) (P : Type 0) (Q : X → Type 0) (outcome : Outcome) → MatchOption o P Q → (P → Stays outcome)
+    → ((x : X) → Q x → Stays outcome) → Stays outcome
+option_stays None P Q outcome h first second = first h
+option_stays (Some x) P Q outcome h first second = second x h
+
+result_stays : {X E : Type 0} (r : Result X E) (P : X → Type 0) (Q : E → Type 0) (outcome : Outcome) → MatchResult r P Q
+    → ((x : X) → P x → Stays outcome) → ((e : E) → Q e → Stays outcome) → Stays outcome
+result_stays (Ok x) P Q outcome h first second = first x h
+result_stays (Err e) P Q outcome h first second = second e h
+
+-- the caller waits
+waits_whole : (S : State) (wanted : Wait) → IsWhole S → IsWhole (with_process (record S { waits = S.waits ++ wanted ∷ [] }) wanted.p Waiting)
+waits_whole S wanted h = record { made = h.made; awaited = awaited_joined S.waits S.states wanted h.awaited }
+
+command_stays : (rules : Rules) (S : State) (cmd : LkCmd) (wanted : Wait) (outcome : Outcome) → CommandComesTo rules S cmd wanted outcome
+    → IsWhole S → Stays outcome
+command_stays rules S GetLk wanted outcome is h =
+    fact_stays _ _ _ outcome is (λ held. stays_as _ outcome held.2 h) (λ free. stays_as _ outcome free h)
+command_stays rules S OGetLk wanted outcome is h =
+    fact_stays _ _ _ outcome is (λ held. stays_as _ outcome held.2 h) (λ free. stays_as _ outcome free h)
+command_stays rules S SetLk wanted outcome is h =
+    fact_stays _ _ _ outcome is (λ refused. stays_as _ outcome refused h) (λ set. stays_as _ outcome set (locked_whole S wanted h).0)
+command_stays rules S OSetLk wanted outcome is h =
+    fact_stays _ _ _ outcome is (λ refused. stays_as _ outcome refused h) (λ set. stays_as _ outcome set (locked_whole S wanted h).0)
+command_stays rules S SetLkW wanted outcome is h =
+    fact_stays _ _ _ outcome is
+    (λ blocked.
+    fact_stays _ _ _ outcome blocked (λ refused. stays_as _ outcome refused h) (λ waits. stays_as _ outcome waits (waits_whole S wanted h)))
+    (λ set. stays_as _ outcome set (locked_whole S wanted h).0)
+command_stays rules S OSetLkW wanted outcome is h =
+    fact_stays _ _ _ outcome is (λ waits. stays_as _ outcome waits (waits_whole S wanted h))
+    (λ set. stays_as _ outcome set (locked_whole S wanted h).0)
+
+lock_stays : (rules : Rules) (S : State) (p n fd : ℕ) (cmd : LkCmd) (lock : Lock) (outcome : Outcome) → LockComesTo rules S p n fd cmd lock outcome
+    → IsWhole S → Stays outcome
+lock_stays rules S p n fd cmd lock outcome is h =
+    option_stays (look_at S.descriptors p fd) _ _ outcome is (λ refused. stays_as _ outcome refused h)
+    (λ look described.
+    bool_stays (is_bad_argument cmd lock) _ _ outcome described (λ refused. stays_as _ outcome refused h)
+    (λ good.
+    result_stays (resolution lock.whence lock.start lock.len look.offset look.size) _ _ outcome good
+    (λ span ranged.
+    option_stays (wanted_mode lock.kind) _ _ outcome ranged
+    (λ unlocks. stays_as _ outcome unlocks (record { made = h.made; awaited = h.awaited }))
+    (λ mode moded.
+    bool_stays (is_get cmd || permits look.access mode) _ _ outcome moded
+    (λ asked. command_stays rules S cmd (wanted_lock cmd p n look span mode) outcome asked h) (λ refused. stays_as _ outcome refused h)))
+    (λ fault refused. stays_as _ outcome refused h)))
+
+flock_test_stays : (rules : Rules) (S : State) (nb : Bool) (wanted : Wait) (grants : List Note) (outcome : Outcome)
+    → FlockTestComesTo rules S nb wanted grants outcome → IsWhole S → Stays outcome
+flock_test_stays rules S true wanted grants outcome is h =
+    fact_stays _ _ _ outcome is (λ refused. stays_as _ outcome refused h) (λ set. stays_as _ outcome set (locked_whole S wanted h).0)
+flock_test_stays rules S false wanted grants outcome is h =
+    fact_stays _ _ _ outcome is (λ waits. stays_as _ outcome waits (waits_whole S wanted h))
+    (λ set. stays_as _ outcome set (locked_whole S wanted h).0)
+
+flock_mode_stays : (rules : Rules) (S : State) (look : Look) (nb : Bool) (wanted : Wait) (held : Option Mode) (outcome : Outcome)
+    → FlockModeComesTo rules S look nb wanted held outcome → IsWhole S → Stays outcome
+flock_mode_stays rules S look nb wanted None outcome is h = flock_test_stays rules S nb wanted [] outcome is h
+flock_mode_stays rules S look nb wanted (Some held) outcome is h =
+    bool_stays (is_same_mode held wanted.mode) _ _ outcome is (λ already. stays_as _ outcome already h)
+    (λ converted.
+    flock_test_stays rules converted.1 nb wanted converted.0 outcome converted.3
+    (settled_whole rules.policy (with_flock_mode S look.file look.desc None) converted.0 converted.1 converted.2
+    (record { made = h.made; awaited = h.awaited })))
+
+flock_op_stays : (rules : Rules) (S : State) (p n : ℕ) (look : Look) (op : FlockOp) (nb : Bool) (outcome : Outcome)
+    → FlockOpComesTo rules S p n look op nb outcome → IsWhole S → Stays outcome
+flock_op_stays rules S p n look Un nb outcome is h = stays_as _ outcome is (record { made = h.made; awaited = h.awaited })
+flock_op_stays rules S p n look Sh nb outcome is h =
+    flock_mode_stays rules S look nb (wanted_flock p n look Read) (flock_mode_in S.flock_changes look.file look.desc) outcome is h
+flock_op_stays rules S p n look Ex nb outcome is h =
+    flock_mode_stays rules S look nb (wanted_flock p n look Write) (flock_mode_in S.flock_changes look.file look.desc) outcome is h
+
+-- whatever the request
+request_stays : (rules : Rules) (processes : ℕ) (S : State) (p n : ℕ) (request : Request) (outcome : Outcome)
+    → ComesTo rules processes S p n request outcome → IsWhole S → Stays outcome
+request_stays rules processes S p n (OpenFile file access) outcome is h = open_stays rules S p n file access outcome is h
+request_stays rules processes S p n (Dup fd) outcome is h = dup_stays rules S p n fd outcome is h
+request_stays rules processes S p n (DupTo fd to) outcome is h = dup_to_stays rules S p n fd to outcome is h
+request_stays rules processes S p n (CloseFd fd) outcome is h = close_stays S p n fd outcome is h
+request_stays rules processes S p n (Seek fd offset) outcome is h = seek_stays S p n fd offset outcome is h
+request_stays rules processes S p n (Resize fd size) outcome is h = resize_stays S p n fd size outcome is h
+request_stays rules processes S p n (Lk fd cmd lock) outcome is h = lock_stays rules S p n fd cmd lock outcome is h
+request_stays rules processes S p n (Flock fd op nb) outcome is h =
+    option_stays (look_at S.descriptors p fd) _ _ outcome is (λ refused. stays_as _ outcome refused h)
+    (λ look opened. flock_op_stays rules S p n look op nb outcome opened h)
+request_stays rules processes S p n (Fork child) outcome is h = fork_stays processes S p n child outcome is h
+request_stays rules processes S p n Exit outcome is h = end_stays S p [] outcome is h
+request_stays rules processes S p n (Signal target) outcome is h = signal_stays S p n target (S.states target) outcome is h
+request_stays rules processes S p n (Kill target) outcome is h =
+    bool_stays (target == p) _ _ outcome is (λ own. end_stays S p [] outcome own h)
+    (λ other. kill_other_stays S p n target (S.states target) outcome other h)
+
+-- a step keeps it
+pub step_whole : (rules : Rules) (processes : ℕ) (S : State) (p n : ℕ) (request : Request) (notes : List Note) (T : State) → IsWhole S
+    → Step rules processes S p n request notes T → IsWhole T
+step_whole rules processes S p n request notes T h step =
+    settled_whole rules.policy step.outcome.after step.grants T step.settles
+    (request_stays rules processes S p n request step.outcome step.comes_to h)

@@ -1,0 +1,9 @@
+-- What a request comes to is determined: for the law `step_has_one_outcome`.
+pub mod AtMostOneLemmas
+pub mod DescriptorCallLaws
+pub mod FirstBlockerLaws
+pub mod NextGrantLaws
+pub mod OpenCallLaws
+pub mod OutcomeLaws
+pub mod ReleaseLaws
+pub mod SettlingLaws

@@ -1,0 +1,184 @@
+-- What a request comes to is determined, and so is the step.
+use Rattle.std.proofs.Common.{◌≡◌, ℕ, ℤ, List, [], ◌∷◌, ◌++◌, ◌==◌, Bool, true, false, Option, None, sym, ◌∙◌, ap₂, subst, Some, Result}
+use Rattle.std.proofs.lemmas.Option.{same_Some}
+use Rattle.std.specs.Prelude.{MatchResult}
+use Rattle.range_core.specs.declared.Mode.{Mode}
+use Rattle.fd_table.specs.declared.Access.{Access}
+use Rattle.fd_table.specs.declared.FdFault.{FdFault}
+use Rattle.fd_table.specs.declared.FdFault.TheVariants.{BadFd, TooMany, Invalid, Taken, Memory}
+use Rattle.fd_table.specs.declared.tables.Look.{Look}
+use Rattle.fd_table.specs.Descriptors.{Descriptors}
+use Rattle.fd_table.specs.Calls.{OpenGives, DupGives, DupToGives, CloseGives, SeekGives, ResizeGives, ForkGives, EndGives}
+use Rattle.wait_core.specs.declared.Wait.{Wait}
+use Rattle.wait_core.specs.Blocking.{IsBlockedByLock, IsBlocked}
+use Rattle.wait_core.specs.Cycles.{ClosesCycle}
+use Rattle.wait_core.specs.WaitsView.{wait_of}
+use Rattle.lock_manager.specs.declared.request.Rules.{Rules}
+use Rattle.lock_manager.specs.declared.request.Lock.{Lock}
+use Rattle.lock_manager.specs.declared.request.LkCmd.{LkCmd}
+use Rattle.lock_manager.specs.declared.request.LkCmd.TheVariants.{GetLk, SetLk, SetLkW, OGetLk, OSetLk, OSetLkW}
+use Rattle.lock_manager.specs.declared.request.Request.{Request}
+use Rattle.lock_manager.specs.declared.request.Request.TheVariants.{OpenFile, Dup, DupTo, CloseFd, Seek, Resize, Lk, Flock, Fork, Exit, Signal, Kill}
+use Rattle.lock_manager.specs.declared.request.Reply.TheVariants as replies
+use Rattle.lock_manager.specs.declared.request.ProcState.{ProcState}
+use Rattle.lock_manager.specs.declared.request.ProcState.TheVariants.{Unborn, Live, Waiting, Ended}
+use Rattle.lock_manager.specs.State.{State, locks_held, with_flock_mode, with_process}
+use Rattle.lock_manager.specs.Outcomes.{Outcome, answered, IsRefusal}
+use Rattle.lock_manager.specs.declared.request.Note.{Note}
+use Rattle.lock_manager.specs.declared.request.Note.TheVariants.{Answer}
+use Rattle.lock_manager.specs.DescriptorCalls.{OpenComesTo, DupComesTo, DupToComesTo, CloseComesTo, SeekComesTo, ResizeComesTo, with_released}
+use Rattle.lock_manager.specs.LockCommands.{GetComesTo, SetComesTo, SetOrWaitComesTo, WaitOrDeadlockComesTo, CommandComesTo, LockComesTo}
+use Rattle.lock_manager.specs.declared.request.FlockOp.{FlockOp}
+use Rattle.lock_manager.specs.FlockCalls.{FlockTestComesTo, FlockModeComesTo, FlockComesTo, is_same_mode}
+use Rattle.lock_manager.specs.ProcessCalls.{ForkComesTo, EndComesTo, SignalComesTo, KillOtherComesTo, KillComesTo}
+use Rattle.lock_manager.specs.Settling.{Settles}
+use Rattle.lock_manager.specs.Step.{ComesTo}
+use Rattle.lock_manager.specs.OneOutcome.{StepHasOneOutcome}
+use Rattle.lock_manager.proofs.unique.AtMostOneLemmas.{AtMostOne, one_value, MatchFact-unique, by_one, by_two}
+use Rattle.lock_manager.proofs.ChoiceLemmas.{MatchBool-by, MatchResult-by, LockComesTo-by, FlockComesTo-by}
+use Rattle.lock_manager.proofs.unique.FirstBlockerLaws.{IsFirstBlocker-unique}
+use Rattle.lock_manager.proofs.unique.DescriptorCallLaws.{DupGives-unique, DupToGives-unique, CloseGives-unique, SeekGives-unique, ResizeGives-unique, ForkGives-unique, EndGives-unique}
+use Rattle.lock_manager.proofs.unique.OpenCallLaws.{OpenGives-unique}
+use Rattle.lock_manager.proofs.unique.SettlingLaws.{Settles-unique}
+
+-- each refusal is one outcome
+IsRefusal-unique : (S : State) (p n : ℕ) (fault : FdFault) → AtMostOne (IsRefusal S p n fault)
+IsRefusal-unique S p n BadFd = one_value _
+IsRefusal-unique S p n TooMany = one_value _
+IsRefusal-unique S p n Invalid = one_value _
+IsRefusal-unique S p n Taken = one_value _
+IsRefusal-unique S p n (Memory memory) = λ x y h k. absurd h
+
+-- the answer of a call on descriptors is one outcome, that of its result or the refusal
+answer-unique : {R : Type 0} (S : State) (p n : ℕ) (done : R → Outcome) (result : Result R FdFault)
+    → AtMostOne (λ outcome. MatchResult result (λ r. outcome ≡ done r) (λ fault. IsRefusal S p n fault outcome))
+answer-unique S p n done result = MatchResult-by (λ P. AtMostOne P) result _ _ (λ r. one_value (done r)) (λ fault. IsRefusal-unique S p n fault)
+
+OpenComesTo-unique : (rules : Rules) (S : State) (p n file : ℕ) (access : Access) → AtMostOne (OpenComesTo rules S p n file access)
+OpenComesTo-unique rules S p n file access =
+    by_two (OpenGives rules.limits S.descriptors p file access) _ (OpenGives-unique rules.limits S.descriptors p file access)
+    (λ result descriptors. answer-unique S p n (λ fd. answered (record S { descriptors = descriptors }) p n (replies.Fd fd)) result)
+
+DupComesTo-unique : (rules : Rules) (S : State) (p n fd : ℕ) → AtMostOne (DupComesTo rules S p n fd)
+DupComesTo-unique rules S p n fd =
+    by_two (DupGives rules.limits S.descriptors p fd) _ (DupGives-unique rules.limits S.descriptors p fd)
+    (λ result descriptors. answer-unique S p n (λ free. answered (record S { descriptors = descriptors }) p n (replies.Fd free)) result)
+
+DupToComesTo-unique : (rules : Rules) (S : State) (p n fd to : ℕ) → AtMostOne (DupToComesTo rules S p n fd to)
+DupToComesTo-unique rules S p n fd to =
+    by_two (DupToGives rules.limits S.descriptors p fd to) _ (DupToGives-unique rules.limits S.descriptors p fd to)
+    (λ result descriptors. answer-unique S p n (λ answer. answered (with_released S descriptors p answer.1) p n (replies.Fd answer.0)) result)
+
+CloseComesTo-unique : (S : State) (p n fd : ℕ) → AtMostOne (CloseComesTo S p n fd)
+CloseComesTo-unique S p n fd =
+    by_two (CloseGives S.descriptors p fd) _ (CloseGives-unique S.descriptors p fd)
+    (λ result descriptors. answer-unique S p n (λ released. answered (with_released S descriptors p released) p n replies.Ok) result)
+
+-- a call that answers nothing but that it is done
+done-unique : (S : State) (p n : ℕ) (descriptors : Descriptors) (result : Result (Unit {0}) FdFault)
+    → AtMostOne (λ outcome. MatchResult result (λ done. outcome ≡ answered (record S { descriptors = descriptors }) p n replies.Ok) (λ fault. IsRefusal S p n fault outcome))
+done-unique S p n descriptors result = answer-unique S p n (λ done. answered (record S { descriptors = descriptors }) p n replies.Ok) result
+
+SeekComesTo-unique : (S : State) (p n fd : ℕ) (offset : ℤ) → AtMostOne (SeekComesTo S p n fd offset)
+SeekComesTo-unique S p n fd offset =
+    by_two (SeekGives S.descriptors p fd offset) _ (SeekGives-unique S.descriptors p fd offset) (λ result descriptors. done-unique S p n descriptors result)
+
+ResizeComesTo-unique : (S : State) (p n fd : ℕ) (size : ℤ) → AtMostOne (ResizeComesTo S p n fd size)
+ResizeComesTo-unique S p n fd size =
+    by_two (ResizeGives S.descriptors p fd size) _ (ResizeGives-unique S.descriptors p fd size) (λ result descriptors. done-unique S p n descriptors result)
+
+ForkComesTo-unique : (processes : ℕ) (S : State) (p n child : ℕ) → AtMostOne (ForkComesTo processes S p n child)
+ForkComesTo-unique processes S p n child =
+    by_two (ForkGives processes S.descriptors p child) _ (ForkGives-unique processes S.descriptors p child)
+    (λ result descriptors. answer-unique S p n (λ done. answered (with_process (record S { descriptors = descriptors }) child Live) p n replies.Ok) result)
+
+EndComesTo-unique : (S : State) (p : ℕ) (told : List Note) → AtMostOne (EndComesTo S p told)
+EndComesTo-unique S p told =
+    by_two (EndGives S.descriptors p) _ (EndGives-unique S.descriptors p) (λ released descriptors. one_value _)
+
+-- the wait of a process is one
+wait-unique : (S : State) (p : ℕ) → AtMostOne (λ wait. wait_of S.waits p ≡ Some wait)
+wait-unique S p x y h k = same_Some x y (sym h ∙ k)
+
+SignalComesTo-unique : (S : State) (p n target : ℕ) (state : ProcState) → AtMostOne (SignalComesTo S p n target state)
+SignalComesTo-unique S p n target Unborn = one_value _
+SignalComesTo-unique S p n target Ended = one_value _
+SignalComesTo-unique S p n target Live = one_value _
+SignalComesTo-unique S p n target Waiting = by_one _ _ (wait-unique S target) (λ wait. one_value _)
+
+KillOtherComesTo-unique : (S : State) (p n target : ℕ) (state : ProcState) → AtMostOne (KillOtherComesTo S p n target state)
+KillOtherComesTo-unique S p n target Unborn = one_value _
+KillOtherComesTo-unique S p n target Ended = one_value _
+KillOtherComesTo-unique S p n target Live = EndComesTo-unique S target (Answer p n replies.Ok ∷ [])
+KillOtherComesTo-unique S p n target Waiting = EndComesTo-unique S target (Answer p n replies.Ok ∷ [])
+
+KillComesTo-unique : (S : State) (p n target : ℕ) → AtMostOne (KillComesTo S p n target)
+KillComesTo-unique S p n target =
+    MatchBool-by (λ P. AtMostOne P) (target == p) _ _ (EndComesTo-unique S p []) (KillOtherComesTo-unique S p n target (S.states target))
+
+-- what a get command answers is one outcome
+GetComesTo-unique : (S : State) (wanted : Wait) → AtMostOne (GetComesTo S wanted)
+GetComesTo-unique S wanted = MatchFact-unique _ _ _ (by_one _ _ (IsFirstBlocker-unique _ _ _ _) (λ blocker. one_value _)) (one_value _)
+
+SetComesTo-unique : (S : State) (wanted : Wait) → AtMostOne (SetComesTo S wanted)
+SetComesTo-unique S wanted = MatchFact-unique (IsBlockedByLock (locks_held S) wanted) _ _ (one_value _) (one_value _)
+
+SetOrWaitComesTo-unique : (rules : Rules) (S : State) (wanted : Wait) → AtMostOne (SetOrWaitComesTo rules S wanted)
+SetOrWaitComesTo-unique rules S wanted = MatchFact-unique (IsBlocked rules.policy (locks_held S) S.waits wanted) _ _ (one_value _) (one_value _)
+
+WaitOrDeadlockComesTo-unique : (rules : Rules) (S : State) (wanted : Wait) → AtMostOne (WaitOrDeadlockComesTo rules S wanted)
+WaitOrDeadlockComesTo-unique rules S wanted =
+    MatchFact-unique (IsBlocked rules.policy (locks_held S) S.waits wanted) _ _
+    (MatchFact-unique (ClosesCycle rules.policy (locks_held S) S.waits wanted) _ _ (one_value _) (one_value _))
+    (one_value _)
+
+CommandComesTo-unique : (rules : Rules) (S : State) (cmd : LkCmd) (wanted : Wait) → AtMostOne (CommandComesTo rules S cmd wanted)
+CommandComesTo-unique rules S GetLk wanted = GetComesTo-unique S wanted
+CommandComesTo-unique rules S OGetLk wanted = GetComesTo-unique S wanted
+CommandComesTo-unique rules S SetLk wanted = SetComesTo-unique S wanted
+CommandComesTo-unique rules S OSetLk wanted = SetComesTo-unique S wanted
+CommandComesTo-unique rules S SetLkW wanted = WaitOrDeadlockComesTo-unique rules S wanted
+CommandComesTo-unique rules S OSetLkW wanted = SetOrWaitComesTo-unique rules S wanted
+
+LockComesTo-unique : (rules : Rules) (S : State) (p n fd : ℕ) (cmd : LkCmd) (lock : Lock) → AtMostOne (LockComesTo rules S p n fd cmd lock)
+LockComesTo-unique rules S p n fd cmd lock =
+    LockComesTo-by (λ P. AtMostOne P) (λ given. one_value given) rules S p n fd cmd lock (λ wanted. CommandComesTo-unique rules S cmd wanted)
+
+FlockTestComesTo-unique : (rules : Rules) (S : State) (nb : Bool) (wanted : Wait) (grants : List Note) → AtMostOne (FlockTestComesTo rules S nb wanted grants)
+FlockTestComesTo-unique rules S true wanted grants = MatchFact-unique (IsBlockedByLock (locks_held S) wanted) _ _ (one_value _) (one_value _)
+FlockTestComesTo-unique rules S false wanted grants = MatchFact-unique (IsBlocked rules.policy (locks_held S) S.waits wanted) _ _ (one_value _) (one_value _)
+
+FlockModeComesTo-unique : (rules : Rules) (S : State) (look : Look) (nb : Bool) (wanted : Wait) (held : Option Mode) → AtMostOne (FlockModeComesTo rules S look nb wanted held)
+FlockModeComesTo-unique rules S look nb wanted None = FlockTestComesTo-unique rules S nb wanted []
+FlockModeComesTo-unique rules S look nb wanted (Some held) =
+    MatchBool-by (λ P. AtMostOne P) (is_same_mode held wanted.mode) _ _ (one_value _)
+    (by_two (λ grants settled. Settles rules.policy (with_flock_mode S look.file look.desc None) grants settled) _
+    (λ grants settled others other h k. Settles-unique rules.policy (with_flock_mode S look.file look.desc None) grants settled others other h k)
+    (λ grants settled. FlockTestComesTo-unique rules settled nb wanted grants))
+
+FlockComesTo-unique : (rules : Rules) (S : State) (p n fd : ℕ) (op : FlockOp) (nb : Bool) → AtMostOne (FlockComesTo rules S p n fd op nb)
+FlockComesTo-unique rules S p n fd op nb =
+    FlockComesTo-by (λ P. AtMostOne P) (λ given. one_value given) rules S p n fd op nb (λ look wanted held. FlockModeComesTo-unique rules S look nb wanted held)
+
+-- a request comes to one outcome
+pub ComesTo-unique : (rules : Rules) (processes : ℕ) (S : State) (p n : ℕ) (request : Request) → AtMostOne (ComesTo rules processes S p n request)
+ComesTo-unique rules processes S p n (OpenFile file access) = OpenComesTo-unique rules S p n file access
+ComesTo-unique rules processes S p n (Dup fd) = DupComesTo-unique rules S p n fd
+ComesTo-unique rules processes S p n (DupTo fd to) = DupToComesTo-unique rules S p n fd to
+ComesTo-unique rules processes S p n (CloseFd fd) = CloseComesTo-unique S p n fd
+ComesTo-unique rules processes S p n (Seek fd offset) = SeekComesTo-unique S p n fd offset
+ComesTo-unique rules processes S p n (Resize fd size) = ResizeComesTo-unique S p n fd size
+ComesTo-unique rules processes S p n (Flock fd op nb) = FlockComesTo-unique rules S p n fd op nb
+ComesTo-unique rules processes S p n (Fork child) = ForkComesTo-unique processes S p n child
+ComesTo-unique rules processes S p n Exit = EndComesTo-unique S p []
+ComesTo-unique rules processes S p n (Signal target) = SignalComesTo-unique S p n target (S.states target)
+ComesTo-unique rules processes S p n (Kill target) = KillComesTo-unique S p n target
+ComesTo-unique rules processes S p n (Lk fd cmd lock) = LockComesTo-unique rules S p n fd cmd lock
+
+-- the step has one outcome
+pub Step-unique : StepHasOneOutcome
+Step-unique rules processes S p n request notes others T U h k =
+    let same : h.outcome ≡ k.outcome = ComesTo-unique rules processes S p n request h.outcome k.outcome h.comes_to k.comes_to in
+    let settled : (h.grants ≡ k.grants) × (T ≡ U) =
+    Settles-unique rules.policy k.outcome.after h.grants T k.grants U (subst (λ outcome. Settles rules.policy outcome.after h.grants T) same h.settles) k.settles in
+    (h.are_notes ∙ ap₂ (λ outcome grants. outcome.told ++ grants) same settled.0 ∙ sym k.are_notes, settled.1)

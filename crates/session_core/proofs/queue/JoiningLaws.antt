@@ -1,0 +1,345 @@
+-- Under the queue policy a request that would wait were it blocked sets its lock at once only where no wait conflicts with it.
+use Rattle.std.proofs.Common.{ℕ, ◌≡◌, ◌≢◌, ◌≤◌, ◌⊎◌, inl, inr, refl, sym, ◌∙◌, ap, subst, Bool, true, false, List, [], ◌∷◌, ◌++◌, ⊎_elim, Any, Option, Some, None, MatchBool, MatchOption, MatchResult}
+use Rattle.std.specs.Prelude.{IsTrue, IsFalse, ◌||◌}
+use Rattle.std.specs.List.{Contains, AllByRecursion as Each}
+use Rattle.std.proofs.lemmas.List.Elements.{All-contains, All-from_recursion, Contains-append_left, Contains-append_right}
+use Rattle.range_core.specs.declared.Mode.{Mode}
+use Rattle.range_core.specs.declared.Mode.TheVariants.{Read, Write}
+use Rattle.lock_book.specs.Changes.{flock_mode_in}
+use Rattle.fd_table.specs.declared.tables.Look.{Look}
+use Rattle.wait_core.specs.declared.Policy.TheVariants.{Queue}
+use Rattle.wait_core.specs.declared.Wait.{Wait}
+use Rattle.wait_core.specs.Blocking.{WaitsConflict, IsBlocked}
+use Rattle.lock_manager.specs.declared.request.Rules.{Rules}
+use Rattle.lock_manager.specs.declared.request.Lock.{Lock}
+use Rattle.lock_manager.specs.declared.request.LkCmd.{LkCmd}
+use Rattle.lock_manager.specs.declared.request.LkCmd.TheVariants.{GetLk, SetLk, SetLkW, OGetLk, OSetLk, OSetLkW}
+use Rattle.lock_manager.specs.declared.request.FlockOp.{FlockOp}
+use Rattle.lock_manager.specs.declared.request.FlockOp.TheVariants.{Sh, Ex, Un}
+use Rattle.lock_manager.specs.declared.request.Errno.{Errno}
+use Rattle.lock_manager.specs.declared.request.Errno.TheVariants.{EBADF}
+use Rattle.lock_manager.specs.declared.request.Request.{Request}
+use Rattle.lock_manager.specs.declared.request.Request.TheVariants.{OpenFile, Dup, DupTo, CloseFd, Seek, Resize, Lk, Flock, Fork, Exit, Signal, Kill}
+use Rattle.lock_manager.specs.declared.request.Note.{Note}
+use Rattle.lock_manager.specs.declared.request.Note.TheVariants.{Answer, Waits}
+use Rattle.lock_manager.specs.declared.request.Reply.TheVariants as replies
+use Rattle.lock_manager.specs.State.{State, opening_state, locks_held, with_lock, with_byte_mode, with_flock_mode}
+use Rattle.lock_manager.specs.Outcomes.{Outcome, answered, answered_then, refused, waits_then, range_error}
+use Rattle.lock_manager.specs.LockWords.{is_get, is_bad_argument, may_wait, permits, lock_owner, wanted_lock}
+use Rattle.lock_manager.specs.LockCommands.{LockComesTo, DescribedComesTo, RangeComesTo, ModeComesTo, CommandComesTo}
+use Rattle.lock_manager.specs.FlockCalls.{FlockComesTo, FlockOpComesTo, FlockModeComesTo, FlockTestComesTo, is_same_mode, flock_wanted_mode, wanted_flock}
+use Rattle.lock_manager.specs.Step.{ComesTo}
+use Rattle.lock_manager.specs.OneOutcome.{StepHasOneOutcome}
+use Rattle.session_core.specs.Event.{Event}
+use Rattle.session_core.specs.Runs.{IsStep, Leads, IsRun}
+use Rattle.lock_manager.specs.Asking.{AsksForBytes, AsksForWhole}
+use Rattle.session_core.specs.QueuePolicy.{WouldWaitAs, HasFlock, SetsAtOnce, IsTested, IsOver, notes_told, PassesNoneTold, NotesAreOfWaits, RequestsJoinTheQueue}
+use Rattle.session_core.proofs.tallies.Tally.{Each-append, Each-map}
+use Rattle.session_core.proofs.tallies.OutcomeLaws.{cases_fact, cases_bool}
+use Rattle.session_core.proofs.queue.AnyLemmas.{Any-here, Any-there}
+use Rattle.session_core.proofs.queue.WaitPlaces.{Anything, StandsIn, StandsIn-each, Passes}
+use Rattle.session_core.proofs.queue.WaitMoves.{Joins, ready_apart, Settles-passes, Step-moves}
+use Rattle.session_core.proofs.queue.TurnLemmas.{Contains-here, Contains-there, Passes-answers, Waits-join}
+use Rattle.session_core.proofs.queue.TurnLaws.{Leads-one, has_waited, WouldWaitAs-of}
+
+-- what some has none has
+none_each : {X : Type 0} (P : X → Type 0) (xs : List X) → ¬ Any P xs → Each (λ x. ¬ P x) xs
+none_each P [] none = tt
+none_each P (x ∷ xs) none = ((λ p. none (Any-here P x xs p)), none_each P xs (λ any. none (Any-there P x xs any)))
+
+Each-insert : {X : Type 0} (P : X → Type 0) (xs : List X) (x : X) (ys : List X) → P x → Each P (xs ++ ys) → Each P (xs ++ x ∷ ys)
+Each-insert P [] x ys p h = (p, h)
+Each-insert P (z ∷ xs) x ys p h = (h.0, Each-insert P xs x ys p h.1)
+
+-- each wait of the list is granted, or what holds of those that are left holds of it
+Passes-each : (R : Wait → Type 0) (waits : List Wait) (notes : List Note) (left : List Wait) → Passes waits notes left → Each R left
+    → Each (λ v. Contains notes (Answer v.p v.n replies.Ok) ⊎ R v) waits
+Passes-each R waits [] left h all = subst (Each (λ v. Contains [] (Answer v.p v.n replies.Ok) ⊎ R v)) h (Each-map R _ left (λ v r. inr r) all)
+Passes-each R waits (note ∷ notes) left h all =
+    let Granted : Wait → Type 0 = λ v. Contains (note ∷ notes) (Answer v.p v.n replies.Ok) ⊎ R v in
+    let rest : Each Granted (h.0 ++ h.2) =
+    Each-map (λ v. Contains notes (Answer v.p v.n replies.Ok) ⊎ R v) Granted (h.0 ++ h.2)
+    (λ v one. ⊎_elim (λ granted. inl (Contains-there note (Answer v.p v.n replies.Ok) notes granted)) (λ r. inr r) one)
+    (Passes-each R (h.0 ++ h.2) notes left h.6 all) in
+    subst (Each Granted) (sym h.3)
+    (Each-insert Granted h.0 h.1 h.2 (inl (Contains-here note (Answer h.1.p h.1.n replies.Ok) notes h.5)) rest)
+
+-- who is answered Ok by the first note isn't refused, and doesn't wait
+Ok≢refused : (S : State) (p n : ℕ) (error : Errno) (outcome : Outcome) (grants notes others : List Note) → outcome ≡ refused S p n error
+    → notes ≡ outcome.told ++ grants → notes ≡ Answer p n replies.Ok ∷ others → ⊥
+Ok≢refused S p n error outcome grants notes others is are told =
+    let first : Answer p n replies.Ok ∷ others ≡ Answer p n (replies.Err error) ∷ grants = sym told ∙ are ∙ ap (λ (o : Outcome). o.told ++ grants) is in
+    cc
+
+Ok≢waits : (S : State) (wait : Wait) (p n : ℕ) (made : List Note) (outcome : Outcome) (grants notes others : List Note)
+    → outcome ≡ waits_then S wait made → notes ≡ outcome.told ++ grants → notes ≡ Answer p n replies.Ok ∷ others → ⊥
+Ok≢waits S wait p n made outcome grants notes others is are told =
+    let first : Answer p n replies.Ok ∷ others ≡ Waits wait.p wait.n ∷ (made ++ grants) = sym told ∙ are ∙ ap (λ (o : Outcome). o.told ++ grants) is in
+    cc
+
+-- no wait in the list conflicts with the lock where it is tested; and who left the list before that was granted
+record IsTurnKept (rules : Rules) (S : State) (event : Event) (wanted : Wait) : Type 0 where
+  grants : List Note
+  tested : State
+  is_tested : IsTested rules S wanted grants tested
+  others : List Note
+  told : event.notes ≡ Answer wanted.p wanted.n replies.Ok ∷ (grants ++ others)
+  passes : Passes S.waits grants tested.waits
+  none : Each (λ v. ¬ WaitsConflict v wanted) tested.waits
+
+-- no wait conflicts with what nothing blocks
+tested_kept : (rules : Rules) (S tested : State) (event : Event) (wanted : Wait) (made others : List Note) → rules.policy ≡ Queue
+    → IsTested rules S wanted made tested → Passes S.waits made tested.waits
+    → event.notes ≡ Answer wanted.p wanted.n replies.Ok ∷ (made ++ others)
+    → ¬ IsBlocked rules.policy (locks_held tested) tested.waits wanted → IsTurnKept rules S event wanted
+tested_kept rules S tested event wanted made others queue is_tested passes told ready =
+    record {
+      grants = made;
+      tested = tested;
+      is_tested = is_tested;
+      others = others;
+      told = told;
+      passes = passes;
+      none = none_each (λ v. WaitsConflict v wanted) tested.waits
+          (ready_apart rules.policy (locks_held tested) tested.waits wanted queue ready);
+    }
+
+-- a lock command that would wait
+command_kept : (rules : Rules) (S : State) (event : Event) (cmd : LkCmd) (wanted : Wait) (outcome : Outcome) (grants others : List Note)
+    → rules.policy ≡ Queue → IsTrue (may_wait cmd) → IsTested rules S wanted [] S → CommandComesTo rules S cmd wanted outcome
+    → event.notes ≡ outcome.told ++ grants → event.notes ≡ Answer wanted.p wanted.n replies.Ok ∷ others → IsTurnKept rules S event wanted
+command_kept rules S event GetLk wanted outcome grants others queue may tested is are told = cc
+command_kept rules S event OGetLk wanted outcome grants others queue may tested is are told = cc
+command_kept rules S event SetLk wanted outcome grants others queue may tested is are told = cc
+command_kept rules S event OSetLk wanted outcome grants others queue may tested is are told = cc
+command_kept rules S event SetLkW wanted outcome grants others queue may tested (inl blocked) are told =
+    ⊎_elim (λ no. absurd (Ok≢refused S wanted.p wanted.n _ outcome grants event.notes others no are told))
+    (λ waits. absurd (Ok≢waits S wanted wanted.p wanted.n [] outcome grants event.notes others waits are told)) (cases_fact blocked.1)
+command_kept rules S event SetLkW wanted outcome grants others queue may tested (inr free) are told =
+    tested_kept rules S S event wanted [] others queue tested refl told free.0
+command_kept rules S event OSetLkW wanted outcome grants others queue may tested (inl blocked) are told =
+    absurd (Ok≢waits S wanted wanted.p wanted.n [] outcome grants event.notes others blocked.1 are told)
+command_kept rules S event OSetLkW wanted outcome grants others queue may tested (inr free) are told =
+    tested_kept rules S S event wanted [] others queue tested refl told free.0
+
+lock_kept : (rules : Rules) (S : State) (event : Event) (p n fd : ℕ) (cmd : LkCmd) (lock : Lock) (wanted : Wait) (outcome : Outcome)
+    (grants others : List Note) → rules.policy ≡ Queue → IsTrue (may_wait cmd) → AsksForBytes S p n fd cmd lock wanted
+    → LockComesTo rules S p n fd cmd lock outcome → event.notes ≡ outcome.told ++ grants → event.notes ≡ Answer p n replies.Ok ∷ others
+    → IsTurnKept rules S event wanted
+lock_kept rules S event p n fd cmd lock wanted outcome grants others queue may asks is are told =
+    let look = asks.look in
+    let span = asks.span in
+    let mode = asks.mode in
+    let described : DescribedComesTo rules S p n cmd lock look outcome =
+    subst
+    (λ o. MatchOption o (outcome ≡ refused S p n EBADF) (λ look. DescribedComesTo rules S p n cmd lock look outcome))
+    asks.of_open is in
+    ⊎_elim (λ no. absurd (Ok≢refused S p n _ outcome grants event.notes others no are told))
+    (λ good.
+    let ranged : RangeComesTo rules S p n cmd lock.kind look span outcome =
+    subst
+    (λ r. MatchResult r (λ span. RangeComesTo rules S p n cmd lock.kind look span outcome) (λ fault. outcome ≡ refused S p n (range_error fault)))
+    asks.of_range good in
+    let moded : ModeComesTo rules S p n cmd look span mode outcome =
+    subst
+    (λ o.
+    MatchOption o (outcome ≡ answered (with_byte_mode S look.file (lock_owner cmd p look) span None) p n replies.Ok)
+    (λ mode. ModeComesTo rules S p n cmd look span mode outcome))
+    asks.of_kind ranged in
+    ⊎_elim
+    (λ yes.
+    subst (IsTurnKept rules S event) (sym asks.is)
+    (command_kept rules S event cmd (wanted_lock cmd p n look span mode) outcome grants others queue may (refl, refl) yes are told))
+    (λ no. absurd (Ok≢refused S p n _ outcome grants event.notes others no are told))
+    (cases_bool (is_get cmd || permits look.access mode) moded))
+    (cases_bool (is_bad_argument cmd lock) described)
+
+-- a flock request that would wait, tested in this state
+test_ready : (rules : Rules) (settled : State) (event : Event) (wanted : Wait) (made : List Note) (outcome : Outcome) (grants others : List Note)
+    → FlockTestComesTo rules settled false wanted made outcome → event.notes ≡ outcome.told ++ grants
+    → event.notes ≡ Answer wanted.p wanted.n replies.Ok ∷ others
+    → ¬ IsBlocked rules.policy (locks_held settled) settled.waits wanted
+    × (outcome ≡ answered_then (with_lock settled wanted) wanted.p wanted.n replies.Ok made)
+test_ready rules settled event wanted made outcome grants others (inl blocked) are told =
+    absurd (Ok≢waits settled wanted wanted.p wanted.n made outcome grants event.notes others blocked.1 are told)
+test_ready rules settled event wanted made outcome grants others (inr free) are told = free
+
+same_mode : (m k : Mode) → IsTrue (is_same_mode m k) → m ≡ k
+same_mode Read Read e = refl
+same_mode Read Write e = cc
+same_mode Write Read e = cc
+same_mode Write Write e = refl
+
+known_bool : {Yes No : Type 0} (b : Bool) → MatchBool b Yes No → ((b ≡ true) × Yes) ⊎ No
+known_bool true h = inl (refl, h)
+known_bool false h = inr h
+
+-- a flock request that would wait, where it is tested behind these grants
+flock_test_kept : (rules : Rules) (S tested : State) (event : Event) (wanted : Wait) (made : List Note) (outcome : Outcome) (grants others : List Note)
+    → rules.policy ≡ Queue → IsTested rules S wanted made tested → Passes S.waits made tested.waits
+    → FlockTestComesTo rules tested false wanted made outcome → event.notes ≡ outcome.told ++ grants
+    → event.notes ≡ Answer wanted.p wanted.n replies.Ok ∷ others → IsTurnKept rules S event wanted
+flock_test_kept rules S tested event wanted made outcome grants others queue is_tested passes test are told =
+    let (ready, is) = test_ready rules tested event wanted made outcome grants others test are told in
+    tested_kept rules S tested event wanted made grants queue is_tested passes (are ∙ ap (λ (o : Outcome). o.told ++ grants) is) ready
+
+flock_mode_kept : (rules : Rules) (S : State) (event : Event) (p n : ℕ) (look : Look) (mode : Mode) (outcome : Outcome) (grants others : List Note)
+    → rules.policy ≡ Queue → ¬ HasFlock S (wanted_flock p n look mode) mode
+    → FlockModeComesTo rules S look false (wanted_flock p n look mode) (flock_mode_in S.flock_changes look.file look.desc) outcome
+    → event.notes ≡ outcome.told ++ grants → event.notes ≡ Answer p n replies.Ok ∷ others
+    → IsTurnKept rules S event (wanted_flock p n look mode)
+flock_mode_kept rules S event p n look mode outcome grants others queue sets is are told =
+    let wanted : Wait = wanted_flock p n look mode in
+    elim (known_mode (flock_mode_in S.flock_changes look.file look.desc)) [
+      | inl nothing ↦
+          let test : FlockTestComesTo rules S false wanted [] outcome =
+          subst (λ o. FlockModeComesTo rules S look false wanted o outcome) nothing is in
+          let tested : IsTested rules S wanted [] S = rw nothing (refl, refl) in
+          flock_test_kept rules S S event wanted [] outcome grants others queue tested refl test are told
+      | inr some ↦
+          let held : Mode = some.0 in
+          let has : HasFlock S wanted held = (refl, look.desc, refl, some.1) in
+          let converts = subst (λ o. FlockModeComesTo rules S look false wanted o outcome) some.1 is in
+          ⊎_elim
+          (λ already. absurd (sets (subst (HasFlock S wanted) (same_mode held mode already.0) has)))
+          (λ converted.
+          let tested : IsTested rules S wanted converted.0 converted.1 = rw some.1 converted.2 in
+          let passes = Settles-passes rules.policy (with_flock_mode S look.file look.desc None) converted.0 converted.1 queue converted.2 in
+          flock_test_kept rules S converted.1 event wanted converted.0 outcome grants others queue tested passes converted.3 are told)
+          (known_bool (is_same_mode held mode) converts)
+    ]
+  where
+    known_mode : (o : Option Mode) → (o ≡ None) ⊎ ((m : Mode) × (o ≡ Some m))
+    known_mode None = inl refl
+    known_mode (Some m) = inr (m, refl)
+
+flock_op_kept : (rules : Rules) (S : State) (event : Event) (p n : ℕ) (look : Look) (op : FlockOp) (mode : Mode) (outcome : Outcome)
+    (grants others : List Note) → rules.policy ≡ Queue → Some mode ≡ flock_wanted_mode op → ¬ HasFlock S (wanted_flock p n look mode) mode
+    → FlockOpComesTo rules S p n look op false outcome → event.notes ≡ outcome.told ++ grants → event.notes ≡ Answer p n replies.Ok ∷ others
+    → IsTurnKept rules S event (wanted_flock p n look mode)
+flock_op_kept rules S event p n look Un mode outcome grants others queue of_op sets is are told = cc
+flock_op_kept rules S event p n look Sh mode outcome grants others queue of_op sets is are told =
+    let e : Read ≡ mode = cc in
+    flock_mode_kept rules S event p n look mode outcome grants others queue sets
+    (subst (λ m. FlockModeComesTo rules S look false (wanted_flock p n look m) (flock_mode_in S.flock_changes look.file look.desc) outcome) e is) are told
+flock_op_kept rules S event p n look Ex mode outcome grants others queue of_op sets is are told =
+    let e : Write ≡ mode = cc in
+    flock_mode_kept rules S event p n look mode outcome grants others queue sets
+    (subst (λ m. FlockModeComesTo rules S look false (wanted_flock p n look m) (flock_mode_in S.flock_changes look.file look.desc) outcome) e is) are told
+
+flock_kept : (rules : Rules) (S : State) (event : Event) (p n fd : ℕ) (op : FlockOp) (nb : Bool) (wanted : Wait) (outcome : Outcome)
+    (grants others : List Note) → rules.policy ≡ Queue → IsFalse nb → AsksForWhole S p n fd op wanted → ¬ HasFlock S wanted wanted.mode
+    → FlockComesTo rules S p n fd op nb outcome → event.notes ≡ outcome.told ++ grants → event.notes ≡ Answer p n replies.Ok ∷ others
+    → IsTurnKept rules S event wanted
+flock_kept rules S event p n fd op nb wanted outcome grants others queue waits asks sets is are told =
+    let look = asks.look in
+    let waiting : FlockComesTo rules S p n fd op false outcome = subst (λ b. FlockComesTo rules S p n fd op b outcome) waits is in
+    let opened : FlockOpComesTo rules S p n look op false outcome =
+    subst (λ o. MatchOption o (outcome ≡ refused S p n EBADF) (λ look. FlockOpComesTo rules S p n look op false outcome)) asks.of_open waiting in
+    subst (IsTurnKept rules S event) (sym asks.is)
+    (flock_op_kept rules S event p n look op asks.mode outcome grants others queue (sym asks.of_op)
+    (subst (λ (x : Wait). ¬ HasFlock S x x.mode) asks.is sets) opened are told)
+
+-- whatever the request
+request_kept : (rules : Rules) (processes : ℕ) (S : State) (event : Event) (p n : ℕ) (request : Request) (wanted : Wait) (outcome : Outcome)
+    (grants others : List Note) → rules.policy ≡ Queue → WouldWaitAs S p n request wanted → ¬ HasFlock S wanted wanted.mode
+    → ComesTo rules processes S p n request outcome → event.notes ≡ outcome.told ++ grants → event.notes ≡ Answer p n replies.Ok ∷ others
+    → IsTurnKept rules S event wanted
+request_kept rules processes S event p n (Lk fd cmd lock) wanted outcome grants others queue asks sets is are told =
+    lock_kept rules S event p n fd cmd lock wanted outcome grants others queue asks.0 asks.1 is are told
+request_kept rules processes S event p n (Flock fd op nb) wanted outcome grants others queue asks sets is are told =
+    flock_kept rules S event p n fd op nb wanted outcome grants others queue asks.0 asks.1 sets is are told
+request_kept rules processes S event p n (OpenFile file access) wanted outcome grants others queue asks sets is are told = absurd asks
+request_kept rules processes S event p n (Dup fd) wanted outcome grants others queue asks sets is are told = absurd asks
+request_kept rules processes S event p n (DupTo fd to) wanted outcome grants others queue asks sets is are told = absurd asks
+request_kept rules processes S event p n (CloseFd fd) wanted outcome grants others queue asks sets is are told = absurd asks
+request_kept rules processes S event p n (Seek fd offset) wanted outcome grants others queue asks sets is are told = absurd asks
+request_kept rules processes S event p n (Resize fd size) wanted outcome grants others queue asks sets is are told = absurd asks
+request_kept rules processes S event p n (Fork child) wanted outcome grants others queue asks sets is are told = absurd asks
+request_kept rules processes S event p n Exit wanted outcome grants others queue asks sets is are told = absurd asks
+request_kept rules processes S event p n (Signal target) wanted outcome grants others queue asks sets is are told = absurd asks
+request_kept rules processes S event p n (Kill target) wanted outcome grants others queue asks sets is are told = absurd asks
+
+-- events one after another lead over a state between
+Leads-split : (rules : Rules) (processes : ℕ) (S : State) (before later : List Event) (T : State) → Leads rules processes S (before ++ later) T
+    → (U : State) × Leads rules processes S before U × Leads rules processes U later T
+Leads-split rules processes S [] later T leads = (S, refl, leads)
+Leads-split rules processes S (event ∷ before) later T leads =
+    let rest = Leads-split rules processes leads.0 before later T leads.2 in (rest.0, (leads.0, leads.1, rest.1), rest.2)
+
+-- the step of the event, from the state before it
+event_kept : StepHasOneOutcome → (rules : Rules) (processes : ℕ) (before : List Event) (event : Event) (after : List Event) (S T : State)
+    (wanted : Wait) → rules.policy ≡ Queue → IsRun rules processes (before ++ event ∷ after) T
+    → Leads rules processes opening_state before S → WouldWaitAs S event.p event.n event.request wanted → SetsAtOnce S event wanted
+    → IsTurnKept rules S event wanted
+event_kept one rules processes before event after S T wanted queue run leads asks sets =
+    let (U, led, rest) = Leads-split rules processes opening_state before (event ∷ after) T run.leads in
+    let same : U ≡ S = Leads-one one rules processes opening_state before U S led leads in
+    let step : IsStep rules processes S event rest.0 = subst (λ X. IsStep rules processes X event rest.0) same rest.1 in
+    request_kept rules processes S event event.p event.n event.request wanted step.outcome step.grants sets.others queue asks sets.sets
+    step.comes_to step.are_notes sets.told
+
+-- who was told to wait, and isn't over, stands in the list; where it leaves the list before the test it was granted
+none_told_passed : StepHasOneOutcome → (rules : Rules) (processes : ℕ) (before : List Event) (event : Event) (after : List Event) (S T : State)
+    (wanted : Wait) → rules.policy ≡ Queue → 1 ≤ processes → IsRun rules processes (before ++ event ∷ after) T
+    → Leads rules processes opening_state before S → (kept : IsTurnKept rules S event wanted)
+    → PassesNoneTold rules processes before kept.grants wanted
+none_told_passed one rules processes before event after S T wanted queue some run leads kept early first between v place waits conflict =
+    let front : List Event = early ++ first ∷ between in
+    let waited =
+    has_waited one rules processes early first between (event ∷ after) T v queue some
+    (subst (λ l. IsRun rules processes (l ++ event ∷ after) T) place run) waits in
+    let same : waited.reached.state ≡ S =
+    Leads-one one rules processes opening_state front waited.reached.state S waited.reached.led
+    (subst (λ l. Leads rules processes opening_state l S) place leads) in
+    ⊎_elim (λ over. over_told before kept.grants v (subst (λ l. IsOver l (notes_told l) v) (sym place) over))
+    (λ stands.
+    ⊎_elim (λ granted. inl (replies.Ok, Contains-append_right (notes_told before) kept.grants (Answer v.p v.n replies.Ok) granted))
+    (λ apart. absurd (apart conflict))
+    (StandsIn-each Anything Anything v (λ x. Contains kept.grants (Answer x.p x.n replies.Ok) ⊎ (¬ WaitsConflict x wanted)) S.waits
+    (Passes-each (λ x. ¬ WaitsConflict x wanted) S.waits kept.grants kept.tested.waits kept.passes kept.none)
+    (subst (λ (X : State). StandsIn Anything Anything v X.waits) same stands)))
+    waited.first
+  where
+    over_told : (events : List Event) (more : List Note) (v : Wait) → IsOver events (notes_told events) v → IsOver events (notes_told events ++ more) v
+    over_told events more v (inl told) = inl (told.0, Contains-append_left (notes_told events) more (Answer v.p v.n told.0) told.1)
+    over_told events more v (inr ended) = inr ended
+
+pub joins_the_queue : StepHasOneOutcome → RequestsJoinTheQueue
+joins_the_queue one rules processes before event after S T wanted queue some run leads asks sets =
+    let kept = event_kept one rules processes before event after S T wanted queue run leads asks sets in
+    let (same_p, same_n) = WouldWaitAs-of S event.p event.n event.request wanted asks in
+    record {
+      grants = kept.grants;
+      tested = kept.tested;
+      is_tested = kept.is_tested;
+      others = kept.others;
+      told = kept.told ∙ (λ i. Answer (same_p i) (same_n i) replies.Ok ∷ (kept.grants ++ kept.others));
+      none_listed = All-from_recursion (λ v. ¬ WaitsConflict v wanted) kept.tested.waits kept.none;
+      none_told = none_told_passed one rules processes before event after S T wanted queue some run leads kept;
+    }
+
+-- a note that a request waits is none of the grants behind it
+own_waits : (p n : ℕ) (S : State) (event : Event) (left : List Wait) → (h : Joins S event.p event.n event.request event.notes left)
+    → Contains event.notes (Waits p n) → (event.p ≡ p) × (event.n ≡ n)
+own_waits p n S event left h among =
+    let Own : Note → Type 0 = λ note. note ≡ Waits p n → (event.p ≡ p) × (event.n ≡ n) in
+    let none : (waits : List Wait) (grants : List Note) (rest : List Wait) → Passes waits grants rest → Each Own grants =
+    λ waits grants rest passes.
+    Each-map (λ note. note ≢ Waits p n) Own grants (λ note differs e. absurd (differs e)) (Passes-answers p n waits grants rest passes) in
+    let all : Each Own (Waits event.p event.n ∷ (h.inner ++ h.outer)) = (
+      (λ e. (cc, cc)),
+      Each-append Own h.inner h.outer (none S.waits h.inner h.middle h.first) (none (h.middle ++ h.wait ∷ []) h.outer left h.second),
+    ) in
+    All-contains Own event.notes (Waits p n) (All-from_recursion Own event.notes (subst (Each Own) (sym h.are) all)) among refl
+
+pub notes_of_waits : NotesAreOfWaits
+notes_of_waits rules processes before event after T p n queue run among =
+    let (S, led, rest) = Leads-split rules processes opening_state before (event ∷ after) T run.leads in
+    let moves = Step-moves rules processes S event.p event.n event.request event.notes rest.0 queue rest.1 in
+    let h = Waits-join S event.p event.n event.request event.notes rest.0.waits p n moves among in
+    let own = own_waits p n S event rest.0.waits h among in
+    let told : Contains event.notes (Waits event.p event.n) =
+    subst (λ l. Contains l (Waits event.p event.n)) (sym h.are)
+    (Contains-here (Waits event.p event.n) (Waits event.p event.n) (h.inner ++ h.outer) refl) in
+    (own.0, own.1, h.wait, record { state = S; leads = led; asks = h.asks; told = told })

@@ -1,0 +1,403 @@
+-- What each event does to the list of waits, under the queue policy.
+use Rattle.std.proofs.Common.{ℕ, ◌≡◌, ◌≢◌, ◌⊎◌, inl, inr, refl, sym, ◌∙◌, ap, subst, append-nil, append_assoc, eq-eqb, ne_eqb, Bool, true, false, List, [], ◌∷◌, ◌++◌, ⊎_elim, Any, Option, Some, None, Result, Ok, Err, MatchBool, MatchOption, MatchResult}
+use Rattle.std.specs.Prelude.{IsTrue, IsFalse, ◌||◌}
+use Rattle.std.proofs.lemmas.Bool.{cases_eq}
+use Rattle.range_core.specs.declared.Mode.{Mode}
+use Rattle.range_core.specs.declared.Mode.TheVariants.{Read, Write}
+use Rattle.range_core.specs.declared.Span.{Span}
+use Rattle.range_core.specs.Resolving.{resolution}
+use Rattle.lock_book.specs.Changes.{flock_mode_in}
+use Rattle.fd_table.specs.declared.FdFault.{FdFault}
+use Rattle.fd_table.specs.declared.FdFault.TheVariants as faults
+use Rattle.fd_table.specs.declared.tables.Look.{Look}
+use Rattle.fd_table.specs.Descriptors.{look_at}
+use Rattle.wait_core.specs.declared.Policy.{Policy}
+use Rattle.wait_core.specs.declared.Policy.TheVariants.{Queue}
+use Rattle.wait_core.specs.declared.Wait.{Wait}
+use Rattle.wait_core.specs.Locks.{Locks}
+use Rattle.wait_core.specs.Blocking.{WaitsConflict, IsBlocked}
+use Rattle.wait_core.specs.WaitsView.{wait_of, without_wait_of}
+use Rattle.lock_manager.specs.declared.request.Rules.{Rules}
+use Rattle.lock_manager.specs.declared.request.Lock.{Lock}
+use Rattle.lock_manager.specs.declared.request.LkCmd.{LkCmd}
+use Rattle.lock_manager.specs.declared.request.LkCmd.TheVariants.{GetLk, SetLk, SetLkW, OGetLk, OSetLk, OSetLkW}
+use Rattle.lock_manager.specs.declared.request.FlockOp.{FlockOp}
+use Rattle.lock_manager.specs.declared.request.FlockOp.TheVariants.{Sh, Ex, Un}
+use Rattle.lock_manager.specs.declared.request.Errno.{Errno}
+use Rattle.lock_manager.specs.declared.request.Errno.TheVariants.{EINTR}
+use Rattle.lock_manager.specs.declared.request.Request.{Request}
+use Rattle.lock_manager.specs.declared.request.Request.TheVariants.{OpenFile, Dup, DupTo, CloseFd, Seek, Resize, Lk, Flock, Fork, Exit, Signal, Kill}
+use Rattle.lock_manager.specs.declared.request.Note.{Note}
+use Rattle.lock_manager.specs.declared.request.Note.TheVariants.{Answer, Waits}
+use Rattle.lock_manager.specs.declared.request.Reply.{Reply}
+use Rattle.lock_manager.specs.declared.request.Reply.TheVariants as replies
+use Rattle.lock_manager.specs.declared.request.ProcState.{ProcState}
+use Rattle.lock_manager.specs.declared.request.ProcState.TheVariants.{Unborn, Live, Waiting, Ended}
+use Rattle.lock_manager.specs.State.{State, with_lock, with_byte_mode, with_flock_mode, with_process}
+use Rattle.lock_manager.specs.Settling.{Settles, granted}
+use Rattle.lock_manager.specs.Outcomes.{Outcome, answered, answered_then, refused, waits_then, range_error, IsRefusal}
+use Rattle.lock_manager.specs.DescriptorCalls.{with_released}
+use Rattle.lock_manager.specs.LockWords.{is_get, is_bad_argument, may_wait, wanted_mode, permits, held_reply, lock_owner, wanted_lock}
+use Rattle.lock_manager.specs.LockCommands.{LockComesTo, DescribedComesTo, RangeComesTo, ModeComesTo, CommandComesTo}
+use Rattle.lock_manager.specs.FlockCalls.{FlockComesTo, FlockOpComesTo, FlockModeComesTo, FlockTestComesTo, is_same_mode, wanted_flock}
+use Rattle.lock_manager.specs.ProcessCalls.{EndComesTo, SignalComesTo, KillOtherComesTo, KillComesTo}
+use Rattle.lock_manager.specs.Step.{ComesTo, Step}
+use Rattle.session_core.specs.QueuePolicy.{WouldWaitAs}
+use Rattle.session_core.proofs.tallies.OutcomeLaws.{cases_fact, cases_bool}
+use Rattle.session_core.proofs.tallies.Moves.{SameProcesses-lock}
+use Rattle.session_core.proofs.queue.WaitPlaces.{Passes, Passes-then}
+
+-- the caller is answered, and grants follow
+pub record Answers (waits : List Wait) (p n : ℕ) (notes : List Note) (left : List Wait) : Type 0 where
+  pub reply : Reply
+  pub grants : List Note
+  pub are : notes ≡ Answer p n reply ∷ grants
+  pub passes : Passes waits grants left
+
+-- the caller waits: it joins behind what the grants of its conversion left
+pub record Joins (S : State) (p n : ℕ) (request : Request) (notes : List Note) (left : List Wait) : Type 0 where
+  pub wait : Wait
+  pub asks : WouldWaitAs S p n request wait
+  pub inner : List Note
+  pub middle : List Wait
+  pub outer : List Note
+  pub are : notes ≡ Waits p n ∷ (inner ++ outer)
+  pub first : Passes S.waits inner middle
+  pub second : Passes (middle ++ wait ∷ []) outer left
+
+-- a wait is interrupted
+pub record Interrupts (waits : List Wait) (p n : ℕ) (notes : List Note) (left : List Wait) : Type 0 where
+  pub target : ℕ
+  pub wait : Wait
+  pub found : wait_of waits target ≡ Some wait
+  pub grants : List Note
+  pub are : notes ≡ Answer p n replies.Ok ∷ Answer target wait.n (replies.Err EINTR) ∷ grants
+  pub passes : Passes (without_wait_of waits target) grants left
+
+-- an end is told to none but the caller of a kill
+abbrev pub IsToldOf : ℕ → ℕ → Request → ℕ → List Note → Type 0
+IsToldOf p n request target told =
+    ((p ≡ target) × ((request ≡ Exit) ⊎ (request ≡ Kill target)) × (told ≡ []))
+    ⊎ ((p ≢ target) × (request ≡ Kill target) × (told ≡ Answer p n replies.Ok ∷ []))
+
+-- a process ends
+pub record Ends (waits : List Wait) (p n : ℕ) (request : Request) (notes : List Note) (left : List Wait) : Type 0 where
+  pub target : ℕ
+  pub told : List Note
+  pub how : IsToldOf p n request target told
+  pub grants : List Note
+  pub are : notes ≡ told ++ grants
+  pub passes : Passes (without_wait_of waits target) grants left
+
+-- the list of waits moves in one of these ways
+pub data WaitsMove (S : State) (p n : ℕ) (request : Request) (notes : List Note) (left : List Wait) : Type 0 where
+  answers : Answers S.waits p n notes left → WaitsMove S p n request notes left
+  joins : Joins S p n request notes left → WaitsMove S p n request notes left
+  interrupts : Interrupts S.waits p n notes left → WaitsMove S p n request notes left
+  ends : Ends S.waits p n request notes left → WaitsMove S p n request notes left
+
+-- and then by further grants
+WaitsMove-then : (S : State) (p n : ℕ) (request : Request) (told : List Note) (middle : List Wait) (grants : List Note) (left : List Wait)
+    → WaitsMove S p n request told middle → Passes middle grants left → WaitsMove S p n request (told ++ grants) left
+WaitsMove-then S p n request told middle grants left (answers h) k =
+    answers (record { reply = h.reply; grants = h.grants ++ grants; are = ap (λ l. l ++ grants) h.are; passes = Passes-then S.waits h.grants middle grants left h.passes k })
+WaitsMove-then S p n request told middle grants left (joins h) k =
+    joins
+    (record {
+      wait = h.wait;
+      asks = h.asks;
+      inner = h.inner;
+      middle = h.middle;
+      outer = h.outer ++ grants;
+      are = ap (λ l. l ++ grants) h.are ∙ ap (λ l. Waits p n ∷ l) (append_assoc h.inner h.outer grants);
+      first = h.first;
+      second = Passes-then (h.middle ++ h.wait ∷ []) h.outer middle grants left h.second k;
+    })
+WaitsMove-then S p n request told middle grants left (interrupts h) k =
+    interrupts
+    (record {
+      target = h.target;
+      wait = h.wait;
+      found = h.found;
+      grants = h.grants ++ grants;
+      are = ap (λ l. l ++ grants) h.are;
+      passes = Passes-then (without_wait_of S.waits h.target) h.grants middle grants left h.passes k;
+    })
+WaitsMove-then S p n request told middle grants left (ends h) k =
+    ends
+    (record {
+      target = h.target;
+      told = h.told;
+      how = h.how;
+      grants = h.grants ++ grants;
+      are = ap (λ l. l ++ grants) h.are ∙ append_assoc h.told h.grants grants;
+      passes = Passes-then (without_wait_of S.waits h.target) h.grants middle grants left h.passes k;
+    })
+
+-- what nothing blocks under the queue policy conflicts with no earlier wait
+pub ready_apart : (policy : Policy) (locks : Locks) (earlier : List Wait) (wait : Wait) → policy ≡ Queue → ¬ IsBlocked policy locks earlier wait
+    → ¬ Any (λ v. WaitsConflict v wait) earlier
+ready_apart policy locks earlier wait is ready among =
+    ready (subst (λ policy. IsBlocked policy locks earlier wait) (sym is) (inr among))
+
+-- settling grants waits that conflict with none before them
+pub Settles-passes : (policy : Policy) (S : State) (grants : List Note) (T : State) → policy ≡ Queue → Settles policy S grants T
+    → Passes S.waits grants T.waits
+Settles-passes policy S [] T is h = ap (λ (X : State). X.waits) h.1
+Settles-passes policy S (grant ∷ grants) T is h = (
+  h.0,
+  h.1,
+  h.2,
+  h.3.place,
+  ready_apart policy _ h.0 h.1 is h.3.ready,
+  h.4,
+  Settles-passes policy (granted S h.0 h.1 h.2) grants T is h.5,
+)
+
+-- what a request comes to moves the list so
+abbrev Comes : State → ℕ → ℕ → Request → Outcome → Type 0
+Comes S p n request outcome = WaitsMove S p n request outcome.told outcome.after.waits
+
+-- the caller is answered, behind grants of a conversion or none
+comes_answer_then : (S T : State) (p n : ℕ) (request : Request) (reply : Reply) (grants : List Note) (outcome : Outcome)
+    → Passes S.waits grants T.waits → outcome ≡ answered_then T p n reply grants → Comes S p n request outcome
+comes_answer_then S T p n request reply grants outcome passes is =
+    subst (Comes S p n request) (sym is) (answers (record { reply = reply; grants = grants; are = refl; passes = passes }))
+
+comes_answer : (S T : State) (p n : ℕ) (request : Request) (reply : Reply) (outcome : Outcome) → T.waits ≡ S.waits
+    → outcome ≡ answered T p n reply → Comes S p n request outcome
+comes_answer S T p n request reply outcome same is = comes_answer_then S T p n request reply [] outcome same is
+
+comes_refused : (S : State) (p n : ℕ) (request : Request) (error : Errno) (outcome : Outcome) → outcome ≡ refused S p n error
+    → Comes S p n request outcome
+comes_refused S p n request error outcome is = comes_answer S S p n request (replies.Err error) outcome refl is
+
+comes_refusal : (S : State) (p n : ℕ) (request : Request) (fault : FdFault) (outcome : Outcome) → IsRefusal S p n fault outcome
+    → Comes S p n request outcome
+comes_refusal S p n request faults.BadFd outcome is = comes_refused S p n request _ outcome is
+comes_refusal S p n request faults.TooMany outcome is = comes_refused S p n request _ outcome is
+comes_refusal S p n request faults.Invalid outcome is = comes_refused S p n request _ outcome is
+comes_refusal S p n request faults.Taken outcome is = comes_refused S p n request _ outcome is
+comes_refusal S p n request (faults.Memory memory) outcome is = absurd is
+
+-- a call that moves no wait
+comes_call : {X : Type 0} (S : State) (p n : ℕ) (request : Request) (T : X → State) (reply : X → Reply) (result : Result X FdFault)
+    (outcome : Outcome) → ((x : X) → (T x).waits ≡ S.waits)
+    → MatchResult result (λ x. outcome ≡ answered (T x) p n (reply x)) (λ fault. IsRefusal S p n fault outcome)
+    → Comes S p n request outcome
+comes_call S p n request T reply (Ok x) outcome same is = comes_answer S (T x) p n request (reply x) outcome (same x) is
+comes_call S p n request T reply (Err fault) outcome same is = comes_refusal S p n request fault outcome is
+
+-- the caller waits
+comes_wait : (S settled : State) (request : Request) (wanted : Wait) (grants : List Note) (outcome : Outcome)
+    → WouldWaitAs S wanted.p wanted.n request wanted → Passes S.waits grants settled.waits → outcome ≡ waits_then settled wanted grants
+    → Comes S wanted.p wanted.n request outcome
+comes_wait S settled request wanted grants outcome asks passes is =
+    subst (Comes S wanted.p wanted.n request) (sym is)
+    (joins
+    (record {
+      wait = wanted;
+      asks = asks;
+      inner = grants;
+      middle = settled.waits;
+      outer = [];
+      are = ap (λ l. Waits wanted.p wanted.n ∷ l) (sym (append-nil grants));
+      first = passes;
+      second = refl;
+    }))
+
+-- the lock is set, which moves no wait
+locked_waits : (S : State) (wanted : Wait) → (with_lock S wanted).waits ≡ S.waits
+locked_waits S wanted = (SameProcesses-lock S wanted).waits
+
+-- one of two facts, where it is known which option or result is matched
+known_option : {X : Type 0} {None' : Type 0} (Some' : X → Type 0) (o : Option X) → MatchOption o None' Some'
+    → None' ⊎ ((x : X) × (o ≡ Some x) × Some' x)
+known_option Some' None h = inl h
+known_option Some' (Some x) h = inr (x, refl, h)
+
+known_result : {X E : Type 0} (Ok' : X → Type 0) (Err' : E → Type 0) (r : Result X E) → MatchResult r Ok' Err'
+    → ((x : X) × (r ≡ Ok x) × Ok' x) ⊎ ((e : E) × Err' e)
+known_result Ok' Err' (Ok x) h = inl (x, refl, h)
+known_result Ok' Err' (Err e) h = inr (e, h)
+
+-- a lock command on a range, with a mode
+comes_command : (rules : Rules) (S : State) (request : Request) (cmd : LkCmd) (wanted : Wait) (outcome : Outcome)
+    → (IsTrue (may_wait cmd) → WouldWaitAs S wanted.p wanted.n request wanted) → CommandComesTo rules S cmd wanted outcome
+    → Comes S wanted.p wanted.n request outcome
+comes_command rules S request GetLk wanted outcome asks is =
+    ⊎_elim (λ held. comes_answer S S wanted.p wanted.n request (held_reply held.0) outcome refl held.2)
+    (λ free. comes_answer S S wanted.p wanted.n request replies.Free outcome refl free) (cases_fact is)
+comes_command rules S request OGetLk wanted outcome asks is =
+    ⊎_elim (λ held. comes_answer S S wanted.p wanted.n request (held_reply held.0) outcome refl held.2)
+    (λ free. comes_answer S S wanted.p wanted.n request replies.Free outcome refl free) (cases_fact is)
+comes_command rules S request SetLk wanted outcome asks is =
+    ⊎_elim (λ no. comes_refused S wanted.p wanted.n request _ outcome no)
+    (λ yes. comes_answer S (with_lock S wanted) wanted.p wanted.n request _ outcome (locked_waits S wanted) yes) (cases_fact is)
+comes_command rules S request OSetLk wanted outcome asks is =
+    ⊎_elim (λ no. comes_refused S wanted.p wanted.n request _ outcome no)
+    (λ yes. comes_answer S (with_lock S wanted) wanted.p wanted.n request _ outcome (locked_waits S wanted) yes) (cases_fact is)
+comes_command rules S request SetLkW wanted outcome asks is =
+    ⊎_elim
+    (λ blocked.
+    ⊎_elim (λ no. comes_refused S wanted.p wanted.n request _ outcome no)
+    (λ waits. comes_wait S S request wanted [] outcome (asks refl) refl waits) (cases_fact blocked))
+    (λ yes. comes_answer S (with_lock S wanted) wanted.p wanted.n request _ outcome (locked_waits S wanted) yes) (cases_fact is)
+comes_command rules S request OSetLkW wanted outcome asks is =
+    ⊎_elim (λ waits. comes_wait S S request wanted [] outcome (asks refl) refl waits)
+    (λ yes. comes_answer S (with_lock S wanted) wanted.p wanted.n request _ outcome (locked_waits S wanted) yes) (cases_fact is)
+
+comes_mode : (rules : Rules) (S : State) (p n fd : ℕ) (cmd : LkCmd) (lock : Lock) (look : Look) (span : Span) (mode : Mode) (outcome : Outcome)
+    → look_at S.descriptors p fd ≡ Some look → resolution lock.whence lock.start lock.len look.offset look.size ≡ Ok span
+    → wanted_mode lock.kind ≡ Some mode → ModeComesTo rules S p n cmd look span mode outcome → Comes S p n (Lk fd cmd lock) outcome
+comes_mode rules S p n fd cmd lock look span mode outcome opened ranged moded is =
+    ⊎_elim
+    (λ yes.
+    comes_command rules S (Lk fd cmd lock) cmd (wanted_lock cmd p n look span mode) outcome
+    (λ may. (may, record { look = look; of_open = opened; span = span; of_range = ranged; mode = mode; of_kind = moded; is = refl })) yes)
+    (λ no. comes_refused S p n (Lk fd cmd lock) _ outcome no) (cases_bool (is_get cmd || permits look.access mode) is)
+
+comes_range : (rules : Rules) (S : State) (p n fd : ℕ) (cmd : LkCmd) (lock : Lock) (look : Look) (span : Span) (outcome : Outcome)
+    → look_at S.descriptors p fd ≡ Some look → resolution lock.whence lock.start lock.len look.offset look.size ≡ Ok span
+    → RangeComesTo rules S p n cmd lock.kind look span outcome → Comes S p n (Lk fd cmd lock) outcome
+comes_range rules S p n fd cmd lock look span outcome opened ranged is =
+    ⊎_elim
+    (λ unlocked.
+    comes_answer S (with_byte_mode S look.file (lock_owner cmd p look) span None) p n (Lk fd cmd lock) replies.Ok outcome refl unlocked)
+    (λ moded. comes_mode rules S p n fd cmd lock look span moded.0 outcome opened ranged moded.1 moded.2)
+    (known_option (λ mode. ModeComesTo rules S p n cmd look span mode outcome) (wanted_mode lock.kind) is)
+
+comes_described : (rules : Rules) (S : State) (p n fd : ℕ) (cmd : LkCmd) (lock : Lock) (look : Look) (outcome : Outcome)
+    → look_at S.descriptors p fd ≡ Some look → DescribedComesTo rules S p n cmd lock look outcome → Comes S p n (Lk fd cmd lock) outcome
+comes_described rules S p n fd cmd lock look outcome opened is =
+    ⊎_elim (λ no. comes_refused S p n (Lk fd cmd lock) _ outcome no)
+    (λ good.
+    ⊎_elim (λ ranged. comes_range rules S p n fd cmd lock look ranged.0 outcome opened ranged.1 ranged.2)
+    (λ no. comes_refused S p n (Lk fd cmd lock) (range_error no.0) outcome no.1)
+    (known_result (λ span. RangeComesTo rules S p n cmd lock.kind look span outcome) (λ fault. outcome ≡ refused S p n (range_error fault))
+    (resolution lock.whence lock.start lock.len look.offset look.size) good))
+    (cases_bool (is_bad_argument cmd lock) is)
+
+comes_lock : (rules : Rules) (S : State) (p n fd : ℕ) (cmd : LkCmd) (lock : Lock) (outcome : Outcome)
+    → LockComesTo rules S p n fd cmd lock outcome → Comes S p n (Lk fd cmd lock) outcome
+comes_lock rules S p n fd cmd lock outcome is =
+    ⊎_elim (λ no. comes_refused S p n (Lk fd cmd lock) _ outcome no)
+    (λ opened. comes_described rules S p n fd cmd lock opened.0 outcome opened.1 opened.2)
+    (known_option (λ look. DescribedComesTo rules S p n cmd lock look outcome) (look_at S.descriptors p fd) is)
+
+-- the test of a flock request, behind the grants of its conversion or none
+comes_flock_test : (rules : Rules) (S settled : State) (request : Request) (nb : Bool) (wanted : Wait) (grants : List Note) (outcome : Outcome)
+    → (IsFalse nb → WouldWaitAs S wanted.p wanted.n request wanted) → Passes S.waits grants settled.waits
+    → FlockTestComesTo rules settled nb wanted grants outcome → Comes S wanted.p wanted.n request outcome
+comes_flock_test rules S settled request true wanted grants outcome asks passes is =
+    ⊎_elim (λ no. comes_answer_then S settled wanted.p wanted.n request _ grants outcome passes no)
+    (λ yes.
+    comes_answer_then S (with_lock settled wanted) wanted.p wanted.n request _ grants outcome
+    (subst (λ left. Passes S.waits grants left) (sym (locked_waits settled wanted)) passes) yes) (cases_fact is)
+comes_flock_test rules S settled request false wanted grants outcome asks passes is =
+    ⊎_elim (λ waits. comes_wait S settled request wanted grants outcome (asks refl) passes waits)
+    (λ yes.
+    comes_answer_then S (with_lock settled wanted) wanted.p wanted.n request _ grants outcome
+    (subst (λ left. Passes S.waits grants left) (sym (locked_waits settled wanted)) passes) yes) (cases_fact is)
+
+comes_flock_mode : (rules : Rules) (S : State) (request : Request) (look : Look) (nb : Bool) (wanted : Wait) (mode : Option Mode) (outcome : Outcome)
+    → rules.policy ≡ Queue → (IsFalse nb → WouldWaitAs S wanted.p wanted.n request wanted)
+    → FlockModeComesTo rules S look nb wanted mode outcome → Comes S wanted.p wanted.n request outcome
+comes_flock_mode rules S request look nb wanted None outcome queue asks is =
+    comes_flock_test rules S S request nb wanted [] outcome asks refl is
+comes_flock_mode rules S request look nb wanted (Some held) outcome queue asks is =
+    ⊎_elim (λ already. comes_answer S S wanted.p wanted.n request _ outcome refl already)
+    (λ converted.
+    comes_flock_test rules S converted.1 request nb wanted converted.0 outcome asks
+    (Settles-passes rules.policy (with_flock_mode S look.file look.desc None) converted.0 converted.1 queue converted.2) converted.3)
+    (cases_bool (is_same_mode held wanted.mode) is)
+
+comes_flock_op : (rules : Rules) (S : State) (p n fd : ℕ) (look : Look) (op : FlockOp) (nb : Bool) (outcome : Outcome) → rules.policy ≡ Queue
+    → look_at S.descriptors p fd ≡ Some look → FlockOpComesTo rules S p n look op nb outcome → Comes S p n (Flock fd op nb) outcome
+comes_flock_op rules S p n fd look Un nb outcome queue opened is =
+    comes_answer S (with_flock_mode S look.file look.desc None) p n (Flock fd Un nb) replies.Ok outcome refl is
+comes_flock_op rules S p n fd look Sh nb outcome queue opened is =
+    comes_flock_mode rules S (Flock fd Sh nb) look nb (wanted_flock p n look Read) (flock_mode_in S.flock_changes look.file look.desc) outcome
+    queue (λ waits. (waits, record { look = look; of_open = opened; mode = Read; of_op = refl; is = refl })) is
+comes_flock_op rules S p n fd look Ex nb outcome queue opened is =
+    comes_flock_mode rules S (Flock fd Ex nb) look nb (wanted_flock p n look Write) (flock_mode_in S.flock_changes look.file look.desc) outcome
+    queue (λ waits. (waits, record { look = look; of_open = opened; mode = Write; of_op = refl; is = refl })) is
+
+comes_flock : (rules : Rules) (S : State) (p n fd : ℕ) (op : FlockOp) (nb : Bool) (outcome : Outcome) → rules.policy ≡ Queue
+    → FlockComesTo rules S p n fd op nb outcome → Comes S p n (Flock fd op nb) outcome
+comes_flock rules S p n fd op nb outcome queue is =
+    ⊎_elim (λ no. comes_refused S p n (Flock fd op nb) _ outcome no)
+    (λ opened. comes_flock_op rules S p n fd opened.0 op nb outcome queue opened.1 opened.2)
+    (known_option (λ look. FlockOpComesTo rules S p n look op nb outcome) (look_at S.descriptors p fd) is)
+
+-- a process ends
+comes_end : (S : State) (p n target : ℕ) (request : Request) (told : List Note) (outcome : Outcome) → IsToldOf p n request target told
+    → EndComesTo S target told outcome → Comes S p n request outcome
+comes_end S p n target request told outcome how is =
+    subst (Comes S p n request) (sym is.3)
+    (ends (record { target = target; told = told; how = how; grants = []; are = sym (append-nil told); passes = refl }))
+
+comes_signal : (S : State) (p n target : ℕ) (state : ProcState) (outcome : Outcome) → SignalComesTo S p n target state outcome
+    → Comes S p n (Signal target) outcome
+comes_signal S p n target Unborn outcome is = comes_refused S p n (Signal target) _ outcome is
+comes_signal S p n target Ended outcome is = comes_refused S p n (Signal target) _ outcome is
+comes_signal S p n target Live outcome is = comes_answer S S p n (Signal target) _ outcome refl is
+comes_signal S p n target Waiting outcome is =
+    subst (Comes S p n (Signal target)) (sym is.2)
+    (interrupts (record { target = target; wait = is.0; found = is.1; grants = []; are = refl; passes = refl }))
+
+comes_kill_other : (S : State) (p n target : ℕ) (state : ProcState) (outcome : Outcome) → p ≢ target
+    → KillOtherComesTo S p n target state outcome → Comes S p n (Kill target) outcome
+comes_kill_other S p n target Unborn outcome other is = comes_refused S p n (Kill target) _ outcome is
+comes_kill_other S p n target Ended outcome other is = comes_refused S p n (Kill target) _ outcome is
+comes_kill_other S p n target Live outcome other is =
+    comes_end S p n target (Kill target) (Answer p n replies.Ok ∷ []) outcome (inr (other, refl, refl)) is
+comes_kill_other S p n target Waiting outcome other is =
+    comes_end S p n target (Kill target) (Answer p n replies.Ok ∷ []) outcome (inr (other, refl, refl)) is
+
+comes_kill : (S : State) (p n target : ℕ) (outcome : Outcome) → KillComesTo S p n target outcome → Comes S p n (Kill target) outcome
+comes_kill S p n target outcome is =
+    let Own : Type 0 = EndComesTo S p [] outcome in
+    let Other : Type 0 = KillOtherComesTo S p n target (S.states target) outcome in
+    ⊎_elim
+    (λ same.
+    let own : Own = subst (λ b. MatchBool b Own Other) (eq-eqb target p same) is in
+    comes_end S p n target (Kill target) [] outcome (inl (sym same, inr refl, refl)) (subst (λ q. EndComesTo S q [] outcome) (sym same) own))
+    (λ differs.
+    let other : Other = subst (λ b. MatchBool b Own Other) (ne_eqb target p differs) is in
+    comes_kill_other S p n target (S.states target) outcome (λ e. differs (sym e)) other)
+    (cases_eq target p)
+
+-- whatever the request: one case for each that is served
+comes_request : (rules : Rules) (processes : ℕ) (S : State) (p n : ℕ) (request : Request) (outcome : Outcome) → rules.policy ≡ Queue
+    → ComesTo rules processes S p n request outcome → Comes S p n request outcome
+comes_request rules processes S p n (OpenFile file access) outcome queue is =
+    comes_call S p n (OpenFile file access) (λ fd. record S { descriptors = is.1 }) (λ fd. replies.Fd fd) is.0 outcome (λ fd. refl) is.3
+comes_request rules processes S p n (Dup fd) outcome queue is =
+    comes_call S p n (Dup fd) (λ free. record S { descriptors = is.1 }) (λ free. replies.Fd free) is.0 outcome (λ free. refl) is.3
+comes_request rules processes S p n (DupTo fd to) outcome queue is =
+    comes_call S p n (DupTo fd to) (λ answer. with_released S is.1 p answer.1) (λ answer. replies.Fd answer.0) is.0 outcome (λ answer. refl) is.3
+comes_request rules processes S p n (CloseFd fd) outcome queue is =
+    comes_call S p n (CloseFd fd) (λ released. with_released S is.1 p released) (λ released. replies.Ok) is.0 outcome (λ released. refl) is.3
+comes_request rules processes S p n (Seek fd offset) outcome queue is =
+    comes_call S p n (Seek fd offset) (λ done. record S { descriptors = is.1 }) (λ done. replies.Ok) is.0 outcome (λ done. refl) is.3
+comes_request rules processes S p n (Resize fd size) outcome queue is =
+    comes_call S p n (Resize fd size) (λ done. record S { descriptors = is.1 }) (λ done. replies.Ok) is.0 outcome (λ done. refl) is.3
+comes_request rules processes S p n (Lk fd cmd lock) outcome queue is = comes_lock rules S p n fd cmd lock outcome is
+comes_request rules processes S p n (Flock fd op nb) outcome queue is = comes_flock rules S p n fd op nb outcome queue is
+comes_request rules processes S p n (Fork child) outcome queue is =
+    comes_call S p n (Fork child) (λ done. with_process (record S { descriptors = is.1 }) child Live) (λ done. replies.Ok) is.0 outcome
+    (λ done. refl) is.3
+comes_request rules processes S p n Exit outcome queue is =
+    comes_end S p n p Exit [] outcome (inl (refl, inl refl, refl)) is
+comes_request rules processes S p n (Signal target) outcome queue is = comes_signal S p n target (S.states target) outcome is
+comes_request rules processes S p n (Kill target) outcome queue is = comes_kill S p n target outcome is
+
+-- each step moves the list so
+pub Step-moves : (rules : Rules) (processes : ℕ) (S : State) (p n : ℕ) (request : Request) (notes : List Note) (T : State)
+    → rules.policy ≡ Queue → Step rules processes S p n request notes T → WaitsMove S p n request notes T.waits
+Step-moves rules processes S p n request notes T queue step =
+    subst (λ l. WaitsMove S p n request l T.waits) (sym step.are_notes)
+    (WaitsMove-then S p n request step.outcome.told step.outcome.after.waits step.grants T.waits
+    (comes_request rules processes S p n request step.outcome queue step.comes_to)
+    (Settles-passes rules.policy step.outcome.after step.grants T queue step.settles))

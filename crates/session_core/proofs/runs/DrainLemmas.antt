@@ -1,0 +1,392 @@
+-- Draining: one more event taken, how much mail is left, and one more arrival.
+use Rattle.std.proofs.Common.{ℕ, zero, suc, ◌≡◌, ◌≢◌, ◌+◌, ◌-◌, ◌<◌, ◌≤◌, refl, sym, ◌∙◌, ap, subst, arith, eq-eqb, ne_eqb, length, length-append, List, [], ◌∷◌, ◌++◌, ⊎_elim, true, false, Option, Some, None, Result, Err, is_some, slice_get, get_or, take, drop, map, filter}
+use Rattle.std.specs.Prelude.{◌==◌, if◌then◌else◌, IsNone}
+use Rattle.std.proofs.lemmas.Bool.{cases_eq}
+use Rattle.std.proofs.lemmas.List.{append-nil, append_assoc, map-append, take-append-drop, drop_more, take_more}
+use Rattle.std.proofs.lemmas.List.Elements.{filter-append}
+use Rattle.std.proofs.lemmas.Option.{slice_get_within}
+use Rattle.lock_manager.specs.declared.request.Rules.{Rules}
+use Rattle.lock_manager.specs.declared.request.Request.{Request}
+use Rattle.lock_manager.specs.declared.request.ProcState.{ProcState}
+use Rattle.lock_manager.specs.declared.request.ProcState.TheVariants.{Live}
+use Rattle.lock_manager.specs.State.{State, opening_state}
+use Rattle.lock_manager.specs.ManagerView.{StandsFor, rules_of, processes_of, state_at}
+use Rattle.session_core.specs.declared.mailbox.Mailbox.{Mailbox}
+use Rattle.session_core.specs.declared.session.Session.{Session}
+use Rattle.session_core.specs.Event.{Event}
+use Rattle.session_core.specs.Runs.{IsStep, events_of}
+use Rattle.session_core.specs.Mail.{requests_sent}
+use Rattle.session_core.specs.Mailboxes.{mail_waiting, mail_sent, waiting_in}
+use Rattle.session_core.specs.Draining.{next_untaken, IsNext, IsDrained, TakesMail, DrainsMail, DrainsFrom, IsDrain}
+use Rattle.session_core.specs.SessionView.{SameSession, Arrives, IsEmptySession, TakesOne, TakesNext, manager_of, events_in, sent_of}
+use Rattle.session_core.specs.Deliveries.{GoesOn, TakesSome, Drains, Delivers, IsAtRest, IsAtRestBut}
+use Rattle.session_core.proofs.runs.JournalLemmas.{length-events_of-push}
+use Rattle.session_core.proofs.MailLemmas.{next_untaken-waits}
+
+-- what is next doesn't depend on how the states, the mail and the events are written
+pub IsNext-along : (states states' : ℕ → ProcState) (sent sent' : ℕ → List Request) (events events' : List Event) (event : Event)
+    → ((p : ℕ) → states p ≡ states' p) → ((p : ℕ) → sent p ≡ sent' p) → events ≡ events' → IsNext states sent events event
+    → IsNext states' sent' events' event
+IsNext-along states states' sent sent' events events' event same_states same_sent same_events h =
+    let first : states ≡ states' = λ i p. same_states p i in
+    let second : sent ≡ sent' = λ i p. same_sent p i in
+    subst (λ l. IsNext states' sent' l event) same_events
+    (subst (λ f. IsNext states' f events event) second (subst (λ f. IsNext f sent events event) first h))
+
+pub IsDrained-along : (states states' : ℕ → ProcState) (sent sent' : ℕ → List Request) (events events' : List Event)
+    → ((p : ℕ) → states p ≡ states' p) → ((p : ℕ) → sent p ≡ sent' p) → events ≡ events' → IsDrained states sent events
+    → IsDrained states' sent' events'
+IsDrained-along states states' sent sent' events events' same_states same_sent same_events h =
+    let first : states ≡ states' = λ i p. same_states p i in
+    let second : sent ≡ sent' = λ i p. same_sent p i in
+    subst (λ l. IsDrained states' sent' l) same_events
+    (subst (λ f. IsDrained states' f events) second (subst (λ f. IsDrained f sent events) first h))
+
+pub DrainsMail-along : (rules rules' : Rules) (processes processes' : ℕ) (sent sent' : ℕ → List Request) (events events' : List Event)
+    (S : State) (more : List Event) (T : State) → rules ≡ rules' → processes ≡ processes' → ((p : ℕ) → sent p ≡ sent' p)
+    → events ≡ events' → DrainsMail rules processes sent events S more T → DrainsMail rules' processes' sent' events' S more T
+DrainsMail-along rules rules' processes processes' sent sent' events events' S more T same_rules same_processes same_sent same_events h =
+    let mail : sent ≡ sent' = λ i p. same_sent p i in
+    subst (λ l. DrainsMail rules' processes' sent' l S more T) same_events
+    (subst (λ f. DrainsMail rules' processes' f events S more T) mail
+    (subst (λ n. DrainsMail rules' n sent events S more T) same_processes
+    (subst (λ r. DrainsMail r processes sent events S more T) same_rules h)))
+
+-- one more event taken
+pub TakesMail-push : (rules : Rules) (processes : ℕ) (sent : ℕ → List Request) (events : List Event) (S : State) (more : List Event)
+    (T : State) (event : Event) (U : State) → TakesMail rules processes sent events S more T
+    → IsNext T.states sent (events ++ more) event → IsStep rules processes T event U
+    → TakesMail rules processes sent events S (more ++ event ∷ []) U
+TakesMail-push rules processes sent events S [] T event U takes next step =
+    let here : IsNext T.states sent events event = subst (λ l. IsNext T.states sent l event) (append-nil events) next in
+    (subst (λ X. IsNext X.states sent events event) takes here, U, subst (λ X. IsStep rules processes X event U) takes step, refl)
+TakesMail-push rules processes sent events S (e ∷ more) T event U takes next step = (
+  takes.0,
+  takes.1,
+  takes.2,
+  TakesMail-push rules processes sent (events ++ e ∷ []) takes.1 more T event U takes.3
+      (subst (λ l. IsNext T.states sent l event) (sym (append_assoc events (e ∷ []) more)) next) step,
+)
+
+-- one more arrival, and the mail taken after it
+DrainsFrom-push : (rules : Rules) (processes : ℕ) (arrived : List (ℕ × Request)) (events : List Event) (S : State)
+    (later : List (ℕ × Request)) (journal : List Event) (T : State) (arrival : ℕ × Request) (more : List Event) (U : State)
+    → DrainsFrom rules processes arrived events S later journal T
+    → DrainsMail rules processes (λ p. requests_sent p (arrived ++ later ++ arrival ∷ [])) journal T more U
+    → DrainsFrom rules processes arrived events S (later ++ arrival ∷ []) (journal ++ more) U
+DrainsFrom-push rules processes arrived events S [] journal T arrival more U drains mail =
+    let all : arrived ++ [] ++ arrival ∷ [] ≡ arrived ++ arrival ∷ [] = ap (λ l. l ++ arrival ∷ []) (append-nil arrived) in
+    let first = subst (λ l. DrainsMail rules processes (λ p. requests_sent p l) journal T more U) all mail in
+    let second = subst (λ l. DrainsMail rules processes (λ p. requests_sent p (arrived ++ arrival ∷ [])) l T more U) drains.0 first in
+    let third = subst (λ X. DrainsMail rules processes (λ p. requests_sent p (arrived ++ arrival ∷ [])) events X more U) drains.1 second in
+    (more, U, third, (ap (λ l. l ++ more) drains.0, refl))
+DrainsFrom-push rules processes arrived events S (a ∷ later) journal T arrival more U drains mail =
+    let all : arrived ++ (a ∷ later) ++ arrival ∷ [] ≡ arrived ++ a ∷ [] ++ later ++ arrival ∷ [] =
+    ap (λ l. l ++ arrival ∷ []) (sym (append_assoc arrived (a ∷ []) later)) in (
+      drains.0,
+      drains.1,
+      drains.2,
+      DrainsFrom-push rules processes (arrived ++ a ∷ []) (events ++ drains.0) drains.1 later journal T arrival more U drains.3
+          (subst (λ l. DrainsMail rules processes (λ p. requests_sent p l) journal T more U) all mail),
+    )
+
+pub IsDrain-push : (rules : Rules) (processes : ℕ) (arrivals : List (ℕ × Request)) (journal : List Event) (T : State)
+    (arrival : ℕ × Request) (more : List Event) (U : State) → IsDrain rules processes arrivals journal T
+    → DrainsMail rules processes (λ p. requests_sent p (arrivals ++ arrival ∷ [])) journal T more U
+    → IsDrain rules processes (arrivals ++ arrival ∷ []) (journal ++ more) U
+IsDrain-push rules processes arrivals journal T arrival more U drains mail =
+    DrainsFrom-push rules processes [] [] opening_state arrivals journal T arrival more U drains mail
+
+-- how much mail of the processes up to this one wasn't taken
+abbrev pub mail_left : (ℕ → List Request) → List Event → ℕ → ℕ
+mail_left sent events zero = 0
+mail_left sent events (suc k) = (length (sent (suc k)) - length (events_of (suc k) events)) + mail_left sent events k
+
+-- a taken event is one of the mail less
+mail_left-past : (sent : ℕ → List Request) (events : List Event) (event : Event) (k : ℕ) → k < event.p
+    → mail_left sent (events ++ event ∷ []) k ≡ mail_left sent events k
+mail_left-past sent events event zero past = refl
+mail_left-past sent events event (suc k) past =
+    let rest = mail_left-past sent events event k (omega arith) in
+    let other : suc k ≢ event.p = λ e. absurd (omega arith) in
+    let same : length (events_of (suc k) (events ++ event ∷ [])) ≡ length (events_of (suc k) events) =
+    length-events_of-push (suc k) events event ∙ rw (ne_eqb (suc k) event.p other) refl in
+    omega arith
+
+mail_left-push : (sent : ℕ → List Request) (events : List Event) (event : Event) (k : ℕ) → 1 ≤ event.p → event.p ≤ k
+    → length (events_of event.p events) < length (sent event.p)
+    → mail_left sent (events ++ event ∷ []) k < mail_left sent events k
+mail_left-push sent events event zero low high within = absurd (omega arith)
+mail_left-push sent events event (suc k) low high within =
+    ⊎_elim
+    (λ here.
+    let rest = mail_left-past sent events event k (omega arith) in
+    let more : length (events_of (suc k) (events ++ event ∷ [])) ≡ length (events_of (suc k) events) + 1 =
+    length-events_of-push (suc k) events event ∙ rw (eq-eqb (suc k) event.p here) refl in
+    let some : length (events_of (suc k) events) < length (sent (suc k)) =
+    subst (λ p. length (events_of p events) < length (sent p)) (sym here) within in
+    omega arith)
+    (λ other.
+    let rest = mail_left-push sent events event k low (omega arith) within in
+    let same : length (events_of (suc k) (events ++ event ∷ [])) ≡ length (events_of (suc k) events) =
+    length-events_of-push (suc k) events event ∙ rw (ne_eqb (suc k) event.p other) refl in
+    omega arith)
+    (cases_eq (suc k) event.p)
+
+mailbox_within : (mailboxes : List Mailbox) (k : ℕ) (mailbox : Option Mailbox) (request : Request)
+    → slice_get mailboxes k ≡ mailbox → slice_get (waiting_in mailbox) 0 ≡ Some request → (1 ≤ suc k) × (suc k ≤ length mailboxes)
+mailbox_within mailboxes k None request is found = cc
+mailbox_within mailboxes k (Some mailbox) request is found =
+    let within = slice_get_within mailboxes k mailbox is in (omega arith, omega arith)
+
+waits_within : (mailboxes : List Mailbox) (p : ℕ) (request : Request) → slice_get (mail_waiting mailboxes p) 0 ≡ Some request
+    → (1 ≤ p) × (p ≤ length mailboxes)
+waits_within mailboxes zero request found = cc
+waits_within mailboxes (suc k) request found = mailbox_within mailboxes k (slice_get mailboxes k) request refl found
+
+-- whoever has sent what wasn't taken is one of the processes
+mail_within : (mailboxes : List Mailbox) (journal : List Event) (p : ℕ) (request : Request)
+    → next_untaken (mail_sent mailboxes journal) journal p ≡ Some request → (1 ≤ p) × (p ≤ length mailboxes)
+mail_within mailboxes journal p request found =
+    waits_within mailboxes p request (sym (next_untaken-waits mailboxes journal p) ∙ found)
+
+-- a session that took an event has less mail left
+pub mail_left-takes : (old new : Session) (place : ℕ) → TakesOne old new place
+    → mail_left (sent_of new) (events_in new) (processes_of (manager_of new)) < mail_left (sent_of old) (events_in old) (processes_of (manager_of old))
+unfolding manager_of events_in sent_of
+mail_left-takes old new place takes =
+    let event = takes.event in
+    let range = mail_within old.mailboxes.items old.journal.items event.p event.request takes.is_next.request in
+    let within = slice_get_within (sent_of old event.p) (length (events_of event.p (events_in old))) event.request takes.is_next.request in
+    let less = mail_left-push (sent_of old) (events_in old) event (processes_of (manager_of old)) range.0 (rw (← old.mail.one_each) range.1) within in
+    let sent : sent_of new ≡ sent_of old = λ i p. takes.sent p i in
+    let same : mail_left (sent_of new) (events_in new) (processes_of (manager_of new)) ≡ mail_left (sent_of old) (events_in old ++ event ∷ []) (processes_of (manager_of old)) =
+    ap (λ f. mail_left f (events_in new) (processes_of (manager_of new))) sent
+    ∙ ap (λ l. mail_left (sent_of old) l (processes_of (manager_of new))) takes.journal
+    ∙ ap (λ k. mail_left (sent_of old) (events_in old ++ event ∷ []) k) takes.same_rules.processes in
+    omega arith
+
+-- nothing was taken yet
+pub TakesSome-none : (session : Session) → TakesSome session session
+TakesSome-none session =
+    record {
+      sent = λ p. refl;
+      same_rules = record { rules = refl; processes = refl };
+      goes_on = λ S stands.
+          record { more = []; state = S; takes = refl; journal = sym (append-nil (events_in session)); stands = stands };
+    }
+
+goes_on-push : (old between new : Session) (place : ℕ) → (some : TakesSome old between) → (one : TakesOne between new place) → (S : State)
+    → GoesOn old between (TakesMail (rules_of (manager_of old)) (processes_of (manager_of old)) (sent_of old) (events_in old)) S
+    → GoesOn old new (TakesMail (rules_of (manager_of old)) (processes_of (manager_of old)) (sent_of old) (events_in old)) S
+goes_on-push old between new place some one S g =
+    let event = one.event in
+    let next = one.step g.state g.stands in
+    let step : IsStep (rules_of (manager_of old)) (processes_of (manager_of old)) g.state event next.0 =
+    subst (λ rules. IsStep rules (processes_of (manager_of old)) g.state event next.0) some.same_rules.rules
+    (subst (λ processes. IsStep (rules_of (manager_of between)) processes g.state event next.0) some.same_rules.processes next.1) in
+    let is_next : IsNext g.state.states (sent_of old) (events_in old ++ g.more) event =
+    IsNext-along (state_at (manager_of between)) g.state.states (sent_of between) (sent_of old) (events_in between) (events_in old ++ g.more) event
+    g.stands.states some.sent g.journal one.is_next in
+    record {
+      more = g.more ++ event ∷ [];
+      state = next.0;
+      takes = TakesMail-push (rules_of (manager_of old)) (processes_of (manager_of old)) (sent_of old) (events_in old) S g.more g.state event next.0 g.takes is_next step;
+      journal = one.journal ∙ ap (λ l. l ++ event ∷ []) g.journal ∙ append_assoc (events_in old) g.more (event ∷ []);
+      stands = next.2;
+    }
+
+-- one more was taken
+pub TakesSome-push : (old between new : Session) (place : ℕ) → TakesSome old between → TakesOne between new place → TakesSome old new
+TakesSome-push old between new place some one =
+    record {
+      sent = λ p. one.sent p ∙ some.sent p;
+      same_rules = record {
+        rules = one.same_rules.rules ∙ some.same_rules.rules;
+        processes = one.same_rules.processes ∙ some.same_rules.processes;
+      };
+      goes_on = λ S stands. goes_on-push old between new place some one S (some.goes_on S stands);
+    }
+
+-- until there is none
+pub Drains-from : (old between new : Session) → TakesSome old between
+    → IsDrained (state_at (manager_of between)) (sent_of between) (events_in between) → SameSession between new → Drains old new
+Drains-from old between new some drained same =
+    record {
+      sent = λ p. same.sent p ∙ some.sent p;
+      same_rules = record {
+        rules = same.manager.rules ∙ some.same_rules.rules;
+        processes = same.manager.processes ∙ some.same_rules.processes;
+      };
+      goes_on = λ S stands.
+          let g = some.goes_on S stands in
+          record {
+            more = g.more;
+            state = g.state;
+            takes = (
+              g.takes,
+              IsDrained-along (state_at (manager_of between)) g.state.states (sent_of between) (sent_of old) (events_in between) (events_in old ++ g.more)
+                  g.stands.states some.sent g.journal drained,
+            );
+            journal = same.journal ∙ g.journal;
+            stands = same.manager.stands g.state g.stands;
+          };
+    }
+
+-- an arrival, and then all mail that can be taken
+pub Delivers-from : (old between new : Session) (p n : ℕ) (request : Request) → Arrives old between p request n → Drains between new
+    → Delivers old new p request
+Delivers-from old between new p n request arrives drains =
+    record {
+      sent = λ q. drains.sent q ∙ arrives.sent q;
+      same_rules = record {
+        rules = drains.same_rules.rules ∙ arrives.manager.rules;
+        processes = drains.same_rules.processes ∙ arrives.manager.processes;
+      };
+      goes_on = λ S stands.
+          let g = drains.goes_on S (arrives.manager.stands S stands) in
+          record {
+            more = g.more;
+            state = g.state;
+            takes =
+                DrainsMail-along (rules_of (manager_of between)) (rules_of (manager_of old)) (processes_of (manager_of between)) (processes_of (manager_of old))
+                (sent_of between) (sent_of new) (events_in between) (events_in old) S g.more g.state arrives.manager.rules arrives.manager.processes
+                (λ q. sym (drains.sent q)) arrives.journal g.takes;
+            journal = g.journal ∙ ap (λ l. l ++ g.more) arrives.journal;
+            stands = g.stands;
+          };
+    }
+
+-- a place means that one event was taken
+pub TakesNext-some : (old new : Session) (result : Option ℕ) → is_some result ≡ true → TakesNext old new result
+    → (place : ℕ) × TakesOne old new place
+TakesNext-some old new None some takes = cc
+TakesNext-some old new (Some place) some takes = (place, takes)
+
+-- no place means that there was nothing to take
+pub TakesNext-none : (old new : Session) (result : Option ℕ) → is_some result ≡ false → TakesNext old new result
+    → IsDrained (state_at (manager_of old)) (sent_of old) (events_in old) × SameSession old new
+TakesNext-none old new None none takes = takes
+TakesNext-none old new (Some place) none takes = cc
+
+-- a session that shows the same is at rest too
+pub at_rest_still : (old new : Session) → SameSession old new → IsAtRest old → IsAtRest new
+at_rest_still old new same rest =
+    IsDrained-along (state_at (manager_of old)) (state_at (manager_of new)) (sent_of old) (sent_of new) (events_in old) (events_in new)
+    (λ p. sym (same.manager.states p)) (λ p. sym (same.sent p)) (sym same.journal) rest
+
+-- without mail it is at rest
+pub at_rest_empty : (rules : Rules) (processes : ℕ) (session : Session) → IsEmptySession rules processes session → IsAtRest session
+at_rest_empty rules processes session empty q live =
+    subst (λ l. IsNone (slice_get l (length (events_of q (events_in session))))) (sym (empty.sent q)) refl
+
+-- where a request arrives, no other process has mail to take
+pub at_rest_but : (old new : Session) (p n : ℕ) (request : Request) → Arrives old new p request n → IsAtRest old → IsAtRestBut new p
+at_rest_but old new p n request arrives rest q other live =
+    let sent : sent_of new q ≡ sent_of old q = arrives.sent q ∙ rw (ne_eqb q p other) refl in
+    let was : IsNone (next_untaken (sent_of old) (events_in old) q) = rest q (sym (arrives.manager.states q) ∙ live) in
+    subst (λ l. IsNone (slice_get l (length (events_of q (events_in new))))) (sym sent)
+    (subst (λ es. IsNone (slice_get (sent_of old q) (length (events_of q es)))) (sym arrives.journal) was)
+
+-- nor has that one where it isn't live
+pub at_rest_all : (session : Session) (p : ℕ) → state_at (manager_of session) p ≢ Live → IsAtRestBut session p → IsAtRest session
+at_rest_all session p out rest q live =
+    ⊎_elim (λ same. absurd (out (subst (λ n. state_at (manager_of session) n ≡ Live) same live))) (λ other. rest q other live) (cases_eq q p)
+
+-- where a session is at rest, there is nothing to take
+pub Drains-none : (session : Session) → IsAtRest session → Drains session session
+Drains-none session rest =
+    Drains-from session session session (TakesSome-none session) rest (record {
+      manager = record { stands = λ S stands. stands; states = λ p. refl; rules = refl; processes = refl };
+      journal = refl;
+      sent = λ p. refl;
+    })
+
+-- what was sent with one arrival more
+pub requests_sent-push : (p : ℕ) (arrivals : List (ℕ × Request)) (q : ℕ) (request : Request)
+    → requests_sent p (arrivals ++ (q, request) ∷ []) ≡ (if p == q then requests_sent p arrivals ++ request ∷ [] else requests_sent p arrivals)
+requests_sent-push p arrivals q request =
+    ap (λ l. map (λ (arrival : ℕ × Request). arrival.1) l) (filter-append (λ (arrival : ℕ × Request). arrival.0 == p) arrivals ((q, request) ∷ []))
+    ∙ ⊎_elim
+    (λ same.
+    rw (eq-eqb p q same, eq-eqb q p (sym same))
+    (map-append (λ (arrival : ℕ × Request). arrival.1) (filter (λ (arrival : ℕ × Request). arrival.0 == p) arrivals) ((q, request) ∷ [])))
+    (λ other.
+    rw (ne_eqb p q other, ne_eqb q p (λ e. other (sym e)))
+    (ap (λ l. map (λ (arrival : ℕ × Request). arrival.1) l) (append-nil (filter (λ (arrival : ℕ × Request). arrival.0 == p) arrivals))))
+    (cases_eq p q)
+
+-- what holds of a session after so many arrivals
+pub record HasRun (rules : Rules) (processes : ℕ) (arrivals : List (ℕ × Request)) (session : Session) : Type 0 where
+  pub rules_are : rules_of (manager_of session) ≡ rules
+  pub processes_are : processes_of (manager_of session) ≡ processes
+  pub sent : (p : ℕ) → sent_of session p ≡ requests_sent p arrivals
+  pub state : State
+  pub drained : IsDrain rules processes arrivals (events_in session) state
+  pub stands : StandsFor (manager_of session) state
+
+pub HasRun-opening : (rules : Rules) (processes : ℕ) (session : Session) → IsEmptySession rules processes session
+    → HasRun rules processes [] session
+HasRun-opening rules processes session empty =
+    record {
+      rules_are = empty.rules_are;
+      processes_are = empty.processes_are;
+      sent = empty.sent;
+      state = opening_state;
+      drained = (empty.journal, refl);
+      stands = empty.opening;
+    }
+
+pub HasRun-push : (rules : Rules) (processes : ℕ) (arrivals : List (ℕ × Request)) (old new : Session) (p : ℕ) (request : Request)
+    → HasRun rules processes arrivals old → Delivers old new p request → HasRun rules processes (arrivals ++ (p, request) ∷ []) new
+HasRun-push rules processes arrivals old new p request h delivers =
+    let g = delivers.goes_on h.state h.stands in
+    let sent : (q : ℕ) → sent_of new q ≡ requests_sent q (arrivals ++ (p, request) ∷ []) =
+    λ q. delivers.sent q ∙ ap (λ l. if q == p then l ++ request ∷ [] else l) (h.sent q) ∙ sym (requests_sent-push q arrivals p request) in
+    let mail : DrainsMail rules processes (λ q. requests_sent q (arrivals ++ (p, request) ∷ [])) (events_in old) h.state g.more g.state =
+    DrainsMail-along (rules_of (manager_of old)) rules (processes_of (manager_of old)) processes (sent_of new)
+    (λ q. requests_sent q (arrivals ++ (p, request) ∷ [])) (events_in old) (events_in old) h.state g.more g.state h.rules_are h.processes_are sent refl g.takes in
+    record {
+      rules_are = delivers.same_rules.rules ∙ h.rules_are;
+      processes_are = delivers.same_rules.processes ∙ h.processes_are;
+      sent = sent;
+      state = g.state;
+      drained =
+          subst (λ l. IsDrain rules processes (arrivals ++ (p, request) ∷ []) l g.state) (sym g.journal)
+          (IsDrain-push rules processes arrivals (events_in old) h.state (p, request) g.more g.state h.drained mail);
+      stands = g.stands;
+    }
+
+requests_sent-append : (p : ℕ) (xs ys : List (ℕ × Request)) → requests_sent p (xs ++ ys) ≡ requests_sent p xs ++ requests_sent p ys
+requests_sent-append p xs ys =
+    ap (λ l. map (λ (arrival : ℕ × Request). arrival.1) l) (filter-append (λ (arrival : ℕ × Request). arrival.0 == p) xs ys)
+    ∙ map-append (λ (arrival : ℕ × Request). arrival.1) (filter (λ (arrival : ℕ × Request). arrival.0 == p) xs) (filter (λ (arrival : ℕ × Request). arrival.0 == p) ys)
+
+-- one arrival more of a list
+pub HasRun-more : (rules : Rules) (processes : ℕ) (arrivals : List (ℕ × Request)) (i : ℕ) (d : ℕ × Request) (old new : Session)
+    → i < length arrivals → HasRun rules processes (take i arrivals) old
+    → Delivers old new (get_or arrivals i d).0 (get_or arrivals i d).1 → HasRun rules processes (take (i + 1) arrivals) new
+HasRun-more rules processes arrivals i d old new within h delivers =
+    subst (λ l. HasRun rules processes l new) (sym (take_more arrivals i d within))
+    (HasRun-push rules processes (take i arrivals) old new (get_or arrivals i d).0 (get_or arrivals i d).1 h delivers)
+
+-- one arrival past the most is too many
+pub too_many : (arrivals : List (ℕ × Request)) (i : ℕ) (d : ℕ × Request) (most : ℕ) → i < length arrivals
+    → length (requests_sent (get_or arrivals i d).0 (take i arrivals)) ≡ most
+    → most < length (requests_sent (get_or arrivals i d).0 arrivals)
+too_many arrivals i d most within full =
+    let p = (get_or arrivals i d).0 in
+    let rest = drop (i + 1) arrivals in
+    let split : arrivals ≡ take i arrivals ++ get_or arrivals i d ∷ rest =
+    sym (take-append-drop i arrivals) ∙ ap (λ l. take i arrivals ++ l) (drop_more arrivals i d within) in
+    let requests : requests_sent p arrivals ≡ requests_sent p (take i arrivals) ++ requests_sent p (get_or arrivals i d ∷ rest) =
+    ap (requests_sent p) split ∙ requests_sent-append p (take i arrivals) (get_or arrivals i d ∷ rest) in
+    let own : requests_sent p (get_or arrivals i d ∷ rest) ≡ (get_or arrivals i d).1 ∷ requests_sent p rest = rw (eq-eqb p p refl) refl in
+    let long : length (requests_sent p arrivals) ≡ length (requests_sent p (take i arrivals)) + suc (length (requests_sent p rest)) =
+    ap length requests ∙ length-append (requests_sent p (take i arrivals)) (requests_sent p (get_or arrivals i d ∷ rest))
+    ∙ ap (λ l. length (requests_sent p (take i arrivals)) + length l) own in
+    omega arith
+
+-- an answer has one fault
+pub Err-unique : {T E : Type 0} (result : Result T E) (x y : E) → result ≡ Err x → result ≡ Err y → x ≡ y
+Err-unique result x y first second = cc

@@ -1,0 +1,298 @@
+-- A journal with one more event.
+use Rattle.std.proofs.Common.{ℕ, zero, suc, ◌≡◌, ◌≢◌, ◌+◌, ◌<◌, ◌≤◌, refl, sym, ◌∙◌, ap, subst, arith, eq-eqb, ne_eqb, length, length-append, set, List, [], ◌∷◌, ◌++◌, ⊎_elim, Option, Some, None, IfSome, All, map, slice_get, drop}
+use Rattle.std.specs.Prelude.{◌==◌, if◌then◌else◌}
+use Rattle.std.specs.List.{AllByRecursion as Each}
+use Rattle.std.proofs.lemmas.Bool.{cases_eq}
+use Rattle.std.proofs.lemmas.List.{length-map, length-set, map-append, append_assoc, append-nil}
+use Rattle.std.proofs.lemmas.List.Elements.{filter-append, recursion_from_All}
+use Rattle.lock_manager.specs.declared.request.Rules.{Rules}
+use Rattle.lock_manager.specs.declared.request.Request.{Request}
+use Rattle.lock_manager.specs.declared.manager.Manager.{Manager}
+use Rattle.lock_manager.specs.State.{State, opening_state}
+use Rattle.lock_manager.specs.ManagerView.{StandsFor, SameManager, IsSafeManager, rules_of, processes_of}
+use Rattle.session_core.specs.declared.mailbox.Mailbox.{Mailbox}
+use Rattle.session_core.specs.Event.{Event}
+use Rattle.session_core.specs.Mailboxes.{mailbox_of, mail_waiting, mail_sent, mail_taken, waiting_in, taken_in, IsMailKept, IsEmptyMailbox}
+use Rattle.session_core.specs.Runs.{IsStep, Leads, IsRun, AreNumbered, events_of}
+use Rattle.session_core.specs.Mail.{IsPrefixOf, requests_taken}
+use Rattle.session_core.specs.Draining.{IsReplayed, next_untaken}
+use Rattle.session_core.specs.Headline.{AreWithinLimits, Holds, request_limit}
+use Rattle.session_core.proofs.runs.HeadlineLaws.{Holds-from}
+use Rattle.session_core.proofs.MailLemmas.{StandsAt, mailbox_of-there, mail_waiting-set, mail_taken-set, length-mail_sent, next_untaken-waits}
+
+-- one more event of the process
+pub events_of-push_own : (q : ℕ) (journal : List Event) (event : Event) → event.p ≡ q
+    → events_of q (journal ++ event ∷ []) ≡ events_of q journal ++ event ∷ []
+events_of-push_own q journal event own =
+    filter-append (λ e. e.p == q) journal (event ∷ []) ∙ rw (eq-eqb event.p q own) refl
+
+-- one more event of another process
+pub events_of-push_other : (q : ℕ) (journal : List Event) (event : Event) → event.p ≢ q
+    → events_of q (journal ++ event ∷ []) ≡ events_of q journal
+events_of-push_other q journal event other =
+    filter-append (λ e. e.p == q) journal (event ∷ []) ∙ rw (ne_eqb event.p q other) (append-nil (events_of q journal))
+
+-- how many events of a process there are then
+pub length-events_of-push : (q : ℕ) (journal : List Event) (event : Event)
+    → length (events_of q (journal ++ event ∷ [])) ≡ (if q == event.p then length (events_of q journal) + 1 else length (events_of q journal))
+length-events_of-push q journal event =
+    ⊎_elim
+    (λ own.
+    rw (eq-eqb q event.p own)
+    (ap length (events_of-push_own q journal event (sym own)) ∙ length-append (events_of q journal) (event ∷ [])))
+    (λ other. rw (ne_eqb q event.p other) (ap length (events_of-push_other q journal event (λ e. other (sym e)))))
+    (cases_eq q event.p)
+
+-- what is at a place of a list with one more item
+IfSome-push : {X : Type 0} (P : X → ℕ → Type 0) (xs : List X) (x : X) (first : ℕ)
+    → ((place : ℕ) → IfSome (slice_get xs place) (λ y. P y (first + place))) → P x (first + length xs)
+    → (place : ℕ) → IfSome (slice_get (xs ++ x ∷ []) place) (λ y. P y (first + place))
+IfSome-push P [] x first h here zero = here
+IfSome-push P [] x first h here (suc place) = tt
+IfSome-push P (y ∷ ys) x first h here zero = h zero
+IfSome-push P (y ∷ ys) x first h here (suc place) =
+    let e : first + suc place ≡ first + 1 + place = omega arith in
+    let last : first + suc (length ys) ≡ first + 1 + length ys = omega arith in
+    subst (λ n. IfSome (slice_get (ys ++ x ∷ []) place) (λ z. P z n)) (sym e)
+    (IfSome-push P ys x (first + 1)
+    (λ k.
+    let step : first + suc k ≡ first + 1 + k = omega arith in
+    subst (λ n. IfSome (slice_get ys k) (λ z. P z n)) step (h (suc k)))
+    (subst (λ n. P x n) last here) place)
+
+-- the numbers by process, with one more event that has the next number of its process
+pub AreNumbered-push : (journal : List Event) (event : Event) → event.n ≡ length (events_of event.p journal) + 1 → AreNumbered journal
+    → AreNumbered (journal ++ event ∷ [])
+AreNumbered-push journal event number numbered q place =
+    ⊎_elim
+    (λ own.
+    let last : event.n ≡ 0 + length (events_of q journal) + 1 = number ∙ ap (λ r. length (events_of r journal) + 1) own ∙ omega arith in
+    let zero_place : 0 + place ≡ place = omega arith in
+    subst (λ l. IfSome (slice_get l place) (λ e. e.n ≡ place + 1)) (sym (events_of-push_own q journal event own))
+    (subst (λ n. IfSome (slice_get (events_of q journal ++ event ∷ []) place) (λ e. e.n ≡ n + 1)) zero_place
+    (IfSome-push (λ e n. e.n ≡ n + 1) (events_of q journal) event 0
+    (λ k.
+    let zero_k : k ≡ 0 + k = omega arith in
+    subst (λ n. IfSome (slice_get (events_of q journal) k) (λ e. e.n ≡ n + 1)) zero_k (numbered q k))
+    last place)))
+    (λ other.
+    subst (λ l. IfSome (slice_get l place) (λ e. e.n ≡ place + 1)) (sym (events_of-push_other q journal event other)) (numbered q place))
+    (cases_eq event.p q)
+
+-- one more step
+pub Leads-push : (rules : Rules) (processes : ℕ) (S : State) (events : List Event) (T : State) (event : Event) (U : State)
+    → Leads rules processes S events T → IsStep rules processes T event U → Leads rules processes S (events ++ event ∷ []) U
+Leads-push rules processes S [] T event U leads step = (U, subst (λ X. IsStep rules processes X event U) leads step, refl)
+Leads-push rules processes S (e ∷ events) T event U leads step =
+    (leads.0, leads.1, Leads-push rules processes leads.0 events T event U leads.2 step)
+
+-- a replayed journal with one more step of the manager
+pub IsReplayed-push : (old new : Manager) (journal : List Event) (event : Event) → event.n ≡ length (events_of event.p journal) + 1
+    → rules_of new ≡ rules_of old → processes_of new ≡ processes_of old
+    → ((S : State) → StandsFor old S → (T : State) × IsStep (rules_of old) (processes_of old) S event T × StandsFor new T)
+    → IsReplayed old journal → IsReplayed new (journal ++ event ∷ [])
+IsReplayed-push old new journal event number same_rules same_processes steps r =
+    let next = steps r.state r.stands in
+    let run : IsRun (rules_of old) (processes_of old) (journal ++ event ∷ []) next.0 =
+    record {
+      leads = Leads-push (rules_of old) (processes_of old) _ journal r.state event next.0 r.run.leads next.1;
+      numbered = AreNumbered-push journal event number r.run.numbered;
+    } in
+    record {
+      state = next.0;
+      run =
+          subst (λ rules. IsRun rules (processes_of new) (journal ++ event ∷ []) next.0) (sym same_rules)
+          (subst (λ processes. IsRun (rules_of old) processes (journal ++ event ∷ []) next.0) (sym same_processes) run);
+      stands = next.2;
+    }
+
+Some-injective : {X : Type 0} {x y : X} → Some x ≡ Some y → x ≡ y
+Some-injective e = cc
+
+-- what stands right after a prefix begins the rest
+next_of_prefix : {X : Type 0} (xs rest : List X) (x : X) → slice_get (xs ++ rest) (length xs) ≡ Some x
+    → (more : List X) × (rest ≡ x ∷ more)
+next_of_prefix [] [] x h = cc
+next_of_prefix [] (y ∷ ys) x h = let same : y ≡ x = Some-injective h in (ys, ap (λ z. z ∷ ys) same)
+next_of_prefix (z ∷ zs) rest x h = next_of_prefix zs rest x h
+
+-- the requests that were taken stay a prefix where the next one is taken
+taken_in_order-push : (sent : ℕ → List Request) (journal : List Event) (event : Event)
+    → next_untaken sent journal event.p ≡ Some event.request → ((p : ℕ) → IsPrefixOf (requests_taken p journal) (sent p)) → (p : ℕ)
+    → IsPrefixOf (requests_taken p (journal ++ event ∷ [])) (sent p)
+taken_in_order-push sent journal event next h p =
+    ⊎_elim
+    (λ own.
+    let taken = requests_taken p journal in
+    let rest = (h p).0 in
+    let many : length (events_of p journal) ≡ length taken = sym (length-map (events_of p journal) (λ e. e.request)) in
+    let at : slice_get (taken ++ rest) (length taken) ≡ Some event.request =
+    ap (λ l. slice_get l (length taken)) (sym (h p).1) ∙ ap (λ n. slice_get (sent p) n) (sym many)
+    ∙ ap (λ q. next_untaken sent journal q) (sym own) ∙ next in
+    let split = next_of_prefix taken rest event.request at in
+    let pushed : requests_taken p (journal ++ event ∷ []) ≡ taken ++ event.request ∷ [] =
+    ap (λ l. map (λ e. e.request) l) (events_of-push_own p journal event own) ∙ map-append (λ e. e.request) (events_of p journal) (event ∷ []) in (
+      split.0,
+      (h p).1 ∙ ap (λ l. taken ++ l) split.1 ∙ sym (append_assoc taken (event.request ∷ []) split.0) ∙ ap (λ l. l ++ split.0) (sym pushed),
+    ))
+    (λ other.
+    let same : requests_taken p (journal ++ event ∷ []) ≡ requests_taken p journal =
+    ap (λ l. map (λ e. e.request) l) (events_of-push_other p journal event other) in
+    ((h p).0, (h p).1 ∙ ap (λ l. l ++ (h p).0) (sym same)))
+    (cases_eq event.p p)
+
+-- under the same rules, with as many processes, all is within the limits still
+within_limits_still : (old new : Manager) (sent : ℕ → List Request) → rules_of new ≡ rules_of old → processes_of new ≡ processes_of old
+    → AreWithinLimits old sent → AreWithinLimits new sent
+within_limits_still old new sent same_rules same_processes h =
+    record { some = rw same_processes h.some; few = rw (same_processes, same_rules) h.few; requests = h.requests }
+
+-- the headline holds after one more event, which the manager took
+pub Holds-push : (old new : Manager) (sent : ℕ → List Request) (journal : List Event) (event : Event) → 1 ≤ processes_of old
+    → next_untaken sent journal event.p ≡ Some event.request → event.n ≡ length (events_of event.p journal) + 1
+    → rules_of new ≡ rules_of old → processes_of new ≡ processes_of old
+    → ((S : State) → StandsFor old S → (T : State) × IsStep (rules_of old) (processes_of old) S event T × StandsFor new T)
+    → IsSafeManager new → Holds old sent journal → Holds new sent (journal ++ event ∷ [])
+Holds-push old new sent journal event some next number same_rules same_processes steps safe h =
+    Holds-from new sent (journal ++ event ∷ []) (within_limits_still old new sent same_rules same_processes h.within_limits)
+    (taken_in_order-push sent journal event next h.taken_in_order) safe
+    (IsReplayed-push old new journal event number same_rules same_processes steps h.replayed)
+
+-- the headline holds where the manager shows the same and the journal is the same
+pub Holds-same : (old new : Manager) (sent : ℕ → List Request) (journal journal' : List Event) → 1 ≤ processes_of old
+    → journal' ≡ journal → SameManager old new → IsSafeManager new → Holds old sent journal → Holds new sent journal'
+Holds-same old new sent journal journal' some same_journal same safe h =
+    let r = h.replayed in
+    let run : IsRun (rules_of new) (processes_of new) journal r.state =
+    subst (λ rules. IsRun rules (processes_of new) journal r.state) (sym same.rules)
+    (subst (λ processes. IsRun (rules_of old) processes journal r.state) (sym same.processes) r.run) in
+    subst (λ l. Holds new sent l) (sym same_journal)
+    (Holds-from new sent journal (within_limits_still old new sent same.rules same.processes h.within_limits) h.taken_in_order safe
+    (record { state = r.state; run = run; stands = same.stands r.state r.stands }))
+
+-- no process has sent more than it may
+pub mail_sent-few : (processes : ℕ) (mailboxes : List Mailbox) (journal : List Event) → IsMailKept processes mailboxes journal → (p : ℕ)
+    → length (mail_sent mailboxes journal p) ≤ request_limit
+mail_sent-few processes mailboxes journal mail p =
+    let both = length-mail_sent processes mailboxes journal mail p in
+    let limit = few (mailbox_of mailboxes p) in
+    omega arith
+  where
+    few : (mailbox : Option Mailbox) → taken_in mailbox + length (waiting_in mailbox) ≤ request_limit
+    few None = omega arith
+    few (Some mailbox) = mailbox.limited
+
+-- where the next request of a process is there, it is the first in its mailbox
+pub next_within : (mailboxes : List Mailbox) (place p : ℕ) (mailbox : Mailbox) (journal : List Event) (request : Request)
+    → StandsAt mailboxes place p mailbox → next_untaken (mail_sent mailboxes journal) journal p ≡ Some request
+    → mailbox.waiting.items ≡ request ∷ drop 1 mailbox.waiting.items
+next_within mailboxes place p mailbox journal request at next =
+    first mailbox.waiting.items
+    (ap (λ m. slice_get (waiting_in m) 0) (sym (mailbox_of-there mailboxes place p mailbox at)) ∙ sym (next_untaken-waits mailboxes journal p) ∙ next)
+  where
+    first : (waiting : List Request) → slice_get waiting 0 ≡ Some request → waiting ≡ request ∷ drop 1 waiting
+    first [] is = cc
+    first (other ∷ waiting) is = let same : other ≡ request = Some-injective is in ap (λ r. r ∷ waiting) same
+
+-- so there is one in it
+pub next_waits : (mailboxes : List Mailbox) (place p : ℕ) (mailbox : Mailbox) (journal : List Event) (request : Request)
+    → StandsAt mailboxes place p mailbox → next_untaken (mail_sent mailboxes journal) journal p ≡ Some request
+    → 0 < length mailbox.waiting.items
+next_waits mailboxes place p mailbox journal request at next =
+    let first = ap length (next_within mailboxes place p mailbox journal request at next) in
+    omega (arith, first)
+
+-- what each process sent stays, where the first request in a mailbox is taken
+mail_sent-taken : (mailboxes : List Mailbox) (place p : ℕ) (before after : Mailbox) (journal : List Event) (event : Event)
+    → StandsAt mailboxes place p before → event.p ≡ p → before.waiting.items ≡ event.request ∷ after.waiting.items → (q : ℕ)
+    → mail_sent (set mailboxes place after) (journal ++ event ∷ []) q ≡ mail_sent mailboxes journal q
+mail_sent-taken mailboxes place p before after journal event at own first q =
+    let there = ap waiting_in (mailbox_of-there mailboxes place p before at) in
+    let written = mail_waiting-set mailboxes place p before after at q in
+    ⊎_elim
+    (λ same.
+    let rest : mail_waiting (set mailboxes place after) q ≡ after.waiting.items = written ∙ rw (eq-eqb q p same) refl in
+    let more : requests_taken q (journal ++ event ∷ []) ≡ requests_taken q journal ++ event.request ∷ [] =
+    ap (λ l. map (λ e. e.request) l) (events_of-push_own q journal event (own ∙ sym same))
+    ∙ map-append (λ e. e.request) (events_of q journal) (event ∷ []) in
+    ap (λ l. l ++ mail_waiting (set mailboxes place after) q) more
+    ∙ ap (λ l. (requests_taken q journal ++ event.request ∷ []) ++ l) rest
+    ∙ append_assoc (requests_taken q journal) (event.request ∷ []) after.waiting.items
+    ∙ ap (λ l. requests_taken q journal ++ l) (sym first ∙ sym there ∙ ap (mail_waiting mailboxes) (sym same)))
+    (λ other.
+    let rest : mail_waiting (set mailboxes place after) q ≡ mail_waiting mailboxes q = written ∙ rw (ne_eqb q p other) refl in
+    let as_before : requests_taken q (journal ++ event ∷ []) ≡ requests_taken q journal =
+    ap (λ l. map (λ e. e.request) l) (events_of-push_other q journal event (λ e. other (sym e ∙ own))) in
+    ap (λ l. l ++ mail_waiting (set mailboxes place after) q) as_before ∙ ap (λ l. requests_taken q journal ++ l) rest)
+    (cases_eq q p)
+
+-- the mail is kept where one more was taken of the process of one more event
+pub IsMailKept-push : (processes : ℕ) (mailboxes : List Mailbox) (place p : ℕ) (old new : Mailbox) (journal journal' : List Event)
+    (event : Event) → StandsAt mailboxes place p old → new.taken ≡ old.taken + 1 → event.p ≡ p → journal' ≡ journal ++ event ∷ []
+    → IsMailKept processes mailboxes journal → IsMailKept processes (set mailboxes place new) journal'
+IsMailKept-push processes mailboxes place p old new journal journal' event at one own same h =
+    let there : mail_taken mailboxes p ≡ old.taken = ap taken_in (mailbox_of-there mailboxes place p old at) in
+    record {
+      some = h.some;
+      one_each = rw length-set h.one_each;
+      taken = λ q.
+          mail_taken-set mailboxes place p old new at q
+          ∙ subst (λ l. (if q == p then new.taken else mail_taken mailboxes q) ≡ length (events_of q l)) (sym same)
+          (⊎_elim
+          (λ e.
+          let more : length (events_of q (journal ++ event ∷ [])) ≡ length (events_of q journal) + 1 =
+          ap length (events_of-push_own q journal event (own ∙ sym e)) ∙ length-append (events_of q journal) (event ∷ []) in
+          let kept : mail_taken mailboxes p ≡ length (events_of q journal) = ap (mail_taken mailboxes) (sym e) ∙ h.taken q in
+          rw (eq-eqb q p e) (omega arith))
+          (λ other.
+          let as_many : length (events_of q (journal ++ event ∷ [])) ≡ length (events_of q journal) =
+          ap length (events_of-push_other q journal event (λ e. other (sym e ∙ own))) in
+          rw (ne_eqb q p other) (h.taken q ∙ sym as_many))
+          (cases_eq q p));
+    }
+
+-- what each process sent stays, where the manager took the next request of a process
+pub mail_sent-took : (mailboxes : List Mailbox) (place p : ℕ) (before after : Mailbox) (journal journal' : List Event) (event : Event)
+    → StandsAt mailboxes place p before → after.waiting.items ≡ drop 1 before.waiting.items → event.p ≡ p
+    → journal' ≡ journal ++ event ∷ [] → next_untaken (mail_sent mailboxes journal) journal p ≡ Some event.request → (q : ℕ)
+    → mail_sent (set mailboxes place after) journal' q ≡ mail_sent mailboxes journal q
+mail_sent-took mailboxes place p before after journal journal' event at rest own same next q =
+    let first = next_within mailboxes place p before journal event.request at next ∙ ap (λ l. event.request ∷ l) (sym rest) in
+    ap (λ l. mail_sent (set mailboxes place after) l q) same ∙ mail_sent-taken mailboxes place p before after journal event at own first q
+
+-- and so does the headline
+pub Holds-taken : (old new : Manager) (mailboxes mailboxes' : List Mailbox) (journal journal' : List Event)
+    (event : Event) → 1 ≤ processes_of old → ((q : ℕ) → mail_sent mailboxes' journal' q ≡ mail_sent mailboxes journal q)
+    → journal' ≡ journal ++ event ∷ [] → next_untaken (mail_sent mailboxes journal) journal event.p ≡ Some event.request
+    → event.n ≡ length (events_of event.p journal) + 1 → rules_of new ≡ rules_of old → processes_of new ≡ processes_of old
+    → ((S : State) → StandsFor old S → (T : State) × IsStep (rules_of old) (processes_of old) S event T × StandsFor new T)
+    → IsSafeManager new → Holds old (mail_sent mailboxes journal) journal → Holds new (mail_sent mailboxes' journal') journal'
+Holds-taken old new mailboxes mailboxes' journal journal' event some sent same next number same_rules same_processes steps safe h =
+    let kept : mail_sent mailboxes' journal' ≡ mail_sent mailboxes journal = λ i q. sent q i in
+    subst (λ f. Holds new f journal') (sym kept)
+    (subst (λ l. Holds new (mail_sent mailboxes journal) l) (sym same)
+    (Holds-push old new (mail_sent mailboxes journal) journal event some next number same_rules same_processes steps safe h))
+
+-- the headline holds at the opening
+pub Holds-opening : (manager : Manager) (sent : ℕ → List Request) (journal : List Event) → AreWithinLimits manager sent → journal ≡ []
+    → IsSafeManager manager → StandsFor manager opening_state → Holds manager sent journal
+Holds-opening manager sent journal within empty safe stands =
+    subst (λ l. Holds manager sent l) (sym empty)
+    (Holds-from manager sent [] within (λ p. (sent p, refl)) safe
+    (record { state = opening_state; run = record { leads = refl; numbered = λ q place. tt }; stands = stands }))
+
+-- where nothing was sent, no process sent or was taken anything
+empty_at : (mailbox : Option Mailbox) → IfSome mailbox IsEmptyMailbox → (waiting_in mailbox ≡ []) × (taken_in mailbox ≡ 0)
+empty_at None h = (refl, refl)
+empty_at (Some mailbox) h = (h.waiting, h.taken)
+
+all_at : {X : Type 0} (P : X → Type 0) (xs : List X) (place : ℕ) → Each P xs → IfSome (slice_get xs place) P
+all_at P [] place h = tt
+all_at P (x ∷ xs) zero h = h.0
+all_at P (x ∷ xs) (suc place) h = all_at P xs place h.1
+
+pub nothing_sent : (mailboxes : List Mailbox) → All IsEmptyMailbox mailboxes → (p : ℕ)
+    → (mail_waiting mailboxes p ≡ []) × (mail_taken mailboxes p ≡ 0)
+nothing_sent mailboxes h zero = (refl, refl)
+nothing_sent mailboxes h (suc place) =
+    empty_at (slice_get mailboxes place) (all_at IsEmptyMailbox mailboxes place (recursion_from_All IsEmptyMailbox mailboxes h))

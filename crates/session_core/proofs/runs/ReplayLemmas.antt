@@ -1,0 +1,316 @@
+-- Runs made again: their fronts, the one state that they leave, and one more event.
+use Rattle.std.proofs.Common.{ℕ, zero, suc, ◌≡◌, ◌≢◌, ◌+◌, ◌-◌, ◌<◌, ◌≤◌, None, refl, sym, ◌∙◌, ap, subst, arith, length, List, [], ◌∷◌, ◌++◌, ⊎_elim, Some, IfSome, slice_get, get_or, set, get_or-set_same, get_or-set_other, replicate, take, drop, length-append}
+use Rattle.std.specs.Prelude.{◌==◌}
+use Rattle.std.specs.declared.vec.Vec.{Vec}
+use Rattle.std.specs.declared.alloc.Global.{Global}
+use Rattle.std.proofs.lemmas.Bool.{cases_eq, cases_lt}
+use Rattle.std.proofs.lemmas.List.{append_assoc, take-append-drop, take_more}
+use Rattle.std.proofs.lemmas.List.Elements.{filter-append}
+use Rattle.std.proofs.lemmas.Option.{IfSome_then}
+use Rattle.lock_manager.specs.declared.request.Rules.{Rules}
+use Rattle.lock_manager.specs.declared.request.Note.{Note}
+use Rattle.lock_manager.specs.declared.request.ProcState.{ProcState}
+use Rattle.lock_manager.specs.declared.request.ProcState.TheVariants.{Unborn, Live, Waiting, Ended}
+use Rattle.lock_manager.specs.State.{State, opening_state}
+use Rattle.lock_manager.specs.Step.{Step}
+use Rattle.lock_manager.specs.OneOutcome.{StepHasOneOutcome}
+use Rattle.lock_manager.specs.ManagerView.{StandsFor, rules_of, processes_of}
+use Rattle.session_core.specs.declared.check.Replay.{Replay}
+use Rattle.session_core.specs.Event.{Event}
+use Rattle.session_core.specs.Runs.{IsStep, IsRun, Leads, AreNumbered, events_of}
+use Rattle.session_core.specs.declared.check.Expected.{Expected}
+use Rattle.session_core.specs.declared.check.Expected.TheVariants.{NoRequest, NumberAfter, Notes}
+use Rattle.session_core.specs.Legality.{WouldHave}
+use Rattle.session_core.specs.Mail.{answers_in, answers_to}
+use Rattle.session_core.specs.LastAnswers.{latest, last_of, processes_in}
+use Rattle.session_core.specs.Checking.{IsAfter}
+use Rattle.session_core.specs.Replaying.{HasMade, IsNextOf, IsOutOfTurn, Makes, Repeats, count_of}
+use Rattle.session_core.proofs.tallies.Tally.{Tallies}
+use Rattle.session_core.proofs.runs.RunLaws.{counted_answers}
+use Rattle.session_core.proofs.runs.HeadlineLaws.{replayed_tallied, answers_counted, before_birth}
+use Rattle.session_core.proofs.LastLemmas.{AreNumberedFrom, AreLastAnswers-push, last_past, latest_number, number_in}
+use Rattle.session_core.proofs.runs.JournalLemmas.{events_of-push_own, events_of-push_other, IsReplayed-push}
+
+-- what leads through two lists of events leads through a state between them
+Leads-split : (rules : Rules) (processes : ℕ) (S : State) (xs ys : List Event) (T : State) → Leads rules processes S (xs ++ ys) T
+    → (U : State) × Leads rules processes S xs U × Leads rules processes U ys T
+Leads-split rules processes S [] ys T h = (S, refl, h)
+Leads-split rules processes S (x ∷ xs) ys T h =
+    let rest = Leads-split rules processes h.0 xs ys T h.2 in (rest.0, (h.0, h.1, rest.1), rest.2)
+
+-- events lead to one state
+Leads-unique : StepHasOneOutcome → (rules : Rules) (processes : ℕ) (S : State) (events : List Event) (T U : State)
+    → Leads rules processes S events T → Leads rules processes S events U → T ≡ U
+Leads-unique one rules processes S [] T U h k = h ∙ sym k
+Leads-unique one rules processes S (event ∷ events) T U h k =
+    let outcome : (event.notes ≡ event.notes) × (h.0 ≡ k.0) =
+    one rules processes S event.p event.n event.request event.notes event.notes h.0 k.0 h.1 k.1 in
+    Leads-unique one rules processes k.0 events T U (subst (λ X. Leads rules processes X events T) outcome.1 h.2) k.2
+
+IfSome-front : {X : Type 0} (P : X → Type 0) (xs ys : List X) (place : ℕ) → IfSome (slice_get (xs ++ ys) place) P
+    → IfSome (slice_get xs place) P
+IfSome-front P [] ys place h = tt
+IfSome-front P (x ∷ xs) ys zero h = h
+IfSome-front P (x ∷ xs) ys (suc place) h = IfSome-front P xs ys place h
+
+AreNumbered-front : (xs ys : List Event) → AreNumbered (xs ++ ys) → AreNumbered xs
+AreNumbered-front xs ys h p place =
+    IfSome-front (λ event. event.n ≡ place + 1) (events_of p xs) (events_of p ys) place
+    (subst (λ l. IfSome (slice_get l place) (λ event. event.n ≡ place + 1)) (filter-append (λ event. event.p == p) xs ys) (h p place))
+
+-- a front of a run is a run
+pub IsRun-front : (rules : Rules) (processes : ℕ) (xs ys : List Event) (T : State) → IsRun rules processes (xs ++ ys) T
+    → (S : State) × IsRun rules processes xs S
+IsRun-front rules processes xs ys T run =
+    let split = Leads-split rules processes opening_state xs ys T run.leads in
+    (split.0, record { leads = split.1; numbered = AreNumbered-front xs ys run.numbered })
+
+get_last : {X : Type 0} (xs : List X) (x : X) → slice_get (xs ++ x ∷ []) (length xs) ≡ Some x
+get_last [] x = refl
+get_last (y ∷ xs) x = get_last xs x
+
+-- the last event of a run is a step from the state that the others leave, and has the next number of its process
+record IsLastStep (rules : Rules) (processes : ℕ) (S : State) (events : List Event) (event : Event) (T : State) : Type 0 where
+  step : IsStep rules processes S event T
+  number : event.n ≡ length (events_of event.p events) + 1
+
+IsRun-last : StepHasOneOutcome → (rules : Rules) (processes : ℕ) (events : List Event) (S : State) (event : Event) (T : State)
+    → IsRun rules processes events S → IsRun rules processes (events ++ event ∷ []) T → IsLastStep rules processes S events event T
+IsRun-last one rules processes events S event T before run =
+    let split = Leads-split rules processes opening_state events (event ∷ []) T run.leads in
+    let same : split.0 ≡ S = Leads-unique one rules processes opening_state events split.0 S split.1 before.leads in
+    let last : IsStep rules processes split.0 event split.2.0 = split.2.1 in
+    let place = length (events_of event.p events) in
+    let found : slice_get (events_of event.p (events ++ event ∷ [])) place ≡ Some event =
+    ap (λ l. slice_get l place) (events_of-push_own event.p events event refl) ∙ get_last (events_of event.p events) event in
+    record {
+      step = subst (λ X. IsStep rules processes X event T) same (subst (λ X. IsStep rules processes split.0 event X) (sym split.2.2) last);
+      number = subst (λ o. IfSome o (λ e. e.n ≡ place + 1)) found (run.numbered event.p place);
+    }
+
+-- the run that was made, under the rules that are given
+made_run : (rules : Rules) (processes : ℕ) (replay : Replay) (events : List Event) → (made : HasMade rules processes replay events)
+    → IsRun rules processes events made.replayed.state
+made_run rules processes replay events made =
+    subst (λ r. IsRun r processes events made.replayed.state) made.rules_are
+    (subst (λ n. IsRun (rules_of replay.manager) n events made.replayed.state) made.processes_are made.replayed.run)
+
+pub run_of : (rules : Rules) (processes : ℕ) (replay : Replay) (events : List Event) → HasMade rules processes replay events
+    → (T : State) × IsRun rules processes events T
+run_of rules processes replay events made = (made.replayed.state, made_run rules processes replay events made)
+
+-- an event with which the run goes on is the next of its process
+IsNextOf-run : StepHasOneOutcome → (rules : Rules) (processes : ℕ) (replay : Replay) (events : List Event) (event : Event) (T : State)
+    → HasMade rules processes replay events → IsRun rules processes (events ++ event ∷ []) T → IsNextOf replay event
+IsNextOf-run one rules processes replay events event T made run =
+    let r = made.replayed in
+    let last = IsRun-last one rules processes events r.state event T (made_run rules processes replay events made) run in
+    let tallied = replayed_tallied replay.manager events (rw made.processes_are made.some) r in
+    let born = tallied.tallies.born event.p (λ unborn. let no = sym last.step.live ∙ unborn in cc) in
+    record {
+      able = record { low = born.low; high = born.high; live = r.stands.states event.p ∙ last.step.live };
+      number = last.number ∙ ap (λ k. k + 1) (sym (made.counts event.p));
+    }
+
+-- where no run goes on with the event, none begins with the events before it and then it
+not_begun : (rules : Rules) (processes : ℕ) (events : List Event) (event : Event)
+    → ((T : State) → ¬ IsRun rules processes (events ++ event ∷ []) T)
+    → (more : List Event) (T : State) → ¬ IsRun rules processes (events ++ event ∷ more) T
+not_begun rules processes events event none more T run =
+    let front =
+    IsRun-front rules processes (events ++ event ∷ []) more T
+    (subst (λ l. IsRun rules processes l T) (sym (append_assoc events (event ∷ []) more)) run) in
+    none front.0 front.1
+
+not_next : (replay : Replay) (event : Event) (expected : Expected) → IsOutOfTurn replay event expected → ¬ IsNextOf replay event
+not_next replay event (NoRequest state) out next = out.1 (sym out.0 ∙ next.able.live)
+not_next replay event (NumberAfter taken) out next = out.2 (next.number ∙ ap (λ k. k + 1) (sym out.1))
+not_next replay event (Notes notes) out next = out
+
+WouldHave-out_of_turn : (rules : Rules) (processes : ℕ) (replay : Replay) (events : List Event) (event : Event) (expected : Expected)
+    → (made : HasMade rules processes replay events) → IsOutOfTurn replay event expected
+    → WouldHave rules processes events made.replayed.state event expected
+WouldHave-out_of_turn rules processes replay events event (NoRequest state) made out =
+    (sym (made.replayed.stands.states event.p) ∙ out.0, out.1)
+WouldHave-out_of_turn rules processes replay events event (NumberAfter taken) made out =
+    (sym (made.replayed.stands.states event.p) ∙ out.0, out.1 ∙ made.counts event.p, out.2)
+WouldHave-out_of_turn rules processes replay events event (Notes notes) made out = absurd out
+
+-- where the event is out of turn it is illegal
+pub Repeats-out_of_turn : StepHasOneOutcome → (old new : Replay) (event : Event) (expected : Expected) → IsOutOfTurn old event expected
+    → Repeats old new event (Some expected)
+Repeats-out_of_turn one old new event expected out rules processes events made =
+    record {
+      state = made.replayed.state;
+      run = made_run rules processes old events made;
+      would_have = WouldHave-out_of_turn rules processes old events event expected made out;
+      none =
+          not_begun rules processes events event
+          (λ T run. not_next old event expected out (IsNextOf-run one rules processes old events event T made run));
+    }
+
+count_elsewhere : (counts : List ℕ) (place n p : ℕ) → suc place ≢ p → count_of (set counts place n) p ≡ count_of counts p
+count_elsewhere counts place n zero other = refl
+count_elsewhere counts place n (suc k) other =
+    let apart : k ≢ place = λ e. other (ap suc (sym e)) in rw get_or-set_other refl
+
+-- the counts with one more request of the process of one more event
+count_of-push : (counts : List ℕ) (place : ℕ) (events : List Event) (event : Event) → suc place ≡ event.p → place < length counts
+    → event.n ≡ count_of counts event.p + 1 → ((p : ℕ) → count_of counts p ≡ length (events_of p events)) → (p : ℕ)
+    → count_of (set counts place event.n) p ≡ length (events_of p (events ++ event ∷ []))
+count_of-push counts place events event at within number h p =
+    ⊎_elim
+    (λ (own : event.p ≡ p).
+    let more : length (events_of p (events ++ event ∷ [])) ≡ length (events_of p events) + 1 =
+    ap length (events_of-push_own p events event own) ∙ length-append (events_of p events) (event ∷ []) in
+    let there : suc place ≡ p = at ∙ own in
+    let here : count_of (set counts place event.n) (suc place) ≡ event.n = rw get_or-set_same refl in
+    let counted : event.n ≡ count_of counts p + 1 = subst (λ q. event.n ≡ count_of counts q + 1) own number in
+    subst (λ q. count_of (set counts place event.n) q ≡ event.n) there here ∙ counted ∙ ap (λ k. k + 1) (h p) ∙ sym more)
+    (λ (other : event.p ≢ p).
+    let same : length (events_of p (events ++ event ∷ [])) ≡ length (events_of p events) =
+    ap length (events_of-push_other p events event other) in
+    count_elsewhere counts place event.n p (λ e. other (sym at ∙ e)) ∙ h p ∙ sym same)
+    (cases_eq event.p p)
+
+-- one more event, which the replay's manager told: the event's process and number are the next, and so many notes were told
+pub Makes-told : (old new : Replay) (event : Event) (place : ℕ) (notes : List Note) → IsNextOf old event → place ≡ event.p - 1
+    → new.taken.items ≡ set old.taken.items place event.n → rules_of new.manager ≡ rules_of old.manager
+    → processes_of new.manager ≡ processes_of old.manager
+    → ((S : State) → StandsFor old.manager S → (T : State)
+    × Step (rules_of old.manager) (processes_of old.manager) S event.p event.n event.request notes T × StandsFor new.manager T)
+    → processes_in new.answers ≡ processes_in old.answers
+    → ((p : ℕ) → 1 ≤ p → p ≤ processes_in old.answers → last_of new.answers p ≡ latest (last_of old.answers p) (answers_in p 0 notes))
+    → Makes old new (record event { notes = notes })
+Makes-told old new event place notes next at taken same_rules same_processes steps as_many latest_told rules processes events made =
+    let told : Event = record event { notes = notes } in
+    let number : event.n ≡ length (events_of event.p events) + 1 = next.number ∙ ap (λ k. k + 1) (made.counts event.p) in
+    let low : 1 ≤ event.p = next.able.low in
+    let high : event.p ≤ processes_of old.manager = next.able.high in
+    let many : length old.taken.items ≡ processes_of old.manager = old.one_each in
+    let there : suc place ≡ event.p = omega arith in
+    let within : place < length old.taken.items = omega arith in
+    record {
+      some = made.some;
+      rules_are = same_rules ∙ made.rules_are;
+      processes_are = same_processes ∙ made.processes_are;
+      replayed = IsReplayed-push old.manager new.manager events told number same_rules same_processes steps made.replayed;
+      counts = λ p.
+          subst (λ counts. count_of counts p ≡ length (events_of p (events ++ told ∷ []))) (sym taken)
+          (count_of-push old.taken.items place events told there within next.number made.counts p);
+      answered = AreLastAnswers-push processes old.answers new.answers events (events ++ told ∷ []) told refl as_many latest_told made.answered;
+    }
+
+-- the step of the event's request was made, and told other notes: the event is illegal
+pub Repeats-other_notes : StepHasOneOutcome → (old new : Replay) (event : Event) (notes : Vec Note Global) → notes.items ≢ event.notes
+    → Makes old new (record event { notes = notes.items }) → Repeats old new event (Some (Notes notes))
+Repeats-other_notes one old new event notes other makes rules processes events made =
+    let told : Event = record event { notes = notes.items } in
+    let state = made.replayed.state in
+    let run = made_run rules processes old events made in
+    let more = run_of rules processes new (events ++ told ∷ []) (makes rules processes events made) in
+    let made_step = (IsRun-last one rules processes events state told more.0 run more.1).step in
+    record {
+      state = state;
+      run = run;
+      would_have = (other, more);
+      none =
+          not_begun rules processes events event
+          (λ T run'.
+          let step = (IsRun-last one rules processes events state event T run run').step in
+          other (one rules processes state event.p event.n event.request notes.items event.notes more.0 T made_step step).0);
+    }
+
+count_of-zeros : (many p : ℕ) → count_of (replicate many 0) p ≡ 0
+count_of-zeros many zero = refl
+count_of-zeros zero (suc place) = refl
+count_of-zeros (suc many) (suc zero) = refl
+count_of-zeros (suc many) (suc (suc place)) = count_of-zeros many (suc place)
+
+-- at the opening no event was made
+pub HasMade-opening : (rules : Rules) (processes : ℕ) (replay : Replay) (many : ℕ) → 1 ≤ processes → rules_of replay.manager ≡ rules
+    → processes_of replay.manager ≡ processes → StandsFor replay.manager opening_state → replay.taken.items ≡ replicate many 0
+    → processes_in replay.answers ≡ processes → ((p : ℕ) → last_of replay.answers p ≡ None)
+    → HasMade rules processes replay []
+HasMade-opening rules processes replay many some rules_are processes_are opening zeros as_many none =
+    record {
+      some = some;
+      rules_are = rules_are;
+      processes_are = processes_are;
+      replayed = record { state = opening_state; run = record { leads = refl; numbered = λ q place. tt }; stands = opening };
+      counts = λ p. ap (λ counts. count_of counts p) zeros ∙ count_of-zeros many p;
+      answered = record { one_each = as_many; latest_is = λ p low high. none p };
+    }
+
+-- the events so far with this one are so many of all
+pub take_next : (events : List Event) (i : ℕ) (event : Event) → i < length events → event ≡ get_or events i event
+    → take (i + 1) events ≡ take i events ++ event ∷ []
+take_next events i event within at = take_more events i event within ∙ ap (λ e. take i events ++ e ∷ []) (sym at)
+
+-- where the events so far have no run with this one, all of them have none
+pub no_run : (rules : Rules) (processes : ℕ) (events : List Event) (i : ℕ) (event : Event) → i < length events
+    → event ≡ get_or events i event → ((T : State) → IsRun rules processes (take i events ++ event ∷ []) T → ⊥) → (T : State)
+    → IsRun rules processes events T → ⊥
+no_run rules processes events i event within at none T run =
+    let all : events ≡ take (i + 1) events ++ drop (i + 1) events = sym (take-append-drop (i + 1) events) in
+    let front = IsRun-front rules processes (take (i + 1) events) (drop (i + 1) events) T (subst (λ l. IsRun rules processes l T) all run) in
+    none front.0 (subst (λ l. IsRun rules processes l front.0) (take_next events i event within at) front.1)
+
+-- the manager of what was made stands for each state that the events leave
+pub after_made : StepHasOneOutcome → (rules : Rules) (processes : ℕ) (replay : Replay) (events : List Event) → HasMade rules processes replay events
+    → IsAfter rules processes events replay.manager
+after_made one rules processes replay events made =
+    let run = made_run rules processes replay events made in
+    record {
+      rules_are = made.rules_are;
+      processes_are = made.processes_are;
+      stands = λ T other.
+          subst (λ S. StandsFor replay.manager S) (Leads-unique one rules processes opening_state events made.replayed.state T run.leads other.leads)
+          made.replayed.stands;
+    }
+
+-- a process that isn't there is unborn
+unborn_outside : (processes : ℕ) (S : State) (taken answered : ℕ → ℕ) → Tallies processes S taken answered → (p : ℕ)
+    → (1 ≤ p → p ≤ processes → ⊥) → S.states p ≡ Unborn
+unborn_outside processes S taken answered t p outside = by_state (S.states p) refl
+  where
+    alive : S.states p ≢ Unborn → ⊥
+    alive some = let born = t.born p some in outside born.low born.high
+
+    by_state : (state : ProcState) → S.states p ≡ state → S.states p ≡ Unborn
+    by_state Unborn is = is
+    by_state Live is = absurd (alive (λ unborn. let no : Live ≡ Unborn = sym is ∙ unborn in cc))
+    by_state Waiting is = absurd (alive (λ unborn. let no : Waiting ≡ Unborn = sym is ∙ unborn in cc))
+    by_state Ended is = absurd (alive (λ unborn. let no : Ended ≡ Unborn = sym is ∙ unborn in cc))
+
+-- it was answered nothing
+answers_outside : (rules : Rules) (processes : ℕ) (replay : Replay) (events : List Event) (p : ℕ) → HasMade rules processes replay events
+    → (1 ≤ p → p ≤ processes → ⊥) → length (answers_to p events) ≡ 0
+answers_outside rules processes replay events p made outside =
+    let r = made.replayed in
+    let some : 1 ≤ processes_of replay.manager = rw made.processes_are made.some in
+    let tallied = replayed_tallied replay.manager events some r in
+    let unborn = unborn_outside (processes_of replay.manager) r.state _ _ tallied.tallies p (λ low high. outside low (subst (λ n. p ≤ n) made.processes_are high)) in
+    ap length (before_birth replay.manager events some r p (r.stands.states p ∙ unborn)).1
+
+-- the number of the last answer to a process, also of one that isn't there, is how many answers there are
+pub answered_made : (rules : Rules) (processes : ℕ) (replay : Replay) (events : List Event) (p : ℕ) → HasMade rules processes replay events
+    → number_in (last_of replay.answers p) ≡ length (answers_to p events)
+answered_made rules processes replay events zero made = sym (answers_outside rules processes replay events 0 made (λ low high. omega arith))
+answered_made rules processes replay events (suc place) made =
+    ⊎_elim
+    (λ (past : processes < suc place).
+    ap number_in (last_past replay.answers (suc place) (rw made.answered.one_each past))
+    ∙ sym (answers_outside rules processes replay events (suc place) made (λ low high. omega arith)))
+    (λ (within : suc place ≤ processes).
+    ap number_in (made.answered.latest_is (suc place) (omega arith) within)
+    ∙ latest_number 0 None (answers_to (suc place) events) refl numbered
+    ∙ omega arith)
+    (cases_lt processes (suc place))
+  where
+    numbered : AreNumberedFrom 0 (answers_to (suc place) events)
+    numbered at =
+        let r = made.replayed in
+        let some : 1 ≤ processes_of replay.manager = rw made.processes_are made.some in
+        let tallied = replayed_tallied replay.manager events some r in
+        counted_answers 0 (answers_to (suc place) events) (answers_counted (processes_of replay.manager) events r.state tallied (suc place)) at

@@ -1,0 +1,181 @@
+-- What holds of every run: numbers, answers in turn, and quiet after an end.
+use Rattle.std.proofs.Common.{ℕ, zero, suc, ◌≡◌, ◌≢◌, ◌+◌, ◌<◌, ◌≤◌, refl, sym, ◌∙◌, ap, subst, arith, true, false, eq-eqb, ne_eqb, length, length-append, List, [], ◌∷◌, ◌++◌, ⊎_elim, Some, IfSome, map, find, slice_get, get_or}
+use Rattle.std.specs.Prelude.{◌==◌, if◌then◌else◌}
+use Rattle.std.specs.List.{AllByRecursion as Each}
+use Rattle.std.specs.List.Sorted.{IsStrictlyIncreasing}
+use Rattle.std.proofs.lemmas.Bool.{cases_eq}
+use Rattle.std.proofs.lemmas.List.{map-append}
+use Rattle.std.proofs.lemmas.List.Elements.{All-from_recursion}
+use Rattle.std.proofs.lemmas.Option.{IfSome_then}
+use Rattle.fd_table.specs.Descriptors.{opening_descriptors}
+use Rattle.lock_manager.specs.declared.request.Rules.{Rules}
+use Rattle.lock_manager.specs.declared.request.Reply.{Reply}
+use Rattle.lock_manager.specs.declared.request.Note.{Note}
+use Rattle.lock_manager.specs.declared.request.Note.TheVariants.{Answer, Waits}
+use Rattle.lock_manager.specs.declared.request.ProcState.TheVariants.{Unborn, Live}
+use Rattle.lock_manager.specs.State.{State, opening_state}
+use Rattle.session_core.specs.Event.{Event}
+use Rattle.session_core.specs.Runs.{Leads, events_of}
+use Rattle.session_core.specs.Mail.{answers_in, answers_from}
+use Rattle.session_core.specs.Headline.{IsEnded, told_process, EndsProcess, LeavesAlone}
+use Rattle.session_core.proofs.tallies.Tally.{numbers_in, AreCountedFrom, AreCountedFrom-append, TallyAt, Tallies, Tallies-along, one_more}
+use Rattle.session_core.proofs.tallies.StepLaws.{Step-tells, Step-ends}
+
+-- the numbers of the answers to a process in these events
+abbrev pub numbers_of : ℕ → List Event → List ℕ
+numbers_of q [] = []
+numbers_of q (event ∷ events) = numbers_in q event.notes ++ numbers_of q events
+
+-- each event has the next number of its process, of which so many requests were taken before
+abbrev pub AreNext : (ℕ → ℕ) → List Event → Type 0
+AreNext taken [] = Unit {0}
+AreNext taken (event ∷ events) = (event.n ≡ taken event.p + 1) × AreNext (one_more event.p taken) events
+
+-- the numbers by process are numbers one after another
+pub AreNext-numbered : (taken : ℕ → ℕ) (events : List Event)
+    → ((q place : ℕ) → IfSome (slice_get (events_of q events) place) (λ event. event.n ≡ taken q + place + 1)) → AreNext taken events
+AreNext-numbered taken [] h = tt
+AreNext-numbered taken (event ∷ events) h =
+    let here : IfSome (Some event) (λ e. e.n ≡ taken event.p + 0 + 1) =
+    let mine : events_of event.p (event ∷ events) ≡ event ∷ events_of event.p events = rw (eq-eqb event.p event.p refl) refl in
+    subst (λ l. IfSome (slice_get l 0) (λ e. e.n ≡ taken event.p + 0 + 1)) mine (h event.p 0) in
+    let later : (q place : ℕ) → IfSome (slice_get (events_of q events) place) (λ e. e.n ≡ one_more event.p taken q + place + 1) =
+    λ q place.
+    ⊎_elim
+    (λ same.
+    let mine : events_of q (event ∷ events) ≡ event ∷ events_of q events = rw (eq-eqb event.p q same) refl in
+    let k : IfSome (slice_get (events_of q events) place) (λ e. e.n ≡ taken q + suc place + 1) =
+    subst (λ l. IfSome (slice_get l (suc place)) (λ e. e.n ≡ taken q + suc place + 1)) mine (h q (suc place)) in
+    IfSome_then (slice_get (events_of q events) place) k (λ e number. rw (eq-eqb event.p q same) (omega arith)))
+    (λ other.
+    let mine : events_of q (event ∷ events) ≡ events_of q events = rw (ne_eqb event.p q other) refl in
+    let k : IfSome (slice_get (events_of q events) place) (λ e. e.n ≡ taken q + place + 1) =
+    subst (λ l. IfSome (slice_get l place) (λ e. e.n ≡ taken q + place + 1)) mine (h q place) in
+    IfSome_then (slice_get (events_of q events) place) k (λ e number. rw (ne_eqb event.p q other) number))
+    (cases_eq event.p q) in
+    (omega arith, AreNext-numbered (one_more event.p taken) events later)
+
+-- what events leave: the tallies, the numbers of the answers, and whom they tell
+pub record IsTallied (processes : ℕ) (taken counts : ℕ → ℕ) (events : List Event) (T : State) : Type 0 where
+  pub tallies : Tallies processes T (λ q. taken q + length (events_of q events)) (λ q. counts q + length (numbers_of q events))
+  pub counted : (q : ℕ) → AreCountedFrom (counts q) (numbers_of q events)
+  pub in_range : Each (λ event. Each (λ note. (1 ≤ told_process note) × (told_process note ≤ processes)) event.notes) events
+
+taken_more : (event : Event) (events : List Event) (taken : ℕ → ℕ) (q : ℕ)
+    → one_more event.p taken q + length (events_of q events) ≡ taken q + length (events_of q (event ∷ events))
+taken_more event events taken q =
+    ⊎_elim (λ same. rw (eq-eqb event.p q same) (omega arith)) (λ other. rw (ne_eqb event.p q other) refl) (cases_eq event.p q)
+
+pub Leads-tallied : (rules : Rules) (processes : ℕ) (S : State) (events : List Event) (T : State) (taken counts : ℕ → ℕ)
+    → Tallies processes S taken counts → AreNext taken events → Leads rules processes S events T
+    → IsTallied processes taken counts events T
+Leads-tallied rules processes S [] T taken counts t next leads =
+    record {
+      tallies =
+          Tallies-along processes T taken counts (λ q. taken q + 0) (λ q. counts q + 0) (λ q. omega arith) (λ q. omega arith)
+          (subst (λ X. Tallies processes X taken counts) (sym leads) t);
+      counted = λ q. tt;
+      in_range = tt;
+    }
+Leads-tallied rules processes S (event ∷ events) T taken counts t next leads =
+    let told = Step-tells rules processes S taken counts event.p event.n event.request event.notes leads.0 t next.0 leads.1 in
+    let counts' : ℕ → ℕ = λ q. counts q + length (numbers_in q event.notes) in
+    let rest = Leads-tallied rules processes leads.0 events T (one_more event.p taken) counts' told.tallies next.1 leads.2 in
+    record {
+      tallies =
+          Tallies-along processes T (λ q. one_more event.p taken q + length (events_of q events)) (λ q. counts' q + length (numbers_of q events))
+          (λ q. taken q + length (events_of q (event ∷ events))) (λ q. counts q + length (numbers_of q (event ∷ events)))
+          (λ q. taken_more event events taken q)
+          (λ q. rw (length-append (numbers_in q event.notes) (numbers_of q events)) (omega arith))
+          rest.tallies;
+      counted = λ q. AreCountedFrom-append (counts q) (numbers_in q event.notes) (numbers_of q events) (told.counted q) (rest.counted q);
+      in_range = (told.in_range, rest.in_range);
+    }
+
+-- events after the end of a process leave it alone
+Leads-quiet : (rules : Rules) (processes : ℕ) (S : State) (events : List Event) (T : State) (taken counts : ℕ → ℕ)
+    → Tallies processes S taken counts → AreNext taken events → Leads rules processes S events T → (q : ℕ) → IsEnded (S.states q)
+    → Each (LeavesAlone q) events
+Leads-quiet rules processes S [] T taken counts t next leads q ended = tt
+Leads-quiet rules processes S (event ∷ events) T taken counts t next leads q ended =
+    let told = Step-tells rules processes S taken counts event.p event.n event.request event.notes leads.0 t next.0 leads.1 in
+    let counts' : ℕ → ℕ = λ q. counts q + length (numbers_in q event.notes) in
+    let stays = told.ended q ended in
+    let other : event.p ≢ q = λ same. subst IsEnded (ap S.states (sym same) ∙ leads.1.live) ended in (
+      (other, All-from_recursion (λ note. told_process note ≢ q) event.notes stays.1),
+      Leads-quiet rules processes leads.0 events T (one_more event.p taken) counts' told.tallies next.1 leads.2 q stays.0,
+    )
+
+-- after the event that ends a process all leave it alone
+pub Leads-quiet_after : (rules : Rules) (processes : ℕ) (S : State) (before : List Event) (event : Event) (after : List Event) (T : State)
+    (taken counts : ℕ → ℕ) → Tallies processes S taken counts → AreNext taken (before ++ event ∷ after)
+    → Leads rules processes S (before ++ event ∷ after) T → (q : ℕ) → EndsProcess event q → Each (LeavesAlone q) after
+Leads-quiet_after rules processes S [] event after T taken counts t next leads q ends =
+    let told = Step-tells rules processes S taken counts event.p event.n event.request event.notes leads.0 t next.0 leads.1 in
+    let counts' : ℕ → ℕ = λ q. counts q + length (numbers_in q event.notes) in
+    Leads-quiet rules processes leads.0 after T (one_more event.p taken) counts' told.tallies next.1 leads.2 q
+    (Step-ends rules processes S taken counts event leads.0 t next.0 leads.1 q ends)
+Leads-quiet_after rules processes S (e ∷ before) event after T taken counts t next leads q ends =
+    let told = Step-tells rules processes S taken counts e.p e.n e.request e.notes leads.0 t next.0 leads.1 in
+    let counts' : ℕ → ℕ = λ q. counts q + length (numbers_in q e.notes) in
+    Leads-quiet_after rules processes leads.0 before event after T (one_more e.p taken) counts' told.tallies next.1 leads.2 q ends
+
+-- at the opening nothing was taken or answered
+pub opening_tallies : (processes : ℕ) → 1 ≤ processes → Tallies processes opening_state (λ q. 0) (λ q. 0)
+unfolding opening_state opening_descriptors
+opening_tallies processes some =
+    record {
+      born = λ q there.
+          let first : q ≡ 1 =
+          ⊎_elim (λ e. e) (λ other. absurd (there (rw (ne_eqb q 1 other) refl))) (cases_eq q 1) in
+          record { low = omega arith; high = omega arith; alive = eq-eqb q 1 first };
+      waits = tt;
+      apart = tt;
+      tally = λ q.
+          elim (q == 1) as (λ b. TallyAt (if b then Live else Unborn) 0 0) [ true ↦ refl | false ↦ (refl, refl) ];
+    }
+
+-- the numbers of the answers are those of the notes
+answers_in-numbers : (p place : ℕ) (notes : List Note) → map (λ answer. answer.0) (answers_in p place notes) ≡ numbers_in p notes
+answers_in-numbers p place [] = refl
+answers_in-numbers p place (Answer q n reply ∷ notes) =
+    elim (q == p) as (λ b. map (λ answer. answer.0) (if b then (n, reply, place) ∷ answers_in p place notes else answers_in p place notes) ≡ (if b then n ∷ numbers_in p notes else numbers_in p notes))
+    [ true ↦ ap (λ l. n ∷ l) (answers_in-numbers p place notes) | false ↦ answers_in-numbers p place notes ]
+answers_in-numbers p place (Waits q n ∷ notes) = answers_in-numbers p place notes
+
+pub answers_from-numbers : (p place : ℕ) (events : List Event) → map (λ answer. answer.0) (answers_from p place events) ≡ numbers_of p events
+answers_from-numbers p place [] = refl
+answers_from-numbers p place (event ∷ events) =
+    map-append (λ answer. answer.0) (answers_in p place event.notes) (answers_from p (place + 1) events)
+    ∙ ap (λ l. l ++ map (λ answer. answer.0) (answers_from p (place + 1) events)) (answers_in-numbers p place event.notes)
+    ∙ ap (λ l. numbers_in p event.notes ++ l) (answers_from-numbers p (place + 1) events)
+
+-- counted numbers by place
+counted_at : (last : ℕ) (numbers : List ℕ) → AreCountedFrom last numbers → (k : ℕ) → k < length numbers → get_or numbers k 0 ≡ last + k + 1
+counted_at last [] h k within = absurd (omega arith)
+counted_at last (n ∷ numbers) h zero within = omega (arith, h.0)
+counted_at last (n ∷ numbers) h (suc k) within = let here = counted_at (last + 1) numbers h.1 k (omega arith) in omega arith
+
+pub IsStrictlyIncreasing-counted : (last : ℕ) (numbers : List ℕ) → AreCountedFrom last numbers → IsStrictlyIncreasing numbers
+IsStrictlyIncreasing-counted last numbers h k within =
+    let here = counted_at last numbers h k (omega arith) in
+    let next = counted_at last numbers h (k + 1) within in
+    omega arith
+
+pub counted_answers : (last : ℕ) (answers : List (ℕ × Reply × ℕ)) → AreCountedFrom last (map (λ answer. answer.0) answers) → (place : ℕ)
+    → IfSome (slice_get answers place) (λ answer. answer.0 ≡ last + place + 1)
+counted_answers last [] h place = tt
+counted_answers last (a ∷ answers) h zero = omega (arith, h.0)
+counted_answers last (a ∷ answers) h (suc place) =
+    IfSome_then (slice_get answers place) (counted_answers (last + 1) answers h.1 place) (λ answer e. omega arith)
+
+-- whoever's number was answered is found
+pub found_answer : (last : ℕ) (answers : List (ℕ × Reply × ℕ)) (place n : ℕ) → AreCountedFrom last (map (λ answer. answer.0) answers)
+    → n ≡ last + place + 1 → place < length answers → (answer : ℕ × Reply × ℕ) × (find (λ answer. answer.0 == n) answers ≡ Some answer)
+found_answer last [] place n h is within = absurd (omega arith)
+found_answer last (a ∷ answers) zero n h is within =
+    let same : a.0 ≡ n = omega (arith, h.0) in (a, rw (eq-eqb a.0 n same) refl)
+found_answer last (a ∷ answers) (suc place) n h is within =
+    let other : a.0 ≢ n = λ e. absurd (omega (arith, h.0)) in
+    let rest = found_answer (last + 1) answers place n h.1 (omega arith) (omega arith) in
+    (rest.0, rw (ne_eqb a.0 n other) rest.1)

@@ -1,0 +1,9 @@
+-- What each event tells, as tallies of what was taken and answered: for the headline's numbers and answers.
+pub mod DescriptorLaws
+pub mod FlockLaws
+pub mod LockLaws
+pub mod Moves
+pub mod OutcomeLaws
+pub mod ProcessLaws
+pub mod StepLaws
+pub mod Tally

@@ -1,0 +1,113 @@
+-- What the calls on descriptors come to.
+use Rattle.std.proofs.Common.{ℕ, ℤ, ◌≡◌, refl, ⊎_elim, Result, Ok, Err, OnOk, MatchResult}
+use Rattle.std.specs.Prelude.{◌==◌}
+use Rattle.fd_table.specs.declared.FdFault.{FdFault}
+use Rattle.fd_table.specs.declared.Limits.{Limits}
+use Rattle.fd_table.specs.declared.Access.{Access}
+use Rattle.fd_table.specs.Released.{Released}
+use Rattle.fd_table.specs.Descriptors.{Descriptors}
+use Rattle.fd_table.specs.Calls.{OpenGives, DupGives, DupToGives, CloseGives, SeekGives, ResizeGives}
+use Rattle.lock_manager.specs.declared.request.Rules.{Rules}
+use Rattle.lock_manager.specs.declared.request.Reply.{Reply}
+use Rattle.lock_manager.specs.declared.request.Reply.TheVariants as replies
+use Rattle.lock_manager.specs.State.{State}
+use Rattle.lock_manager.specs.Outcomes.{Outcome, IsRefusal, answered}
+use Rattle.lock_manager.specs.DescriptorCalls.{OpenComesTo, DupComesTo, DupToComesTo, CloseComesTo, SeekComesTo, ResizeComesTo, with_released}
+use Rattle.session_core.proofs.tallies.OutcomeLaws.{IsAtHand, IsTold, told_answer, told_refusal, cases_bool}
+
+-- the same processes are alive
+abbrev pub SameAlive : Descriptors → Descriptors → Type 0
+SameAlive new old = (q : ℕ) → new.ever_alive q ≡ old.ever_alive q
+
+-- no call on descriptors that succeeds begins or ends a process
+OpenGives-alive : (limits : Limits) (old : Descriptors) (p file : ℕ) (access : Access) (result : Result ℕ FdFault) (new : Descriptors)
+    → OpenGives limits old p file access result new → OnOk result (SameAlive new old)
+OpenGives-alive limits old p file access (Ok fd) new h = h.3.ever_alive
+OpenGives-alive limits old p file access (Err fault) new h = tt
+
+DupGives-alive : (limits : Limits) (old : Descriptors) (p fd : ℕ) (result : Result ℕ FdFault) (new : Descriptors)
+    → DupGives limits old p fd result new → OnOk result (SameAlive new old)
+DupGives-alive limits old p fd (Ok free) new h = h.3.ever_alive
+DupGives-alive limits old p fd (Err fault) new h = tt
+
+DupToGives-alive : (limits : Limits) (old : Descriptors) (p fd to : ℕ) (result : Result (ℕ × Released) FdFault) (new : Descriptors)
+    → DupToGives limits old p fd to result new → OnOk result (SameAlive new old)
+DupToGives-alive limits old p fd to (Ok answer) new h =
+    ⊎_elim (λ onto_itself. onto_itself.1.ever_alive) (λ moved. moved.0.ever_alive) (cases_bool (to == fd) h.4)
+DupToGives-alive limits old p fd to (Err fault) new h = tt
+
+CloseGives-alive : (old : Descriptors) (p fd : ℕ) (result : Result Released FdFault) (new : Descriptors)
+    → CloseGives old p fd result new → OnOk result (SameAlive new old)
+CloseGives-alive old p fd (Ok released) new h = h.1.ever_alive
+CloseGives-alive old p fd (Err fault) new h = tt
+
+SeekGives-alive : (old : Descriptors) (p fd : ℕ) (offset : ℤ) (result : Result (Unit {0}) FdFault) (new : Descriptors)
+    → SeekGives old p fd offset result new → OnOk result (SameAlive new old)
+SeekGives-alive old p fd offset (Ok done) new h = h.4.ever_alive
+SeekGives-alive old p fd offset (Err fault) new h = tt
+
+ResizeGives-alive : (old : Descriptors) (p fd : ℕ) (size : ℤ) (result : Result (Unit {0}) FdFault) (new : Descriptors)
+    → ResizeGives old p fd size result new → OnOk result (SameAlive new old)
+ResizeGives-alive old p fd size (Ok done) new h = h.4.ever_alive
+ResizeGives-alive old p fd size (Err fault) new h = tt
+
+-- a call that leaves other descriptors
+told_call : {X : Type 0} (processes : ℕ) (S : State) (taken counts : ℕ → ℕ) (p n : ℕ) (reply : X → Reply) (result : Result X FdFault)
+    (descriptors : Descriptors) (outcome : Outcome) → IsAtHand processes S taken counts p n
+    → OnOk result (SameAlive descriptors S.descriptors)
+    → MatchResult result (λ x. outcome ≡ answered (record S { descriptors = descriptors }) p n (reply x)) (λ fault. IsRefusal S p n fault outcome)
+    → IsTold processes S taken counts p outcome
+told_call processes S taken counts p n reply (Ok x) descriptors outcome h alive is =
+    told_answer processes S (record S { descriptors = descriptors }) taken counts p n (reply x) outcome h
+    (record { states = refl; waits = refl; alive = alive }) is
+told_call processes S taken counts p n reply (Err fault) descriptors outcome h alive is =
+    told_refusal processes S taken counts p n fault outcome h is
+
+-- a call that leaves other descriptors, and releases locks
+told_release : {X : Type 0} (processes : ℕ) (S : State) (taken counts : ℕ → ℕ) (p n : ℕ) (reply : X → Reply) (released : X → Released)
+    (result : Result X FdFault) (descriptors : Descriptors) (outcome : Outcome) → IsAtHand processes S taken counts p n
+    → OnOk result (SameAlive descriptors S.descriptors)
+    → MatchResult result (λ x. outcome ≡ answered (with_released S descriptors p (released x)) p n (reply x)) (λ fault. IsRefusal S p n fault outcome)
+    → IsTold processes S taken counts p outcome
+told_release processes S taken counts p n reply released (Ok x) descriptors outcome h alive is =
+    told_answer processes S (with_released S descriptors p (released x)) taken counts p n (reply x) outcome h
+    (record { states = refl; waits = refl; alive = alive }) is
+told_release processes S taken counts p n reply released (Err fault) descriptors outcome h alive is =
+    told_refusal processes S taken counts p n fault outcome h is
+
+pub told_open : (rules : Rules) (processes : ℕ) (S : State) (taken counts : ℕ → ℕ) (p n file : ℕ) (access : Access) (outcome : Outcome)
+    → IsAtHand processes S taken counts p n → OpenComesTo rules S p n file access outcome
+    → IsTold processes S taken counts p outcome
+told_open rules processes S taken counts p n file access outcome h is =
+    told_call processes S taken counts p n (λ fd. replies.Fd fd) is.0 is.1 outcome h
+    (OpenGives-alive rules.limits S.descriptors p file access is.0 is.1 is.2) is.3
+
+pub told_dup : (rules : Rules) (processes : ℕ) (S : State) (taken counts : ℕ → ℕ) (p n fd : ℕ) (outcome : Outcome)
+    → IsAtHand processes S taken counts p n → DupComesTo rules S p n fd outcome → IsTold processes S taken counts p outcome
+told_dup rules processes S taken counts p n fd outcome h is =
+    told_call processes S taken counts p n (λ free. replies.Fd free) is.0 is.1 outcome h
+    (DupGives-alive rules.limits S.descriptors p fd is.0 is.1 is.2) is.3
+
+pub told_dup_to : (rules : Rules) (processes : ℕ) (S : State) (taken counts : ℕ → ℕ) (p n fd to : ℕ) (outcome : Outcome)
+    → IsAtHand processes S taken counts p n → DupToComesTo rules S p n fd to outcome → IsTold processes S taken counts p outcome
+told_dup_to rules processes S taken counts p n fd to outcome h is =
+    told_release processes S taken counts p n (λ answer. replies.Fd answer.0) (λ answer. answer.1) is.0 is.1 outcome h
+    (DupToGives-alive rules.limits S.descriptors p fd to is.0 is.1 is.2) is.3
+
+pub told_close : (processes : ℕ) (S : State) (taken counts : ℕ → ℕ) (p n fd : ℕ) (outcome : Outcome)
+    → IsAtHand processes S taken counts p n → CloseComesTo S p n fd outcome → IsTold processes S taken counts p outcome
+told_close processes S taken counts p n fd outcome h is =
+    told_release processes S taken counts p n (λ released. replies.Ok) (λ released. released) is.0 is.1 outcome h
+    (CloseGives-alive S.descriptors p fd is.0 is.1 is.2) is.3
+
+pub told_seek : (processes : ℕ) (S : State) (taken counts : ℕ → ℕ) (p n fd : ℕ) (offset : ℤ) (outcome : Outcome)
+    → IsAtHand processes S taken counts p n → SeekComesTo S p n fd offset outcome → IsTold processes S taken counts p outcome
+told_seek processes S taken counts p n fd offset outcome h is =
+    told_call processes S taken counts p n (λ done. replies.Ok) is.0 is.1 outcome h
+    (SeekGives-alive S.descriptors p fd offset is.0 is.1 is.2) is.3
+
+pub told_resize : (processes : ℕ) (S : State) (taken counts : ℕ → ℕ) (p n fd : ℕ) (size : ℤ) (outcome : Outcome)
+    → IsAtHand processes S taken counts p n → ResizeComesTo S p n fd size outcome → IsTold processes S taken counts p outcome
+told_resize processes S taken counts p n fd size outcome h is =
+    told_call processes S taken counts p n (λ done. replies.Ok) is.0 is.1 outcome h
+    (ResizeGives-alive S.descriptors p fd size is.0 is.1 is.2) is.3

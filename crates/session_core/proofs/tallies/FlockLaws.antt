@@ -1,0 +1,182 @@
+-- What flock comes to.
+use Rattle.std.proofs.Common.{ℕ, ◌≡◌, ◌≢◌, ◌+◌, ◌≤◌, refl, sym, ◌∙◌, ap, subst, Bool, true, false, length, List, [], ◌∷◌, ◌++◌, ⊎_elim, Option, Some, None}
+use Rattle.std.specs.Prelude.{◌==◌, if◌then◌else◌}
+use Rattle.std.specs.List.{AllByRecursion as Each}
+use Rattle.std.proofs.lemmas.List.{append-nil}
+use Rattle.range_core.specs.declared.Mode.{Mode}
+use Rattle.range_core.specs.declared.Mode.TheVariants.{Read, Write}
+use Rattle.lock_book.specs.Changes.{flock_mode_in}
+use Rattle.fd_table.specs.declared.tables.Look.{Look}
+use Rattle.fd_table.specs.Descriptors.{look_at}
+use Rattle.wait_core.specs.declared.Policy.{Policy}
+use Rattle.wait_core.specs.declared.Wait.{Wait}
+use Rattle.lock_manager.specs.declared.request.Rules.{Rules}
+use Rattle.lock_manager.specs.declared.request.FlockOp.{FlockOp}
+use Rattle.lock_manager.specs.declared.request.FlockOp.TheVariants.{Sh, Ex, Un}
+use Rattle.lock_manager.specs.declared.request.Note.{Note}
+use Rattle.lock_manager.specs.declared.request.Note.TheVariants.{Answer, Waits}
+use Rattle.lock_manager.specs.declared.request.Errno.TheVariants.{EAGAIN}
+use Rattle.lock_manager.specs.declared.request.Reply.{Reply}
+use Rattle.lock_manager.specs.declared.request.Reply.TheVariants as replies
+use Rattle.lock_manager.specs.declared.request.ProcState.{ProcState}
+use Rattle.lock_manager.specs.declared.request.ProcState.TheVariants.{Live, Waiting}
+use Rattle.lock_manager.specs.State.{State, with_flock_mode, with_lock, with_process}
+use Rattle.lock_manager.specs.Settling.{Settles, granted}
+use Rattle.lock_manager.specs.Outcomes.{Outcome, answered, answered_then, waits_then}
+use Rattle.lock_manager.specs.FlockCalls.{FlockComesTo, FlockOpComesTo, FlockModeComesTo, FlockTestComesTo, is_same_mode, wanted_flock}
+use Rattle.session_core.specs.Headline.{told_process, IsEnded}
+use Rattle.session_core.proofs.tallies.Tally.{numbers_in, AreCountedFrom, Tallies, Tells, MovesOne-tells, Tells-then, Tallies-along, numbers_in-append, one_more, Each-middle}
+use Rattle.session_core.proofs.tallies.Moves.{SameProcesses, SameProcesses-refl, SameProcesses-lock, Settles-tells, nothing_told, tallies_kept, wait_moves}
+use Rattle.session_core.proofs.tallies.OutcomeLaws.{IsAtHand, IsTold, told_answer, told_refused, cases_fact, cases_bool, cases_option}
+
+-- from the state S these grants lead to the state T, whatever was taken and answered before, and the caller still lives
+record Grants (processes : ℕ) (S : State) (p : ℕ) (grants : List Note) (T : State) : Type 0 where
+  pub tells : (taken counts : ℕ → ℕ) → Tallies processes S taken counts → Tells processes S.states counts grants T taken
+  pub live : T.states p ≡ Live
+
+-- no grants
+no_grants : (processes : ℕ) (S : State) (p : ℕ) → S.states p ≡ Live → Grants processes S p [] S
+no_grants processes S p live =
+    record { tells = λ taken counts t. nothing_told processes S S taken counts (SameProcesses-refl S) t; live = live }
+
+-- who lives lives after a grant
+granted_live : (S : State) (before : List Wait) (wait : Wait) (after : List Wait) (p : ℕ) → S.states p ≡ Live
+    → (granted S before wait after).states p ≡ Live
+granted_live S before wait after p live =
+    let stays : (with_lock S wait).states p ≡ Live = ap (λ states. states p) (SameProcesses-lock S wait).states ∙ live in
+    elim (p == wait.p) as (λ b. (if b then Live else (with_lock S wait).states p) ≡ Live) [ true ↦ refl | false ↦ stays ]
+
+-- who lives lives after settling
+Settles-live : (policy : Policy) (S : State) (grants : List Note) (T : State) (p : ℕ) → S.states p ≡ Live → Settles policy S grants T
+    → T.states p ≡ Live
+Settles-live policy S [] T p live h = ap (λ X. X.states p) h.1 ∙ live
+Settles-live policy S (grant ∷ grants) T p live h =
+    Settles-live policy (granted S h.0 h.1 h.2) grants T p (granted_live S h.0 h.1 h.2 p live) h.5
+
+-- the grants after a lock was removed
+settled_grants : (processes : ℕ) (policy : Policy) (S U : State) (p : ℕ) (grants : List Note) (T : State) → SameProcesses S U
+    → S.states p ≡ Live → Settles policy U grants T → Grants processes S p grants T
+settled_grants processes policy S U p grants T same live h =
+    record {
+      tells = λ taken counts t.
+          subst (λ states. Tells processes states counts grants T taken) same.states
+          (Settles-tells processes policy U grants T taken counts (tallies_kept processes S U taken counts same t) h);
+      live = Settles-live policy U grants T p (ap (λ states. states p) same.states ∙ live) h;
+    }
+
+-- the same was told where a state with the same processes is reached
+Tells-same : (processes : ℕ) (states : ℕ → ProcState) (counts : ℕ → ℕ) (notes : List Note) (S T : State) (taken : ℕ → ℕ)
+    → SameProcesses S T → Tells processes states counts notes S taken → Tells processes states counts notes T taken
+Tells-same processes states counts notes S T taken same h =
+    record {
+      tallies = tallies_kept processes S T taken (λ q. counts q + length (numbers_in q notes)) same h.tallies;
+      counted = h.counted;
+      in_range = h.in_range;
+      ended = λ q e. (subst IsEnded (sym (ap (λ states. states q) same.states)) (h.ended q e).0, (h.ended q e).1);
+    }
+
+-- the caller is answered, and then the grants are told
+told_answer_then : (processes : ℕ) (S settled T : State) (taken counts : ℕ → ℕ) (p n : ℕ) (reply : Reply) (grants : List Note) (outcome : Outcome)
+    → IsAtHand processes S taken counts p n → Grants processes S p grants settled → SameProcesses settled T
+    → outcome ≡ answered_then T p n reply grants → IsTold processes S taken counts p outcome
+told_answer_then processes S settled T taken counts p n reply grants outcome h made same is =
+    let told : List Note = Answer p n reply ∷ [] in
+    let first = told_answer processes S S taken counts p n reply (answered S p n reply) h (SameProcesses-refl S) refl in
+    let second = made.tells (one_more p taken) (λ q. counts q + length (numbers_in q told)) first.tallies in
+    subst (IsTold processes S taken counts p) (sym is)
+    (Tells-same processes S.states counts (Answer p n reply ∷ grants) settled T (one_more p taken) same
+    (Tells-then processes S.states counts told S (one_more p taken) grants settled (one_more p taken) first second))
+
+-- what holds of each with one at the end holds of each with that one at the head
+Each-last : {X : Type 0} (P : X → Type 0) (xs : List X) (x : X) → Each P (xs ++ x ∷ []) → Each P (x ∷ xs)
+Each-last P xs x h = let k = Each-middle P xs x [] h in (k.0, subst (λ l. Each P l) (append-nil xs) k.1)
+
+-- a note that a process waits may stand first as well as last, for it is no answer
+waits_first : (processes : ℕ) (states : ℕ → ProcState) (counts : ℕ → ℕ) (p n : ℕ) (notes : List Note) (T : State) (taken : ℕ → ℕ)
+    → Tells processes states counts (notes ++ Waits p n ∷ []) T taken → Tells processes states counts (Waits p n ∷ notes) T taken
+waits_first processes states counts p n notes T taken h =
+    let same : (q : ℕ) → numbers_in q (notes ++ Waits p n ∷ []) ≡ numbers_in q notes =
+    λ q. numbers_in-append q notes (Waits p n ∷ []) ∙ append-nil (numbers_in q notes) in
+    record {
+      tallies =
+          Tallies-along processes T taken (λ q. counts q + length (numbers_in q (notes ++ Waits p n ∷ []))) taken
+          (λ q. counts q + length (numbers_in q notes))
+          (λ q. refl)
+          (λ q. ap (λ l. counts q + length l) (same q))
+          h.tallies;
+      counted = λ q. subst (λ l. AreCountedFrom (counts q) l) (same q) (h.counted q);
+      in_range = Each-last (λ note. (1 ≤ told_process note) × (told_process note ≤ processes)) notes (Waits p n) h.in_range;
+      ended = λ q e. ((h.ended q e).0, Each-last (λ note. told_process note ≢ q) notes (Waits p n) (h.ended q e).1);
+    }
+
+-- the caller waits, and then the grants are told
+told_waits_then : (processes : ℕ) (S settled : State) (taken counts : ℕ → ℕ) (wanted : Wait) (grants : List Note) (outcome : Outcome)
+    → IsAtHand processes S taken counts wanted.p wanted.n → Grants processes S wanted.p grants settled
+    → outcome ≡ waits_then settled wanted grants → IsTold processes S taken counts wanted.p outcome
+told_waits_then processes S settled taken counts wanted grants outcome h made is =
+    let T : State = with_process (record settled { waits = settled.waits ++ wanted ∷ [] }) wanted.p Waiting in
+    let counts' : ℕ → ℕ = λ q. counts q + length (numbers_in q grants) in
+    let told : List Note = Waits wanted.p wanted.n ∷ [] in
+    let first = made.tells taken counts h.tallies in
+    let second : Tells processes settled.states counts' told T (one_more wanted.p taken) =
+    MovesOne-tells processes settled taken counts' wanted.p told T (one_more wanted.p taken) first.tallies
+    (wait_moves processes settled T taken counts' wanted first.tallies made.live h.number (λ q. refl) refl (λ q e. e)) in
+    subst (IsTold processes S taken counts wanted.p) (sym is)
+    (waits_first processes S.states counts wanted.p wanted.n grants T (one_more wanted.p taken)
+    (Tells-then processes S.states counts grants settled taken told T (one_more wanted.p taken) first second))
+
+-- the test of a request, behind the grants of a conversion, if there was one
+told_flock_test : (rules : Rules) (processes : ℕ) (S settled : State) (taken counts : ℕ → ℕ) (nb : Bool) (wanted : Wait) (grants : List Note)
+    (outcome : Outcome) → IsAtHand processes S taken counts wanted.p wanted.n → Grants processes S wanted.p grants settled
+    → FlockTestComesTo rules settled nb wanted grants outcome → IsTold processes S taken counts wanted.p outcome
+told_flock_test rules processes S settled taken counts true wanted grants outcome h made is =
+    ⊎_elim
+    (λ no.
+    told_answer_then processes S settled settled taken counts wanted.p wanted.n (replies.Err EAGAIN) grants outcome h made
+    (SameProcesses-refl settled) no)
+    (λ yes.
+    told_answer_then processes S settled (with_lock settled wanted) taken counts wanted.p wanted.n replies.Ok grants outcome h made
+    (SameProcesses-lock settled wanted) yes)
+    (cases_fact is)
+told_flock_test rules processes S settled taken counts false wanted grants outcome h made is =
+    ⊎_elim (λ waits. told_waits_then processes S settled taken counts wanted grants outcome h made waits)
+    (λ yes.
+    told_answer_then processes S settled (with_lock settled wanted) taken counts wanted.p wanted.n replies.Ok grants outcome h made
+    (SameProcesses-lock settled wanted) yes)
+    (cases_fact is)
+
+-- a lock is asked for, of a description that has this mode or none
+told_flock_mode : (rules : Rules) (processes : ℕ) (S : State) (taken counts : ℕ → ℕ) (look : Look) (nb : Bool) (wanted : Wait)
+    (mode : Option Mode) (outcome : Outcome) → IsAtHand processes S taken counts wanted.p wanted.n
+    → FlockModeComesTo rules S look nb wanted mode outcome → IsTold processes S taken counts wanted.p outcome
+told_flock_mode rules processes S taken counts look nb wanted None outcome h is =
+    told_flock_test rules processes S S taken counts nb wanted [] outcome h (no_grants processes S wanted.p h.live) is
+told_flock_mode rules processes S taken counts look nb wanted (Some held) outcome h is =
+    ⊎_elim (λ already. told_answer processes S S taken counts wanted.p wanted.n replies.Ok outcome h (SameProcesses-refl S) already)
+    (λ converted.
+    let U : State = with_flock_mode S look.file look.desc None in
+    told_flock_test rules processes S converted.1 taken counts nb wanted converted.0 outcome h
+    (settled_grants processes rules.policy S U wanted.p converted.0 converted.1 (record { states = refl; waits = refl; alive = λ q. refl })
+    h.live converted.2) converted.3)
+    (cases_bool (is_same_mode held wanted.mode) is)
+
+told_flock_op : (rules : Rules) (processes : ℕ) (S : State) (taken counts : ℕ → ℕ) (p n : ℕ) (look : Look) (op : FlockOp) (nb : Bool)
+    (outcome : Outcome) → IsAtHand processes S taken counts p n → FlockOpComesTo rules S p n look op nb outcome
+    → IsTold processes S taken counts p outcome
+told_flock_op rules processes S taken counts p n look Un nb outcome h is =
+    told_answer processes S (with_flock_mode S look.file look.desc None) taken counts p n replies.Ok outcome h
+    (record { states = refl; waits = refl; alive = λ q. refl }) is
+told_flock_op rules processes S taken counts p n look Sh nb outcome h is =
+    told_flock_mode rules processes S taken counts look nb (wanted_flock p n look Read) (flock_mode_in S.flock_changes look.file look.desc)
+    outcome h is
+told_flock_op rules processes S taken counts p n look Ex nb outcome h is =
+    told_flock_mode rules processes S taken counts look nb (wanted_flock p n look Write) (flock_mode_in S.flock_changes look.file look.desc)
+    outcome h is
+
+pub told_flock : (rules : Rules) (processes : ℕ) (S : State) (taken counts : ℕ → ℕ) (p n fd : ℕ) (op : FlockOp) (nb : Bool)
+    (outcome : Outcome) → IsAtHand processes S taken counts p n → FlockComesTo rules S p n fd op nb outcome
+    → IsTold processes S taken counts p outcome
+told_flock rules processes S taken counts p n fd op nb outcome h is =
+    ⊎_elim (λ no. told_refused processes S taken counts p n _ outcome h no)
+    (λ opened. told_flock_op rules processes S taken counts p n opened.0 op nb outcome h opened.1)
+    (cases_option (λ look. FlockOpComesTo rules S p n look op nb outcome) (look_at S.descriptors p fd) is)

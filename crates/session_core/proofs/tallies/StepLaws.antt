@@ -1,0 +1,135 @@
+-- What each step tells and leaves.
+use Rattle.std.proofs.Common.{ℕ, ◌≡◌, ◌≢◌, ◌+◌, ◌≤◌, inl, inr, refl, sym, ◌∙◌, ap, subst, arith, eq-eqb, ne_eqb, length, List, [], ◌∷◌, ◌++◌, ⊎_elim}
+use Rattle.std.specs.List.{Contains, AllByRecursion as Each}
+use Rattle.std.proofs.lemmas.Bool.{cases_eq}
+use Rattle.std.proofs.lemmas.List.Elements.{All-contains, All-from_recursion}
+use Rattle.lock_manager.specs.declared.request.Rules.{Rules}
+use Rattle.lock_manager.specs.declared.request.Request.{Request}
+use Rattle.lock_manager.specs.declared.request.Request.TheVariants.{OpenFile, Dup, DupTo, CloseFd, Seek, Resize, Lk, Flock, Fork, Exit, Signal, Kill}
+use Rattle.lock_manager.specs.declared.request.Note.{Note}
+use Rattle.lock_manager.specs.declared.request.Note.TheVariants.{Answer, Waits}
+use Rattle.lock_manager.specs.declared.request.Errno.{Errno}
+use Rattle.lock_manager.specs.declared.request.Errno.TheVariants.{ESRCH}
+use Rattle.lock_manager.specs.declared.request.Reply.{Reply}
+use Rattle.lock_manager.specs.declared.request.Reply.TheVariants as replies
+use Rattle.lock_manager.specs.State.{State}
+use Rattle.lock_manager.specs.Outcomes.{Outcome, refused}
+use Rattle.lock_manager.specs.ProcessCalls.{EndComesTo, KillComesTo}
+use Rattle.lock_manager.specs.Step.{ComesTo, Step}
+use Rattle.session_core.specs.Event.{Event}
+use Rattle.session_core.specs.Runs.{IsStep}
+use Rattle.session_core.specs.Headline.{IsEnded, EndsProcess}
+use Rattle.session_core.proofs.tallies.Tally.{numbers_in, AreCountedFrom, TallyAt, Tallies, Tells, Tells-then, one_more}
+use Rattle.session_core.proofs.tallies.Moves.{Settles-tells}
+use Rattle.session_core.proofs.tallies.OutcomeLaws.{IsAtHand, IsTold}
+use Rattle.session_core.proofs.tallies.DescriptorLaws.{told_open, told_dup, told_dup_to, told_close, told_seek, told_resize}
+use Rattle.session_core.proofs.tallies.LockLaws.{told_lock}
+use Rattle.session_core.proofs.tallies.FlockLaws.{told_flock}
+use Rattle.session_core.proofs.tallies.ProcessLaws.{told_fork, told_exit, told_signal, told_kill, ended_by_end, ended_by_own_kill, killed_or_refused}
+
+-- whatever the request, it is told what it should be: one case for each request that is served
+told_request : (rules : Rules) (processes : ℕ) (S : State) (taken counts : ℕ → ℕ) (p n : ℕ) (request : Request) (outcome : Outcome)
+    → IsAtHand processes S taken counts p n → ComesTo rules processes S p n request outcome → IsTold processes S taken counts p outcome
+told_request rules processes S taken counts p n (OpenFile file access) outcome h is = told_open rules processes S taken counts p n file access outcome h is
+told_request rules processes S taken counts p n (Dup fd) outcome h is = told_dup rules processes S taken counts p n fd outcome h is
+told_request rules processes S taken counts p n (DupTo fd to) outcome h is = told_dup_to rules processes S taken counts p n fd to outcome h is
+told_request rules processes S taken counts p n (CloseFd fd) outcome h is = told_close processes S taken counts p n fd outcome h is
+told_request rules processes S taken counts p n (Seek fd offset) outcome h is = told_seek processes S taken counts p n fd offset outcome h is
+told_request rules processes S taken counts p n (Resize fd size) outcome h is = told_resize processes S taken counts p n fd size outcome h is
+told_request rules processes S taken counts p n (Lk fd cmd lock) outcome h is = told_lock rules processes S taken counts p n fd cmd lock outcome h is
+told_request rules processes S taken counts p n (Flock fd op nb) outcome h is = told_flock rules processes S taken counts p n fd op nb outcome h is
+told_request rules processes S taken counts p n (Fork child) outcome h is = told_fork processes S taken counts p n child outcome h is
+told_request rules processes S taken counts p n Exit outcome h is = told_exit processes S taken counts p n outcome h is
+told_request rules processes S taken counts p n (Signal target) outcome h is =
+    told_signal processes S taken counts p n target (S.states target) outcome h is
+told_request rules processes S taken counts p n (Kill target) outcome h is = told_kill processes S taken counts p n target outcome h is
+
+-- what the request of a step comes to tells what it should
+request_tells : (rules : Rules) (processes : ℕ) (S : State) (taken counts : ℕ → ℕ) (p n : ℕ) (request : Request) (notes : List Note)
+    (T : State) → Tallies processes S taken counts → n ≡ taken p + 1 → (step : Step rules processes S p n request notes T)
+    → IsTold processes S taken counts p step.outcome
+request_tells rules processes S taken counts p n request notes T t number step =
+    told_request rules processes S taken counts p n request step.outcome (record { tallies = t; live = step.live; number = number }) step.comes_to
+
+-- and so do the grants after it
+grants_tell : (rules : Rules) (processes : ℕ) (S : State) (taken counts : ℕ → ℕ) (p n : ℕ) (request : Request) (notes : List Note)
+    (T : State) → Tallies processes S taken counts → n ≡ taken p + 1 → (step : Step rules processes S p n request notes T)
+    → Tells processes step.outcome.after.states (λ q. counts q + length (numbers_in q step.outcome.told)) step.grants T (one_more p taken)
+grants_tell rules processes S taken counts p n request notes T t number step =
+    let told = step.outcome.told in
+    let first = request_tells rules processes S taken counts p n request notes T t number step in
+    Settles-tells processes rules.policy step.outcome.after step.grants T (one_more p taken) (λ q. counts q + length (numbers_in q told)) first.tallies step.settles
+
+-- each step tells what it should
+pub Step-tells : (rules : Rules) (processes : ℕ) (S : State) (taken counts : ℕ → ℕ) (p n : ℕ) (request : Request) (notes : List Note)
+    (T : State) → Tallies processes S taken counts → n ≡ taken p + 1 → Step rules processes S p n request notes T
+    → Tells processes S.states counts notes T (one_more p taken)
+Step-tells rules processes S taken counts p n request notes T t number step =
+    let first = request_tells rules processes S taken counts p n request notes T t number step in
+    let second = grants_tell rules processes S taken counts p n request notes T t number step in
+    subst (λ notes. Tells processes S.states counts notes T (one_more p taken)) (sym step.are_notes)
+    (Tells-then processes S.states counts step.outcome.told step.outcome.after (one_more p taken) step.grants T (one_more p taken) first second)
+
+-- whose numbers go on after one is not answered that one again
+not_again : (p n : ℕ) (reply : Reply) (last : ℕ) (notes : List Note) → n ≤ last → AreCountedFrom last (numbers_in p notes)
+    → Each (λ note. note ≢ Answer p n reply) notes
+not_again p n reply last [] low h = tt
+not_again p n reply last (Waits q m ∷ notes) low h = ((λ e. cc), not_again p n reply last notes low h)
+not_again p n reply last (Answer q m other ∷ notes) low h =
+    ⊎_elim
+    (λ same.
+    let first : numbers_in p (Answer q m other ∷ notes) ≡ m ∷ numbers_in p notes = rw (eq-eqb q p same) refl in
+    let k : AreCountedFrom last (m ∷ numbers_in p notes) = subst (λ l. AreCountedFrom last l) first h in
+    ((λ e. let number : m ≡ n = cc in absurd (omega (arith, k.0))), not_again p n reply (last + 1) notes (omega arith) k.1))
+    (λ differs.
+    let later : numbers_in p (Answer q m other ∷ notes) ≡ numbers_in p notes = rw (ne_eqb q p differs) refl in
+    ((λ e. differs cc), not_again p n reply last notes low (subst (λ l. AreCountedFrom last l) later h)))
+    (cases_eq q p)
+
+-- a request that was refused isn't answered Ok as well
+refused_not_done : (rules : Rules) (processes : ℕ) (S : State) (taken counts : ℕ → ℕ) (p n : ℕ) (request : Request) (notes : List Note)
+    (T : State) (error : Errno) → Tallies processes S taken counts → n ≡ taken p + 1
+    → (step : Step rules processes S p n request notes T) → step.outcome ≡ refused S p n error → ¬ Contains notes (Answer p n replies.Ok)
+refused_not_done rules processes S taken counts p n request notes T error t number step is among =
+    let told : List Note = Answer p n (replies.Err error) ∷ [] in
+    let all : notes ≡ told ++ step.grants = step.are_notes ∙ ap (λ o. o.told ++ step.grants) is in
+    let later = grants_tell rules processes S taken counts p n request notes T t number step in
+    let one : length (numbers_in p told) ≡ 1 = rw (eq-eqb p p refl) refl in
+    let last : counts p + length (numbers_in p step.outcome.told) ≡ n =
+    ap (λ o. counts p + length (numbers_in p o.told)) is ∙ ap (λ k. counts p + k) one
+    ∙ ap (λ k. k + 1) (subst (λ s. TallyAt s (taken p) (counts p)) step.live (t.tally p)) ∙ sym number in
+    let others = not_again p n replies.Ok n step.grants (omega arith) (subst (λ k. AreCountedFrom k (numbers_in p step.grants)) last (later.counted p)) in
+    let none : Each (λ note. note ≢ Answer p n replies.Ok) (told ++ step.grants) = ((λ e. cc), others) in
+    All-contains (λ note. note ≢ Answer p n replies.Ok) (told ++ step.grants) (Answer p n replies.Ok)
+    (All-from_recursion (λ note. note ≢ Answer p n replies.Ok) (told ++ step.grants) none)
+    (subst (λ l. Contains l (Answer p n replies.Ok)) all among) refl
+
+-- before the grants of the event that ends a process it has ended
+outcome_ends : (rules : Rules) (processes : ℕ) (S : State) (taken counts : ℕ → ℕ) (event : Event) (T : State)
+    → Tallies processes S taken counts → event.n ≡ taken event.p + 1 → (step : IsStep rules processes S event T) → (q : ℕ)
+    → EndsProcess event q → IsEnded (step.outcome.after.states q)
+outcome_ends rules processes S taken counts event T t number step q (inl exit) =
+    let is : EndComesTo S event.p [] step.outcome =
+    subst (λ request. ComesTo rules processes S event.p event.n request step.outcome) exit.1 step.comes_to in
+    subst (λ p. IsEnded (step.outcome.after.states p)) exit.0 (ended_by_end S event.p [] step.outcome is)
+outcome_ends rules processes S taken counts event T t number step q (inr (inl kill)) =
+    let is : KillComesTo S event.p event.n q step.outcome =
+    subst (λ request. ComesTo rules processes S event.p event.n request step.outcome) kill.1 step.comes_to in
+    let own : KillComesTo S q event.n q step.outcome = subst (λ p. KillComesTo S p event.n q step.outcome) kill.0 is in
+    ended_by_own_kill S q event.n step.outcome own
+outcome_ends rules processes S taken counts event T t number step q (inr (inr kill)) =
+    let is : KillComesTo S event.p event.n q step.outcome =
+    subst (λ request. ComesTo rules processes S event.p event.n request step.outcome) kill.1 step.comes_to in
+    ⊎_elim (λ ended. ended)
+    (λ refusal.
+    absurd
+    (refused_not_done rules processes S taken counts event.p event.n event.request event.notes T ESRCH t number step refusal kill.2))
+    (killed_or_refused S event.p event.n q step.outcome kill.0 is)
+
+-- after the step that ends a process it has ended
+pub Step-ends : (rules : Rules) (processes : ℕ) (S : State) (taken counts : ℕ → ℕ) (event : Event) (T : State)
+    → Tallies processes S taken counts → event.n ≡ taken event.p + 1 → IsStep rules processes S event T → (q : ℕ) → EndsProcess event q
+    → IsEnded (T.states q)
+Step-ends rules processes S taken counts event T t number step q ends =
+    let later = grants_tell rules processes S taken counts event.p event.n event.request event.notes T t number step in
+    (later.ended q (outcome_ends rules processes S taken counts event T t number step q ends)).0
