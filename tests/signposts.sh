@@ -62,7 +62,7 @@ rows > "$rows"
 while read -r crate name; do
     case $name in
         */*) look "$crate has no $name" [ -e "crates/$crate/$name" ] ;;
-        *) look "$crate has no lemma $name" grep -qwF -e "${name#*.}" "crates/$crate/proofs/${name%%.*}.antt" ;;
+        *) look "$crate has no lemma $name" grep -rqwF --include="${name%%.*}.antt" -e "${name#*.}" "crates/$crate/proofs" ;;
     esac
 done < "$rows"
 echo "signposts: $passed passed, $failed failed"

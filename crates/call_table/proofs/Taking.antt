@@ -32,9 +32,6 @@ use Rattle.call_table.proofs.Moves.{desk_moves}
 use Rattle.call_table.proofs.DeskSteps.{desk_is}
 use Rattle.call_table.specs.InTurn.{AreInTurn}
 
-Told_answer : Type 0
-Told_answer = ℕ × Reply × ℕ
-
 -- what one more event adds to the requests of a process that were taken
 pub taken_here : (p : ℕ) (H : List Event) (e : Event) → e.p ≡ p
     → requests_taken p (H ++ e ∷ []) ≡ requests_taken p H ++ e.request ∷ []

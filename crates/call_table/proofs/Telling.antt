@@ -103,15 +103,6 @@ pub record ToldSome (processes : ℕ) (old new : DeskView) (told : List Note) : 
       → (tally_at old.tallies q).published ≡ length (answers_to q before)
       → (tally_at new.tallies q).published ≡ length (answers_to q before ++ answers_in q (length before + 1) told)
 
-pub ToldSome-none : (processes : ℕ) (d : DeskView) → d.filling ≡ (0, []) → ToldSome processes d d []
-ToldSome-none processes d none =
-    record {
-      same = ap (λ (f : ℕ × List ℕ). record d { filling = f }) none;
-      looked = λ q. refl;
-      probes = λ q. refl;
-      published = λ before q there is. is ∙ ap length (sym (append-nil (answers_to q before)));
-    }
-
 -- a note that a process waits is no answer
 pub ToldSome-waits : (processes : ℕ) (old d : DeskView) (told : List Note) (p n : ℕ) → ToldSome processes old d told
     → ToldSome processes old d (told ++ Waits p n ∷ [])

@@ -37,14 +37,6 @@ users_more row fd x held within is =
 abbrev users_set : Opened → ℕ → Opened
 users_set entry n = record entry { users = n }
 
--- at first nothing is counted
-pub counted_none : (opened : Slab Opened) (row : Keys) → AreCounted opened opened (take 0 row)
-counted_none opened row key = unchanged (get opened key)
-  where
-    unchanged : (o : Option Opened) → o ≡ option_map (with_users 0) o
-    unchanged None = refl
-    unchanged (Some entry) = ap (λ n. Some (users_set entry n)) (omega arith)
-
 same_count : (old now : Slab Opened) (row : Keys) (fd x : ℕ) (held : Option ℕ) → fd < length row → get_or row fd None ≡ held → one_for x held ≡ 0 → AreCounted old now (take fd row) → get now x ≡ option_map (with_users (users_in (take (fd + 1) row) x)) (get old x)
 same_count old now row fd x held within is none counted =
     counted x ∙ ap (λ n. option_map (with_users n) (get old x)) (sym (omega (arith, users_more row fd x held within is, none)))

@@ -80,18 +80,3 @@ AreExactly-skip numbers Fact n h fails =
             ],
       );
     }
-
--- no number is marked past the last
-pub marked_all : (files : List ℕ) (marks : List Bool) (count : ℕ) → AreExactly files (λ x. (x < count) × IsMarked marks x) → length marks ≤ count → AreExactly files (IsMarked marks)
-marked_all files marks count h short =
-    record {
-      rising = h.rising;
-      each = λ x. (
-        λ there. ((h.each x).0 there).1,
-        λ fact.
-            elim (cases_lt x count) [
-              | inl below ↦ (h.each x).1 (below, fact)
-              | inr past ↦ absurd (false≢true (sym (get_or_past marks x false (omega (arith, short, past))) ∙ fact))
-            ],
-      );
-    }

@@ -22,15 +22,6 @@ use Rattle.lock_book.specs.Holders.{place_among, mode_in_place, PutsAmong}
 use Rattle.std.specs.Map.{lookup}
 use Rattle.lock_book.proofs.OwnerLemmas.{owner_cmp, is_eq-owner_cmp, lookup-owner_cmp, lookup-nat_cmp, same_owner, is_same_owner-self}
 
--- what holds on success holds where there was success
-pub OnOk-at_ok : {T E P : Type 0} (r : Result T E) → is_ok r ≡ true → OnOk r P → P
-OnOk-at_ok (Ok x) ok holds = holds
-OnOk-at_ok (Err e) ok holds = absurd (let h : false ≡ true = ok in cc)
-
-pub OnErr-at_err : {T E P : Type 0} (r : Result T E) → is_ok r ≡ false → OnErr r P → P
-OnErr-at_err (Ok x) err holds = absurd (let h : true ≡ false = err in cc)
-OnErr-at_err (Err e) err holds = holds
-
 -- what holds anyhow holds on a failure
 pub OnErr-anyhow : {T E P : Type 0} (r : Result T E) → P → OnErr r P
 OnErr-anyhow (Ok x) holds = tt

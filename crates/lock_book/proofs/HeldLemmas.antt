@@ -44,15 +44,6 @@ pub record AreLocksOf (file : ℕ) (modes : ByteModes) (items : List Item) (lock
   pub among : All (λ x. Any (λ y. y.0.now ≡ x.owner) items) locks
   pub every : All (λ y. (byte : ℕ) (mode : Mode) → modes y.0.now byte ≡ Some mode → Shows locks y.0.now byte mode) items
 
-pub locks_of_none : (file : ℕ) (modes : ByteModes) → AreLocksOf file modes [] []
-locks_of_none file modes = record {
-  in_order = λ i j d before within. absurd (omega arith);
-  each = λ k d within. absurd (omega arith);
-  ranges = λ k d within. absurd (omega arith);
-  among = λ k d within. absurd (omega arith);
-  every = λ k d within. absurd (omega arith);
-}
-
 -- with the locks of one owner more, which comes after the others, they are those of one entry more
 pub locks_of_more : (file : ℕ) (modes : ByteModes) (items : List Item) (x : Item) (old new : List Held) → AreLocksOf file modes items old → modes x.0.now ≡ modes_of x.1.now → All (λ y. IsBefore y.0.now x.0.now) items → AddsOwnerLocks file x.0.now (modes_of x.1.now) old new → AreLocksOf file modes (items ++ x ∷ []) new
 locks_of_more file modes items x old new locks same before adds =
@@ -115,14 +106,6 @@ pub record AreFlocksOf (file : ℕ) (modes : FlockModes) (items : List Place) (l
   pub each : All (IsFlockLine file modes) locks
   pub among : All (λ x. Any (λ y. Description y.0.now ≡ x.owner) items) locks
   pub every : All (λ y. (mode : Mode) → y.1.now ≡ Some mode → ShowsFlock locks y.0.now mode) items
-
-pub flocks_of_none : (file : ℕ) (modes : FlockModes) → AreFlocksOf file modes [] []
-flocks_of_none file modes = record {
-  in_order = λ i j d before within. absurd (omega arith);
-  each = λ k d within. absurd (omega arith);
-  among = λ k d within. absurd (omega arith);
-  every = λ k d within. absurd (omega arith);
-}
 
 -- one empty place more
 pub flocks_of_empty : (file : ℕ) (modes : FlockModes) (items : List Place) (x : Place) (locks : List Held) → AreFlocksOf file modes items locks → x.1.now ≡ None → AreFlocksOf file modes (items ++ x ∷ []) locks

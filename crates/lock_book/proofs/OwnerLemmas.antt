@@ -74,20 +74,11 @@ different_from_eq one other different e =
 pub less_from_nat : (a b : ℕ) → nat_cmp a b ≡ Less → a < b
 less_from_nat a b less = grind (arith, common_steps)
 
-nat_less : (a b : ℕ) → a < b → nat_cmp a b ≡ Less
-nat_less a b less = grind (arith, common_steps)
-
 pub IsBefore-from_less : (one other : Owner) → owner_cmp one other ≡ Less → IsBefore one other
 IsBefore-from_less (Process p) (Process q) less = less_from_nat p q less
 IsBefore-from_less (Process p) (Description e) less = tt
 IsBefore-from_less (Description d) (Process q) less = let h : Greater ≡ Less = less in cc
 IsBefore-from_less (Description d) (Description e) less = less_from_nat d e less
-
-pub less_from_IsBefore : (one other : Owner) → IsBefore one other → owner_cmp one other ≡ Less
-less_from_IsBefore (Process p) (Process q) before = nat_less p q before
-less_from_IsBefore (Process p) (Description e) before = refl
-less_from_IsBefore (Description d) (Process q) before = absurd before
-less_from_IsBefore (Description d) (Description e) before = nat_less d e before
 
 -- two owners can't each come before the other
 pub IsBefore-asymmetric : (one other : Owner) → IsBefore one other → IsBefore other one → ⊥

@@ -206,17 +206,6 @@ pub spared_owner : (S : State) (file owner : ℕ) (came : Bool) → came ≡ fal
 spared_owner S file owner came isnt crossed =
     closes_for S file (λ other. false) (closed_one owner came) None S (λ other. and_right_false (is_same_owner (Description owner) other) came isnt) (closes_nobody S file crossed)
 
-pub unseen_owner : (was new : ℕ → ℕ → Option ℕ) (file owner open_file : ℕ) → is_number open_file (was file owner) ≡ true → SeesOn was new file owner None → SeesOn was new file owner (left_of open_file (was file owner))
-unseen_owner was new file owner open_file is sees =
-    subst (λ (through : Option ℕ). SeesOn was new file owner through) (sym (ap (λ (b : Bool). if b then None else was file owner) is)) sees
-
-pub still_seen : (was : ℕ → ℕ → Option ℕ) (file owner open_file : ℕ) → is_number open_file (was file owner) ≡ false → SeesOn was was file owner (left_of open_file (was file owner))
-still_seen was file owner open_file isnt = record {
-  here = sym (ap (λ (b : Bool). if b then None else was file owner) isnt);
-  others = λ other differs. refl;
-  elsewhere = λ other_file other differs. refl;
-}
-
 -- a close gives no lock and makes no conflict
 pub moves_closed : (S : State) (file : ℕ) (gone : Owner → Bool) (flock_owner : Option ℕ) (T : State) → ClosesOn S file gone flock_owner T → Moves [] S file T
 moves_closed S file gone flock_owner T closes = record {

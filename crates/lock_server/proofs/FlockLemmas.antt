@@ -22,10 +22,6 @@ use Rattle.lock_server.specs.TableRoom.{HasFlockPlace, HasRoomFor, KeepsRoomOn}
 use Rattle.lock_server.specs.Waiting.{IsReservedIn}
 use Rattle.lock_server.proofs.StateLemmas.{SameState-itself, state_from_same}
 
--- a flock mode that is removed is a release
-pub released_by_unset : (S : State) (file owner : ℕ) (T : State) → SetsOn S file Whole owner whole_file None T → ReleasesOn S file Whole owner T
-released_by_unset S file owner T sets = record { unlocks = sets.sets; waits = sets.waits; changes = sets.changes }
-
 -- a set of a flock lock, as the request asks for it
 pub set_as_asked : (S : State) (file : ℕ) (wanted : Pending) (T : State) → wanted.family ≡ Whole → SetsOn S file Whole wanted.owner whole_file (Some wanted.mode) T → SetsOn S file wanted.family wanted.owner wanted.span (Some wanted.mode) T
 set_as_asked S file wanted T family sets = record {

@@ -49,30 +49,6 @@ KeepsRoom-sets old new owner mode sets = record {
   places = λ other there. rw (sets.places other) (or_there (owner == other && is_some mode) (has_flock_place old other) there);
 }
 
--- a set of bytes, made or refused, keeps the room
-pub KeepsRoom-set : {T E : Type 0} (r : Result T E) (old new : Book) (owner : ℕ) (span : Span) (mode : Option Mode) → OnOk r (SetsOwnerMode old new (Description owner) span mode)
-    → OnOk r (room_in old (Description owner) ≤ room_in new (Description owner)) → OnErr r (SameBook old new) → KeepsRoom old new
-KeepsRoom-set (Ok x) old new owner span mode ok room err = record {
-  rooms = λ other. elim (cases_eq other owner) [
-    | inl same ↦ subst (λ n. room_in old (Description n) ≤ room_in new (Description n)) (sym same) room
-    | inr differs ↦ (let kept = ok.rooms (Description other) (λ e. differs (let one : other ≡ owner = cc in one)) in omega (arith, kept))
-  ];
-  places = λ other there. rw (ok.places other) there;
-}
-KeepsRoom-set (Err e) old new owner span mode ok room err = record { rooms = room_from_same old new err.rooms; places = λ other there. rw (err.places other) there }
-
--- and so does room that is held, or refused
-pub KeepsRoom-holds : {T E : Type 0} (r : Result T E) (old new : Book) (owner : ℕ) → OnOk r (SameButRoom old new (Description owner)) → OnOk r (room_in old (Description owner) ≤ room_in new (Description owner))
-    → OnErr r (SameBook old new) → KeepsRoom old new
-KeepsRoom-holds (Ok x) old new owner ok room err = record {
-  rooms = λ other. elim (cases_eq other owner) [
-    | inl same ↦ subst (λ n. room_in old (Description n) ≤ room_in new (Description n)) (sym same) room
-    | inr differs ↦ (let kept = ok.rooms (Description other) (λ e. differs (let one : other ≡ owner = cc in one)) in omega (arith, kept))
-  ];
-  places = λ other there. rw (ok.places other) there;
-}
-KeepsRoom-holds (Err e) old new owner ok room err = record { rooms = room_from_same old new err.rooms; places = λ other there. rw (err.places other) there }
-
 -- a wait that leaves leaves its room to the others
 pub HasRoom-left : (book : Book) (before after : List Pending) (wait : Pending) → HasRoom book (before ++ wait ∷ after) → HasRoom book (before ++ after)
 HasRoom-left book before after wait room = record {

@@ -55,10 +55,6 @@ pub set_done : (policy : Policy) (S : State) (file owner : ℕ) (span : Span) (m
 set_done policy S file owner span None T free changes = (refl, changes)
 set_done policy S file owner span (Some mode) T free changes = inr (free, (refl, changes))
 
-pub set_refused : (policy : Policy) (S : State) (file owner : ℕ) (span : Span) (mode : Option Mode) → IsSetHeldBack (S.files file) owner span mode → SetComesTo policy S file owner span mode Blocked S
-set_refused policy S file owner span None held = absurd held
-set_refused policy S file owner span (Some mode) held = inl (held, (refl, SameState-itself S))
-
 pub moves_set : (S : State) (file owner : ℕ) (span : Span) (mode : Option Mode) (B : State) → ¬ IsSetHeldBack (S.files file) owner span mode → SetsOn S file Bytes owner span mode B → Moves (given_by owner mode) S file B
 moves_set S file owner span None B free sets = moves_unset S file Bytes owner span B sets
 moves_set S file owner span (Some mode) B free sets = moves_given S file (byte_request no_ticket owner span mode false) B free sets

@@ -47,11 +47,6 @@ pub SetsPlace-updates : (old new : Tickets) (ticket : ℕ) (place : Option Place
 unfolding place_at
 SetsPlace-updates old new ticket place updates = record { here = updates.1; others = λ other differs. updates.2 other (is_at-other ticket other differs) }
 
--- what holds on success holds where there was success
-pub OnOk-at_ok : {T E P : Type 0} (r : Result T E) → is_ok r ≡ true → OnOk r P → P
-OnOk-at_ok (Ok x) ok holds = holds
-OnOk-at_ok (Err e) ok holds = absurd (let h : false ≡ true = ok in cc)
-
 -- an insertion, made or refused, brings one grant at most
 pub owed-inserted : {T E : Type 0} (r : Result T E) (old new : List (ℕ × Place)) (ticket : ℕ) (place : Place) → IsStrictlySortedBy nat_cmp (keys_of old)
     → OnOk r (new ≡ insert_entry nat_cmp old ticket place) → OnErr r (new ≡ old) → owed new ≤ owed old + 1

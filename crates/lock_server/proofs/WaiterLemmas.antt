@@ -33,13 +33,6 @@ files-puts old new owner waiter puts same other = elim (cases_eq other owner) [
   | inr differs ↦ ap files_in (puts.others other differs)
 ]
 
-pub crossed-puts : (old new : Waiters) (owner : ℕ) (waiter : Option Waiter) → PutsWaiter old new owner waiter → crossed_of old owner ≡ crossed_in waiter → (other : ℕ) → crossed_of new other ≡ crossed_of old other
-unfolding crossed_of
-crossed-puts old new owner waiter puts same other = elim (cases_eq other owner) [
-  | inl is ↦ rw is (ap crossed_in puts.here ∙ sym same)
-  | inr differs ↦ ap crossed_in (puts.others other differs)
-]
-
 pub nil_from : (xs : List ℕ) → ¬ (xs ≢ []) → xs ≡ []
 nil_from [] none = refl
 nil_from (x ∷ xs) none = absurd (none (λ e. cc))

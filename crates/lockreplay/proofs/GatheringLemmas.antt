@@ -36,12 +36,6 @@ use Rattle.lockreplay.proofs.ListLemmas.{item_of_grown, item_behind}
 pub still_of_hub : (hub : Hub) (old new : Client) → IsClientOf hub old → SameClient old new → IsClientOf hub new
 still_of_hub hub old new of same = record { table = same.table ∙ of.table; setup = same.setup ∙ of.setup }
 
--- the caller behind others is at their hub
-pub next_at_hub : (hub : Hub) (done rest callers : List Caller) (caller : Caller) → AreAtHub hub callers → done ++ caller ∷ rest ≡ callers
-    → IsClientOf hub caller.client
-next_at_hub hub done rest callers caller at is =
-    at (length done) caller (ap (λ (l : List Caller). slice_get l (length done)) (sym is) ∙ item_behind done caller rest)
-
 -- the callers of a hub just opened are at it
 pub at_hub : (setup : Setup) (hub : Hub) (clients : List Client) (desk : Desk) (callers : List Caller) → IsOpened setup hub clients desk
     → map (λ (caller : Caller). caller.client) callers ≡ clients → AreAtHub hub callers

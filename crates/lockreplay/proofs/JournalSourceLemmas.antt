@@ -77,48 +77,6 @@ pub comes : (bytes : List ℕ) (verdict : Verdict) → length bytes ≤ journal_
     → JournalComes bytes verdict
 comes bytes verdict short come = let is = le-ltb journal_limit (length bytes) short in rw is come
 
--- nothing is written where nothing is told
-pub writes_nothing : (old new written : Option (List ℕ)) → TellsOf old new None
-    → WritesOf (IsCheckOutput outcomes.Done) old new (λ text. Appends written written text)
-writes_nothing old new written tells = record {
-  input = tells.input;
-  consumed = tells.consumed;
-  ended = tells.ended;
-  text = [];
-  is_output = tells.is_told;
-  written = Appends-nil written;
-}
-
--- and else what is told, as far as it was written
-pub writes_told : (old new : Option (List ℕ)) (Written : List ℕ → Type 0) (text : List ℕ) → TellsOf old new (Some text) → Written text
-    → WritesOf (IsCheckOutput outcomes.Illegal) old new Written
-writes_told old new Written text tells written = record {
-  input = tells.input;
-  consumed = tells.consumed;
-  ended = tells.ended;
-  text = text;
-  is_output = tells.is_told;
-  written = written;
-}
-
--- what is told of the bytes is told of the source that gave them all
-pub tells_all : (old new : Option (List ℕ)) (checking : Checking) (told : Option (List ℕ)) (read : ReadsChecked old new checking)
-    → IsToldOf read.input told → TellsOf old new told
-tells_all old new checking told read is_told = record { input = read.input; consumed = read.consumed; ended = read.ended; is_told = is_told }
-
--- and so is a fault of them
-pub fails_all : (old new : Option (List ℕ)) (failed : Bool) (checking : Checking) (fault : RunFault) (read : ReadsChecked old new checking)
-    → IsCheckFault read.input fault → IsJournalFault old new failed fault
-fails_all old new failed checking (faults.Script fault) read is = record {
-  input = read.input;
-  read = record { consumed = read.consumed; whole = inl read.ended };
-  faulty = is;
-}
-fails_all old new failed checking (faults.Memory memory) read is = tt
-fails_all old new failed checking faults.Read read is = absurd is
-fails_all old new failed checking faults.Write read is = absurd is
-fails_all old new failed checking faults.Thread read is = absurd is
-
 -- ---- a journal that was checked to its end
 
 judged_as : (checking : Checking) (bytes : List ℕ) (found : Option Finding) → checking.found ≡ found → length bytes ≤ journal_limit

@@ -205,15 +205,6 @@ one_behind_another ran count S explained report first second third stands explai
 abbrev accepted : Meaning → Result Meaning ScriptFault
 accepted script = Ok script
 
-short_by : (bytes : List ℕ) (script : Meaning) (Given : Type 0) (long : Bool) → nat_lt SCRIPT_MAX (length bytes) ≡ long
-    → MatchBool long (accepted script ≡ Err (record { line = 0; cause = TooLong })) Given → length bytes ≤ SCRIPT_MAX
-short_by bytes script Given true is refused = absurd (cc)
-short_by bytes script Given false is given = ltb-false SCRIPT_MAX (length bytes) is
-
--- what is accepted is no longer than a script may be
-pub accepted_short : (bytes : List ℕ) (script : Meaning) → Reads bytes (Ok script) → length bytes ≤ SCRIPT_MAX
-accepted_short bytes script reads = short_by bytes script _ (nat_lt SCRIPT_MAX (length bytes)) refl reads
-
 -- so all that the source had was read of it
 read_to_end : (old new : Option (List ℕ)) (bytes : List ℕ) → ReadsWhole old new bytes → length bytes ≤ SCRIPT_MAX → IsAtEnd new
 read_to_end old new bytes read short = elim read.whole [

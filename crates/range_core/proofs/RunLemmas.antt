@@ -167,15 +167,3 @@ start_before_end runs start end low high ranges within less ends begins =
           absurd (omega (arith, ends end blank (omega arith) crossed, begins end blank (omega arith) (omega arith), (ranges end blank (omega arith)).0))
       | inr upto ↦ upto
     ]
-
--- a part of runs in order is in order
-pub in_order_between : (runs : List (Mode × Span)) (start end : ℕ) → All (λ run. IsByteRange run.1) runs → AllPairs IsApart runs → end ≤ length runs → AreInOrder (between start end runs)
-in_order_between runs start end ranges apart within =
-    let InFile = λ (run : Mode × Span). IsByteRange run.1 in
-    let count = length-between runs start end within in
-    record {
-      ranges = All-take InFile (end - start) (drop start runs) (All-drop InFile start runs ranges);
-      apart = λ i j d less inside.
-          rw (get_or-between runs start end i d (omega arith), get_or-between runs start end j d (omega arith))
-          (apart (start + i) (start + j) d (omega arith) (omega arith));
-    }

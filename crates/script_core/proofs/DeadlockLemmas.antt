@@ -60,19 +60,6 @@ pub no_step : (report : List Held) (earlier : List Wait) (wait : Wait) (q : ℕ)
 no_step report earlier wait q none free (inl by_lock) = none_any (IsLockAgainst q wait) report none by_lock
 no_step report earlier wait q none free (inr by_wait) = none_any (IsWaitAgainst q wait) earlier free by_wait
 
--- under the queue policy, where no lock makes a step
-pub queue_step : (report : List Held) (earlier : List Wait) (wait : Wait) (q : ℕ) (found : Option Wait) (step : Option InTheWay)
-    → All (λ line. ¬ IsLockAgainst q wait line) report
-    → MatchOption found (All (λ v. ¬ IsWaitAgainst q wait v) earlier) (IsFirstOf (IsWaitAgainst q wait) earlier)
-    → MatchOption found (step ≡ None) (λ other. step ≡ Some (obstacles.Wait other))
-    → MatchOption step (¬ IsBlockedInReport policies.Queue report earlier wait q) (IsStepTo policies.Queue report earlier wait q)
-queue_step report earlier wait q None step none free is =
-    subst (λ s. MatchOption s (¬ IsBlockedInReport policies.Queue report earlier wait q) (IsStepTo policies.Queue report earlier wait q)) (sym is)
-    (no_step report earlier wait q none free)
-queue_step report earlier wait q (Some other) step none first is =
-    subst (λ s. MatchOption s (¬ IsBlockedInReport policies.Queue report earlier wait q) (IsStepTo policies.Queue report earlier wait q)) (sym is)
-    (refl, none, first)
-
 -- a link tells a step
 pub link_leads : (policy : Policy) (report : List Held) (waits : List Wait) (start : Start) (link : Link) → IsLink policy report waits start link
     → LeadsInReport policy report waits start link.process
@@ -195,20 +182,6 @@ pub record HaveGoneOn (policy : Policy) (report : List Held) (waits : List Wait)
   pub go_on : GoOn policy report waits wait.p (suc last) (Wanted wait) links start (length layers)
   pub tight : (k : ℕ) → length layers ≡ suc k → IsTight (LeadsInReport policy report waits start) (WaitsInReport policy report waits) wait.p k
   pub first : IsTight (LeadsInReport policy report waits (Wanted wait)) (WaitsInReport policy report waits) wait.p last
-
--- at the beginning there are none
-pub none_gone : (policy : Policy) (report : List Held) (waits : List Wait) (wait : Wait) (layers : List (List Bool))
-    → IsLayersTo policy report waits wait layers
-    → HaveGoneOn policy report waits wait layers [] (Wanted wait)
-none_gone policy report waits wait layers h = record {
-  last = h.last;
-  each = h.each;
-  go_on = (refl, sym h.count);
-  tight = λ k count.
-      let same : h.last ≡ k = let e = h.count in omega arith in
-      subst (IsTight (LeadsInReport policy report waits (Wanted wait)) (WaitsInReport policy report waits) wait.p) same h.tight;
-  first = h.tight;
-}
 
 -- there is a step into the last set
 leads_last : (Leads : ℕ → Type 0) (R : ℕ → ℕ → Type 0) (a k : ℕ) → IsTight Leads R a k → LeadsNear Leads R a k
@@ -373,17 +346,6 @@ pub record HasGrown (policy : Policy) (report : List Held) (waits : List Wait) (
   pub bounded : count_by not next ≤ count_by not layer
   pub long : length next ≡ length layer
 
-pub none_grown : (policy : Policy) (report : List Held) (waits : List Wait) (layer : List Bool) → HasGrown policy report waits layer layer 0 false
-none_grown policy report waits layer = record {
-  sound = λ p is_in. inl is_in;
-  kept = λ p is_in. is_in;
-  covered = λ place wait below. absurd (omega (arith, below));
-  same = λ none. refl;
-  fewer = λ is_in. absurd (cc);
-  bounded = omega arith;
-  long = refl;
-}
-
 -- where the process of the next wait joins the set
 pub grown_more : (policy : Policy) (report : List Held) (waits : List Wait) (layer next : List Bool) (index : ℕ) (has_grown : Bool) (wait : Wait)
     → HasGrown policy report waits layer next index has_grown → slice_get waits index ≡ Some wait → wait.p < length next → get_or next wait.p false ≡ false
@@ -531,21 +493,6 @@ pub record AreLayersSoFar (policy : Policy) (report : List Held) (waits : List W
   pub each : (k : ℕ) (one : List Bool) → slice_get layers k ≡ Some one → IsLayer (WaitsInReport policy report waits) wait.p k one
   pub here : IsLayer (WaitsInReport policy report waits) wait.p last layer
   pub none : (k : ℕ) → last ≡ suc k → ¬ LeadsNear (LeadsInReport policy report waits (Wanted wait)) (WaitsInReport policy report waits) wait.p k
-
--- the set of the process of the wait alone is the first
-pub first_layer : (policy : Policy) (report : List Held) (waits : List Wait) (wait : Wait) (layers : List (List Bool)) (layer : List Bool)
-    → ((q : ℕ) → (IsTrue (get_or layer q false) → q ≡ wait.p) × (q ≡ wait.p → IsTrue (get_or layer q false))) → layers ≡ layer ∷ []
-    → AreLayersSoFar policy report waits wait layers layer
-first_layer policy report waits wait layers layer alone is = record {
-  last = 0;
-  count = ap length is;
-  each = λ k one at. each_of k one (subst (λ (l : List (List Bool)). slice_get l k ≡ Some one) is at);
-  here = alone;
-  none = λ k no. absurd (omega (arith, no));
-}
-  where
-    layer_one : {x y : List Bool} → Some x ≡ Some y → x ≡ y
-    layer_one e = cc
 
     each_of : (k : ℕ) (one : List Bool) → slice_get (layer ∷ []) k ≡ Some one → IsLayer (WaitsInReport policy report waits) wait.p k one
     each_of zero one at = subst (IsLayer (WaitsInReport policy report waits) wait.p 0) (layer_one at) alone

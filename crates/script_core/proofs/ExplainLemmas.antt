@@ -82,16 +82,6 @@ asks_one S p n Exit v w h k = absurd h
 asks_one S p n (Signal target) v w h k = absurd h
 asks_one S p n (Kill target) v w h k = absurd h
 
--- what is first in the way of the lock that the request asks for is in the way of the event
-pub found_in_the_way : (rules : Rules) (T : State) (event : Event) (wait : Wait) (first : Option InTheWay) → is_stopped event.notes ≡ true
-    → AsksFor T event.p event.n event.request wait
-    → MatchOption first (¬ IsBlocked rules.policy (locks_held T) T.waits wait) (IsFirstInTheWay rules.policy (locks_held T) T.waits wait)
-    → StandsInTheWay rules T event first
-found_in_the_way rules T event wait None stopped asks free =
-    λ is other also blocked.
-    free (subst (IsBlocked rules.policy (locks_held T) T.waits) (asks_one T event.p event.n event.request other wait also asks) blocked)
-found_in_the_way rules T event wait (Some obstacle) stopped asks first = (stopped, wait, asks, first)
-
 -- the cycle of the lock that the request asks for is that of the event
 pub found_cycle : (policy : Policy) (T : State) (report : List Held) (event : Event) (wait : Wait) (waits : List Wait) (links : List Link)
     → is_deadlock event.notes ≡ true
@@ -290,14 +280,6 @@ next_of : (journal : List Event) (index : ℕ) (event : Event) → index < lengt
     → drop index journal ≡ event ∷ drop (suc index) journal
 next_of journal index event within is =
     drop-cons journal index event within ∙ ap (λ (e : Event). e ∷ drop (suc index) journal) (sym is)
-
--- the process of the next event lives
-pub lives_next : (rules : Rules) (processes : ℕ) (journal : List Event) (index : ℕ) (manager : Manager) (old new : List ℕ) (event : Event)
-    → HasExplained rules processes journal index manager old new → index < length journal → event ≡ get_or journal index event
-    → state_at manager event.p ≡ Live
-lives_next rules processes journal index manager old new event h within is =
-    let rest = subst (λ (l : List Event). Leads rules processes h.state l h.last) (next_of journal index event within is) h.leads in
-    h.stands.states event.p ∙ rest.1.live
 
 -- and once its step is made again it is explained too
 pub explained_more : (rules : Rules) (processes : ℕ) (journal : List Event) (index : ℕ) (manager next : Manager) (old mid new : List ℕ) (event : Event)

@@ -62,36 +62,6 @@ IsNamed : Result (Option JournalLine) Cause → Type 0
 IsNamed (Ok said) = Unit {0}
 IsNamed (Err cause) = IsOfScript cause
 
-named_by : (expected result : Result (Option JournalLine) Cause) → IsNamed expected → result ≡ expected → IsNamed result
-named_by expected result is e = subst IsNamed (sym e) is
-
-named_value : {A : Type 0} (argument : Argument) (word : A → List ℕ) (said : A → JournalLine) (words : List (List ℕ)) (result : Result (Option JournalLine) Cause)
-    → ValueGives argument word said words result → IsNamed result
-unfolding IsNamed
-named_value argument word said words result (inl (cause, refused, is)) = named_by (Err cause) result (of_refused (argument ∷ []) words cause refused) is
-named_value argument word said words result (inr (value, words_are, is)) = named_by (Ok (Some (said value))) result tt is
-
-named_other : (stage : Stage) (result : Result (Option JournalLine) Cause) → OtherGives stage result → IsNamed result
-unfolding IsNamed
-named_other stages.Header result is = named_by (Ok None) result tt is
-named_other stages.Entries result is = named_by (Ok None) result tt is
-named_other stages.Report result is = named_by (Err Word) result (λ memory e. cc) is
-
-named_head : (place : Place) (words : List (List ℕ)) (result : Result (Option JournalLine) Cause) → HeadGives place words result → IsNamed result
-unfolding IsNamed
-named_head place [] result is = named_by (Ok (Some lines.Skipped)) result tt is
-named_head place (first ∷ rest) result gives =
-    MatchBool-join (is_comment first) _ _ (IsNamed result) (named_by (Ok (Some lines.Skipped)) result tt)
-    (MatchBool-join (journal_says_policy place first) _ _ (IsNamed result) (named_value PolicyWord policy_word (λ policy. lines.Policy policy) rest result)
-    (MatchBool-join (journal_says_limits place first) _ _ (IsNamed result) (named_value LimitsWord limits_word (λ limits. lines.Limits limits) rest result)
-    (MatchBool-join (is_report_word first) _ _ (IsNamed result) (named_by (Ok (Some lines.Report)) result tt) (named_other place.stage result))))
-    gives
-
--- the head of a line is never refused for want of memory
-pub head_never_memory : (place : Place) (words : List (List ℕ)) (cause : Cause) → HeadGives place words (Err cause) → IsOfScript cause
-unfolding IsNamed
-head_never_memory place words cause gives = named_head place words (Err cause) gives
-
 ValueGives-unique : {A : Type 0} (argument : Argument) (word : A → List ℕ) (said : A → JournalLine) (read : List ℕ → A)
     → ((value : A) → read (word value) ≡ value) → ((value : A) → Spells argument (word value)) → (words : List (List ℕ)) (a b : Result (Option JournalLine) Cause)
     → ValueGives argument word said words a → ValueGives argument word said words b → a ≡ b

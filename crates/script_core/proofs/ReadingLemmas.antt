@@ -78,9 +78,6 @@ SaysLock-from_says : (words : List (List ℕ)) (fd : ℕ) (cmd : LkCmd) (lock : 
 SaysLock-from_says words fd cmd lock (inl says) = record { rest = pid_words lock.pid; are = says; follows = PidFollows-pid_words lock.pid }
 SaysLock-from_says words fd cmd lock (inr says) = record { rest = pid_words lock.pid ++ codes "0" ∷ []; are = says.1; follows = PidFollows-zero lock.pid says.0 }
 
-lock_equal : (a b : Lock) → a.kind ≡ b.kind → a.whence ≡ b.whence → a.start ≡ b.start → a.len ≡ b.len → a.pid ≡ b.pid → a ≡ b
-lock_equal a b kind whence start len pid = λ i. record { kind = kind i; whence = whence i; start = start i; len = len i; pid = pid i }
-
 -- the word of an access mode, a kind, a whence or an operation of flock, read back
 access_in : List ℕ → Access
 access_in word = cond (bytes_eq word (codes "r")) R (cond (bytes_eq word (codes "w")) W Rw)

@@ -18,26 +18,11 @@ abbrev pub SkipsTo : List ReportLine → List ℕ → List ReportLine → Type 0
 SkipsTo old text new =
     (more : List (List ℕ)) → (AreTextsOf old (text ∷ more) → AreTextsOf new (text ∷ more)) × (AreTextsOf new (text ∷ more) → AreTextsOf old (text ∷ more))
 
-pub SkipsTo-none : (lines : List ReportLine) (text : List ℕ) → SkipsTo lines text lines
-SkipsTo-none lines text more = ((λ are. are), (λ are. are))
-
 -- one more line is left out
 pub SkipsTo-more : (old : List ReportLine) (text : List ℕ) (line : ReportLine) (rest : List ReportLine) → SkipsTo old text (line ∷ rest)
     → (IsLineOf line text → ⊥) → MayBeLeftOut line → SkipsTo old text rest
 SkipsTo-more old text line rest skips other out more =
     ((λ are. ⊎_elim (λ yes. absurd (other yes.0)) (λ no. no.1.1) ((skips more).0 are)), (λ are. (skips more).1 (inr (other, (out, are)))))
-
--- the text is that of the next line
-pub GoesOn-skipped : (old : List ReportLine) (text : List ℕ) (line : ReportLine) (rest : List ReportLine) → SkipsTo old text (line ∷ rest)
-    → IsLineOf line text → GoesOn old text rest
-GoesOn-skipped old text line rest skips is more =
-    ((λ are. ⊎_elim (λ yes. yes.1) (λ no. absurd (no.0 is)) ((skips more).0 are)), (λ are. (skips more).1 (inl (is, are))))
-
--- it is not that of the next line, which may not be left out
-pub none_skipped : (old : List ReportLine) (text : List ℕ) (line : ReportLine) (rest : List ReportLine) → SkipsTo old text (line ∷ rest)
-    → (IsLineOf line text → ⊥) → (MayBeLeftOut line → ⊥) → (more : List (List ℕ)) → AreTextsOf old (text ∷ more) → ⊥
-none_skipped old text line rest skips other due more are =
-    ⊎_elim (λ yes. other yes.0) (λ no. due no.1.0) ((skips more).0 are)
 
 -- no line is left
 pub none_left : (old : List ReportLine) (text : List ℕ) → SkipsTo old text [] → (more : List (List ℕ)) → AreTextsOf old (text ∷ more) → ⊥
@@ -47,17 +32,6 @@ none_left old text skips more are = let no : text ∷ more ≡ [] = (skips more)
 pub record Owes (old new : List ReportLine) : Type 0 where
   pub due : (line : ReportLine) → IsFirstDue new line → IsFirstDue old line
   pub end : AreTextsOf new [] → AreTextsOf old []
-
-pub Owes-same : (lines : List ReportLine) → Owes lines lines
-Owes-same lines = record { due = λ line is. is; end = λ are. are }
-
-pub Owes-more : (old : List ReportLine) (line : ReportLine) (rest : List ReportLine) → Owes old (line ∷ rest) → MayBeLeftOut line → Owes old rest
-Owes-more old line rest owes out =
-    record { due = λ other is. owes.due other (inl (out, is)); end = λ are. owes.end (out, are) }
-
-pub Owes-this : (old : List ReportLine) (line : ReportLine) (rest : List ReportLine) → Owes old (line ∷ rest) → (MayBeLeftOut line → ⊥)
-    → IsFirstDue old line
-Owes-this old line rest owes due = owes.due line (inr (due, refl))
 
 -- one more of the lines is left out
 pub skips_one : (lines : List ReportLine) (text : List ℕ) (i : ℕ) (d : ReportLine) → i < length lines → SkipsTo lines text (drop i lines)

@@ -47,41 +47,6 @@ reply_among-place p n place other (Answer q m reply ∷ notes) =
     ]
 reply_among-place p n place other (Waits q m ∷ notes) = reply_among-place p n place other notes
 
-one_answer : (n m place : ℕ) (reply : Reply) → reply_among n ((m, reply, place) ∷ []) ≡ (if m == n then Some reply else None)
-one_answer n m place reply =
-    ⊎_elim (λ same. rw (eq-eqb m n same) refl) (λ other. rw (ne_eqb m n other) refl) (cases_eq m n)
-
--- one note more
-reply_of-among : (p n place : ℕ) (note : Note) → reply_among n (answers_in p place (note ∷ [])) ≡ reply_of p n note
-reply_of-among p n place (Answer q m reply) =
-    elim (q == p) as (λ b. reply_among n (if b then (m, reply, place) ∷ [] else []) ≡ (if b && (m == n) then Some reply else None))
-    [ true ↦ one_answer n m place reply | false ↦ refl ]
-reply_of-among p n place (Waits q m) = refl
-
-answers_in-cons : (p place : ℕ) (note : Note) (notes : List Note)
-    → answers_in p place (note ∷ notes) ≡ answers_in p place (note ∷ []) ++ answers_in p place notes
-answers_in-cons p place (Answer q m reply) notes =
-    elim (q == p) as (λ b. (if b then (m, reply, place) ∷ answers_in p place notes else answers_in p place notes) ≡ (if b then (m, reply, place) ∷ [] else []) ++ answers_in p place notes)
-    [ true ↦ refl | false ↦ refl ]
-answers_in-cons p place (Waits q m) notes = refl
-
--- a note that is no such answer is passed over, and one that is ends the search
-pub reply_among-skip : (p n : ℕ) (notes : List Note) (i : ℕ) (note : Note) → i < length notes → note ≡ get_or notes i note
-    → reply_of p n note ≡ None → reply_among n (answers_in p 0 (drop i notes)) ≡ reply_among n (answers_in p 0 (drop (i + 1) notes))
-reply_among-skip p n notes i note within read none =
-    at_drop_more (λ l. reply_among n (answers_in p 0 l)) notes i note within
-    ∙ ap (λ x. reply_among n (answers_in p 0 (x ∷ drop (i + 1) notes))) (sym read)
-    ∙ ap (reply_among n) (answers_in-cons p 0 note (drop (i + 1) notes))
-    ∙ reply_among-after n (answers_in p 0 (note ∷ [])) (answers_in p 0 (drop (i + 1) notes)) (reply_of-among p n 0 note ∙ none)
-
-pub reply_among-hit : (p n : ℕ) (notes : List Note) (i : ℕ) (note : Note) (reply : Reply) → i < length notes
-    → note ≡ get_or notes i note → reply_of p n note ≡ Some reply → reply_among n (answers_in p 0 (drop i notes)) ≡ Some reply
-reply_among-hit p n notes i note reply within read found =
-    at_drop_more (λ l. reply_among n (answers_in p 0 l)) notes i note within
-    ∙ ap (λ x. reply_among n (answers_in p 0 (x ∷ drop (i + 1) notes))) (sym read)
-    ∙ ap (reply_among n) (answers_in-cons p 0 note (drop (i + 1) notes))
-    ∙ reply_among-first n (answers_in p 0 (note ∷ [])) (answers_in p 0 (drop (i + 1) notes)) reply (reply_of-among p n 0 note ∙ found)
-
 -- the same of events
 pub reply_to-skip : (p n : ℕ) (events : List Event) (i : ℕ) (event : Event) → i < length events → event ≡ get_or events i event
     → reply_among n (answers_in p 0 event.notes) ≡ None

@@ -124,9 +124,3 @@ or_cases false b is = inr is
 pub or_right : (a b : Bool) → b ≡ true → (a || b) ≡ true
 or_right true b is = refl
 or_right false b is = is
-
--- a member is one of the processes from 1 on
-pub member_from_one : (set : ProcessSet) (q : ℕ) → IsTrue (is_member set q) → 1 ≤ q
-unfolding is_member
-member_from_one set zero known = absurd (let no : false ≡ true = known in cc)
-member_from_one set (suc k) known = omega arith

@@ -78,10 +78,6 @@ queue_known pairs waits merely = record {
   ];
 }
 
--- in an empty list nobody stands behind another
-pub queue_empty : (pairs : Pairs) → ((p q : ℕ) → ¬ IsTrue (pair_in pairs p q)) → TellsQueue pairs []
-queue_empty pairs none = record { stands = λ p q p_few q_one q_few. (λ has. absurd (none p q has), λ stands. absurd stands) }
-
 -- where a wait joins, it may stand behind one, and those before it stand as they did
 stands_joined : (earlier waits : List Wait) (wait : Wait) (p q : ℕ) → StandsBehind earlier (waits ++ wait ∷ []) p q
     → StandsBehind earlier waits p q ⊎ IsBehind (earlier ++ waits) p q wait

@@ -94,11 +94,6 @@ first_of_flocks books book wait items report first was family same is given =
     by_case of_file None none = no_flock ((locks_of books).bytes wait.file) ((locks_of books).flocks wait.file) wait report of_file none
     by_case of_file (Some held) h = record { report = report; is_report = of_file; first = h }
 
--- a lock in the way comes first
-pub lock_in_the_way : (m : Machine) (wait : Wait) (held : Held) (S : State) → Shows m S → IsFirstLockOf wait.family (machine_locks m) wait held
-    → IsFirstInTheWay (machine_rules m).policy (locks_held S) S.waits wait (obstacles.Lock held)
-lock_in_the_way m wait held S h first = at_state m S (λ locks waits. IsFirstLockOf wait.family locks wait held) h first
-
 -- without one a wait in the queue may be
 pub wait_in_the_way : (m : Machine) (wait : Wait) (queued : Option Wait) (first : Option InTheWay) (S : State) → Shows m S
     → ¬ IsBlockedByLock (machine_locks m) wait

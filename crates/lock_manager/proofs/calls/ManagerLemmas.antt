@@ -41,16 +41,6 @@ pub safe_machine : (machine : Machine) → AllBlocked (machine_rules machine).po
 unfolding machine_rules machine_locks machine_waits
 safe_machine machine blocked = record { compatible = machine.kept.compatible; settled = blocked; free_of_cycles = machine.kept.free_of_cycles }
 
--- and so is one with the same locks and waits
-pub safe_still : (old new : Machine) → SameMachine old new → IsSafe (machine_rules old).policy (machine_locks old) (machine_waits old)
-    → IsSafe (machine_rules new).policy (machine_locks new) (machine_waits new)
-safe_still old new same safe =
-    let locks : machine_locks new ≡ machine_locks old =
-    λ i. record { bytes = λ file owner byte. same.bytes file owner byte i; flocks = λ file description. same.flocks file description i } in
-    subst (λ (rs : Rules). IsSafe rs.policy (machine_locks new) (machine_waits new)) (sym same.rules)
-    (subst (λ ls. IsSafe (machine_rules old).policy ls (machine_waits new)) (sym locks)
-    (subst (IsSafe (machine_rules old).policy (machine_locks old)) (sym same.waits) safe))
-
 -- what a request of a live process tells, and then the grants of the settling, are what its step makes
 pub one_step : (old new : Manager) (middle : Machine) (p n : ℕ) (request : Request) (told grants notes : List Note)
     → state_at old p ≡ Live → Tells old.machine middle p n request told → machine_rules middle ≡ machine_rules old.machine

@@ -233,30 +233,6 @@ Drains-from old between new some drained same =
           };
     }
 
--- an arrival, and then all mail that can be taken
-pub Delivers-from : (old between new : Session) (p n : ℕ) (request : Request) → Arrives old between p request n → Drains between new
-    → Delivers old new p request
-Delivers-from old between new p n request arrives drains =
-    record {
-      sent = λ q. drains.sent q ∙ arrives.sent q;
-      same_rules = record {
-        rules = drains.same_rules.rules ∙ arrives.manager.rules;
-        processes = drains.same_rules.processes ∙ arrives.manager.processes;
-      };
-      goes_on = λ S stands.
-          let g = drains.goes_on S (arrives.manager.stands S stands) in
-          record {
-            more = g.more;
-            state = g.state;
-            takes =
-                DrainsMail-along (rules_of (manager_of between)) (rules_of (manager_of old)) (processes_of (manager_of between)) (processes_of (manager_of old))
-                (sent_of between) (sent_of new) (events_in between) (events_in old) S g.more g.state arrives.manager.rules arrives.manager.processes
-                (λ q. sym (drains.sent q)) arrives.journal g.takes;
-            journal = g.journal ∙ ap (λ l. l ++ g.more) arrives.journal;
-            stands = g.stands;
-          };
-    }
-
 -- a place means that one event was taken
 pub TakesNext-some : (old new : Session) (result : Option ℕ) → is_some result ≡ true → TakesNext old new result
     → (place : ℕ) × TakesOne old new place
@@ -279,14 +255,6 @@ at_rest_still old new same rest =
 pub at_rest_empty : (rules : Rules) (processes : ℕ) (session : Session) → IsEmptySession rules processes session → IsAtRest session
 at_rest_empty rules processes session empty q live =
     subst (λ l. IsNone (slice_get l (length (events_of q (events_in session))))) (sym (empty.sent q)) refl
-
--- where a request arrives, no other process has mail to take
-pub at_rest_but : (old new : Session) (p n : ℕ) (request : Request) → Arrives old new p request n → IsAtRest old → IsAtRestBut new p
-at_rest_but old new p n request arrives rest q other live =
-    let sent : sent_of new q ≡ sent_of old q = arrives.sent q ∙ rw (ne_eqb q p other) refl in
-    let was : IsNone (next_untaken (sent_of old) (events_in old) q) = rest q (sym (arrives.manager.states q) ∙ live) in
-    subst (λ l. IsNone (slice_get l (length (events_of q (events_in new))))) (sym sent)
-    (subst (λ es. IsNone (slice_get (sent_of old q) (length (events_of q es)))) (sym arrives.journal) was)
 
 -- nor has that one where it isn't live
 pub at_rest_all : (session : Session) (p : ℕ) → state_at (manager_of session) p ≢ Live → IsAtRestBut session p → IsAtRest session
