@@ -494,10 +494,6 @@ pub record AreLayersSoFar (policy : Policy) (report : List Held) (waits : List W
   pub here : IsLayer (WaitsInReport policy report waits) wait.p last layer
   pub none : (k : ℕ) → last ≡ suc k → ¬ LeadsNear (LeadsInReport policy report waits (Wanted wait)) (WaitsInReport policy report waits) wait.p k
 
-    each_of : (k : ℕ) (one : List Bool) → slice_get (layer ∷ []) k ≡ Some one → IsLayer (WaitsInReport policy report waits) wait.p k one
-    each_of zero one at = subst (IsLayer (WaitsInReport policy report waits) wait.p 0) (layer_one at) alone
-    each_of (suc k) one at = absurd (let within = slice_get_within (layer ∷ []) (suc k) one at in omega (arith, within))
-
 -- a set more, where no step leads into the last
 pub layers_more : (policy : Policy) (report : List Held) (waits : List Wait) (wait : Wait) (layers after : List (List Bool)) (layer next : List Bool)
     → AreLayersSoFar policy report waits wait layers layer
