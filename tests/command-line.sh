@@ -129,6 +129,25 @@ check 2 empty explain-check.err empty --explain missing --check
 check 2 empty both-flags.err empty --explain missing --check --threads
 check 2 empty explain-twice.err empty --explain --explain
 
+# The state behind an entry, or behind each: what is held, who waits, each process that was born and each descriptor. Behind an entry that
+# the run doesn't have nothing is told. It is explained too, and legal as it stands.
+check 0 state.sixth empty empty --state 6 state
+check 0 state.sixth empty state --state=6
+check 0 state.sixth empty empty --explain state --state 6
+check 0 state.all empty empty --state all state
+check 0 explained.out empty empty --state 99 explained
+check 0 empty empty state.all --check
+check 0 empty.out empty conversion --state all empty
+check 2 empty no-entry.err conversion --state 0
+check 2 empty no-entry.err conversion --state 06
+check 2 empty no-entry.err conversion --state every
+check 2 empty no-entry.err empty --threads --state '' missing
+check 2 empty state-check.err conversion --check --state 6
+check 2 empty both-flags.err conversion --check --state all --threads
+check 2 empty explain-check.err conversion --check --state all --explain
+check 2 empty state-twice.err empty --state 1 --state all
+check 2 empty state-empty.err empty state --state
+
 # In threads a script of one process prints the same.
 check 0 conversion.out empty empty --threads conversion
 check 0 conversion.out empty empty conversion --threads

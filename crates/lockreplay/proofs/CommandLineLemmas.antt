@@ -3,7 +3,7 @@ use Rattle.std.proofs.Common.{◌≡◌, ◌≢◌, ◌∙◌, ap, ap₂, refl, 
 use Rattle.std.specs.Prelude.{if◌then◌else◌, is_some, length, option_and_then, option_map, IfOk, IsErr, Ok, Err}
 use Rattle.std.proofs.lemmas.Bool.Decides.{eqb_tells}
 use Rattle.clap.specs.Lexer.{long_of, long_of_rest, short_of, short_of_rest, strip_byte}
-use Rattle.clap.specs.Walk.{Held, Rule, Walk, after_step, finished, idle, long_or_other, nothing_held, reacted, settled, short_or_plain, trailing, value, walk, walked, word_met}
+use Rattle.clap.specs.Walk.{Held, Row, Rule, Step, Walk, after_step, finished, idle, long_or_other, nothing_held, option, plain_word, reacted, settled, short_or_plain, trailing, value, walk, walked, word_met}
 use Rattle.clap.specs.Simple.{Shape, entered, filled}
 use Rattle.clap.specs.Kinds.{Kinds, or_else}
 use Rattle.clap.specs.Faults.{bundle_fault, check_fault, defaults_fault, entered_fault, flag_word_fault, settle_fault, step_fault, walk_fault, word_fault}
@@ -16,14 +16,14 @@ use Rattle.std.specs.Str.{bytes_eq}
 use Rattle.clap.specs.declared.error.Error.{Error}
 use Rattle.clap.specs.declared.parser.matches.ArgMatches.{ArgMatches}
 use Rattle.clap.proofs.WalkLemmas.{first_value-rows, one_text-rows}
-use Rattle.lockreplay.specs.CommandLine.{FollowsUsage, Asks, Flag, Threads, Explain, Check, IsGiven, IsPlain, command_line, file_of, flag_in, flag_name, flag_rule, flag_word, has_flag, is_same_flag}
+use Rattle.lockreplay.specs.CommandLine.{FollowsUsage, Asks, Flag, Threads, Explain, Check, IsGiven, IsPlain, command_line, file_of, state_in, flag_in, flag_name, flag_rule, flag_word, has_flag, is_same_flag}
 use Rattle.lockreplay.specs.declared.options.Options.{Options}
 
--- the first value of the argument is the file of the words
-pub file_found : (app : App) (words : List Text) (m : ArgMatches) → app ≡ command_line → HasMatchesOf app words m
-    → first_value (found_of m) (codes "file") ≡ file_of words
-file_found app words m is has =
-    first_value-rows (found_of m) (codes "file") ∙ ap (first_of (codes "file")) ((has (ap is_simple is)).0 ∙ ap (λ a. matches_of a words) is)
+-- the first value of an argument, FILE or the word behind --state, is that of the words
+pub value_found : (id : Text) (app : App) (words : List Text) (m : ArgMatches) → app ≡ command_line → HasMatchesOf app words m
+    → first_value (found_of m) id ≡ first_of id (matches_of command_line words)
+value_found id app words m is has =
+    first_value-rows (found_of m) id ∙ ap (first_of id) ((has (ap is_simple is)).0 ∙ ap (λ a. matches_of a words) is)
 
 -- the text of a flag is that of the words
 pub flag_found : (flag : Flag) (app : App) (words : List Text) (m : ArgMatches) → app ≡ command_line → HasMatchesOf app words m
@@ -102,16 +102,23 @@ walk_value h position word rest reads =
 
 -- ---- the command lines of such words
 
-no_file : (name : Text) → file_of (name ∷ []) ≡ None
+-- what stands behind --state, and the file
+abbrev values_of : List Row → Option Text × Option Text
+values_of rows = (first_of (codes "state") rows, first_of (codes "file") rows)
+
+abbrev values_in : List Text → Option Text × Option Text
+values_in words = values_of (matches_of command_line words)
+
+no_values : (name : Text) → values_in (name ∷ []) ≡ (None, None)
 unfolding clap_on_literals
-no_file name = refl
+no_values name = refl
 
 no_fault : (name : Text) → fault_of command_line (name ∷ []) ≡ []
 unfolding clap_on_literals
 no_fault name = refl
 
-one_file : (name word : Text) → ReadsAsValue word → file_of (name ∷ word ∷ []) ≡ Some word
-one_file name word reads = ap (λ w. first_of (codes "file") (finished arguments w.held)) (walked_value nothing_held 1 word reads)
+one_values : (name word : Text) → ReadsAsValue word → values_in (name ∷ word ∷ []) ≡ (None, Some word)
+one_values name word reads = ap (λ w. values_of (finished arguments w.held)) (walked_value nothing_held 1 word reads)
 
 -- what may fail behind the walk over the words
 abbrev behind : Walk → Kinds
@@ -153,11 +160,11 @@ no_flag_one name word Explain reads = ap (λ w. one_of (flag_name Explain) (fini
 no_flag_one name word Check reads = ap (λ w. one_of (flag_name Check) (finished arguments w.held)) (walked_value nothing_held 1 word reads)
 
 -- with a flag alone
-flag_file : (name : Text) (flag : Flag) → file_of (name ∷ flag_word flag ∷ []) ≡ None
+flag_values : (name : Text) (flag : Flag) → values_in (name ∷ flag_word flag ∷ []) ≡ (None, None)
 unfolding clap_on_literals
-flag_file name Threads = refl
-flag_file name Explain = refl
-flag_file name Check = refl
+flag_values name Threads = refl
+flag_values name Explain = refl
+flag_values name Check = refl
 
 flag_told : (name : Text) (flag other : Flag) → flag_in other (name ∷ flag_word flag ∷ []) ≡ Some (flag_text (is_same_flag flag other))
 unfolding clap_on_literals
@@ -182,11 +189,11 @@ abbrev flag_held : Flag → Held
 flag_held flag = reacted arguments (filled (flag_rule (flag_name flag))) [] nothing_held
 
 -- with a flag before a file
-first_file : (name word : Text) (flag : Flag) → ReadsAsValue word → file_of (name ∷ flag_word flag ∷ word ∷ []) ≡ Some word
+first_values : (name word : Text) (flag : Flag) → ReadsAsValue word → values_in (name ∷ flag_word flag ∷ word ∷ []) ≡ (None, Some word)
 unfolding clap_on_literals
-first_file name word Threads reads = ap (λ w. first_of (codes "file") (finished arguments w.held)) (walked_value (flag_held Threads) 1 word reads)
-first_file name word Explain reads = ap (λ w. first_of (codes "file") (finished arguments w.held)) (walked_value (flag_held Explain) 1 word reads)
-first_file name word Check reads = ap (λ w. first_of (codes "file") (finished arguments w.held)) (walked_value (flag_held Check) 1 word reads)
+first_values name word Threads reads = ap (λ w. values_of (finished arguments w.held)) (walked_value (flag_held Threads) 1 word reads)
+first_values name word Explain reads = ap (λ w. values_of (finished arguments w.held)) (walked_value (flag_held Explain) 1 word reads)
+first_values name word Check reads = ap (λ w. values_of (finished arguments w.held)) (walked_value (flag_held Check) 1 word reads)
 
 first_told : (name word : Text) (flag other : Flag) → ReadsAsValue word
     → flag_in other (name ∷ flag_word flag ∷ word ∷ []) ≡ Some (flag_text (is_same_flag flag other))
@@ -211,14 +218,14 @@ first_fault name word Check reads =
     ap₂ (λ k w. or_else k (behind w)) (walk_value (flag_held Check) 1 word [] reads) (walked_value (flag_held Check) 1 word reads)
 
 -- with a flag behind a file
-last_file : (name word : Text) (flag : Flag) → ReadsAsValue word → file_of (name ∷ word ∷ flag_word flag ∷ []) ≡ Some word
+last_values : (name word : Text) (flag : Flag) → ReadsAsValue word → values_in (name ∷ word ∷ flag_word flag ∷ []) ≡ (None, Some word)
 unfolding clap_on_literals
-last_file name word Threads reads =
-    ap (λ w. first_of (codes "file") (finished arguments (walked arguments [] w (flag_word Threads)).held)) (walked_value nothing_held 1 word reads)
-last_file name word Explain reads =
-    ap (λ w. first_of (codes "file") (finished arguments (walked arguments [] w (flag_word Explain)).held)) (walked_value nothing_held 1 word reads)
-last_file name word Check reads =
-    ap (λ w. first_of (codes "file") (finished arguments (walked arguments [] w (flag_word Check)).held)) (walked_value nothing_held 1 word reads)
+last_values name word Threads reads =
+    ap (λ w. values_of (finished arguments (walked arguments [] w (flag_word Threads)).held)) (walked_value nothing_held 1 word reads)
+last_values name word Explain reads =
+    ap (λ w. values_of (finished arguments (walked arguments [] w (flag_word Explain)).held)) (walked_value nothing_held 1 word reads)
+last_values name word Check reads =
+    ap (λ w. values_of (finished arguments (walked arguments [] w (flag_word Check)).held)) (walked_value nothing_held 1 word reads)
 
 last_told : (name word : Text) (flag other : Flag) → ReadsAsValue word
     → flag_in other (name ∷ word ∷ flag_word flag ∷ []) ≡ Some (flag_text (is_same_flag flag other))
@@ -263,18 +270,18 @@ twice_fault name Explain rest = refl
 twice_fault name Check rest = refl
 
 -- with two flags, one before the other
-two_file : (name : Text) (first second : Flag) → is_same_flag first second ≡ false
-    → file_of (name ∷ flag_word first ∷ flag_word second ∷ []) ≡ None
+two_values : (name : Text) (first second : Flag) → is_same_flag first second ≡ false
+    → values_in (name ∷ flag_word first ∷ flag_word second ∷ []) ≡ (None, None)
 unfolding clap_on_literals
-two_file name Threads Threads other = absurd (cc)
-two_file name Threads Explain other = refl
-two_file name Threads Check other = refl
-two_file name Explain Threads other = refl
-two_file name Explain Explain other = absurd (cc)
-two_file name Explain Check other = refl
-two_file name Check Threads other = refl
-two_file name Check Explain other = refl
-two_file name Check Check other = absurd (cc)
+two_values name Threads Threads other = absurd (cc)
+two_values name Threads Explain other = refl
+two_values name Threads Check other = refl
+two_values name Explain Threads other = refl
+two_values name Explain Explain other = absurd (cc)
+two_values name Explain Check other = refl
+two_values name Check Threads other = refl
+two_values name Check Explain other = refl
+two_values name Check Check other = absurd (cc)
 
 two_told : (name : Text) (first second flag : Flag) → is_same_flag first second ≡ false
     → flag_in flag (name ∷ flag_word first ∷ flag_word second ∷ []) ≡ Some (flag_text (is_same_flag first flag || is_same_flag second flag))
@@ -314,6 +321,56 @@ two_fault name Check Threads other = refl
 two_fault name Check Explain other = refl
 two_fault name Check Check other = absurd (cc)
 
+-- ---- a word behind --state
+
+-- the walk where the option waits for its value
+abbrev asking : Held → Walk
+asking h = record { held = h; waiting = option (codes "state"); position = 1; is_trailing = false; stopped = None }
+
+-- what the word comes to there
+abbrev taken : Text → Held → Held × Step
+taken word h = plain_word arguments (option (codes "state")) word h
+
+value_behind : (h : Held) (word : Text) → ReadsAsValue word → word_met arguments [] false (option (codes "state")) 1 word h ≡ taken word h
+value_behind h word reads =
+    ap (λ b. if b then (h, trailing 1) else long_or_other arguments (option (codes "state")) word (long_of word) h) reads.dashes
+    ∙ ap (λ o. long_or_other arguments (option (codes "state")) word o h) reads.long
+    ∙ ap (λ o. short_or_plain arguments (option (codes "state")) word o h) reads.short
+
+walked_behind : (h : Held) (word : Text) → ReadsAsValue word
+    → walked arguments [] (asking h) word ≡ after_step arguments word (asking h) (taken word h).0 (taken word h).1
+unfolding walked
+walked_behind h word reads = ap (λ m. after_step arguments word (asking h) m.0 m.1) (value_behind h word reads)
+
+passes_behind : (h : Held) (word : Text) → ReadsAsValue word → word_fault line [] false (option (codes "state")) word h ≡ []
+passes_behind h word reads =
+    ap (λ b. if b then [] else flag_word_fault arguments line.args_override_self (long_of word) word h) reads.dashes
+    ∙ ap (λ o. flag_word_fault arguments line.args_override_self o word h) reads.long
+    ∙ ap (λ o. option_map_or (λ flags. bundle_fault arguments line.args_override_self flags h) o []) reads.short
+
+fault_behind : (h : Held) (word : Text) → ReadsAsValue word → walk_fault line [] (asking h) (word ∷ []) ≡ []
+unfolding walk_fault
+fault_behind h word reads =
+    ap₂ (λ k l. or_else (or_else k l) []) (passes_behind h word reads) (ap (λ m. step_fault line 1 m.0 m.1) (value_behind h word reads))
+
+-- what is held behind --state
+abbrev state_held : Held
+state_held = (walk arguments [] nothing_held (codes "--state" ∷ [])).held
+
+state_values : (name word : Text) → ReadsAsValue word → values_in (name ∷ codes "--state" ∷ word ∷ []) ≡ (Some word, None)
+unfolding clap_on_literals
+state_values name word reads = ap (λ w. values_of (finished arguments w.held)) (walked_behind state_held word reads)
+
+state_told : (name word : Text) (flag : Flag) → ReadsAsValue word → flag_in flag (name ∷ codes "--state" ∷ word ∷ []) ≡ Some (codes "false")
+unfolding clap_on_literals
+state_told name word Threads reads = ap (λ w. one_of (flag_name Threads) (finished arguments w.held)) (walked_behind state_held word reads)
+state_told name word Explain reads = ap (λ w. one_of (flag_name Explain) (finished arguments w.held)) (walked_behind state_held word reads)
+state_told name word Check reads = ap (λ w. one_of (flag_name Check) (finished arguments w.held)) (walked_behind state_held word reads)
+
+state_fault : (name word : Text) → ReadsAsValue word → fault_of command_line (name ∷ codes "--state" ∷ word ∷ []) ≡ []
+unfolding clap_on_literals
+state_fault name word reads = ap₂ (λ k w. or_else k (behind w)) (fault_behind state_held word reads) (walked_behind state_held word reads)
+
 -- ---- results
 
 -- the flag is as its text says
@@ -335,22 +392,23 @@ of_each P threads explain check Check = check
 -- what the matches and the faults of the words make of a result
 abbrev HasOptions : List Text → Result Options Error → Type 0
 HasOptions words result =
-    IfOk result (λ options. (option_map (λ f. f.now) options.file ≡ file_of words)
+    IfOk result (λ options. (option_map (λ f. f.now) options.file ≡ file_of words) × (option_map (λ w. w.now) options.state ≡ state_in words)
     × ((flag : Flag) → IsGiven (flag_in flag words) (has_flag options flag)))
 
--- what clap states of words: these flags are given, and this is the file
-record SayThat (words : List Text) (given : Flag → Bool) (file : Option Text) : Type 0 where
+-- what clap states of words: these flags are given, this stands behind --state, and this is the file
+record SayThat (words : List Text) (given : Flag → Bool) (state file : Option Text) : Type 0 where
   flags_are : (flag : Flag) → flag_in flag words ≡ Some (flag_text (given flag))
-  file_is : file_of words ≡ file
+  values_are : values_in words ≡ (state, file)
   no_fault : fault_of command_line words ≡ []
 
-asks : (words : List Text) (given : Flag → Bool) (file : Option Text) (result : Result Options Error)
-    → HasOptions words result → FailsBy (fault_of command_line words) result → SayThat words given file → Asks given file result
-asks words given file (Ok options) has fails say = (
-  λ flag. given_is (has_flag options flag) (given flag) (subst (λ text. IsGiven text (has_flag options flag)) (say.flags_are flag) (has.1 flag)),
-  has.0 ∙ say.file_is,
+asks : (words : List Text) (given : Flag → Bool) (state file : Option Text) (result : Result Options Error)
+    → HasOptions words result → FailsBy (fault_of command_line words) result → SayThat words given state file → Asks given state file result
+asks words given state file (Ok options) has fails say = (
+  λ flag. given_is (has_flag options flag) (given flag) (subst (λ text. IsGiven text (has_flag options flag)) (say.flags_are flag) (has.2 flag)),
+  has.1 ∙ ap (λ (v : Option Text × Option Text). v.0) say.values_are,
+  has.0 ∙ ap (λ (v : Option Text × Option Text). v.1) say.values_are,
 )
-asks words given file (Err error) has fails say = elim (subst (λ kinds. HasKind kinds error) say.no_fault fails) [
+asks words given state file (Err error) has fails say = elim (subst (λ kinds. HasKind kinds error) say.no_fault fails) [
   | inl memory ↦ memory
   | inr among ↦ absurd among
 ]
@@ -364,65 +422,73 @@ is_refused words (Ok options) kind fails refused =
 is_refused words (Err error) kind fails refused = refl
 
 -- the words are these, of which clap states so much
-asks_as : (words these : List Text) (given : Flag → Bool) (file : Option Text) (result : Result Options Error)
-    → HasOptions words result → FailsBy (fault_of command_line words) result → words ≡ these → SayThat these given file
-    → Asks given file result
-asks_as words these given file result has fails e say =
-    asks words given file result has fails (subst (λ (ws : List Text). SayThat ws given file) (sym e) say)
+asks_as : (words these : List Text) (given : Flag → Bool) (state file : Option Text) (result : Result Options Error)
+    → HasOptions words result → FailsBy (fault_of command_line words) result → words ≡ these → SayThat these given state file
+    → Asks given state file result
+asks_as words these given state file result has fails e say =
+    asks words given state file result has fails (subst (λ (ws : List Text). SayThat ws given state file) (sym e) say)
 
 refused_as : (words these : List Text) (result : Result Options Error) (kind : ErrorKind) → FailsBy (fault_of command_line words) result
     → words ≡ these → fault_of command_line these ≡ kind ∷ [] → IsErr result
 refused_as words these result kind fails e refused = is_refused words result kind fails (ap (fault_of command_line) e ∙ refused)
 
-say_alone : (name : Text) (flag : Flag) → SayThat (name ∷ flag_word flag ∷ []) (is_same_flag flag) None
-say_alone name flag = record { flags_are = flag_told name flag; file_is = flag_file name flag; no_fault = flag_fault name flag }
+say_alone : (name : Text) (flag : Flag) → SayThat (name ∷ flag_word flag ∷ []) (is_same_flag flag) None None
+say_alone name flag = record { flags_are = flag_told name flag; values_are = flag_values name flag; no_fault = flag_fault name flag }
 
-say_first : (name word : Text) (flag : Flag) → ReadsAsValue word → SayThat (name ∷ flag_word flag ∷ word ∷ []) (is_same_flag flag) (Some word)
+say_first : (name word : Text) (flag : Flag) → ReadsAsValue word → SayThat (name ∷ flag_word flag ∷ word ∷ []) (is_same_flag flag) None (Some word)
 say_first name word flag reads = record {
   flags_are = λ other. first_told name word flag other reads;
-  file_is = first_file name word flag reads;
+  values_are = first_values name word flag reads;
   no_fault = first_fault name word flag reads;
 }
 
-say_last : (name word : Text) (flag : Flag) → ReadsAsValue word → SayThat (name ∷ word ∷ flag_word flag ∷ []) (is_same_flag flag) (Some word)
+say_last : (name word : Text) (flag : Flag) → ReadsAsValue word → SayThat (name ∷ word ∷ flag_word flag ∷ []) (is_same_flag flag) None (Some word)
 say_last name word flag reads = record {
   flags_are = λ other. last_told name word flag other reads;
-  file_is = last_file name word flag reads;
+  values_are = last_values name word flag reads;
   no_fault = last_fault name word flag reads;
 }
 
 say_two : (name : Text) (first second : Flag) → is_same_flag first second ≡ false
-    → SayThat (name ∷ flag_word first ∷ flag_word second ∷ []) (λ flag. is_same_flag first flag || is_same_flag second flag) None
+    → SayThat (name ∷ flag_word first ∷ flag_word second ∷ []) (λ flag. is_same_flag first flag || is_same_flag second flag) None None
 say_two name first second other = record {
   flags_are = λ flag. two_told name first second flag other;
-  file_is = two_file name first second other;
+  values_are = two_values name first second other;
   no_fault = two_fault name first second other;
 }
 
-say_none : (name : Text) → SayThat (name ∷ []) (λ flag. false) None
-say_none name = record { flags_are = no_flag name; file_is = no_file name; no_fault = no_fault name }
+say_none : (name : Text) → SayThat (name ∷ []) (λ flag. false) None None
+say_none name = record { flags_are = no_flag name; values_are = no_values name; no_fault = no_fault name }
 
-say_one : (name word : Text) → ReadsAsValue word → SayThat (name ∷ word ∷ []) (λ flag. false) (Some word)
+say_one : (name word : Text) → ReadsAsValue word → SayThat (name ∷ word ∷ []) (λ flag. false) None (Some word)
 say_one name word reads = record {
   flags_are = λ flag. no_flag_one name word flag reads;
-  file_is = one_file name word reads;
+  values_are = one_values name word reads;
   no_fault = one_fault name word reads;
+}
+
+say_state : (name word : Text) → ReadsAsValue word → SayThat (name ∷ codes "--state" ∷ word ∷ []) (λ flag. false) (Some word) None
+say_state name word reads = record {
+  flags_are = λ flag. state_told name word flag reads;
+  values_are = state_values name word reads;
+  no_fault = state_fault name word reads;
 }
 
 pub follows_usage : (words : List Text) (result : Result Options Error) → HasOptions words result → FailsBy (fault_of command_line words) result
     → FollowsUsage words result
 follows_usage words result has fails = record {
-  none = λ name e. asks_as words _ (λ flag. false) None result has fails e (say_none name);
-  one = λ name word plain e. asks_as words _ (λ flag. false) (Some word) result has fails e (say_one name word (plain_value word plain));
+  none = λ name e. asks_as words _ (λ flag. false) None None result has fails e (say_none name);
+  one = λ name word plain e. asks_as words _ (λ flag. false) None (Some word) result has fails e (say_one name word (plain_value word plain));
   more = λ name first second rest plain_first plain_second e.
       refused_as words _ result kind.UnknownArgument fails e
       (more_fault name first second rest (plain_value first plain_first) (plain_value second plain_second));
-  flag = λ name flag e. asks_as words _ (is_same_flag flag) None result has fails e (say_alone name flag);
+  flag = λ name flag e. asks_as words _ (is_same_flag flag) None None result has fails e (say_alone name flag);
   flag_first = λ name word flag plain e.
-      asks_as words _ (is_same_flag flag) (Some word) result has fails e (say_first name word flag (plain_value word plain));
+      asks_as words _ (is_same_flag flag) None (Some word) result has fails e (say_first name word flag (plain_value word plain));
   flag_last = λ name word flag plain e.
-      asks_as words _ (is_same_flag flag) (Some word) result has fails e (say_last name word flag (plain_value word plain));
+      asks_as words _ (is_same_flag flag) None (Some word) result has fails e (say_last name word flag (plain_value word plain));
   twice = λ name flag rest e. refused_as words _ result kind.ArgumentConflict fails e (twice_fault name flag rest);
   two = λ name first second other e.
-      asks_as words _ (λ flag. is_same_flag first flag || is_same_flag second flag) None result has fails e (say_two name first second other);
+      asks_as words _ (λ flag. is_same_flag first flag || is_same_flag second flag) None None result has fails e (say_two name first second other);
+  state = λ name word plain e. asks_as words _ (λ flag. false) (Some word) None result has fails e (say_state name word (plain_value word plain));
 }

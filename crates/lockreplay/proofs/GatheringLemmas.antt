@@ -30,7 +30,7 @@ use Rattle.lockreplay.specs.Gathering.{IsGathered, AreGathered}
 use Rattle.lockreplay.specs.Interleaving.{IsThreadReport}
 use Rattle.lockreplay.specs.Rooms.{IsServed}
 use Rattle.lockreplay.proofs.CollectingLemmas.{front_is_all}
-use Rattle.lockreplay.proofs.ListLemmas.{item_of_grown, item_behind}
+use Rattle.lockreplay.proofs.ListLemmas.{item_of_grown}
 
 -- the same client is of the same hub
 pub still_of_hub : (hub : Hub) (old new : Client) → IsClientOf hub old → SameClient old new → IsClientOf hub new

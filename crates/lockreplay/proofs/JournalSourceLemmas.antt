@@ -1,21 +1,18 @@
 -- A journal as a source gives it.
-use Rattle.std.proofs.Common.{◌≡◌, ◌≤◌, ◌<◌, ℕ, ◌+◌, Bool, List, [], ◌++◌, Option, Some, None, length, refl, sym, subst, inl, inr, arith, length-append, append-nil}
-use Rattle.std.specs.Io.KnownBytes.{Consumes, IsAtEnd, Appends}
-use Rattle.std.proofs.KnownBytes.{Consumes-trans, Consumes-nil, Appends-nil}
+use Rattle.std.proofs.Common.{◌≡◌, ◌≤◌, ◌<◌, ℕ, ◌+◌, List, [], ◌++◌, Option, Some, None, length, refl, sym, subst, inr, arith, length-append, append-nil}
+use Rattle.std.specs.Io.KnownBytes.{Consumes, IsAtEnd}
+use Rattle.std.proofs.KnownBytes.{Consumes-trans, Consumes-nil}
 use Rattle.std.proofs.lemmas.Bool.{lt-ltb, le-ltb}
 use Rattle.script_core.specs.declared.script.Cause.{Cause}
 use Rattle.script_core.specs.declared.script.Cause.TheVariants.{TooLong}
 use Rattle.script_core.specs.Words.{lines_of}
 use Rattle.script_core.specs.JournalReading.{journal_start}
 use Rattle.script_core.specs.JournalView.{expected_in}
-use Rattle.lockreplay.specs.declared.check.Outcome.TheVariants as outcomes
 use Rattle.lockreplay.specs.declared.checking.Finding.{Finding}
 use Rattle.lockreplay.specs.declared.checking.Finding.TheVariants as findings
 use Rattle.lockreplay.specs.declared.checking.Checking.{Checking}
-use Rattle.lockreplay.specs.declared.replay.RunFault.{RunFault}
 use Rattle.lockreplay.specs.declared.replay.RunFault.TheVariants as faults
-use Rattle.lockreplay.specs.Checks.{Verdict, journal_limit, illegal_line, verdict_at_end, HasChecked, HasJudged, IsCheckFault, IsCheckOutput, IsJournalFault, IsToldOf, JournalComes, LinesCome, ReadsFaultyJournal, ReadsChecked, TellsOf}
-use Rattle.lockreplay.specs.Replays.{WritesOf}
+use Rattle.lockreplay.specs.Checks.{Verdict, journal_limit, illegal_line, verdict_at_end, HasChecked, HasJudged, IsCheckFault, IsToldOf, JournalComes, LinesCome, ReadsFaultyJournal, ReadsChecked}
 
 -- so much was read and checked, and so many bytes more may come
 pub record IsReadSoFar (old new : Option (List ℕ)) (checking : Checking) (left : ℕ) : Type 0 where

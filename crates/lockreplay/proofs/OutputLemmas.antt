@@ -1,9 +1,8 @@
 -- The texts of a run.
-use Rattle.std.proofs.Common.{◌≡◌, ◌≤◌, ◌+◌, ◌∙◌, ℕ, zero, suc, Bool, true, false, List, [], ◌∷◌, ◌++◌, Option, inl, inr, refl, sym, ap, ap₂, subst, length, arith}
-use Rattle.std.specs.Prelude.{Ok, Err, Result, MatchBool, nat_lt}
+use Rattle.std.proofs.Common.{◌≡◌, ◌≤◌, ◌+◌, ◌∙◌, ℕ, zero, suc, List, [], ◌∷◌, ◌++◌, Option, inl, inr, refl, sym, ap, ap₂, subst, length, arith}
+use Rattle.std.specs.Prelude.{Ok, Result}
 use Rattle.std.specs.Io.KnownBytes.{IsAtEnd}
 use Rattle.std.proofs.Math.Logic.{∥∥₁_map}
-use Rattle.std.proofs.lemmas.Bool.{ltb-false}
 use Rattle.lock_manager.specs.declared.request.Request.{Request}
 use Rattle.lock_manager.specs.declared.request.Rules.{Rules}
 use Rattle.lock_manager.specs.declared.request.ProcState.{ProcState}
@@ -15,12 +14,11 @@ use Rattle.session_core.specs.Runs.{IsRun, Leads}
 use Rattle.session_core.specs.Draining.{DrainsFrom, TakesMail}
 use Rattle.session_core.specs.SessionView.{manager_of, events_in}
 use Rattle.script_core.specs.declared.TheConstants.{SCRIPT_MAX}
-use Rattle.script_core.specs.declared.script.Cause.TheVariants.{TooLong}
 use Rattle.script_core.specs.declared.script.ScriptFault.{ScriptFault}
 use Rattle.script_core.specs.ScriptText.{Meaning}
-use Rattle.script_core.specs.Reading.{Reads}
 use Rattle.script_core.specs.ReportText.{IsReport, AreCounts}
 use Rattle.script_core.specs.Output.{IsOutput, processes_in}
+use Rattle.script_core.specs.declared.states.States.{States}
 use Rattle.script_core.specs.Explaining.{ExplainsRun, IsExplained, unborn_line, unborn_lines}
 use Rattle.lockreplay.specs.declared.replay.Ran.{Ran}
 use Rattle.lockreplay.specs.Devices.{ReadsWhole}
@@ -72,10 +70,10 @@ IsToldOf ran text =
     (count : ℕ → ℕ) → AreCounts ran.sent.items count → (S : State) → StandsFor (manager_of ran.session) S → IsTextOf ran.session count S text
 
 -- and of one that is explained
-abbrev IsExplainedOf : Ran → List ℕ → Type 0
-IsExplainedOf ran text =
+abbrev IsExplainedOf : States → Ran → List ℕ → Type 0
+IsExplainedOf states ran text =
     (count : ℕ → ℕ) → AreCounts ran.sent.items count → (S : State) → StandsFor (manager_of ran.session) S → IsLedTo ran S
-    → IsExplainedTextOf ran count S text
+    → IsExplainedTextOf states ran count S text
 
 -- it is the script's output
 pub outputs : (bytes text : List ℕ) (ran : Ran) → IsRunOf bytes ran → IsToldOf ran text → IsOutput bytes text
@@ -94,8 +92,8 @@ outputs bytes text ran run told =
     }
 
 -- and so it is explained
-pub explains : (bytes text : List ℕ) (ran : Ran) → IsRunOf bytes ran → IsExplainedOf ran text → IsExplained bytes text
-explains bytes text ran run told =
+pub explains : (states : States) (bytes text : List ℕ) (ran : Ran) → IsRunOf bytes ran → IsExplainedOf states ran text → IsExplained states bytes text
+explains states bytes text ran run told =
     let count = λ (p : ℕ). length (requests_sent p run.script.arrivals) in
     let events = events_in ran.session in
     let is = told count run.counts run.state run.stands (is_led bytes ran run) in
@@ -106,7 +104,7 @@ explains bytes text ran run told =
       state = run.state;
       drained = run.drained;
       explained = is.explained;
-      explains = of_script (λ rules n. ExplainsRun rules n opening_state events run.state is.explained) ran.rules run.script.rules
+      explains = of_script (λ rules n. ExplainsRun states rules n 1 opening_state events run.state is.explained) ran.rules run.script.rules
           (processes_of (manager_of ran.session)) (processes_in run.script) run.rules run.processes is.explains;
       report = is.report;
       is_report = subst (λ (n : ℕ). IsReport n run.state events count is.report) run.processes is.is_report;
@@ -134,8 +132,9 @@ tells bytes text ran run told =
     }
 
 -- and so it is explained
-pub tells_explained : (bytes text : List ℕ) (ran : Ran) → IsThreadRunOf bytes ran → IsExplainedOf ran text → IsThreadExplanation bytes text
-tells_explained bytes text ran run told =
+pub tells_explained : (states : States) (bytes text : List ℕ) (ran : Ran) → IsThreadRunOf bytes ran → IsExplainedOf states ran text
+    → IsThreadExplanation states bytes text
+tells_explained states bytes text ran run told =
     record {
       tells = ∥∥₁_map run.interleaves
           (λ (left : (S : State) × Interleaves run.script (events_in ran.session) S × StandsFor (manager_of ran.session) S).
@@ -153,7 +152,7 @@ tells_explained bytes text ran run told =
             state = left.0;
             interleaves = left.1;
             explained = is.explained;
-            explains = of_script (λ rules m. ExplainsRun rules m opening_state events left.0 is.explained) ran.rules run.script.rules n
+            explains = of_script (λ rules m. ExplainsRun states rules m 1 opening_state events left.0 is.explained) ran.rules run.script.rules n
                 (processes_in run.script) run.rules run.processes is.explains;
             report = is.report;
             is_report = subst (λ (m : ℕ). IsReport m left.0 events count is.report) run.processes is.is_report;
@@ -181,14 +180,14 @@ same_unborn states others sent p (suc n) same =
     ap₂ (λ (line lines : List ℕ). line ++ lines) (ap (λ state. unborn_line state p (sent p)) (same p)) (same_unborn states others sent (p + 1) n same)
 
 -- the lines of the journal with what explains them, the report, and who was never born, one behind another
-pub one_behind_another : (ran : Ran) (count : ℕ → ℕ) (S : State) (explained report first second third : List ℕ)
+pub one_behind_another : (states : States) (ran : Ran) (count : ℕ → ℕ) (S : State) (explained report first second third : List ℕ)
     → StandsFor (manager_of ran.session) S
-    → ExplainsRun ran.rules (processes_of (manager_of ran.session)) opening_state (events_in ran.session) S explained
+    → ExplainsRun states ran.rules (processes_of (manager_of ran.session)) 1 opening_state (events_in ran.session) S explained
     → IsReport (processes_of (manager_of ran.session)) S (events_in ran.session) count report
     → first ≡ explained → second ≡ first ++ report
     → third ≡ second ++ unborn_lines (state_at (manager_of ran.session)) count 1 (processes_of (manager_of ran.session))
-    → IsExplainedTextOf ran count S third
-one_behind_another ran count S explained report first second third stands explains is_report one two three =
+    → IsExplainedTextOf states ran count S third
+one_behind_another states ran count S explained report first second third stands explains is_report one two three =
     let n = processes_of (manager_of ran.session) in
     let unborn = unborn_lines (state_at (manager_of ran.session)) count 1 n in
     record {

@@ -1,5 +1,5 @@
 -- An output is judged legal.
-use Rattle.std.proofs.Common.{◌≡◌, ◌≤◌, ℕ, ◌==◌, Bool, true, false, not, ◌&&◌, List, [], ◌∷◌, ◌++◌, length, codes, Ok, inl, inr, refl, sym, ap, ◌∙◌, subst, append_assoc}
+use Rattle.std.proofs.Common.{◌≡◌, ◌≤◌, ℕ, ◌==◌, Bool, true, false, not, ◌&&◌, List, [], ◌∷◌, ◌++◌, length, codes, Ok, inl, inr, refl, sym, ap, ◌∙◌, subst}
 use Rattle.std.specs.Prelude.{Some, None}
 use Rattle.std.specs.List.{AllByRecursion as Each, list_all}
 use Rattle.std.proofs.lemmas.Bool.{le-ltb}
@@ -15,7 +15,6 @@ use Rattle.script_core.specs.HeaderText.{policy_word, limits_word}
 use Rattle.script_core.specs.Words.{lines_of}
 use Rattle.script_core.specs.JournalReading.{JournalGives, JournalLineGives, journal_start, opening_place}
 use Rattle.script_core.specs.JournalReading as journals
-use Rattle.script_core.specs.Output.{IsOutput}
 use Rattle.script_core.specs.OutputReading.{OutputsAreLegal}
 use Rattle.lockreplay.specs.Checks.{JournalComes, Legal, OutputsAreJudgedLegal, header_lines, journal_limit}
 use Rattle.lockreplay.proofs.CheckingLemmas.{InLine, lines_first}

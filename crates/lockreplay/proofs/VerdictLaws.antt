@@ -9,7 +9,7 @@ use Rattle.script_core.specs.Words.{lines_of}
 use Rattle.script_core.specs.JournalReading.{JournalReading, JournalGives, LinesHaveOneMeaning, MayGoOn, MayEnd, journal_start, reading_behind}
 use Rattle.script_core.specs.JournalReading as journals
 use Rattle.script_core.specs.JournalView.{OneIsTold}
-use Rattle.lockreplay.specs.Checks.{Verdict, Legal, Illegal, Faulty, IsIllegalAt, LinesCome, JournalComes, JournalsHaveOneVerdict, VerdictsAreOfEnds, end_of, journal_limit}
+use Rattle.lockreplay.specs.Checks.{Verdict, Legal, Illegal, Faulty, IsIllegalAt, LinesCome, JournalsHaveOneVerdict, VerdictsAreOfEnds, end_of, journal_limit}
 
 -- one of two facts, of which one holds, decides
 decided : {X : Type 0} (Fact : Type 0) (P Q : X → Type 0) → ((a b : X) → P a → P b → a ≡ b) → ((a b : X) → Q a → Q b → a ≡ b)

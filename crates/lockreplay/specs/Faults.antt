@@ -5,7 +5,7 @@ use Rattle.script_core.specs.Reading.{Reads}
 use Rattle.lockreplay.specs.declared.replay.RunFault.{RunFault}
 use Rattle.lockreplay.specs.declared.replay.RunFault.TheVariants as faults
 use Rattle.lockreplay.specs.declared.faults.Fault.{Fault}
-use Rattle.lockreplay.specs.declared.faults.Fault.TheVariants.{CommandLine, Conflict, OutOfMemory, Run}
+use Rattle.lockreplay.specs.declared.faults.Fault.TheVariants.{CommandLine, Misuse, OutOfMemory, Run}
 
 -- a faulty script ends with 2, and all else that goes wrong with 1 (this project's choice)
 abbrev pub status_of : RunFault → ℕ
@@ -18,7 +18,7 @@ status_of faults.Thread = 1
 -- a command line that is refused or asks for two jobs, or asks for help or the version, ends with 2 as well (this project's choice)
 abbrev pub exit_status : Fault → ℕ
 exit_status (CommandLine error) = 2
-exit_status (Conflict conflict) = 2
+exit_status (Misuse misuse) = 2
 exit_status OutOfMemory = 1
 exit_status (Run fault) = status_of fault
 

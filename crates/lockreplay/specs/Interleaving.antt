@@ -9,6 +9,7 @@ use Rattle.session_core.specs.Runs.{IsRun}
 use Rattle.session_core.specs.Mail.{IsPrefixOf, requests_sent, requests_taken, answers_to}
 use Rattle.session_core.specs.SessionView.{manager_of, events_in}
 use Rattle.script_core.specs.ScriptText.{Meaning, IsProcess}
+use Rattle.script_core.specs.declared.states.States.{States}
 use Rattle.script_core.specs.Reading.{Reads}
 use Rattle.script_core.specs.EntryText.{entry_line}
 use Rattle.script_core.specs.ReportText.{IsReport, AreCounts}
@@ -53,27 +54,28 @@ pub record TellsInterleaved (bytes text : List ℕ) : Type 0 where
 pub record IsThreadOutput (bytes text : List ℕ) : Type 0 where
   pub tells : ∥ TellsInterleaved bytes text ∥₁
 
--- the script is accepted, and the text is the lines of such a journal with what explains each, then the report, and then who was never born
-pub record TellsExplained (bytes text : List ℕ) : Type 0 where
+-- the script is accepted, and the text is the lines of such a journal with what explains each and the states that are asked for, then the
+-- report, and then who was never born
+pub record TellsExplained (states : States) (bytes text : List ℕ) : Type 0 where
   pub script : Meaning
   pub accepted : Reads bytes (Ok script)
   pub journal : List Event
   pub state : State
   pub interleaves : Interleaves script journal state
   pub explained : List ℕ
-  pub explains : ExplainsRun script.rules (processes_in script) opening_state journal state explained
+  pub explains : ExplainsRun states script.rules (processes_in script) 1 opening_state journal state explained
   pub report : List ℕ
   pub is_report : IsReport (processes_in script) state journal (λ p. length (requests_sent p script.arrivals)) report
   pub is : text ≡ explained ++ report ++ unborn_lines state.states (λ p. length (requests_sent p script.arrivals)) 1 (processes_in script)
 
 -- the text is so, for some journal
-pub record IsThreadExplanation (bytes text : List ℕ) : Type 0 where
-  pub tells : ∥ TellsExplained bytes text ∥₁
+pub record IsThreadExplanation (states : States) (bytes text : List ℕ) : Type 0 where
+  pub tells : ∥ TellsExplained states bytes text ∥₁
 
 -- a text of a script's run in threads: plainly an output, or one that is explained
 abbrev pub IsThreadTextIn : Detail → List ℕ → List ℕ → Type 0
 IsThreadTextIn Plain bytes text = IsThreadOutput bytes text
-IsThreadTextIn Explained bytes text = IsThreadExplanation bytes text
+IsThreadTextIn (Explained states) bytes text = IsThreadExplanation states bytes text
 
 -- the script is accepted, and was run in threads: so the journal interleaves, the manager stands for the state that is left, and the counts
 -- are those of what each process sent

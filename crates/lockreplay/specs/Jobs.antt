@@ -1,31 +1,43 @@
 -- What the program does, and what comes of it (the words are this project's choice).
-use Rattle.std.specs.Prelude.{ℕ, Bool, true, false, Option, Result, Ok, Err, List}
+use Rattle.std.specs.Prelude.{◌≡◌, ℕ, Bool, true, false, Option, Some, None, Result, Ok, Err, List}
 use Rattle.script_core.specs.Words.{script_limit}
+use Rattle.script_core.specs.StateText.{AsksForStates, AsksForNoState}
 use Rattle.script_core.specs.declared.script.ScriptFault.{ScriptFault}
+use Rattle.script_core.specs.declared.states.States.{States}
+use Rattle.script_core.specs.declared.states.States.TheVariants.{Nowhere}
 use Rattle.lockreplay.specs.declared.check.Outcome.{Outcome}
 use Rattle.lockreplay.specs.declared.check.Outcome.TheVariants.{Done, Illegal}
-use Rattle.lockreplay.specs.declared.options.Conflict.{Conflict}
-use Rattle.lockreplay.specs.declared.options.Conflict.TheVariants as conflicts
 use Rattle.lockreplay.specs.declared.options.Detail.{Detail}
 use Rattle.lockreplay.specs.declared.options.Detail.TheVariants.{Plain, Explained}
 use Rattle.lockreplay.specs.declared.options.Job.{Job}
 use Rattle.lockreplay.specs.declared.options.Job.TheVariants.{Replay, ReplayInThreads, Check}
+use Rattle.lockreplay.specs.declared.options.Misuse.{Misuse}
+use Rattle.lockreplay.specs.declared.options.Misuse.TheVariants as misuses
 use Rattle.lockreplay.specs.Checks.{IsCheckOutput, ReadsFaultyJournal, journal_limit}
 use Rattle.lockreplay.specs.Interleaving.{IsThreadTextIn}
 use Rattle.lockreplay.specs.Replays.{IsTextIn, ReadsFaulty}
 
--- --explain, given or not, asks for so much
-abbrev pub detail_of : Bool → Detail
-detail_of false = Plain
-detail_of true = Explained
+-- --explain, given or not, and the word behind --state, if that is given, ask for so much, or the word for nothing
+abbrev pub IsDetailOf : Bool → Option (List ℕ) → Result Detail Misuse → Type 0
+IsDetailOf false None detail = detail ≡ Ok Plain
+IsDetailOf true None detail = detail ≡ Ok (Explained Nowhere)
+IsDetailOf explain (Some word) (Ok detail) = (states : States) × AsksForStates word states × (detail ≡ Explained states)
+IsDetailOf explain (Some word) (Err misuse) = AsksForNoState word × (misuse ≡ misuses.Entry)
 
--- what --threads, --explain and --check ask for, each given or not: the last asks for nothing beside another
-abbrev pub job_of : Bool → Bool → Bool → Result Job Conflict
-job_of false explain false = Ok (Replay (detail_of explain))
-job_of true explain false = Ok (ReplayInThreads (detail_of explain))
-job_of false false true = Ok Check
-job_of true explain true = Err conflicts.Threads
-job_of false true true = Err conflicts.Explain
+-- a run that is told in this detail, or what is asked for in its place and can't be had
+abbrev pub job_told : (Detail → Job) → Result Detail Misuse → Result Job Misuse
+job_told replays (Ok detail) = Ok (replays detail)
+job_told replays (Err misuse) = Err misuse
+
+-- what --threads, --explain and --check ask for, each given or not, and the word behind --state, if that is given: --check asks for
+-- nothing beside another
+abbrev pub IsJobOf : Bool → Bool → Bool → Option (List ℕ) → Result Job Misuse → Type 0
+IsJobOf false explain false state job = (detail : Result Detail Misuse) × IsDetailOf explain state detail × (job ≡ job_told Replay detail)
+IsJobOf true explain false state job = (detail : Result Detail Misuse) × IsDetailOf explain state detail × (job ≡ job_told ReplayInThreads detail)
+IsJobOf false false true None job = job ≡ Ok Check
+IsJobOf false false true (Some word) job = job ≡ Err misuses.State
+IsJobOf true explain true state job = job ≡ Err misuses.Threads
+IsJobOf false true true state job = job ≡ Err misuses.Explain
 
 -- only a check ends illegal
 abbrev pub ReplayOutput : (List ℕ → List ℕ → Type 0) → Outcome → List ℕ → List ℕ → Type 0

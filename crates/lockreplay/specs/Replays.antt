@@ -9,6 +9,7 @@ use Rattle.session_core.specs.Mail.{requests_sent}
 use Rattle.session_core.specs.Runs.{Leads}
 use Rattle.session_core.specs.Draining.{IsDrain}
 use Rattle.script_core.specs.declared.script.ScriptFault.{ScriptFault}
+use Rattle.script_core.specs.declared.states.States.{States}
 use Rattle.script_core.specs.Reading.{Reads}
 use Rattle.script_core.specs.EntryText.{entry_line}
 use Rattle.script_core.specs.ReportText.{IsReport, AreCounts}
@@ -23,7 +24,7 @@ use Rattle.lockreplay.specs.Devices.{ReadsWhole, TakesFront}
 -- a text of a script's run: plainly its output, or one that is explained
 abbrev pub IsTextIn : Detail → List ℕ → List ℕ → Type 0
 IsTextIn Plain bytes text = IsOutput bytes text
-IsTextIn Explained bytes text = IsExplained bytes text
+IsTextIn (Explained states) bytes text = IsExplained states bytes text
 
 -- all that the source had was read, and of an output of it so much was written
 pub record WritesOf (Outputs : List ℕ → List ℕ → Type 0) (read_old read_new : Option (List ℕ)) (Written : List ℕ → Type 0) : Type 0 where
@@ -59,11 +60,11 @@ pub record IsTextOf (session : Session) (sent : ℕ → ℕ) (S : State) (text :
 abbrev pub IsLedTo : Ran → State → Type 0
 IsLedTo ran S = Leads ran.rules (processes_of (manager_of ran.session)) opening_state (events_in ran.session) S
 
--- the text is the lines of the journal with what explains each, then the report of the state, with these counts of what each process
--- sent, and then who was never born
-pub record IsExplainedTextOf (ran : Ran) (sent : ℕ → ℕ) (S : State) (text : List ℕ) : Type 0 where
+-- the text is the lines of the journal with what explains each and the states that are asked for, then the report of the state, with these
+-- counts of what each process sent, and then who was never born
+pub record IsExplainedTextOf (states : States) (ran : Ran) (sent : ℕ → ℕ) (S : State) (text : List ℕ) : Type 0 where
   pub explained : List ℕ
-  pub explains : ExplainsRun ran.rules (processes_of (manager_of ran.session)) opening_state (events_in ran.session) S explained
+  pub explains : ExplainsRun states ran.rules (processes_of (manager_of ran.session)) 1 opening_state (events_in ran.session) S explained
   pub report : List ℕ
   pub is_report : IsReport (processes_of (manager_of ran.session)) S (events_in ran.session) sent report
   pub is : text ≡ explained ++ report ++ unborn_lines S.states sent 1 (processes_of (manager_of ran.session))

@@ -1,7 +1,7 @@
 //! The command line of the program, read by `clap`.
 ghost use Rattle.std.specs.Prelude.{◌≡◌, IfOk, IfErr, map, option_map, string_bytes, false, true};
 ghost use Rattle.clap.specs.Words.{FailsBy, app_of, fault_of, kind_of, rule_of, takes};
-ghost use Rattle.lockreplay.specs.CommandLine.{Flag, FollowsUsage, IsGiven, command_line, file_of, flag_in, flag_rule, has_flag};
+ghost use Rattle.lockreplay.specs.CommandLine.{Flag, FollowsUsage, IsGiven, command_line, file_of, state_in, option_rule, flag_in, flag_rule, has_flag};
 
 use crate::options::Options;
 use clap::error::ErrorKind;
@@ -12,6 +12,9 @@ use std::alloc::{AllocError, Global};
 pub fn options<'a>(alloc: Global, words: &'a [String]) -> Result<Options<'a>, clap::Error>
     // The file is that of the matches that clap states for these words.
     ensures file { IfOk result (λ options. option_map (λ file. file.now) options.file ≡ file_of (map string_bytes words.entry.now)) }
+
+    // So is the word behind `--state`.
+    ensures state { IfOk result (λ options. option_map (λ word. word.now) options.state ≡ state_in (map string_bytes words.entry.now)) }
 
     // So are the flags.
     ensures flags { IfOk result (λ options. (flag : Flag) → IsGiven (flag_in flag (map string_bytes words.entry.now)) (has_flag options flag)) }
@@ -29,6 +32,7 @@ pub fn options<'a>(alloc: Global, words: &'a [String]) -> Result<Options<'a>, cl
         threads: matches.get_flag("threads"),
         explain: matches.get_flag("explain"),
         check: matches.get_flag("check"),
+        state: matches.get_str("state"),
         file: matches.get_str("file"),
     })
 }
@@ -47,6 +51,12 @@ fn command<'a>(alloc: Global) -> Result<Command<'a>, AllocError>
         "explain",
         "Says what is in the way and which locks go, in lines of #",
     );
+    let state = option(
+        alloc,
+        "state",
+        "N",
+        "Explains, and tells the state behind entry N, or behind all",
+    );
     let check = flag(
         alloc,
         "check",
@@ -61,6 +71,7 @@ fn command<'a>(alloc: Global) -> Result<Command<'a>, AllocError>
         .after_help(GUIDE)
         .arg(threads)?
         .arg(explain)?
+        .arg(state)?
         .arg(check)?
         .arg(file)
 }
@@ -76,16 +87,26 @@ fn flag<'a>(alloc: Global, name: &'a str, help: &'a str) -> Arg<'a>
         .help(help)
 }
 
+/// The option of this name, behind which a value stands.
+fn option<'a>(alloc: Global, name: &'a str, value: &'a str, help: &'a str) -> Arg<'a>
+    ensures rule { rule_of result ≡ option_rule name.entry.now }
+    ensures local { result.global ≡ false }
+{
+    Arg::new(alloc, name)
+        .long(name)
+        .value_name(value)
+        .help(help)
+}
+
 /// The version of the program, which is the topmost of CHANGELOG.md.
 const VERSION: &str = "0.2.0";
 
 /// What the program does.
 const ABOUT: &str = "Replays a script of advisory lock requests. No file of the machine is locked.";
 
-/// How a script is written, and what comes of it. With what clap puts before it, its first 10 lines fill a screen of 24.
-const GUIDE: &str = "Exit status:
-  0  replayed, or legal; 3  illegal; 2  input or command line refused, --help
-  1  FILE can't be opened, reading or writing failed, or no memory or thread
+/// How a script is written, and what comes of it. With what clap puts before it, its first 9 lines fill a screen of 24.
+const GUIDE: &str = "Exit status: 0 replayed or legal, 3 illegal, 2 input or command line refused
+  or --help, 1 FILE not opened, reading or writing failed, no memory or thread
 
 Example:
   $ printf '1 open 0 rw\\n1 setlk 0 w set 0 100\\n' | lockreplay
@@ -161,11 +182,18 @@ Explain:
                                               EAGAIN or waits: the first lock
     # 3#1 behind wait 2#1 0 process 2 w 0 9   or no lock but an earlier wait,
                                               under queue
+    # 2#2 would wait for 1 (lock 0 process 1 w 0 0), which waits for 2 (1#4, ..)
+                                              EDEADLK: the cycle, and what makes
+                                              each step of it
     # 1#5 released lock 0 process 1 w 0 99    a close, dup2, exit or kill ended
                                               each lock of its owner on a file
     # 1#6 lost flock 0 description 1 sh       a flock that is refused or waits
                                               has lost its old lock
     # 3#1 and 1 more never taken: process 3 was never born
+  --state N explains too, and tells the state behind the line of the N-th event,
+  or behind each with all: what is held and who waits, as above, and then
+    # proc 1 live                             each process that was born
+    # fd 1 0 description 2 file 0 rw offset 9 and each descriptor, here 0 of 1
 
 Check:
   With --check an output is read, as a server may print it too: header lines as

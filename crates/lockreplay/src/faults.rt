@@ -4,7 +4,7 @@ ghost use Rattle.std.specs.IoError.{error_kind};
 ghost use Rattle.clap.specs.Words.{kind_of};
 ghost use Rattle.lockreplay.specs.Faults.{exit_status};
 
-use crate::options::Conflict;
+use crate::options::Misuse;
 use crate::replay::RunFault;
 use clap::error::ErrorKind;
 use std::io;
@@ -17,9 +17,9 @@ pub enum Fault {
     /// The command line is refused, or asks for help or the version. The text is clap's.
     #[error("{0}")]
     CommandLine(clap::Error),
-    /// The command line has flags that can't stand together.
+    /// The command line asks for what can't be had.
     #[error("{0}")]
-    Conflict(Conflict),
+    Misuse(Misuse),
     /// A growth was refused before the run, as clap or a call for input tells it. The text is that of a run.
     #[error("lockreplay: no memory\n")]
     OutOfMemory,
@@ -56,7 +56,7 @@ impl Fault {
         ensures { result ≡ exit_status self.now }
     {
         match self {
-            Fault::CommandLine(_) | Fault::Conflict(_) => 2,
+            Fault::CommandLine(_) | Fault::Misuse(_) => 2,
             Fault::OutOfMemory => 1,
             Fault::Run(fault) => fault.status(),
         }

@@ -58,7 +58,7 @@ fn run(
         .map_err(Memory::from)
         .map_err(RunFault::Memory)?;
     let options = command_line::options(rt.alloc(), &words).map_err(Fault::of_command_line)?;
-    let job = options.job().map_err(Fault::Conflict)?;
+    let job = options.job().map_err(Fault::Misuse)?;
     let mut sink = ToWriter::new(io::writer(rt));
     match options.path() {
         Some(path) => {

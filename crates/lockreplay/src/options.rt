@@ -1,7 +1,8 @@
 //! What a command line asks for.
 ghost use Rattle.std.specs.Prelude.{◌≡◌, ◌≢◌, Some, None, codes, option_map};
-ghost use Rattle.lockreplay.specs.Jobs.{job_of, detail_of};
+ghost use Rattle.lockreplay.specs.Jobs.{IsJobOf, IsDetailOf};
 
+use script_core::States;
 use thiserror::Error;
 
 /// How much is told of a run (this project's choice).
@@ -9,8 +10,9 @@ use thiserror::Error;
 pub enum Detail {
     /// The line of each event, and then the report.
     Plain,
-    /// The same, with what explains each event behind its line, and who was never born at the end: lines that begin with `#`.
-    Explained,
+    /// The same, with what explains each event behind its line, and the states that are asked for, and who was never born at the end: lines
+    /// that begin with `#`.
+    Explained(States),
 }
 
 /// What the program does.
@@ -24,15 +26,21 @@ pub enum Job {
     Check,
 }
 
-/// A flag that can't stand beside `--check`. The text is as clap's.
+/// What a command line can't ask for. The text is as clap's.
 #[derive(Clone, Copy, Debug, PartialEq, Eq, Error)]
-pub enum Conflict {
-    /// `--threads`: a journal is checked in no thread of its own.
+pub enum Misuse {
+    /// `--threads` beside `--check`: a journal is checked in no thread of its own.
     #[error("error: the argument '--threads' cannot be used with '--check'\n\nFor more information, try '--help'.\n")]
     Threads,
-    /// `--explain`: of a journal nothing is told but whether it is legal.
+    /// `--explain` beside `--check`: of a journal nothing is told but whether it is legal.
     #[error("error: the argument '--explain' cannot be used with '--check'\n\nFor more information, try '--help'.\n")]
     Explain,
+    /// `--state` beside `--check`, as `--explain`.
+    #[error("error: the argument '--state <N>' cannot be used with '--check'\n\nFor more information, try '--help'.\n")]
+    State,
+    /// `--state` with what is neither `all` nor the number of an entry.
+    #[error("error: invalid value for '--state <N>': the number of an entry, from 1 on, or all\n\nFor more information, try '--help'.\n")]
+    Entry,
 }
 
 /// What a command line asks for.
@@ -44,33 +52,39 @@ pub struct Options<'a> {
     pub explain: bool,
     /// Whether a journal is checked, in place of a script that is replayed.
     pub check: bool,
+    /// Behind which entries the state is told, as it stands on the command line.
+    pub state: Option<&'a str>,
     /// FILE, as it stands on the command line.
     pub file: Option<&'a str>,
 }
 
 impl<'a> Options<'a> {
-    /// What to do. `--check` stands beside neither other flag. It is judged here and not by clap, whose conditions for a refusal are stated
+    /// What to do. `--check` stands beside no other flag. It is judged here and not by clap, whose conditions for a refusal are stated
     /// for arguments that have no rule on others (this project's choice).
-    pub fn job(self) -> Result<Job, Conflict>
-        ensures { result ≡ job_of self.entry.threads self.entry.explain self.entry.check }
+    pub fn job(self) -> Result<Job, Misuse>
+        ensures { IsJobOf self.entry.threads self.entry.explain self.entry.check (option_map (λ word. word.now) self.entry.state) result }
     {
-        match (self.threads, self.explain, self.check) {
-            (false, _, false) => Ok(Job::Replay(self.detail())),
-            (true, _, false) => Ok(Job::ReplayInThreads(self.detail())),
-            (false, false, true) => Ok(Job::Check),
-            (true, _, true) => Err(Conflict::Threads),
-            (false, true, true) => Err(Conflict::Explain),
+        match (self.threads, self.explain, self.check, self.state) {
+            (false, _, false, _) => Ok(Job::Replay(self.detail()?)),
+            (true, _, false, _) => Ok(Job::ReplayInThreads(self.detail()?)),
+            (false, false, true, None) => Ok(Job::Check),
+            (true, _, true, _) => Err(Misuse::Threads),
+            (false, true, true, _) => Err(Misuse::Explain),
+            (false, false, true, Some(_)) => Err(Misuse::State),
         }
     }
 
-    /// How much is told of a run.
-    fn detail(self) -> Detail
-        ensures { result ≡ detail_of self.entry.explain }
+    /// How much is told of a run. Who asks for states has the run explained too.
+    fn detail(self) -> Result<Detail, Misuse>
+        ensures { IsDetailOf self.entry.explain (option_map (λ word. word.now) self.entry.state) result }
     {
-        if self.explain {
-            Detail::Explained
-        } else {
-            Detail::Plain
+        match self.state {
+            Some(word) => match States::of_word(word) {
+                Some(states) => Ok(Detail::Explained(states)),
+                None => Err(Misuse::Entry),
+            },
+            None if self.explain => Ok(Detail::Explained(States::Nowhere)),
+            None => Ok(Detail::Plain),
         }
     }
 

@@ -1,5 +1,5 @@
--- An explained run without the lines that begin with `#` is the run: for `explanations_are_comments`.
-use Rattle.std.proofs.Common.{ℕ, zero, suc, ◌≡◌, ◌+◌, ◌<◌, ◌==◌, ◌/◌, ◌%◌, Bool, true, false, not, ◌&&◌, cond, Option, Some, None, List, [], ◌∷◌, ◌++◌, length, filter, flat_map, codes, decimal, ℤ, pos, negsuc, refl, sym, ap, subst, ◌∙◌, arith, append_assoc, append-nil, inl, inr}
+-- Which lines begin with `#` and which don't, and which texts go with the lines that do: for `explanations_are_comments`.
+use Rattle.std.proofs.Common.{ℕ, zero, suc, ◌≡◌, ◌+◌, ◌<◌, ◌==◌, ◌/◌, ◌%◌, Bool, true, false, not, ◌&&◌, cond, Option, Some, None, List, [], ◌∷◌, ◌++◌, filter, flat_map, codes, decimal, ℤ, pos, negsuc, refl, sym, ap, subst, ◌∙◌, arith, append_assoc, inl, inr}
 use Rattle.std.specs.List.{list_all, list_any, slice_split, join_with_byte}
 use Rattle.std.specs.Fmt.{signed_decimal}
 use Rattle.std.specs.Fmt.{digits, digits_onto, digit_glyph}
@@ -38,18 +38,16 @@ use Rattle.lock_manager.specs.declared.request.Request.{Request}
 use Rattle.lock_manager.specs.declared.request.Request.TheVariants.{OpenFile, Dup, DupTo, CloseFd, Seek, Resize, Lk, Flock, Fork, Exit, Signal, Kill}
 use Rattle.lock_manager.specs.declared.request.ProcState.{ProcState}
 use Rattle.lock_manager.specs.declared.request.ProcState.TheVariants as states
-use Rattle.lock_manager.specs.State.{State, opening_state}
+use Rattle.lock_manager.specs.State.{State}
 use Rattle.session_core.specs.Event.{Event}
-use Rattle.session_core.specs.Mail.{requests_sent}
 use Rattle.script_core.specs.declared.text.ProcessLine.{ProcessLine}
 use Rattle.script_core.specs.Words.{lines_of, without_empty_end}
 use Rattle.script_core.specs.RequestText.{access_word, mode_word, kind_word, whence_word, op_word, lock_command_word, pid_words, nb_words, lock_words, request_words, request_text}
 use Rattle.script_core.specs.EntryText.{error_name, reply_words, reply_text, tag, note_text, entry_text, entry_line}
 use Rattle.script_core.specs.ReportText.{owner_text, flock_word, byte_lock_text, flock_text, held_text, held_line, wanted_text, wait_line, state_word, counts_text, process_line, is_reported, reported_line, process_lines, line_of, IsReport}
-use Rattle.script_core.specs.Output.{processes_in}
 use Rattle.script_core.specs.declared.deadlock.Link.{Link}
 use Rattle.script_core.specs.Deadlocks.{step_text, first_step_text, next_step_text}
-use Rattle.script_core.specs.Explaining.{comment, obstacle_line, deadlock_line, is_same_place, word_of_loss, loss_line, loss_lines, Explains, ExplainsRun, more_text, never_born_line, unborn_line, unborn_lines, is_comment_line, without_comments, ExplanationsAreComments}
+use Rattle.script_core.specs.Explaining.{comment, obstacle_line, deadlock_line, is_same_place, word_of_loss, loss_line, loss_lines, Explains, more_text, never_born_line, unborn_line, unborn_lines, is_comment_line, without_comments}
 
 -- no byte ends a line
 abbrev pub goes_on : ℕ → Bool
@@ -58,7 +56,7 @@ goes_on byte = not (byte == 10)
 abbrev pub InLine : List ℕ → Type 0
 InLine bytes = list_all goes_on bytes ≡ true
 
-both : (one other : List ℕ) → InLine one → InLine other → InLine (one ++ other)
+pub both : (one other : List ℕ) → InLine one → InLine other → InLine (one ++ other)
 both one other h k = list_all-append goes_on one other ∙ ap (λ b. b && list_all goes_on other) h ∙ k
 
 -- a line is the first, where others follow
@@ -102,10 +100,10 @@ abbrev IsPlain : List ℕ → Type 0
 IsPlain text = (rest : List ℕ) → without_comments (text ++ rest) ≡ text ++ without_comments rest
 
 -- the text goes, whatever follows it
-abbrev IsComment : List ℕ → Type 0
+abbrev pub IsComment : List ℕ → Type 0
 IsComment text = (rest : List ℕ) → without_comments (text ++ rest) ≡ without_comments rest
 
-abbrev ended : List ℕ → List ℕ
+abbrev pub ended : List ℕ → List ℕ
 ended line = line ++ 10 ∷ []
 
 rest_behind : (line rest : List ℕ) → ended line ++ rest ≡ line ++ 10 ∷ rest
@@ -122,7 +120,7 @@ plain_line line is plain rest =
     kept true e = absurd (cc)
     kept false e = refl
 
-comment_line : (line : List ℕ) → InLine line → is_comment_line line ≡ true → IsComment (ended line)
+pub comment_line : (line : List ℕ) → InLine line → is_comment_line line ≡ true → IsComment (ended line)
 comment_line line is begins rest =
     ap without_comments (rest_behind line rest)
     ∙ ap (λ (ls : List (List ℕ)). flat_map ended (filter (λ l. not (is_comment_line l)) ls)) (lines_first line rest is)
@@ -141,17 +139,17 @@ plain_both one other h k rest =
     ap without_comments (append_assoc one other rest) ∙ h (other ++ rest) ∙ ap (λ (l : List ℕ). one ++ l) (k rest)
     ∙ sym (append_assoc one other (without_comments rest))
 
-comment_none : IsComment []
+pub comment_none : IsComment []
 comment_none rest = refl
 
-comment_both : (one other : List ℕ) → IsComment one → IsComment other → IsComment (one ++ other)
+pub comment_both : (one other : List ℕ) → IsComment one → IsComment other → IsComment (one ++ other)
 comment_both one other h k rest = ap without_comments (append_assoc one other rest) ∙ h (other ++ rest) ∙ k rest
 
 plain_each : {X : Type 0} (f : X → List ℕ) → ((x : X) → IsPlain (f x)) → (xs : List X) → IsPlain (flat_map f xs)
 plain_each f each [] = plain_none
 plain_each f each (x ∷ xs) = plain_both (f x) (flat_map f xs) (each x) (plain_each f each xs)
 
-comment_each : {X : Type 0} (f : X → List ℕ) → ((x : X) → IsComment (f x)) → (xs : List X) → IsComment (flat_map f xs)
+pub comment_each : {X : Type 0} (f : X → List ℕ) → ((x : X) → IsComment (f x)) → (xs : List X) → IsComment (flat_map f xs)
 comment_each f each [] = comment_none
 comment_each f each (x ∷ xs) = comment_both (f x) (flat_map f xs) (each x) (comment_each f each xs)
 
@@ -172,7 +170,7 @@ digits_on (suc k) n behind is =
       | false ↦ digits_on k (n / 10) (glyph ∷ behind) more
     ]
 
-number : (n : ℕ) → InLine (decimal n)
+pub number : (n : ℕ) → InLine (decimal n)
 unfolding digits
 number n = digits_on 64 n [] refl
 
@@ -231,7 +229,7 @@ joined [] h = refl
 joined (word ∷ []) h = h.0
 joined (word ∷ next ∷ words) h = both word (32 ∷ join_with_byte 32 (next ∷ words)) h.0 (joined (next ∷ words) h.1)
 
-in_access : (access : Access) → InLine (access_word access)
+pub in_access : (access : Access) → InLine (access_word access)
 in_access R = refl
 in_access W = refl
 in_access Rw = refl
@@ -332,7 +330,7 @@ starts_entry event =
     starts_both (tag event.p event.n ++ codes " " ++ request_text event.request) (flat_map note_text event.notes)
     (starts_both (tag event.p event.n ++ codes " ") (request_text event.request) (starts_both (tag event.p event.n) (codes " ") tagged))
 
-plain_entry : (event : Event) → IsPlain (entry_line event)
+pub plain_entry : (event : Event) → IsPlain (entry_line event)
 plain_entry event = plain_line (entry_text event) (in_entry event) (starts_plain (entry_text event) (starts_entry event))
 
 -- the report
@@ -360,7 +358,7 @@ in_byte_lock file owner mode span =
 in_flock : (owner : Owner) (mode : Mode) → InLine (flock_text owner mode)
 in_flock owner mode = both (owner_text owner ++ codes " ") (flock_word mode) (both (owner_text owner) (codes " ") (in_owner owner) refl) (in_flock_word mode)
 
-in_held : (held : Held) → InLine (held_text held)
+pub in_held : (held : Held) → InLine (held_text held)
 in_held held = by_case held.whole
   where
     by_case : (whole : Bool) → InLine (cond whole (codes "flock " ++ decimal held.file ++ codes " " ++ flock_text held.owner held.mode) (codes "lock " ++ byte_lock_text held.file held.owner held.mode held.span))
@@ -383,14 +381,14 @@ in_wanted Whole wait =
 abbrev wait_text : Wait → List ℕ
 wait_text wait = codes "wait " ++ tag wait.p wait.n ++ codes " " ++ wanted_text wait.family wait
 
-in_wait : (wait : Wait) → InLine (wait_text wait)
+pub in_wait : (wait : Wait) → InLine (wait_text wait)
 in_wait wait =
     both (tag wait.p wait.n ++ codes " ") (wanted_text wait.family wait) (both (tag wait.p wait.n) (codes " ") (in_tag wait.p wait.n) refl) (in_wanted wait.family wait)
 
 plain_wait : (wait : Wait) → IsPlain (wait_line wait)
 plain_wait wait = plain_line (wait_text wait) (in_wait wait) refl
 
-in_state : (state : ProcState) → InLine (state_word state)
+pub in_state : (state : ProcState) → InLine (state_word state)
 in_state states.Unborn = refl
 in_state states.Live = refl
 in_state states.Waiting = refl
@@ -426,7 +424,7 @@ plain_processes states events sent p (suc n) =
     plain_both (reported_line (line_of states events sent p)) (process_lines states events sent (p + 1) n) (plain_reported (line_of states events sent p))
     (plain_processes states events sent (p + 1) n)
 
-plain_report : (processes : ℕ) (S : State) (events : List Event) (sent : ℕ → ℕ) (text : List ℕ) → IsReport processes S events sent text → IsPlain text
+pub plain_report : (processes : ℕ) (S : State) (events : List Event) (sent : ℕ → ℕ) (text : List ℕ) → IsReport processes S events sent text → IsPlain text
 plain_report processes S events sent text report =
     subst IsPlain (sym report.is)
     (plain_both (flat_map held_line report.held ++ flat_map wait_line S.waits) (process_lines S.states events sent 1 processes)
@@ -508,25 +506,13 @@ comment_losses event Exit before after = losses_as event (codes "released ") bef
 comment_losses event (Signal target) before after = comment_none
 comment_losses event (Kill target) before after = losses_as event (codes "released ") before after refl
 
-comment_own : (rules : Rules) (S : State) (event : Event) (T : State) (own : List ℕ) → Explains rules S event T own → IsComment own
+pub comment_own : (rules : Rules) (S : State) (event : Event) (T : State) (own : List ℕ) → Explains rules S event T own → IsComment own
 comment_own rules S event T own h =
     subst IsComment (sym h.is)
     (comment_both (loss_lines event (word_of_loss event.request) h.before h.after ++ obstacle_line event h.obstacle) (deadlock_line event h.links)
     (comment_both (loss_lines event (word_of_loss event.request) h.before h.after) (obstacle_line event h.obstacle)
     (comment_losses event event.request h.before h.after) (comment_obstacle event h.obstacle))
     (comment_deadlock event h.links))
-
--- a run that is explained, without what explains it
-run_without : (rules : Rules) (processes : ℕ) (S : State) (events : List Event) (T : State) (text : List ℕ) → ExplainsRun rules processes S events T text
-    → (rest : List ℕ) → without_comments (text ++ rest) ≡ flat_map entry_line events ++ without_comments rest
-run_without rules processes S [] T text h rest = ap (λ (l : List ℕ). without_comments (l ++ rest)) h.1
-run_without rules processes S (event ∷ events) T text h rest =
-    let line = entry_line event in
-    ap (λ (l : List ℕ). without_comments (l ++ rest)) h.6
-    ∙ ap without_comments (append_assoc (line ++ h.2) h.4 rest ∙ append_assoc line h.2 (h.4 ++ rest))
-    ∙ plain_entry event (h.2 ++ (h.4 ++ rest))
-    ∙ ap (λ (l : List ℕ). line ++ l) (comment_own rules S event h.0 h.2 h.3 (h.4 ++ rest) ∙ run_without rules processes h.0 events T h.4 h.5 rest)
-    ∙ sym (append_assoc line (flat_map entry_line events) (without_comments rest))
 
 in_more : (more : ℕ) → InLine (more_text more)
 in_more zero = refl
@@ -548,31 +534,8 @@ comment_unborn states.Live p sent = comment_none
 comment_unborn states.Waiting p sent = comment_none
 comment_unborn states.Ended p sent = comment_none
 
-comment_all_unborn : (states : ℕ → ProcState) (sent : ℕ → ℕ) (p n : ℕ) → IsComment (unborn_lines states sent p n)
+pub comment_all_unborn : (states : ℕ → ProcState) (sent : ℕ → ℕ) (p n : ℕ) → IsComment (unborn_lines states sent p n)
 unfolding unborn_lines
 comment_all_unborn states sent p zero = comment_none
 comment_all_unborn states sent p (suc n) =
     comment_both (unborn_line (states p) p (sent p)) (unborn_lines states sent (p + 1) n) (comment_unborn (states p) p (sent p)) (comment_all_unborn states sent (p + 1) n)
-
--- what is explained of a script is its output, with comments
-pub explanations_are_comments : ExplanationsAreComments
-explanations_are_comments bytes text h =
-    let sent = λ (p : ℕ). length (requests_sent p h.script.arrivals) in
-    let lines = flat_map entry_line h.journal in
-    let born = unborn_lines h.state.states sent 1 (processes_in h.script) in
-    let last : without_comments born ≡ [] =
-    ap without_comments (sym (append-nil born)) ∙ comment_all_unborn h.state.states sent 1 (processes_in h.script) [] in
-    let reported : without_comments (h.report ++ born) ≡ h.report =
-    plain_report (processes_in h.script) h.state h.journal sent h.report h.is_report born ∙ ap (λ (l : List ℕ). h.report ++ l) last ∙ append-nil h.report in
-    record {
-      script = h.script;
-      accepted = h.accepted;
-      journal = h.journal;
-      state = h.state;
-      drained = h.drained;
-      report = h.report;
-      is_report = h.is_report;
-      is = ap without_comments (h.is ∙ append_assoc h.explained h.report born)
-          ∙ run_without h.script.rules (processes_in h.script) opening_state h.journal h.state h.explained h.explains (h.report ++ born)
-          ∙ ap (λ (l : List ℕ). lines ++ l) reported;
-    }

@@ -1,8 +1,8 @@
 -- The run that is made again, step by step: for `write_explained` and `write_unborn`, clauses `ok`.
-use Rattle.std.proofs.Common.{ℕ, zero, suc, ◌≡◌, ◌+◌, ◌-◌, ◌<◌, ◌≤◌, Option, Some, None, Ok, List, [], ◌∷◌, ◌++◌, length, All, inl, inr, take, drop, get_or, refl, sym, ap, subst, ◌∙◌, arith, append_assoc, append-nil, add-one, Result, true, false}
-use Rattle.std.specs.Prelude.{IfOk, Err, MatchOption, MatchResult, OnErr, OnOk, codes, decimal, slice_index}
+use Rattle.std.proofs.Common.{ℕ, zero, suc, ◌≡◌, ◌+◌, ◌-◌, ◌<◌, ◌≤◌, Option, Some, Ok, List, [], ◌∷◌, ◌++◌, length, All, inl, inr, take, drop, get_or, refl, sym, ap, subst, ◌∙◌, arith, append_assoc, append-nil, add-one, Result, Bool, true, false}
+use Rattle.std.specs.Prelude.{IfOk, Err, MatchResult, OnErr, OnOk, codes, decimal, slice_index}
 use Rattle.std.proofs.Math.Seq.{drop-cons, take-append_seam}
-use Rattle.std.proofs.lemmas.List.{take_more, take_all}
+use Rattle.std.proofs.lemmas.List.{take_more, take_all, length-take}
 use Rattle.std.proofs.lemmas.Bool.{cases_Bool}
 use Rattle.range_core.specs.Resolving.{resolution}
 use Rattle.fd_table.specs.declared.TheConstants.{FILES}
@@ -12,7 +12,6 @@ use Rattle.lock_book.specs.Changes.{mode_in, flock_mode_in}
 use Rattle.lock_book.specs.Reports.{IsHeldReport}
 use Rattle.wait_core.specs.declared.Policy.{Policy}
 use Rattle.wait_core.specs.declared.Wait.{Wait}
-use Rattle.wait_core.specs.Blocking.{IsBlocked}
 use Rattle.wait_core.specs.Cycles.{IsTraditional}
 use Rattle.lock_manager.specs.declared.request.Rules.{Rules}
 use Rattle.lock_manager.specs.declared.request.Lock.{Lock}
@@ -23,25 +22,26 @@ use Rattle.lock_manager.specs.declared.request.InTheWay.{InTheWay}
 use Rattle.lock_manager.specs.declared.request.Request.{Request}
 use Rattle.lock_manager.specs.declared.request.Request.TheVariants.{OpenFile, Dup, DupTo, CloseFd, Seek, Resize, Lk, Flock, Fork, Exit, Signal, Kill}
 use Rattle.lock_manager.specs.declared.request.ProcState.{ProcState}
-use Rattle.lock_manager.specs.declared.request.ProcState.TheVariants.{Live}
 use Rattle.lock_manager.specs.declared.manager.Manager.{Manager}
 use Rattle.lock_manager.specs.State.{State, opening_state, locks_held}
 use Rattle.lock_manager.specs.Settling.{IsSettled}
 use Rattle.lock_manager.specs.Step.{Step}
 use Rattle.lock_manager.specs.LockWords.{wanted_lock}
 use Rattle.lock_manager.specs.FlockCalls.{wanted_flock}
-use Rattle.lock_manager.specs.Asking.{AsksFor, AsksForBytes, AsksForWhole, IsFirstInTheWay}
+use Rattle.lock_manager.specs.Asking.{AsksFor, AsksForBytes, AsksForWhole}
 use Rattle.lock_manager.specs.OneOutcome.{StepHasOneOutcome}
-use Rattle.lock_manager.specs.ManagerView.{StandsFor, rules_of, processes_of, state_at}
+use Rattle.lock_manager.specs.ManagerView.{StandsFor, rules_of, processes_of}
 use Rattle.session_core.specs.Event.{Event}
 use Rattle.session_core.specs.Runs.{IsStep, Leads}
 use Rattle.script_core.specs.EntryText.{entry_line, tag}
 use Rattle.script_core.specs.ReportText.{AreCounts}
 use Rattle.script_core.specs.Output.{Extends}
 use Rattle.script_core.specs.declared.deadlock.Link.{Link}
+use Rattle.script_core.specs.declared.states.States.{States}
+use Rattle.script_core.specs.StateText.{is_told, TellsStateIf}
 use Rattle.script_core.specs.Files.{IsWithinFiles}
 use Rattle.script_core.specs.Deadlocks.{TellsCycleIfAny}
-use Rattle.script_core.specs.Explaining.{comment, is_deadlock, is_stopped, obstacle_line, deadlock_line, TellsDeadlock, IsCycleOf, word_of_loss, loss_lines, StandsInTheWay, Explains, ExplainsRun, more_text, never_born_line, unborn_line, unborn_lines}
+use Rattle.script_core.specs.Explaining.{comment, is_deadlock, obstacle_line, deadlock_line, TellsDeadlock, IsCycleOf, word_of_loss, loss_lines, StandsInTheWay, Explains, ExplainsRun, more_text, never_born_line, unborn_line, unborn_lines}
 use Rattle.script_core.proofs.TextLemmas.{kept_behind}
 use Rattle.script_core.proofs.DeadlockLocksLemmas.{told_of_state, none_of_state}
 use Rattle.script_core.proofs.DeadlockStepLemmas.{HasClosed, step_closes, settled_then, opening_settled}
@@ -222,7 +222,7 @@ never_born_more p (suc more) some =
 
 -- a front of a journal was made again: the manager stands for the state that it leaves, from which the rest leads on, and the text has
 -- grown by what explains the front
-pub record HasExplained (rules : Rules) (processes : ℕ) (journal : List Event) (index : ℕ) (manager : Manager) (old new : List ℕ) : Type 0 where
+pub record HasExplained (states : States) (rules : Rules) (processes : ℕ) (journal : List Event) (index : ℕ) (manager : Manager) (old new : List ℕ) : Type 0 where
   pub state : State
   pub last : State
   pub stands : StandsFor manager state
@@ -230,16 +230,16 @@ pub record HasExplained (rules : Rules) (processes : ℕ) (journal : List Event)
   pub settled : IsSettled rules.policy state
   pub leads : Leads rules processes state (drop index journal) last
   pub more : List ℕ
-  pub explains : ExplainsRun rules processes opening_state (take index journal) state more
+  pub explains : ExplainsRun states rules processes 1 opening_state (take index journal) state more
   pub is : new ≡ old ++ more
   pub rules_are : rules_of manager ≡ rules
   pub processes_are : processes_of manager ≡ processes
 
 -- nothing yet
-pub none_explained : (rules : Rules) (processes : ℕ) (journal : List Event) (manager : Manager) (old : List ℕ)
+pub none_explained : (states : States) (rules : Rules) (processes : ℕ) (journal : List Event) (manager : Manager) (old : List ℕ)
     → ((T : State) × Leads rules processes opening_state journal T) → StandsFor manager opening_state → rules_of manager ≡ rules
-    → processes_of manager ≡ processes → HasExplained rules processes journal 0 manager old old
-none_explained rules processes journal manager old run stands rules_are processes_are = record {
+    → processes_of manager ≡ processes → HasExplained states rules processes journal 0 manager old old
+none_explained states rules processes journal manager old run stands rules_are processes_are = record {
   state = opening_state;
   last = run.0;
   stands = stands;
@@ -254,77 +254,125 @@ none_explained rules processes journal manager old run stands rules_are processe
 }
 
 -- one more event is explained
-run_more : (rules : Rules) (processes : ℕ) (first S : State) (events : List Event) (event : Event) (T : State) (text own : List ℕ)
-    → ExplainsRun rules processes first events S text → IsStep rules processes S event T → Explains rules S event T own
-    → ExplainsRun rules processes first (events ++ event ∷ []) T (text ++ (entry_line event ++ own))
-run_more rules processes first S [] event T text own h step explains = (
-  T,
-  subst (λ (X : State). IsStep rules processes X event T) h.0 step,
-  own,
-  subst (λ (X : State). Explains rules X event T own) h.0 explains,
-  [],
-  (refl, refl),
-  ap (λ (l : List ℕ). l ++ (entry_line event ++ own)) h.1 ∙ sym (append-nil (entry_line event ++ own)),
-)
-run_more rules processes first S (one ∷ events) event T text own h step explains = (
-  h.0,
-  h.1,
-  h.2,
-  h.3,
-  h.4 ++ (entry_line event ++ own),
-  run_more rules processes h.0 S events event T h.4 own h.5 step explains,
-  ap (λ (l : List ℕ). l ++ (entry_line event ++ own)) h.6 ∙ append_assoc (entry_line one ++ h.2) h.4 (entry_line event ++ own),
-)
+run_more : (states : States) (rules : Rules) (processes number : ℕ) (first S : State) (events : List Event) (event : Event) (T : State)
+    (text own told : List ℕ) → ExplainsRun states rules processes number first events S text → IsStep rules processes S event T
+    → Explains rules S event T own → TellsStateIf (is_told states (number + length events)) rules processes T told
+    → ExplainsRun states rules processes number first (events ++ event ∷ []) T (text ++ (entry_line event ++ own ++ told))
+run_more states rules processes number first S [] event T text own told h step explains tells =
+    let here : number + 0 ≡ number = omega arith in (
+      T,
+      subst (λ (X : State). IsStep rules processes X event T) h.0 step,
+      own,
+      subst (λ (X : State). Explains rules X event T own) h.0 explains,
+      told,
+      subst (λ (n : ℕ). TellsStateIf (is_told states n) rules processes T told) here tells,
+      [],
+      (refl, refl),
+      ap (λ (l : List ℕ). l ++ (entry_line event ++ own ++ told)) h.1 ∙ sym (append-nil (entry_line event ++ own ++ told)),
+    )
+run_more states rules processes number first S (one ∷ events) event T text own told h step explains tells =
+    let there : number + suc (length events) ≡ number + 1 + length events = omega arith in
+    let piece = entry_line event ++ own ++ told in (
+      h.0,
+      h.1,
+      h.2,
+      h.3,
+      h.4,
+      h.5,
+      h.6 ++ piece,
+      run_more states rules processes (number + 1) h.0 S events event T h.6 own told h.7 step explains
+          (subst (λ (n : ℕ). TellsStateIf (is_told states n) rules processes T told) there tells),
+      ap (λ (l : List ℕ). l ++ piece) h.8 ∙ append_assoc (entry_line one ++ h.2 ++ h.4) h.6 piece,
+    )
 
 next_of : (journal : List Event) (index : ℕ) (event : Event) → index < length journal → event ≡ get_or journal index event
     → drop index journal ≡ event ∷ drop (suc index) journal
 next_of journal index event within is =
     drop-cons journal index event within ∙ ap (λ (e : Event). e ∷ drop (suc index) journal) (sym is)
 
--- and once its step is made again it is explained too
-pub explained_more : (rules : Rules) (processes : ℕ) (journal : List Event) (index : ℕ) (manager next : Manager) (old mid new : List ℕ) (event : Event)
-    → HasExplained rules processes journal index manager old mid → index < length journal → event ≡ get_or journal index event
-    → StepExplains rules.policy manager next event mid new → rules_of next ≡ rules_of manager → processes_of next ≡ processes_of manager
-    → HasExplained rules processes journal (index + 1) next old new
-explained_more rules processes journal index manager next old mid new event h at is made rules_stay processes_stay =
-    let rest = subst (λ (l : List Event). Leads rules processes h.state l h.last) (next_of journal index event at is) h.leads in
+-- what is told of the state that the manager stands for, behind the text
+abbrev pub StateTold : Bool → Rules → Manager → List ℕ → List ℕ → Type 0
+StateTold told rules manager before after =
+    (S : State) → StandsFor manager S → (more : List ℕ) × TellsStateIf told rules (processes_of manager) S more × (after ≡ before ++ more)
+
+-- the next event's step is made again from the state of the front, and what explains it stands behind the text
+again : (states : States) (rules : Rules) (processes : ℕ) (journal : List Event) (index : ℕ) (manager next : Manager) (old mid late : List ℕ) (event : Event)
+    → (h : HasExplained states rules processes journal index manager old mid) → index < length journal → event ≡ get_or journal index event
+    → StepExplains rules.policy manager next event mid late
+    → (T : State) × IsStep rules processes h.state event T × Leads rules processes T (drop (suc index) journal) h.last × StandsFor next T
+    × (own : List ℕ) × Explains rules h.state event T own × (late ≡ mid ++ (entry_line event ++ own))
+again states rules processes journal index manager next old mid late event h within is made =
+    let rest = subst (λ (l : List Event). Leads rules processes h.state l h.last) (next_of journal index event within is) h.leads in
     let by_rules = subst (λ (r : Rules). IsStep r processes h.state event rest.0) (sym h.rules_are) rest.1 in
     let by_all = subst (λ (k : ℕ). IsStep (rules_of manager) k h.state event rest.0) (sym h.processes_are) by_rules in
-    let step = made h.state rest.0 h.stands h.within h.settled by_all in
-    let explains = subst (λ (r : Rules). Explains r h.state event rest.0 step.1) h.rules_are step.2 in
+    let step = made h.state rest.0 h.stands h.within h.settled by_all in (
+      rest.0,
+      rest.1,
+      rest.2,
+      step.0,
+      step.1,
+      subst (λ (r : Rules). Explains r h.state event rest.0 step.1) h.rules_are step.2,
+      step.3,
+    )
+
+-- so the text before it is kept
+pub kept_again : (states : States) (rules : Rules) (processes : ℕ) (journal : List Event) (index : ℕ) (manager next : Manager) (old mid late : List ℕ)
+    (event : Event) → HasExplained states rules processes journal index manager old mid → index < length journal → event ≡ get_or journal index event
+    → StepExplains rules.policy manager next event mid late → Extends old late
+kept_again states rules processes journal index manager next old mid late event h within is made =
+    let step = again states rules processes journal index manager next old mid late event h within is made in
+    kept_behind old mid late h.more h.is (record { more = entry_line event ++ step.4; is = step.6 })
+
+-- and once the state is told where it is asked for, it is explained too
+pub explained_more : (states : States) (rules : Rules) (processes : ℕ) (journal : List Event) (index number : ℕ) (manager next : Manager)
+    (old mid late new : List ℕ) (event : Event) → HasExplained states rules processes journal index manager old mid → index < length journal
+    → event ≡ get_or journal index event → number ≡ index + 1 → StepExplains rules.policy manager next event mid late
+    → StateTold (is_told states number) rules next late new → rules_of next ≡ rules_of manager → processes_of next ≡ processes_of manager
+    → HasExplained states rules processes journal (index + 1) next old new
+explained_more states rules processes journal index number manager next old mid late new event h within is at made tells rules_stay processes_stay =
+    let step = again states rules processes journal index manager next old mid late event h within is made in
+    let told = tells step.0 step.3 in
+    let place : number ≡ 1 + length (take index journal) = omega (arith, at, length-take index journal) in
+    let told_is = subst (λ (k : ℕ). TellsStateIf (is_told states number) rules k step.0 told.0) (processes_stay ∙ h.processes_are) told.1 in
     let front : take (index + 1) journal ≡ take index journal ++ event ∷ [] =
-    take_more journal index event at ∙ ap (λ (e : Event). take index journal ++ e ∷ []) (sym is) in
+    take_more journal index event within ∙ ap (λ (e : Event). take index journal ++ e ∷ []) (sym is) in
+    let piece = entry_line event ++ step.4 ++ told.0 in
     record {
-      state = rest.0;
+      state = step.0;
       last = h.last;
-      stands = step.0;
-      within = step_files rules processes h.state event.p event.n event.request event.notes rest.0 rest.1 h.within;
-      settled = settled_then rules.policy rest.1.outcome.after rest.1.grants rest.0 rest.1.settles;
-      leads = subst (λ (l : List Event). Leads rules processes rest.0 l h.last) (ap (λ (k : ℕ). drop k journal) (sym (add-one index))) rest.2;
-      more = h.more ++ (entry_line event ++ step.1);
-      explains = subst (λ (l : List Event). ExplainsRun rules processes opening_state l rest.0 (h.more ++ (entry_line event ++ step.1))) (sym front)
-          (run_more rules processes opening_state h.state (take index journal) event rest.0 h.more step.1 h.explains rest.1 explains);
-      is = step.3 ∙ ap (λ (l : List ℕ). l ++ (entry_line event ++ step.1)) h.is ∙ append_assoc old h.more (entry_line event ++ step.1);
+      stands = step.3;
+      within = step_files rules processes h.state event.p event.n event.request event.notes step.0 step.1 h.within;
+      settled = settled_then rules.policy step.1.outcome.after step.1.grants step.0 step.1.settles;
+      leads = subst (λ (l : List Event). Leads rules processes step.0 l h.last) (ap (λ (k : ℕ). drop k journal) (sym (add-one index))) step.2;
+      more = h.more ++ piece;
+      explains = subst (λ (l : List Event). ExplainsRun states rules processes 1 opening_state l step.0 (h.more ++ piece)) (sym front)
+          (run_more states rules processes 1 opening_state h.state (take index journal) event step.0 h.more step.4 told.0 h.explains step.1 step.5
+          (subst (λ (n : ℕ). TellsStateIf (is_told states n) rules processes step.0 told.0) place told_is));
+      is = told.2 ∙ ap (λ (l : List ℕ). l ++ told.0) (step.6 ∙ ap (λ (l : List ℕ). l ++ (entry_line event ++ step.4)) h.is)
+          ∙ ap (λ (l : List ℕ). l ++ told.0) (append_assoc old h.more (entry_line event ++ step.4))
+          ∙ append_assoc old (h.more ++ (entry_line event ++ step.4)) told.0
+          ∙ ap (λ (l : List ℕ). old ++ l) (append_assoc h.more (entry_line event ++ step.4) told.0);
       rules_are = rules_stay ∙ h.rules_are;
       processes_are = processes_stay ∙ h.processes_are;
     }
 
 -- a run that is explained leaves the state to which its events lead
-same_end : StepHasOneOutcome → (rules : Rules) (processes : ℕ) (S : State) (events : List Event) (T U : State) (text : List ℕ)
-    → ExplainsRun rules processes S events T text → Leads rules processes S events U → T ≡ U
-same_end one rules processes S [] T U text h leads = h.0 ∙ sym leads
-same_end one rules processes S (event ∷ events) T U text h leads =
+same_end : StepHasOneOutcome → (states : States) (rules : Rules) (processes number : ℕ) (S : State) (events : List Event) (T U : State) (text : List ℕ)
+    → ExplainsRun states rules processes number S events T text → Leads rules processes S events U → T ≡ U
+same_end one states rules processes number S [] T U text h leads = h.0 ∙ sym leads
+same_end one states rules processes number S (event ∷ events) T U text h leads =
     let same = one rules processes S event.p event.n event.request event.notes event.notes h.0 leads.0 h.1 leads.1 in
-    same_end one rules processes leads.0 events T U h.4 (subst (λ (X : State). ExplainsRun rules processes X events T h.4) same.1 h.5) leads.2
+    same_end one states rules processes (number + 1) leads.0 events T U h.6
+    (subst (λ (X : State). ExplainsRun states rules processes (number + 1) X events T h.6) same.1 h.7) leads.2
 
 -- the whole journal
-pub all_explained : StepHasOneOutcome → (rules : Rules) (processes : ℕ) (journal : List Event) (index : ℕ) (manager : Manager) (old new : List ℕ)
-    → HasExplained rules processes journal index manager old new → length journal ≤ index → (T : State) → Leads rules processes opening_state journal T
-    → (more : List ℕ) × ExplainsRun rules processes opening_state journal T more × (new ≡ old ++ more)
-all_explained one rules processes journal index manager old new h past T leads =
-    let whole = subst (λ (l : List Event). ExplainsRun rules processes opening_state l h.state h.more) (take_all index journal past) h.explains in
-    let same = same_end one rules processes opening_state journal h.state T h.more whole leads in
-    (h.more, subst (λ (X : State). ExplainsRun rules processes opening_state journal X h.more) same whole, h.is)
+pub all_explained : StepHasOneOutcome → (states : States) (rules : Rules) (processes : ℕ) (journal : List Event) (index : ℕ) (manager : Manager)
+    (old new : List ℕ) → HasExplained states rules processes journal index manager old new → length journal ≤ index → (T : State)
+    → Leads rules processes opening_state journal T → (more : List ℕ) × ExplainsRun states rules processes 1 opening_state journal T more × (new ≡ old ++ more)
+all_explained one states rules processes journal index manager old new h past T leads =
+    let whole = subst (λ (l : List Event). ExplainsRun states rules processes 1 opening_state l h.state h.more) (take_all index journal past) h.explains in
+    let same = same_end one states rules processes 1 opening_state journal h.state T h.more whole leads in
+    (h.more, subst (λ (X : State). ExplainsRun states rules processes 1 opening_state journal X h.more) same whole, h.is)
 
 -- the line of one more process that was never born
 unborn_lines-more : (states : ℕ → ProcState) (sent : ℕ → ℕ) (p n : ℕ)

@@ -12,7 +12,7 @@ use Rattle.script_core.specs.declared.place.Place.{Place}
 use Rattle.script_core.specs.declared.place.JournalLine.{JournalLine}
 use Rattle.script_core.specs.declared.place.JournalLine.TheVariants as lines
 use Rattle.script_core.specs.declared.script.Cause.{Cause}
-use Rattle.script_core.specs.declared.script.Cause.TheVariants.{Byte, Word, TooLong}
+use Rattle.script_core.specs.declared.script.Cause.TheVariants.{Byte, TooLong}
 use Rattle.script_core.specs.HeaderText.{policy_word, limits_word}
 use Rattle.script_core.specs.Words.{words_of, begins_with_hash, is_printable}
 use Rattle.script_core.specs.Arguments.{Argument, PolicyWord, LimitsWord, Spells}
@@ -21,8 +21,6 @@ use Rattle.script_core.specs.EntryReading.{entry_limit, pieces_of}
 use Rattle.script_core.specs.JournalReading.{ValueGives, OtherGives, HeadGives, BodyGives, TextGives, HasOneMeaning, JournalReading, JournalEnd, Faulty, Illegal, Legal, JournalGives, JournalsHaveOneEnd, MayGoOn, MayEnd, reading_behind, limits_at, journal_says_policy, journal_says_limits, is_report_word}
 use Rattle.script_core.proofs.LineLemmas.{comment_word}
 use Rattle.script_core.proofs.FirstWordsLemmas.{MatchBool-map, many_refused}
-use Rattle.script_core.proofs.HeaderLemmas.{MatchBool-join}
-use Rattle.script_core.proofs.FaultLemmas.{of_refused}
 use Rattle.script_core.proofs.ReadingLemmas.{same_value, MatchBool-unique, AreRefused-unique, one_spelled, policy_in, policy_in-word, limits_in, limits_in-word}
 use Rattle.script_core.proofs.EntryLemmas.{PiecesGive-unique}
 

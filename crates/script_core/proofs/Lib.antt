@@ -6,6 +6,7 @@ pub mod ReadingLemmas
 pub mod RoundTripLemmas
 pub mod TextLemmas
 pub mod ScriptLemmas
+pub mod StateLemmas
 pub mod ArgumentLemmas
 pub mod HeaderLemmas
 pub mod ProcessLemmas
@@ -15,6 +16,8 @@ pub mod ConstantLaws
 pub mod FaultLemmas
 pub mod EntryLemmas
 pub mod CommentLaws
+pub mod StateCommentLaws
+pub mod ExplanationLaws
 pub mod DeadlockLemmas
 pub mod DeadlockLocksLemmas
 pub mod DeadlockStepLemmas

@@ -1,5 +1,5 @@
 -- The lines of a report, one after another: what `ReportReader`'s clauses say of the lines that come.
-use Rattle.std.proofs.Common.{◌≡◌, ℕ, zero, suc, ◌+◌, ◌^◌, ◌<◌, ◌==◌, not, List, [], ◌∷◌, ◌++◌, length, filter, drop, get_or, codes, decimal, Bool, true, false, Option, Some, None, MatchOption, IfSome, inl, inr, ⊎_elim, refl, sym, ap, ap₂, ◌∙◌, subst, arith, append_assoc, append-nil, add-one, drop-cons}
+use Rattle.std.proofs.Common.{◌≡◌, ℕ, zero, suc, ◌+◌, ◌^◌, ◌<◌, ◌==◌, not, List, [], ◌∷◌, ◌++◌, length, filter, drop, get_or, codes, decimal, Bool, true, false, Option, Some, None, MatchOption, IfSome, inr, ⊎_elim, refl, sym, ap, ap₂, ◌∙◌, subst, arith, append_assoc, append-nil, add-one, drop-cons}
 use Rattle.std.specs.Borrow.{Bor}
 use Rattle.std.specs.Bool.{then_some}
 use Rattle.std.proofs.lemmas.Fmt.{decimal_injective}
@@ -10,7 +10,7 @@ use Rattle.script_core.specs.declared.report.ReportLine.{ReportLine}
 use Rattle.script_core.specs.declared.report.ReportLine.TheVariants as lines
 use Rattle.script_core.specs.Words.{texts, words_of}
 use Rattle.script_core.specs.ReportText.{process_text, counts_text, state_word, is_reported}
-use Rattle.script_core.specs.ReportReading.{line_text, IsLineOf, MayBeLeftOut, AreTextsOf, IsFirstDue, GoesOn, least_line, lines_from}
+use Rattle.script_core.specs.ReportReading.{line_text, IsLineOf, MayBeLeftOut, AreTextsOf, IsFirstDue, least_line, lines_from}
 use Rattle.script_core.proofs.RoundTripLemmas.{IsWord, IsWord-tested, IsWord-decimal, slice_split-words, not_empty}
 
 -- the new lines are what is left of the old ones where the next text is none of those between, which may be left out

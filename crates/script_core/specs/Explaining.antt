@@ -35,6 +35,8 @@ use Rattle.script_core.specs.EntryText.{tag, entry_line}
 use Rattle.script_core.specs.ReportText.{held_line, wait_line, IsReport}
 use Rattle.script_core.specs.Output.{IsOutput, processes_in}
 use Rattle.script_core.specs.declared.deadlock.Link.{Link}
+use Rattle.script_core.specs.declared.states.States.{States}
+use Rattle.script_core.specs.StateText.{is_told, TellsStateIf}
 use Rattle.script_core.specs.Deadlocks.{TellsCycle, TellsCycleIfAny, first_step_text, next_step_text}
 
 -- a line that explains a request: `#`, the request, and what is told of it, which ends the line
@@ -169,14 +171,16 @@ pub record Explains (rules : Rules) (S : State) (event : Event) (T : State) (tex
   pub is_cycle : TellsDeadlock rules.policy T after event links
   pub is : text ≡ loss_lines event (word_of_loss event.request) before after ++ obstacle_line event obstacle ++ deadlock_line event links
 
--- the text is the line of each of these events, with the lines that explain it behind it; they lead from the state S to the state T
-abbrev pub ExplainsRun : Rules → ℕ → State → List Event → State → List ℕ → Type 0
-ExplainsRun rules processes S [] T text = (T ≡ S) × (text ≡ [])
-ExplainsRun rules processes S (event ∷ events) T text =
+-- the text is the line of each of these events, which have the numbers from this one on, with the lines that explain it behind it, and those
+-- of the state that it left where they are asked for; they lead from the state S to the state T
+abbrev pub ExplainsRun : States → Rules → ℕ → ℕ → State → List Event → State → List ℕ → Type 0
+ExplainsRun states rules processes number S [] T text = (T ≡ S) × (text ≡ [])
+ExplainsRun states rules processes number S (event ∷ events) T text =
     (between : State) × IsStep rules processes S event between
     × (own : List ℕ) × Explains rules S event between own
-    × (rest : List ℕ) × ExplainsRun rules processes between events T rest
-    × (text ≡ entry_line event ++ own ++ rest)
+    × (told : List ℕ) × TellsStateIf (is_told states number) rules processes between told
+    × (rest : List ℕ) × ExplainsRun states rules processes (number + 1) between events T rest
+    × (text ≡ entry_line event ++ own ++ told ++ rest)
 
 -- how many more requests there are, if any
 abbrev pub more_text : ℕ → List ℕ
@@ -201,15 +205,16 @@ unfoldable pub unborn_lines : (ℕ → ProcState) → (ℕ → ℕ) → ℕ → 
 unborn_lines states sent p zero = []
 unborn_lines states sent p (suc more) = unborn_line (states p) p (sent p) ++ unborn_lines states sent (p + 1) more
 
--- the script is accepted, and the text is the lines of its journal with what explains each, then the report, and then who was never born
-pub record IsExplained (bytes text : List ℕ) : Type 0 where
+-- the script is accepted, and the text is the lines of its journal with what explains each and the states that are asked for, then the
+-- report, and then who was never born
+pub record IsExplained (states : States) (bytes text : List ℕ) : Type 0 where
   pub script : Meaning
   pub accepted : Reads bytes (Ok script)
   pub journal : List Event
   pub state : State
   pub drained : IsDrain script.rules (processes_in script) script.arrivals journal state
   pub explained : List ℕ
-  pub explains : ExplainsRun script.rules (processes_in script) opening_state journal state explained
+  pub explains : ExplainsRun states script.rules (processes_in script) 1 opening_state journal state explained
   pub report : List ℕ
   pub is_report : IsReport (processes_in script) state journal (λ p. length (requests_sent p script.arrivals)) report
   pub is : text ≡ explained ++ report ++ unborn_lines state.states (λ p. length (requests_sent p script.arrivals)) 1 (processes_in script)
@@ -225,4 +230,4 @@ without_comments text = flat_map (λ line. line ++ 10 ∷ []) (filter (λ line. 
 
 -- what is explained of a script is, without the lines that begin with `#`, its output
 abbrev pub ExplanationsAreComments : Type 0
-ExplanationsAreComments = (bytes text : List ℕ) → IsExplained bytes text → IsOutput bytes (without_comments text)
+ExplanationsAreComments = (states : States) (bytes text : List ℕ) → IsExplained states bytes text → IsOutput bytes (without_comments text)

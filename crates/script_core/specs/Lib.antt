@@ -1,3 +1,4 @@
+pub mod StateText
 pub mod Words
 pub mod Numbers
 pub mod RequestText

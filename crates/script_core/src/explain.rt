@@ -20,6 +20,7 @@ ghost use Rattle.script_core.specs.Explaining as spec;
 
 use crate::deadlock::{Link, cycle_of};
 use crate::pieces::{push_first_number, push_number, push_str};
+use crate::states::{States, push_state_if};
 use crate::text::{push_entry, push_held, push_held_text, push_wait, push_wait_text};
 use lock_book::{Held, Owner};
 use lock_manager::{
@@ -31,50 +32,56 @@ use std::alloc::Global;
 use wait_core::{Policy, Wait};
 
 /// Appends the lines of a journal, which is a run of `processes` processes from the opening, and behind each what explains it: which
-/// locks went, what was the first in the way, and which cycle a wait would have closed. The run is made again, step by step, which takes
-/// the memory of a lock manager and of two reports, and for a cycle that of the waits and of a set of processes for each of its steps.
+/// locks went, what was the first in the way, and which cycle a wait would have closed; and where it is asked for the whole state that it
+/// left. The run is made again, step by step, which takes the memory of a lock manager and of two reports, and for a cycle that of the
+/// waits and of a set of processes for each of its steps.
 /// After `Memory` the vector has its old bytes.
 #[tactic(auto, using(crate::proofs::ExplainLemmas::cut_whole))]
 pub fn write_explained(
     alloc: Global,
     processes: u8,
     rules: Rules,
+    states: States,
     journal: &[Entry],
     out: &mut Vec<u8>,
 ) -> Result<(), Memory>
     requires processes { (1 ≤ processes) × (processes ≤ process_limit rules.limits) }
     requires run { (T : State) × Leads rules processes opening_state journal.now T }
     ensures ok { OnOk result ((T : State) → Leads rules processes opening_state journal.now T → (text : List ℕ)
-        × ExplainsRun rules processes opening_state journal.now T text × (out.new.items ≡ out.old.items ++ text)) }
+        × ExplainsRun states rules processes 1 opening_state journal.now T text × (out.new.items ≡ out.old.items ++ text)) }
     ensures err { OnErr result (out.new.items ≡ out.old.items) }
 {
     let len = out.len();
-    if let Err(memory) = push_explained(alloc, processes, rules, journal, out) {
+    if let Err(memory) = push_explained(alloc, processes, rules, states, journal, out) {
         out.truncate(len);
         return Err(memory);
     }
     Ok(())
 }
 
-/// Appends the lines of a journal, each with what explains it behind it.
+/// Appends the lines of a journal, each with what explains it behind it, and the states that are asked for.
 fn push_explained(
     alloc: Global,
     processes: u8,
     rules: Rules,
+    states: States,
     journal: &[Entry],
     text: &mut Vec<u8>,
 ) -> Result<(), Memory>
     requires processes { (1 ≤ processes) × (processes ≤ process_limit rules.limits) }
     requires run { (T : State) × Leads rules processes opening_state journal.now T }
     ensures ok { OnOk result ((T : State) → Leads rules processes opening_state journal.now T → (more : List ℕ)
-        × ExplainsRun rules processes opening_state journal.now T more × (text.new.items ≡ text.old.items ++ more)) }
+        × ExplainsRun states rules processes 1 opening_state journal.now T more × (text.new.items ≡ text.old.items ++ more)) }
     ensures err { OnErr result (Extends text.old.items text.new.items) }
 {
     // A law, and nothing to run.
     step_has_one_outcome();
     let mut manager = Manager::new(alloc, processes, rules)?;
+    let mut number = 0;
     for entry in journal {
+        number += 1;
         push_step(alloc, rules.policy, text, &mut manager, entry)?;
+        push_state_if(states.is_told(number), text, &manager, rules)?;
     }
     Ok(())
 }

@@ -62,7 +62,7 @@ pub fn outputs_are_legal()
     locks_have_one_report();
 }
 
-/// What is explained of a script is its output and lines that begin with `#`: without these it is the output.
+/// What is explained of a script, with whatever states, is its output and lines that begin with `#`: without these it is the output.
 pub fn explanations_are_comments()
     ensures { ExplanationsAreComments }
 {}

@@ -17,6 +17,7 @@ mod place;
 mod reader;
 mod report;
 mod script;
+mod states;
 mod text;
 mod words;
 mod write;
@@ -31,6 +32,7 @@ pub use laws::{
 };
 pub use report::{ReportFault, ReportLine, ReportReader};
 pub use script::{Cause, Script, ScriptFault, parse};
+pub use states::States;
 pub use text::ProcessLine;
 pub use write::{write_entry, write_report};
 

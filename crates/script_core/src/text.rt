@@ -313,7 +313,7 @@ fn command_word(cmd: LkCmd) -> &'static str
 }
 
 /// The word of an access mode.
-fn access_word(access: Access) -> &'static str
+pub fn access_word(access: Access) -> &'static str
     ensures { result.now ≡ spec.access_word access }
 {
     match access {

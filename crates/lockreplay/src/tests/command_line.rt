@@ -9,6 +9,7 @@ fn takes_no_word(rt: HostRuntime) -> Result<(), Fail> {
         threads: false,
         explain: false,
         check: false,
+        state: None,
         file: None,
     };
     assert_eq!(rt; options(rt.alloc(), &[])?, due);

@@ -19,4 +19,4 @@ returns-clause-text g c =
     let bytes = c.args.bytes.now in
     let text = c.in_ok-explained_in_threads-in-Explained.field-0.items in
     subst (λ (detail : Detail). IsThreadTextIn detail bytes text) (sym c.in-Explained.is)
-    (tells_explained bytes text c.in_ok-ran.ran c.in_ok-ran.ensures.run c.in_ok-explained_in_threads-in-Explained.ensures.text)
+    (tells_explained c.in-Explained.states bytes text c.in_ok-ran.ran c.in_ok-ran.ensures.run c.in_ok-explained_in_threads-in-Explained.ensures.text)

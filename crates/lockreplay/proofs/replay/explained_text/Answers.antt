@@ -21,15 +21,15 @@ returns c = record {
       subst (λ (m : ℕ). Leads ran.rules m opening_state c.journal.result.now S) (sym n_is)
       (subst (λ (l : List Event). Leads ran.rules n opening_state l S) (sym c.journal.ensures.events) led) in
       let told = c.in_ok-write_explained.ensures.ok S leads in
-      let explains : ExplainsRun ran.rules n opening_state events S told.0 =
-      subst (λ (l : List Event). ExplainsRun ran.rules n opening_state l S told.0) c.journal.ensures.events
-      (subst (λ (m : ℕ). ExplainsRun ran.rules m opening_state c.journal.result.now S told.0) n_is told.1) in
+      let explains : ExplainsRun c.args.states ran.rules n 1 opening_state events S told.0 =
+      subst (λ (l : List Event). ExplainsRun c.args.states ran.rules n 1 opening_state l S told.0) c.journal.ensures.events
+      (subst (λ (m : ℕ). ExplainsRun c.args.states ran.rules m 1 opening_state c.journal.result.now S told.0) n_is told.1) in
       let report = c.in_ok-write_report.ensures.ok in
       let is_report = report.1 S stands count (subst (λ (l : List ℕ). AreCounts l count) (sym c.deref.ensures.value) counts) in
       let unborn : c.write_unborn.new.out.items ≡ c.write_report.new.out.items ++ unborn_lines (state_at (manager_of ran.session)) count 1 n =
       c.in_ok-write_unborn.ensures.ok count (subst (λ (l : List ℕ). AreCounts l count) (sym c.deref-2.ensures.value) counts)
       ∙ ap (λ (m : Manager). c.write_report.new.out.items ++ unborn_lines (state_at m) count 1 (processes_of m)) c.manager-2.ensures in
-      one_behind_another ran count S told.0 report.0 c.write_explained.new.out.items c.write_report.new.out.items c.write_unborn.new.out.items stands
+      one_behind_another c.args.states ran count S told.0 report.0 c.write_explained.new.out.items c.write_report.new.out.items c.write_unborn.new.out.items stands
       explains is_report (told.2 ∙ ap (λ (l : List ℕ). l ++ told.0) c.new-text.ensures.items) report.2 unborn
       );
 }

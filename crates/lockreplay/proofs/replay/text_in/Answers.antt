@@ -21,4 +21,4 @@ returns-clause-text c =
     let bytes = c.args.bytes.items in
     let text = c.in_ok-explained_text-in-Explained.field-0.items in
     subst (λ (detail : Detail). IsTextIn detail bytes text) (sym c.in-Explained.is)
-    (explains bytes text c.in_ok-ran.ran c.in_ok-ran.ensures.run c.in_ok-explained_text-in-Explained.ensures.text)
+    (explains c.in-Explained.states bytes text c.in_ok-ran.ran c.in_ok-ran.ensures.run c.in_ok-explained_text-in-Explained.ensures.text)

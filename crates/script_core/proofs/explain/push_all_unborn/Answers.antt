@@ -1,8 +1,7 @@
-use Rattle.std.proofs.Common.{◌≡◌, ℕ, ◌+◌, ◌-◌, ◌<◌, ◌++◌, refl, length, ap, sym, ◌∙◌, arith, rules}
+use Rattle.std.proofs.Common.{◌≡◌, ℕ, ◌-◌, ◌<◌, refl, length, sym, ◌∙◌, arith, rules}
 use Rattle.std.specs.Prelude.{slice_index}
-use Rattle.lock_manager.specs.declared.request.ProcState.{ProcState}
-use Rattle.lock_manager.specs.ManagerView.{state_at, processes_of}
-use Rattle.script_core.specs.Explaining.{unborn_line, unborn_lines}
+use Rattle.lock_manager.specs.ManagerView.{state_at}
+use Rattle.script_core.specs.Explaining.{unborn_lines}
 use Rattle.std.proofs.lemmas.Result.{err_from_is_err_and}
 use Rattle.script_core.proofs.TextLemmas.{kept_behind}
 use Rattle.script_core.proofs.ExplainLemmas.{none_unborn, more_unborn}

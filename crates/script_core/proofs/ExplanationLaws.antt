@@ -1,0 +1,53 @@
+-- An explained run without the lines that begin with `#` is the run: for `explanations_are_comments`.
+use Rattle.std.proofs.Common.{ℕ, ◌≡◌, ◌+◌, List, [], ◌∷◌, ◌++◌, length, flat_map, sym, ap, ◌∙◌, append_assoc, append-nil}
+use Rattle.lock_manager.specs.declared.request.Rules.{Rules}
+use Rattle.lock_manager.specs.State.{State, opening_state}
+use Rattle.session_core.specs.Event.{Event}
+use Rattle.session_core.specs.Mail.{requests_sent}
+use Rattle.script_core.specs.declared.states.States.{States}
+use Rattle.script_core.specs.EntryText.{entry_line}
+use Rattle.script_core.specs.Output.{processes_in}
+use Rattle.script_core.specs.StateText.{is_told}
+use Rattle.script_core.specs.Explaining.{ExplainsRun, unborn_lines, without_comments, ExplanationsAreComments}
+use Rattle.script_core.proofs.CommentLaws.{plain_entry, plain_report, comment_own, comment_all_unborn}
+use Rattle.script_core.proofs.StateCommentLaws.{comment_told}
+
+-- a run that is explained, without what explains it
+run_without : (states : States) (rules : Rules) (processes number : ℕ) (S : State) (events : List Event) (T : State) (text : List ℕ)
+    → ExplainsRun states rules processes number S events T text → (rest : List ℕ)
+    → without_comments (text ++ rest) ≡ flat_map entry_line events ++ without_comments rest
+run_without states rules processes number S [] T text h rest = ap (λ (l : List ℕ). without_comments (l ++ rest)) h.1
+run_without states rules processes number S (event ∷ events) T text h rest =
+    let line = entry_line event in
+    let behind = h.6 ++ rest in
+    ap (λ (l : List ℕ). without_comments (l ++ rest)) h.8
+    ∙ ap without_comments (append_assoc (line ++ h.2 ++ h.4) h.6 rest ∙ append_assoc (line ++ h.2) h.4 behind ∙ append_assoc line h.2 (h.4 ++ behind))
+    ∙ plain_entry event (h.2 ++ (h.4 ++ behind))
+    ∙ ap (λ (l : List ℕ). line ++ l)
+    (comment_own rules S event h.0 h.2 h.3 (h.4 ++ behind)
+    ∙ comment_told (is_told states number) rules processes h.0 h.4 h.5 behind
+    ∙ run_without states rules processes (number + 1) h.0 events T h.6 h.7 rest)
+    ∙ sym (append_assoc line (flat_map entry_line events) (without_comments rest))
+
+-- what is explained of a script is its output, with comments
+pub explanations_are_comments : ExplanationsAreComments
+explanations_are_comments states bytes text h =
+    let sent = λ (p : ℕ). length (requests_sent p h.script.arrivals) in
+    let lines = flat_map entry_line h.journal in
+    let born = unborn_lines h.state.states sent 1 (processes_in h.script) in
+    let last : without_comments born ≡ [] =
+    ap without_comments (sym (append-nil born)) ∙ comment_all_unborn h.state.states sent 1 (processes_in h.script) [] in
+    let reported : without_comments (h.report ++ born) ≡ h.report =
+    plain_report (processes_in h.script) h.state h.journal sent h.report h.is_report born ∙ ap (λ (l : List ℕ). h.report ++ l) last ∙ append-nil h.report in
+    record {
+      script = h.script;
+      accepted = h.accepted;
+      journal = h.journal;
+      state = h.state;
+      drained = h.drained;
+      report = h.report;
+      is_report = h.is_report;
+      is = ap without_comments (h.is ∙ append_assoc h.explained h.report born)
+          ∙ run_without states h.script.rules (processes_in h.script) 1 opening_state h.journal h.state h.explained h.explains (h.report ++ born)
+          ∙ ap (λ (l : List ℕ). lines ++ l) reported;
+    }

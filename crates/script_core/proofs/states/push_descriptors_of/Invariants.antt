@@ -1,0 +1,10 @@
+use Rattle.std.proofs.Common.{◌≡◌, ◌++◌}
+use Rattle.lock_manager.specs.State.{State}
+use Rattle.lock_manager.specs.ManagerView.{StandsFor}
+use Rattle.script_core.specs.StateText.{descriptor_lines}
+use Rattle.script_core.specs.Output.{Extends}
+use Rattle.script_core.proofs.states.push_descriptors_of.Given as goal
+
+abbrev pub invariant-loop-fd : goal.invariant-loop-fd
+invariant-loop-fd l =
+    ((S : State) → StandsFor l.manager S → l.text.items ≡ l.fn.text.items ++ descriptor_lines S.descriptors l.p l.fd) × Extends l.fn.text.items l.text.items

@@ -1,0 +1,7 @@
+use Rattle.std.proofs.Common.{◌≡◌, ◌++◌}
+use Rattle.lock_manager.specs.ManagerView.{state_at}
+use Rattle.script_core.specs.StateText.{standing_lines}
+use Rattle.script_core.proofs.states.push_standing.Given as goal
+
+abbrev pub invariant-loop-index : goal.invariant-loop-index
+invariant-loop-index l = l.text.items ≡ l.fn.text.items ++ standing_lines (state_at l.manager) l.index
