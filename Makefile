@@ -52,6 +52,7 @@ memory: build
 	sh tests/refuse-growths.sh $(PROGRAM) --help
 	sh tests/refuse-growths.sh $(PROGRAM) --threads tests/command-line/handed-over
 	sh tests/refuse-growths.sh $(PROGRAM) --explain tests/command-line/explained
+	sh tests/refuse-growths.sh $(PROGRAM) --state all tests/command-line/state
 	sh tests/refuse-growths.sh $(PROGRAM) --threads --explain tests/command-line/handed-over
 	@for crate in $(TESTED) call_table_tests script_core_tests; do (cd crates/$$crate && rt test) > crates/$$crate/out/test.log 2>&1 \
 	    || { cat crates/$$crate/out/test.log >&2; exit 1; }; done
