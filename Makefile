@@ -22,6 +22,8 @@ test:
 	rt ci
 	sh tests/command-line.sh $(PROGRAM)
 	sh tests/command-line.sh $(PROGRAM).by-rattle
+	sh tests/lines.sh $(PROGRAM)
+	sh tests/lines.sh $(PROGRAM).by-rattle
 	sh tests/worked-scripts.sh $(PROGRAM)
 	sh tests/worked-scripts.sh $(PROGRAM).by-rattle
 	sh tests/run-threads.sh $(PROGRAM) 20 $(WORKED)

@@ -100,34 +100,6 @@ fn last_of_many(rt: &impl Abort, alloc: Global) -> Result<(Hub, Client), Memory>
     Ok((hub, last))
 }
 
-/// In one thread: each call answers as the documents say.
-#[test]
-fn one_thread_serves_itself(rt: HostRuntime) -> Result<(), Fail> {
-    let (hub, mut first, mut second, mut desk) = table_of_two(&rt, rt.alloc(), 1)?;
-    assert_eq!(rt; first.post(&hub, OPEN), Ok(1));
-    let busy = Err(Busy {
-        request: Request::Exit,
-    });
-    assert_eq!(rt; first.post(&hub, Request::Exit), busy);
-    assert_eq!(rt; second.collect(&hub), None);
-    assert_eq!(rt; serve(&mut desk, &hub, &Open)?, Served::Took(1));
-    assert_eq!(rt; serve(&mut desk, &hub, &Open)?, Served::Idle);
-    let (mut desk, mut first) = desk.meet(&hub, first);
-    assert_eq!(rt; first.collect(&hub), Some((1, Reply::Fd(0), 1)));
-    assert_eq!(rt; first.post(&hub, Request::Exit), Ok(2));
-    assert_eq!(rt; serve(&mut desk, &hub, &Open)?, Served::Took(2));
-    let (mut desk, mut first) = desk.meet(&hub, first);
-    assert_eq!(rt; first.collect(&hub), None);
-    assert_eq!(rt; first.post(&hub, Request::Exit), busy);
-    assert!(rt; !first.closed(&hub));
-    desk.close(&hub);
-    assert_eq!(rt; serve(&mut desk, &hub, &Open)?, Served::Closed);
-    assert!(rt; first.closed(&hub));
-    assert_eq!(rt; desk.session().journal().len(), 2);
-    assert_eq!(rt; desk.into_session().taken(1), 2);
-    Ok(())
-}
-
 /// A client that is dropped leaves its words as they are, and the desk goes on.
 #[test]
 fn the_desk_goes_on_where_a_client_is_dropped(rt: HostRuntime) -> Result<(), Fail> {

@@ -11,8 +11,9 @@ mod pair;
 mod rule;
 mod scripts;
 mod sequences;
+mod worked;
 
-use lock_server::{Answer, LockServer, Mode, Owner, Policy, Span, WaitAnswer, WaitFault};
+use lock_server::{Answer, LockServer, Mode, Owner, Policy, Span, WaitAnswer};
 use std::test::Fail;
 
 /// The bytes of a range by its first and its last one.
@@ -23,156 +24,6 @@ fn bytes(first: u64, last: u64) -> Span
 }
 
 const INODE: u64 = 18446744073709551615;
-
-/// A wait is granted when the lock in its way goes, and is told once.
-#[test]
-fn grants_in_order(rt: HostRuntime) -> Result<(), Fail> {
-    let mut server = LockServer::new(rt.alloc(), Policy::Held);
-    assert_eq!(rt;
-        server.set(INODE, 1, bytes(0, 9), Some(Mode::Write))?,
-        Answer::Done
-    );
-    assert_eq!(rt;
-        server.set(INODE, 2, bytes(5, 5), Some(Mode::Read))?,
-        Answer::Blocked
-    );
-    let blocker = server.get(INODE, 2, bytes(5, 5), Mode::Read).ok_or("free")?;
-    assert_eq!(rt; blocker.owner, Owner::Description(1));
-    assert_eq!(rt;
-        server.wait(70, INODE, 2, bytes(5, 5), Mode::Read, true)?,
-        WaitAnswer::Waits
-    );
-    assert_eq!(rt;
-        server.wait(71, INODE, 3, bytes(0, 5), Mode::Read, true)?,
-        WaitAnswer::Waits
-    );
-    assert_eq!(rt;
-        server.wait(71, 4, 3, bytes(0, 5), Mode::Read, true),
-        Err(WaitFault::TicketTaken)
-    );
-    assert_eq!(rt; server.next_grant(), None);
-    server.flush(INODE, 1);
-    assert_eq!(rt;
-        server.wait(71, 4, 3, bytes(0, 5), Mode::Read, true),
-        Err(WaitFault::TicketTaken)
-    );
-    assert_eq!(rt; server.next_grant(), Some(70));
-    assert_eq!(rt; server.next_grant(), Some(71));
-    assert_eq!(rt; server.next_grant(), None);
-    assert_eq!(rt;
-        server.wait(71, 4, 3, bytes(0, 5), Mode::Read, true)?,
-        WaitAnswer::Done
-    );
-    Ok(())
-}
-
-/// A cycle through three owners is refused, and a wait that isn't detected makes no step.
-#[test]
-fn refuses_cycles(rt: HostRuntime) -> Result<(), Fail> {
-    let mut server = LockServer::new(rt.alloc(), Policy::Held);
-    for owner in 1..=3 {
-        assert_eq!(rt;
-            server.set(7, owner, bytes(owner, owner), Some(Mode::Write))?,
-            Answer::Done
-        );
-    }
-    assert_eq!(rt;
-        server.wait(1, 7, 1, bytes(2, 2), Mode::Write, true)?,
-        WaitAnswer::Waits
-    );
-    assert_eq!(rt;
-        server.wait(2, 7, 2, bytes(3, 3), Mode::Write, true)?,
-        WaitAnswer::Waits
-    );
-    assert_eq!(rt;
-        server.wait(3, 7, 3, bytes(1, 1), Mode::Write, true)?,
-        WaitAnswer::Deadlock
-    );
-    assert_eq!(rt;
-        server.wait(3, 7, 3, bytes(1, 1), Mode::Write, false)?,
-        WaitAnswer::Waits
-    );
-    assert!(rt; server.cancel(1));
-    assert!(rt; !server.cancel(1));
-    server.forget(3);
-    assert_eq!(rt; server.next_grant(), Some(2));
-    assert_eq!(rt; server.next_grant(), None);
-    Ok(())
-}
-
-/// A release while the owner waits keeps the room of its grants.
-#[test]
-fn keeps_waits_at_a_release(rt: HostRuntime) -> Result<(), Fail> {
-    let mut server = LockServer::new(rt.alloc(), Policy::Held);
-    assert_eq!(rt;
-        server.set(7, 1, bytes(0, 9), Some(Mode::Write))?,
-        Answer::Done
-    );
-    assert_eq!(rt;
-        server.set(7, 2, bytes(20, 29), Some(Mode::Write))?,
-        Answer::Done
-    );
-    assert_eq!(rt;
-        server.wait(1, 7, 2, bytes(0, 4), Mode::Write, true)?,
-        WaitAnswer::Waits
-    );
-    assert_eq!(rt;
-        server.wait(2, 7, 2, bytes(5, 9), Mode::Write, true)?,
-        WaitAnswer::Waits
-    );
-    assert_eq!(rt; server.set(7, 2, bytes(22, 23), None)?, Answer::Done);
-    server.flush(7, 2);
-    assert_eq!(rt;
-        server.set(7, 3, bytes(20, 29), Some(Mode::Write))?,
-        Answer::Done
-    );
-    assert_eq!(rt; server.set(7, 1, bytes(0, 4), None)?, Answer::Done);
-    assert_eq!(rt; server.next_grant(), Some(1));
-    server.flush(7, 2);
-    server.flush(7, 1);
-    assert_eq!(rt; server.next_grant(), Some(2));
-    assert!(rt; server.get(7, 3, bytes(0, 4), Mode::Read).is_none());
-    assert!(rt; server.get(7, 3, bytes(5, 9), Mode::Read).is_some());
-    Ok(())
-}
-
-/// A conversion loses the old lock before it is tested.
-#[test]
-fn converts_flocks(rt: HostRuntime) -> Result<(), Fail> {
-    let mut server = LockServer::new(rt.alloc(), Policy::Held);
-    assert_eq!(rt; server.flock(7, 1, Some(Mode::Read))?, Answer::Done);
-    assert_eq!(rt; server.flock(7, 2, Some(Mode::Read))?, Answer::Done);
-    assert_eq!(rt; server.flock_wait(1, 7, 1, Mode::Write)?, WaitAnswer::Waits);
-    assert_eq!(rt; server.flock_wait(2, 7, 2, Mode::Write)?, WaitAnswer::Waits);
-    assert_eq!(rt; server.next_grant(), Some(1));
-    assert_eq!(rt; server.flock(7, 2, Some(Mode::Read))?, Answer::Blocked);
-    server.flock_release(7, 1);
-    assert_eq!(rt; server.next_grant(), Some(2));
-    assert_eq!(rt; server.flock(7, 2, None)?, Answer::Done);
-    assert_eq!(rt; server.flock(7, 1, Some(Mode::Write))?, Answer::Done);
-    Ok(())
-}
-
-/// Under the queue policy a reader waits behind a writer, and goes on where the writer gives up.
-#[test]
-fn queues(rt: HostRuntime) -> Result<(), Fail> {
-    let mut server = LockServer::new(rt.alloc(), Policy::Queue);
-    assert_eq!(rt;
-        server.set(7, 1, bytes(0, 9), Some(Mode::Read))?,
-        Answer::Done
-    );
-    assert_eq!(rt;
-        server.wait(1, 7, 2, bytes(0, 9), Mode::Write, true)?,
-        WaitAnswer::Waits
-    );
-    assert_eq!(rt;
-        server.wait(2, 7, 3, bytes(0, 9), Mode::Read, true)?,
-        WaitAnswer::Waits
-    );
-    assert!(rt; server.cancel(1));
-    assert_eq!(rt; server.next_grant(), Some(2));
-    Ok(())
-}
 
 /// A thousand owners wait for a byte that another one has, and are granted in order of arrival: one after another where they exclude
 /// each other, and all at once where they don't. Under the queue policy each of them would be followed over all before it, again for

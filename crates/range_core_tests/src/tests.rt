@@ -22,11 +22,6 @@ fn assert_runs(rt: &impl Abort, list: &RangeList, wanted: &[(Mode, Span)]) {
     assert_eq!(rt; list.runs(), wanted);
 }
 
-/// The list has so many runs.
-fn assert_run_count(rt: &impl Abort, list: &RangeList, wanted: usize) {
-    assert_eq!(rt; list.runs().len(), wanted);
-}
-
 /// The run at the byte is this one.
 fn assert_run_at(rt: &impl Abort, list: &RangeList, byte: u64, wanted: Option<(Mode, Span)>) {
     assert_eq!(rt; list.run_at(byte), wanted, "the run at {byte}");
@@ -50,11 +45,6 @@ fn assert_first_hit(
         wanted,
         "the first hit in {span:?}"
     );
-}
-
-/// The list has so much room.
-fn assert_room(rt: &impl Abort, list: &RangeList, wanted: usize) {
-    assert_eq!(rt; list.room(), wanted);
 }
 
 /// [`RangeList::set`] of bytes that a file has.
@@ -89,37 +79,62 @@ fn names_ranges(rt: HostRuntime) {
     }
 }
 
-/// A read lock inside a write lock leaves three runs, and an unlock in the middle leaves both sides.
+/// Sets in turn, each with the runs that it leaves: a read lock inside a write lock leaves three, an unlock in the middle both sides;
+/// touching ranges of one mode are one run, also to the largest offset; and an unlock of all leaves none.
 #[test]
-fn converts_and_splits(rt: HostRuntime) -> Result<(), Fail> {
+fn sets_leave_runs(rt: HostRuntime) -> Result<(), Fail> {
     let mut list = RangeList::new(rt.alloc());
-    set(&rt, &mut list, bytes(0, 99), Some(Mode::Write))?;
-    set(&rt, &mut list, bytes(40, 59), Some(Mode::Read))?;
-    set(&rt, &mut list, bytes(70, 79), None)?;
-    for (byte, wanted) in [
-        (0, Some((Mode::Write, bytes(0, 39)))),
-        (40, Some((Mode::Read, bytes(40, 59)))),
-        (69, Some((Mode::Write, bytes(60, 69)))),
-        (70, None),
-        (99, Some((Mode::Write, bytes(80, 99)))),
-        (100, None),
+    assert_runs(&rt, &list, &[]);
+    let (read, write) = (Mode::Read, Mode::Write);
+    for (span, mode, wanted) in [
+        (
+            bytes(0, 99),
+            Some(write),
+            [(write, bytes(0, 99))].as_slice(),
+        ),
+        (
+            bytes(40, 59),
+            Some(read),
+            &[
+                (write, bytes(0, 39)),
+                (read, bytes(40, 59)),
+                (write, bytes(60, 99)),
+            ],
+        ),
+        (
+            bytes(0, 39),
+            None,
+            &[(read, bytes(40, 59)), (write, bytes(60, 99))],
+        ),
+        (
+            bytes(70, 79),
+            None,
+            &[
+                (read, bytes(40, 59)),
+                (write, bytes(60, 69)),
+                (write, bytes(80, 99)),
+            ],
+        ),
+        (
+            bytes(60, 79),
+            Some(write),
+            &[(read, bytes(40, 59)), (write, bytes(60, 99))],
+        ),
+        (
+            bytes(100, OFFMAX),
+            Some(write),
+            &[(read, bytes(40, 59)), (write, bytes(60, OFFMAX))],
+        ),
+        (
+            bytes(10, 200),
+            Some(read),
+            &[(read, bytes(10, 200)), (write, bytes(201, OFFMAX))],
+        ),
+        (bytes(0, OFFMAX), None, &[]),
     ] {
-        assert_run_at(&rt, &list, byte, wanted);
-        assert_mode_at(&rt, &list, byte, wanted.map(|run| run.0));
+        set(&rt, &mut list, span, mode)?;
+        assert_runs(&rt, &list, wanted);
     }
-    assert_first_hit(&rt, &list, (bytes(40, 65), Mode::Read), Some(60));
-    assert_first_hit(&rt, &list, (bytes(40, 65), Mode::Write), Some(40));
-    assert_first_hit(&rt, &list, (bytes(70, 79), Mode::Write), None);
-    Ok(())
-}
-
-/// Touching ranges of one mode are one run, also to the largest offset.
-#[test]
-fn joins_what_touches(rt: HostRuntime) -> Result<(), Fail> {
-    let mut list = RangeList::new(rt.alloc());
-    set(&rt, &mut list, bytes(0, 9), Some(Mode::Write))?;
-    set(&rt, &mut list, bytes(10, OFFMAX), Some(Mode::Write))?;
-    assert_run_at(&rt, &list, 5, Some((Mode::Write, bytes(0, OFFMAX))));
     Ok(())
 }
 
@@ -153,68 +168,26 @@ fn many_sets_leave_the_room(rt: HostRuntime) -> Result<(), Fail> {
             Some(Mode::Write),
         )?;
     }
-    assert_room(&rt, &list, 2);
+    assert_eq!(rt; list.room(), 2);
     assert_run_at(&rt, &list, 1998, Some((Mode::Write, bytes(1998, 1998))));
     Ok(())
 }
 
-/// The runs are those that touch in neither mode nor byte, by rising bytes.
+/// Thousands of runs apart from one another, each cut in three, go at once where all is unlocked.
 #[test]
-fn lists_the_runs(rt: HostRuntime) -> Result<(), Fail> {
-    let mut list = RangeList::new(rt.alloc());
-    assert_runs(&rt, &list, &[]);
-    set(&rt, &mut list, bytes(20, 29), Some(Mode::Read))?;
-    set(&rt, &mut list, bytes(0, 9), Some(Mode::Read))?;
-    set(&rt, &mut list, bytes(30, OFFMAX), Some(Mode::Write))?;
-    let apart = [
-        (Mode::Read, bytes(0, 9)),
-        (Mode::Read, bytes(20, 29)),
-        (Mode::Write, bytes(30, OFFMAX)),
-    ];
-    assert_runs(&rt, &list, &apart);
-    set(&rt, &mut list, bytes(10, 19), Some(Mode::Read))?;
-    let joined = [(Mode::Read, bytes(0, 29)), (Mode::Write, bytes(30, OFFMAX))];
-    assert_runs(&rt, &list, &joined);
-    Ok(())
-}
-
-/// Thousands of runs apart from one another become one where the bytes between are set, and none where all are unlocked.
-#[test]
-fn joins_and_drops_thousands(rt: HostRuntime) -> Result<(), Fail> {
+fn thousands_of_runs_go_at_once(rt: HostRuntime) -> Result<(), Fail> {
     let mut list = RangeList::new(rt.alloc());
     for index in 0..5000 {
+        let first = 10 * index;
+        set(&rt, &mut list, bytes(first, first + 4), Some(Mode::Read))?;
         set(
             &rt,
             &mut list,
-            bytes(10 * index, 10 * index + 4),
-            Some(Mode::Read),
-        )?;
-    }
-    assert_run_count(&rt, &list, 5000);
-    set(&rt, &mut list, bytes(7, 49_986), None)?;
-    let sides = [
-        (Mode::Read, bytes(0, 4)),
-        (Mode::Read, bytes(49_990, 49_994)),
-    ];
-    assert_runs(&rt, &list, &sides);
-    for index in 1..5000 {
-        set(
-            &rt,
-            &mut list,
-            bytes(10 * index - 5, 10 * index + 4),
-            Some(Mode::Read),
-        )?;
-    }
-    assert_runs(&rt, &list, &[(Mode::Read, bytes(0, 49_994))]);
-    for index in 0..5000 {
-        set(
-            &rt,
-            &mut list,
-            bytes(10 * index + 1, 10 * index + 1),
+            bytes(first + 1, first + 1),
             Some(Mode::Write),
         )?;
     }
-    assert_run_count(&rt, &list, 10_001);
+    assert_eq!(rt; list.runs().len(), 15_000);
     set(&rt, &mut list, bytes(0, OFFMAX), None)?;
     assert_runs(&rt, &list, &[]);
     Ok(())
@@ -261,24 +234,10 @@ fn assert_same_near(rt: &impl Abort, list: &RangeList, changes: &ChangeList, end
     }
 }
 
-/// The runs answer as the list of all changes does, near the ends of each set.
+/// The runs answer as the list of all changes does, near the ends of each set, at both ends of the largest file; both begin anew where
+/// the list of all changes has grown long.
 #[test]
 fn answers_as_the_changes_do(rt: HostRuntime) -> Result<(), Fail> {
-    let mut list = RangeList::new(rt.alloc());
-    let mut changes = ChangeList::new(rt.alloc());
-    for k in 0..500 {
-        let span = range_of_set(k);
-        set(&rt, &mut list, span, mode_of_set(k))?;
-        changes.set(span, mode_of_set(k))?;
-        assert_same_near(&rt, &list, &changes, span.first);
-        assert_same_near(&rt, &list, &changes, span.last);
-    }
-    Ok(())
-}
-
-/// The same with sets at both ends of the largest file; both begin anew where the list of all changes has grown long.
-#[test]
-fn answers_as_the_changes_do_at_both_ends(rt: HostRuntime) -> Result<(), Fail> {
     let mut list = RangeList::new(rt.alloc());
     let mut changes = ChangeList::new(rt.alloc());
     for k in 0..2000 {

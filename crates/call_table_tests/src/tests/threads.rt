@@ -4,7 +4,7 @@ mod many;
 ghost use Rattle.call_table.specs.Desks.{IsDeskOf};
 ghost use Rattle.call_table.specs.Shown.{IsClientOf};
 
-use super::{FORK, OPEN, OPEN_TO_READ, Open, RULES, serve, table_of_two};
+use super::{FORK, OPEN, Open, RULES, serve, table_of_two};
 use call_table::{Busy, Client, Desk, Gate, Hub, Served};
 use lock_manager::{LkCmd, Lock, Note, ProcState, Reply, Request};
 use range_core::{Kind, Memory, Whence};
@@ -264,40 +264,23 @@ fn look_for_the_lock() -> Request {
     lock(LkCmd::GetLk, Kind::Write, 0)
 }
 
-/// A client can post while the desk stands between the taking of a request and its answer.
+/// While the desk stands between the taking of a request and its answer, a client can post, and it can collect; what the request leads
+/// to is published only once the gate is passed.
 #[test]
-fn a_client_posts_while_the_desk_serves(rt: HostRuntime) -> Result<(), Fail> {
-    let (hub, first, second, desk) = table_of_two(&rt, rt.alloc(), 2)?;
-    let (mut first, mut second, mut server) = with_hub(&hub, first, second, desk);
-    lock_first_byte(&rt, &mut first, &mut server)?;
-    assert_eq!(rt; first.collect(), Some(LOCKED));
-    assert_eq!(rt; second.post(look_for_the_lock()), Ok(1));
-    let came = act_at_the_gate(&rt, first, server, Act::Post(look_for_the_lock()))?;
-    assert_eq!(rt; came, Some(Came::Posted(Ok(4))));
-    Ok(())
-}
-
-/// And it can collect there.
-#[test]
-fn a_client_collects_while_the_desk_serves(rt: HostRuntime) -> Result<(), Fail> {
-    let (hub, first, second, desk) = table_of_two(&rt, rt.alloc(), 2)?;
-    let (mut first, mut second, mut server) = with_hub(&hub, first, second, desk);
-    lock_first_byte(&rt, &mut first, &mut server)?;
-    assert_eq!(rt; second.post(look_for_the_lock()), Ok(1));
-    let came = act_at_the_gate(&rt, first, server, Act::Collect)?;
-    assert_eq!(rt; came, Some(Came::Collected(Some(LOCKED))));
-    Ok(())
-}
-
-/// What a request leads to is published only once the gate is passed.
-#[test]
-fn an_answer_comes_after_the_gate(rt: HostRuntime) -> Result<(), Fail> {
-    let (hub, first, second, desk) = table_of_two(&rt, rt.alloc(), 2)?;
-    let (mut first, mut second, mut server) = with_hub(&hub, first, second, desk);
-    lock_first_byte(&rt, &mut first, &mut server)?;
-    assert_eq!(rt; second.post(look_for_the_lock()), Ok(1));
-    let came = act_at_the_gate(&rt, second, server, Act::Collect)?;
-    assert_eq!(rt; came, Some(Came::Collected(None)));
+fn clients_act_while_the_desk_serves(rt: HostRuntime) -> Result<(), Fail> {
+    for (second_acts, act, wanted) in [
+        (false, Act::Post(look_for_the_lock()), Came::Posted(Ok(4))),
+        (false, Act::Collect, Came::Collected(Some(LOCKED))),
+        (true, Act::Collect, Came::Collected(None)),
+    ] {
+        let (hub, first, second, desk) = table_of_two(&rt, rt.alloc(), 2)?;
+        let (mut first, mut second, mut server) = with_hub(&hub, first, second, desk);
+        lock_first_byte(&rt, &mut first, &mut server)?;
+        assert_eq!(rt; second.post(look_for_the_lock()), Ok(1));
+        let acting = if second_acts { second } else { first };
+        let came = act_at_the_gate(&rt, acting, server, act)?;
+        assert_eq!(rt; came, Some(wanted));
+    }
     Ok(())
 }
 
@@ -336,33 +319,6 @@ fn an_unlock_answers_who_waits(rt: HostRuntime) -> Result<(), Fail> {
     assert_eq!(rt; first.collect(), Some(LOCKED));
     let answer = unlock_for_who_waits(&rt, first, second, server)?;
     assert_eq!(rt; answer, Some((1, Reply::Ok, 5)));
-    Ok(())
-}
-
-/// Posts two requests.
-fn post_both(mut caller: Caller) -> (Result<u64, Busy>, Result<u64, Busy>) {
-    (
-        caller.post(OPEN_TO_READ),
-        caller.post(Request::Dup { fd: 0 }),
-    )
-}
-
-/// What a thread posts is taken in order, and answered.
-#[test]
-fn the_desk_takes_what_a_thread_posts(rt: HostRuntime) -> Result<(), Fail> {
-    let (hub, first, second, desk) = table_of_two(&rt, rt.alloc(), 2)?;
-    let (first, _second, mut server) = with_hub(&hub, first, second, desk);
-    let handle = &rt;
-    let posted = thread::scope(thread::scope_env(), &rt, |scope| -> Result<_, Fail> {
-        let posting = scope.spawn(move || post_both(first))?;
-        assert_eq!(handle; server.serve_soon()?, Served::Took(1));
-        assert_eq!(handle; server.serve_soon()?, Served::Took(2));
-        let session = server.desk.session();
-        assert_eq!(handle; session.answer_of(1, 1), Some(Reply::Fd(0)));
-        assert_eq!(handle; session.answer_of(1, 2), Some(Reply::Fd(1)));
-        Ok(posting.join(handle))
-    })?;
-    assert_eq!(rt; posted, (Ok(1), Ok(2)));
     Ok(())
 }
 

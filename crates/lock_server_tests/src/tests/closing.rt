@@ -3,7 +3,7 @@ ghost use Rattle.std.specs.Prelude.{◌≤◌};
 ghost use Rattle.range_core.specs.declared.TheConstants.{OFFMAX};
 
 use super::bytes;
-use lock_server::{Answer, LockServer, Mode, Owner, Policy, WaitAnswer};
+use lock_server::{Answer, LockServer, Mode, Owner, Policy};
 use range_core::OFFMAX;
 use std::process::Abort;
 use std::test::Fail;
@@ -28,82 +28,6 @@ fn assert_locked(rt: &impl Abort, server: &LockServer, owner: u64, is_locked: bo
         None
     };
     assert_eq!(rt; told, right, "owner {owner}");
-}
-
-/// Those that came last through the open file lose their locks, and who was flushed or came through another one since doesn't.
-#[test]
-fn a_last_close_takes_who_came_through(rt: HostRuntime) -> Result<(), Fail> {
-    let mut server = LockServer::new(rt.alloc(), Policy::Held);
-    for owner in 1..=4u64 {
-        assert_eq!(rt; lock_through(&mut server, owner, 50)?, Answer::Done);
-    }
-    server.note(7, 2, 51)?;
-    server.note(8, 1, 50)?;
-    server.set(8, 1, bytes(1, 1), Some(Mode::Write))?;
-    server.flush(7, 3);
-    server.set(7, 3, bytes(3, 3), Some(Mode::Write))?;
-    server.release(7, 50, None);
-    assert_locked(&rt, &server, 1, false);
-    assert_locked(&rt, &server, 2, true);
-    assert_locked(&rt, &server, 3, true);
-    assert_locked(&rt, &server, 4, false);
-    assert!(rt; server.get(8, 0, bytes(1, 1), Mode::Read).is_some());
-    server.set(7, 4, bytes(4, 4), Some(Mode::Write))?;
-    server.release(7, 50, None);
-    assert_locked(&rt, &server, 4, true);
-    server.release(7, 51, None);
-    assert_locked(&rt, &server, 2, false);
-    Ok(())
-}
-
-/// An owner that is forgotten was seen nowhere.
-#[test]
-fn a_forgotten_owner_is_not_released(rt: HostRuntime) -> Result<(), Fail> {
-    let mut server = LockServer::new(rt.alloc(), Policy::Held);
-    lock_through(&mut server, 1, 50)?;
-    lock_through(&mut server, 2, 50)?;
-    server.forget(1);
-    server.set(7, 1, bytes(1, 1), Some(Mode::Write))?;
-    server.release(7, 50, None);
-    assert_locked(&rt, &server, 1, true);
-    assert_locked(&rt, &server, 2, false);
-    Ok(())
-}
-
-/// The flock lock of the owner that is named goes with the byte locks, and no other one; what stood in line is granted, and a wait of an
-/// owner that is released stays.
-#[test]
-fn a_last_close_settles_once(rt: HostRuntime) -> Result<(), Fail> {
-    let mut server = LockServer::new(rt.alloc(), Policy::Held);
-    lock_through(&mut server, 1, 50)?;
-    lock_through(&mut server, 2, 50)?;
-    lock_through(&mut server, 3, 51)?;
-    assert_eq!(rt; server.flock(7, 1, Some(Mode::Read))?, Answer::Done);
-    assert_eq!(rt; server.flock(7, 2, Some(Mode::Read))?, Answer::Done);
-    assert_eq!(rt;
-        server.wait(90, 7, 2, bytes(1, 1), Mode::Write, true)?,
-        WaitAnswer::Waits
-    );
-    assert_eq!(rt;
-        server.wait(91, 7, 4, bytes(2, 2), Mode::Write, true)?,
-        WaitAnswer::Waits
-    );
-    assert_eq!(rt;
-        server.wait(92, 7, 4, bytes(3, 3), Mode::Write, true)?,
-        WaitAnswer::Waits
-    );
-    assert_eq!(rt;
-        server.flock_wait(93, 7, 3, Mode::Write)?,
-        WaitAnswer::Waits
-    );
-    server.release(7, 50, Some(1));
-    assert_eq!(rt; server.next_grant(), Some(90));
-    assert_eq!(rt; server.next_grant(), Some(91));
-    assert_eq!(rt; server.next_grant(), None);
-    server.release(7, 51, Some(2));
-    assert_eq!(rt; server.next_grant(), Some(92));
-    assert_eq!(rt; server.next_grant(), Some(93));
-    Ok(())
 }
 
 /// A thousand owners through one open file, of whom every other one came again through another one.
