@@ -14,9 +14,10 @@ build:
 	@(cd crates/lockreplay && rt run) < /dev/null > crates/lockreplay/out/build.log 2>&1 \
 	    || { cat crates/lockreplay/out/build.log >&2; exit 1; }
 
-# The gate, and then the command lines, the worked scripts (also in threads, in whatever order comes), the large scripts and the samples on
-# the program as two compilers built it in the gate, what the README, the help and the manual page show, the files and names that the documents point to, that want of memory is made at one place, and the conformance tools'
-# tests but for those that a busy machine can upset.
+# The gate, and then the command lines, single lines, the worked scripts (also in threads, in whatever order comes), the large scripts and
+# the samples on the program as two compilers built it in the gate, what the README, the help and the manual page show, the files and names
+# that the documents point to, that want of memory is made at one place, and the conformance tools' tests but for those that a busy machine
+# can upset.
 WORKED := $(basename $(wildcard tests/worked-scripts/*.out)) tests/threads/sixty-four
 test:
 	rt ci

@@ -9,12 +9,15 @@ trap 'rm -rf "$work"' EXIT
 passed=0
 failed=0
 
-# check NAME AWK: the awk program prints the script's lines behind `<` and those of its output behind `>`, and the replay prints these.
+# check NAME AWK: the awk program prints the script's lines behind `<` and those of its output behind `>`, and the replay prints these,
+# which are a legal journal behind the script's header lines.
 check() {
     awk "$2" > "$work/lines"
     sed -n 's/^<//p' "$work/lines" > "$work/script"
     sed -n 's/^>//p' "$work/lines" > "$work/expected"
-    if "$program" "$work/script" > "$work/output" 2> "$work/errors" && cmp "$work/expected" "$work/output" && [ -s "$work/output" ]; then
+    sed '/^limits/!d' "$work/script" | cat - "$work/expected" > "$work/journal"
+    if "$program" "$work/script" > "$work/output" 2> "$work/errors" && cmp "$work/expected" "$work/output" && [ -s "$work/output" ] \
+        && "$program" --check "$work/journal" > "$work/verdict" 2> "$work/errors" && ! [ -s "$work/verdict" ]; then
         passed=$((passed + 1))
     else
         failed=$((failed + 1))

@@ -81,36 +81,14 @@ pub(super) const WORKED: [Line; 8] = [
     THIRD_UNLOCKS,
 ];
 
-/// Journals, and how each is judged.
-pub(super) const CASES: [Case; 37] = [
+/// Journals, and how each is judged; more are tried on the program (`tests/lines/journals`).
+pub(super) const CASES: [Case; 9] = [
     Case {
         name: "an unlock that tells nothing",
         processes: 3,
         front: 7,
         rest: &[Line {
             said: &[],
-            ..THIRD_UNLOCKS
-        }],
-        legal: 7,
-        expects: Expects::Notes(GRANTED),
-    },
-    Case {
-        name: "an unlock that grants nobody",
-        processes: 3,
-        front: 7,
-        rest: &[Line {
-            said: &[Answer(3, 2, Reply::Ok)],
-            ..THIRD_UNLOCKS
-        }],
-        legal: 7,
-        expects: Expects::Notes(GRANTED),
-    },
-    Case {
-        name: "an unlock that grants one of the two",
-        processes: 3,
-        front: 7,
-        rest: &[Line {
-            said: &[Answer(3, 2, Reply::Ok), Answer(2, 2, Reply::Ok)],
             ..THIRD_UNLOCKS
         }],
         legal: 7,
@@ -132,67 +110,6 @@ pub(super) const CASES: [Case; 37] = [
         expects: Expects::Notes(GRANTED),
     },
     Case {
-        name: "an unlock that is answered last",
-        processes: 3,
-        front: 7,
-        rest: &[Line {
-            said: &[
-                Answer(2, 2, Reply::Ok),
-                Answer(1, 4, Reply::Ok),
-                Answer(3, 2, Reply::Ok),
-            ],
-            ..THIRD_UNLOCKS
-        }],
-        legal: 7,
-        expects: Expects::Notes(GRANTED),
-    },
-    Case {
-        name: "a wait in the place of a grant",
-        processes: 3,
-        front: 7,
-        rest: &[Line {
-            said: &[
-                Answer(3, 2, Reply::Ok),
-                Answer(2, 2, Reply::Ok),
-                Waits(1, 4),
-            ],
-            ..THIRD_UNLOCKS
-        }],
-        legal: 7,
-        expects: Expects::Notes(GRANTED),
-    },
-    Case {
-        name: "another answer in the place of a grant",
-        processes: 3,
-        front: 7,
-        rest: &[Line {
-            said: &[
-                Answer(3, 2, Reply::Ok),
-                Answer(2, 2, Reply::Ok),
-                Answer(1, 4, Reply::Free),
-            ],
-            ..THIRD_UNLOCKS
-        }],
-        legal: 7,
-        expects: Expects::Notes(GRANTED),
-    },
-    Case {
-        name: "a grant that is told twice",
-        processes: 3,
-        front: 7,
-        rest: &[Line {
-            said: &[
-                Answer(3, 2, Reply::Ok),
-                Answer(2, 2, Reply::Ok),
-                Answer(1, 4, Reply::Ok),
-                Answer(1, 4, Reply::Ok),
-            ],
-            ..THIRD_UNLOCKS
-        }],
-        legal: 7,
-        expects: Expects::Notes(GRANTED),
-    },
-    Case {
         name: "two entries that touch nothing of each other may come in either order",
         processes: 3,
         front: 3,
@@ -207,63 +124,9 @@ pub(super) const CASES: [Case; 37] = [
         expects: Expects::Nothing,
     },
     Case {
-        name: "before process 2 waits the unlock grants nothing, for process 2 still has what process 1 waits for",
-        processes: 3,
-        front: 6,
-        rest: &[THIRD_UNLOCKS, SECOND_WAITS],
-        legal: 6,
-        expects: Expects::Notes(&[Answer(3, 2, Reply::Ok)]),
-    },
-    Case {
-        name: "both pairs in the other order",
-        processes: 3,
-        front: 3,
-        rest: &[
-            THIRD_LOCKS,
-            SECOND_LOCKS,
-            FIRST_WAITS,
-            THIRD_UNLOCKS,
-            SECOND_WAITS,
-        ],
-        legal: 6,
-        expects: Expects::Notes(&[Answer(3, 2, Reply::Ok)]),
-    },
-    Case {
-        name: "without the lock of process 2 process 1 needn't wait",
-        processes: 3,
-        front: 3,
-        rest: &[THIRD_LOCKS, FIRST_WAITS, SECOND_WAITS, THIRD_UNLOCKS],
-        legal: 4,
-        expects: Expects::Notes(&[Answer(1, 4, Reply::Ok)]),
-    },
-    Case {
-        name: "without the first entry of process 1 its second is the first",
-        processes: 3,
-        front: 0,
-        rest: &[
-            FORKS_2,
-            FORKS_3,
-            SECOND_LOCKS,
-            THIRD_LOCKS,
-            FIRST_WAITS,
-            SECOND_WAITS,
-            THIRD_UNLOCKS,
-        ],
-        legal: 0,
-        expects: Expects::NumberAfter(0),
-    },
-    Case {
         name: "with two processes the second fork is refused",
         processes: 2,
         front: 8,
-        rest: &[],
-        legal: 2,
-        expects: Expects::Notes(&[Answer(1, 3, Reply::Err(Errno::EAGAIN))]),
-    },
-    Case {
-        name: "that fork alone",
-        processes: 2,
-        front: 3,
         rest: &[],
         legal: 2,
         expects: Expects::Notes(&[Answer(1, 3, Reply::Err(Errno::EAGAIN))]),
@@ -277,19 +140,6 @@ pub(super) const CASES: [Case; 37] = [
         expects: Expects::Nothing,
     },
     Case {
-        name: "at the last place process 3 alone can ask, with number 2: not 0#0",
-        processes: 3,
-        front: 7,
-        rest: &[Line {
-            p: 0,
-            n: 0,
-            ask: Fork(2),
-            said: &[Answer(0, 0, Reply::Ok)],
-        }],
-        legal: 7,
-        expects: Expects::NoRequest(ProcState::Unborn),
-    },
-    Case {
         name: "at the last place process 3 alone can ask, with number 2: not 0#1",
         processes: 3,
         front: 7,
@@ -298,123 +148,6 @@ pub(super) const CASES: [Case; 37] = [
             n: 1,
             ask: Fork(2),
             said: &[Answer(0, 1, Reply::Ok)],
-        }],
-        legal: 7,
-        expects: Expects::NoRequest(ProcState::Unborn),
-    },
-    Case {
-        name: "at the last place process 3 alone can ask, with number 2: not 1#5",
-        processes: 3,
-        front: 7,
-        rest: &[Line {
-            p: 1,
-            n: 5,
-            ask: Fork(2),
-            said: &[Answer(1, 5, Reply::Ok)],
-        }],
-        legal: 7,
-        expects: Expects::NoRequest(ProcState::Waiting),
-    },
-    Case {
-        name: "at the last place process 3 alone can ask, with number 2: not 2#3",
-        processes: 3,
-        front: 7,
-        rest: &[Line {
-            p: 2,
-            n: 3,
-            ask: Fork(2),
-            said: &[Answer(2, 3, Reply::Ok)],
-        }],
-        legal: 7,
-        expects: Expects::NoRequest(ProcState::Waiting),
-    },
-    Case {
-        name: "at the last place process 3 alone can ask, with number 2: not 1#1",
-        processes: 3,
-        front: 7,
-        rest: &[Line {
-            p: 1,
-            n: 1,
-            ask: Fork(2),
-            said: &[Answer(1, 1, Reply::Ok)],
-        }],
-        legal: 7,
-        expects: Expects::NoRequest(ProcState::Waiting),
-    },
-    Case {
-        name: "at the last place process 3 alone can ask, with number 2: not 2#1",
-        processes: 3,
-        front: 7,
-        rest: &[Line {
-            p: 2,
-            n: 1,
-            ask: Fork(2),
-            said: &[Answer(2, 1, Reply::Ok)],
-        }],
-        legal: 7,
-        expects: Expects::NoRequest(ProcState::Waiting),
-    },
-    Case {
-        name: "at the last place process 3 alone can ask, with number 2: not 3#0",
-        processes: 3,
-        front: 7,
-        rest: &[Line {
-            p: 3,
-            n: 0,
-            ask: Fork(2),
-            said: &[Answer(3, 0, Reply::Ok)],
-        }],
-        legal: 7,
-        expects: Expects::NumberAfter(1),
-    },
-    Case {
-        name: "at the last place process 3 alone can ask, with number 2: not 3#1",
-        processes: 3,
-        front: 7,
-        rest: &[Line {
-            p: 3,
-            n: 1,
-            ask: Fork(2),
-            said: &[Answer(3, 1, Reply::Ok)],
-        }],
-        legal: 7,
-        expects: Expects::NumberAfter(1),
-    },
-    Case {
-        name: "at the last place process 3 alone can ask, with number 2: not 3#3",
-        processes: 3,
-        front: 7,
-        rest: &[Line {
-            p: 3,
-            n: 3,
-            ask: Fork(2),
-            said: &[Answer(3, 3, Reply::Ok)],
-        }],
-        legal: 7,
-        expects: Expects::NumberAfter(1),
-    },
-    Case {
-        name: "nor the largest number of process 3",
-        processes: 3,
-        front: 7,
-        rest: &[Line {
-            p: 3,
-            n: u64::MAX,
-            ask: Fork(2),
-            said: &[Answer(3, u64::MAX, Reply::Ok)],
-        }],
-        legal: 7,
-        expects: Expects::NumberAfter(1),
-    },
-    Case {
-        name: "at the last place process 3 alone can ask, with number 2: not 4#1",
-        processes: 3,
-        front: 7,
-        rest: &[Line {
-            p: 4,
-            n: 1,
-            ask: Fork(2),
-            said: &[Answer(4, 1, Reply::Ok)],
         }],
         legal: 7,
         expects: Expects::NoRequest(ProcState::Unborn),
@@ -445,55 +178,6 @@ pub(super) const CASES: [Case; 37] = [
         expects: Expects::NumberAfter(1),
     },
     Case {
-        name: "the unlock under another number",
-        processes: 3,
-        front: 7,
-        rest: &[Line {
-            n: 1,
-            said: &[],
-            ..THIRD_UNLOCKS
-        }],
-        legal: 7,
-        expects: Expects::NumberAfter(1),
-    },
-    Case {
-        name: "the unlock under another number",
-        processes: 3,
-        front: 7,
-        rest: &[Line {
-            n: 3,
-            said: &[],
-            ..THIRD_UNLOCKS
-        }],
-        legal: 7,
-        expects: Expects::NumberAfter(1),
-    },
-    Case {
-        name: "the unlock under another number",
-        processes: 3,
-        front: 7,
-        rest: &[Line {
-            n: u64::MAX,
-            said: &[],
-            ..THIRD_UNLOCKS
-        }],
-        legal: 7,
-        expects: Expects::NumberAfter(1),
-    },
-    Case {
-        name: "process 3 may ask for something else there",
-        processes: 3,
-        front: 7,
-        rest: &[Line {
-            p: 3,
-            n: 2,
-            ask: Open,
-            said: &[Answer(3, 2, Reply::Fd(1))],
-        }],
-        legal: 8,
-        expects: Expects::Nothing,
-    },
-    Case {
         name: "of who has ended nothing is taken",
         processes: 3,
         front: 7,
@@ -513,86 +197,5 @@ pub(super) const CASES: [Case; 37] = [
         ],
         legal: 8,
         expects: Expects::NoRequest(ProcState::Ended),
-    },
-    Case {
-        name: "a child opens a file and ends",
-        processes: 2,
-        front: 0,
-        rest: &[
-            Line {
-                p: 1,
-                n: 1,
-                ask: Fork(2),
-                said: &[Answer(1, 1, Reply::Ok)],
-            },
-            Line {
-                p: 2,
-                n: 1,
-                ask: Open,
-                said: &[Answer(2, 1, Reply::Fd(0))],
-            },
-            Line {
-                p: 2,
-                n: 2,
-                ask: Exit,
-                said: &[],
-            },
-        ],
-        legal: 3,
-        expects: Expects::Nothing,
-    },
-    Case {
-        name: "and it ends once",
-        processes: 2,
-        front: 0,
-        rest: &[
-            Line {
-                p: 1,
-                n: 1,
-                ask: Fork(2),
-                said: &[Answer(1, 1, Reply::Ok)],
-            },
-            Line {
-                p: 2,
-                n: 1,
-                ask: Open,
-                said: &[Answer(2, 1, Reply::Fd(0))],
-            },
-            Line {
-                p: 2,
-                n: 2,
-                ask: Exit,
-                said: &[],
-            },
-            Line {
-                p: 2,
-                n: 3,
-                ask: Exit,
-                said: &[],
-            },
-        ],
-        legal: 3,
-        expects: Expects::NoRequest(ProcState::Ended),
-    },
-    Case {
-        name: "nothing is taken of who isn't born",
-        processes: 2,
-        front: 0,
-        rest: &[
-            Line {
-                p: 2,
-                n: 1,
-                ask: Open,
-                said: &[Answer(2, 1, Reply::Fd(0))],
-            },
-            Line {
-                p: 1,
-                n: 1,
-                ask: Fork(2),
-                said: &[Answer(1, 1, Reply::Ok)],
-            },
-        ],
-        legal: 0,
-        expects: Expects::NoRequest(ProcState::Unborn),
     },
 ];
