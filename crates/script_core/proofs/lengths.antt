@@ -1,3 +1,4 @@
 -- That an output is no longer than a journal may be: how many notes, locks and waits there are, and how long their texts.
 pub mod ArrivalLengthLemmas
 pub mod JournalLengthLemmas
+pub mod TextLengthLemmas
