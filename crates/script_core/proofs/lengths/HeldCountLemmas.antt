@@ -4,7 +4,6 @@ use Rattle.std.proofs.Common.{◌≡◌, ◌≢◌, ℕ, zero, suc, ◌+◌, ◌
 use Rattle.std.specs.Prelude.{⊤, IsFalse}
 use Rattle.std.specs.List.{AllByRecursion as Each}
 use Rattle.std.proofs.lemmas.List.Elements.{recursion_from_All}
-use Rattle.range_core.specs.declared.TheConstants.{OFFMAX}
 use Rattle.range_core.specs.declared.Span.{Span}
 use Rattle.range_core.specs.Ranges.{IsRun}
 use Rattle.lock_book.specs.declared.Owner.{Owner}
@@ -38,11 +37,13 @@ without [] x among = absurd among
 without (first ∷ xs) x (inl same) =
     (xs, record { fewer = refl; others = λ other differs among. ⊎_elim (λ is. absurd (differs (sym is ∙ same))) (λ later. later) among })
 without (first ∷ xs) x (inr later) =
-    let rest = without xs x later in
-    (first ∷ rest.0, record {
-      fewer = ap suc rest.1.fewer;
-      others = λ other differs among. ⊎_elim (λ here. inl here) (λ behind. inr (rest.1.others other differs behind)) among;
-    })
+    let rest = without xs x later in (
+      first ∷ rest.0,
+      record {
+        fewer = ap suc rest.1.fewer;
+        others = λ other differs among. ⊎_elim (λ here. inl here) (λ behind. inr (rest.1.others other differs behind)) among;
+      },
+    )
 
 -- lines that begin apart, each at one of these starts, are no more than these
 no_more : (lines : List Held) (starts : List Start) → BeginApart lines → Each (λ line. IsOneOf (start_of line) starts) lines → length lines ≤ length starts
