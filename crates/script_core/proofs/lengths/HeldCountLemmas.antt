@@ -1,5 +1,4 @@
--- The locks of a report are no more than the starts of the changes: no two begin at one start. So that an output is no longer than a
--- journal may be.
+-- The locks of a report are no more than the starts of the changes, since no two begin at one start: for `outputs_are_short`.
 use Rattle.std.proofs.Common.{◌≡◌, ◌≢◌, ℕ, zero, suc, ◌+◌, ◌<◌, ◌≤◌, ◌⊎◌, Bool, true, false, List, [], ◌∷◌, ◌++◌, length, flat_map, AllPairs, None, inl, inr, ⊎_elim, refl, sym, ap, ◌∙◌, subst, arith, suc-le-suc}
 use Rattle.std.specs.Prelude.{⊤, IsFalse}
 use Rattle.std.specs.List.{AllByRecursion as Each}
@@ -14,7 +13,7 @@ use Rattle.lock_book.specs.Changes.{Change, FlockChange, mode_in, flock_mode_in}
 use Rattle.lock_book.specs.Reports.{AreByteLocks, AreFlockLocks, AreFileReports, IsFileReport, IsFlockLine, IsHeldReport}
 use Rattle.script_core.proofs.FitLemmas.{FitsChange, each_append, each_both, each_map}
 use Rattle.script_core.proofs.OutcomeFitLemmas.{mode_fits}
-use Rattle.script_core.proofs.lengths.StartLemmas.{Start, IsOneOf, byte_start, flock_start, starts_of, flock_starts_of, in_front, in_back, run_start, flock_has_start}
+use Rattle.script_core.proofs.lengths.StartLemmas.{Start, IsOneOf, byte_start, flock_start, starts_of, flock_starts_of, starts_in, in_front, in_back, run_start, flock_has_start}
 
 -- ---- no more than what they begin at
 
@@ -111,7 +110,7 @@ owners_differ x y before same =
     not_before_itself x.owner (subst (λ (owner : Owner). IsBefore x.owner owner) (ap (λ (start : Start). start.owner) same) before)
 
 byte_begun : (changes : List Change) (flocks : List FlockChange) (file : ℕ) (lines : List Held) → Each FitsChange changes
-    → AreByteLocks file (mode_in changes file) lines → AreBegun (flat_map starts_of changes ++ flat_map flock_starts_of flocks) (IsKindOn file false) lines
+    → AreByteLocks file (mode_in changes file) lines → AreBegun (starts_in changes flocks) (IsKindOn file false) lines
 byte_begun changes flocks file lines fits are =
     let each = recursion_from_All (IsByteLine changes file) lines are.each in
     record {
@@ -129,7 +128,7 @@ byte_begun changes flocks file lines fits are =
         let at : y.span.first ≡ x.span.first = ap (λ (start : Start). start.byte) same in
         omega (arith, covered, later, at)
 
-    at_start : (line : Held) → IsByteLine changes file line → IsOneOf (start_of line) (flat_map starts_of changes ++ flat_map flock_starts_of flocks)
+    at_start : (line : Held) → IsByteLine changes file line → IsOneOf (start_of line) (starts_in changes flocks)
     at_start line is =
         let within = mode_fits changes None file line.owner line.span.first line.mode fits (is.2.constant line.span.first is.2.covered) (λ e. absurd cc) in
         let same : byte_start file line.owner line.span.first ≡ start_of line = rw (is.0, is.1) refl in
@@ -138,7 +137,7 @@ byte_begun changes flocks file lines fits are =
         (run_start changes file line.owner line.mode line.span within.1 is.2))
 
 flock_begun : (changes : List Change) (flocks : List FlockChange) (file : ℕ) (lines : List Held) → AreFlockLocks file (flock_mode_in flocks file) lines
-    → AreBegun (flat_map starts_of changes ++ flat_map flock_starts_of flocks) (IsKindOn file true) lines
+    → AreBegun (starts_in changes flocks) (IsKindOn file true) lines
 flock_begun changes flocks file lines are =
     let each = recursion_from_All (IsFlockLine file (flock_mode_in flocks file)) lines are.each in
     record {
@@ -148,7 +147,7 @@ flock_begun changes flocks file lines are =
     }
   where
     at_start : (line : Held) → IsFlockLine file (flock_mode_in flocks file) line
-        → IsOneOf (start_of line) (flat_map starts_of changes ++ flat_map flock_starts_of flocks)
+        → IsOneOf (start_of line) (starts_in changes flocks)
     at_start line is =
         let first : line.span.first ≡ 0 = ap (λ (span : Span). span.first) is.span in
         let same : flock_start file is.description ≡ start_of line = rw (is.same_file, is.whole, is.owner, first) refl in
@@ -158,11 +157,10 @@ flock_begun changes flocks file lines are =
 
 file_begun : (changes : List Change) (flocks : List FlockChange) (file : ℕ) (report : List Held) → Each FitsChange changes
     → IsFileReport file (mode_in changes file) (flock_mode_in flocks file) report
-    → AreBegun (flat_map starts_of changes ++ flat_map flock_starts_of flocks) (λ line. line.file ≡ file) report
+    → AreBegun (starts_in changes flocks) (λ line. line.file ≡ file) report
 file_begun changes flocks file report fits is =
-    let starts = flat_map starts_of changes ++ flat_map flock_starts_of flocks in
-    subst (AreBegun starts (λ (line : Held). line.file ≡ file)) (sym is.is)
-    (begun_append starts (IsKindOn file false) (IsKindOn file true) (λ (line : Held). line.file ≡ file) is.byte_locks is.flock_locks
+    subst (AreBegun (starts_in changes flocks) (λ (line : Held). line.file ≡ file)) (sym is.is)
+    (begun_append (starts_in changes flocks) (IsKindOn file false) (IsKindOn file true) (λ (line : Held). line.file ≡ file) is.byte_locks is.flock_locks
     (λ x y byte flock same. let bad : true ≡ false = sym flock.1 ∙ ap (λ (start : Start). start.whole) same ∙ byte.1 in cc)
     (λ line of. of.0) (λ line of. of.0)
     (byte_begun changes flocks file is.byte_locks fits is.are_bytes) (flock_begun changes flocks file is.flock_locks is.are_flocks))
@@ -171,22 +169,22 @@ file_begun changes flocks file report fits is =
 
 files_begun : (changes : List Change) (flocks : List FlockChange) (file more : ℕ) (report : List Held) → Each FitsChange changes
     → AreFileReports file more (mode_in changes) (flock_mode_in flocks) report
-    → AreBegun (flat_map starts_of changes ++ flat_map flock_starts_of flocks) (λ line. file ≤ line.file) report
+    → AreBegun (starts_in changes flocks) (λ line. file ≤ line.file) report
 files_begun changes flocks file zero report fits is =
-    subst (AreBegun (flat_map starts_of changes ++ flat_map flock_starts_of flocks) (λ (line : Held). file ≤ line.file)) (sym is)
+    subst (AreBegun (starts_in changes flocks) (λ (line : Held). file ≤ line.file)) (sym is)
     (record { apart = tt; among = tt; each = tt })
 files_begun changes flocks file (suc more) report fits (first, rest, is, one, others) =
-    let starts = flat_map starts_of changes ++ flat_map flock_starts_of flocks in
-    subst (AreBegun starts (λ (line : Held). file ≤ line.file)) (sym is)
-    (begun_append starts (λ (line : Held). line.file ≡ file) (λ (line : Held). file + 1 ≤ line.file) (λ (line : Held). file ≤ line.file) first rest
+    subst (AreBegun (starts_in changes flocks) (λ (line : Held). file ≤ line.file)) (sym is)
+    (begun_append (starts_in changes flocks) (λ (line : Held). line.file ≡ file) (λ (line : Held). file + 1 ≤ line.file)
+    (λ (line : Held). file ≤ line.file) first rest
     (λ x y here behind same. let at : y.file ≡ x.file = ap (λ (start : Start). start.file) same in omega (arith, here, behind, at))
     (λ line here. omega (arith, here)) (λ line behind. omega (arith, behind))
     (file_begun changes flocks file first fits one) (files_begun changes flocks (file + 1) more rest fits others))
 
 -- the locks of a report are no more than the starts
 pub no_more_than_starts : (changes : List Change) (flocks : List FlockChange) (held : List Held) → Each FitsChange changes
-    → IsHeldReport (mode_in changes) (flock_mode_in flocks) held → length held ≤ length (flat_map starts_of changes ++ flat_map flock_starts_of flocks)
+    → IsHeldReport (mode_in changes) (flock_mode_in flocks) held → length held ≤ length (starts_in changes flocks)
 unfolding IsHeldReport
 no_more_than_starts changes flocks held fits is =
     let begun = files_begun changes flocks 0 64 held fits is in
-    no_more held (flat_map starts_of changes ++ flat_map flock_starts_of flocks) begun.apart begun.among
+    no_more held (starts_in changes flocks) begun.apart begun.among

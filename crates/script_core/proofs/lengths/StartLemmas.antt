@@ -1,5 +1,4 @@
--- Where held locks begin: each one does so at a start that some change made, and a change makes two at most. So that an output is no
--- longer than a journal may be.
+-- Where held locks begin: each one at a start that some change made, and a change makes two at most: for `outputs_are_short`.
 use Rattle.std.proofs.Common.{◌≡◌, ◌≢◌, ℕ, zero, suc, ◌+◌, ◌<◌, ◌≤◌, ◌==◌, ◌&&◌, ◌⊎◌, Bool, true, false, nat_le, List, [], ◌∷◌, ◌++◌, length, length-append, flat_map, Option, Some, None, inl, inr, ⊎_elim, refl, sym, ap, ◌∙◌, subst, arith, eq-eqb, ne_eqb, eqb-true, leb-true, le-leb, eq-or-lt_of_le}
 use Rattle.std.specs.Prelude.{if◌then◌else◌}
 use Rattle.range_core.specs.declared.TheConstants.{OFFMAX}
@@ -30,12 +29,12 @@ byte_start file owner byte = record { file = file; whole = false; owner = owner;
 abbrev pub flock_start : ℕ → ℕ → Start
 flock_start file description = record { file = file; whole = true; owner = Description description; byte = 0 }
 
--- a mode that is set begins here, and no mode does nowhere
+-- the start, where a mode is set
 abbrev pub set_at : Option Mode → Start → List Start
 set_at None start = []
 set_at (Some mode) start = start ∷ []
 
--- behind the range of the change, unless the range ends where the file does, what was held before begins anew
+-- what is held behind the range of the change begins there, unless the range ends where files do
 abbrev pub behind : Change → List Start
 behind change = if change.span.last == OFFMAX then [] else byte_start change.file change.owner (change.span.last + 1) ∷ []
 
@@ -46,6 +45,10 @@ starts_of change = set_at change.mode (byte_start change.file change.owner chang
 -- the start that a change of flock locks makes
 abbrev pub flock_starts_of : FlockChange → List Start
 flock_starts_of change = set_at change.mode (flock_start change.file change.description)
+
+-- all starts of these changes
+abbrev pub starts_in : List Change → List FlockChange → List Start
+starts_in changes flocks = flat_map starts_of changes ++ flat_map flock_starts_of flocks
 
 -- a change makes two starts at most
 pub two_starts : (change : Change) → length (starts_of change) ≤ 2
@@ -100,6 +103,7 @@ record IsOn (change : Change) (file : ℕ) (owner : Owner) (byte : ℕ) : Type 0
   same_owner : change.owner ≡ owner
   covers : Covers change.span byte
 
+-- the change is on the byte just where it sets it
 set_on : (change : Change) (file : ℕ) (owner : Owner) (byte : ℕ) → sets_byte change file owner byte ≡ true → IsOn change file owner byte
 set_on change file owner byte sets =
     let first = both_true ((change.file == file) && is_same_owner change.owner owner) (is_covered change.span byte) sets in
@@ -117,7 +121,7 @@ on_set change file owner byte on =
     let last = le-leb byte change.span.last on.covers.1 in
     rw (eq-eqb change.file file on.same_file, on.same_owner, owner_itself owner, first, last) refl
 
--- a byte on which the change is, where it isn't on the one before, is its first
+-- a change that sets a mode has a start at its first byte
 first_here : (change : Change) (file : ℕ) (owner : Owner) (byte : ℕ) (mode : Mode) → IsOn change file owner byte → change.span.first ≡ byte
     → change.mode ≡ Some mode → IsOneOf (byte_start file owner byte) (starts_of change)
 first_here change file owner byte mode on at sets =
@@ -126,7 +130,7 @@ first_here change file owner byte mode on at sets =
     in_front (byte_start file owner byte) (set_at change.mode start) (behind change)
     (subst (λ (m : Option Mode). IsOneOf (byte_start file owner byte) (set_at m start)) (sym sets) (inl same))
 
--- a byte behind its last, which isn't behind the file
+-- a change has a start behind its last byte, where the file goes on there
 begins_behind : (change : Change) (file : ℕ) (owner : Owner) (byte : ℕ) → IsOn change file owner byte → byte ≡ change.span.last → byte < OFFMAX
     → IsOneOf (byte_start file owner (suc byte)) (starts_of change)
 begins_behind change file owner byte on at within =

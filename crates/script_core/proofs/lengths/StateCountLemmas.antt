@@ -1,5 +1,4 @@
--- Of so many events there are no more than twice as many notes, and no more locks and waits together. So that an output is no longer
--- than a journal may be.
+-- Of so many events there are twice as many notes at most, and no more locks and waits together: for `outputs_are_short`.
 use Rattle.std.proofs.Common.{ℕ, ◌+◌, ◌*◌, ◌≤◌, List, [], ◌∷◌, length, length-append, flat_map, sym, subst, arith}
 use Rattle.std.specs.List.{AllByRecursion as Each}
 use Rattle.lock_book.specs.declared.Held.{Held}

@@ -1,5 +1,4 @@
--- What one event adds: two notes at most, and two to the starts of the locks with twice the waits. So that an output is no longer than
--- a journal may be.
+-- What an event adds: two at most to the starts with twice the waits, and two to the notes with the waits: for `outputs_are_short`.
 use Rattle.std.proofs.Common.{◌≡◌, ℕ, suc, ◌+◌, ◌*◌, ◌≤◌, ◌==◌, ◌||◌, not, Bool, true, false, List, [], ◌∷◌, ◌++◌, length, length-append, filter_map, flat_map, Option, Some, None, option_map, Result, Ok, Err, MatchOption, MatchResult, ⊎_elim, refl, sym, ap, ◌∙◌, subst, arith}
 use Rattle.std.specs.List.{cons_option}
 use Rattle.std.proofs.lemmas.Grind.{flat_map-append}
