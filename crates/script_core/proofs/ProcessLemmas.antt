@@ -13,7 +13,7 @@ use Rattle.script_core.specs.ScriptText.{Meaning, IsProcess, IsWritable, IsReque
 use Rattle.script_core.specs.Reading.{Reading, start, limits_of, meaning_of, reading_after, is_comment, is_empty, says_policy, says_limits, ArgumentsGive, CommandGives, RequestGives, ArrivalGives, PolicyGives, LimitsGive, ProcessGives, WordsGive, LineGives, LinesGive, Reads}
 use Rattle.script_core.specs.Arguments.{Command, command_named, has_count}
 use Rattle.script_core.specs.Words.{words_of, is_printable, lines_of, line_limit, script_limit}
-use Rattle.std.specs.Prelude.{nat_lt, length, MatchBool, ◌+◌, ◌==◌, ◌&&◌, codes, decimal, bytes_eq, is_none}
+use Rattle.std.specs.Prelude.{nat_lt, length, MatchBool, ◌+◌, ◌&&◌, codes, decimal, bytes_eq, is_none}
 
 -- the arrival is of a process that the limits have, and its request is one that they have
 abbrev pub IsArrivalOf : Limits → ℕ × Request → Type 0

@@ -147,7 +147,8 @@ each_filtered P test (x ∷ xs) all =
       | false ↦ each_filtered P test xs all.1
     ]
 
-pub taken_few : (events : List Event) (p : ℕ) → AreNumbered events → Each (λ event. event.n ≤ script_limit + 1) events → length (events_of p events) ≤ script_limit + 1
+pub taken_few : (events : List Event) (p : ℕ) → AreNumbered events → Each (λ event. event.n ≤ script_limit + 1) events
+    → length (events_of p events) ≤ script_limit + 1
 taken_few events p numbered small =
     let few = numbered_few 0 (script_limit + 1) (events_of p events) (omega arith) (λ k. plain (slice_get (events_of p events) k) k (numbered p k))
     (each_filtered (λ (event : Event). event.n ≤ script_limit + 1) (λ event. event.p == p) events small) in
@@ -335,12 +336,13 @@ held_reads held fits =
     (λ b. IsReportText (if b then codes "flock " ++ decimal held.file ++ codes " " ++ flock_text held.owner held.mode
     else codes "lock " ++ byte_lock_text held.file held.owner held.mode held.span)) [
       | true ↦
-          let rest = decimal held.file ++ codes " " ++ flock_text held.owner held.mode in
-          of_word (codes "flock") rest (codes "flock " ++ decimal held.file ++ codes " " ++ flock_text held.owner held.mode) refl (IsWord-tested (codes "flock") refl)
+          let text = codes "flock " ++ decimal held.file ++ codes " " ++ flock_text held.owner held.mode in
+          of_word (codes "flock") (decimal held.file ++ codes " " ++ flock_text held.owner held.mode) text refl (IsWord-tested (codes "flock") refl)
           (λ place words. refl) (lit≤ tt) (said_flock_line held fits)
       | false ↦
-          let rest = byte_lock_text held.file held.owner held.mode held.span in
-          of_word (codes "lock") rest (codes "lock " ++ rest) refl (IsWord-tested (codes "lock") refl) (λ place words. refl) (lit≤ tt) (said_lock_line held fits)
+          let text = byte_lock_text held.file held.owner held.mode held.span in
+          of_word (codes "lock") text (codes "lock " ++ text) refl (IsWord-tested (codes "lock") refl) (λ place words. refl) (lit≤ tt)
+          (said_lock_line held fits)
     ]
 
 -- the text of a lock that is held is so short
@@ -380,7 +382,8 @@ said_tag p n p_small n_small =
 pub said_wait : (wait : Wait) → FitsWaitLine wait → Said 144 (wait_text wait)
 said_wait wait fits =
     spaced (codes "wait " ++ tag wait.p wait.n) (wanted_text wait.family wait)
-    (both (codes "wait ") (tag wait.p wait.n) (given 5 (codes "wait ") refl (lit≤ tt)) (said_tag wait.p wait.n fits.p fits.n)) (said_wanted wait.family wait fits)
+    (both (codes "wait ") (tag wait.p wait.n) (given 5 (codes "wait ") refl (lit≤ tt)) (said_tag wait.p wait.n fits.p fits.n))
+    (said_wanted wait.family wait fits)
 
 wait_reads : (wait : Wait) → FitsWaitLine wait → IsReportText (wait_text wait)
 wait_reads wait fits =
@@ -406,7 +409,8 @@ pub said_process : (told : ProcessLine) → told.sent < 2 ^ 64 → FitsProcessLi
 said_process told sent fits =
     spaced (codes "proc " ++ decimal told.p ++ codes " " ++ counts_text told) (state_word told.state)
     (spaced (codes "proc " ++ decimal told.p) (counts_text told)
-    (both (codes "proc ") (decimal told.p) (given 5 (codes "proc ") refl (lit≤ tt)) (number told.p fits.p)) (said_counts told sent fits)) (said_state told.state)
+    (both (codes "proc ") (decimal told.p) (given 5 (codes "proc ") refl (lit≤ tt)) (number told.p fits.p)) (said_counts told sent fits))
+    (said_state told.state)
 
 process_reads : (told : ProcessLine) → told.sent < 2 ^ 64 → FitsProcessLine told → IsReportText (process_text told)
 process_reads told sent fits =

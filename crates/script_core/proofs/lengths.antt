@@ -2,6 +2,7 @@
 pub mod ArrivalLengthLemmas
 pub mod HeldCountLemmas
 pub mod JournalLengthLemmas
+pub mod OutputLengthLaws
 pub mod StartLemmas
 pub mod StateCountLemmas
 pub mod StepCountLemmas

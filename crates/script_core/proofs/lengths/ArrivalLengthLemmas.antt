@@ -1,5 +1,5 @@
 -- The arrivals of a script: their lines take no more bytes than it has, and each has seven with its line feed: for `outputs_are_short`.
-use Rattle.std.proofs.Common.{◌≡◌, ℕ, ◌+◌, ◌*◌, ◌^◌, ◌<◌, ◌≤◌, ◌==◌, Bool, true, false, not, List, [], ◌∷◌, ◌++◌, length, length-append, filter, codes, decimal, MatchBool, Ok, Err, inl, inr, refl, ap, arith, lit≤}
+use Rattle.std.proofs.Common.{◌≡◌, ℕ, ◌+◌, ◌*◌, ◌≤◌, ◌==◌, Bool, true, false, not, List, [], ◌∷◌, ◌++◌, length, filter, codes, MatchBool, Ok, Err, inl, inr, refl, ap, arith, lit≤}
 use Rattle.std.specs.Prelude.{if◌then◌else◌, nat_lt}
 use Rattle.std.specs.List.{AllByRecursion as Each, slice_split, onto_first}
 use Rattle.std.proofs.lemmas.Bool.{ltb-false}

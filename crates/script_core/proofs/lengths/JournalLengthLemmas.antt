@@ -68,7 +68,8 @@ fronts_next sent events event fronts next p =
         let before = fronts event.p in
         let taken = requests_taken event.p events in
         let at : slice_get (taken ++ before.0) (length taken) ≡ Some event.request =
-        ap (λ l. slice_get l (length taken)) (sym before.1) ∙ ap (slice_get (sent event.p)) (length-map (events_of event.p events) (λ (e : Event). e.request)) ∙ next in
+        ap (λ l. slice_get l (length taken)) (sym before.1)
+        ∙ ap (slice_get (sent event.p)) (length-map (events_of event.p events) (λ (e : Event). e.request)) ∙ next in
         let more = front_more taken before.0 event.request at in
         (more.0, before.1 ∙ more.1 ∙ ap (λ l. l ++ more.0) (sym (taken_own events event)))
 

@@ -1,5 +1,5 @@
 -- How long entries and reports are, which have so many bytes for each note and each line: for `outputs_are_short`.
-use Rattle.std.proofs.Common.{◌≡◌, ℕ, zero, suc, ◌+◌, ◌*◌, ◌^◌, ◌<◌, ◌≤◌, Bool, true, false, List, [], ◌∷◌, ◌++◌, length, length-append, flat_map, refl, sym, ap, ◌∙◌, subst, arith}
+use Rattle.std.proofs.Common.{ℕ, zero, suc, ◌+◌, ◌*◌, ◌^◌, ◌<◌, ◌≤◌, true, false, List, [], ◌∷◌, ◌++◌, length, length-append, flat_map, ap, arith}
 use Rattle.std.specs.Prelude.{if◌then◌else◌}
 use Rattle.std.specs.List.{AllByRecursion as Each, join_with_byte}
 use Rattle.std.proofs.lemmas.List.Concat.{length-flat_map}
@@ -7,7 +7,6 @@ use Rattle.std.proofs.lemmas.List.Elements.{All-from_recursion}
 use Rattle.std.proofs.lemmas.List.Sums.{sum_by-le}
 use Rattle.lock_book.specs.declared.Held.{Held}
 use Rattle.fd_table.specs.declared.Limits.{Limits}
-use Rattle.wait_core.specs.declared.Wait.{Wait}
 use Rattle.lock_manager.specs.declared.request.ProcState.{ProcState}
 use Rattle.lock_manager.specs.State.{State}
 use Rattle.session_core.specs.Event.{Event}
@@ -23,7 +22,7 @@ use Rattle.script_core.specs.ReportReading.{AreSmall}
 use Rattle.script_core.proofs.RoundTripLemmas.{length-join, join_cons}
 use Rattle.script_core.proofs.EntryRoundTripLemmas.{length-tag, length-notes}
 use Rattle.script_core.proofs.FitLemmas.{FitsWait, Fits, each_map, few_waits}
-use Rattle.script_core.proofs.ReportFitLemmas.{FitsHeld, FitsWaitLine, FitsProcessLine, held_fit, taken_few, held_short, said_wait, said_process, process_fits, wait_line_fits}
+use Rattle.script_core.proofs.ReportFitLemmas.{FitsHeld, FitsProcessLine, held_fit, taken_few, held_short, said_wait, said_process, process_fits, wait_line_fits}
 use Rattle.script_core.proofs.lengths.ArrivalLengthLemmas.{request_length}
 use Rattle.script_core.proofs.lengths.JournalLengthLemmas.{events_length}
 
