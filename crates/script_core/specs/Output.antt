@@ -41,7 +41,8 @@ pub record IsOutput (bytes text : List ℕ) : Type 0 where
 abbrev pub ScriptsHaveOneOutput : Type 0
 ScriptsHaveOneOutput = (bytes text other : List ℕ) → IsOutput bytes text → IsOutput bytes other → text ≡ other
 
--- how many bytes an output has at most: an arrival has 7 bytes or more, and each takes 420 of the output beside those that it has itself
+-- how many bytes an output has at most: an arrival has 7 bytes of a script or more, and takes 420 of the output beside its own words; a
+-- journal may have 67108864, so header lines may stand before it there
 abbrev pub output_limit : ℕ
 output_limit = 64000000
 

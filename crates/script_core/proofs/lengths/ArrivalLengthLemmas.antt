@@ -41,6 +41,7 @@ split_length test (byte ∷ bytes) =
       | false ↦ omega (arith, rest, more)
     ]
 
+-- some of the words have no more bytes than all
 filter_length : (test : List ℕ → Bool) (words : List (List ℕ)) → more_length (filter test words) ≤ more_length words
 unfolding more_length
 filter_length test [] = omega arith
@@ -51,6 +52,7 @@ filter_length test (word ∷ words) =
       | false ↦ omega (arith, rest)
     ]
 
+-- nor have the pieces without an empty end
 without_end_length : (pieces : List (List ℕ)) → more_length (without_empty_end pieces) ≤ more_length pieces
 unfolding more_length
 without_end_length [] = omega arith
@@ -59,18 +61,20 @@ without_end_length ((byte ∷ bytes) ∷ []) = omega arith
 without_end_length ([] ∷ next ∷ pieces) = let rest = without_end_length (next ∷ pieces) in omega (arith, rest)
 without_end_length ((byte ∷ bytes) ∷ next ∷ pieces) = let rest = without_end_length (next ∷ pieces) in omega (arith, rest)
 
+-- the words of two lists
 both_length : (words more : List (List ℕ)) → more_length (words ++ more) ≡ more_length words + more_length more
 unfolding more_length
 both_length [] more = omega arith
 both_length (word ∷ words) more = let rest = both_length words more in omega (arith, rest)
 
--- the words of a line, each with a byte more, have one more than it
+-- the words of a line, each with a byte more, have one more than it at most
 words_length : (line : List ℕ) → more_length (words_of line) ≤ length line + 1
 words_length line =
     let pieces = split_length (λ byte. byte == 32) line in
     let kept = filter_length (λ word. not (length word == 0)) (slice_split (λ byte. byte == 32) line) in
     omega (arith, pieces, kept)
 
+-- so have the lines of all bytes
 lines_length : (bytes : List ℕ) → more_length (lines_of bytes) ≤ length bytes + 1
 lines_length bytes =
     let pieces = split_length (λ byte. byte == 10) bytes in
@@ -83,6 +87,7 @@ lines_length bytes =
 abbrev pub request_length : Request → ℕ
 request_length request = 2 + more_length (request_words request)
 
+-- the word of a lock command has five bytes or more
 command_length : (cmd : LkCmd) → 5 ≤ length (lock_command_word cmd)
 command_length GetLk = lit≤ tt
 command_length SetLk = lit≤ tt
@@ -115,6 +120,7 @@ said_length words request (inr (zero_pid, are)) =
     let all = both_length (request_words request) (codes "0" ∷ []) in
     omega (arith, size, all)
 
+-- the line of an arrival is no shorter than that of its request
 arrival_length : (reading : Reading) (line : List ℕ) (p : ℕ) (request : Request) → LineGives reading line (Ok (lines.Arrival p request))
     → request_length request ≤ length line + 1
 unfolding more_length
@@ -133,6 +139,7 @@ unfoldable pub arrivals_length : List (ℕ × Request) → ℕ
 arrivals_length [] = 0
 arrivals_length (arrival ∷ arrivals) = request_length arrival.1 + arrivals_length arrivals
 
+-- one arrival more
 one_more_length : (arrivals : List (ℕ × Request)) (p : ℕ) (request : Request)
     → arrivals_length (arrivals ++ (p, request) ∷ []) ≡ arrivals_length arrivals + request_length request
 unfolding arrivals_length
@@ -150,6 +157,7 @@ grows reading line (lines.Arrival p request) gives =
     let short = arrival_length reading line p request gives in
     omega (arith, more, short)
 
+-- so do all lines
 in_lines : (number : ℕ) (reading : Reading) (lines : List (List ℕ)) (meaning : Meaning) → LinesGive number reading lines (Ok meaning)
     → arrivals_length meaning.arrivals ≤ arrivals_length reading.arrivals + more_length lines
 unfolding more_length
@@ -176,6 +184,7 @@ read_length bytes meaning reads = by_length (nat_lt script_limit (length bytes))
         let lines = lines_length bytes in
         omega (arith, short, all, lines)
 
+-- each arrival takes seven
 seventh : (limits : Limits) (arrivals : List (ℕ × Request)) → Each (IsArrivalOf limits) arrivals → 7 * length arrivals ≤ arrivals_length arrivals
 unfolding arrivals_length
 seventh limits [] are = omega arith

@@ -44,12 +44,14 @@ front_more [] [] x is = absurd (let bad : None ≡ Some x = is in cc)
 front_more [] (first ∷ rest) x is = let same : first ≡ x = cc in (rest, ap (λ y. y ∷ rest) same)
 front_more (y ∷ xs) rest x is = let later = front_more xs rest x is in (later.0, ap (λ l. y ∷ l) later.1)
 
+-- an event of the process itself is one more of what was taken
 taken_own : (events : List Event) (event : Event) → requests_taken event.p (events ++ event ∷ []) ≡ requests_taken event.p events ++ event.request ∷ []
 taken_own events event =
     let own : events_of event.p (events ++ event ∷ []) ≡ events_of event.p events ++ event ∷ [] =
     filter-append (λ (other : Event). other.p == event.p) events (event ∷ []) ∙ rw (eq-eqb event.p event.p refl) refl in
     ap (map (λ (e : Event). e.request)) own ∙ map-append (λ (e : Event). e.request) (events_of event.p events) (event ∷ [])
 
+-- and one of another process changes nothing
 taken_other : (events : List Event) (event : Event) (p : ℕ) → event.p ≢ p → requests_taken p (events ++ event ∷ []) ≡ requests_taken p events
 taken_other events event p differs =
     let others : events_of p (events ++ event ∷ []) ≡ events_of p events =
@@ -73,6 +75,7 @@ fronts_next sent events event fronts next p =
         let more = front_more taken before.0 event.request at in
         (more.0, before.1 ∙ more.1 ∙ ap (λ l. l ++ more.0) (sym (taken_own events event)))
 
+-- so it stays where mail is taken
 takes_fronts : (rules : Rules) (processes : ℕ) (sent : ℕ → List Request) (events : List Event) (S : State) (more : List Event) (T : State)
     → AreFronts sent events → TakesMail rules processes sent events S more T → AreFronts sent (events ++ more)
 takes_fronts rules processes sent events S [] T fronts takes = subst (AreFronts sent) (sym (append-nil events)) fronts
@@ -91,6 +94,7 @@ fronts_arrived arrived arrival events fronts p =
     ∙ map-append (λ (a : ℕ × Request). a.1) (filter (λ (a : ℕ × Request). a.0 == p) arrived) (filter (λ (a : ℕ × Request). a.0 == p) (arrival ∷ [])) in
     (before.0 ++ more, cut ∙ ap (λ l. l ++ more) before.1 ∙ append_assoc (requests_taken p events) before.0 more)
 
+-- so it is of a whole drain
 drains_fronts : (rules : Rules) (processes : ℕ) (arrived : List (ℕ × Request)) (events : List Event) (S : State) (later : List (ℕ × Request))
     (journal : List Event) (T : State) → AreFronts (λ p. requests_sent p arrived) events → DrainsFrom rules processes arrived events S later journal T
     → AreFronts (λ p. requests_sent p (arrived ++ later)) journal
@@ -112,9 +116,11 @@ record Without (p : ℕ) (request : Request) (rest : List Request) (arrivals : L
   own : requests_sent p left ≡ rest
   others : (q : ℕ) → q ≢ p → requests_sent q left ≡ requests_sent q arrivals
 
+-- an arrival of the process itself is the first of what it sent
 sent_first : (p q : ℕ) (first : Request) (arrivals : List (ℕ × Request)) → q ≡ p → requests_sent p ((q, first) ∷ arrivals) ≡ first ∷ requests_sent p arrivals
 sent_first p q first arrivals same = rw (eq-eqb q p same) refl
 
+-- and one of another process changes nothing
 sent_later : (p q : ℕ) (first : Request) (arrivals : List (ℕ × Request)) → q ≢ p → requests_sent p ((q, first) ∷ arrivals) ≡ requests_sent p arrivals
 sent_later p q first arrivals differs = rw (ne_eqb q p differs) refl
 
@@ -125,6 +131,7 @@ sent_both p q first left arrivals same =
     ⊎_elim (λ own. sent_first p q first left own ∙ ap (λ l. first ∷ l) same ∙ sym (sent_first p q first arrivals own))
     (λ differs. sent_later p q first left differs ∙ same ∙ sym (sent_later p q first arrivals differs)) (cases_eq q p)
 
+-- where a process sent something, there are arrivals without the first one of it
 without : (p : ℕ) (request : Request) (rest : List Request) (arrivals : List (ℕ × Request)) → requests_sent p arrivals ≡ request ∷ rest
     → Without p request rest arrivals
 unfolding arrivals_length

@@ -43,6 +43,7 @@ entry_length limits event writable =
     let told = length-notes limits event.notes writable.notes in
     omega (arith, text, line, parts, first, tagged, told)
 
+-- so have all lines
 pub entries_length : (limits : Limits) (events : List Event) → Each (IsWritableEvent limits) events
     → length (flat_map entry_line events) ≤ 22 * length events + events_length events + 96 * length (flat_map (λ event. event.notes) events)
 unfolding events_length
@@ -69,9 +70,11 @@ lines_length {X} P line most xs short all =
 fed : (text : List ℕ) (most : ℕ) → length text ≤ most → length (text ++ 10 ∷ []) ≤ most + 1
 fed text most short = let size = length-append text (10 ∷ []) in omega (arith, size, short)
 
+-- the lines of locks
 held_length : (S : State) (held : List Held) → Each FitsHeld held → length (flat_map held_line held) ≤ length held * 103
 held_length S held fits = lines_length FitsHeld held_line 103 held (λ x is. fed (held_text x) 102 (held_short x is)) fits
 
+-- the lines of waits, of which there are 64 at most
 waits_length : (limits : Limits) (S : State) → Fits limits S → length (flat_map wait_line S.waits) ≤ 9280
 waits_length limits S fits =
     let few = few_waits limits S fits in
@@ -79,6 +82,7 @@ waits_length limits S fits =
     (λ wait is. fed (wait_text wait) 144 (said_wait wait (wait_line_fits limits S.states wait is)).short) fits.waits in
     omega (arith, few, all)
 
+-- the line of a process, where there is one
 process_length : (told : ProcessLine) → told.sent < 2 ^ 64 → FitsProcessLine told → length (reported_line told) ≤ 117
 process_length told sent fits =
     let line = fed (process_text told) 116 (said_process told sent fits).short in
@@ -87,6 +91,7 @@ process_length told sent fits =
       | false ↦ omega arith
     ]
 
+-- the lines of processes
 processes_length : (limits : Limits) (states : ℕ → ProcState) (events : List Event) (sent : ℕ → ℕ) (p more : ℕ) → p + more ≤ 65
     → Each (IsWritableEvent limits) events → ((q : ℕ) → length (events_of q events) ≤ script_limit + 1) → AreSmall sent
     → length (process_lines states events sent p more) ≤ more * 117
