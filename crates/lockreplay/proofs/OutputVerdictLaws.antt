@@ -1,5 +1,5 @@
 -- An output is judged legal.
-use Rattle.std.proofs.Common.{◌≡◌, ◌≤◌, ℕ, ◌==◌, Bool, true, false, not, ◌&&◌, List, [], ◌∷◌, ◌++◌, length, codes, Ok, inl, inr, refl, sym, ap, ◌∙◌, subst}
+use Rattle.std.proofs.Common.{◌≡◌, ◌≤◌, ℕ, ◌==◌, Bool, true, false, not, ◌&&◌, List, [], ◌∷◌, ◌++◌, length, length-append, codes, Ok, inl, inr, refl, sym, ap, ◌∙◌, subst, arith, lit≤}
 use Rattle.std.specs.Prelude.{Some, None}
 use Rattle.std.specs.List.{AllByRecursion as Each, list_all}
 use Rattle.std.proofs.lemmas.Bool.{le-ltb}
@@ -8,6 +8,7 @@ use Rattle.fd_table.specs.declared.Limits.{Limits}
 use Rattle.fd_table.specs.declared.Limits.TheVariants.{Small, Wide}
 use Rattle.wait_core.specs.declared.Policy.{Policy}
 use Rattle.wait_core.specs.declared.Policy.TheVariants.{Held, Queue}
+use Rattle.lock_manager.specs.declared.request.Rules.{Rules}
 use Rattle.script_core.specs.declared.place.Stage.TheVariants as stages
 use Rattle.script_core.specs.declared.place.Place.{Place}
 use Rattle.script_core.specs.declared.place.JournalLine.TheVariants as lines
@@ -15,6 +16,7 @@ use Rattle.script_core.specs.HeaderText.{policy_word, limits_word}
 use Rattle.script_core.specs.Words.{lines_of}
 use Rattle.script_core.specs.JournalReading.{JournalGives, JournalLineGives, journal_start, opening_place}
 use Rattle.script_core.specs.JournalReading as journals
+use Rattle.script_core.specs.Output.{OutputsAreShort, output_limit}
 use Rattle.script_core.specs.OutputReading.{OutputsAreLegal}
 use Rattle.lockreplay.specs.Checks.{JournalComes, Legal, OutputsAreJudgedLegal, header_lines, journal_limit}
 use Rattle.lockreplay.proofs.CheckingLemmas.{InLine, lines_first}
@@ -78,15 +80,32 @@ headed_lines policy limits text =
     cut_of Queue Small = refl
     cut_of Queue Wide = refl
 
+-- the header lines are as short as this
+header_length : (policy : Policy) (limits : Limits) → length (header_lines (record { policy = policy; limits = limits })) ≤ 26
+header_length Held Small = lit≤ tt
+header_length Held Wide = lit≤ tt
+header_length Queue Small = lit≤ tt
+header_length Queue Wide = lit≤ tt
+
 -- ---- outputs
 
-pub outputs_judged : OutputsAreLegal → OutputsAreJudgedLegal
-outputs_judged outputs = record {
-  plain = λ bytes text output plain short. judged text short (outputs bytes text output 1 opening_place tt (sym plain));
-  headed = λ bytes text output short.
+-- an output is no longer than a journal may be, also behind header lines
+plain_short : (text : List ℕ) → length text ≤ output_limit → length text ≤ journal_limit
+plain_short text short = omega (arith, short)
+
+headed_short : (rules : Rules) (text : List ℕ) → length text ≤ output_limit → length (header_lines rules ++ text) ≤ journal_limit
+headed_short rules text short =
+    let headers = header_length rules.policy rules.limits in
+    let size = length-append (header_lines rules) text in
+    omega (arith, short, headers, size)
+
+pub outputs_judged : OutputsAreLegal → OutputsAreShort → OutputsAreJudgedLegal
+outputs_judged outputs short = record {
+  plain = λ bytes text output plain. judged text (plain_short text (short bytes text output)) (outputs bytes text output 1 opening_place tt (sym plain));
+  headed = λ bytes text output.
       let rules = output.script.rules in
       let behind : Place = record { policy = Some rules.policy; limits = Some rules.limits; stage = stages.Header } in
-      judged (header_lines rules ++ text) short
+      judged (header_lines rules ++ text) (headed_short rules text (short bytes text output))
       (subst (λ (l : List (List ℕ)). JournalGives 1 journal_start l journals.Legal) (sym (headed_lines rules.policy rules.limits text)) (
         Ok (lines.Policy rules.policy),
         policy_line rules.policy,

@@ -76,13 +76,11 @@ pub record VerdictsAreOfEnds : Type 0 where
 abbrev pub header_lines : Rules → List ℕ
 header_lines rules = codes "policy " ++ policy_word rules.policy ++ 10 ∷ [] ++ codes "limits " ++ limits_word rules.limits ++ 10 ∷ []
 
--- each output that is no longer than a journal may be is a legal one behind the header lines of its script's rules, and also without them
--- where its script is under the held policy and small limits
+-- each output is a legal journal behind the header lines of its script's rules, and also without them where its script is under the held
+-- policy and small limits
 pub record OutputsAreJudgedLegal : Type 0 where
-  pub plain : (bytes text : List ℕ) (output : IsOutput bytes text) → output.script.rules ≡ plain_rules → length text ≤ journal_limit
-      → JournalComes text Legal
-  pub headed : (bytes text : List ℕ) (output : IsOutput bytes text) → length (header_lines output.script.rules ++ text) ≤ journal_limit
-      → JournalComes (header_lines output.script.rules ++ text) Legal
+  pub plain : (bytes text : List ℕ) (output : IsOutput bytes text) → output.script.rules ≡ plain_rules → JournalComes text Legal
+  pub headed : (bytes text : List ℕ) (output : IsOutput bytes text) → JournalComes (header_lines output.script.rules ++ text) Legal
 
 -- the line that is written of an illegal journal
 abbrev pub illegal_line : ℕ → List ℕ → List ℕ

@@ -125,7 +125,7 @@ IsWord-tag limits p n process small =
       visible = visible_both (decimal p ++ codes "#") (decimal n) (visible_both (decimal p) (codes "#") first.visible hash.visible) last.visible;
     }
 
-length-tag : (limits : Limits) (p n : ℕ) → IsProcess limits p → n < 2 ^ 64 → length (tag p n) ≤ 23
+pub length-tag : (limits : Limits) (p n : ℕ) → IsProcess limits p → n < 2 ^ 64 → length (tag p n) ≤ 23
 length-tag limits p n process small =
     omega (arith, length-process limits p process, length-decimal-le 20 n (lit< tt) (omega (arith, small)) small, length-append (decimal p) (codes "#"), length-append (decimal p ++ codes "#") (decimal n))
 
@@ -293,7 +293,7 @@ printable_notes limits (note ∷ rest) all =
     (printable_then (note_body note) (flat_map note_text rest) (AreSpoken-note limits note (all_first (IsWritableNote limits) note rest all))
     (printable_notes limits rest (all_later (IsWritableNote limits) note rest all)))
 
-length-notes : (limits : Limits) (notes : List Note) → All (IsWritableNote limits) notes → length (flat_map note_text notes) ≤ 96 * length notes
+pub length-notes : (limits : Limits) (notes : List Note) → All (IsWritableNote limits) notes → length (flat_map note_text notes) ≤ 96 * length notes
 length-notes limits [] all = lit≤ tt
 length-notes limits (note ∷ rest) all =
     let body = length-note limits note (all_first (IsWritableNote limits) note rest all) in

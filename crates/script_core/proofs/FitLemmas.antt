@@ -162,6 +162,17 @@ below limits states (wait ∷ waits) fits q among =
     below limits states waits fits.1 q later)
     (cases_eq q wait.p)
 
+below_zero : (limits : Limits) (states : ℕ → ProcState) (waits : List Wait) → Each (FitsWait limits states) waits → (q : ℕ)
+    → list_any (λ r. q == r) (0 ∷ numbers_of waits) ≡ true → q < 65
+below_zero limits states waits fits q among =
+    ⊎_elim (λ none. omega (arith, none))
+    (λ some. below limits states waits fits q (subst (λ b. (b || list_any (λ r. q == r) (numbers_of waits)) ≡ true) (ne_eqb q 0 some) among)) (cases_eq q 0)
+
+many_numbers : (waits : List Wait) → length (numbers_of waits) ≡ length waits
+unfolding numbers_of
+many_numbers [] = refl
+many_numbers (wait ∷ waits) = ap suc (many_numbers waits)
+
 below_more : (limits : Limits) (states : ℕ → ProcState) (waits : List Wait) (p : ℕ) → p ≤ 64 → Each (FitsWait limits states) waits → (q : ℕ)
     → list_any (λ r. q == r) (0 ∷ p ∷ numbers_of waits) ≡ true → q < 65
 below_more limits states waits p few fits q among =
@@ -186,12 +197,17 @@ few_wait limits S p is live fits =
     let counted = length-le_from_distinct_below (0 ∷ p ∷ numbers_of S.waits) 65
     ((ne_eqb 0 p (λ e. omega (arith, e, low)), no_zero limits S.states S.waits fits.waits), (others, distinct S.waits fits.apart))
     (below_more limits S.states S.waits p few fits.waits) in
-    let all = many S.waits in
+    let all = many_numbers S.waits in
     omega (arith, counted, all)
-  where
-    many : (waits : List Wait) → length (numbers_of waits) ≡ length waits
-    many [] = refl
-    many (wait ∷ waits) = ap suc (many waits)
+
+-- and 64 wait at most
+pub few_waits : (limits : Limits) (S : State) → Fits limits S → length S.waits ≤ 64
+unfolding numbers_of IsDistinct
+few_waits limits S fits =
+    let counted = length-le_from_distinct_below (0 ∷ numbers_of S.waits) 65 (no_zero limits S.states S.waits fits.waits, distinct S.waits fits.apart)
+    (below_zero limits S.states S.waits fits.waits) in
+    let all = many_numbers S.waits in
+    omega (arith, counted, all)
 
 -- ---- changes
 

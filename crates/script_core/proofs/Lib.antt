@@ -39,3 +39,4 @@ pub mod OutcomeFitLemmas
 pub mod RunFitLemmas
 pub mod ReportFitLemmas
 pub mod OutputReadingLaws
+pub mod lengths

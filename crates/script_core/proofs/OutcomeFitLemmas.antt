@@ -333,7 +333,7 @@ owner_fits : (cmd : LkCmd) (p : ℕ) (look : Look) → p ≤ 64 → FitsLook loo
 owner_fits cmd p look few fit =
     elim (is_ofd cmd) as (λ b. IsSmallOwner (if b then Description look.desc else Process p)) [ true ↦ fit.1 | false ↦ few ]
 
-by_bool : {Yes No R : Type 0} (b : Bool) → MatchBool b Yes No → (Yes → R) → (No → R) → R
+pub by_bool : {Yes No R : Type 0} (b : Bool) → MatchBool b Yes No → (Yes → R) → (No → R) → R
 by_bool true is hit miss = hit is
 by_bool false is hit miss = miss is
 

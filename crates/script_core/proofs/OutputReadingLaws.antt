@@ -25,7 +25,7 @@ use Rattle.script_core.specs.ReportReading.{AreTextsOf, AreReportLines, lines_fr
 use Rattle.script_core.specs.JournalReading.{Legal, JournalReading, JournalGives, IsBeforeReport, IsReportAt, IsWholeReport, AreLegal, rules_at, limits_at, reading_behind}
 use Rattle.script_core.specs.Output.{processes_in}
 use Rattle.script_core.specs.OutputReading.{OutputsAreLegal}
-use Rattle.script_core.proofs.ProcessLemmas.{few_read}
+use Rattle.script_core.proofs.lengths.ArrivalLengthLemmas.{few_read}
 use Rattle.script_core.proofs.EntryRoundTripLemmas.{entry_reads_back, all_first, all_later}
 use Rattle.script_core.proofs.CommentLaws.{InLine, lines_first}
 use Rattle.script_core.proofs.JournalBackLemmas.{line_of_entry, legal_front}
@@ -122,7 +122,7 @@ entries_give number reading (event ∷ events) texts before none writable legal 
 
 -- ---- an output
 
-small_limit : (limits : Limits) → process_limit limits ≤ 64
+pub small_limit : (limits : Limits) → process_limit limits ≤ 64
 small_limit Small = lit≤ tt
 small_limit Wide = lit≤ tt
 

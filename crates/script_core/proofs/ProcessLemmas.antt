@@ -1,5 +1,5 @@
--- The arrivals of a script: they are of its processes, and no more than its lines.
-use Rattle.std.proofs.Common.{ℕ, ◌≡◌, ◌≤◌, ap, arith, length-append, refl, sym, subst, Bool, true, false, List, [], ◌∷◌, inl, inr, Option, Some, None, MatchOption, Result, Ok, Err, All}
+-- The arrivals of a script: each is of one of its processes, and is said by the words of its line.
+use Rattle.std.proofs.Common.{ℕ, ◌≡◌, ap, refl, sym, subst, Bool, true, false, List, [], ◌∷◌, inl, inr, Option, Some, None, MatchOption, Result, Ok, Err, All}
 use Rattle.std.proofs.lemmas.List.Elements.{All-push, All-nil, All-weaker}
 use Rattle.fd_table.specs.declared.Limits.{Limits}
 use Rattle.fd_table.specs.declared.Limits.TheVariants.{Small}
@@ -9,15 +9,11 @@ use Rattle.script_core.specs.declared.line.Line.TheVariants as lines
 use Rattle.script_core.specs.declared.script.Cause.{Cause}
 use Rattle.script_core.specs.declared.script.Cause.TheVariants.{Byte, Process, TooLong, Word}
 use Rattle.script_core.specs.declared.script.ScriptFault.{ScriptFault}
-use Rattle.script_core.specs.ScriptText.{Meaning, IsProcess, IsWritable}
+use Rattle.script_core.specs.ScriptText.{Meaning, IsProcess, IsWritable, IsRequest}
 use Rattle.script_core.specs.Reading.{Reading, start, limits_of, meaning_of, reading_after, is_comment, is_empty, says_policy, says_limits, ArgumentsGive, CommandGives, RequestGives, ArrivalGives, PolicyGives, LimitsGive, ProcessGives, WordsGive, LineGives, LinesGive, Reads}
 use Rattle.script_core.specs.Arguments.{Command, command_named, has_count}
-use Rattle.script_core.specs.Words.{words_of, is_printable, lines_of, without_empty_end, line_limit, script_limit}
-use Rattle.std.specs.List.{slice_split}
-use Rattle.std.proofs.lemmas.Bool.{ltb-false}
-use Rattle.std.proofs.lemmas.List.Sums.{count_by-le-length}
-use Rattle.std.proofs.lemmas.List.Splits.{length-slice_split}
-use Rattle.std.specs.Prelude.{nat_lt, length, MatchBool, ◌+◌, ◌==◌, ◌&&◌, codes, bytes_eq, is_none}
+use Rattle.script_core.specs.Words.{words_of, is_printable, lines_of, line_limit, script_limit}
+use Rattle.std.specs.Prelude.{nat_lt, length, MatchBool, ◌+◌, ◌&&◌, codes, decimal, bytes_eq, is_none}
 
 -- the arrival is of a process that the limits have, and its request is one that they have
 abbrev pub IsArrivalOf : Limits → ℕ × Request → Type 0
@@ -27,16 +23,24 @@ IsArrivalOf limits arrival = IsProcess limits arrival.0 × IsWritable limits arr
 abbrev AreOfLimits : Reading → Type 0
 AreOfLimits reading = All (IsArrivalOf (limits_of reading)) reading.arrivals
 
--- what a line says keeps it so: limits are said before all arrivals
-Keeps : Reading → Result Line Cause → Type 0
-Keeps reading (Ok lines.Skipped) = Unit {0}
-Keeps reading (Ok (lines.Policy policy)) = Unit {0}
-Keeps reading (Ok (lines.Limits limits)) = reading.arrivals ≡ []
-Keeps reading (Ok (lines.Arrival p request)) = IsArrivalOf (limits_of reading) (p, request)
-Keeps reading (Err cause) = Unit {0}
+-- the words say this arrival: its process, and then its request
+pub record SayArrival (limits : Limits) (words : List (List ℕ)) (p : ℕ) (request : Request) : Type 0 where
+  pub process : IsProcess limits p
+  pub rest : List (List ℕ)
+  pub are : words ≡ decimal p ∷ rest
+  pub is_request : IsRequest limits rest request
 
-keeps_by : (reading : Reading) (expected result : Result Line Cause) → Keeps reading expected → result ≡ expected → Keeps reading result
-keeps_by reading expected result is e = subst (Keeps reading) (sym e) is
+-- what the words of a line say keeps it so: limits are said before all arrivals
+Keeps : Reading → List (List ℕ) → Result Line Cause → Type 0
+Keeps reading words (Ok lines.Skipped) = Unit {0}
+Keeps reading words (Ok (lines.Policy policy)) = Unit {0}
+Keeps reading words (Ok (lines.Limits limits)) = reading.arrivals ≡ []
+Keeps reading words (Ok (lines.Arrival p request)) = SayArrival (limits_of reading) words p request
+Keeps reading words (Err cause) = Unit {0}
+
+keeps_by : (reading : Reading) (words : List (List ℕ)) (expected result : Result Line Cause) → Keeps reading words expected → result ≡ expected
+    → Keeps reading words result
+keeps_by reading words expected result is e = subst (Keeps reading words) (sym e) is
 
 -- read as this request
 abbrev read_as : Request → Result Request Cause
@@ -47,45 +51,55 @@ join_by : (test : Bool) (P Q R : Type 0) → (test ≡ true → P → R) → (Q 
 join_by true P Q R f g h = f refl h
 join_by false P Q R f g h = g h
 
--- words that are read as a request have numbers of the limits
+-- words that are read as a request are one of the limits
 of_arguments : (limits : Limits) (words : List (List ℕ)) (command : Command) (arguments : List (List ℕ)) (request : Request)
-    → ArgumentsGive limits words command arguments (Ok request) → IsWritable limits request
+    → ArgumentsGive limits words command arguments (Ok request) → IsRequest limits words request
 of_arguments limits words command arguments request (inl fault) = absurd (cc)
 of_arguments limits words command arguments request (inr given) =
-    let same : given.0 ≡ request = cc in subst (IsWritable limits) same given.1.writable
+    let same : given.0 ≡ request = cc in subst (IsRequest limits words) same given.1
 
 of_command : (limits : Limits) (words : List (List ℕ)) (arguments : List (List ℕ)) (request : Request) (command : Option Command)
-    → MatchOption command (read_as request ≡ Err Word) (λ command. CommandGives limits words command arguments (Ok request)) → IsWritable limits request
+    → MatchOption command (read_as request ≡ Err Word) (λ command. CommandGives limits words command arguments (Ok request))
+    → IsRequest limits words request
 of_command limits words arguments request None gives = absurd (cc)
 of_command limits words arguments request (Some command) gives =
-    join_by (has_count command (length arguments)) _ _ (IsWritable limits request) (λ e. of_arguments limits words command arguments request)
+    join_by (has_count command (length arguments)) _ _ (IsRequest limits words request) (λ e. of_arguments limits words command arguments request)
     (λ bad. absurd (cc)) gives
 
-of_request : (limits : Limits) (words : List (List ℕ)) (request : Request) → RequestGives limits words (Ok request) → IsWritable limits request
+of_request : (limits : Limits) (words : List (List ℕ)) (request : Request) → RequestGives limits words (Ok request) → IsRequest limits words request
 of_request limits [] request gives = absurd (cc)
 of_request limits (name ∷ arguments) request gives = of_command limits (name ∷ arguments) arguments request (command_named limits name) gives
 
-keeps_arrival : (reading : Reading) (p : ℕ) (words : List (List ℕ)) (next : Result Request Cause) (result : Result Line Cause) → IsProcess (limits_of reading) p
-    → RequestGives (limits_of reading) words next → ArrivalGives p next result → Keeps reading result
+keeps_arrival : (reading : Reading) (p : ℕ) (first : List ℕ) (rest : List (List ℕ)) (next : Result Request Cause) (result : Result Line Cause)
+    → IsProcess (limits_of reading) p → first ≡ decimal p → RequestGives (limits_of reading) rest next → ArrivalGives p next result
+    → Keeps reading (first ∷ rest) result
 unfolding Keeps
-keeps_arrival reading p words (Ok request) result process gives is =
-    keeps_by reading (Ok (lines.Arrival p request)) result (process, of_request (limits_of reading) words request gives) is
-keeps_arrival reading p words (Err cause) result process gives is = keeps_by reading (Err cause) result tt is
+keeps_arrival reading p first rest (Ok request) result process is gives said =
+    keeps_by reading (first ∷ rest) (Ok (lines.Arrival p request)) result (record {
+      process = process;
+      rest = rest;
+      are = ap (λ (word : List ℕ). word ∷ rest) is;
+      is_request = of_request (limits_of reading) rest request gives;
+    }) said
+keeps_arrival reading p first rest (Err cause) result process is gives said = keeps_by reading (first ∷ rest) (Err cause) result tt said
 
-keeps_process : (reading : Reading) (first : List ℕ) (rest : List (List ℕ)) (result : Result Line Cause) → ProcessGives (limits_of reading) first rest result → Keeps reading result
+keeps_process : (reading : Reading) (first : List ℕ) (rest : List (List ℕ)) (result : Result Line Cause) → ProcessGives (limits_of reading) first rest result
+    → Keeps reading (first ∷ rest) result
 unfolding Keeps
-keeps_process reading first rest result (inl arrival) = keeps_arrival reading arrival.0 rest arrival.3 result arrival.1 arrival.4 arrival.5
-keeps_process reading first rest result (inr fault) = keeps_by reading (Err Process) result tt fault.1
+keeps_process reading first rest result (inl arrival) =
+    keeps_arrival reading arrival.0 first rest arrival.3 result arrival.1 arrival.2 arrival.4 arrival.5
+keeps_process reading first rest result (inr fault) = keeps_by reading (first ∷ rest) (Err Process) result tt fault.1
 
-keeps_policy : (reading : Reading) (rest : List (List ℕ)) (result : Result Line Cause) → PolicyGives rest result → Keeps reading result
+keeps_policy : (reading : Reading) (words rest : List (List ℕ)) (result : Result Line Cause) → PolicyGives rest result → Keeps reading words result
 unfolding Keeps
-keeps_policy reading rest result (inl fault) = keeps_by reading (Err fault.0) result tt fault.2
-keeps_policy reading rest result (inr policy) = keeps_by reading (Ok (lines.Policy policy.0)) result tt policy.2
+keeps_policy reading words rest result (inl fault) = keeps_by reading words (Err fault.0) result tt fault.2
+keeps_policy reading words rest result (inr policy) = keeps_by reading words (Ok (lines.Policy policy.0)) result tt policy.2
 
-keeps_limits : (reading : Reading) (rest : List (List ℕ)) (result : Result Line Cause) → reading.arrivals ≡ [] → LimitsGive rest result → Keeps reading result
+keeps_limits : (reading : Reading) (words rest : List (List ℕ)) (result : Result Line Cause) → reading.arrivals ≡ [] → LimitsGive rest result
+    → Keeps reading words result
 unfolding Keeps
-keeps_limits reading rest result none (inl fault) = keeps_by reading (Err fault.0) result tt fault.2
-keeps_limits reading rest result none (inr limits) = keeps_by reading (Ok (lines.Limits limits.0)) result none limits.2
+keeps_limits reading words rest result none (inl fault) = keeps_by reading words (Err fault.0) result tt fault.2
+keeps_limits reading words rest result none (inr limits) = keeps_by reading words (Ok (lines.Limits limits.0)) result none limits.2
 
 empty_is : (arrivals : List (ℕ × Request)) → is_empty arrivals ≡ true → arrivals ≡ []
 empty_is [] e = refl
@@ -100,38 +114,49 @@ before_arrivals : (reading : Reading) (first : List ℕ) → says_limits reading
 before_arrivals reading first says =
     empty_is reading.arrivals (last_of_three (bytes_eq first (codes "limits")) (is_none reading.limits) (is_empty reading.arrivals) says)
 
-keeps_words : (reading : Reading) (words : List (List ℕ)) (result : Result Line Cause) → WordsGive reading words result → Keeps reading result
+keeps_words : (reading : Reading) (words : List (List ℕ)) (result : Result Line Cause) → WordsGive reading words result → Keeps reading words result
 unfolding Keeps
-keeps_words reading [] result gives = keeps_by reading (Ok lines.Skipped) result tt gives
+keeps_words reading [] result gives = keeps_by reading [] (Ok lines.Skipped) result tt gives
 keeps_words reading (first ∷ rest) result gives =
-    join_by (is_comment first) _ _ (Keeps reading result) (λ e. keeps_by reading (Ok lines.Skipped) result tt)
-    (join_by (says_policy reading first) _ _ (Keeps reading result) (λ e. keeps_policy reading rest result)
-    (join_by (says_limits reading first) _ _ (Keeps reading result) (λ e. keeps_limits reading rest result (before_arrivals reading first e)) (keeps_process reading first rest result)))
+    let words = first ∷ rest in
+    join_by (is_comment first) _ _ (Keeps reading words result) (λ e. keeps_by reading words (Ok lines.Skipped) result tt)
+    (join_by (says_policy reading first) _ _ (Keeps reading words result) (λ e. keeps_policy reading words rest result)
+    (join_by (says_limits reading first) _ _ (Keeps reading words result)
+    (λ e. keeps_limits reading words rest result (before_arrivals reading first e)) (keeps_process reading first rest result)))
     gives
 
-keeps_line : (reading : Reading) (line : List ℕ) (result : Result Line Cause) → LineGives reading line result → Keeps reading result
+keeps_line : (reading : Reading) (line : List ℕ) (result : Result Line Cause) → LineGives reading line result → Keeps reading (words_of line) result
 unfolding Keeps
 keeps_line reading line result gives =
-    join_by (nat_lt line_limit (length line)) _ _ (Keeps reading result) (λ e. keeps_by reading (Err TooLong) result tt)
-    (join_by (is_printable line) _ _ (Keeps reading result) (λ e. keeps_words reading (words_of line) result) (keeps_by reading (Err Byte) result tt)) gives
+    join_by (nat_lt line_limit (length line)) _ _ (Keeps reading (words_of line) result) (λ e. keeps_by reading (words_of line) (Err TooLong) result tt)
+    (join_by (is_printable line) _ _ (Keeps reading (words_of line) result) (λ e. keeps_words reading (words_of line) result)
+    (keeps_by reading (words_of line) (Err Byte) result tt)) gives
+
+-- the words of a line that is an arrival say it
+pub arrival_said : (reading : Reading) (line : List ℕ) (p : ℕ) (request : Request) → LineGives reading line (Ok (lines.Arrival p request))
+    → SayArrival (limits_of reading) (words_of line) p request
+unfolding Keeps
+arrival_said reading line p request gives = keeps_line reading line (Ok (lines.Arrival p request)) gives
 
 -- no arrivals are of processes under any limits
 none_yet : (limits : Limits) (arrivals : List (ℕ × Request)) → arrivals ≡ [] → All (IsArrivalOf limits) arrivals
 none_yet limits arrivals e = subst (All (IsArrivalOf limits)) (sym e) (All-nil (IsArrivalOf limits))
 
-kept : (reading : Reading) (said : Line) → Keeps reading (Ok said) → AreOfLimits reading → AreOfLimits (reading_after reading said)
+kept : (reading : Reading) (words : List (List ℕ)) (said : Line) → Keeps reading words (Ok said) → AreOfLimits reading
+    → AreOfLimits (reading_after reading said)
 unfolding Keeps
-kept reading lines.Skipped is before = before
-kept reading (lines.Policy policy) is before = before
-kept reading (lines.Limits limits) is before = none_yet limits reading.arrivals is
-kept reading (lines.Arrival p request) is before = All-push (IsArrivalOf (limits_of reading)) reading.arrivals (p, request) before is
+kept reading words lines.Skipped is before = before
+kept reading words (lines.Policy policy) is before = before
+kept reading words (lines.Limits limits) is before = none_yet limits reading.arrivals is
+kept reading words (lines.Arrival p request) is before =
+    All-push (IsArrivalOf (limits_of reading)) reading.arrivals (p, request) before (is.process, is.is_request.writable)
 
 -- a script that is accepted
-abbrev accepted : Meaning → Result Meaning ScriptFault
+abbrev pub accepted : Meaning → Result Meaning ScriptFault
 accepted meaning = Ok meaning
 
 -- two meanings that are both accepted are the same
-success : (meaning other : Meaning) → accepted meaning ≡ accepted other → meaning ≡ other
+pub success : (meaning other : Meaning) → accepted meaning ≡ accepted other → meaning ≡ other
 success meaning other e = cc
 
 of_lines : (number : ℕ) (reading : Reading) (lines : List (List ℕ)) (meaning : Meaning) → AreOfLimits reading → LinesGive number reading lines (Ok meaning)
@@ -139,7 +164,7 @@ of_lines : (number : ℕ) (reading : Reading) (lines : List (List ℕ)) (meaning
 of_lines number reading [] meaning before gives =
     subst (λ (m : Meaning). All (IsArrivalOf m.rules.limits) m.arrivals) (sym (success meaning (meaning_of reading) gives)) before
 of_lines number reading (line ∷ rest) meaning before (Ok said, gives, more) =
-    of_lines (number + 1) (reading_after reading said) rest meaning (kept reading said (keeps_line reading line (Ok said) gives) before) more
+    of_lines (number + 1) (reading_after reading said) rest meaning (kept reading (words_of line) said (keeps_line reading line (Ok said) gives) before) more
 of_lines number reading (line ∷ rest) meaning before (Err cause, gives, refused) = absurd (cc)
 
 -- the arrivals of an accepted script are of its limits
@@ -151,42 +176,3 @@ arrivals_read bytes meaning reads =
 pub processes_read : (bytes : List ℕ) (meaning : Meaning) → Reads bytes (Ok meaning) → All (λ arrival. IsProcess meaning.rules.limits arrival.0) meaning.arrivals
 processes_read bytes meaning reads =
     All-weaker (IsArrivalOf meaning.rules.limits) (λ arrival. IsProcess meaning.rules.limits arrival.0) (λ arrival is. is.0) meaning.arrivals (arrivals_read bytes meaning reads)
-
--- a line is one arrival at most
-grows : (reading : Reading) (said : Line) → length (reading_after reading said).arrivals ≤ length reading.arrivals + 1
-grows reading lines.Skipped = omega arith
-grows reading (lines.Policy policy) = omega arith
-grows reading (lines.Limits limits) = omega arith
-grows reading (lines.Arrival p request) = omega (arith, length-append reading.arrivals ((p, request) ∷ []))
-
-few_in : (number : ℕ) (reading : Reading) (lines : List (List ℕ)) (meaning : Meaning) → LinesGive number reading lines (Ok meaning)
-    → length meaning.arrivals ≤ length reading.arrivals + length lines
-few_in number reading [] meaning gives =
-    let same : length meaning.arrivals ≡ length reading.arrivals = ap (λ (m : Meaning). length m.arrivals) (success meaning (meaning_of reading) gives) in omega (arith, same)
-few_in number reading (line ∷ rest) meaning (Ok said, gives, more) =
-    let later = few_in (number + 1) (reading_after reading said) rest meaning more in
-    let one = grows reading said in omega (arith, later, one)
-few_in number reading (line ∷ rest) meaning (Err cause, gives, refused) = absurd (cc)
-
-fewer_lines : (pieces : List (List ℕ)) → length (without_empty_end pieces) ≤ length pieces
-fewer_lines [] = omega arith
-fewer_lines ([] ∷ []) = omega arith
-fewer_lines ((byte ∷ bytes) ∷ []) = omega arith
-fewer_lines ([] ∷ next ∷ pieces) = let rest = fewer_lines (next ∷ pieces) in omega (arith, rest)
-fewer_lines ((byte ∷ bytes) ∷ next ∷ pieces) = let rest = fewer_lines (next ∷ pieces) in omega (arith, rest)
-
-few_by_length : (bytes : List ℕ) (meaning : Meaning) (long : Bool) → nat_lt script_limit (length bytes) ≡ long
-    → MatchBool long (accepted meaning ≡ Err (record { line = 0; cause = TooLong })) (LinesGive 1 start (lines_of bytes) (Ok meaning))
-    → length meaning.arrivals ≤ script_limit + 1
-few_by_length bytes meaning true is refused = absurd (cc)
-few_by_length bytes meaning false is given =
-    let short : length bytes ≤ script_limit = ltb-false script_limit (length bytes) is in
-    let lines = few_in 1 start (lines_of bytes) meaning given in
-    let pieces = fewer_lines (slice_split (λ byte. byte == 10) bytes) in
-    let feeds = count_by-le-length (λ byte. byte == 10) bytes in
-    let split = length-slice_split (λ byte. byte == 10) bytes in
-    omega (arith, short, lines, pieces, feeds, split)
-
--- the arrivals of an accepted script are no more than its lines, and those no more than its bytes and one
-pub few_read : (bytes : List ℕ) (meaning : Meaning) → Reads bytes (Ok meaning) → length meaning.arrivals ≤ script_limit + 1
-few_read bytes meaning reads = few_by_length bytes meaning (nat_lt script_limit (length bytes)) refl reads

@@ -39,7 +39,7 @@ use Rattle.script_core.specs.Words.{words_of, is_printable, script_limit}
 use Rattle.script_core.specs.RequestText.{mode_word}
 use Rattle.script_core.specs.EntryText.{tag}
 use Rattle.script_core.specs.EntryReading.{entry_limit, IsWritableEvent}
-use Rattle.script_core.specs.ReportText.{owner_text, flock_word, byte_lock_text, flock_text, held_text, wanted_text, wait_text, state_word, counts_text, process_text}
+use Rattle.script_core.specs.ReportText.{owner_text, flock_word, byte_lock_text, flock_text, held_text, wanted_text, wait_text, state_word, counts_text, process_text, line_of}
 use Rattle.script_core.specs.ReportReading.{IsLineOf, AreTextsOf, AreReportLines, AreSmall, lines_from}
 use Rattle.script_core.specs.JournalReading.{HeadGives, JournalLineGives}
 use Rattle.script_core.proofs.RoundTripLemmas.{IsWord, IsWord-tested, IsWord-decimal}
@@ -51,11 +51,11 @@ use Rattle.script_core.proofs.OutcomeFitLemmas.{both_true, mode_fits}
 -- ---- the locks that are held
 
 -- the line is of a file that there is, of such an owner, and within the file
-record FitsHeld (held : Held) : Type 0 where
-  file : held.file < 64
-  owner : IsSmallOwner held.owner
-  first : held.span.first ≤ OFFMAX
-  last : held.span.last ≤ OFFMAX
+pub record FitsHeld (held : Held) : Type 0 where
+  pub file : held.file < 64
+  pub owner : IsSmallOwner held.owner
+  pub first : held.span.first ≤ OFFMAX
+  pub last : held.span.last ≤ OFFMAX
 
 -- a flock mode that is held was set by a change of that description
 flock_fits : (changes : List FlockChange) (before : Option Mode) (file description : ℕ) (mode : Mode) → Each FitsFlock changes
@@ -112,7 +112,7 @@ files_fit S file (suc more) report few locks (first, rest, is, one, others) =
     subst (Each FitsHeld) (sym is)
     (each_append FitsHeld first rest (file_fits S file first (omega (arith, few)) locks one) (files_fit S (file + 1) more rest (omega (arith, few)) locks others))
 
-held_fit : (S : State) (held : List Held) → FitsLocks S → IsHeldReport (mode_in S.changes) (flock_mode_in S.flock_changes) held → Each FitsHeld held
+pub held_fit : (S : State) (held : List Held) → FitsLocks S → IsHeldReport (mode_in S.changes) (flock_mode_in S.flock_changes) held → Each FitsHeld held
 unfolding IsHeldReport
 held_fit S held locks is = files_fit S 0 64 held (omega arith) locks is
 
@@ -147,7 +147,8 @@ each_filtered P test (x ∷ xs) all =
       | false ↦ each_filtered P test xs all.1
     ]
 
-taken_few : (events : List Event) (p : ℕ) → AreNumbered events → Each (λ event. event.n ≤ script_limit + 1) events → length (events_of p events) ≤ script_limit + 1
+pub taken_few : (events : List Event) (p : ℕ) → AreNumbered events → Each (λ event. event.n ≤ script_limit + 1) events
+    → length (events_of p events) ≤ script_limit + 1
 taken_few events p numbered small =
     let few = numbered_few 0 (script_limit + 1) (events_of p events) (omega arith) (λ k. plain (slice_get (events_of p events) k) k (numbered p k))
     (each_filtered (λ (event : Event). event.n ≤ script_limit + 1) (λ event. event.p == p) events small) in
@@ -244,9 +245,9 @@ sent_small arrivals few p = let less = sent_few p arrivals in omega (arith, few,
 -- ---- texts
 
 -- the text has bytes of words and spaces, and no more than so many
-record Said (k : ℕ) (text : List ℕ) : Type 0 where
-  spoken : AreSpoken text
-  short : length text ≤ k
+pub record Said (k : ℕ) (text : List ℕ) : Type 0 where
+  pub spoken : AreSpoken text
+  pub short : length text ≤ k
 
 both : {a b : ℕ} (x y : List ℕ) → Said a x → Said b y → Said (a + b) (x ++ y)
 both x y h k =
@@ -317,32 +318,53 @@ of_word word rest text is word_is head few said =
           rw (le-ltb entry_limit (length text) (omega (arith, short, few)), printable) (Ok (Some lines.Report), heads, refl);
     }
 
+said_flock_line : (held : Held) → FitsHeld held → Said 62 (codes "flock " ++ decimal held.file ++ codes " " ++ flock_text held.owner held.mode)
+said_flock_line held fits =
+    let file = fits.file in
+    spaced (codes "flock " ++ decimal held.file) (flock_text held.owner held.mode)
+    (both (codes "flock ") (decimal held.file) (given 6 (codes "flock ") refl (lit≤ tt)) (number held.file (omega (arith, file))))
+    (said_flock held.owner held.mode fits.owner)
+
+said_lock_line : (held : Held) → FitsHeld held → Said 102 (codes "lock " ++ byte_lock_text held.file held.owner held.mode held.span)
+said_lock_line held fits =
+    both (codes "lock ") (byte_lock_text held.file held.owner held.mode held.span) (given 5 (codes "lock ") refl (lit≤ tt))
+    (said_byte_lock held.file held.owner held.mode held.span fits.file fits.owner fits.first fits.last)
+
 held_reads : (held : Held) → FitsHeld held → IsReportText (held_text held)
 held_reads held fits =
     elim held.whole as
     (λ b. IsReportText (if b then codes "flock " ++ decimal held.file ++ codes " " ++ flock_text held.owner held.mode
     else codes "lock " ++ byte_lock_text held.file held.owner held.mode held.span)) [
       | true ↦
-          let file = fits.file in
           let text = codes "flock " ++ decimal held.file ++ codes " " ++ flock_text held.owner held.mode in
-          of_word (codes "flock") (decimal held.file ++ codes " " ++ flock_text held.owner held.mode) text refl (IsWord-tested (codes "flock") refl) (λ place words. refl) (lit≤ tt)
-          (spaced (codes "flock " ++ decimal held.file) (flock_text held.owner held.mode)
-          (both (codes "flock ") (decimal held.file) (given 6 (codes "flock ") refl (lit≤ tt)) (number held.file (omega (arith, file))))
-          (said_flock held.owner held.mode fits.owner))
+          of_word (codes "flock") (decimal held.file ++ codes " " ++ flock_text held.owner held.mode) text refl (IsWord-tested (codes "flock") refl)
+          (λ place words. refl) (lit≤ tt) (said_flock_line held fits)
       | false ↦
           let text = byte_lock_text held.file held.owner held.mode held.span in
           of_word (codes "lock") text (codes "lock " ++ text) refl (IsWord-tested (codes "lock") refl) (λ place words. refl) (lit≤ tt)
-          (both (codes "lock ") text (given 5 (codes "lock ") refl (lit≤ tt)) (said_byte_lock held.file held.owner held.mode held.span fits.file fits.owner fits.first fits.last))
+          (said_lock_line held fits)
+    ]
+
+-- the text of a lock that is held is so short
+pub held_short : (held : Held) → FitsHeld held → length (held_text held) ≤ 102
+held_short held fits =
+    let whole = (said_flock_line held fits).short in
+    let bytes = (said_lock_line held fits).short in
+    elim held.whole as
+    (λ b. length (if b then codes "flock " ++ decimal held.file ++ codes " " ++ flock_text held.owner held.mode
+    else codes "lock " ++ byte_lock_text held.file held.owner held.mode held.span) ≤ 102) [
+      | true ↦ omega (arith, whole)
+      | false ↦ bytes
     ]
 
 -- the wait has numbers that its line may have
-record FitsWaitLine (wait : Wait) : Type 0 where
-  p : wait.p < 2 ^ 64
-  n : wait.n < 2 ^ 64
-  file : wait.file < 64
-  owner : IsSmallOwner wait.owner
-  first : wait.span.first ≤ OFFMAX
-  last : wait.span.last ≤ OFFMAX
+pub record FitsWaitLine (wait : Wait) : Type 0 where
+  pub p : wait.p < 2 ^ 64
+  pub n : wait.n < 2 ^ 64
+  pub file : wait.file < 64
+  pub owner : IsSmallOwner wait.owner
+  pub first : wait.span.first ≤ OFFMAX
+  pub last : wait.span.last ≤ OFFMAX
 
 said_wanted : (family : Family) (wait : Wait) → FitsWaitLine wait → Said 97 (wanted_text family wait)
 said_wanted Bytes wait fits = said_byte_lock wait.file wait.owner wait.mode wait.span fits.file fits.owner fits.first fits.last
@@ -357,17 +379,22 @@ said_tag : (p n : ℕ) → p < 2 ^ 64 → n < 2 ^ 64 → Said 41 (tag p n)
 said_tag p n p_small n_small =
     both (decimal p ++ codes "#") (decimal n) (both (decimal p) (codes "#") (number p p_small) (given 1 (codes "#") refl (lit≤ tt))) (number n n_small)
 
+pub said_wait : (wait : Wait) → FitsWaitLine wait → Said 144 (wait_text wait)
+said_wait wait fits =
+    spaced (codes "wait " ++ tag wait.p wait.n) (wanted_text wait.family wait)
+    (both (codes "wait ") (tag wait.p wait.n) (given 5 (codes "wait ") refl (lit≤ tt)) (said_tag wait.p wait.n fits.p fits.n))
+    (said_wanted wait.family wait fits)
+
 wait_reads : (wait : Wait) → FitsWaitLine wait → IsReportText (wait_text wait)
 wait_reads wait fits =
     of_word (codes "wait") (tag wait.p wait.n ++ codes " " ++ wanted_text wait.family wait) (wait_text wait) refl (IsWord-tested (codes "wait") refl) (λ place words. refl) (lit≤ tt)
-    (spaced (codes "wait " ++ tag wait.p wait.n) (wanted_text wait.family wait)
-    (both (codes "wait ") (tag wait.p wait.n) (given 5 (codes "wait ") refl (lit≤ tt)) (said_tag wait.p wait.n fits.p fits.n)) (said_wanted wait.family wait fits))
+    (said_wait wait fits)
 
 -- so does a process
-record FitsProcessLine (told : ProcessLine) : Type 0 where
-  p : told.p < 2 ^ 64
-  taken : told.taken < 2 ^ 64
-  answered : told.answered < 2 ^ 64
+pub record FitsProcessLine (told : ProcessLine) : Type 0 where
+  pub p : told.p < 2 ^ 64
+  pub taken : told.taken < 2 ^ 64
+  pub answered : told.answered < 2 ^ 64
 
 said_counts : (told : ProcessLine) → told.sent < 2 ^ 64 → FitsProcessLine told → Said 82 (counts_text told)
 said_counts told sent fits =
@@ -378,13 +405,17 @@ said_counts told sent fits =
     (both (codes "sent ") (decimal told.sent) (given 5 (codes "sent ") refl (lit≤ tt)) (number told.sent sent)) (given 7 (codes " taken ") refl (lit≤ tt)))
     (number told.taken fits.taken)) (given 10 (codes " answered ") refl (lit≤ tt))) (number told.answered fits.answered) in is
 
+pub said_process : (told : ProcessLine) → told.sent < 2 ^ 64 → FitsProcessLine told → Said 116 (process_text told)
+said_process told sent fits =
+    spaced (codes "proc " ++ decimal told.p ++ codes " " ++ counts_text told) (state_word told.state)
+    (spaced (codes "proc " ++ decimal told.p) (counts_text told)
+    (both (codes "proc ") (decimal told.p) (given 5 (codes "proc ") refl (lit≤ tt)) (number told.p fits.p)) (said_counts told sent fits))
+    (said_state told.state)
+
 process_reads : (told : ProcessLine) → told.sent < 2 ^ 64 → FitsProcessLine told → IsReportText (process_text told)
 process_reads told sent fits =
     of_word (codes "proc") (decimal told.p ++ codes " " ++ counts_text told ++ codes " " ++ state_word told.state) (process_text told) refl
-    (IsWord-tested (codes "proc") refl) (λ place words. refl) (lit≤ tt)
-    (spaced (codes "proc " ++ decimal told.p ++ codes " " ++ counts_text told) (state_word told.state)
-    (spaced (codes "proc " ++ decimal told.p) (counts_text told)
-    (both (codes "proc ") (decimal told.p) (given 5 (codes "proc ") refl (lit≤ tt)) (number told.p fits.p)) (said_counts told sent fits)) (said_state told.state))
+    (IsWord-tested (codes "proc") refl) (λ place words. refl) (lit≤ tt) (said_process told sent fits)
 
 -- ---- the report
 
@@ -410,19 +441,25 @@ each_of : {X : Type 0} (P : X → Type 0) (line : X → ReportLine) (xs : List X
 each_of P line [] f all = tt
 each_of P line (x ∷ xs) f all = (f x all.0, each_of P line xs f all.1)
 
+-- the counts of each process are such numbers, whatever it sent
+pub process_fits : (limits : Limits) (states : ℕ → ProcState) (events : List Event) (sent : ℕ → ℕ) (p : ℕ) → p ≤ 64 → Each (IsWritableEvent limits) events
+    → ((q : ℕ) → length (events_of q events) ≤ script_limit + 1) → FitsProcessLine (line_of states events sent p)
+process_fits limits states events sent p few writable counts =
+    let taken = counts p in
+    let answered = few_answers limits p 1 events writable in
+    let all = few_events limits events writable counts in
+    record { p = omega (arith, few); taken = omega (arith, taken); answered = omega (arith, answered, all) }
+
 processes_fit : (limits : Limits) (states : ℕ → ProcState) (events : List Event) (p more : ℕ) → p + more ≤ 65 → Each (IsWritableEvent limits) events
     → ((q : ℕ) → length (events_of q events) ≤ script_limit + 1) → Each FitsLine (lines_from states events p more)
 unfolding lines_from FitsLine
 processes_fit limits states events p zero few writable counts = tt
-processes_fit limits states events p (suc more) few writable counts =
-    let taken = counts p in
-    let answered = few_answers limits p 1 events writable in
-    let all = few_events limits events writable counts in (
-      record { p = omega (arith, few); taken = omega (arith, taken); answered = omega (arith, answered, all) },
-      processes_fit limits states events (p + 1) more (omega (arith, few)) writable counts,
-    )
+processes_fit limits states events p (suc more) few writable counts = (
+  process_fits limits states events (λ q. length (events_of q events)) p (omega (arith, few)) writable counts,
+  processes_fit limits states events (p + 1) more (omega (arith, few)) writable counts,
+)
 
-wait_line_fits : (limits : Limits) (states : ℕ → ProcState) (wait : Wait) → FitsWait limits states wait → FitsWaitLine wait
+pub wait_line_fits : (limits : Limits) (states : ℕ → ProcState) (wait : Wait) → FitsWait limits states wait → FitsWaitLine wait
 wait_line_fits limits states wait is =
     let few = few_processes limits wait.p is.process in
     let wanted = is.wanted in

@@ -16,7 +16,8 @@ use Rattle.session_core.specs.Draining.{TakesMail, DrainsFrom}
 use Rattle.script_core.specs.Words.{script_limit}
 use Rattle.script_core.specs.EntryReading.{IsWritableNote, IsWritableEvent}
 use Rattle.script_core.specs.Output.{IsOutput, processes_in}
-use Rattle.script_core.proofs.ProcessLemmas.{IsArrivalOf, arrivals_read, few_read}
+use Rattle.script_core.proofs.ProcessLemmas.{IsArrivalOf, arrivals_read}
+use Rattle.script_core.proofs.lengths.ArrivalLengthLemmas.{few_read}
 use Rattle.script_core.proofs.FitLemmas.{Fits, each_append, settles_fit, settles_settled, nothing_granted}
 use Rattle.script_core.proofs.OutcomeFitLemmas.{request_fits}
 

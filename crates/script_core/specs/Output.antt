@@ -1,5 +1,5 @@
 -- The output of a script (this project's choice).
-use Rattle.std.specs.Prelude.{◌≡◌, ℕ, Ok, List, ◌++◌, length, flat_map}
+use Rattle.std.specs.Prelude.{◌≡◌, ℕ, ◌≤◌, Ok, List, ◌++◌, length, flat_map}
 use Rattle.fd_table.specs.Descriptors.{process_limit}
 use Rattle.lock_manager.specs.State.{State}
 use Rattle.session_core.specs.Event.{Event}
@@ -40,3 +40,12 @@ pub record IsOutput (bytes text : List ℕ) : Type 0 where
 -- two outputs of the same bytes are equal
 abbrev pub ScriptsHaveOneOutput : Type 0
 ScriptsHaveOneOutput = (bytes text other : List ℕ) → IsOutput bytes text → IsOutput bytes other → text ≡ other
+
+-- how many bytes an output has at most: an arrival has 7 bytes of a script or more, and takes 420 of the output beside its own words; a
+-- journal may have 67108864, so header lines may stand before it there
+abbrev pub output_limit : ℕ
+output_limit = 64000000
+
+-- no output has more
+abbrev pub OutputsAreShort : Type 0
+OutputsAreShort = (bytes text : List ℕ) → IsOutput bytes text → length text ≤ output_limit

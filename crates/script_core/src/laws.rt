@@ -2,7 +2,7 @@
 ghost use Rattle.script_core.specs.Explaining.{ExplanationsAreComments};
 ghost use Rattle.script_core.specs.JournalReading.{EntriesAreReadBack, JournalsAreReadBack, JournalsHaveOneEnd, LinesHaveOneMeaning};
 ghost use Rattle.script_core.specs.JournalView.{OneIsTold};
-ghost use Rattle.script_core.specs.Output.{ScriptsHaveOneOutput};
+ghost use Rattle.script_core.specs.Output.{OutputsAreShort, ScriptsHaveOneOutput};
 ghost use Rattle.script_core.specs.OutputReading.{OutputsAreLegal};
 ghost use Rattle.script_core.specs.ReportReading.{ReportsAreReadBack};
 ghost use Rattle.script_core.specs.WithoutHeaders.{HeadersChangeNothingElse};
@@ -61,6 +61,12 @@ pub fn outputs_are_legal()
 {
     locks_have_one_report();
 }
+
+/// An output has at most 64000000 bytes, fewer than a journal may have: an accepted script has few arrivals for its bytes, a request brings
+/// two notes or fewer, and two locks or waits at most are left of it.
+pub fn outputs_are_short()
+    ensures { OutputsAreShort }
+{}
 
 /// What is explained of a script, with whatever states, is its output and lines that begin with `#`: without these it is the output.
 pub fn explanations_are_comments()

@@ -27,8 +27,8 @@ pub use explain::{write_explained, write_unborn};
 pub use journal::{JournalFault, JournalReader};
 pub use laws::{
     explanations_are_comments, headers_change_nothing_else, journals_are_read_back,
-    journals_have_one_end, lines_have_one_answer, outputs_are_legal, reports_are_read_back,
-    scripts_have_one_output,
+    journals_have_one_end, lines_have_one_answer, outputs_are_legal, outputs_are_short,
+    reports_are_read_back, scripts_have_one_output,
 };
 pub use report::{ReportFault, ReportLine, ReportReader};
 pub use script::{Cause, Script, ScriptFault, parse};

@@ -1,5 +1,6 @@
 use Rattle.std.proofs.lemmas.Result.{IfOk-weaker, IfErr-weaker}
-use Rattle.script_core.proofs.ProcessLemmas.{processes_read, few_read}
+use Rattle.script_core.proofs.ProcessLemmas.{processes_read}
+use Rattle.script_core.proofs.lengths.ArrivalLengthLemmas.{few_read}
 use Rattle.script_core.proofs.ScriptLemmas.{reads_from_pieces, at_hand_from_pieces}
 use Rattle.script_core.proofs.script.parse.Goals as goal
 

@@ -1,0 +1,9 @@
+-- That an output is no longer than a journal may be: how many notes, locks and waits there are, and how long their texts.
+pub mod ArrivalLengthLemmas
+pub mod HeldCountLemmas
+pub mod JournalLengthLemmas
+pub mod OutputLengthLaws
+pub mod StartLemmas
+pub mod StateCountLemmas
+pub mod StepCountLemmas
+pub mod TextLengthLemmas

@@ -1,0 +1,202 @@
+-- The arrivals of a script: their lines take no more bytes than it has, and each has seven with its line feed: for `outputs_are_short`.
+use Rattle.std.proofs.Common.{◌≡◌, ℕ, ◌+◌, ◌*◌, ◌≤◌, ◌==◌, Bool, true, false, not, List, [], ◌∷◌, ◌++◌, length, filter, codes, MatchBool, Ok, Err, inl, inr, refl, ap, arith, lit≤}
+use Rattle.std.specs.Prelude.{if◌then◌else◌, nat_lt}
+use Rattle.std.specs.List.{AllByRecursion as Each, slice_split, onto_first}
+use Rattle.std.proofs.lemmas.Bool.{ltb-false}
+use Rattle.std.proofs.lemmas.List.Elements.{recursion_from_All}
+use Rattle.std.proofs.lemmas.List.Splits.{length-slice_split}
+use Rattle.fd_table.specs.declared.Limits.{Limits}
+use Rattle.lock_manager.specs.declared.request.LkCmd.{LkCmd}
+use Rattle.lock_manager.specs.declared.request.LkCmd.TheVariants.{GetLk, SetLk, SetLkW, OGetLk, OSetLk, OSetLkW}
+use Rattle.lock_manager.specs.declared.request.Request.{Request}
+use Rattle.lock_manager.specs.declared.request.Request.TheVariants.{OpenFile, Dup, DupTo, CloseFd, Seek, Resize, Lk, Flock, Fork, Exit, Signal, Kill}
+use Rattle.script_core.specs.declared.line.Line.{Line}
+use Rattle.script_core.specs.declared.line.Line.TheVariants as lines
+use Rattle.script_core.specs.declared.script.Cause.TheVariants.{TooLong}
+use Rattle.script_core.specs.RequestText.{lock_command_word, request_words}
+use Rattle.script_core.specs.ScriptText.{Meaning, IsWritable, Says}
+use Rattle.script_core.specs.Words.{without_empty_end, lines_of, words_of, script_limit}
+use Rattle.script_core.specs.Reading.{Reading, LineGives, LinesGive, Reads, limits_of, meaning_of, reading_after, start}
+use Rattle.script_core.proofs.RoundTripLemmas.{more_length, IsWord-process, IsWord-descriptor}
+use Rattle.script_core.proofs.ProcessLemmas.{IsArrivalOf, accepted, success, arrival_said, arrivals_read}
+
+-- ---- pieces
+
+-- a byte more of the first piece is one more of all
+onto_length : (byte : ℕ) (pieces : List (List ℕ)) → 1 ≤ length pieces → more_length (onto_first byte pieces) ≡ more_length pieces + 1
+unfolding more_length
+onto_length byte [] some = absurd (omega (arith, some))
+onto_length byte (piece ∷ pieces) some = omega arith
+
+-- pieces, each with a byte more, have one more than what was cut
+split_length : (test : ℕ → Bool) (bytes : List ℕ) → more_length (slice_split test bytes) ≡ length bytes + 1
+unfolding more_length
+split_length test [] = omega arith
+split_length test (byte ∷ bytes) =
+    let rest = split_length test bytes in
+    let pieces = length-slice_split test bytes in
+    let more = onto_length byte (slice_split test bytes) (omega (arith, pieces)) in
+    elim (test byte) as (λ b. more_length (if b then [] ∷ slice_split test bytes else onto_first byte (slice_split test bytes)) ≡ length (byte ∷ bytes) + 1) [
+      | true ↦ omega (arith, rest)
+      | false ↦ omega (arith, rest, more)
+    ]
+
+-- some of the words have no more bytes than all
+filter_length : (test : List ℕ → Bool) (words : List (List ℕ)) → more_length (filter test words) ≤ more_length words
+unfolding more_length
+filter_length test [] = omega arith
+filter_length test (word ∷ words) =
+    let rest = filter_length test words in
+    elim (test word) as (λ b. more_length (if b then word ∷ filter test words else filter test words) ≤ more_length (word ∷ words)) [
+      | true ↦ omega (arith, rest)
+      | false ↦ omega (arith, rest)
+    ]
+
+-- nor have the pieces without an empty end
+without_end_length : (pieces : List (List ℕ)) → more_length (without_empty_end pieces) ≤ more_length pieces
+unfolding more_length
+without_end_length [] = omega arith
+without_end_length ([] ∷ []) = omega arith
+without_end_length ((byte ∷ bytes) ∷ []) = omega arith
+without_end_length ([] ∷ next ∷ pieces) = let rest = without_end_length (next ∷ pieces) in omega (arith, rest)
+without_end_length ((byte ∷ bytes) ∷ next ∷ pieces) = let rest = without_end_length (next ∷ pieces) in omega (arith, rest)
+
+-- the words of two lists
+both_length : (words more : List (List ℕ)) → more_length (words ++ more) ≡ more_length words + more_length more
+unfolding more_length
+both_length [] more = omega arith
+both_length (word ∷ words) more = let rest = both_length words more in omega (arith, rest)
+
+-- the words of a line, each with a byte more, have one more than it at most
+words_length : (line : List ℕ) → more_length (words_of line) ≤ length line + 1
+words_length line =
+    let pieces = split_length (λ byte. byte == 32) line in
+    let kept = filter_length (λ word. not (length word == 0)) (slice_split (λ byte. byte == 32) line) in
+    omega (arith, pieces, kept)
+
+-- so have the lines of all bytes
+lines_length : (bytes : List ℕ) → more_length (lines_of bytes) ≤ length bytes + 1
+lines_length bytes =
+    let pieces = split_length (λ byte. byte == 10) bytes in
+    let kept = without_end_length (slice_split (λ byte. byte == 10) bytes) in
+    omega (arith, pieces, kept)
+
+-- ---- a request
+
+-- how many bytes the line of such a request has at least, with its line feed: a digit, and then each word behind its space
+abbrev pub request_length : Request → ℕ
+request_length request = 2 + more_length (request_words request)
+
+-- the word of a lock command has five bytes or more
+command_length : (cmd : LkCmd) → 5 ≤ length (lock_command_word cmd)
+command_length GetLk = lit≤ tt
+command_length SetLk = lit≤ tt
+command_length SetLkW = lit≤ tt
+command_length OGetLk = lit≤ tt
+command_length OSetLk = lit≤ tt
+command_length OSetLkW = lit≤ tt
+
+-- it has seven: none is shorter than that of `1 exit`
+pub seven_bytes : (limits : Limits) (request : Request) → IsWritable limits request → 7 ≤ request_length request
+unfolding more_length
+seven_bytes limits (OpenFile file access) writable = omega arith
+seven_bytes limits (Dup fd) writable = let some = (IsWord-descriptor fd writable).some in omega (arith, some)
+seven_bytes limits (DupTo fd to) writable = omega arith
+seven_bytes limits (CloseFd fd) writable = omega arith
+seven_bytes limits (Seek fd offset) writable = omega arith
+seven_bytes limits (Resize fd size) writable = omega arith
+seven_bytes limits (Lk fd cmd lock) writable = let name = command_length cmd in omega (arith, name)
+seven_bytes limits (Flock fd op nb) writable = omega arith
+seven_bytes limits (Fork child) writable = omega arith
+seven_bytes limits Exit writable = omega arith
+seven_bytes limits (Signal target) writable = omega arith
+seven_bytes limits (Kill target) writable = omega arith
+
+-- words that say it are no shorter than its own
+said_length : (words : List (List ℕ)) (request : Request) → Says words request → more_length (request_words request) ≤ more_length words
+said_length words request (inl are) = let size = ap more_length are in omega (arith, size)
+said_length words request (inr (zero_pid, are)) =
+    let size = ap more_length are in
+    let all = both_length (request_words request) (codes "0" ∷ []) in
+    omega (arith, size, all)
+
+-- the line of an arrival is no shorter than that of its request
+arrival_length : (reading : Reading) (line : List ℕ) (p : ℕ) (request : Request) → LineGives reading line (Ok (lines.Arrival p request))
+    → request_length request ≤ length line + 1
+unfolding more_length
+arrival_length reading line p request gives =
+    let said = arrival_said reading line p request gives in
+    let words = words_length line in
+    let are = ap more_length said.are in
+    let first = (IsWord-process (limits_of reading) p said.process).some in
+    let rest = said_length said.rest request said.is_request.says in
+    omega (arith, words, are, first, rest)
+
+-- ---- a script
+
+-- how many bytes the requests of all these arrivals take
+unfoldable pub arrivals_length : List (ℕ × Request) → ℕ
+arrivals_length [] = 0
+arrivals_length (arrival ∷ arrivals) = request_length arrival.1 + arrivals_length arrivals
+
+-- one arrival more
+one_more_length : (arrivals : List (ℕ × Request)) (p : ℕ) (request : Request)
+    → arrivals_length (arrivals ++ (p, request) ∷ []) ≡ arrivals_length arrivals + request_length request
+unfolding arrivals_length
+one_more_length [] p request = omega arith
+one_more_length (arrival ∷ arrivals) p request = let rest = one_more_length arrivals p request in omega (arith, rest)
+
+-- a line adds no more than its bytes and its line feed
+grows : (reading : Reading) (line : List ℕ) (said : Line) → LineGives reading line (Ok said)
+    → arrivals_length (reading_after reading said).arrivals ≤ arrivals_length reading.arrivals + (length line + 1)
+grows reading line lines.Skipped gives = omega arith
+grows reading line (lines.Policy policy) gives = omega arith
+grows reading line (lines.Limits limits) gives = omega arith
+grows reading line (lines.Arrival p request) gives =
+    let more = one_more_length reading.arrivals p request in
+    let short = arrival_length reading line p request gives in
+    omega (arith, more, short)
+
+-- so do all lines
+in_lines : (number : ℕ) (reading : Reading) (lines : List (List ℕ)) (meaning : Meaning) → LinesGive number reading lines (Ok meaning)
+    → arrivals_length meaning.arrivals ≤ arrivals_length reading.arrivals + more_length lines
+unfolding more_length
+in_lines number reading [] meaning gives =
+    let same = ap (λ (m : Meaning). arrivals_length m.arrivals) (success meaning (meaning_of reading) gives) in omega (arith, same)
+in_lines number reading (line ∷ rest) meaning (Ok said, gives, more) =
+    let later = in_lines (number + 1) (reading_after reading said) rest meaning more in
+    let one = grows reading line said gives in
+    omega (arith, later, one)
+in_lines number reading (line ∷ rest) meaning (Err cause, gives, refused) = absurd (cc)
+
+-- the requests of an accepted script take no more bytes than it may have, and a line feed
+pub read_length : (bytes : List ℕ) (meaning : Meaning) → Reads bytes (Ok meaning) → arrivals_length meaning.arrivals ≤ script_limit + 1
+unfolding arrivals_length
+read_length bytes meaning reads = by_length (nat_lt script_limit (length bytes)) refl reads
+  where
+    by_length : (long : Bool) → nat_lt script_limit (length bytes) ≡ long
+        → MatchBool long (accepted meaning ≡ Err (record { line = 0; cause = TooLong })) (LinesGive 1 start (lines_of bytes) (Ok meaning))
+        → arrivals_length meaning.arrivals ≤ script_limit + 1
+    by_length true is refused = absurd (cc)
+    by_length false is given =
+        let short : length bytes ≤ script_limit = ltb-false script_limit (length bytes) is in
+        let all = in_lines 1 start (lines_of bytes) meaning given in
+        let lines = lines_length bytes in
+        omega (arith, short, all, lines)
+
+-- each arrival takes seven
+seventh : (limits : Limits) (arrivals : List (ℕ × Request)) → Each (IsArrivalOf limits) arrivals → 7 * length arrivals ≤ arrivals_length arrivals
+unfolding arrivals_length
+seventh limits [] are = omega arith
+seventh limits (arrival ∷ arrivals) are =
+    let rest = seventh limits arrivals are.1 in
+    let own = seven_bytes limits arrival.1 are.0.1 in
+    omega (arith, rest, own)
+
+-- so its arrivals are no more than that
+pub few_read : (bytes : List ℕ) (meaning : Meaning) → Reads bytes (Ok meaning) → length meaning.arrivals ≤ script_limit + 1
+few_read bytes meaning reads =
+    let limits = meaning.rules.limits in
+    let all = read_length bytes meaning reads in
+    let each = seventh limits meaning.arrivals (recursion_from_All (IsArrivalOf limits) meaning.arrivals (arrivals_read bytes meaning reads)) in
+    omega (arith, all, each)

@@ -1,0 +1,261 @@
+-- Where held locks begin: each one at a start that some change made, and a change makes two at most: for `outputs_are_short`.
+use Rattle.std.proofs.Common.{◌≡◌, ◌≢◌, ℕ, zero, suc, ◌+◌, ◌<◌, ◌≤◌, ◌==◌, ◌&&◌, ◌⊎◌, Bool, true, false, nat_le, List, [], ◌∷◌, ◌++◌, length, length-append, flat_map, Option, Some, None, inl, inr, ⊎_elim, refl, sym, ap, ◌∙◌, subst, arith, eq-eqb, ne_eqb, eqb-true, leb-true, le-leb, eq-or-lt_of_le}
+use Rattle.std.specs.Prelude.{if◌then◌else◌}
+use Rattle.range_core.specs.declared.TheConstants.{OFFMAX}
+use Rattle.range_core.specs.declared.Mode.{Mode}
+use Rattle.range_core.specs.declared.Span.{Span}
+use Rattle.range_core.specs.Ranges.{Covers, IsRun}
+use Rattle.range_core.specs.Changes.{is_covered}
+use Rattle.lock_book.specs.declared.Owner.{Owner}
+use Rattle.lock_book.specs.declared.Owner.TheVariants.{Process, Description}
+use Rattle.lock_book.specs.Owners.{is_same_owner}
+use Rattle.lock_book.specs.Changes.{Change, FlockChange, sets_byte, mode_from, mode_in, flock_mode_from, flock_mode_in}
+use Rattle.script_core.proofs.OutcomeFitLemmas.{both_true}
+
+-- ---- starts
+
+-- where a lock begins: its file, whether it is a flock lock, its owner and its first byte
+pub record Start : Type 0 where
+  pub file : ℕ
+  pub whole : Bool
+  pub owner : Owner
+  pub byte : ℕ
+
+-- a byte lock of the owner on the file begins at the byte
+abbrev pub byte_start : ℕ → Owner → ℕ → Start
+byte_start file owner byte = record { file = file; whole = false; owner = owner; byte = byte }
+
+-- the flock lock of the description on the file
+abbrev pub flock_start : ℕ → ℕ → Start
+flock_start file description = record { file = file; whole = true; owner = Description description; byte = 0 }
+
+-- the start, where a mode is set
+abbrev pub set_at : Option Mode → Start → List Start
+set_at None start = []
+set_at (Some mode) start = start ∷ []
+
+-- what is held behind the range of the change begins there, unless the range ends where files do
+abbrev pub behind : Change → List Start
+behind change = if change.span.last == OFFMAX then [] else byte_start change.file change.owner (change.span.last + 1) ∷ []
+
+-- the starts that a change of byte locks makes
+abbrev pub starts_of : Change → List Start
+starts_of change = set_at change.mode (byte_start change.file change.owner change.span.first) ++ behind change
+
+-- the start that a change of flock locks makes
+abbrev pub flock_starts_of : FlockChange → List Start
+flock_starts_of change = set_at change.mode (flock_start change.file change.description)
+
+-- all starts of these changes
+abbrev pub starts_in : List Change → List FlockChange → List Start
+starts_in changes flocks = flat_map starts_of changes ++ flat_map flock_starts_of flocks
+
+-- a change makes two starts at most
+pub two_starts : (change : Change) → length (starts_of change) ≤ 2
+two_starts change =
+    let first = one (byte_start change.file change.owner change.span.first) change.mode in
+    let last : length (behind change) ≤ 1 = elim (change.span.last == OFFMAX) as
+    (λ b. length (if b then [] else byte_start change.file change.owner (change.span.last + 1) ∷ []) ≤ 1) [ true ↦ omega arith | false ↦ omega arith ] in
+    let size = length-append (set_at change.mode (byte_start change.file change.owner change.span.first)) (behind change) in
+    omega (arith, first, last, size)
+  where
+    one : (start : Start) (mode : Option Mode) → length (set_at mode start) ≤ 1
+    one start None = omega arith
+    one start (Some mode) = omega arith
+
+-- ---- one of a list
+
+-- x is one of xs
+abbrev pub IsOneOf : {X : Type 0} → X → List X → Type 0
+IsOneOf x [] = ⊥
+IsOneOf x (y ∷ ys) = (y ≡ x) ⊎ IsOneOf x ys
+
+pub in_front : {X : Type 0} (x : X) (xs ys : List X) → IsOneOf x xs → IsOneOf x (xs ++ ys)
+in_front x [] ys among = absurd among
+in_front x (y ∷ xs) ys (inl same) = inl same
+in_front x (y ∷ xs) ys (inr later) = inr (in_front x xs ys later)
+
+pub in_back : {X : Type 0} (x : X) (xs ys : List X) → IsOneOf x ys → IsOneOf x (xs ++ ys)
+in_back x [] ys among = among
+in_back x (y ∷ xs) ys among = inr (in_back x xs ys among)
+
+-- one of what the later ones give, or else what is here of the first one
+go_on : {X A P Q : Type 0} (f : X → List A) (x : X) (xs : List X) (a : A) → IsOneOf a (flat_map f xs) ⊎ P → (P → IsOneOf a (f x) ⊎ Q)
+    → IsOneOf a (flat_map f (x ∷ xs)) ⊎ Q
+go_on f x xs a (inl later) here = inl (in_back a (f x) (flat_map f xs) later)
+go_on f x xs a (inr first) here = ⊎_elim (λ now. inl (in_front a (f x) (flat_map f xs) now)) (λ q. inr q) (here first)
+
+-- ---- byte locks
+
+one_owner : (one other : Owner) → is_same_owner one other ≡ true → one ≡ other
+one_owner (Process p) (Process q) is = ap Process (eqb-true p q is)
+one_owner (Process p) (Description e) is = absurd (let bad : false ≡ true = is in cc)
+one_owner (Description d) (Process q) is = absurd (let bad : false ≡ true = is in cc)
+one_owner (Description d) (Description e) is = ap Description (eqb-true d e is)
+
+owner_itself : (owner : Owner) → is_same_owner owner owner ≡ true
+owner_itself (Process p) = eq-eqb p p refl
+owner_itself (Description d) = eq-eqb d d refl
+
+-- the change is of this owner on this byte of this file
+record IsOn (change : Change) (file : ℕ) (owner : Owner) (byte : ℕ) : Type 0 where
+  same_file : change.file ≡ file
+  same_owner : change.owner ≡ owner
+  covers : Covers change.span byte
+
+-- the change is on the byte just where it sets it
+set_on : (change : Change) (file : ℕ) (owner : Owner) (byte : ℕ) → sets_byte change file owner byte ≡ true → IsOn change file owner byte
+set_on change file owner byte sets =
+    let first = both_true ((change.file == file) && is_same_owner change.owner owner) (is_covered change.span byte) sets in
+    let second = both_true (change.file == file) (is_same_owner change.owner owner) first.0 in
+    let third = both_true (nat_le change.span.first byte) (nat_le byte change.span.last) first.1 in
+    record {
+      same_file = eqb-true change.file file second.0;
+      same_owner = one_owner change.owner owner second.1;
+      covers = (leb-true change.span.first byte third.0, leb-true byte change.span.last third.1);
+    }
+
+on_set : (change : Change) (file : ℕ) (owner : Owner) (byte : ℕ) → IsOn change file owner byte → sets_byte change file owner byte ≡ true
+on_set change file owner byte on =
+    let first = le-leb change.span.first byte on.covers.0 in
+    let last = le-leb byte change.span.last on.covers.1 in
+    rw (eq-eqb change.file file on.same_file, on.same_owner, owner_itself owner, first, last) refl
+
+-- a change that sets a mode has a start at its first byte
+first_here : (change : Change) (file : ℕ) (owner : Owner) (byte : ℕ) (mode : Mode) → IsOn change file owner byte → change.span.first ≡ byte
+    → change.mode ≡ Some mode → IsOneOf (byte_start file owner byte) (starts_of change)
+first_here change file owner byte mode on at sets =
+    let start = byte_start change.file change.owner change.span.first in
+    let same : start ≡ byte_start file owner byte = rw (on.same_file, on.same_owner, at) refl in
+    in_front (byte_start file owner byte) (set_at change.mode start) (behind change)
+    (subst (λ (m : Option Mode). IsOneOf (byte_start file owner byte) (set_at m start)) (sym sets) (inl same))
+
+-- a change has a start behind its last byte, where the file goes on there
+begins_behind : (change : Change) (file : ℕ) (owner : Owner) (byte : ℕ) → IsOn change file owner byte → byte ≡ change.span.last → byte < OFFMAX
+    → IsOneOf (byte_start file owner (suc byte)) (starts_of change)
+begins_behind change file owner byte on at within =
+    let start = byte_start file owner (suc byte) in
+    let next : change.span.last + 1 ≡ suc byte = omega (arith, at) in
+    let same : byte_start change.file change.owner (change.span.last + 1) ≡ start = rw (on.same_file, on.same_owner, next) refl in
+    let ends : change.span.last ≢ OFFMAX = λ e. omega (arith, e, at, within) in
+    let here : IsOneOf start (behind change) = rw (ne_eqb change.span.last OFFMAX ends) (inl same) in
+    in_back start (set_at change.mode (byte_start change.file change.owner change.span.first)) (behind change) here
+
+-- the byte behind this one has a start, or had the mode when this one hadn't
+abbrev Begins : List Change → ℕ → Owner → ℕ → Mode → Option Mode → Option Mode → Type 0
+Begins changes file owner byte mode before held =
+    IsOneOf (byte_start file owner (suc byte)) (flat_map starts_of changes) ⊎ ((held ≡ Some mode) × (before ≢ Some mode))
+
+-- a mode that is held on a byte, and isn't on the one before, has a start there
+begins : (changes : List Change) (before held : Option Mode) (file : ℕ) (owner : Owner) (byte : ℕ) (mode : Mode) → byte < OFFMAX
+    → mode_from held changes file owner (suc byte) ≡ Some mode → mode_from before changes file owner byte ≢ Some mode
+    → Begins changes file owner byte mode before held
+begins [] before held file owner byte mode within is not = inr (is, not)
+begins (change ∷ changes) before held file owner byte mode within is not =
+    by_set (sets_byte change file owner (suc byte)) (sets_byte change file owner byte) refl refl is not
+    (λ was had is not. begins changes was had file owner byte mode within is not)
+  where
+    by_set : (this last : Bool) → sets_byte change file owner (suc byte) ≡ this → sets_byte change file owner byte ≡ last
+        → mode_from (if this then change.mode else held) changes file owner (suc byte) ≡ Some mode
+        → mode_from (if last then change.mode else before) changes file owner byte ≢ Some mode
+        → ((was had : Option Mode) → mode_from had changes file owner (suc byte) ≡ Some mode → mode_from was changes file owner byte ≢ Some mode
+        → Begins changes file owner byte mode was had)
+        → Begins (change ∷ changes) file owner byte mode before held
+    by_set true true this last is not again =
+        go_on starts_of change changes (byte_start file owner (suc byte)) (again change.mode change.mode is not) (λ both. absurd (both.1 both.0))
+    by_set true false this last is not again =
+        let on = set_on change file owner (suc byte) this in
+        ⊎_elim
+        (λ at. go_on starts_of change changes (byte_start file owner (suc byte)) (again before change.mode is not)
+        (λ both. inl (first_here change file owner (suc byte) mode on at both.0)))
+        (λ below.
+        let covers = on.covers.1 in
+        let on_last : IsOn change file owner byte =
+        record { same_file = on.same_file; same_owner = on.same_owner; covers = (omega (arith, below), omega (arith, covers)) } in
+        absurd (let bad : true ≡ false = sym (on_set change file owner byte on_last) ∙ last in cc))
+        (eq-or-lt_of_le on.covers.0)
+    by_set false true this last is not again =
+        let on = set_on change file owner byte last in
+        ⊎_elim
+        (λ at. inl (in_front (byte_start file owner (suc byte)) (starts_of change) (flat_map starts_of changes)
+        (begins_behind change file owner byte on at within)))
+        (λ below.
+        let covers = on.covers.0 in
+        let on_this : IsOn change file owner (suc byte) =
+        record { same_file = on.same_file; same_owner = on.same_owner; covers = (omega (arith, covers), omega (arith, below)) } in
+        absurd (let bad : true ≡ false = sym (on_set change file owner (suc byte) on_this) ∙ this in cc))
+        (eq-or-lt_of_le on.covers.1)
+    by_set false false this last is not again =
+        go_on starts_of change changes (byte_start file owner (suc byte)) (again before held is not) (λ both. inr both)
+
+-- a mode that is held on the first byte of a file has a start there
+begins_first : (changes : List Change) (held : Option Mode) (file : ℕ) (owner : Owner) (mode : Mode) → mode_from held changes file owner 0 ≡ Some mode
+    → IsOneOf (byte_start file owner 0) (flat_map starts_of changes) ⊎ (held ≡ Some mode)
+begins_first [] held file owner mode is = inr is
+begins_first (change ∷ changes) held file owner mode is = by_set (sets_byte change file owner 0) refl is (λ was is. begins_first changes was file owner mode is)
+  where
+    by_set : (this : Bool) → sets_byte change file owner 0 ≡ this → mode_from (if this then change.mode else held) changes file owner 0 ≡ Some mode
+        → ((was : Option Mode) → mode_from was changes file owner 0 ≡ Some mode
+        → IsOneOf (byte_start file owner 0) (flat_map starts_of changes) ⊎ (was ≡ Some mode))
+        → IsOneOf (byte_start file owner 0) (flat_map starts_of (change ∷ changes)) ⊎ (held ≡ Some mode)
+    by_set true this is again =
+        let on = set_on change file owner 0 this in
+        let covers = on.covers.0 in
+        go_on starts_of change changes (byte_start file owner 0) (again change.mode is)
+        (λ sets. inl (first_here change file owner 0 mode on (omega (arith, covers)) sets))
+    by_set false this is again = go_on starts_of change changes (byte_start file owner 0) (again held is) (λ was. inr was)
+
+-- the largest range of one mode begins at a start
+pub run_start : (changes : List Change) (file : ℕ) (owner : Owner) (mode : Mode) (span : Span) → span.first ≤ OFFMAX
+    → IsRun (mode_in changes file owner) span.first mode span → IsOneOf (byte_start file owner span.first) (flat_map starts_of changes)
+run_start changes file owner mode span within run = at span.first refl
+  where
+    held : (first : ℕ) → span.first ≡ first → mode_in changes file owner first ≡ Some mode
+    held first is = subst (λ (byte : ℕ). mode_in changes file owner byte ≡ Some mode) is (run.constant span.first run.covered)
+
+    larger : (byte : ℕ) → span.first ≡ suc byte → mode_in changes file owner byte ≢ Some mode
+    larger byte is before =
+        let covered = run.covered.1 in
+        let other : Span = record { first = byte; last = span.last } in
+        let least = run.largest other (omega (arith, is), covered)
+        (λ b covers. ⊎_elim (λ same. subst (λ (c : ℕ). mode_in changes file owner c ≡ Some mode) same before)
+        (λ below. run.constant b (omega (arith, is, below), covers.1)) (eq-or-lt_of_le covers.0)) in
+        let low = least.0 in absurd (omega (arith, is, low))
+
+    at : (first : ℕ) → span.first ≡ first → IsOneOf (byte_start file owner first) (flat_map starts_of changes)
+    at zero is = ⊎_elim (λ start. start) (λ bad. absurd cc) (begins_first changes None file owner mode (held zero is))
+    at (suc byte) is =
+        ⊎_elim (λ start. start) (λ both. absurd (let bad : None ≡ Some mode = both.0 in cc))
+        (begins changes None None file owner byte mode (omega (arith, is, within)) (held (suc byte) is) (larger byte is))
+
+-- ---- flock locks
+
+-- a flock mode that is held has a start
+flock_begins : (changes : List FlockChange) (held : Option Mode) (file description : ℕ) (mode : Mode)
+    → flock_mode_from held changes file description ≡ Some mode
+    → IsOneOf (flock_start file description) (flat_map flock_starts_of changes) ⊎ (held ≡ Some mode)
+flock_begins [] held file description mode is = inr is
+flock_begins (change ∷ changes) held file description mode is =
+    by_set ((change.file == file) && (change.description == description)) refl is (λ was is. flock_begins changes was file description mode is)
+  where
+    here : change.file ≡ file → change.description ≡ description → change.mode ≡ Some mode → IsOneOf (flock_start file description) (flock_starts_of change)
+    here same_file same_description sets =
+        let same : flock_start change.file change.description ≡ flock_start file description = rw (same_file, same_description) refl in
+        subst (λ (m : Option Mode). IsOneOf (flock_start file description) (set_at m (flock_start change.file change.description))) (sym sets) (inl same)
+
+    by_set : (this : Bool) → (change.file == file) && (change.description == description) ≡ this
+        → flock_mode_from (if this then change.mode else held) changes file description ≡ Some mode
+        → ((was : Option Mode) → flock_mode_from was changes file description ≡ Some mode
+        → IsOneOf (flock_start file description) (flat_map flock_starts_of changes) ⊎ (was ≡ Some mode))
+        → IsOneOf (flock_start file description) (flat_map flock_starts_of (change ∷ changes)) ⊎ (held ≡ Some mode)
+    by_set true this is again =
+        let both = both_true (change.file == file) (change.description == description) this in
+        go_on flock_starts_of change changes (flock_start file description) (again change.mode is)
+        (λ sets. inl (here (eqb-true change.file file both.0) (eqb-true change.description description both.1) sets))
+    by_set false this is again = go_on flock_starts_of change changes (flock_start file description) (again held is) (λ was. inr was)
+
+-- a flock lock that is held has a start
+pub flock_has_start : (changes : List FlockChange) (file description : ℕ) (mode : Mode) → flock_mode_in changes file description ≡ Some mode
+    → IsOneOf (flock_start file description) (flat_map flock_starts_of changes)
+flock_has_start changes file description mode is =
+    ⊎_elim (λ start. start) (λ bad. absurd cc) (flock_begins changes None file description mode is)
