@@ -3,10 +3,10 @@ use Rattle.std.proofs.Common.{◌≡◌, ◌≢◌, ◌∙◌, ap, ap₂, refl, 
 use Rattle.std.specs.Prelude.{if◌then◌else◌, is_some, length, option_and_then, option_map, IfOk, IsErr, Ok, Err}
 use Rattle.std.proofs.lemmas.Bool.Decides.{eqb_tells}
 use Rattle.clap.specs.Lexer.{long_of, long_of_rest, short_of, short_of_rest, strip_byte}
-use Rattle.clap.specs.Walk.{Held, Row, Rule, Step, Walk, after_step, finished, idle, long_or_other, nothing_held, option, plain_word, reacted, settled, short_or_plain, trailing, value, walk, walked, word_met}
+use Rattle.clap.specs.Walk.{Held, Row, Rule, Step, Waiting, Walk, after_step, finished, idle, long_or_other, nothing_held, option, plain_word, positional, reacted, settled, short_or_plain, subcommand_met, subcommand_or_other, trailing, value, walk, walked, word_met}
 use Rattle.clap.specs.Simple.{Shape, entered, filled}
 use Rattle.clap.specs.Kinds.{Kinds, or_else}
-use Rattle.clap.specs.Faults.{bundle_fault, check_fault, defaults_fault, entered_fault, flag_word_fault, settle_fault, step_fault, walk_fault, word_fault}
+use Rattle.clap.specs.Faults.{bundle_fault, check_fault, defaults_fault, entered_fault, flag_word_fault, other_fault, settle_fault, step_fault, walk_fault, word_fault}
 use Rattle.clap.specs.declared.error.kind.ErrorKind.{ErrorKind}
 use Rattle.clap.specs.declared.error.kind.ErrorKind.TheVariants as kind
 use Rattle.clap.proofs.OnLiterals.{clap_on_literals}
@@ -64,12 +64,20 @@ plain_value (x ∷ xs) plain =
 abbrev arguments : List Rule
 arguments = (built command_line).top.rules
 
--- such a word is a value
-value_met : (h : Held) (position : ℕ) (word : Text) → ReadsAsValue word → word_met arguments [] false idle position word h ≡ (h, value)
-value_met h position word reads =
-    ap (λ b. if b then (h, trailing position) else long_or_other arguments idle word (long_of word) h) reads.dashes
-    ∙ ap (λ o. long_or_other arguments idle word o h) reads.long
-    ∙ ap (λ o. short_or_plain arguments idle word o h) reads.short
+-- the command has no subcommand, whatever waits for its value
+no_subcommand : (waiting : Waiting) (word : Text) → subcommand_met [] waiting word ≡ None
+no_subcommand idle word = refl
+no_subcommand (option id) word = refl
+no_subcommand positional word = refl
+
+-- such a word is read as one that is no flag, whatever waits for its value
+word_read : (waiting : Waiting) (h : Held) (position : ℕ) (word : Text) → ReadsAsValue word
+    → word_met arguments [] false waiting position word h ≡ plain_word arguments waiting word h
+word_read waiting h position word reads =
+    ap (λ o. subcommand_or_other arguments o waiting position word h) (no_subcommand waiting word)
+    ∙ ap (λ b. if b then (h, trailing position) else long_or_other arguments waiting word (long_of word) h) reads.dashes
+    ∙ ap (λ o. long_or_other arguments waiting word o h) reads.long
+    ∙ ap (λ o. short_or_plain arguments waiting word o h) reads.short
 
 -- the walk between two words, where no option waits for its value
 abbrev at : Held → ℕ → Walk
@@ -78,16 +86,17 @@ at h position = record { held = h; waiting = idle; position = position; is_trail
 walked_value : (h : Held) (position : ℕ) (word : Text) → ReadsAsValue word
     → walked arguments [] (at h position) word ≡ after_step arguments word (at h position) h value
 unfolding walked
-walked_value h position word reads = ap (λ m. after_step arguments word (at h position) m.0 m.1) (value_met h position word reads)
+walked_value h position word reads = ap (λ m. after_step arguments word (at h position) m.0 m.1) (word_read idle h position word reads)
 
 -- the command as clap builds it
 abbrev line : Shape
 line = (built command_line).top
 
 -- and it is refused only where no argument is left for it
-word_passes : (h : Held) (word : Text) → ReadsAsValue word → word_fault line [] false idle word h ≡ []
-word_passes h word reads =
-    ap (λ b. if b then [] else flag_word_fault arguments line.args_override_self (long_of word) word h) reads.dashes
+word_passes : (waiting : Waiting) (h : Held) (word : Text) → ReadsAsValue word → word_fault line [] false waiting word h ≡ []
+word_passes waiting h word reads =
+    ap (λ o. other_fault line o word h) (no_subcommand waiting word)
+    ∙ ap (λ b. if b then [] else flag_word_fault arguments line.args_override_self (long_of word) word h) reads.dashes
     ∙ ap (λ o. flag_word_fault arguments line.args_override_self o word h) reads.long
     ∙ ap (λ o. option_map_or (λ flags. bundle_fault arguments line.args_override_self flags h) o []) reads.short
 
@@ -97,7 +106,7 @@ walk_value : (h : Held) (position : ℕ) (word : Text) (rest : List Text) → Re
 unfolding walk_fault
 walk_value h position word rest reads =
     ap₂ or_else
-    (ap₂ or_else (word_passes h word reads) (ap (λ m. step_fault line position m.0 m.1) (value_met h position word reads)))
+    (ap₂ or_else (word_passes idle h word reads) (ap (λ m. step_fault line position m.0 m.1) (word_read idle h position word reads)))
     (ap (λ w. walk_fault line [] w rest) (walked_value h position word reads))
 
 -- ---- the command lines of such words
@@ -323,35 +332,27 @@ two_fault name Check Check other = absurd (cc)
 
 -- ---- a word behind --state
 
--- the walk where the option waits for its value
+-- the option waits for its value
+abbrev for_state : Waiting
+for_state = option (codes "state")
+
+-- the walk there
 abbrev asking : Held → Walk
-asking h = record { held = h; waiting = option (codes "state"); position = 1; is_trailing = false; stopped = None }
+asking h = record { held = h; waiting = for_state; position = 1; is_trailing = false; stopped = None }
 
 -- what the word comes to there
 abbrev taken : Text → Held → Held × Step
-taken word h = plain_word arguments (option (codes "state")) word h
-
-value_behind : (h : Held) (word : Text) → ReadsAsValue word → word_met arguments [] false (option (codes "state")) 1 word h ≡ taken word h
-value_behind h word reads =
-    ap (λ b. if b then (h, trailing 1) else long_or_other arguments (option (codes "state")) word (long_of word) h) reads.dashes
-    ∙ ap (λ o. long_or_other arguments (option (codes "state")) word o h) reads.long
-    ∙ ap (λ o. short_or_plain arguments (option (codes "state")) word o h) reads.short
+taken word h = plain_word arguments for_state word h
 
 walked_behind : (h : Held) (word : Text) → ReadsAsValue word
     → walked arguments [] (asking h) word ≡ after_step arguments word (asking h) (taken word h).0 (taken word h).1
 unfolding walked
-walked_behind h word reads = ap (λ m. after_step arguments word (asking h) m.0 m.1) (value_behind h word reads)
-
-passes_behind : (h : Held) (word : Text) → ReadsAsValue word → word_fault line [] false (option (codes "state")) word h ≡ []
-passes_behind h word reads =
-    ap (λ b. if b then [] else flag_word_fault arguments line.args_override_self (long_of word) word h) reads.dashes
-    ∙ ap (λ o. flag_word_fault arguments line.args_override_self o word h) reads.long
-    ∙ ap (λ o. option_map_or (λ flags. bundle_fault arguments line.args_override_self flags h) o []) reads.short
+walked_behind h word reads = ap (λ m. after_step arguments word (asking h) m.0 m.1) (word_read for_state h 1 word reads)
 
 fault_behind : (h : Held) (word : Text) → ReadsAsValue word → walk_fault line [] (asking h) (word ∷ []) ≡ []
 unfolding walk_fault
 fault_behind h word reads =
-    ap₂ (λ k l. or_else (or_else k l) []) (passes_behind h word reads) (ap (λ m. step_fault line 1 m.0 m.1) (value_behind h word reads))
+    ap₂ (λ k l. or_else (or_else k l) []) (word_passes for_state h word reads) (ap (λ m. step_fault line 1 m.0 m.1) (word_read for_state h 1 word reads))
 
 -- what is held behind --state
 abbrev state_held : Held
