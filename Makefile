@@ -14,11 +14,11 @@ build:
 	@(cd crates/lockreplay && rt run) < /dev/null > crates/lockreplay/out/build.log 2>&1 \
 	    || { cat crates/lockreplay/out/build.log >&2; exit 1; }
 
-# The gate, and then the command lines, single lines, the worked scripts (also in threads, in whatever order comes), the large scripts and
-# the samples on the program as two compilers built it in the gate, what the README, the help and the manual page show, the files and names
-# that the documents point to, that want of memory is made at one place, and the conformance tools' tests but for those that a busy machine
-# can upset.
-WORKED := $(basename $(wildcard tests/worked-scripts/*.out)) tests/threads/sixty-four
+# The gate, and then the command lines, single lines, devices that fail, the worked scripts (also in threads, in whatever order comes), the
+# large scripts and the samples on the program as two compilers built it in the gate, what the README, the help and the manual page show, the
+# files and names that the documents point to, that want of memory is made at one place, and the conformance tools' tests but for those that
+# a busy machine can upset.
+WORKED := $(basename $(wildcard tests/worked-scripts/*.out)) $(wildcard tests/threads/*)
 test:
 	rt ci
 	sh tests/command-line.sh $(PROGRAM)
@@ -29,6 +29,8 @@ test:
 	sh tests/worked-scripts.sh $(PROGRAM).by-rattle
 	sh tests/run-threads.sh $(PROGRAM) 20 $(WORKED)
 	sh tests/run-threads.sh $(PROGRAM).by-rattle 20 $(WORKED)
+	tests/devices $(PROGRAM)
+	tests/devices $(PROGRAM).by-rattle
 	sh tests/large-scripts.sh $(PROGRAM)
 	sh tests/large-scripts.sh $(PROGRAM).by-rattle
 	sh tests/samples.sh $(PROGRAM)

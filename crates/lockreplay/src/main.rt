@@ -17,8 +17,6 @@ mod laws;
 mod options;
 mod pause;
 mod replay;
-#[cfg(test)]
-mod tests;
 mod threads;
 
 use check::{Outcome, check};

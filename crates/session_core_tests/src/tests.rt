@@ -1,5 +1,6 @@
 //! Mail, waits, signals, kills and flock in a session, each call made again where a growth was refused.
 mod check;
+mod example;
 mod judged;
 mod worked;
 
