@@ -1,19 +1,8 @@
 -- The exit status of a fault.
-use Rattle.std.specs.Prelude.{◌≡◌, ℕ, Bool, IsTrue, ⊤, List, Err}
-use Rattle.range_core.specs.declared.Memory.{Memory}
-use Rattle.script_core.specs.Reading.{Reads}
-use Rattle.lockreplay.specs.declared.replay.RunFault.{RunFault}
-use Rattle.lockreplay.specs.declared.replay.RunFault.TheVariants as faults
+use Rattle.std.specs.Prelude.{ℕ}
+use Rattle.replay_core.specs.Faults.{status_of}
 use Rattle.lockreplay.specs.declared.faults.Fault.{Fault}
 use Rattle.lockreplay.specs.declared.faults.Fault.TheVariants.{CommandLine, Misuse, OutOfMemory, Run}
-
--- a faulty script ends with 2, and all else that goes wrong with 1 (this project's choice)
-abbrev pub status_of : RunFault → ℕ
-status_of faults.Read = 1
-status_of faults.Write = 1
-status_of (faults.Memory memory) = 1
-status_of (faults.Script fault) = 2
-status_of faults.Thread = 1
 
 -- a command line that is refused or asks for two jobs, or asks for help or the version, ends with 2 as well (this project's choice)
 abbrev pub exit_status : Fault → ℕ
@@ -21,32 +10,3 @@ exit_status (CommandLine error) = 2
 exit_status (Misuse misuse) = 2
 exit_status OutOfMemory = 1
 exit_status (Run fault) = status_of fault
-
--- the fault is want of memory
-abbrev pub IsWantOfMemory : RunFault → Type 0
-IsWantOfMemory fault = (memory : Memory) × (fault ≡ faults.Memory memory)
-
--- reading ends so: the source failed, or a growth was refused
-abbrev pub IsReadFault : Bool → RunFault → Type 0
-IsReadFault failed faults.Read = IsTrue failed
-IsReadFault failed (faults.Memory memory) = ⊤
-IsReadFault failed faults.Write = ⊥
-IsReadFault failed (faults.Script fault) = ⊥
-IsReadFault failed faults.Thread = ⊥
-
--- bytes have no output for this: they are no script, and have this fault, or a growth was refused
-abbrev pub IsOutputFault : List ℕ → RunFault → Type 0
-IsOutputFault bytes (faults.Script fault) = Reads bytes (Err fault)
-IsOutputFault bytes (faults.Memory memory) = ⊤
-IsOutputFault bytes faults.Read = ⊥
-IsOutputFault bytes faults.Write = ⊥
-IsOutputFault bytes faults.Thread = ⊥
-
--- bytes whose processes run in threads have no output for this: they are no script, and have this fault, or a growth or a thread
--- was refused
-abbrev pub IsThreadOutputFault : List ℕ → RunFault → Type 0
-IsThreadOutputFault bytes (faults.Script fault) = Reads bytes (Err fault)
-IsThreadOutputFault bytes (faults.Memory memory) = ⊤
-IsThreadOutputFault bytes faults.Thread = ⊤
-IsThreadOutputFault bytes faults.Read = ⊥
-IsThreadOutputFault bytes faults.Write = ⊥

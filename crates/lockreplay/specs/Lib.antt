@@ -1,12 +1,3 @@
-pub mod Callers
-pub mod Checks
-pub mod Collecting
 pub mod CommandLine
-pub mod Devices
 pub mod Faults
-pub mod Gathering
-pub mod Interleaving
 pub mod Jobs
-pub mod Places
-pub mod Replays
-pub mod Rooms

@@ -5,8 +5,8 @@ ghost use Rattle.clap.specs.Words.{kind_of};
 ghost use Rattle.lockreplay.specs.Faults.{exit_status};
 
 use crate::options::Misuse;
-use crate::replay::RunFault;
 use clap::error::ErrorKind;
+use replay_core::RunFault;
 use std::io;
 use std::io::ErrorKind as InputErrorKind;
 use thiserror::Error;

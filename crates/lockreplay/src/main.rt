@@ -2,31 +2,13 @@
 //! journal.
 #![tactic(auto)]
 
-ghost use Rattle.std.specs.Prelude.{◌≡◌, ◌≢◌, ◌≤◌, ◌+◌, IfOk, IfErr, Err, IsTrue};
-ghost use Rattle.lockreplay.specs.Jobs.{outputs_of, ReadsFaultyFor, limit_of};
-ghost use Rattle.lockreplay.specs.Replays.{WritesOutput, WritesFront};
-
-mod caller;
-mod check;
-mod checking;
 mod command_line;
-mod devices;
 mod faults;
-mod in_threads;
-mod laws;
 mod options;
-mod pause;
-mod replay;
-mod threads;
 
-use check::{Outcome, check};
-use devices::{FromReader, Sink, Source, ToWriter};
 use faults::Fault;
-use in_threads::replay_in_threads;
-use options::Job;
 use range_core::Memory;
-use replay::{RunFault, replay};
-use script_core::ScriptFault;
+use replay_core::{FromReader, Outcome, RunFault, ToWriter, perform};
 use std::env::Env;
 use std::fs::Files;
 use std::process::ExitCode;
@@ -67,41 +49,5 @@ fn run(
             let mut source = FromReader::new(rt.reader());
             Ok(perform(rt, job, &mut source, &mut sink)?)
         }
-    }
-}
-
-/// Does the job on what the source gives, and writes to the sink.
-fn perform<T: AllocGlobal + Clock + Sync + Threads + Wait, R: Source, W: Sink>(
-    rt: &T,
-    job: Job,
-    source: &mut R,
-    sink: &mut W,
-) -> Result<Outcome, RunFault>
-    // All that the source had was read, and just an output of that was written.
-    ensures ok { IfOk result (λ outcome. WritesOutput (outputs_of job outcome)
-        (R.remaining source.old) (R.remaining source.new) (W.written sink.old) (W.written sink.new)) }
-
-    // Else it is told what went wrong, and nothing was written, or where writing failed a front of an output.
-    ensures script { (fault : ScriptFault) → result ≡ Err (RunFault.Script fault) →
-        ReadsFaultyFor job (R.remaining source.old) (R.remaining source.new) fault }
-    ensures read { result ≡ Err RunFault.Read → IsTrue (R.failed source.new) }
-    ensures write { result ≡ Err RunFault.Write → IsTrue (W.failed sink.new)
-        × (outcome : Outcome) × WritesFront (outputs_of job outcome)
-        (R.remaining source.old) (R.remaining source.new) (W.written sink.old) (W.written sink.new) }
-    ensures unwritten { IfErr result (λ fault. fault ≢ RunFault.Write → sink.new ≡ sink.old) }
-    ensures source { result ≢ Err RunFault.Read → R.failed source.new ≡ R.failed source.old }
-    ensures sink { result ≢ Err RunFault.Write → W.failed sink.new ≡ W.failed sink.old }
-    ensures calls { R.calls source.new ≤ R.calls source.old + (limit_of job + 1) }
-{
-    match job {
-        Job::Replay(detail) => {
-            replay(rt.alloc(), detail, source, sink)?;
-            Ok(Outcome::Done)
-        }
-        Job::ReplayInThreads(detail) => {
-            replay_in_threads(rt, rt.alloc(), detail, source, sink)?;
-            Ok(Outcome::Done)
-        }
-        Job::Check => check(rt.alloc(), source, sink),
     }
 }

@@ -2,29 +2,9 @@
 ghost use Rattle.std.specs.Prelude.{◌≡◌, ◌≢◌, Some, None, codes, option_map};
 ghost use Rattle.lockreplay.specs.Jobs.{IsJobOf, IsDetailOf};
 
+use replay_core::{Detail, Job};
 use script_core::States;
 use thiserror::Error;
-
-/// How much is told of a run (this project's choice).
-#[derive(Clone, Copy, Debug, PartialEq, Eq)]
-pub enum Detail {
-    /// The line of each event, and then the report.
-    Plain,
-    /// The same, with what explains each event behind its line, and the states that are asked for, and who was never born at the end: lines
-    /// that begin with `#`.
-    Explained(States),
-}
-
-/// What the program does.
-#[derive(Clone, Copy, Debug, PartialEq, Eq)]
-pub enum Job {
-    /// Replays a script.
-    Replay(Detail),
-    /// Replays a script with a thread for each process that requests something.
-    ReplayInThreads(Detail),
-    /// Checks a journal.
-    Check,
-}
 
 /// What a command line can't ask for. The text is as clap's.
 #[derive(Clone, Copy, Debug, PartialEq, Eq, Error)]

@@ -1,8 +1,0 @@
-use Rattle.call_table.specs.Shown.{IsClientOf}
-use Rattle.lockreplay.specs.Callers.{SameCaller}
-use Rattle.lockreplay.proofs.caller.Caller.converse.Given as goal
-
-abbrev pub invariant-loop : goal.invariant-loop
-invariant-loop g l =
-    (goal.iterator-loop g).can_next l.iterator' × (goal.iterator-loop g).is_finite l.iterator'
-    × SameCaller l.fn.self l.self × IsClientOf l.hub l.self.client

@@ -1,7 +1,0 @@
-use Rattle.std.proofs.Common.{◌≡◌, length, vec_len}
-use Rattle.session_core.specs.SessionView.{sent_of}
-use Rattle.script_core.specs.ReportText.{AreCounts}
-use Rattle.lockreplay.proofs.replay.counts_sent.Given as goal
-
-abbrev pub invariant-loop-index : goal.invariant-loop-index
-invariant-loop-index l = (vec_len l.counts ≡ l.index) × AreCounts l.counts.items (λ p. length (sent_of l.session p))

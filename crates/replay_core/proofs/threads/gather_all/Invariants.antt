@@ -1,0 +1,19 @@
+use Rattle.std.proofs.Common.{◌≡◌, ◌≤◌, List, ◌++◌, map, vec_len}
+use Rattle.std.specs.Prelude.{vec_capacity, vec_items}
+use Rattle.std.specs.Vec.Iter.{into_iter_items}
+use Rattle.call_table.specs.Desks.{desk_view, session_in, SameDesk}
+use Rattle.replay_core.specs.declared.caller.Caller.{Caller}
+use Rattle.replay_core.specs.Gathering.{AreGathered}
+use Rattle.replay_core.specs.Places.{started}
+use Rattle.replay_core.proofs.threads.gather_all.Given as goal
+
+abbrev pub invariant-loop-place : goal.invariant-loop-place
+invariant-loop-place g l = record {
+  done : List Caller;
+  all : done ++ map started (into_iter_items l.place-iterator) ≡ map started l.fn.places.items;
+  room : vec_len l.fn.places ≤ vec_capacity l.collected;
+  same : SameDesk l.fn.desk l.desk;
+  session : session_in l.desk ≡ session_in l.fn.desk;
+  journal : (desk_view l.desk).journal ≡ (desk_view l.fn.desk).journal;
+  gathered : AreGathered (desk_view l.fn.desk).journal done (map vec_items l.collected.items);
+}

@@ -1,0 +1,27 @@
+use Rattle.std.proofs.Common.{◌≡◌, ◌∙◌, sym, subst, List, map}
+use Rattle.std.specs.Prelude.{vec_items}
+use Rattle.session_core.specs.declared.session.Session.{Session}
+use Rattle.session_core.specs.SessionView.{events_in}
+use Rattle.replay_core.specs.declared.caller.Caller.{Caller}
+use Rattle.replay_core.specs.Callers.{AreAtHub}
+use Rattle.replay_core.specs.Gathering.{AreGathered, AreAllTaken}
+use Rattle.replay_core.specs.Places.{started}
+use Rattle.replay_core.proofs.threads.serve_threads.Goals as goal
+
+pub gather_all-requires-clause-callers : goal.gather_all-requires-clause-callers
+gather_all-requires-clause-callers g c =
+    let all : map started c.in_ok-served.field-0.items ≡ c.args.callers.items = c.in_ok-served.ensures.started in
+    subst (AreAtHub c.args.hub.now) (sym all) c.requires.callers
+
+pub returns-clause-ok : goal.returns-clause-ok
+returns-clause-ok g c =
+    let all : map started c.in_ok-served.field-0.items ≡ c.args.callers.items = c.in_ok-served.ensures.started in
+    let report = c.gather_all.result in
+    record {
+      setup = c.gather_all.ensures.setup;
+      holds = c.gather_all.ensures.holds;
+      taken = subst (λ (s : Session). AreAllTaken s c.args.counts.now) (sym (c.gather_all.ensures.session ∙ c.close.ensures.session))
+          c.in_ok-served.ensures.taken;
+      gathered = subst (λ (l : List Caller). AreGathered (events_in report.session) l (map vec_items report.collected.items)) all
+          c.gather_all.ensures.gathered;
+    }

@@ -1,0 +1,39 @@
+-- The callers at a table (the words are this project's choice).
+use Rattle.std.specs.Prelude.{◌≡◌, ℕ, ◌+◌, Some, List, true, slice_get}
+use Rattle.lock_manager.specs.declared.request.Request.{Request}
+use Rattle.session_core.specs.Mail.{requests_sent}
+use Rattle.call_table.specs.declared.setup.Setup.{Setup}
+use Rattle.call_table.specs.declared.client.Client.{Client}
+use Rattle.call_table.specs.declared.hub.Hub.{Hub}
+use Rattle.call_table.specs.Views.{new_client}
+use Rattle.call_table.specs.Shown.{client_view, IsClientOf, SameClient}
+use Rattle.replay_core.specs.declared.caller.Caller.{Caller}
+
+-- it is the same process, with the same client and the same requests
+pub record SameCaller (old new : Caller) : Type 0 where
+  pub client : SameClient old.client new.client
+  pub process : new.process ≡ old.process
+  pub requests : new.requests.items ≡ old.requests.items
+
+-- the same caller has collected all that the closed table ever has for it
+pub record HasEnded (old new : Caller) : Type 0 where
+  pub same : SameCaller old new
+  pub drained : (client_view new.client).drained ≡ true
+
+-- each has the client of the process that its place names, from process 1 on, which did nothing yet
+abbrev pub AreNew : List Client → Type 0
+AreNew clients =
+    (i : ℕ) (client : Client) → slice_get clients i ≡ Some client → (setup : Setup) × (client_view client ≡ new_client setup (i + 1))
+
+-- it is of this process, and has the requests that arrive of it
+pub record IsOf (arrivals : List (ℕ × Request)) (p : ℕ) (caller : Caller) : Type 0 where
+  pub process : caller.process ≡ p
+  pub requests : caller.requests.items ≡ requests_sent p arrivals
+
+-- each is of the process that its place names, from process 1 on
+abbrev pub AreOf : List (ℕ × Request) → List Caller → Type 0
+AreOf arrivals callers = (i : ℕ) (caller : Caller) → slice_get callers i ≡ Some caller → IsOf arrivals (i + 1) caller
+
+-- the clients are of this hub
+abbrev pub AreAtHub : Hub → List Caller → Type 0
+AreAtHub hub callers = (i : ℕ) (caller : Caller) → slice_get callers i ≡ Some caller → IsClientOf hub caller.client

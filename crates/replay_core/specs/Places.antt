@@ -1,0 +1,15 @@
+-- Where the callers are while a desk serves (the words are this project's choice).
+use Rattle.std.specs.Prelude.{⊤}
+use Rattle.replay_core.specs.declared.caller.Caller.{Caller}
+use Rattle.replay_core.specs.declared.threads.place.Place.{Place}
+use Rattle.replay_core.specs.declared.threads.place.Place.TheVariants.{There, Here}
+
+-- the caller as it was when its thread was started, or as it is
+abbrev pub started : Place → Caller
+started (There handle) = handle.promise.0.value
+started (Here caller) = caller
+
+-- the caller is in a thread of its own
+abbrev pub HasThread : Place → Type 0
+HasThread (There handle) = ⊤
+HasThread (Here caller) = ⊥
