@@ -6,7 +6,7 @@
 # Usage: lines.sh PROGRAM
 set -eu
 program=$1
-cd "$(dirname "$0")/lines"
+here=$(dirname "$0")/lines
 work=$(mktemp -d)
 trap 'rm -rf "$work"' EXIT
 tab=$(printf '\t')
@@ -33,7 +33,7 @@ try() {
 # try_both TOLD STATUS WORDS TEXT: with a line feed at the end and without.
 try_both() {
     : > "$work/input"
-    [ -z "$before" ] || head -n "${before#* }" "${before% *}" > "$work/input"
+    [ -z "$before" ] || head -n "${before#* }" "$here/${before% *}" > "$work/input"
     printf '%b' "$4" >> "$work/input"
     try "$1" "$2" "$3"
     [ -z "$4" ] || { echo >> "$work/input"; try "$1" "$2" "$3"; }
@@ -46,7 +46,7 @@ while IFS=$tab read -r told script; do
         ok) try_both '' 0 '' "$script" ;;
         *) try_both "$told" 2 '' "$script" ;;
     esac
-done < scripts
+done < "$here/scripts"
 
 while IFS=$tab read -r before told lines; do
     case $before in '#'*) continue ;; esac
@@ -55,7 +55,7 @@ while IFS=$tab read -r before told lines; do
         'line '*': '[1-8]' '[A-Z]*) try_both "$told" 2 --check "$lines" ;;
         *) try_both "$told" 3 --check "$lines" ;;
     esac
-done < journals
+done < "$here/journals"
 
 echo "$passed passed, $failed failed"
 [ "$failed" -eq 0 ] && [ "$passed" -gt 0 ]
