@@ -73,8 +73,22 @@ impl RangeList {
         ensures err { OnErr result (SameList self.old self.new) }
     {
         if come > go {
-            self.runs.reserve(doubled(self.room + 1)?)?;
+            self.make_places(self.room + 1)?;
         }
+        Ok(())
+    }
+
+    /// Makes places for so many sets, each of which adds two runs at most: a piece on either side of its own.
+    ///
+    /// `Memory` leaves the list as it was.
+    fn make_places(&mut self, sets: usize) -> Result<(), Memory>
+        ensures runs { self.new.runs.items ≡ self.old.runs.items }
+        ensures held { room_of self.new ≡ room_of self.old }
+        ensures ok { OnOk result (small_vec_len self.old.runs + 2 * sets ≤ self.new.runs.capacity) }
+        ensures countable { OnOk result (2 * sets < 2 ^ 64) }
+        ensures err { OnErr result (SameList self.old self.new) }
+    {
+        self.runs.reserve(doubled(sets)?)?;
         Ok(())
     }
 
@@ -89,8 +103,7 @@ impl RangeList {
         ensures err { OnErr result (SameList self.old self.new) }
     {
         if self.room < sets {
-            // A set adds two runs at most: a piece on either side of its own.
-            self.runs.reserve(doubled(sets)?)?;
+            self.make_places(sets)?;
             self.room = sets;
         }
         Ok(())
