@@ -51,6 +51,9 @@ pub(super) enum Told {
     Nothing,
 }
 
+/// The file, the call, and what it tells.
+pub(super) type Row = (u64, Call, Told);
+
 /// The bytes of a range; each row has ones that a file can have.
 fn range(bytes: Bytes) -> Span
     ensures { IsByteRange result }
@@ -136,15 +139,11 @@ fn end(server: &mut LockServer, file: u64, call: Call) -> Result<Told, Memory> {
     Ok(Told::Done)
 }
 
-/// The server tells this of the call.
-pub(super) fn tells(
-    rt: &impl Abort,
-    server: &mut LockServer,
-    file: u64,
-    call: Call,
-    wanted: Told,
-) -> Result<(), Memory> {
-    let told = serve(server, file, call)?;
-    assert!(rt; told == wanted, "file {file}");
+/// The server tells of each call what its row says.
+pub(super) fn tells(rt: &impl Abort, server: &mut LockServer, rows: &[Row]) -> Result<(), Memory> {
+    for (file, call, wanted) in rows {
+        let told = serve(server, *file, *call)?;
+        assert!(rt; told == *wanted, "file {file}");
+    }
     Ok(())
 }

@@ -4,13 +4,12 @@ ghost use Rattle.range_core.specs.Ranges.{IsByteRange};
 ghost use Rattle.range_core.specs.declared.TheConstants.{OFFMAX};
 
 use super::calls::{ALL, Call, Told, serve, tells};
-use super::pair::{Descriptor, PROCESSES, Pair, Seen, number_of};
+use super::pair::{Descriptor, PROCESSES, Pair, number_of};
 use super::rule::Rule;
 use lock_book::Held;
 use lock_manager::{FlockOp, LkCmd, Lock, Reply, Request};
 use lock_server::{Mode, Owner, Policy, Span};
 use range_core::{Kind, OFFMAX, Whence};
-use std::alloc::Global;
 use std::process::Abort;
 use std::test::Fail;
 
@@ -188,20 +187,14 @@ impl Pair {
         }
         for file in 0..FILES {
             self.give_flocks(rt, &held, file, STRANGER, false)?;
-            let (file, server) = (u64::from(file), &mut self.server);
+            let (file, writes) = (u64::from(file), Call::Flock(STRANGER, Some(Mode::Write)));
             tells(
                 rt,
-                server,
-                file,
-                Call::Get(STRANGER, ALL, Mode::Write),
-                Told::Nothing,
-            )?;
-            tells(
-                rt,
-                server,
-                file,
-                Call::Flock(STRANGER, Some(Mode::Write)),
-                Told::Done,
+                &mut self.server,
+                &[
+                    (file, Call::Get(STRANGER, ALL, Mode::Write), Told::Nothing),
+                    (file, writes, Told::Done),
+                ],
             )?;
         }
         Ok(())
@@ -244,8 +237,8 @@ impl Pair {
             let owner = number_of(lock.owner);
             if lock.whole && lock.file == file && owner != except {
                 let mode = if gives { Some(lock.mode) } else { None };
-                let call = Call::Flock(owner, mode);
-                tells(rt, &mut self.server, u64::from(file), call, Told::Done)?;
+                let row = (u64::from(file), Call::Flock(owner, mode), Told::Done);
+                tells(rt, &mut self.server, &[row])?;
             }
         }
         Ok(())
@@ -259,41 +252,27 @@ impl Pair {
             Mode::Write => Told::Blocked,
         };
         self.give_flocks(rt, held, lock.file, owner, false)?;
-        let server = &mut self.server;
-        tells(
-            rt,
-            server,
-            file,
+        let (read, write) = (
             Call::Flock(STRANGER, Some(Mode::Read)),
-            reads,
-        )?;
+            Call::Flock(STRANGER, Some(Mode::Write)),
+        );
         tells(
             rt,
-            server,
-            file,
-            Call::Flock(STRANGER, Some(Mode::Write)),
-            Told::Blocked,
+            &mut self.server,
+            &[(file, read, reads), (file, write, Told::Blocked)],
         )?;
         self.give_flocks(rt, held, lock.file, owner, true)
     }
 }
 
 /// A script of 96 turns; then the waits are ended, and both have the same locks.
-fn script(
-    rt: &impl Abort,
-    alloc: Global,
-    policy: Policy,
-    rule: &mut Rule,
-    seen: Seen,
-) -> Result<Seen, Fail> {
-    let mut pair = Pair::new(alloc, policy, seen)?;
+fn script(rt: &impl Abort, pair: &mut Pair, rule: &mut Rule) -> Result<(), Fail> {
     pair.open_all(rt)?;
     for _ in 0..96 {
         pair.event(rt, rule)?;
     }
     pair.end_waits(rt)?;
-    pair.compare_locks(rt)?;
-    Ok(pair.seen)
+    pair.compare_locks(rt)
 }
 
 /// 2,000 scripts of 96 turns under each policy: of each request both tell the same to the same, in the same order, and at the end
@@ -303,7 +282,9 @@ fn goes_as_the_manager_often(rt: HostRuntime) -> Result<(), Fail> {
     let mut seen = [0; 5];
     for x in 0..2000 {
         for policy in [Policy::Held, Policy::Queue] {
-            seen = script(&rt, rt.alloc(), policy, &mut Rule { x }, seen)?;
+            let mut pair = Pair::new(rt.alloc(), policy, seen)?;
+            script(&rt, &mut pair, &mut Rule { x })?;
+            seen = pair.seen;
         }
     }
     for count in seen {

@@ -1,9 +1,8 @@
 //! The server against the model, on sequences of calls that are made by a written rule.
-use super::calls::{Call, serve};
+use super::calls::{Call, tells};
 use super::model::{FILES, Model, OWNERS};
 use super::rule::Rule;
-use lock_server::{LockServer, Policy};
-use std::alloc::Global;
+use lock_server::{LockServer, Memory, Policy};
 use std::process::Abort;
 use std::test::Fail;
 
@@ -44,8 +43,12 @@ impl Rule {
 }
 
 /// A sequence of 40 calls, and what is in the way of some request after each; then all grants that are left.
-fn sequence(rt: &impl Abort, alloc: Global, policy: Policy, rule: &mut Rule) -> Result<(), Fail> {
-    let (mut server, mut model) = (LockServer::new(alloc, policy), Model::new(alloc, policy));
+fn sequence(
+    rt: &impl Abort,
+    server: &mut LockServer,
+    model: &mut Model,
+    rule: &mut Rule,
+) -> Result<(), Memory> {
     for step in 0..88u64 {
         let call = match (step / 80, step % 2) {
             (0, 0) => rule.call(),
@@ -53,8 +56,8 @@ fn sequence(rt: &impl Abort, alloc: Global, policy: Policy, rule: &mut Rule) -> 
             _ => Call::Grant,
         };
         let file = rule.below(FILES);
-        let told = serve(&mut server, file, call)?;
-        assert!(rt; told == model.serve(file, call)?);
+        let told = model.serve(file, call)?;
+        tells(rt, server, &[(file, call, told)])?;
     }
     Ok(())
 }
@@ -65,7 +68,9 @@ fn goes_as_the_model_often(rt: HostRuntime) -> Result<(), Fail> {
     let mut rule = Rule { x: 31 };
     for _ in 0..5000 {
         for policy in [Policy::Held, Policy::Queue] {
-            sequence(&rt, rt.alloc(), policy, &mut rule)?;
+            let mut model = Model::new(rt.alloc(), policy);
+            let server = &mut LockServer::new(rt.alloc(), policy);
+            sequence(&rt, server, &mut model, &mut rule)?;
         }
     }
     Ok(())

@@ -1,12 +1,9 @@
 //! Worked runs: calls of a server in turn, each with what it tells by the rules.
-use super::calls::{ALL, Call, Told, serve, tells};
+use super::calls::{ALL, Call, Row, Told, serve, tells};
 use lock_server::Mode::{Read, Write};
 use lock_server::{LockServer, Memory, Policy};
 use std::process::Abort;
 use std::test::Fail;
-
-/// The file, the call, and what it tells.
-type Row = (u64, Call, Told);
 
 /// The file of a run that has one, with the largest number.
 const F: u64 = u64::MAX;
@@ -263,39 +260,43 @@ fn worked_runs_come_out(rt: HostRuntime) -> Result<(), Fail> {
 }
 
 /// An owner whose note was refused isn't known by the open file.
-#[test]
-fn refused_note_is_not_released(rt: HostRuntime) -> Result<(), Fail> {
-    let mut server = LockServer::new(rt.alloc(), Policy::Held);
-    let lock = Told::Lock(1, Write, (0, 9));
-    tells(
-        &rt,
-        &mut server,
-        3,
-        Call::Set(1, (0, 9), Some(Write)),
-        Told::Done,
-    )?;
+fn note_twice(rt: &impl Abort, server: &mut LockServer, lock: Row) -> Result<(), Memory> {
     for open_file in [20, 21] {
-        if serve(&mut server, 3, Call::Note(1, open_file)).is_err() {
+        let (note, release) = (Call::Note(1, open_file), Call::Release(open_file, None));
+        if serve(server, 3, note).is_err() {
             tells(
-                &rt,
-                &mut server,
-                3,
-                Call::Release(open_file, None),
-                Told::Done,
+                rt,
+                server,
+                &[(3, release, Told::Done), lock, (3, note, Told::Done)],
             )?;
-            tells(&rt, &mut server, 3, Call::Get(STRANGER, ALL, Write), lock)?;
-            tells(&rt, &mut server, 3, Call::Note(1, open_file), Told::Done)?;
         }
     }
-    for (open_file, seen) in [(20, lock), (21, Told::Nothing)] {
-        tells(
-            &rt,
-            &mut server,
-            3,
-            Call::Release(open_file, None),
-            Told::Done,
-        )?;
-        tells(&rt, &mut server, 3, Call::Get(STRANGER, ALL, Write), seen)?;
-    }
     Ok(())
+}
+
+/// A lock goes with the last close of the open file through which its owner came last, and with none through which it didn't come.
+fn release_twice(rt: &impl Abort, server: &mut LockServer) -> Result<(), Memory> {
+    let question = Call::Get(STRANGER, ALL, Write);
+    let lock = (3, question, Told::Lock(1, Write, (0, 9)));
+    tells(
+        rt,
+        server,
+        &[(3, Call::Set(1, (0, 9), Some(Write)), Told::Done)],
+    )?;
+    note_twice(rt, server, lock)?;
+    tells(
+        rt,
+        server,
+        &[
+            (3, Call::Release(20, None), Told::Done),
+            lock,
+            (3, Call::Release(21, None), Told::Done),
+            (3, question, Told::Nothing),
+        ],
+    )
+}
+
+#[test]
+fn refused_note_is_not_released(rt: HostRuntime) -> Result<(), Fail> {
+    Ok(release_twice(&rt, &mut LockServer::new(rt.alloc(), Policy::Held))?)
 }
