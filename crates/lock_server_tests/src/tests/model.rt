@@ -1,75 +1,64 @@
-//! A server as lists of the bytes, flock locks and waits there are, each looked through whole at each question.
-use lock_server::{Answer, Mode, Policy, WaitAnswer, WaitFault};
+//! A server as lists of the bytes and waits there are, each looked through whole at each question.
+use super::calls::{Bytes, Call, Told};
+use lock_server::{Memory, Mode, Policy};
 use std::alloc::Global;
-use std::test::Fail;
 
-/// How many owners the model knows: 0 to 3.
+/// How many owners the model knows, from 0 on.
 pub(super) const OWNERS: u64 = 4;
 
-/// A byte of a file that an owner has locked.
+/// How many files the model knows, from 0 on.
+pub(super) const FILES: u64 = 2;
+
+/// How many bytes of a file the model knows, from 0 on.
+const BYTES: u64 = 16;
+
+/// A flock lock is the lock of a byte past the others.
+const FLOCK: Bytes = (BYTES, BYTES);
+
+/// A lock that an owner has or waits for.
 #[derive(Clone, Copy)]
-struct LockedByte {
+struct Claim {
+    ticket: u64,
     file: u64,
     owner: u64,
-    byte: u64,
+    first: u64,
+    last: u64,
     mode: Mode,
+    detect: bool,
 }
 
-/// The flock lock of an owner on a file.
-#[derive(Clone, Copy)]
-struct FlockLock {
-    file: u64,
-    owner: u64,
-    mode: Mode,
-}
-
-/// Through which open file an owner was last seen on a file.
-#[derive(Clone, Copy)]
-struct Seen {
-    file: u64,
-    owner: u64,
-    open_file: u64,
-}
-
-/// A request for a lock: of bytes, or by flock.
-#[derive(Clone, Copy)]
-pub(super) struct Request {
-    pub(super) ticket: u64,
-    pub(super) file: u64,
-    pub(super) owner: u64,
-    pub(super) flock: bool,
-    pub(super) first: u64,
-    pub(super) last: u64,
-    pub(super) mode: Mode,
-    pub(super) detect: bool,
-}
-
-/// What a lock in the way is told as: its owner, its mode, and its first and last byte.
-pub(super) type InTheWay = (u64, Mode, u64, u64);
-
-/// All locks and waits, and the grants that were not fetched.
+/// All locks and waits, the grants that were not fetched, and of each file and owner through which open file it was last seen.
 #[derive(Drop)]
 pub(super) struct Model {
     policy: Policy,
-    bytes: Vec<LockedByte>,
-    flocks: Vec<FlockLock>,
-    waits: Vec<Request>,
+    alloc: Global,
+    /// Each of one byte.
+    locks: Vec<Claim>,
+    waits: Vec<Claim>,
     grants: Vec<u64>,
-    seen: Vec<Seen>,
+    seen: Vec<(u64, u64, u64)>,
 }
 
-/// Whether two locks of different owners exclude each other.
-fn exclude(one: Mode, other: Mode) -> bool {
-    one == Mode::Write || other == Mode::Write
+/// A claim that no wait is made of.
+fn claim_on(file: u64, owner: u64, bytes: Bytes, mode: Mode) -> Claim {
+    Claim {
+        ticket: 0,
+        file,
+        owner,
+        first: bytes.0,
+        last: bytes.1,
+        mode,
+        detect: false,
+    }
 }
 
-/// Whether the two requests could not both be granted.
-fn clash(one: &Request, other: &Request) -> bool {
+/// Whether two owners could not both have what they claim.
+fn clash(one: &Claim, other: &Claim) -> bool {
     one.file == other.file
-        && one.flock == other.flock
         && one.owner != other.owner
-        && exclude(one.mode, other.mode)
-        && (one.flock || (one.first <= other.last && other.first <= one.last))
+        && (one.mode == Mode::Write || other.mode == Mode::Write)
+        && one.first <= other.last
+        && other.first <= one.last
 }
 
 impl Model {
@@ -77,337 +66,328 @@ impl Model {
     pub(super) fn new(alloc: Global, policy: Policy) -> Model {
         Model {
             policy,
-            bytes: Vec::new(alloc),
-            flocks: Vec::new(alloc),
+            alloc,
+            locks: Vec::new(alloc),
             waits: Vec::new(alloc),
             grants: Vec::new(alloc),
             seen: Vec::new(alloc),
         }
     }
 
+    /// What the model tells of the call on the file.
+    pub(super) fn serve(&mut self, file: u64, call: Call) -> Result<Told, Memory> {
+        match call {
+            Call::Set(owner, bytes, Some(mode)) => self.set(&claim_on(file, owner, bytes, mode)),
+            Call::Set(owner, bytes, None) => self.clear(file, owner, bytes),
+            Call::Wait(ticket, owner, bytes, mode, detect) => self.wait(&Claim {
+                ticket,
+                detect,
+                ..claim_on(file, owner, bytes, mode)
+            }),
+            Call::Get(owner, bytes, mode) => Ok(self.get(&claim_on(file, owner, bytes, mode))),
+            Call::Flock(owner, Some(mode)) => self.set(&claim_on(file, owner, FLOCK, mode)),
+            Call::FlockWait(ticket, owner, mode) => self.wait(&Claim {
+                ticket,
+                ..claim_on(file, owner, FLOCK, mode)
+            }),
+            Call::Flock(owner, None) | Call::FlockRelease(owner) => self.clear(file, owner, FLOCK),
+            Call::Cancel(ticket) => self.cancel(ticket),
+            Call::Grant => Ok(self.next_grant()),
+            Call::Flush(owner) => self.flush(file, owner),
+            Call::Forget(owner) => self.forget(owner),
+            Call::Note(owner, open_file) => self.note(file, owner, open_file),
+            Call::Release(open_file, flock_owner) => self.release(file, open_file, flock_owner),
+        }
+    }
+
     /// The mode that the owner has on the byte.
     fn mode_at(&self, file: u64, owner: u64, byte: u64) -> Option<Mode> {
-        self.bytes
-            .iter()
-            .find(|lock| lock.file == file && lock.owner == owner && lock.byte == byte)
-            .map(|lock| lock.mode)
-    }
-
-    /// The mode of the owner's flock lock on the file.
-    fn flock_mode(&self, file: u64, owner: u64) -> Option<Mode> {
-        self.flocks
-            .iter()
-            .find(|lock| lock.file == file && lock.owner == owner)
-            .map(|lock| lock.mode)
-    }
-
-    /// Whether a lock of this owner is in the way of the request.
-    fn lock_blocks(&self, request: &Request, owner: u64) -> bool {
-        if request.owner == owner {
-            return false;
+        for lock in &self.locks {
+            if lock.file == file && lock.owner == owner && lock.first == byte {
+                return Some(lock.mode);
+            }
         }
-        if request.flock {
-            return self
-                .flock_mode(request.file, owner)
-                .is_some_and(|mode| exclude(mode, request.mode));
+        None
+    }
+
+    /// Whether the owner is in the way of the claim: by a lock, or under the queue policy by one of so many waits that came before.
+    fn blocks(&self, owner: u64, claim: &Claim, before: usize) -> bool {
+        let waits = if self.policy == Policy::Queue {
+            before
+        } else {
+            0
+        };
+        for other in self.locks.iter().chain(self.waits.iter().take(waits)) {
+            if other.owner == owner && clash(other, claim) {
+                return true;
+            }
         }
-        self.bytes.iter().any(|lock| {
-            lock.file == request.file
-                && lock.owner == owner
-                && request.first <= lock.byte
-                && lock.byte <= request.last
-                && exclude(lock.mode, request.mode)
-        })
+        false
     }
 
-    /// Whether a lock is in the way of the request.
-    fn is_held_back(&self, request: &Request) -> bool {
-        (0..OWNERS).any(|owner| self.lock_blocks(request, owner))
-    }
-
-    /// Whether this owner blocks the request, before which so many waits came.
-    fn owner_blocks(&self, request: &Request, before: usize, owner: u64) -> bool {
-        self.lock_blocks(request, owner)
-            || (self.policy == Policy::Queue
-                && self
-                    .waits
-                    .iter()
-                    .take(before)
-                    .any(|other| other.owner == owner && clash(other, request)))
-    }
-
-    /// Whether the request is blocked, where so many waits came before it.
-    fn is_blocked(&self, request: &Request, before: usize) -> bool {
-        (0..OWNERS).any(|owner| self.owner_blocks(request, before, owner))
+    /// Whether some owner is in the way of the claim.
+    fn is_blocked(&self, claim: &Claim, before: usize) -> bool {
+        for owner in 0..OWNERS {
+            if self.blocks(owner, claim, before) {
+                return true;
+            }
+        }
+        false
     }
 
     /// Whether some wait of the first owner that is looked at for deadlocks is blocked by the second one.
     fn waits_for(&self, one: u64, other: u64) -> bool {
-        self.waits.iter().enumerate().any(|(place, wait)| {
-            wait.detect && wait.owner == one && self.owner_blocks(wait, place, other)
-        })
-    }
-
-    /// Those of the owners for which one that was reached waits, and these.
-    fn reach(&self, alloc: Global, reached: &[u64]) -> Result<Vec<u64>, Fail> {
-        let mut more = Vec::new(alloc);
-        for owner in 0..OWNERS {
-            if reached.contains(&owner) || reached.iter().any(|one| self.waits_for(*one, owner)) {
-                more.push(owner)?;
+        for (place, wait) in self.waits.iter().enumerate() {
+            if wait.detect && wait.owner == one && self.blocks(other, wait, place) {
+                return true;
             }
         }
-        Ok(more)
+        false
     }
 
-    /// Whether the request, were it to wait, would close a cycle of owners that wait for each other.
-    fn would_cycle(&self, alloc: Global, request: &Request) -> Result<bool, Fail> {
-        let mut reached = Vec::new(alloc);
-        for owner in 0..OWNERS {
-            if self.owner_blocks(request, self.waits.len(), owner) {
+    /// Whether the owner blocks the claim, or one that was reached waits for it.
+    fn is_next(&self, claim: &Claim, reached: &[u64], owner: u64) -> bool {
+        for one in reached {
+            if self.waits_for(*one, owner) {
+                return true;
+            }
+        }
+        self.blocks(owner, claim, self.waits.len())
+    }
+
+    /// Whether the claim, were it to wait, would close a cycle of owners that wait for each other: each is looked at as often as there
+    /// are owners.
+    fn would_cycle(&self, claim: &Claim) -> Result<bool, Memory> {
+        let mut reached = Vec::new(self.alloc);
+        for step in 0..OWNERS * OWNERS {
+            let owner = step % OWNERS;
+            if !reached.contains(&owner) && self.is_next(claim, &reached, owner) {
                 reached.push(owner)?;
             }
         }
-        for _ in 0..OWNERS {
-            reached = self.reach(alloc, &reached)?;
-        }
-        Ok(reached.contains(&request.owner))
+        Ok(reached.contains(&claim.owner))
     }
 
-    /// The lock that is told of a byte in the way: of the least owner that is, with its bytes on both sides.
-    fn blocker_at(&self, request: &Request, byte: u64) -> Option<InTheWay> {
-        let wanted = Request {
-            first: byte,
-            last: byte,
-            ..*request
+    /// The lock of the owner on the byte, with what it has in the same mode on both sides.
+    fn lock_at(&self, file: u64, owner: u64, byte: u64) -> Told {
+        let Some(mode) = self.mode_at(file, owner, byte) else {
+            return Told::Nothing;
         };
-        let owner = (0..OWNERS).find(|owner| self.lock_blocks(&wanted, *owner))?;
-        let mode = self.mode_at(request.file, owner, byte)?;
-        let same = |at: &u64| self.mode_at(request.file, owner, *at) == Some(mode);
-        let before = (0..byte).rev().take_while(same).count() as u64;
-        let after = (byte..64).skip(1).take_while(same).count() as u64;
-        Some((owner, mode, byte - before, byte + after))
+        let mut first = 0;
+        for at in 0..BYTES {
+            if self.mode_at(file, owner, at) == Some(mode) {
+                continue;
+            }
+            if byte < at {
+                return Told::Lock(owner, mode, (first, at - 1));
+            }
+            first = at + 1;
+        }
+        Told::Lock(owner, mode, (first, BYTES - 1))
     }
 
-    /// The first lock that is in the way of the request.
-    pub(super) fn get(&self, request: &Request) -> Option<InTheWay> {
-        (request.first..=request.last).find_map(|byte| self.blocker_at(request, byte))
+    /// The lock that is told of a byte in the way: of the least owner that is.
+    fn get_at(&self, claim: &Claim) -> Told {
+        for owner in 0..OWNERS {
+            if self.blocks(owner, claim, 0) {
+                return self.lock_at(claim.file, owner, claim.first);
+            }
+        }
+        Told::Nothing
+    }
+
+    /// The first lock that is in the way of the claim.
+    fn get(&self, claim: &Claim) -> Told {
+        for byte in claim.first..=claim.last {
+            let told = self.get_at(&Claim {
+                first: byte,
+                last: byte,
+                ..*claim
+            });
+            if told != Told::Nothing {
+                return told;
+            }
+        }
+        Told::Nothing
     }
 }
 
 impl Model {
-    /// The owner has no lock on the bytes of the request.
-    fn unlock(&mut self, request: &Request) {
-        self.bytes.retain(|lock| {
-            lock.file != request.file
-                || lock.owner != request.owner
-                || lock.byte < request.first
-                || lock.byte > request.last
+    /// The owner has no lock on the bytes.
+    fn unlock(&mut self, file: u64, owner: u64, bytes: Bytes) {
+        let (first, last) = bytes;
+        self.locks.retain(|lock| {
+            lock.file != file || lock.owner != owner || lock.first < first || last < lock.first
         });
     }
 
-    /// The owner has no flock lock on the file.
-    fn unlock_flock(&mut self, file: u64, owner: u64) {
-        self.flocks
-            .retain(|lock| lock.file != file || lock.owner != owner);
-    }
-
-    /// The request gets its lock.
-    fn give(&mut self, request: &Request) -> Result<(), Fail> {
-        let Request {
-            file,
-            owner,
-            mode,
-            ..
-        } = *request;
-        if request.flock {
-            self.unlock_flock(file, owner);
-            self.flocks.push(FlockLock { file, owner, mode })?;
-            return Ok(());
-        }
-        self.unlock(request);
-        for byte in request.first..=request.last {
-            self.bytes.push(LockedByte {
-                file,
-                owner,
-                byte,
-                mode,
+    /// The owner gets what it claims.
+    fn give(&mut self, claim: &Claim) -> Result<(), Memory> {
+        self.unlock(claim.file, claim.owner, (claim.first, claim.last));
+        for byte in claim.first..=claim.last {
+            self.locks.push(Claim {
+                first: byte,
+                last: byte,
+                ..*claim
             })?;
         }
         Ok(())
     }
 
-    /// The place of the earliest wait on the file that is not blocked.
-    fn next_ready(&self, file: u64) -> Option<usize> {
-        self.waits
-            .iter()
-            .enumerate()
-            .find(|(place, wait)| wait.file == file && !self.is_blocked(wait, *place))
-            .map(|(place, _)| place)
-    }
-
-    /// The earliest wait on the file that is not blocked is granted, again and again.
-    fn settle(&mut self, file: u64) -> Result<(), Fail> {
-        for _ in 0..self.waits.len() {
-            let Some(place) = self.next_ready(file) else {
-                return Ok(());
-            };
-            if place < self.waits.len() {
-                let wait = self.waits.remove(place);
-                self.give(&wait)?;
-                self.grants.push(wait.ticket)?;
+    /// The place of the earliest wait that is not blocked.
+    fn next_ready(&self) -> Option<usize> {
+        for (place, wait) in self.waits.iter().enumerate() {
+            if !self.is_blocked(wait, place) {
+                return Some(place);
             }
         }
-        Ok(())
+        None
     }
 
-    /// A set that doesn't wait; of no mode where `unlocks`.
-    pub(super) fn set(&mut self, request: &Request, unlocks: bool) -> Result<Answer, Fail> {
-        if unlocks {
-            self.unlock(request);
-        } else if self.is_held_back(request) {
-            return Ok(Answer::Blocked);
-        } else {
-            self.give(request)?;
+    /// The earliest wait that is not blocked is granted, again and again.
+    fn settle(&mut self) -> Result<Told, Memory> {
+        for _ in 0..self.waits.len() {
+            match self.next_ready() {
+                Some(place) if place < self.waits.len() => {
+                    let wait = self.waits.remove(place);
+                    self.give(&wait)?;
+                    self.grants.push(wait.ticket)?;
+                }
+                _ => return Ok(Told::Done),
+            }
         }
-        self.settle(request.file)?;
-        Ok(Answer::Done)
+        Ok(Told::Done)
     }
 
-    /// Whether the ticket is one of a wait, or of a grant that was not fetched.
-    fn is_taken(&self, ticket: u64) -> bool {
-        self.grants.contains(&ticket) || self.waits.iter().any(|wait| wait.ticket == ticket)
+    /// The locks of the owner on the bytes go.
+    fn clear(&mut self, file: u64, owner: u64, bytes: Bytes) -> Result<Told, Memory> {
+        self.unlock(file, owner, bytes);
+        self.settle()
     }
 
-    /// A request for bytes, or for a flock lock that its owner hasn't, that may wait; the ticket is free.
-    fn ask(&mut self, alloc: Global, request: &Request) -> Result<WaitAnswer, Fail> {
-        if !self.is_blocked(request, self.waits.len()) {
-            self.give(request)?;
-            self.settle(request.file)?;
-            return Ok(WaitAnswer::Done);
+    /// Whether the claim is for a flock lock that its owner has in this mode already; one of another mode goes.
+    fn converts(&mut self, claim: &Claim) -> Result<bool, Memory> {
+        let held = self.mode_at(claim.file, claim.owner, BYTES);
+        if claim.first != BYTES || held.is_none() {
+            return Ok(false);
         }
-        if request.detect && self.would_cycle(alloc, request)? {
-            return Ok(WaitAnswer::Deadlock);
-        }
-        self.waits.push(*request)?;
-        Ok(WaitAnswer::Waits)
-    }
-
-    /// A request that may wait.
-    pub(super) fn wait(
-        &mut self,
-        alloc: Global,
-        request: &Request,
-    ) -> Result<Result<WaitAnswer, WaitFault>, Fail> {
-        if self.is_taken(request.ticket) {
-            return Ok(Err(WaitFault::TicketTaken));
-        }
-        if request.flock && self.converts(request)? {
-            return Ok(Ok(WaitAnswer::Done));
-        }
-        Ok(Ok(self.ask(alloc, request)?))
-    }
-
-    /// The old lock goes where a flock lock is asked for in another mode; whether it is held in this mode already.
-    fn converts(&mut self, request: &Request) -> Result<bool, Fail> {
-        let held = self.flock_mode(request.file, request.owner);
-        if held == Some(request.mode) {
+        if held == Some(claim.mode) {
             return Ok(true);
         }
-        if held.is_some() {
-            self.unlock_flock(request.file, request.owner);
-            self.settle(request.file)?;
-        }
+        self.clear(claim.file, claim.owner, FLOCK)?;
         Ok(false)
     }
 
-    /// A flock lock that is asked for without waiting.
-    pub(super) fn flock(&mut self, request: &Request) -> Result<Answer, Fail> {
-        if self.converts(request)? {
-            return Ok(Answer::Done);
+    /// A claim that doesn't wait.
+    fn set(&mut self, claim: &Claim) -> Result<Told, Memory> {
+        if self.converts(claim)? {
+            return Ok(Told::Done);
         }
-        self.set(request, false)
+        if self.is_blocked(claim, 0) {
+            return Ok(Told::Blocked);
+        }
+        self.give(claim)?;
+        self.settle()
     }
 
-    /// The flock lock of the owner goes.
-    pub(super) fn flock_release(&mut self, file: u64, owner: u64) -> Result<(), Fail> {
-        self.unlock_flock(file, owner);
-        self.settle(file)
+    /// The place of the wait with the ticket.
+    fn place_of(&self, ticket: u64) -> Option<usize> {
+        for (place, wait) in self.waits.iter().enumerate() {
+            if wait.ticket == ticket {
+                return Some(place);
+            }
+        }
+        None
+    }
+
+    /// A claim that may wait.
+    fn wait(&mut self, claim: &Claim) -> Result<Told, Memory> {
+        if self.grants.contains(&claim.ticket) || self.place_of(claim.ticket).is_some() {
+            return Ok(Told::Taken);
+        }
+        if self.converts(claim)? {
+            return Ok(Told::Done);
+        }
+        if !self.is_blocked(claim, self.waits.len()) {
+            self.give(claim)?;
+            return self.settle();
+        }
+        if claim.detect && self.would_cycle(claim)? {
+            return Ok(Told::Deadlock);
+        }
+        self.waits.push(*claim)?;
+        Ok(Told::Waits)
     }
 
     /// The wait with the ticket goes, where there is one.
-    pub(super) fn cancel(&mut self, ticket: u64) -> Result<bool, Fail> {
-        let found = self.waits.iter().position(|wait| wait.ticket == ticket);
-        match found {
+    fn cancel(&mut self, ticket: u64) -> Result<Told, Memory> {
+        match self.place_of(ticket) {
             Some(place) if place < self.waits.len() => {
-                let wait = self.waits.remove(place);
-                self.settle(wait.file)?;
-                Ok(true)
+                self.waits.remove(place);
+                self.settle()
             }
-            _ => Ok(false),
+            _ => Ok(Told::Nothing),
         }
     }
 
-    /// The owner has no byte lock on the file, and is seen through no open file of it.
+    /// The owner was seen through no open file of the file.
+    fn unsee(&mut self, file: u64, owner: u64) {
+        self.seen.retain(|seen| seen.0 != file || seen.1 != owner);
+    }
+
+    /// The owner has no byte lock on the file, and was seen through no open file of it.
     fn drop_bytes(&mut self, file: u64, owner: u64) {
-        self.bytes
-            .retain(|lock| lock.file != file || lock.owner != owner);
-        self.seen
-            .retain(|seen| seen.file != file || seen.owner != owner);
+        self.unlock(file, owner, (0, BYTES - 1));
+        self.unsee(file, owner);
     }
 
     /// The byte locks of the owner on the file go.
-    pub(super) fn flush(&mut self, file: u64, owner: u64) -> Result<(), Fail> {
+    fn flush(&mut self, file: u64, owner: u64) -> Result<Told, Memory> {
         self.drop_bytes(file, owner);
-        self.settle(file)
+        self.settle()
+    }
+
+    /// The byte locks and the waits for them of the owner go, on each file in turn.
+    fn forget(&mut self, owner: u64) -> Result<Told, Memory> {
+        for file in 0..FILES {
+            self.waits.retain(|wait| {
+                wait.file != file || wait.owner != owner || wait.first == BYTES
+            });
+            self.flush(file, owner)?;
+        }
+        Ok(Told::Done)
     }
 
     /// The owner is seen through the open file of the file.
-    pub(super) fn note(&mut self, file: u64, owner: u64, open_file: u64) -> Result<(), Fail> {
-        self.seen
-            .retain(|seen| seen.file != file || seen.owner != owner);
-        self.seen.push(Seen {
-            file,
-            owner,
-            open_file,
-        })?;
-        Ok(())
+    fn note(&mut self, file: u64, owner: u64, open_file: u64) -> Result<Told, Memory> {
+        self.unsee(file, owner);
+        self.seen.push((file, owner, open_file))?;
+        Ok(Told::Done)
     }
 
     /// The byte locks of those that were last seen through the open file go, and the flock lock of the flock owner.
-    pub(super) fn release(
+    fn release(
         &mut self,
         file: u64,
         open_file: u64,
         flock_owner: Option<u64>,
-    ) -> Result<(), Fail> {
+    ) -> Result<Told, Memory> {
         for owner in 0..OWNERS {
-            let came = |seen: &Seen| {
-                seen.file == file && seen.owner == owner && seen.open_file == open_file
-            };
-            if self.seen.iter().any(came) {
+            if self.seen.contains(&(file, owner, open_file)) {
                 self.drop_bytes(file, owner);
             }
-            if flock_owner == Some(owner) {
-                self.unlock_flock(file, owner);
-            }
         }
-        self.settle(file)
-    }
-
-    /// The byte locks and the waits for them of the owner go, on each of so many files in turn.
-    pub(super) fn forget(&mut self, owner: u64, files: u64) -> Result<(), Fail> {
-        for file in 0..files {
-            self.waits.retain(|wait| wait.file != file || wait.owner != owner || wait.flock);
-            self.flush(file, owner)?;
+        if let Some(owner) = flock_owner {
+            self.unlock(file, owner, FLOCK);
         }
-        Ok(())
+        self.settle()
     }
 
     /// The oldest grant, which is told once.
-    pub(super) fn next_grant(&mut self) -> Option<u64> {
+    fn next_grant(&mut self) -> Told {
         if self.grants.is_empty() {
-            return None;
+            return Told::Nothing;
         }
-        Some(self.grants.remove(0))
+        Told::Granted(self.grants.remove(0))
     }
 }

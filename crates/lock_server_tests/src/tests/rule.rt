@@ -1,22 +1,16 @@
 //! The written rule by which sequences of calls and scripts are made.
 ghost use Rattle.std.specs.Prelude.{◌<◌};
-ghost use Rattle.range_core.specs.Ranges.{IsByteRange};
 
-use super::bytes;
-use lock_server::{Mode, Span};
+use super::calls::Bytes;
+use lock_server::Mode;
 
 /// Numbers by the rule `x * 6364136223846793005 + 1442695040888963407`, of which the upper half is told.
 #[derive(Drop)]
 pub(super) struct Rule {
-    x: u64,
+    pub(super) x: u64,
 }
 
 impl Rule {
-    /// The numbers from this one on.
-    pub(super) fn new(x: u64) -> Rule {
-        Rule { x }
-    }
-
     /// The next number below the bound.
     pub(super) fn below(&mut self, bound: u64) -> u64
         requires { 0 < bound }
@@ -30,11 +24,9 @@ impl Rule {
     }
 
     /// One or more of the bytes from 0 to 9.
-    pub(super) fn span(&mut self) -> Span
-        ensures { IsByteRange result }
-    {
+    pub(super) fn bytes(&mut self) -> Bytes {
         let first = self.below(7);
-        bytes(first, first + self.below(4))
+        (first, first + self.below(4))
     }
 
     /// A mode.

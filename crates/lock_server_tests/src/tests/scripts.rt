@@ -1,14 +1,15 @@
 //! The server against the lock manager, on scripts that are made by a written rule.
+ghost use Rattle.std.specs.Prelude.{◌≤◌};
 ghost use Rattle.range_core.specs.Ranges.{IsByteRange};
+ghost use Rattle.range_core.specs.declared.TheConstants.{OFFMAX};
 
-use super::bytes;
-use super::pair::{Descriptor, PROCESSES, Pair, Seen, number_of};
+use super::calls::{ALL, Call, Told, serve, tells};
+use super::pair::{Descriptor, PROCESSES, Pair, number_of};
 use super::rule::Rule;
 use lock_book::Held;
-use lock_manager::{FlockOp, LkCmd, Reply, Request};
-use lock_server::{Answer, Blocker, Mode, Owner, Policy, Span};
-use range_core::{Kind, OFFMAX};
-use std::alloc::Global;
+use lock_manager::{FlockOp, LkCmd, Lock, Reply, Request};
+use lock_server::{Mode, Owner, Policy, Span};
+use range_core::{Kind, OFFMAX, Whence};
 use std::process::Abort;
 use std::test::Fail;
 
@@ -18,64 +19,72 @@ const FILES: u8 = 2;
 /// An owner that no lock of a script has.
 const STRANGER: u64 = 0;
 
+/// The lock commands, some of them as often as they are wanted.
+const COMMANDS: [LkCmd; 10] = [
+    LkCmd::GetLk,
+    LkCmd::OGetLk,
+    LkCmd::SetLk,
+    LkCmd::SetLk,
+    LkCmd::SetLkW,
+    LkCmd::SetLkW,
+    LkCmd::SetLkW,
+    LkCmd::SetLkW,
+    LkCmd::OSetLk,
+    LkCmd::OSetLkW,
+];
+
+/// What they ask for, and the server's mode of it. Those that ask take one of the first five.
+const KINDS: [(Kind, Option<Mode>); 8] = [
+    (Kind::Read, Some(Mode::Read)),
+    (Kind::Read, Some(Mode::Read)),
+    (Kind::Write, Some(Mode::Write)),
+    (Kind::Write, Some(Mode::Write)),
+    (Kind::Write, Some(Mode::Write)),
+    (Kind::Unlock, None),
+    (Kind::Unlock, None),
+    (Kind::Unlock, None),
+];
+
+/// The operations of flock, and the server's mode of each.
+const OPERATIONS: [(FlockOp, Option<Mode>); 4] = [
+    (FlockOp::Un, None),
+    (FlockOp::Sh, Some(Mode::Read)),
+    (FlockOp::Ex, Some(Mode::Write)),
+    (FlockOp::Ex, Some(Mode::Write)),
+];
+
 impl Rule {
-    /// A lock command that asks.
-    fn question(&mut self) -> LkCmd {
-        match self.below(2) {
-            0 => LkCmd::GetLk,
-            _ => LkCmd::OGetLk,
-        }
-    }
-
-    /// A lock command that sets.
-    fn command(&mut self) -> LkCmd {
-        match self.below(8) {
-            0 | 1 => LkCmd::SetLk,
-            2..=5 => LkCmd::SetLkW,
-            6 => LkCmd::OSetLk,
-            _ => LkCmd::OSetLkW,
-        }
-    }
-
-    /// A mode, or three times in eight an unlock.
-    fn kind(&mut self) -> Kind {
-        match self.below(8) {
-            0..=2 => Kind::Unlock,
-            3 | 4 => Kind::Read,
-            _ => Kind::Write,
-        }
-    }
-
     /// Some of the bytes from 0 to 9, once in eight times all from one of them on, and of an unlock half the time all.
-    fn bytes(&mut self, kind: Kind) -> Span
+    fn span(&mut self, unlocks: bool) -> Span
         ensures { IsByteRange result }
     {
-        let span = self.span();
+        let first = self.below(7);
         match self.below(8) {
             0 => Span {
+                first,
                 last: OFFMAX,
-                ..span
             },
-            1..=4 if kind == Kind::Unlock => bytes(0, OFFMAX),
-            _ => span,
-        }
-    }
-
-    /// An operation of flock.
-    fn operation(&mut self) -> FlockOp {
-        match self.below(4) {
-            0 => FlockOp::Un,
-            1 => FlockOp::Sh,
-            _ => FlockOp::Ex,
+            1..=4 if unlocks => Span {
+                first: 0,
+                last: OFFMAX,
+            },
+            _ => Span {
+                first,
+                last: first + self.below(4),
+            },
         }
     }
 }
 
-/// Whether the manager's report tells of the lock that the server told.
-fn is_same(held: &Held, blocker: Blocker) -> bool {
-    Owner::Description(number_of(held.owner)) == blocker.owner
-        && held.mode == blocker.mode
-        && held.span == blocker.span
+/// The length that names the bytes from the first one on: 0 where they go to the largest offset.
+fn length_of(span: Span) -> u64
+    requires { IsByteRange span }
+    ensures { result ≤ OFFMAX }
+{
+    if span.last == OFFMAX {
+        return 0;
+    }
+    span.last - span.first + 1
 }
 
 impl Pair {
@@ -93,161 +102,193 @@ impl Pair {
             self.open_file(rt, child, 1, 0)?;
             self.open_file(rt, child, 2, 1)?;
         }
-        self.compare_reply(rt, 1, Request::CloseFd { fd: 0 }, Reply::Ok)?;
-        self.descriptors.retain(|descriptor| descriptor.p != 1);
-        Ok(())
+        if !self.descriptors.is_empty() {
+            self.descriptors.remove(0);
+        }
+        self.compare_reply(rt, 1, Request::CloseFd { fd: 0 }, Reply::Ok)
     }
 
     /// One event by the rule, of one of the 21 descriptors; where its process waits, that is interrupted now and then.
     fn event(&mut self, rt: &impl Abort, rule: &mut Rule) -> Result<(), Fail> {
         let chosen = rule.below(21) as usize;
         let at = *self.descriptors.get(chosen).ok_or("no descriptor")?;
-        if self.wait_of(at.p).is_some() {
+        if self.wait_of(at.p)?.is_some() {
             return match rule.below(4) {
                 0 => self.signal(rt, 1, at.p),
                 _ => Ok(()),
             };
         }
         match rule.below(12) {
-            0 | 1 => self.reopen(rt, at),
-            2 => self.flock(rt, at, rule.operation(), rule.below(4) == 0),
+            0 | 1 => self.reopen(rt, at, chosen),
+            2 => self.flock(rt, at, rule),
             3 => self.signal(rt, at.p, rule.below(7) as u8 + 2),
-            4 => self.ask(rt, at, rule),
-            _ => {
-                let kind = rule.kind();
-                self.lock(rt, at, rule.command(), kind, rule.bytes(kind))
-            }
+            _ => self.lock(rt, at, rule),
         }
     }
 
-    /// A lock command that asks for a mode.
-    fn ask(&mut self, rt: &impl Abort, at: Descriptor, rule: &mut Rule) -> Result<(), Fail> {
-        let kind = match rule.below(2) {
-            0 => Kind::Read,
-            _ => Kind::Write,
+    /// A lock command by the rule.
+    fn lock(&mut self, rt: &impl Abort, at: Descriptor, rule: &mut Rule) -> Result<(), Fail> {
+        let (fd, cmd) = (at.fd, COMMANDS[rule.below(10) as usize]);
+        let asks = matches!(cmd, LkCmd::GetLk | LkCmd::OGetLk);
+        let (kind, mode) = KINDS[rule.below(if asks { 5 } else { 8 }) as usize];
+        let (owner, detect) = match cmd {
+            LkCmd::GetLk | LkCmd::SetLk | LkCmd::SetLkW => (u64::from(at.p), true),
+            _ => (at.description.wrapping_add(256), false),
         };
-        self.lock(rt, at, rule.question(), kind, rule.bytes(kind))
+        let span = rule.span(mode.is_none());
+        let bytes = (span.first, span.last);
+        let call = match (cmd, mode) {
+            (LkCmd::GetLk | LkCmd::OGetLk, Some(mode)) => Call::Get(owner, bytes, mode),
+            (LkCmd::SetLkW | LkCmd::OSetLkW, Some(mode)) => {
+                Call::Wait(self.ticket(at.p), owner, bytes, mode, detect)
+            }
+            _ => Call::Set(owner, bytes, mode),
+        };
+        let lock = Lock {
+            kind,
+            whence: Whence::Set,
+            start: span.first as i64,
+            len: length_of(span) as i64,
+            pid: 0,
+        };
+        self.compare_call(rt, at, Request::Lk { fd, cmd, lock }, call)
+    }
+
+    /// A request by flock by the rule.
+    fn flock(&mut self, rt: &impl Abort, at: Descriptor, rule: &mut Rule) -> Result<(), Fail> {
+        let owner = at.description.wrapping_add(256);
+        let (op, mode) = OPERATIONS[rule.below(4) as usize];
+        let (fd, nb) = (at.fd, rule.below(4) == 0);
+        let call = match mode {
+            Some(mode) if !nb => Call::FlockWait(self.ticket(at.p), owner, mode),
+            mode => Call::Flock(owner, mode),
+        };
+        self.compare_call(rt, at, Request::Flock { fd, op, nb }, call)
     }
 
     /// Process 1 ends each wait that is left.
     fn end_waits(&mut self, rt: &impl Abort) -> Result<(), Fail> {
         for p in 2..=PROCESSES {
-            if self.wait_of(p).is_some() {
-                self.signal(rt, 1, p)?;
-            }
+            self.signal(rt, 1, p)?;
         }
         assert!(rt; self.manager.waits()?.is_empty());
         Ok(())
     }
 
-    /// Each byte lock that the server tells of is in the manager's report, and as many are; they are taken away one after another.
-    fn compare_bytes(&mut self, rt: &impl Abort, held: &[Held], file: u8) -> Result<(), Fail> {
-        let number = u64::from(file);
-        let all = bytes(0, OFFMAX);
-        let reported = || held.iter().filter(|lock| lock.file == file && !lock.whole);
-        for _ in 0..reported().count() {
-            let blocker = self
-                .server
-                .get(number, STRANGER, all, Mode::Write)
-                .ok_or("no lock")?;
-            assert!(rt;
-                reported().any(|lock| is_same(lock, blocker)),
-                "{blocker:?}"
-            );
-            let Owner::Description(owner) = blocker.owner else {
-                return Err("an owner that is no number".into());
-            };
-            let Span { first, last } = blocker.span;
-            assert!(rt; first <= last && last <= OFFMAX);
-            self.server.set(number, owner, bytes(first, last), None)?;
-        }
-        assert_eq!(rt; self.server.get(number, STRANGER, all, Mode::Write), None);
-        Ok(())
-    }
-
-    /// The flock locks of the report on the file, but that of this owner, are taken away.
-    fn leave_flock(&mut self, held: &[Held], file: u8, owner: Owner) {
-        for lock in held.iter().filter(|lock| lock.file == file && lock.whole) {
-            if lock.owner != owner {
-                self.server
-                    .flock_release(u64::from(file), number_of(lock.owner));
+    /// Both have the same locks. What the server has is taken away line by line of the manager's report, and then nothing is left.
+    fn compare_locks(&mut self, rt: &impl Abort) -> Result<(), Fail> {
+        let held = self.manager.held()?;
+        for lock in &held {
+            if lock.whole {
+                self.compare_flock(rt, &held, lock)?;
+            } else {
+                self.compare_bytes(rt, &held, lock.file)?;
             }
         }
-    }
-
-    /// The flock locks of the report on the file are set.
-    fn give_flocks(&mut self, rt: &impl Abort, held: &[Held], file: u8) -> Result<(), Fail> {
-        for lock in held.iter().filter(|lock| lock.file == file && lock.whole) {
-            let (file, owner) = (u64::from(file), number_of(lock.owner));
-            let answer = self.server.flock(file, owner, Some(lock.mode))?;
-            assert_eq!(rt; answer, Answer::Done);
+        for file in 0..FILES {
+            self.give_flocks(rt, &held, file, STRANGER, false)?;
+            let (file, writes) = (u64::from(file), Call::Flock(STRANGER, Some(Mode::Write)));
+            tells(
+                rt,
+                &mut self.server,
+                &[
+                    (file, Call::Get(STRANGER, ALL, Mode::Write), Told::Nothing),
+                    (file, writes, Told::Done),
+                ],
+            )?;
         }
         Ok(())
     }
 
-    /// The flock locks on the file are in the way of others as one of this mode is, or as none.
-    fn probe_flock(&mut self, rt: &impl Abort, file: u8, mode: Option<Mode>) -> Result<(), Fail> {
-        let file = u64::from(file);
-        let reader = self.server.flock(file, STRANGER, Some(Mode::Read))?;
-        assert_eq!(rt; reader == Answer::Blocked, mode == Some(Mode::Write));
-        let writer = self.server.flock(file, STRANGER, Some(Mode::Write))?;
-        assert_eq!(rt; writer == Answer::Blocked, mode.is_some());
-        self.server.flock_release(file, STRANGER);
+    /// The first byte lock that the server tells of is in the report, and is taken away.
+    fn compare_bytes(&mut self, rt: &impl Abort, held: &[Held], file: u8) -> Result<(), Fail> {
+        let number = u64::from(file);
+        let question = Call::Get(STRANGER, ALL, Mode::Write);
+        let Told::Lock(owner, mode, bytes) = serve(&mut self.server, number, question)? else {
+            return Err("no lock".into());
+        };
+        let (first, last) = bytes;
+        let is_there = held.contains(&Held {
+            file,
+            whole: false,
+            owner: if owner < 256 {
+                Owner::Process(owner as u8)
+            } else {
+                Owner::Description(owner - 256)
+            },
+            mode,
+            span: Span { first, last },
+        });
+        assert!(rt; is_there);
+        serve(&mut self.server, number, Call::Set(owner, bytes, None))?;
         Ok(())
     }
 
-    /// Each flock lock of the manager's report is held in its mode by its owner, which shows where those of the others are taken away;
-    /// and there is no other.
-    fn compare_flocks(&mut self, rt: &impl Abort, held: &[Held], file: u8) -> Result<(), Fail> {
-        for lock in held.iter().filter(|lock| lock.file == file && lock.whole) {
-            self.leave_flock(held, file, lock.owner);
-            self.probe_flock(rt, file, Some(lock.mode))?;
-            self.server
-                .flock_release(u64::from(file), number_of(lock.owner));
-            self.probe_flock(rt, file, None)?;
-            self.give_flocks(rt, held, file)?;
+    /// The flock locks of the report on the file are set or taken away, but that of this owner.
+    fn give_flocks(
+        &mut self,
+        rt: &impl Abort,
+        held: &[Held],
+        file: u8,
+        except: u64,
+        gives: bool,
+    ) -> Result<(), Fail> {
+        for lock in held {
+            let owner = number_of(lock.owner);
+            if lock.whole && lock.file == file && owner != except {
+                let mode = if gives { Some(lock.mode) } else { None };
+                let row = (u64::from(file), Call::Flock(owner, mode), Told::Done);
+                tells(rt, &mut self.server, &[row])?;
+            }
         }
-        self.leave_flock(held, file, Owner::Process(0));
-        self.probe_flock(rt, file, None)
+        Ok(())
+    }
+
+    /// The server has the flock lock of the report in its mode, which shows where those of the others are taken away.
+    fn compare_flock(&mut self, rt: &impl Abort, held: &[Held], lock: &Held) -> Result<(), Fail> {
+        let (file, owner) = (u64::from(lock.file), number_of(lock.owner));
+        let reads = match lock.mode {
+            Mode::Read => Told::Done,
+            Mode::Write => Told::Blocked,
+        };
+        self.give_flocks(rt, held, lock.file, owner, false)?;
+        let (read, write) = (
+            Call::Flock(STRANGER, Some(Mode::Read)),
+            Call::Flock(STRANGER, Some(Mode::Write)),
+        );
+        tells(
+            rt,
+            &mut self.server,
+            &[(file, read, reads), (file, write, Told::Blocked)],
+        )?;
+        self.give_flocks(rt, held, lock.file, owner, true)
     }
 }
 
 /// A script of 96 turns; then the waits are ended, and both have the same locks.
-fn script(
-    rt: &impl Abort,
-    alloc: Global,
-    policy: Policy,
-    rule: &mut Rule,
-    seen: Seen,
-) -> Result<Seen, Fail> {
-    let mut pair = Pair::new(alloc, policy, seen)?;
+fn script(rt: &impl Abort, pair: &mut Pair, rule: &mut Rule) -> Result<(), Fail> {
     pair.open_all(rt)?;
     for _ in 0..96 {
         pair.event(rt, rule)?;
     }
     pair.end_waits(rt)?;
-    let held = pair.manager.held()?;
-    for file in 0..FILES {
-        pair.compare_bytes(rt, &held, file)?;
-        pair.compare_flocks(rt, &held, file)?;
-    }
-    Ok(pair.seen)
+    pair.compare_locks(rt)
 }
 
 /// 2,000 scripts of 96 turns under each policy: of each request both tell the same to the same, in the same order, and at the end
 /// both have the same locks.
 #[test]
 fn goes_as_the_manager_often(rt: HostRuntime) -> Result<(), Fail> {
-    let mut seen = Seen::default();
+    let mut seen = [0; 5];
     for x in 0..2000 {
         for policy in [Policy::Held, Policy::Queue] {
-            seen = script(&rt, rt.alloc(), policy, &mut Rule::new(x), seen)?;
+            let mut pair = Pair::new(rt.alloc(), policy, seen)?;
+            script(&rt, &mut pair, &mut Rule { x })?;
+            seen = pair.seen;
         }
     }
-    assert!(rt;
-        seen.refusals > 1000 && seen.waits > 1000 && seen.deadlocks > 1000,
-        "{seen:?}"
-    );
-    assert!(rt; seen.interrupted > 1000 && seen.grants > 1000, "{seen:?}");
+    for count in seen {
+        assert!(rt; count > 1000);
+    }
     Ok(())
 }

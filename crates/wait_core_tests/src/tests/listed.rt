@@ -41,12 +41,12 @@ impl ListedWaits {
 
     /// Whether one of so many earlier waits conflicts with the wait, under the queue policy.
     fn is_queued(&self, wait: &Wait, earlier: usize) -> bool {
-        self.policy == Policy::Queue
-            && self
-                .waits
-                .iter()
-                .take(earlier)
-                .any(|other| conflict(other, wait))
+        for other in self.waits.iter().take(earlier) {
+            if self.policy == Policy::Queue && conflict(other, wait) {
+                return true;
+            }
+        }
+        false
     }
 
     /// Marks the processes that block the wait, which has so many waits before it.

@@ -110,20 +110,18 @@ impl Both {
         requires well_formed { IsWellFormed 64 wait.now }
     {
         let cycle = self.waits.would_cycle(wait, &self.books);
-        assert_eq!(rt;
-            cycle,
-            self.listed.would_cycle(wait, &self.books),
-            "{wait:?}"
-        );
+        let listed = self.listed.would_cycle(wait, &self.books);
+        assert!(rt; cycle == listed);
         cycle
     }
 
     /// The next wait to be granted, of which both tell the same, as of the list; where there is none, no file counts as changed.
     fn next_ready(&mut self, rt: &impl Abort) -> Option<Wait> {
         let next = self.waits.next_ready_on_changed(&self.books);
-        assert_eq!(rt; next, self.waits.next_ready(&self.books));
-        assert_eq!(rt; next, self.listed.next_ready(&self.books));
-        assert!(rt; self.waits.list() == self.listed.waits.as_slice());
+        let is_next = next == self.waits.next_ready(&self.books);
+        let is_listed = next == self.listed.next_ready(&self.books);
+        let are_same = self.waits.list() == self.listed.waits.as_slice();
+        assert!(rt; is_next && is_listed && are_same);
         match next {
             Some(_) => {},
             None => self.waits.forget_changes(),
@@ -152,32 +150,66 @@ fn traditional(p: u8, file: u8, span: Span, mode: Mode) -> Wait
     }
 }
 
-/// Process 1 to 64 hold a byte each, and each but the last waits for the next one's: the last closes a cycle, and no more
-/// where one of the chain has left.
+/// The held policy by even numbers, and the queue policy by odd ones.
+fn policy_of(x: u64) -> Policy {
+    if x % 2 == 0 {
+        Policy::Held
+    } else {
+        Policy::Queue
+    }
+}
+
+/// The byte of that number.
+fn byte(number: u8) -> Span
+    ensures { IsByteRange result }
+{
+    bytes(u64::from(number), u64::from(number))
+}
+
+/// Process 1 to 64 hold the byte of their number each, and each but the last waits for the next one's.
+fn chain(alloc: Global, policy: Policy) -> Result<Both, Fail> {
+    let mut both = Both::new(alloc, policy, 64)?;
+    for p in (1..=64u8).rev() {
+        both.lock(0, Owner::Process(p), byte(p), Some(Mode::Write))?;
+        if p < 64 {
+            both.join(traditional(p, 0, byte(p + 1), Mode::Write))?;
+        }
+    }
+    Ok(both)
+}
+
+/// Whether a wait of process 64 for the byte would close a cycle, on file 0 or on another one.
+fn closes(rt: &impl Abort, both: &Both, is_other_file: bool, number: u8) -> bool {
+    let file = u8::from(is_other_file);
+    both.would_cycle(rt, &traditional(64, file, byte(number), Mode::Read))
+}
+
+/// The last process waits too, and leaves with the one in the middle: no cycle is left, and who is before it is next once it unlocks.
+fn break_chain(rt: &impl Abort, both: &mut Both) -> Result<(), Fail> {
+    both.join(traditional(64, 0, byte(1), Mode::Read))?;
+    let is_none = both.next_ready(rt).is_none();
+    assert!(rt; is_none && both.waits.list().len() == 64);
+    both.leave(64);
+    both.leave(32);
+    assert!(rt; !closes(rt, both, false, 1));
+    both.lock(0, Owner::Process(64), byte(64), None)?;
+    let next = both.next_ready(rt);
+    assert!(rt; matches!(next, Some(Wait { p: 63, .. })));
+    Ok(())
+}
+
+/// The last one of a chain of 64 closes a cycle, by that byte of that file alone, and no more where one of the chain has left.
 #[test]
 fn follows_a_chain_of_64(rt: HostRuntime) -> Result<(), Fail> {
-    for policy in [Policy::Held, Policy::Queue] {
-        let mut both = Both::new(rt.alloc(), policy, 64)?;
-        for p in 1..=64u8 {
-            let byte = u64::from(p);
-            both.lock(0, Owner::Process(p), bytes(byte, byte), Some(Mode::Write))?;
-        }
-        for p in 1..64u8 {
-            let byte = u64::from(p) + 1;
-            both.join(traditional(p, 0, bytes(byte, byte), Mode::Write))?;
-        }
-        let first = traditional(64, 0, bytes(1, 1), Mode::Read);
-        assert!(rt; both.would_cycle(&rt, &first));
-        assert!(rt; !both.would_cycle(&rt, &traditional(64, 0, bytes(65, 65), Mode::Write)));
-        assert!(rt; !both.would_cycle(&rt, &traditional(64, 1, bytes(1, 1), Mode::Write)));
-        both.join(first)?;
-        assert_eq!(rt; both.next_ready(&rt), None);
-        assert_eq!(rt; both.waits.list().len(), 64);
-        both.leave(64);
-        both.leave(32);
-        assert!(rt; !both.would_cycle(&rt, &first));
-        both.lock(0, Owner::Process(64), bytes(64, 64), None)?;
-        assert_eq!(rt; both.next_ready(&rt).map(|wait| wait.p), Some(63));
+    for x in 0..2 {
+        let mut both = chain(rt.alloc(), policy_of(x))?;
+        let (same, past, other) = (
+            closes(&rt, &both, false, 1),
+            closes(&rt, &both, false, 65),
+            closes(&rt, &both, true, 1),
+        );
+        assert!(rt; same && !past && !other);
+        break_chain(&rt, &mut both)?;
     }
     Ok(())
 }
@@ -242,39 +274,34 @@ fn step(both: &mut Both, rule: &mut Rule) -> Result<(), Fail> {
     }
 }
 
+/// A step, and what both tell then; counts the cycles that a wait would close, and how often a wait is ready.
+fn turn(
+    rt: &impl Abort,
+    both: &mut Both,
+    rule: &mut Rule,
+    seen: &mut [u64; 2],
+) -> Result<(), Fail> {
+    step(both, rule)?;
+    let p = rule.below(6) as u8 + 1;
+    let probe = traditional(p, 0, next_span(rule), Mode::Write);
+    let (cycle, next) = (both.would_cycle(rt, &probe), both.next_ready(rt));
+    seen[0] = seen[0].wrapping_add(u64::from(cycle));
+    seen[1] = seen[1].wrapping_add(u64::from(next.is_some()));
+    Ok(())
+}
+
 /// On 500 sequences of 40 steps both tell the same list, the same next wait and the same of cycles, of which there are some.
 #[test]
 fn answers_as_a_plain_list(rt: HostRuntime) -> Result<(), Fail> {
-    let mut cycles = 0u64;
-    let mut ready = 0u64;
+    let mut seen = [0; 2];
     for x in 0..500u64 {
-        let policy = if x % 2 == 0 {
-            Policy::Held
-        } else {
-            Policy::Queue
-        };
         let mut rule = Rule { x };
-        let mut both = Both::new(rt.alloc(), policy, 6)?;
+        let mut both = Both::new(rt.alloc(), policy_of(x), 6)?;
         for _step in 0..40u8 {
-            step(&mut both, &mut rule)?;
-            let probe = traditional(
-                rule.below(6) as u8 + 1,
-                0,
-                next_span(&mut rule),
-                Mode::Write,
-            );
-            if both.would_cycle(&rt, &probe) {
-                cycles = cycles.saturating_add(1);
-            }
-            if both.next_ready(&rt).is_some() {
-                ready = ready.saturating_add(1);
-            }
+            turn(&rt, &mut both, &mut rule, &mut seen)?;
         }
     }
-    assert!(rt; cycles > 1000, "{cycles} cycles");
-    assert!(rt;
-        ready > 1000 && ready < 19000,
-        "{ready} times a wait is ready"
-    );
+    let [cycles, ready] = seen;
+    assert!(rt; cycles > 1000 && ready > 1000 && ready < 19000);
     Ok(())
 }
