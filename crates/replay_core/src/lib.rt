@@ -12,9 +12,11 @@ mod pause;
 mod replays;
 mod threads;
 
+pub use caller::{Answer, Watch};
 pub use checks::{Outcome, check};
 pub use devices::{DeviceFault, FromReader, Sink, Source, ToWriter};
-pub use in_threads::replay_in_threads;
+pub use in_threads::{Nobody, replay_in_threads};
 pub use job::{Detail, Job, perform};
 pub use laws::{journals_have_one_verdict, outputs_are_judged_legal};
 pub use replays::{RunFault, replay};
+pub use threads::{ThreadReport, replay_threads};
