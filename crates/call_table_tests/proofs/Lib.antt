@@ -1,1 +1,1 @@
-pub mod PoppedLemmas
+pub mod EndLemmas

@@ -1,0 +1,296 @@
+//! The table of words, with each side in this thread.
+ghost use Rattle.std.specs.Prelude.{◌≡◌, ◌≤◌, IfOk};
+ghost use Rattle.fd_table.specs.Descriptors.{process_limit};
+ghost use Rattle.call_table.specs.Desks.{IsDeskOf, IsOpened};
+ghost use Rattle.call_table.specs.Shown.{IsClientOf};
+
+use super::{FORK, OPEN, RULES, SEEK, WIDE};
+use call_table::{Busy, Client, Desk, Gate, Hub, Served, open_hub};
+use lock_manager::{LkCmd, Lock, Reply, Request, Rules};
+use range_core::{Kind, Memory, Mode, Whence};
+use std::alloc::Global;
+use std::mem;
+use std::process::Abort;
+use std::sync::Mutex;
+use std::test::Fail;
+
+/// What a client collects: the number, the reply, and its place in the journal.
+pub type Answer = (u64, Reply, u64);
+
+/// A gate that does nothing.
+pub struct Open;
+
+impl Gate for Open {
+    fn between(&self, _place: u64) {}
+}
+
+/// A client with its hub.
+#[derive(Drop)]
+pub struct Caller<'a> {
+    hub: &'a Hub,
+    client: Client,
+    ghost of_hub: { IsClientOf hub.now client },
+}
+
+impl Caller<'_> {
+    pub fn post(&mut self, request: Request) -> Result<u64, Busy> {
+        self.client.post(self.hub, request)
+    }
+
+    pub fn collect(&mut self) -> Option<Answer> {
+        self.client.collect(self.hub)
+    }
+
+    pub fn closed(&mut self) -> bool {
+        self.client.closed(self.hub)
+    }
+}
+
+/// A desk with its hub.
+#[derive(Drop)]
+pub struct Server<'a> {
+    hub: &'a Hub,
+    pub desk: Desk,
+    ghost of_hub: { IsDeskOf hub.now desk },
+}
+
+impl Server<'_> {
+    pub fn serve<G: Gate>(&mut self, gate: &G) -> Result<Served, Memory> {
+        match self.desk.serve_one(self.hub, gate) {
+            Err(_) => self.desk.serve_one(self.hub, gate),
+            first => first,
+        }
+    }
+
+    pub fn close(&mut self) {
+        self.desk.close(self.hub);
+    }
+}
+
+/// [`open_hub`], and once more where a growth was refused.
+fn open_again(
+    alloc: Global,
+    processes: u8,
+    depth: u8,
+    rules: Rules,
+) -> Result<(Hub, Vec<Client>, Desk), Memory>
+    requires processes { (1 ≤ processes) × (processes ≤ process_limit rules.limits) }
+    requires depth { (1 ≤ depth) × (depth ≤ 32) }
+    ensures { IfOk result (λ made. IsOpened (record { processes = processes; depth = depth; rules = rules })
+        made.0 made.1.items made.2) }
+{
+    match open_hub(alloc, processes, depth, rules) {
+        Err(_) => open_hub(alloc, processes, depth, rules),
+        first => first,
+    }
+}
+
+/// A table: the hub, the clients of the first process and of the last one, and the desk.
+pub fn open_table(
+    rt: &impl Abort,
+    alloc: Global,
+    processes: u8,
+    depth: u8,
+    rules: Rules,
+) -> Result<(Hub, Client, Client, Desk), Memory>
+    requires processes { (1 ≤ processes) × (processes ≤ process_limit rules.limits) }
+    requires depth { (1 ≤ depth) × (depth ≤ 32) }
+    ensures { IfOk result (λ made. IsClientOf made.0 made.1 × IsClientOf made.0 made.2 × IsDeskOf made.0 made.3) }
+{
+    let (hub, mut clients, desk) = open_again(alloc, processes, depth, rules)?;
+    let last = clients.pop().expect(rt, "the last process has a client");
+    assert!(rt; !clients.is_empty());
+    let first = clients.swap_remove(0);
+    Ok((hub, first, last, desk))
+}
+
+/// Two clients and the desk, each with the hub.
+pub fn with_hub(
+    hub: &Hub,
+    first: Client,
+    last: Client,
+    desk: Desk,
+) -> (Caller<'_>, Caller<'_>, Server<'_>)
+    requires { IsClientOf hub.now first × IsClientOf hub.now last × IsDeskOf hub.now desk }
+{
+    let last = Caller { hub, client: last };
+    (Caller { hub, client: first }, last, Server { hub, desk })
+}
+
+/// Each request is posted, by the first process or another one, and served.
+pub fn advance(
+    rt: &impl Abort,
+    first: &mut Caller,
+    last: &mut Caller,
+    server: &mut Server,
+    requests: &[(u8, Request)],
+) -> Result<(), Memory> {
+    for (process, request) in requests {
+        let posted = if *process == 1 {
+            first.post(*request)
+        } else {
+            last.post(*request)
+        };
+        assert!(rt; posted.is_ok());
+        assert!(rt; matches!(server.serve(&Open)?, Served::Took(_)));
+    }
+    Ok(())
+}
+
+/// The number of a request that was posted, and the answer that was collected then.
+type Came = (Result<u64, Busy>, Option<Answer>);
+
+/// A gate at which a client posts a request and looks for an answer: what came of it.
+#[derive(Drop)]
+struct Acting<'a> {
+    client: Mutex<(Caller<'a>, Option<Came>)>,
+}
+
+impl Gate for Acting<'_> {
+    fn between(&self, _place: u64) {
+        if let Some(mut client) = self.client.try_lock() {
+            let posted = client.0.post(OPEN);
+            client.1 = Some((posted, client.0.collect()));
+        }
+    }
+}
+
+/// Process 2 is there, and process 1 has a lock.
+const LOCKED: [(u8, Request); 3] = [(1, OPEN), (1, FORK), (1, lock!(SetLk, Write, 0, 1))];
+
+/// A client that acts at the gate, by its process: the number of what it posts there, the answer that it collects there, and the next one.
+struct Act {
+    process: u8,
+    posted: u64,
+    meanwhile: Option<Answer>,
+    next: Option<Answer>,
+}
+
+const ACTS: [Act; 2] = [
+    Act {
+        process: 1,
+        posted: 4,
+        meanwhile: Some((1, Reply::Fd(0), 1)),
+        next: Some((2, Reply::Ok, 2)),
+    },
+    // The answer to its request is published only once the gate is passed.
+    Act {
+        process: 2,
+        posted: 2,
+        meanwhile: None,
+        next: Some((
+            1,
+            Reply::Held {
+                mode: Mode::Write,
+                start: 0,
+                len: 1,
+                pid: 1,
+            },
+            4,
+        )),
+    },
+];
+
+/// Process 1 has a lock, and process 2 asks for it, which isn't served.
+fn lock_and_look(
+    rt: &impl Abort,
+    first: &mut Caller,
+    second: &mut Caller,
+    server: &mut Server,
+) -> Result<(), Memory> {
+    advance(rt, first, second, server, &LOCKED)?;
+    assert!(rt; second.post(lock!(GetLk, Write, 0, 1)).is_ok());
+    Ok(())
+}
+
+/// The client acts while the desk serves that request.
+fn act_at_the_gate(
+    rt: &impl Abort,
+    client: Caller,
+    server: &mut Server,
+    act: &Act,
+) -> Result<(), Memory> {
+    let gate = Acting {
+        client: Mutex::new((client, None)),
+    };
+    assert!(rt; server.serve(&gate)? == Served::Took(4));
+    let mut client = gate.client.try_lock().expect(rt, "nobody else has it");
+    assert!(rt; client.1 == Some((Ok(act.posted), act.meanwhile)));
+    assert!(rt; client.0.collect() == act.next);
+    Ok(())
+}
+
+/// While the desk stands between the taking of a request and its answer, a client can post, and it can collect what was published. The
+/// other client is dropped, which leaves its words as they are, and the desk goes on.
+#[test]
+fn a_client_acts_while_the_desk_serves(rt: HostRuntime) -> Result<(), Fail> {
+    for row in &ACTS {
+        let (hub, first, last, desk) = open_table(&rt, rt.alloc(), 2, 4, RULES)?;
+        let (mut first, mut second, mut server) = with_hub(&hub, first, last, desk);
+        lock_and_look(&rt, &mut first, &mut second, &mut server)?;
+        if row.process == 2 {
+            mem::swap(&mut first, &mut second);
+        }
+        drop(second);
+        act_at_the_gate(&rt, first, &mut server, row)?;
+    }
+    Ok(())
+}
+
+/// How many cells each client has, at most.
+const DEPTH: u8 = 32;
+
+/// The client posts a request into each of its cells.
+fn fill(rt: &impl Abort, caller: &mut Caller) {
+    for _ in 0..DEPTH {
+        assert!(rt; caller.post(SEEK).is_ok());
+    }
+}
+
+/// The desk takes all that both posted.
+fn serve_both(rt: &impl Abort, server: &mut Server) -> Result<(), Memory> {
+    for _ in 0..2 * DEPTH {
+        assert!(rt; matches!(server.serve(&Open)?, Served::Took(_)));
+    }
+    Ok(())
+}
+
+/// The client collects the answer to each of them.
+fn empty(rt: &impl Abort, caller: &mut Caller) {
+    for _ in 0..DEPTH {
+        assert!(rt; matches!(caller.collect(), Some((_, Reply::Ok, _))));
+    }
+}
+
+/// The last process of the largest table is there.
+const FORKED: [(u8, Request); 2] = [(1, OPEN), (1, Request::Fork { child: 64 })];
+
+/// Both clients fill their cells and empty them, again and again: 5,056 requests.
+fn pass_often(
+    rt: &impl Abort,
+    first: &mut Caller,
+    last: &mut Caller,
+    server: &mut Server,
+) -> Result<(), Memory> {
+    advance(rt, first, last, server, &FORKED)?;
+    assert!(rt; first.collect() == Some((1, Reply::Fd(0), 1)));
+    assert!(rt; first.collect() == Some((2, Reply::Ok, 2)));
+    for _ in 0..79 {
+        fill(rt, first);
+        fill(rt, last);
+        serve_both(rt, server)?;
+        empty(rt, first);
+        empty(rt, last);
+    }
+    assert!(rt; server.desk.session().journal().len() == 5058);
+    Ok(())
+}
+
+/// Thousands of requests of the first client and of the last one pass the largest table, more than any plausible cap of it.
+#[test]
+fn thousands_pass_the_table_often(rt: HostRuntime) -> Result<(), Fail> {
+    let (hub, first, last, desk) = open_table(&rt, rt.alloc(), 64, DEPTH, WIDE)?;
+    let (mut first, mut last, mut server) = with_hub(&hub, first, last, desk);
+    pass_often(&rt, &mut first, &mut last, &mut server)?;
+    Ok(())
+}
