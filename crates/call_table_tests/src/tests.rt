@@ -18,6 +18,7 @@ macro_rules! lock {
 }
 
 mod bench;
+mod gate;
 mod table;
 mod threads;
 

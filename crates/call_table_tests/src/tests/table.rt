@@ -7,11 +7,9 @@ ghost use Rattle.call_table.specs.Shown.{IsClientOf};
 use super::{FORK, OPEN, RULES, SEEK, WIDE};
 use call_table::{Busy, Client, Desk, Gate, Hub, Served, open_hub};
 use lock_manager::{LkCmd, Lock, Reply, Request, Rules};
-use range_core::{Kind, Memory, Mode, Whence};
+use range_core::{Kind, Memory, Whence};
 use std::alloc::Global;
-use std::mem;
 use std::process::Abort;
-use std::sync::Mutex;
 use std::test::Fail;
 
 /// What a client collects: the number, the reply, and its place in the journal.
@@ -137,105 +135,8 @@ pub fn advance(
     Ok(())
 }
 
-/// The number of a request that was posted, and the answer that was collected then.
-type Came = (Result<u64, Busy>, Option<Answer>);
-
-/// A gate at which a client posts a request and looks for an answer: what came of it.
-#[derive(Drop)]
-struct Acting<'a> {
-    client: Mutex<(Caller<'a>, Option<Came>)>,
-}
-
-impl Gate for Acting<'_> {
-    fn between(&self, _place: u64) {
-        if let Some(mut client) = self.client.try_lock() {
-            let posted = client.0.post(OPEN);
-            client.1 = Some((posted, client.0.collect()));
-        }
-    }
-}
-
 /// Process 2 is there, and process 1 has a lock.
-const LOCKED: [(u8, Request); 3] = [(1, OPEN), (1, FORK), (1, lock!(SetLk, Write, 0, 1))];
-
-/// A client that acts at the gate, by its process: the number of what it posts there, the answer that it collects there, and the next one.
-struct Act {
-    process: u8,
-    posted: u64,
-    meanwhile: Option<Answer>,
-    next: Option<Answer>,
-}
-
-const ACTS: [Act; 2] = [
-    Act {
-        process: 1,
-        posted: 4,
-        meanwhile: Some((1, Reply::Fd(0), 1)),
-        next: Some((2, Reply::Ok, 2)),
-    },
-    // The answer to its request is published only once the gate is passed.
-    Act {
-        process: 2,
-        posted: 2,
-        meanwhile: None,
-        next: Some((
-            1,
-            Reply::Held {
-                mode: Mode::Write,
-                start: 0,
-                len: 1,
-                pid: 1,
-            },
-            4,
-        )),
-    },
-];
-
-/// Process 1 has a lock, and process 2 asks for it, which isn't served.
-fn lock_and_look(
-    rt: &impl Abort,
-    first: &mut Caller,
-    second: &mut Caller,
-    server: &mut Server,
-) -> Result<(), Memory> {
-    advance(rt, first, second, server, &LOCKED)?;
-    assert!(rt; second.post(lock!(GetLk, Write, 0, 1)).is_ok());
-    Ok(())
-}
-
-/// The client acts while the desk serves that request.
-fn act_at_the_gate(
-    rt: &impl Abort,
-    client: Caller,
-    server: &mut Server,
-    act: &Act,
-) -> Result<(), Memory> {
-    let gate = Acting {
-        client: Mutex::new((client, None)),
-    };
-    assert!(rt; server.serve(&gate)? == Served::Took(4));
-    let mut client = gate.client.try_lock().expect(rt, "nobody else has it");
-    assert!(rt; client.1 == Some((Ok(act.posted), act.meanwhile)));
-    assert!(rt; client.0.collect() == act.next);
-    Ok(())
-}
-
-/// While the desk stands between the taking of a request and its answer, a client can post, and it can collect what was published. The
-/// other client is dropped, which leaves its words as they are, and the desk goes on.
-#[test]
-fn a_client_acts_while_the_desk_serves(rt: HostRuntime) -> Result<(), Fail> {
-    for row in &ACTS {
-        let (hub, first, last, desk) = open_table(&rt, rt.alloc(), 2, 4, RULES)?;
-        let (mut first, mut second, mut server) = with_hub(&hub, first, last, desk);
-        lock_and_look(&rt, &mut first, &mut second, &mut server)?;
-        if row.process == 2 {
-            mem::swap(&mut first, &mut second);
-        }
-        drop(second);
-        act_at_the_gate(&rt, first, &mut server, row)?;
-    }
-    Ok(())
-}
+pub const LOCKED: [(u8, Request); 3] = [(1, OPEN), (1, FORK), (1, lock!(SetLk, Write, 0, 1))];
 
 /// How many cells each client has, at most.
 const DEPTH: u8 = 32;

@@ -13,7 +13,7 @@ use std::thread;
 use std::thread::Threads;
 
 /// How often a thread looks before it gives up.
-const TURNS: u32 = 1000000;
+pub const TURNS: u32 = 1000000;
 
 /// What two processes request: some of it is taken before their threads begin, and the rest in whatever order comes. All of it is
 /// answered in each order.

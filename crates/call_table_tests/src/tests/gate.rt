@@ -1,0 +1,167 @@
+//! A client that acts in a thread of its own while the desk stands at its gate.
+use super::RULES;
+use super::table::{Answer, Caller, LOCKED, Server, advance, open_table, with_hub};
+use super::threads::TURNS;
+use call_table::{Busy, Gate, Served};
+use lock_manager::{LkCmd, Lock, Reply, Request};
+use range_core::{Kind, Memory, Mode, Whence};
+use std::process::Abort;
+use std::sync::Wait;
+use std::sync::atomic::{AtomicBool, Ordering};
+use std::test::Fail;
+use std::thread::Threads;
+use std::{mem, thread};
+
+/// Asks for the lock that process 1 has.
+const LOOK: Request = lock!(GetLk, Write, 0, 1);
+
+/// A gate that holds the desk until the client has acted, for so many turns at most, and what the two threads tell each other.
+#[derive(Drop)]
+struct Acting {
+    /// The desk stands at the gate.
+    entered: AtomicBool,
+    /// The client's calls returned.
+    acted: AtomicBool,
+    /// That was seen at the gate.
+    seen: AtomicBool,
+    /// The desk has served.
+    served: AtomicBool,
+}
+
+impl Acting {
+    fn new() -> Acting {
+        Acting {
+            entered: AtomicBool::new(false),
+            acted: AtomicBool::new(false),
+            seen: AtomicBool::new(false),
+            served: AtomicBool::new(false),
+        }
+    }
+}
+
+impl Gate for Acting {
+    fn between(&self, _place: u64) {
+        self.entered.store(true, Ordering::SeqCst);
+        for _ in 0..TURNS {
+            if self.acted.load(Ordering::SeqCst) {
+                self.seen.store(true, Ordering::SeqCst);
+                return;
+            }
+            thread::yield_now();
+        }
+    }
+}
+
+/// What came of a request that was posted and of a look for an answer.
+type Came = (Result<u64, Busy>, Option<Answer>);
+
+/// Acts once the desk stands at the gate: `None` where it has served without that, or the turns ran out.
+fn act<'a>(mut client: Caller<'a>, gate: &Acting) -> Option<(Caller<'a>, Came)> {
+    for _ in 0..TURNS {
+        if gate.entered.load(Ordering::SeqCst) {
+            let came = (client.post(LOOK), client.collect());
+            gate.acted.store(true, Ordering::SeqCst);
+            return Some((client, came));
+        }
+        if gate.served.load(Ordering::SeqCst) {
+            return None;
+        }
+        thread::yield_now();
+    }
+    None
+}
+
+/// A client that acts at the gate, by its process: the number of what it posts there, the answer that it collects there, and the next one.
+struct Row {
+    process: u8,
+    posted: u64,
+    meanwhile: Option<Answer>,
+    next: Option<Answer>,
+}
+
+const ROWS: [Row; 2] = [
+    Row {
+        process: 1,
+        posted: 4,
+        meanwhile: Some((1, Reply::Fd(0), 1)),
+        next: Some((2, Reply::Ok, 2)),
+    },
+    // The answer to its request is published only once the gate is passed.
+    Row {
+        process: 2,
+        posted: 2,
+        meanwhile: None,
+        next: Some((
+            1,
+            Reply::Held {
+                mode: Mode::Write,
+                start: 0,
+                len: 1,
+                pid: 1,
+            },
+            4,
+        )),
+    },
+];
+
+/// Process 1 has a lock, and process 2 asks for it, which isn't served.
+fn lock_and_look(
+    rt: &impl Abort,
+    first: &mut Caller,
+    second: &mut Caller,
+    server: &mut Server,
+) -> Result<(), Memory> {
+    advance(rt, first, second, server, &LOCKED)?;
+    assert!(rt; second.post(LOOK).is_ok());
+    Ok(())
+}
+
+/// The desk serves that request, and the client acts meanwhile. Refused where no thread can be had.
+fn serve_while_it_acts<'a, R: Threads + Wait + Abort + Sync>(
+    rt: &R,
+    client: Caller<'a>,
+    server: &mut Server,
+    gate: &Acting,
+) -> Result<(Served, Option<(Caller<'a>, Came)>), Fail> {
+    thread::scope(thread::scope_env(), rt, |scope| {
+        let acting = scope.spawn(move || act(client, gate))?;
+        let served = server.serve(gate);
+        gate.served.store(true, Ordering::SeqCst);
+        let acted = acting.join(rt);
+        Ok((served?, acted))
+    })
+}
+
+/// What came of it is what the row says.
+fn act_at_the_gate<R: Threads + Wait + Abort + Sync>(
+    rt: &R,
+    client: Caller,
+    server: &mut Server,
+    row: &Row,
+) -> Result<(), Fail> {
+    let gate = Acting::new();
+    let (served, acted) = serve_while_it_acts(rt, client, server, &gate)?;
+    assert!(rt; served == Served::Took(4));
+    assert!(rt; gate.seen.load(Ordering::SeqCst));
+    let (mut client, came) = acted.expect(rt, "the desk stood at its gate");
+    assert!(rt; came == (Ok(row.posted), row.meanwhile));
+    assert!(rt; client.collect() == row.next);
+    Ok(())
+}
+
+/// While the desk stands between the taking of a request and its answer, a client in another thread can post, and it can collect what was
+/// published. The other client is dropped, which leaves its words as they are, and the desk goes on.
+#[test]
+fn a_client_acts_while_the_desk_serves(rt: HostRuntime) -> Result<(), Fail> {
+    for row in &ROWS {
+        let (hub, first, last, desk) = open_table(&rt, rt.alloc(), 2, 4, RULES)?;
+        let (mut first, mut second, mut server) = with_hub(&hub, first, last, desk);
+        lock_and_look(&rt, &mut first, &mut second, &mut server)?;
+        if row.process == 2 {
+            mem::swap(&mut first, &mut second);
+        }
+        drop(second);
+        act_at_the_gate(&rt, first, &mut server, row)?;
+    }
+    Ok(())
+}
