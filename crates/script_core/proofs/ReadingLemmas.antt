@@ -21,6 +21,8 @@ use Rattle.range_core.specs.declared.Kind.{Kind}
 use Rattle.range_core.specs.declared.Kind.TheVariants.{Read, Write, Unlock}
 use Rattle.range_core.specs.declared.Whence.{Whence}
 use Rattle.range_core.specs.declared.Whence.TheVariants.{Set, Cur, End}
+use Rattle.script_core.specs.declared.commands.CommandName.{CommandName}
+use Rattle.script_core.specs.declared.commands.CommandName.TheVariants as names
 use Rattle.script_core.specs.declared.line.Line.{Line}
 use Rattle.script_core.specs.declared.line.Line.TheVariants as lines
 use Rattle.script_core.specs.declared.script.Cause.{Cause}
@@ -28,7 +30,7 @@ use Rattle.script_core.specs.declared.script.Cause.TheVariants.{Byte, Word, Coun
 use Rattle.script_core.specs.declared.script.ScriptFault.{ScriptFault}
 use Rattle.script_core.specs.Words.{lines_of, words_of, is_printable, line_limit, script_limit}
 use Rattle.script_core.specs.HeaderText.{policy_word, limits_word}
-use Rattle.script_core.specs.RequestText.{access_word, kind_word, whence_word, op_word, nb_words, lock_command_word, pid_words, lock_words, request_words}
+use Rattle.script_core.specs.RequestText.{access_word, kind_word, whence_word, op_word, nb_words, command_word, lock_command_word, pid_words, lock_words, request_words}
 use Rattle.script_core.specs.Arguments.{Argument, FileNumber, DescriptorNumber, AnyNumber, ProcessNumber, AccessWord, OpWord, NbWord, PolicyWord, LimitsWord, Spells, IsFirstBad, AreRefused, lock_arguments, open_command, descriptor_command, number_command, dup_to_command, lock_command, flock_command, process_command, exit_command, Command, command_named, has_count}
 use Rattle.script_core.specs.ScriptText.{Meaning, HasZeroPid, Says, IsRequest, IsProcess, IsWritable}
 use Rattle.script_core.specs.Reading.{Reading, ArgumentsGive, CommandGives, RequestGives, ArrivalGives, ProcessGives, PolicyGives, LimitsGive, WordsGive, LineGives, LinesGive, HasOneReading, is_comment, says_policy, says_limits, limits_of, meaning_of, reading_after, start}
@@ -271,6 +273,16 @@ lock_named limits SetLkW = refl
 lock_named limits OGetLk = refl
 lock_named limits OSetLk = refl
 lock_named limits OSetLkW = refl
+
+-- what it makes of its arguments is what the request is
+pub lock_gives : (limits : Limits) (command : CommandName) (cmd : LkCmd) (arguments : List (List ℕ)) (result : Result Request Cause)
+    → command ≡ names.Lock cmd
+    → CommandGives limits (lock_command_word cmd ∷ arguments) (lock_command (lock_command_word cmd)) arguments result
+    → RequestGives limits (command_word command ∷ arguments) result
+lock_gives limits command cmd arguments result is gives =
+    let words = lock_command_word cmd ∷ arguments in
+    subst (λ name. RequestGives limits (command_word name ∷ arguments) result) (sym is)
+    (subst (λ found. MatchOption found (result ≡ Err Word) (λ named. CommandGives limits words named arguments result)) (sym (lock_named limits cmd)) gives)
 
 -- the arguments that the command of a request may have
 arguments_of : Limits → Request → List Argument

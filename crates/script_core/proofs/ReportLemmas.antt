@@ -1,5 +1,5 @@
 -- The text of the report.
-use Rattle.std.proofs.Common.{◌≡◌, ℕ, zero, suc, ◌+◌, ◌-◌, ◌<◌, List, ◌++◌, length, flat_map, refl, sym, ap, ◌∙◌, arith, append_assoc, append-nil, add-one}
+use Rattle.std.proofs.Common.{◌≡◌, ℕ, zero, suc, ◌+◌, ◌-◌, ◌<◌, List, ◌++◌, Result, Ok, Err, length, flat_map, OnOk, refl, sym, ap, ◌∙◌, arith, append_assoc, append-nil, add-one}
 use Rattle.std.specs.Prelude.{slice_index}
 use Rattle.std.proofs.lemmas.List.{append_cancel_left}
 use Rattle.lock_book.specs.declared.Held.{Held}
@@ -80,6 +80,11 @@ abbrev pub Writes : Manager → ℕ → List Event → List ℕ → List Held �
 Writes manager processes events sent locks waits old new =
     (counts : ℕ → ℕ) → AreCounts sent counts
     → new ≡ old ++ (flat_map held_line locks ++ flat_map wait_line waits ++ process_lines (state_at manager) events counts 1 processes)
+
+-- what follows of a fact of a value
+pub OnOk-map : {T E : Type 0} (P Q : Type 0) (result : Result T E) → (P → Q) → OnOk result P → OnOk result Q
+OnOk-map P Q (Ok value) follows fact = follows fact
+OnOk-map P Q (Err error) follows fact = tt
 
 -- what is written of the locks, the waits and the processes is one text, which is the report of each state that the manager stands for
 pub report_written : (manager : Manager) (processes : ℕ) (events : List Event) (sent : List ℕ) (locks : List Held) (waits : List Wait) (old new : List ℕ)

@@ -18,6 +18,8 @@ use Rattle.lock_manager.specs.declared.request.FlockOp.{FlockOp}
 use Rattle.lock_manager.specs.declared.request.FlockOp.TheVariants.{Sh, Ex, Un}
 use Rattle.lock_manager.specs.declared.request.Request.{Request}
 use Rattle.lock_manager.specs.declared.request.Request.TheVariants.{OpenFile, Dup, DupTo, CloseFd, Seek, Resize, Lk, Flock, Fork, Exit, Signal, Kill}
+use Rattle.script_core.specs.declared.commands.CommandName.{CommandName}
+use Rattle.script_core.specs.declared.commands.CommandName.TheVariants as names
 
 -- the word of an access mode
 abbrev pub access_word : Access → List ℕ
@@ -56,6 +58,21 @@ lock_command_word SetLkW = codes "setlkw"
 lock_command_word OGetLk = codes "ogetlk"
 lock_command_word OSetLk = codes "osetlk"
 lock_command_word OSetLkW = codes "osetlkw"
+
+-- the word of a command
+abbrev pub command_word : CommandName → List ℕ
+command_word (names.Lock cmd) = lock_command_word cmd
+command_word names.Flock = codes "flock"
+command_word names.Open = codes "open"
+command_word names.Dup = codes "dup"
+command_word names.DupTo = codes "dup2"
+command_word names.Close = codes "close"
+command_word names.Seek = codes "seek"
+command_word names.Resize = codes "resize"
+command_word names.Fork = codes "fork"
+command_word names.Signal = codes "signal"
+command_word names.Kill = codes "kill"
+command_word names.Exit = codes "exit"
 
 -- the member l_pid is written only where it isn't 0
 abbrev pub pid_words : ℤ → List (List ℕ)

@@ -1,10 +1,10 @@
 //! The words of a request, command by command.
-ghost use Rattle.std.specs.Prelude.{◌≡◌, pos, [], ◌∷◌, MatchResult, codes, decimal};
+ghost use Rattle.std.specs.Prelude.{◌≡◌, pos, [], ◌∷◌, None, MatchOption, MatchResult, codes, decimal};
 ghost use Rattle.std.specs.Fmt.{signed_decimal};
 ghost use Rattle.fd_table.specs.declared.Limits.{Limits};
 ghost use Rattle.script_core.specs.Words.{texts};
-ghost use Rattle.script_core.specs.RequestText.{lock_command_word, lock_words};
-ghost use Rattle.script_core.specs.Arguments.{DescriptorNumber, AnyNumber, ProcessNumber, IsFirstBad, AreRefused, open_command, dup_to_command, exit_command, flock_command, lock_arguments, lock_command};
+ghost use Rattle.script_core.specs.RequestText.{command_word, lock_command_word, lock_words};
+ghost use Rattle.script_core.specs.Arguments.{DescriptorNumber, AnyNumber, ProcessNumber, IsFirstBad, AreRefused, open_command, command_named, dup_to_command, exit_command, flock_command, lock_arguments, lock_command};
 ghost use Rattle.script_core.specs.ScriptText.{IsProcess};
 ghost use Rattle.script_core.specs.Reading.{CommandGives, RequestGives};
 
@@ -16,36 +16,89 @@ use crate::arguments::{
 use fd_table::Limits;
 use lock_manager::{LkCmd, Lock, Request};
 
+/// The name of a command.
+#[derive(Clone, Copy)]
+enum CommandName {
+    Lock(LkCmd),
+    Flock,
+    Open,
+    Dup,
+    DupTo,
+    Close,
+    Seek,
+    Resize,
+    Fork,
+    Signal,
+    Kill,
+    Exit,
+}
+
 /// The request that a command of this name makes of its arguments, where a script has these limits.
 pub fn read_command(limits: Limits, name: &str, arguments: &[&str]) -> Result<Request, Cause>
     ensures { RequestGives limits (name.now ∷ texts arguments.now) result }
 {
+    match command_name(name) {
+        Some(command) => read_named(limits, command, arguments),
+        None => Err(Cause::Word),
+    }
+}
+
+/// The command of this name.
+fn command_name(word: &str) -> Option<CommandName>
+    ensures { MatchOption result ((limits : Limits) → command_named limits word.now ≡ None) (λ command. word.now ≡ command_word command) }
+{
     // Most requests are for locks, and the words are compared in turn.
-    match name {
-        "getlk" => read_lock(LkCmd::GetLk, arguments),
-        "setlk" => read_lock(LkCmd::SetLk, arguments),
-        "setlkw" => read_lock(LkCmd::SetLkW, arguments),
-        "ogetlk" => read_lock(LkCmd::OGetLk, arguments),
-        "osetlk" => read_lock(LkCmd::OSetLk, arguments),
-        "osetlkw" => read_lock(LkCmd::OSetLkW, arguments),
-        "flock" => read_flock(arguments),
-        "open" => read_open(arguments),
-        "dup" => read_descriptor_alone(arguments).map(|fd| Request::Dup { fd }),
-        "dup2" => read_dup_to(arguments),
-        "close" => read_descriptor_alone(arguments).map(|fd| Request::CloseFd { fd }),
-        "seek" => {
+    match word {
+        "getlk" => Some(CommandName::Lock(LkCmd::GetLk)),
+        "setlk" => Some(CommandName::Lock(LkCmd::SetLk)),
+        "setlkw" => Some(CommandName::Lock(LkCmd::SetLkW)),
+        "ogetlk" => Some(CommandName::Lock(LkCmd::OGetLk)),
+        "osetlk" => Some(CommandName::Lock(LkCmd::OSetLk)),
+        "osetlkw" => Some(CommandName::Lock(LkCmd::OSetLkW)),
+        "flock" => Some(CommandName::Flock),
+        "open" => Some(CommandName::Open),
+        "dup" => Some(CommandName::Dup),
+        "dup2" => Some(CommandName::DupTo),
+        "close" => Some(CommandName::Close),
+        "seek" => Some(CommandName::Seek),
+        "resize" => Some(CommandName::Resize),
+        "fork" => Some(CommandName::Fork),
+        "signal" => Some(CommandName::Signal),
+        "kill" => Some(CommandName::Kill),
+        "exit" => Some(CommandName::Exit),
+        _ => None,
+    }
+}
+
+/// The request that the command makes of its arguments.
+fn read_named(limits: Limits, command: CommandName, arguments: &[&str]) -> Result<Request, Cause>
+    ensures { RequestGives limits (command_word command ∷ texts arguments.now) result }
+{
+    match command {
+        CommandName::Lock(cmd) => read_lock(cmd, arguments),
+        CommandName::Flock => read_flock(arguments),
+        CommandName::Open => read_open(arguments),
+        CommandName::Dup => read_descriptor_alone(arguments).map(|fd| Request::Dup { fd }),
+        CommandName::DupTo => read_dup_to(arguments),
+        CommandName::Close => read_descriptor_alone(arguments).map(|fd| Request::CloseFd { fd }),
+        CommandName::Seek => {
             let (fd, offset) = read_descriptor_and_number(arguments)?;
             Ok(Request::Seek { fd, offset })
         }
-        "resize" => {
+        CommandName::Resize => {
             let (fd, size) = read_descriptor_and_number(arguments)?;
             Ok(Request::Resize { fd, size })
         }
-        "fork" => read_process_alone(limits, arguments).map(|child| Request::Fork { child }),
-        "signal" => read_process_alone(limits, arguments).map(|target| Request::Signal { target }),
-        "kill" => read_process_alone(limits, arguments).map(|target| Request::Kill { target }),
-        "exit" => read_exit(arguments),
-        _ => Err(Cause::Word),
+        CommandName::Fork => read_process_alone(limits, arguments).map(|child| Request::Fork {
+            child,
+        }),
+        CommandName::Signal => read_process_alone(limits, arguments).map(|target| Request::Signal {
+            target,
+        }),
+        CommandName::Kill => read_process_alone(limits, arguments).map(|target| Request::Kill {
+            target,
+        }),
+        CommandName::Exit => read_exit(arguments),
     }
 }
 

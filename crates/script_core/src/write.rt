@@ -52,9 +52,26 @@ pub fn write_report(session: &Session, sent: &[u64], out: &mut Vec<u8>) -> Resul
 {
     let locks = session.manager().held()?;
     let waits = session.manager().waits()?;
-    let len = out.len();
-    if let Err(memory) = push_report(out, session, sent, &locks, &waits) {
-        out.truncate(len);
+    append_report(out, session, sent, &locks, &waits)
+}
+
+/// Appends those lines, or leaves the text as it was.
+fn append_report(
+    text: &mut Vec<u8>,
+    session: &Session,
+    sent: &[u64],
+    locks: &[Held],
+    waits: &[Wait],
+) -> Result<(), Memory>
+    requires { length sent.now ≡ processes_of (manager_of session.now) }
+    ensures ok { OnOk result ((counts : ℕ → ℕ) → AreCounts sent.now counts → text.new.items ≡ text.old.items
+        ++ (flat_map held_line locks.now ++ flat_map wait_line waits.now
+        ++ process_lines (state_at (manager_of session.now)) (events_in session.now) counts 1 (processes_of (manager_of session.now)))) }
+    ensures err { OnErr result (text.new.items ≡ text.old.items) }
+{
+    let len = text.len();
+    if let Err(memory) = push_report(text, session, sent, locks, waits) {
+        text.truncate(len);
         return Err(memory);
     }
     Ok(())

@@ -1,10 +1,10 @@
 use Rattle.std.proofs.Common.{codes, refl}
 use Rattle.script_core.proofs.ArgumentLemmas.{not_named}
-use Rattle.script_core.proofs.commands.read_command.Goals as goal
+use Rattle.script_core.proofs.commands.command_name.Goals as goal
 
 pub returns-in_default : goal.returns-in_default
 returns-in_default c =
-    let word = c.args.name.now in
+    let word = c.args.word.now in
     let not = c.in_default in
     rw (
       not_named (codes "open") word not.not-open,
@@ -25,4 +25,4 @@ returns-in_default c =
       not_named (codes "kill") word not.not-kill,
       not_named (codes "exit") word not.not-exit,
     )
-    refl
+    (λ limits. refl)
