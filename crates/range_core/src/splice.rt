@@ -1,5 +1,5 @@
 //! Writing over a stretch of a list, and taking out or putting in the rest.
-ghost use Rattle.std.specs.Prelude.{◌≡◌, ◌+◌, ◌-◌, ◌≤◌, ◌++◌, length, take, drop};
+ghost use Rattle.std.specs.Prelude.{◌≡◌, ◌+◌, ◌-◌, ◌≤◌, ◌++◌, ◌∷◌, length, take, drop};
 ghost use Rattle.smallvec.specs.SmallVec.{small_vec_len};
 
 use crate::{Mode, Span};
@@ -49,6 +49,18 @@ fn insert_all(runs: &mut SmallVec<(Mode, Span), 4>, at: usize, added: &[(Mode, S
     ensures capacity { runs.old.capacity ≤ runs.new.capacity }
 {
     for run in added.iter().rev() {
-        runs.insert(at, *run).unwrap();
+        insert(runs, at, *run);
     }
+}
+
+/// Inserts a run before the one that stands `at` this place, in room that is there.
+fn insert(runs: &mut SmallVec<(Mode, Span), 4>, at: usize, run: (Mode, Span))
+    requires within { at ≤ small_vec_len runs.old }
+    requires room { small_vec_len runs.old + 1 ≤ runs.old.capacity }
+    ensures items { runs.new.items ≡ take at runs.old.items ++ (run ∷ drop at runs.old.items) }
+    ensures capacity { runs.old.capacity ≤ runs.new.capacity }
+{
+    // (LLVM moves the runs behind in one piece here, and one by one in `SmallVec::insert`)
+    runs.push(run).unwrap();
+    runs.as_mut_slice()[at..].rotate_right(1);
 }
