@@ -1,5 +1,5 @@
 -- The state of the lock manager.
-use Rattle.std.specs.Prelude.{◌≡◌, ℕ, zero, suc, ◌==◌, if◌then◌else◌, Option, Some, List, [], ◌∷◌, ◌++◌, slice_get, unwrap_or}
+use Rattle.std.specs.Prelude.{◌≡◌, ◌≤◌, ◌↔◌, IsTrue, ℕ, zero, suc, ◌==◌, if◌then◌else◌, Option, Some, List, [], ◌∷◌, ◌++◌, slice_get, unwrap_or}
 use Rattle.range_core.specs.declared.Mode.{Mode}
 use Rattle.range_core.specs.declared.Span.{Span}
 use Rattle.lock_book.specs.declared.Owner.{Owner}
@@ -9,9 +9,11 @@ use Rattle.fd_table.specs.Descriptors.{Descriptors, opening_descriptors}
 use Rattle.wait_core.specs.declared.Family.{Family}
 use Rattle.wait_core.specs.declared.Family.TheVariants.{Bytes, Whole}
 use Rattle.wait_core.specs.declared.Wait.{Wait}
+use Rattle.wait_core.specs.declared.processes.ProcessSet.{ProcessSet}
 use Rattle.wait_core.specs.Locks.{Locks, locks_in}
+use Rattle.wait_core.specs.Processes.{is_member}
 use Rattle.lock_manager.specs.declared.request.ProcState.{ProcState}
-use Rattle.lock_manager.specs.declared.request.ProcState.TheVariants.{Unborn, Live}
+use Rattle.lock_manager.specs.declared.request.ProcState.TheVariants.{Unborn, Live, Waiting}
 
 -- all accepted changes of byte locks and of flock locks, the oldest first; the descriptors; the waits in order of arrival;
 -- and where each process stands (this project's choice)
@@ -35,6 +37,10 @@ opening_state =
 abbrev pub state_numbered : List ProcState → ℕ → ProcState
 state_numbered states zero = Unborn
 state_numbered states (suc place) = unwrap_or (slice_get states place) Unborn
+
+-- the set has the processes that wait, and no other (this project's choice: there are 64 at most)
+abbrev pub AreWaiting : (ℕ → ProcState) → ProcessSet → Type 0
+AreWaiting states set = (p : ℕ) → p ≤ 64 → IsTrue (is_member set p) ↔ (states p ≡ Waiting)
 
 -- the process stands so from now on, and each other one as it did
 abbrev pub StandsSo : List ProcState → List ProcState → ℕ → ProcState → Type 0

@@ -19,7 +19,7 @@ use fd_table::{FILES, Tables};
 use lock_book::{Book, Held};
 use range_core::Memory;
 use std::alloc::Global;
-use wait_core::{Wait, Waits};
+use wait_core::{ProcessSet, Wait, Waits};
 
 /// The descriptors, locks, processes and waits. What is said of them here holds at every moment, also inside an event.
 #[derive(Drop)]
@@ -47,7 +47,7 @@ impl Machine {
     ghost use Rattle.std.specs.Prelude.{◌+◌, length, vec_capacity};
     ghost use Rattle.lock_book.specs.Changes.{mode_in, flock_mode_in};
     ghost use Rattle.lock_book.specs.Reports.{IsHeldReport};
-    ghost use Rattle.lock_manager.specs.State.{State, opening_state};
+    ghost use Rattle.lock_manager.specs.State.{AreWaiting, State, opening_state};
     ghost use Rattle.lock_manager.specs.MachineView.{Shows, SameMachine, SameRules, Tells, machine_rules, machine_processes, machine_waits, machine_state};
 
     /// Process 1 lives, and there is nothing else.
@@ -90,6 +90,13 @@ impl Machine {
         ensures { IfOk result (λ waits. waits.items ≡ machine_waits self.now) }
     {
         Ok(Vec::from_slice(alloc, self.waits.list())?)
+    }
+
+    /// The processes that wait.
+    pub fn waiting(&self) -> ProcessSet
+        ensures { AreWaiting (machine_state self.now) result }
+    {
+        self.waits.waiting()
     }
 
     /// How many processes there are, numbered from 1.

@@ -13,7 +13,7 @@ use fd_table::Look;
 use lock_book::Held;
 use range_core::Memory;
 use std::alloc::Global;
-use wait_core::Wait;
+use wait_core::{ProcessSet, Wait};
 
 /// The lock manager: descriptors, locks and processes.
 #[derive(Drop)]
@@ -27,7 +27,7 @@ impl Manager {
     ghost use Rattle.fd_table.specs.Descriptors.{look_at, process_limit};
     ghost use Rattle.lock_book.specs.Changes.{mode_in, flock_mode_in};
     ghost use Rattle.lock_book.specs.Reports.{IsHeldReport};
-    ghost use Rattle.lock_manager.specs.State.{State, locks_held, opening_state};
+    ghost use Rattle.lock_manager.specs.State.{AreWaiting, State, locks_held, opening_state};
     ghost use Rattle.lock_manager.specs.Step.{Step};
     ghost use Rattle.lock_manager.specs.ManagerView.{StandsFor, SameManager, IsSafeManager, rules_of, processes_of, state_at};
 
@@ -132,6 +132,14 @@ impl Manager {
         ensures born { result ≢ ProcState.Unborn → (1 ≤ p) × (p ≤ processes_of self.now) }
     {
         self.machine.state_of(p)
+    }
+
+    /// The processes that wait. No request of these is taken until the wait is over (POSIX.1-2017 fcntl, `F_SETLKW`, "the thread
+    /// shall wait"; fcntl_locking(2), `F_OFD_SETLKW`; flock(2)).
+    pub fn waiting(&self) -> ProcessSet
+        ensures { AreWaiting (state_at self.now) result }
+    {
+        self.machine.waiting()
     }
 
     /// Whether a request of the process may be taken: there is such a process, and it lives.

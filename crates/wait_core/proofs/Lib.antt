@@ -9,3 +9,4 @@ pub mod ProcessLemmas
 pub mod QueueLemmas
 pub mod ReachLemmas
 pub mod SettledLemmas
+pub mod WaitingLemmas

@@ -1,19 +1,19 @@
 -- What the table of pairs tells, and what a change of the list or of the locks leaves of it.
-use Rattle.std.proofs.Common.{ℕ, ◌≡◌, ◌≢◌, ◌+◌, ◌<◌, ◌≤◌, ◌↔◌, ◌∙◌, ◌⊎◌, inl, inr, sym, ap, subst, arith, Bool, refl, true, false, not, Some, suc, List, [], ◌∷◌, ◌++◌, All, Any, length, get_or, set, get_or-set_same, get_or-set_other, replicate, take, drop}
-use Rattle.std.specs.Prelude.{IsTrue, ◌==◌, ◌||◌, if◌then◌else◌}
+use Rattle.std.proofs.Common.{ℕ, ◌≡◌, ◌≢◌, ◌+◌, ◌<◌, ◌≤◌, ◌↔◌, ◌∙◌, ◌⊎◌, inl, inr, sym, ap, subst, arith, Bool, refl, true, false, not, suc, List, [], ◌∷◌, ◌++◌, All, Any, length, get_or, set, get_or-set_same, get_or-set_other, replicate, take, drop}
+use Rattle.std.specs.Prelude.{IsTrue, ◌==◌, if◌then◌else◌}
 use Rattle.std.specs.List.{AllPairs}
-use Rattle.std.proofs.lemmas.Bool.{cases_eq, cases_lt, or_left}
+use Rattle.std.proofs.lemmas.Bool.{cases_eq, cases_lt}
 use Rattle.std.proofs.lemmas.Bool.Decides.{nat_tests}
 use Rattle.std.proofs.lemmas.List.{length-replicate, get_or-replicate, get_or_default, get_or_past}
 use Rattle.std.proofs.lemmas.List.Elements.{All-nil, All-cons}
-use Rattle.std.proofs.lemmas.Option.{slice_get-get_or, slice_get_within, slice_get_cases, get_or_from_slice_get}
+use Rattle.std.proofs.lemmas.Option.{slice_get_cases}
 use Rattle.range_core.specs.declared.Mode.{Mode}
 use Rattle.range_core.specs.declared.Span.{Span}
 use Rattle.range_core.specs.Ranges.{Covers, IsByteRange}
 use Rattle.lock_book.specs.declared.Owner.{Owner}
 use Rattle.lock_book.specs.declared.Owner.TheVariants.{Process, Description}
 use Rattle.lock_book.specs.Conflicts.{ByteModes, ProcessBlocks}
-use Rattle.wait_core.specs.declared.Policy.TheVariants.{Held, Queue}
+use Rattle.wait_core.specs.declared.Policy.TheVariants.{Held}
 use Rattle.wait_core.specs.declared.Wait.{Wait}
 use Rattle.wait_core.specs.declared.pairs.Pairs.{Pairs}
 use Rattle.wait_core.specs.declared.processes.ProcessSet.{ProcessSet}
@@ -25,8 +25,8 @@ use Rattle.wait_core.specs.PairsView.{pair_in, TellsPair}
 use Rattle.wait_core.specs.Processes.{is_member, no_process}
 use Rattle.wait_core.specs.WellFormed.{IsWellFormed}
 use Rattle.wait_core.specs.WaitsView.{waits_of, has_pair, without_wait_of, AreTold, AgreeBut, AgreeButOwner}
-use Rattle.wait_core.proofs.AnyLemmas.{Any-here, Any-there, Any-append, Any-append_left, Any-append_right, Any-alone, Any-weaker, Any-filter, Any-unfilter, split_at, split_within, split_is, split_take}
-use Rattle.wait_core.proofs.ProcessLemmas.{none_in, or_cases, or_right}
+use Rattle.wait_core.proofs.AnyLemmas.{Any-here, Any-there, Any-append, Any-append_left, Any-append_right, Any-alone, Any-weaker, Any-filter, Any-unfilter, split_at, split_within, split_is}
+use Rattle.wait_core.proofs.ProcessLemmas.{none_in}
 
 -- p waits for q by a lock where the list has a wait of p that a lock of q blocks
 pub blocked_wait : (locks : Locks) (waits : List Wait) (p q : ℕ) → WaitsFor Held locks waits p q → Any (IsBlockedWait locks p q) waits

@@ -7,7 +7,7 @@ use Rattle.std.proofs.lemmas.Bool.Decides.{nat_tests}
 use Rattle.std.proofs.lemmas.Nat.{le_or_l}
 use Rattle.std.proofs.lemmas.Nat.Bits.{bit_at-lt, bit_at-zero, bit_at_and, bit_at_or, bit_at_not, bit_at_ones, bit_at-trailing_zeros, bit_at_set_same, bit_at_set_other, bit_at_clear_same, bit_at_clear_other}
 use Rattle.wait_core.specs.declared.processes.ProcessSet.{ProcessSet}
-use Rattle.wait_core.specs.Processes.{no_process, is_member, lacking, IsBeyond, IsWithin}
+use Rattle.wait_core.specs.Processes.{no_process, is_member, lacking, IsFirstBeyond, IsWithin}
 
 -- the set of no process has none
 pub none_in : (q : ℕ) → is_member no_process q ≡ false
@@ -91,22 +91,35 @@ member_union one other both is zero = refl
 member_union one other both is (suc k) =
     rw (is, bit_at_or one.bits other.bits k) (one_of_two (bit_at one.bits k) (bit_at other.bits k) (bit_at-lt one.bits k) (bit_at-lt other.bits k))
 
--- where no bit is left, each member of the one set is one of the other
+-- where a bit isn't left, a member of the one set is one of the other
+within_at : (set other : ProcessSet) (k : ℕ) → other.bits < 2 ^ 64 → k < 64 → bit_at (bit_and set.bits (bit_not w64 other.bits)) k ≡ 0 → IsTrue (is_member set (suc k)) → IsTrue (is_member other (suc k))
+unfolding is_member
+within_at set other k fits few left known =
+    let one : bit_at set.bits k ≡ 1 = eqb-true _ _ known in
+    let both = bit_at_and set.bits (bit_not w64 other.bits) k in
+    let inverse = bit_at_not w64 other.bits k fits few in
+    let small = bit_at-lt other.bits k in
+    eq-eqb _ _ (omega (arith, one, left, both, inverse, small))
+
+-- where no bit is left, each is
 pub all_within : (set other : ProcessSet) → other.bits < 2 ^ 64 → bit_and set.bits (bit_not w64 other.bits) ≡ 0 → IsWithin set other
 unfolding is_member
 all_within set other fits none zero few known = known
 all_within set other fits none (suc k) few known =
-    let one : bit_at set.bits k ≡ 1 = eqb-true _ _ known in
     let left : bit_at (bit_and set.bits (bit_not w64 other.bits)) k ≡ 0 = rw none (bit_at-zero k) in
-    let both = bit_at_and set.bits (bit_not w64 other.bits) k in
-    let inverse = bit_at_not w64 other.bits k fits (omega (arith, few)) in
-    let small = bit_at-lt other.bits k in
-    eq-eqb _ _ (omega (arith, one, left, both, inverse, small))
+    within_at set other k fits (omega (arith, few)) left known
 
--- a bit that is left is a member of the one set and not of the other
-pub beyond_at : (set other : ProcessSet) (p k : ℕ) → other.bits < 2 ^ 64 → suc k ≡ p → k < 64 → bit_at (bit_and set.bits (bit_not w64 other.bits)) k ≡ 1 → IsBeyond set other p
+-- where none of less number is left, each of less number is
+least_at : (set other : ProcessSet) (k : ℕ) → other.bits < 2 ^ 64 → k < 64 → ((i : ℕ) → i < k → bit_at (bit_and set.bits (bit_not w64 other.bits)) i ≡ 0) → (q : ℕ) → q < suc k → IsTrue (is_member set q) → IsTrue (is_member other q)
 unfolding is_member
-beyond_at set other p k fits place few left =
+least_at set other k fits few below zero less known = known
+least_at set other k fits few below (suc i) less known = within_at set other i fits (omega (arith, less, few)) (below i (omega (arith, less))) known
+
+-- the lowest bit that is left is the first member of the one set that isn't in the other
+pub beyond_at : (set other : ProcessSet) (p k : ℕ) → other.bits < 2 ^ 64 → suc k ≡ p → k < 64 → bit_at (bit_and set.bits (bit_not w64 other.bits)) k ≡ 1
+    → ((i : ℕ) → i < k → bit_at (bit_and set.bits (bit_not w64 other.bits)) i ≡ 0) → IsFirstBeyond set other p
+unfolding is_member
+beyond_at set other p k fits place few left below =
     let both = bit_at_and set.bits (bit_not w64 other.bits) k in
     let inverse = bit_at_not w64 other.bits k fits few in
     let one : bit_at set.bits k ≡ 1 = (let small = bit_at-lt set.bits k in omega (arith, left, both, inverse, small)) in
@@ -115,6 +128,7 @@ beyond_at set other p k fits place few left =
       few = omega (arith, place, few);
       known = subst (λ (n : ℕ). is_member set n ≡ true) place (eq-eqb _ _ one);
       beyond = subst (λ (n : ℕ). is_member other n ≡ false) place (rw clear refl);
+      least = (λ q less known. least_at set other k fits few below q (omega (arith, less, place)) known);
     }
 
 pub or_cases : (a b : Bool) → (a || b) ≡ true → (a ≡ true) ⊎ (b ≡ true)

@@ -10,6 +10,7 @@ mod waits;
 
 pub use laws::stay_free_of_cycles;
 use lock_book::Owner;
+pub use processes::ProcessSet;
 use range_core::{Mode, Span};
 pub use waits::Waits;
 

@@ -1,6 +1,8 @@
 //! Sets of processes.
 ghost use Rattle.std.specs.Prelude.{ℕ, suc, ◌≡◌, ◌<◌, ◌≤◌, ◌==◌, ◌||◌, if◌then◌else◌, false, IfNone, IfSome, IsFalse, IsTrue};
-ghost use Rattle.wait_core.specs.Processes.{IsBeyond, IsWithin, is_member, lacking, no_process};
+ghost use Rattle.wait_core.specs.Processes.{IsFirstBeyond, IsWithin, is_member, lacking, no_process};
+
+use crate::Wait;
 
 /// How many processes there are at most, which are numbered from 1 (this project's choice).
 pub const PROCESSES: u8 = 64;
@@ -21,14 +23,14 @@ impl ProcessSet {
     }
 
     /// Each process.
-    pub fn all() -> ProcessSet
+    pub(crate) fn all() -> ProcessSet
         ensures { (p : ℕ) → 1 ≤ p → p ≤ PROCESSES → IsTrue (is_member result p) }
     {
         ProcessSet { bits: u64::MAX }
     }
 
     /// Whether there is no process in the set.
-    pub fn is_empty(self) -> bool
+    pub(crate) fn is_empty(self) -> bool
         ensures none { IsTrue result → (p : ℕ) → is_member self p ≡ false }
         ensures some { IsFalse result → (k : ℕ) × (k < PROCESSES) × IsTrue (is_member self (suc k)) }
     {
@@ -36,7 +38,7 @@ impl ProcessSet {
     }
 
     /// Whether the process is in the set.
-    pub fn has(self, p: u8) -> bool
+    pub(crate) fn has(self, p: u8) -> bool
         requires from_one { 1 ≤ p }
         requires few { p ≤ PROCESSES }
         ensures { result ≡ is_member self p }
@@ -66,7 +68,7 @@ impl ProcessSet {
     }
 
     /// The set without the process.
-    pub fn without(self, p: u8) -> ProcessSet
+    pub(crate) fn without(self, p: u8) -> ProcessSet
         requires from_one { 1 ≤ p }
         requires few { p ≤ PROCESSES }
         ensures { (q : ℕ) → q ≤ PROCESSES → is_member result q ≡ (if q == p then false else is_member self q) }
@@ -76,8 +78,20 @@ impl ProcessSet {
         }
     }
 
+    /// The set without the process of the wait, if there is one.
+    pub(crate) fn without_process_of(self, wait: Option<Wait>) -> ProcessSet
+        requires { IfSome wait (λ some. (1 ≤ some.p) × (some.p ≤ PROCESSES)) }
+        ensures some { IfSome wait (λ some. (q : ℕ) → q ≤ PROCESSES → is_member result q ≡ (if q == some.p then false else is_member self q)) }
+        ensures none { IfNone wait (result ≡ self) }
+    {
+        match wait {
+            Some(some) => self.without(some.p),
+            None => self,
+        }
+    }
+
     /// The processes of the two sets.
-    pub fn union(self, other: ProcessSet) -> ProcessSet
+    pub(crate) fn union(self, other: ProcessSet) -> ProcessSet
         ensures { (q : ℕ) → is_member result q ≡ (is_member self q || is_member other q) }
     {
         ProcessSet {
@@ -85,9 +99,9 @@ impl ProcessSet {
         }
     }
 
-    /// The first process of this set that isn't in the other one; `None` where all of this one are.
+    /// The process of least number of this set that isn't in the other one; `None` where all of this one are.
     pub fn first_beyond(self, other: ProcessSet) -> Option<u8>
-        ensures some { IfSome result (IsBeyond self other) }
+        ensures some { IfSome result (IsFirstBeyond self other) }
         ensures none { IfNone result (IsWithin self other) }
     {
         let beyond = self.bits & !other.bits;

@@ -7,7 +7,7 @@ ghost use Rattle.wait_core.specs.Files.{has_file};
 ghost use Rattle.wait_core.specs.Cycles.{IsTraditional};
 ghost use Rattle.wait_core.specs.Pairs.{IsBehindNone, IsConflictOf};
 ghost use Rattle.wait_core.specs.PairsView.{TellsQueue};
-ghost use Rattle.wait_core.specs.Processes.{is_member};
+ghost use Rattle.wait_core.specs.Processes.{AreThoseWaiting, is_member};
 ghost use Rattle.wait_core.specs.WellFormed.{IsWellFormed};
 
 mod cycles;
@@ -30,6 +30,8 @@ use std::alloc::Global;
 #[derive(Drop)]
 pub struct Waits {
     waits: Vec<Wait>,
+    /// The processes that wait.
+    waiting: ProcessSet,
     pairs: Pairs,
     /// The processes whose waits stood behind one that conflicts with theirs when they joined, under the queue policy.
     behind: ProcessSet,
@@ -43,6 +45,7 @@ pub struct Waits {
     ghost room: { processes ≤ vec_capacity waits },
     ghost well_formed: { All (IsWellFormed processes) waits.items },
     ghost apart: { AllPairs (λ v w. v.p ≢ w.p) waits.items },
+    ghost known: { AreThoseWaiting waiting waits.items },
     ghost behind_none: { policy ≡ Queue → AllPairs (IsBehindNone behind) waits.items },
     ghost queue_told: { policy ≡ Queue → ∥ TellsQueue queue waits.items ∥₁ },
 }
@@ -67,6 +70,7 @@ impl Waits {
         let waits = Vec::with_capacity(alloc, usize::from(processes))?;
         Ok(Waits {
             waits,
+            waiting: ProcessSet::empty(),
             pairs: Pairs::new(alloc)?,
             behind: ProcessSet::empty(),
             queue: Pairs::new(alloc)?,
@@ -122,6 +126,7 @@ impl Waits {
         self.behind = self.behind.put(wait.p, self.queued(&wait));
         self.queue.tell_row(wait.p, ahead);
         self.pairs.tell(&wait, books);
+        self.waiting = self.waiting.with(wait.p);
         self.waits.push_reserved(wait);
     }
 
@@ -137,6 +142,7 @@ impl Waits {
     {
         let wait = self.of(p);
         self.changed = self.changed.with_file_of(wait);
+        self.waiting = self.waiting.without_process_of(wait);
         self.waits.retain(|wait| wait.p != p);
         self.pairs.forget(p);
         self.queue.forget(p);
@@ -284,6 +290,13 @@ impl Waits {
             Policy::Held => ProcessSet::empty(),
             Policy::Queue => wait.blocking_if_traditional(&self.waits),
         }
+    }
+
+    /// The processes that wait.
+    pub fn waiting(&self) -> ProcessSet
+        ensures { AreThoseWaiting result (waits_of self.now) }
+    {
+        self.waiting
     }
 
     /// The wait of the process, where it has one.

@@ -1,9 +1,10 @@
 -- What holds of the waits stays so while locks, descriptors and processes change.
-use Rattle.std.proofs.Common.{ℕ, ◌≡◌, ◌≢◌, ◌<◌, ◌≤◌, refl, sym, ◌∙◌, ap, subst, List, [], ◌∷◌, ◌++◌, length, Some, Option, Bool, true, false, Result, Ok, Err, OnOk, OnErr, All, get_or, inl, inr, arith}
+use Rattle.std.proofs.Common.{ℕ, ◌≡◌, ◌≢◌, ◌<◌, ◌≤◌, refl, sym, ◌∙◌, ap, subst, List, [], ◌∷◌, ◌++◌, length, None, Some, Option, Bool, true, false, Result, Ok, Err, OnOk, OnErr, All, get_or, inl, inr, arith}
 use Rattle.std.proofs.Math.Logic.{∥∥₁_elim}
-use Rattle.std.proofs.lemmas.Bool.{cases_Bool}
+use Rattle.std.proofs.lemmas.Bool.{cases_Bool, eqb-true}
 use Rattle.std.specs.Prelude.{◌==◌, ◌&&◌, if◌then◌else◌, slice_get, slice_set, IsFalse}
-use Rattle.std.specs.List.{filter}
+use Rattle.std.specs.List.{filter, list_any}
+use Rattle.std.proofs.lemmas.List.Folds.{Any-from_list_any}
 use Rattle.range_core.specs.declared.Memory.{Memory}
 use Rattle.range_core.specs.declared.Mode.{Mode}
 use Rattle.range_core.specs.declared.Span.{Span}
@@ -19,16 +20,18 @@ use Rattle.fd_table.specs.TablesView.{StandFor, ever_alive}
 use Rattle.wait_core.specs.declared.Policy.{Policy}
 use Rattle.wait_core.specs.declared.Policy.TheVariants.{Held, Queue}
 use Rattle.wait_core.specs.declared.Wait.{Wait}
+use Rattle.wait_core.specs.declared.processes.ProcessSet.{ProcessSet}
 use Rattle.wait_core.specs.Locks.{Locks, locks_of, byte_modes_at, flock_modes_at}
 use Rattle.wait_core.specs.declared.waits.Waits.{Waits}
 use Rattle.wait_core.specs.Cycles.{IsFreeOfCycles, WaitsFor}
 use Rattle.wait_core.specs.Blocking.{IsBlocked, IsBlockedByLock}
 use Rattle.wait_core.specs.Settled.{AllBlockedWhere, AgreeElsewhere, AreBlockedElsewhere}
-use Rattle.wait_core.specs.WaitsView.{waits_of, policy_of, AreTold}
+use Rattle.wait_core.specs.WaitsView.{waits_of, policy_of, wait_of, AreTold}
+use Rattle.wait_core.specs.Processes.{AreThoseWaiting}
 use Rattle.wait_core.specs.FreeOfCycles.{FreeWhenLocksChange, FreeWhenDescriptionLocksChange}
 use Rattle.lock_manager.specs.declared.request.ProcState.{ProcState}
 use Rattle.lock_manager.specs.declared.request.ProcState.TheVariants.{Live, Waiting}
-use Rattle.lock_manager.specs.State.{state_numbered}
+use Rattle.lock_manager.specs.State.{AreWaiting, state_numbered}
 use Rattle.lock_manager.specs.DescriptionLocks.{MayWaitAs, AreOwned}
 use Rattle.lock_manager.specs.WaitsKept.{StayBlocked, IsSuspended, AreStanding, HaveRoom, is_byte_wait, room_at, has_place_at}
 use Rattle.lock_manager.proofs.kept.BookLemmas.{slice_get-set, slice_get-set_other, entry_is, after_set, changed}
@@ -240,3 +243,25 @@ all_blocked_still Holds policy old new still earlier (wait ∷ waits) all =
 -- each wait that was known to be blocked is, where no lock went that blocked one
 pub elsewhere_still : (waits : Waits) (old new : Locks) → StayBlocked old new → AreBlockedElsewhere waits old → AreBlockedElsewhere waits new
 elsewhere_still waits old new still known = record { blocked = all_blocked_still _ (policy_of waits) old new still [] (waits_of waits) known.blocked }
+
+-- where the list has no wait of a process, none is found
+none_found : (waits : List Wait) (p : ℕ) → list_any (λ w. w.p == p) waits ≡ false → wait_of waits p ≡ None
+none_found [] p none = refl
+none_found (w ∷ waits) p none = elim (cases_Bool (w.p == p)) [
+  | inl there ↦ absurd (let no : true ≡ false = rw there at none in cc)
+  | inr missing ↦ rw missing (none_found waits p (rw missing at none))
+]
+
+-- the processes of the waits are those that wait
+pub those_waiting : (tables : Tables) (states : List ProcState) (waits : List Wait) (set : ProcessSet) → AreThoseWaiting set waits → AreStanding tables states waits
+    → AreWaiting (state_numbered states) set
+those_waiting tables states waits set known h p few = (
+  λ is.
+      let (k, wait, inside, at_place, test) = Any-from_list_any (λ (w : Wait). w.p == p) waits (sym (known p few) ∙ is) in
+      let state : state_numbered states wait.p ≡ Waiting = subst (λ (w : Wait). state_numbered states w.p ≡ Waiting) at_place (h.suspended k wait inside).waiting in
+      subst (λ (q : ℕ). state_numbered states q ≡ Waiting) (eqb-true wait.p p test) state,
+  λ state. elim (cases_Bool (list_any (λ (w : Wait). w.p == p) waits)) [
+    | inl there ↦ known p few ∙ there
+    | inr missing ↦ absurd (h.awaited p state (none_found waits p missing))
+  ],
+)

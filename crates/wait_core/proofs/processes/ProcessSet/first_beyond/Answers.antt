@@ -16,4 +16,4 @@ returns-clause-some c =
     let some : 0 < left = omega arith in
     let lowest = bit_at-trailing_zeros w64 left some (omega (arith, and_le_r set.bits (bit_not w64 other.bits))) in
     let few : trailing_zeros w64 left < 64 = lowest.0 in
-    beyond_at set other _ (trailing_zeros w64 left) (omega arith) (omega (arith, few)) few lowest.1
+    beyond_at set other _ (trailing_zeros w64 left) (omega arith) (omega (arith, few)) few lowest.1 lowest.2

@@ -9,14 +9,17 @@ use Rattle.std.proofs.lemmas.List.Kept.{AllPairs-filter}
 use Rattle.wait_core.specs.declared.Wait.{Wait}
 use Rattle.wait_core.specs.Pairs.{IsBehindNone}
 use Rattle.wait_core.specs.WellFormed.{IsWellFormed}
+use Rattle.wait_core.specs.Processes.{AreThoseWaiting}
 use Rattle.wait_core.specs.WaitsView.{waits_of, policy_of, has_pair}
 use Rattle.wait_core.specs.Settled.{AllBlockedElsewhere, changed_files}
 use Rattle.wait_core.proofs.PairLemmas.{told-leave}
 use Rattle.wait_core.proofs.QueueLemmas.{queue_left}
 use Rattle.wait_core.proofs.SettledLemmas.{elsewhere_without}
+use Rattle.wait_core.proofs.WaitingLemmas.{waiting_left}
 use Rattle.wait_core.proofs.waits.Waits.leave.Goals as goal
 
 pub invariant_of-self : goal.invariant_of-self
+unfolding waits_of
 invariant_of-self c =
     let self = c.args.self.now in
     let rest : c.retain.new.self.items ≡ filter (λ (wait : Wait). not (wait.p == c.args.p)) self.waits.items =
@@ -26,6 +29,9 @@ invariant_of-self c =
       room = (let room : self.processes ≤ vec_capacity c.retain.new.self = rw c.retain.ensures.capacity self.room in room);
       well_formed = (λ k d within. rw rest (All-filter (λ (wait : Wait). not (wait.p == c.args.p)) (IsWellFormed self.processes) self.waits.items self.well_formed k d (rw rest at within)));
       apart = (λ i j d before within. rw rest (AllPairs-filter (λ (v w : Wait). v.p ≢ w.p) (λ (wait : Wait). not (wait.p == c.args.p)) self.waits.items self.apart i j d before (rw rest at within)));
+      known = subst (AreThoseWaiting c.without_process_of-self.result) (sym rest)
+          (waiting_left self.waiting c.without_process_of-self.result self.waits.items c.args.p c.of-wait.result c.of-wait.ensures.found
+          c.without_process_of-self.ensures.some c.without_process_of-self.ensures.none self.known);
       behind_none = (λ queue i j d before within. rw rest (AllPairs-filter (IsBehindNone self.behind) (λ (wait : Wait). not (wait.p == c.args.p)) self.waits.items (self.behind_none queue) i j d before (rw rest at within)));
       queue_told = (λ queue. ∥∥₁_map (self.queue_told queue) (λ told.
           queue_left self.queue c.forget-2.new.self c.forget_blocker.new.self c.args.p self.waits.items c.retain.new.self.items rest

@@ -3,17 +3,17 @@ use Rattle.std.specs.Vec.{vec_len, vec_capacity}
 use Rattle.std.proofs.Math.Logic.{∥∥₁_map}
 use Rattle.std.proofs.lemmas.List.Elements.{All-push}
 use Rattle.std.proofs.lemmas.List.Quantifiers.{all_pairs_push}
-use Rattle.wait_core.specs.declared.Policy.{Policy}
 use Rattle.wait_core.specs.declared.Wait.{Wait}
-use Rattle.wait_core.specs.Blocking.{IsQueued}
 use Rattle.wait_core.specs.Locks.{locks_of}
 use Rattle.wait_core.specs.PairsView.{TellsQueue}
 use Rattle.wait_core.specs.WellFormed.{IsWellFormed}
+use Rattle.wait_core.specs.Processes.{AreThoseWaiting}
 use Rattle.wait_core.specs.WaitsView.{waits_of, policy_of, processes_of, has_pair}
 use Rattle.wait_core.proofs.BehindLemmas.{behind_joined}
 use Rattle.wait_core.proofs.ListLemmas.{none_of, room_for}
 use Rattle.wait_core.proofs.PairLemmas.{told-join}
 use Rattle.wait_core.proofs.QueueLemmas.{queue_joined}
+use Rattle.wait_core.proofs.WaitingLemmas.{waiting_joined}
 use Rattle.wait_core.proofs.waits.Waits.push.Goals as goal
 
 pub push_reserved-requires : goal.push_reserved-requires
@@ -39,6 +39,8 @@ invariant_of-self c =
           let all = all_pairs_push (λ (v w : Wait). v.p ≢ w.p) self.waits.items c.args.wait self.apart
           (λ k e inside. none_of self.waits.items c.args.wait.p c.requires.none k e inside) in
           rw items (all i j d before (rw items at within)));
+      known = subst (AreThoseWaiting c.with-self.result) (sym c.push_reserved.ensures.items)
+          (waiting_joined self.waiting c.with-self.result self.waits.items c.args.wait c.with-self.ensures.members self.known);
       behind_none = (λ queue i j d before within. let items = c.push_reserved.ensures.items in
           let all = behind_joined self.behind c.put-self.result self.processes self.waits.items c.args.wait c.queued.result self.policy self.few self.well_formed
           c.requires.well_formed.process (none_of self.waits.items c.args.wait.p c.requires.none) c.put-self.ensures queue c.queued.ensures (self.behind_none queue) in
