@@ -1,5 +1,5 @@
 -- Answers among notes and events, counted and looked up.
-use Rattle.std.proofs.Common.{ℕ, ◌≡◌, ◌+◌, ◌<◌, refl, sym, ◌∙◌, ap, true, false, ◌&&◌, eq-eqb, ne_eqb, length, List, [], ◌∷◌, ◌++◌, ⊎_elim, Some, None, drop, get_or, find, option_map}
+use Rattle.std.proofs.Common.{ℕ, ◌≡◌, ◌+◌, ◌<◌, refl, sym, ◌∙◌, ap, true, false, eq-eqb, ne_eqb, length, List, [], ◌∷◌, ◌++◌, ⊎_elim, Some, None, drop, get_or, find, option_map}
 use Rattle.std.specs.Prelude.{◌==◌, if◌then◌else◌}
 use Rattle.std.proofs.lemmas.Bool.{cases_eq}
 use Rattle.std.proofs.lemmas.List.{at_drop_more}
@@ -7,7 +7,7 @@ use Rattle.lock_manager.specs.declared.request.Reply.{Reply}
 use Rattle.lock_manager.specs.declared.request.Note.{Note}
 use Rattle.lock_manager.specs.declared.request.Note.TheVariants.{Answer, Waits}
 use Rattle.session_core.specs.Event.{Event}
-use Rattle.session_core.specs.Mail.{answers_in, answers_from, reply_among, reply_of}
+use Rattle.session_core.specs.Mail.{answers_in, answers_from, reply_among}
 
 Some≢None : {X : Type 0} {x : X} → Some x ≡ None → ⊥
 Some≢None e = cc

@@ -1,9 +1,12 @@
 -- Mailboxes by process: what is written to one of them, and what stays.
 use Rattle.std.proofs.Common.{ℕ, zero, suc, ◌≡◌, ◌≢◌, ◌+◌, ◌-◌, ◌<◌, ◌≤◌, refl, sym, ◌∙◌, ap, subst, arith, length, length-append, take, slice_get, set, get_or, List, [], ◌∷◌, ◌++◌, Some, Option, Result, Ok, Err, IfOk, eq-eqb, ne_eqb, ⊎_elim}
-use Rattle.std.specs.Prelude.{◌==◌, if◌then◌else◌, IsNone}
+use Rattle.std.specs.Prelude.{◌==◌, if◌then◌else◌, IsNone, IsTrue}
 use Rattle.std.proofs.lemmas.List.{get_or-set_same, length-set, length-map, append-nil, append_assoc}
 use Rattle.std.proofs.lemmas.Option.{slice_get-get_or}
-use Rattle.std.proofs.lemmas.Bool.{cases_eq, cases_lt}
+use Rattle.std.proofs.lemmas.Bool.{cases_eq}
+use Rattle.fd_table.specs.declared.Limits.{Limits}
+use Rattle.fd_table.specs.declared.Limits.TheVariants.{Small, Wide}
+use Rattle.fd_table.specs.Descriptors.{process_limit}
 use Rattle.lock_manager.specs.declared.request.Request.{Request}
 use Rattle.lock_manager.specs.declared.manager.Manager.{Manager}
 use Rattle.lock_manager.specs.ManagerView.{SameManager, rules_of, processes_of}
@@ -11,9 +14,11 @@ use Rattle.session_core.specs.declared.session.Session.{Session}
 use Rattle.session_core.specs.Runs.{IsStep, events_of}
 use Rattle.session_core.specs.SessionView.{manager_of, events_in, sent_of, SameSession, Arrives, TakesRequest, sent_with}
 use Rattle.session_core.specs.declared.mailbox.Mailbox.{Mailbox}
-use Rattle.session_core.specs.declared.window.Window.{Window}
+use Rattle.wait_core.specs.declared.processes.ProcessSet.{ProcessSet}
+use Rattle.wait_core.specs.Processes.{is_member}
 use Rattle.lock_manager.specs.declared.request.ProcState.{ProcState}
-use Rattle.session_core.specs.Draining.{next_untaken, HasNoMailBelow, IsDrained}
+use Rattle.lock_manager.specs.declared.request.ProcState.TheVariants.{Live}
+use Rattle.session_core.specs.Draining.{next_untaken}
 use Rattle.session_core.specs.Mailboxes.{mailbox_of, waiting_in, taken_in, mail_waiting, mail_sent, mail_taken, HasMail, IsInside, IsMailInside, IsMailKept}
 use Rattle.session_core.specs.Event.{Event}
 use Rattle.session_core.specs.Mail.{requests_taken}
@@ -274,19 +279,19 @@ pub HasMail-there : (mailboxes : List Mailbox) (place p : ℕ) (mailbox : Mailbo
 HasMail-there mailboxes place p mailbox at some =
     subst (λ m. 0 < length (waiting_in m)) (sym (mailbox_of-there mailboxes place p mailbox at)) some
 
--- a mailbox is written: the mail stays inside a window that isn't smaller, where that of its process does
-pub IsMailInside-set : (mailboxes : List Mailbox) (place p : ℕ) (old new : Mailbox) (window window' : Window) → StandsAt mailboxes place p old
-    → ((q : ℕ) → IsInside window q → IsInside window' q) → (0 < length new.waiting.items → IsInside window' p)
-    → IsMailInside window mailboxes → IsMailInside window' (set mailboxes place new)
-IsMailInside-set mailboxes place p old new window window' at wider own inside q mail =
+-- a mailbox is written: the mail stays inside a set that has each other process still, where that of its process does
+pub IsMailInside-set : (mailboxes : List Mailbox) (place p : ℕ) (old new : Mailbox) (senders senders' : ProcessSet) → StandsAt mailboxes place p old
+    → ((q : ℕ) → q ≢ p → IsInside senders q → IsInside senders' q) → (0 < length new.waiting.items → IsInside senders' p)
+    → IsMailInside senders mailboxes → IsMailInside senders' (set mailboxes place new)
+IsMailInside-set mailboxes place p old new senders senders' at others own inside q mail =
     let written = mail_waiting-set mailboxes place p old new at q in
     ⊎_elim
     (λ same.
     let is : (if q == p then new.waiting.items else mail_waiting mailboxes q) ≡ new.waiting.items = rw (eq-eqb q p same) refl in
-    subst (IsInside window') (sym same) (own (subst (λ l. 0 < length l) (written ∙ is) mail)))
+    subst (IsInside senders') (sym same) (own (subst (λ l. 0 < length l) (written ∙ is) mail)))
     (λ other.
     let is : (if q == p then new.waiting.items else mail_waiting mailboxes q) ≡ mail_waiting mailboxes q = rw (ne_eqb q p other) refl in
-    wider q (inside q (subst (λ l. 0 < length l) (written ∙ is) mail)))
+    others q other (inside q (subst (λ l. 0 < length l) (written ∙ is) mail)))
     (cases_eq q p)
 
 -- what stands right behind a list is the first of what follows it
@@ -301,17 +306,7 @@ next_untaken-waits mailboxes journal p =
     ap (λ n. slice_get (mail_sent mailboxes journal p) n) (sym (length-map (events_of p journal) (λ event. event.request)))
     ∙ slice_get-behind (requests_taken p journal) (mail_waiting mailboxes p)
 
--- a process without such mail has no next request
-nothing_untaken : (mailboxes : List Mailbox) (journal : List Event) (q : ℕ)
-    → ¬ (HasMail mailboxes q) → IsNone (next_untaken (mail_sent mailboxes journal) journal q)
-nothing_untaken mailboxes journal q none =
-    subst (λ o. IsNone o) (sym (next_untaken-waits mailboxes journal q)) (nothing (mail_waiting mailboxes q) none)
-  where
-    nothing : (waiting : List Request) → ¬ (0 < length waiting) → IsNone (slice_get waiting 0)
-    nothing [] none = refl
-    nothing (request ∷ waiting) none = absurd (none (omega arith))
-
--- and one without a next request has no such mail
+-- a process without a next request has no such mail
 pub no_mail : (mailboxes : List Mailbox) (journal : List Event) (q : ℕ)
     → IsNone (next_untaken (mail_sent mailboxes journal) journal q) → ¬ (HasMail mailboxes q)
 no_mail mailboxes journal q none some =
@@ -321,18 +316,12 @@ no_mail mailboxes journal q none some =
     nothing [] none some = omega arith
     nothing (request ∷ waiting) none some = cc
 
--- no process before those with mail has a next request
-pub none_below : (mailboxes : List Mailbox) (journal : List Event) (states : ℕ → ProcState) (window : Window)
-    → IsMailInside window mailboxes → HasNoMailBelow states (mail_sent mailboxes journal) journal (window.before + 1)
-none_below mailboxes journal states window inside q below live =
-    nothing_untaken mailboxes journal q (λ some. omega (arith, below, (inside q some).0))
+-- there are 64 processes at most, whatever the limits
+pub few_processes : (limits : Limits) (processes : ℕ) → processes ≤ process_limit limits → processes ≤ 64
+few_processes Small processes within = omega (arith, within)
+few_processes Wide processes within = within
 
--- nor has any live one, where none up to the last of them has
-pub none_at_all : (mailboxes : List Mailbox) (journal : List Event) (states : ℕ → ProcState) (window : Window) (index : ℕ)
-    → IsMailInside window mailboxes → window.last ≤ index
-    → HasNoMailBelow states (mail_sent mailboxes journal) journal (index + 1) → IsDrained states (mail_sent mailboxes journal) journal
-none_at_all mailboxes journal states window index inside past none q live =
-    ⊎_elim
-    (λ below. none q below live)
-    (λ behind. nothing_untaken mailboxes journal q (λ some. omega (arith, behind, past, (inside q some).1)))
-    (cases_lt q (index + 1))
+-- no live process of the set has a next request
+abbrev pub HaveNoMail : ProcessSet → (ℕ → ProcState) → List Mailbox → List Event → Type 0
+HaveNoMail set states mailboxes journal =
+    (q : ℕ) → q ≤ 64 → IsTrue (is_member set q) → states q ≡ Live → IsNone (next_untaken (mail_sent mailboxes journal) journal q)

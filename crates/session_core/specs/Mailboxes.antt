@@ -1,8 +1,9 @@
 -- What the mailboxes hold (the words are this project's choice).
-use Rattle.std.specs.Prelude.{◌≡◌, ◌<◌, ◌≤◌, ℕ, zero, suc, Option, Some, None, List, [], ◌++◌, length, slice_get}
+use Rattle.std.specs.Prelude.{IsTrue, ◌≡◌, ◌<◌, ◌≤◌, ℕ, zero, suc, Option, Some, None, List, [], ◌++◌, length, slice_get}
+use Rattle.wait_core.specs.declared.processes.ProcessSet.{ProcessSet}
+use Rattle.wait_core.specs.Processes.{is_member}
 use Rattle.lock_manager.specs.declared.request.Request.{Request}
 use Rattle.session_core.specs.declared.mailbox.Mailbox.{Mailbox}
-use Rattle.session_core.specs.declared.window.Window.{Window}
 use Rattle.session_core.specs.Event.{Event}
 use Rattle.session_core.specs.Runs.{events_of}
 use Rattle.session_core.specs.Mail.{requests_taken}
@@ -38,13 +39,13 @@ mail_taken mailboxes p = taken_in (mailbox_of mailboxes p)
 abbrev pub HasMail : List Mailbox → ℕ → Type 0
 HasMail mailboxes p = 0 < length (mail_waiting mailboxes p)
 
--- the process is one of those
-abbrev pub IsInside : Window → ℕ → Type 0
-IsInside window p = (window.before < p) × (p ≤ window.last)
+-- the process is in the set, which has a place for 64
+abbrev pub IsInside : ProcessSet → ℕ → Type 0
+IsInside set p = (p ≤ 64) × IsTrue (is_member set p)
 
--- each process with a request that wasn't taken is one of those
-abbrev pub IsMailInside : Window → List Mailbox → Type 0
-IsMailInside window mailboxes = (p : ℕ) → HasMail mailboxes p → IsInside window p
+-- each process with a request that wasn't taken is in the set
+abbrev pub IsMailInside : ProcessSet → List Mailbox → Type 0
+IsMailInside set mailboxes = (p : ℕ) → HasMail mailboxes p → IsInside set p
 
 -- there is some process; each has a mailbox, and of each just so much was taken as the journal has
 pub record IsMailKept (processes : ℕ) (mailboxes : List Mailbox) (journal : List Event) : Type 0 where

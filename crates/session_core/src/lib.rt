@@ -8,7 +8,6 @@ mod laws;
 mod mailbox;
 mod run;
 mod session;
-mod window;
 
 pub use check::{CheckFault, Expected, JournalChecker, check_journal};
 pub use entry::{Entry, Notes};

@@ -1,5 +1,5 @@
 //! The requests that a process sent, in order.
-ghost use Rattle.std.specs.Prelude.{◌≡◌, ◌+◌, ◌-◌, ◌<◌, ◌≤◌, ◌↔◌, [], ◌∷◌, ◌++◌, Err, IfOk, OnOk, OnErr, length, slice_get, take, drop};
+ghost use Rattle.std.specs.Prelude.{◌≡◌, ◌+◌, ◌-◌, ◌<◌, ◌≤◌, ◌↔◌, [], ◌∷◌, ◌++◌, Err, IfOk, IsTrue, OnOk, OnErr, length, slice_get, take, drop};
 ghost use Rattle.session_core.specs.declared.TheConstants.{N_MAX};
 
 use crate::{ArriveFault, N_MAX};
@@ -67,14 +67,16 @@ impl Mailbox {
         Ok(sent + 1)
     }
 
-    /// The first request that wasn't taken is taken.
-    pub fn advance(&mut self)
+    /// The first request that wasn't taken is taken. Tells whether there are more.
+    pub fn advance(&mut self) -> bool
         requires { 0 < length self.old.waiting.items }
+        ensures more { IsTrue result ↔ (0 < length self.new.waiting.items) }
         ensures taken { self.new.taken ≡ self.old.taken + 1 }
         ensures waiting { self.new.waiting.items ≡ drop 1 self.old.waiting.items }
     {
         self.waiting.pop_front();
         self.taken += 1;
+        !self.waiting.is_empty()
     }
 
     /// Takes back the last request, which wasn't taken: it is as if it hadn't come.

@@ -11,13 +11,13 @@ ghost use Rattle.session_core.specs.Headline.{Holds};
 use crate::answers::{Answer, LastAnswers};
 use crate::entry::find_reply;
 use crate::mailbox::Mailbox;
-use crate::window::Window;
 use crate::{Entry, N_MAX, Notes};
 use lock_manager::{Manager, ProcState, Reply, Request, Rules};
 use range_core::Memory;
 use std::alloc::Global;
 use std::cmp::Ordering;
 use thiserror::Error;
+use wait_core::ProcessSet;
 
 /// Why a request can't arrive.
 #[derive(Clone, Copy, Debug, PartialEq, Eq, Error)]
@@ -48,11 +48,12 @@ pub struct Session {
     /// By process, from process 1 on.
     mailboxes: Vec<Mailbox>,
     /// Among these are the processes that have sent what wasn't taken.
-    window: Window,
+    senders: ProcessSet,
     answers: LastAnswers,
     journal: Vec<Entry>,
     ghost mail: { IsMailKept (processes_of manager) mailboxes.items journal.items },
-    ghost inside: { IsMailInside window mailboxes.items },
+    ghost few: { processes_of manager ≤ 64 },
+    ghost inside: { IsMailInside senders mailboxes.items },
     ghost answered: { AreLastAnswers (processes_of manager) answers journal.items },
     ghost holds: { ∥ Holds manager (mail_sent mailboxes.items journal.items) journal.items ∥₁ },
 }
@@ -73,7 +74,7 @@ impl Session {
         Ok(Session {
             manager,
             mailboxes,
-            window: Window::empty(),
+            senders: ProcessSet::empty(),
             answers,
             journal: Vec::new(alloc),
         })
@@ -89,7 +90,7 @@ impl Session {
         ensures err { OnErr result (SameSession self.old self.new) }
         ensures holds { SessionHolds self.new }
     {
-        self.window = self.window.with(p);
+        self.senders = self.senders.with(p);
         self.mailboxes[usize::from(p) - 1].push(request)
     }
 
@@ -102,7 +103,6 @@ impl Session {
         ensures memory { OnErr result (SameSession self.old self.new) }
         ensures holds { SessionHolds self.new }
     {
-        self.window = self.narrowed();
         match self.next_mail() {
             Some((p, request)) => self.take(p, request).map(Some),
             None => Ok(None),
@@ -209,32 +209,17 @@ impl Session {
         ensures least { IfSome result (λ mail. HasNoMailBelow (state_at (manager_of self.now)) (sent_of self.now) (events_in self.now) mail.0) }
         ensures none { IfNone result (IsDrained (state_at (manager_of self.now)) (sent_of self.now) (events_in self.now)) }
     {
-        for index in self.window.before..self.window.last {
-            let p = index + 1;
-            // Most of those that have mail may wait, and who isn't able is told at once.
+        // Most of those that have mail may wait: these are passed by in one step.
+        let mut passed = self.manager.waiting();
+        while let Some(p) = self.senders.first_beyond(passed) {
             if self.manager.able(p)
                 && let Some(request) = self.untaken(p)
             {
                 return Some((p, request));
             }
+            passed = passed.with(p);
         }
         None
-    }
-
-    /// The window from the first process on that has sent what wasn't taken.
-    fn narrowed(&self) -> Window
-        ensures { IsMailInside result self.now.mailboxes.items }
-    {
-        let Window { before, last } = self.window;
-        for index in before..last {
-            if self.untaken(index + 1).is_some() {
-                return Window {
-                    before: index,
-                    last,
-                };
-            }
-        }
-        Window::empty()
     }
 
     /// The first request of the process that wasn't taken.
@@ -264,7 +249,8 @@ impl Session {
             notes: Notes::of(notes),
         };
         self.journal.push(entry).unwrap();
-        self.mailboxes[usize::from(p) - 1].advance();
+        let more = self.mailboxes[usize::from(p) - 1].advance();
+        self.senders = self.senders.put(p, more);
         Ok(self.journal.len() as u64)
     }
 

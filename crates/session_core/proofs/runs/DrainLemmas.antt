@@ -18,7 +18,7 @@ use Rattle.session_core.specs.Runs.{IsStep, events_of}
 use Rattle.session_core.specs.Mail.{requests_sent}
 use Rattle.session_core.specs.Mailboxes.{mail_waiting, mail_sent, waiting_in}
 use Rattle.session_core.specs.Draining.{next_untaken, IsNext, IsDrained, TakesMail, DrainsMail, DrainsFrom, IsDrain}
-use Rattle.session_core.specs.SessionView.{SameSession, Arrives, IsEmptySession, TakesOne, TakesNext, manager_of, events_in, sent_of}
+use Rattle.session_core.specs.SessionView.{SameSession, IsEmptySession, TakesOne, TakesNext, manager_of, events_in, sent_of}
 use Rattle.session_core.specs.Deliveries.{GoesOn, TakesSome, Drains, Delivers, IsAtRest, IsAtRestBut}
 use Rattle.session_core.proofs.runs.JournalLemmas.{length-events_of-push}
 use Rattle.session_core.proofs.MailLemmas.{next_untaken-waits}

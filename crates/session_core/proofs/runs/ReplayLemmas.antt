@@ -6,7 +6,6 @@ use Rattle.std.specs.declared.alloc.Global.{Global}
 use Rattle.std.proofs.lemmas.Bool.{cases_eq, cases_lt}
 use Rattle.std.proofs.lemmas.List.{append_assoc, take-append-drop, take_more}
 use Rattle.std.proofs.lemmas.List.Elements.{filter-append}
-use Rattle.std.proofs.lemmas.Option.{IfSome_then}
 use Rattle.lock_manager.specs.declared.request.Rules.{Rules}
 use Rattle.lock_manager.specs.declared.request.Note.{Note}
 use Rattle.lock_manager.specs.declared.request.ProcState.{ProcState}

@@ -1,6 +1,7 @@
-use Rattle.std.proofs.Common.{◌≡◌, ◌∙◌, ◌+◌, refl, sym, length, [], ◌∷◌, ◌++◌}
+use Rattle.std.proofs.Common.{◌≡◌, ◌∙◌, ◌+◌, ◌≤◌, refl, sym, arith, length, [], ◌∷◌, ◌++◌, eq-eqb, ne_eqb}
 use Rattle.std.proofs.lemmas.Result.{IfErr-weaker}
 use Rattle.std.proofs.Math.Logic.{∥∥₁_map}
+use Rattle.lock_manager.specs.ManagerView.{processes_of}
 use Rattle.session_core.specs.SessionView.{manager_of, events_in, sent_of}
 use Rattle.session_core.proofs.MailLemmas.{StandsAt-index, IsMailInside-set, IsMailKept-written, mailbox_of-there, mailbox_of-set_same, mail_sent-kept, mail_sent-pushed, length-mail_sent-there, Holds-sent, SameManager-refl, IfOk-both}
 use Rattle.session_core.proofs.runs.JournalLemmas.{mail_sent-few}
@@ -15,9 +16,15 @@ invariant_of-self c =
     let new = c.push.new.self in
     let at = StandsAt-index mailboxes _ c.args.p c.from.result old self.mail.one_each c.requires.0 c.requires.1 c.from.ensures c.index_mut.ensures.value in
     let mail = IsMailKept-written _ mailboxes self.journal.items _ c.args.p old new at c.push.ensures.taken self.mail in
+    let few : c.args.p ≤ 64 = (let all : processes_of self.manager ≤ 64 = self.few in omega (arith, all, c.requires.1)) in
     record {
       mail = mail;
-      inside = IsMailInside-set mailboxes _ c.args.p old new self.window c.with-self.result at c.with-self.ensures.others (λ some. c.with-self.ensures.p) self.inside;
+      few = self.few;
+      inside =
+          IsMailInside-set mailboxes _ c.args.p old new self.senders c.with-self.result at
+          (λ q other h. (h.0, c.with-self.ensures.members q ∙ rw (ne_eqb q c.args.p other) h.1))
+          (λ some. (few, c.with-self.ensures.members c.args.p ∙ rw (eq-eqb c.args.p c.args.p refl) refl))
+          self.inside;
       answered = self.answered;
       holds = ∥∥₁_map self.holds (Holds-sent _ mailboxes _ _ (mail_sent-few _ _ _ mail));
     }

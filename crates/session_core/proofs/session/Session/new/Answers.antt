@@ -5,6 +5,7 @@ use Rattle.lock_manager.specs.ManagerView.{processes_of}
 use Rattle.session_core.specs.Mailboxes.{IsMailKept}
 use Rattle.session_core.specs.SessionView.{manager_of, events_in, sent_of}
 use Rattle.std.proofs.lemmas.Grind.{merely}
+use Rattle.session_core.proofs.MailLemmas.{few_processes}
 use Rattle.session_core.proofs.runs.JournalLemmas.{Holds-opening, nothing_sent, mail_sent-few}
 use Rattle.session_core.proofs.session.Session.new.Goals as goal
 
@@ -16,6 +17,7 @@ invariant_of-result c =
     record { some = rw c.in_ok-manager.ensures.processes c.requires.0; one_each = c.in_ok-mailboxes.ensures.each ∙ sym c.in_ok-manager.ensures.processes; taken = λ q. rw c.new-3.ensures.items (nothing_sent mailboxes c.in_ok-mailboxes.ensures.empty q).1 } in
     record {
       mail = mail;
+      few = rw c.in_ok-manager.ensures.processes (few_processes c.args.rules.limits c.args.processes c.requires.1);
       inside = λ p some. absurd (let none = ap length (nothing_sent mailboxes c.in_ok-mailboxes.ensures.empty p).0 in omega (arith, some, none));
       answered = record {
         one_each = c.in_ok-answers.ensures.processes ∙ sym c.in_ok-manager.ensures.processes;

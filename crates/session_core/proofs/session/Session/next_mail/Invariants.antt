@@ -1,8 +1,12 @@
-use Rattle.std.proofs.Common.{◌+◌}
 use Rattle.lock_manager.specs.ManagerView.{state_at}
-use Rattle.session_core.specs.Draining.{HasNoMailBelow}
-use Rattle.session_core.specs.SessionView.{manager_of, events_in, sent_of}
+use Rattle.wait_core.specs.Processes.{lacking}
+use Rattle.session_core.proofs.MailLemmas.{HaveNoMail}
 use Rattle.session_core.proofs.session.Session.next_mail.Given as goal
 
-abbrev pub invariant-loop-index : goal.invariant-loop-index
-invariant-loop-index l = HasNoMailBelow (state_at (manager_of l.self)) (sent_of l.self) (events_in l.self) (l.index + 1)
+-- none of those that were passed by has mail that may be taken
+abbrev pub invariant-loop-p : goal.invariant-loop-p
+invariant-loop-p l = HaveNoMail l.passed (state_at l.self.manager) l.self.mailboxes.items l.self.journal.items
+
+-- one process more is passed by each time
+abbrev pub decreases-loop-p : goal.decreases-loop-p
+decreases-loop-p l = lacking l.passed

@@ -25,8 +25,9 @@ invariant_of-self c =
     let mail = IsMailKept-written _ mailboxes self.journal.items _ c.args.p old new at c.withdraw.ensures.taken self.mail in
     record {
       mail = mail;
+      few = self.few;
       inside =
-          IsMailInside-set mailboxes _ c.args.p old new self.window self.window at (λ q h. h)
+          IsMailInside-set mailboxes _ c.args.p old new self.senders self.senders at (λ q other h. h)
           (λ some. self.inside c.args.p (HasMail-there mailboxes _ c.args.p old at waits))
           self.inside;
       answered = self.answered;
