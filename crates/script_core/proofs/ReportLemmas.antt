@@ -10,9 +10,11 @@ use Rattle.wait_core.specs.declared.Wait.{Wait}
 use Rattle.lock_manager.specs.declared.request.ProcState.{ProcState}
 use Rattle.lock_manager.specs.declared.manager.Manager.{Manager}
 use Rattle.lock_manager.specs.State.{State}
-use Rattle.lock_manager.specs.ManagerView.{StandsFor, state_at}
+use Rattle.lock_manager.specs.ManagerView.{StandsFor, processes_of, state_at}
+use Rattle.session_core.specs.declared.session.Session.{Session}
 use Rattle.session_core.specs.Event.{Event}
-use Rattle.script_core.specs.ReportText.{held_line, wait_line, line_of, reported_line, process_lines, IsReport, AreCounts}
+use Rattle.session_core.specs.SessionView.{manager_of, events_in}
+use Rattle.script_core.specs.ReportText.{held_line, wait_line, line_of, reported_line, process_lines, IsReport, IsReportOf, AreCounts, WritesReport}
 
 -- the lines of one more process
 process_lines-more : (states : ℕ → ProcState) (events : List Event) (sent : ℕ → ℕ) (p n : ℕ)
@@ -75,33 +77,28 @@ IsReport-unique one processes S events sent text other h k =
     (one (mode_in S.changes) (flock_mode_in S.flock_changes) h.held k.held h.is_held k.is_held)
     ∙ sym k.is
 
--- the texts of all counts that the list may have
-abbrev pub Writes : Manager → ℕ → List Event → List ℕ → List Held → List Wait → List ℕ → List ℕ → Type 0
-Writes manager processes events sent locks waits old new =
-    (counts : ℕ → ℕ) → AreCounts sent counts
-    → new ≡ old ++ (flat_map held_line locks ++ flat_map wait_line waits ++ process_lines (state_at manager) events counts 1 processes)
-
 -- what follows of a fact of a value
 pub OnOk-map : {T E : Type 0} (P Q : Type 0) (result : Result T E) → (P → Q) → OnOk result P → OnOk result Q
 OnOk-map P Q (Ok value) follows fact = follows fact
 OnOk-map P Q (Err error) follows fact = tt
 
 -- what is written of the locks, the waits and the processes is one text, which is the report of each state that the manager stands for
-pub report_written : (manager : Manager) (processes : ℕ) (events : List Event) (sent : List ℕ) (locks : List Held) (waits : List Wait) (old new : List ℕ)
-    → ((S : State) → StandsFor manager S → IsHeldReport (mode_in S.changes) (flock_mode_in S.flock_changes) locks)
-    → ((S : State) → StandsFor manager S → waits ≡ S.waits)
-    → Writes manager processes events sent locks waits old new
+pub report_written : (session : Session) (sent : List ℕ) (locks : List Held) (waits : List Wait) (old new : List ℕ)
+    → ((S : State) → StandsFor (manager_of session) S → IsHeldReport (mode_in S.changes) (flock_mode_in S.flock_changes) locks)
+    → ((S : State) → StandsFor (manager_of session) S → waits ≡ S.waits)
+    → WritesReport session sent locks waits old new
     → (text : List ℕ)
-    × ((S : State) → StandsFor manager S → (counts : ℕ → ℕ) → AreCounts sent counts → IsReport processes S events counts text)
+    × ((S : State) → StandsFor (manager_of session) S → IsReportOf session sent S text)
     × (new ≡ old ++ text)
-report_written manager processes events sent locks waits old new held waiting writes =
+report_written session sent locks waits old new held waiting writes =
+    let manager = manager_of session in
     let own : ℕ → ℕ = λ p. slice_index sent (p - 1) in
     let text_of : (ℕ → ℕ) → List ℕ =
-    λ counts. flat_map held_line locks ++ flat_map wait_line waits ++ process_lines (state_at manager) events counts 1 processes in
+    λ counts. flat_map held_line locks ++ flat_map wait_line waits ++ process_lines (state_at manager) (events_in session) counts 1 (processes_of manager) in
     let written : new ≡ old ++ text_of own = writes own (λ p first last. refl) in (
       text_of own,
       (λ S stands counts are.
-          report_in_state manager S processes events counts locks waits (text_of own) stands (held S stands) (waiting S stands)
+          report_in_state manager S (processes_of manager) (events_in session) counts locks waits (text_of own) stands (held S stands) (waiting S stands)
           (append_cancel_left old (text_of own) (text_of counts) (sym written ∙ writes counts are))),
       written,
     )

@@ -14,7 +14,7 @@ use Rattle.wait_core.specs.declared.Wait.{Wait}
 use Rattle.lock_manager.specs.declared.request.ProcState.{ProcState}
 use Rattle.lock_manager.specs.declared.request.ProcState.TheVariants.{Unborn, Live, Waiting, Ended}
 use Rattle.lock_manager.specs.State.{State}
-use Rattle.lock_manager.specs.ManagerView.{processes_of}
+use Rattle.lock_manager.specs.ManagerView.{processes_of, state_at}
 use Rattle.session_core.specs.declared.session.Session.{Session}
 use Rattle.session_core.specs.Event.{Event}
 use Rattle.session_core.specs.Mail.{events_of, answers_to}
@@ -121,3 +121,10 @@ AreCounts counts count = (p : ℕ) → 1 ≤ p → p ≤ length counts → slice
 abbrev pub IsReportOf : Session → List ℕ → State → List ℕ → Type 0
 IsReportOf session counts S text =
     (sent : ℕ → ℕ) → AreCounts counts sent → IsReport (processes_of (manager_of session)) S (events_in session) sent text
+
+-- the new text is the old one, and behind it the lines of these locks, of these waits and of the processes, with the counts of the list
+abbrev pub WritesReport : Session → List ℕ → List Held → List Wait → List ℕ → List ℕ → Type 0
+WritesReport session counts locks waits old new =
+    let manager = manager_of session in
+    (sent : ℕ → ℕ) → AreCounts counts sent
+    → new ≡ old ++ (flat_map held_line locks ++ flat_map wait_line waits ++ process_lines (state_at manager) (events_in session) sent 1 (processes_of manager))

@@ -6,7 +6,7 @@ ghost use Rattle.session_core.specs.SessionView.{manager_of, events_in};
 ghost use Rattle.script_core.specs.Reading.{IsReadBack};
 ghost use Rattle.script_core.specs.EntryText.{entry_line};
 ghost use Rattle.script_core.specs.EntryReading.{IsEntryReadBack};
-ghost use Rattle.script_core.specs.ReportText.{held_line, wait_line, reported_line, process_lines, AreCounts, IsReportOf};
+ghost use Rattle.script_core.specs.ReportText.{held_line, wait_line, reported_line, process_lines, AreCounts, IsReportOf, WritesReport};
 ghost use Rattle.script_core.specs.ReportText as spec;
 ghost use Rattle.script_core.specs.Output.{AppendsPartOf, Extends};
 
@@ -64,9 +64,7 @@ fn append_report(
     waits: &[Wait],
 ) -> Result<(), Memory>
     requires { length sent.now ≡ processes_of (manager_of session.now) }
-    ensures ok { OnOk result ((counts : ℕ → ℕ) → AreCounts sent.now counts → text.new.items ≡ text.old.items
-        ++ (flat_map held_line locks.now ++ flat_map wait_line waits.now
-        ++ process_lines (state_at (manager_of session.now)) (events_in session.now) counts 1 (processes_of (manager_of session.now)))) }
+    ensures ok { OnOk result (WritesReport session.now sent.now locks.now waits.now text.old.items text.new.items) }
     ensures err { OnErr result (text.new.items ≡ text.old.items) }
 {
     let len = text.len();
@@ -86,9 +84,7 @@ fn push_report(
     waits: &[Wait],
 ) -> Result<(), Memory>
     requires { length sent.now ≡ processes_of (manager_of session.now) }
-    ensures { MatchResult result (λ unit. (counts : ℕ → ℕ) → AreCounts sent.now counts → text.new.items ≡ text.old.items
-        ++ (flat_map held_line locks.now ++ flat_map wait_line waits.now
-        ++ process_lines (state_at (manager_of session.now)) (events_in session.now) counts 1 (processes_of (manager_of session.now))))
+    ensures { MatchResult result (λ unit. WritesReport session.now sent.now locks.now waits.now text.old.items text.new.items)
         (λ error. Extends text.old.items text.new.items) }
 {
     push_locks(text, locks)?;

@@ -2,8 +2,7 @@ use Rattle.std.proofs.Common.{List, sym, subst, ◌∙◌}
 use Rattle.lock_book.specs.declared.Held.{Held}
 use Rattle.lock_book.specs.Changes.{mode_in, flock_mode_in}
 use Rattle.lock_book.specs.Reports.{IsHeldReport}
-use Rattle.lock_manager.specs.ManagerView.{StandsFor, processes_of}
-use Rattle.session_core.specs.SessionView.{manager_of, events_in}
+use Rattle.lock_manager.specs.ManagerView.{StandsFor}
 use Rattle.script_core.proofs.ReportLemmas.{OnOk-map, report_written}
 use Rattle.script_core.proofs.write.write_report.Goals as goal
 
@@ -11,7 +10,7 @@ pub returns-clause-ok : goal.returns-clause-ok
 returns-clause-ok c =
     let session = c.args.session.now in
     OnOk-map _ _ c.append_report.result
-    (λ writes. report_written (manager_of session) (processes_of (manager_of session)) (events_in session) c.args.sent.now c.deref.result.now c.deref-2.result.now
+    (λ writes. report_written session c.args.sent.now c.deref.result.now c.deref-2.result.now
     c.args.out.now.items c.append_report.new.text.items
     (λ S stands.
     subst (λ (held : List Held). IsHeldReport (mode_in S.changes) (flock_mode_in S.flock_changes) held) (sym c.deref.ensures.value)
