@@ -34,11 +34,6 @@ impl Waiters {
         }
     }
 
-    /// How many owners are known.
-    pub fn len(&self) -> usize {
-        self.owners.len()
-    }
-
     /// Whether the owner has a detected wait.
     pub fn contains(&self, owner: u64) -> bool
         ensures { IsTrue result ↔ files_of self.now owner ≢ [] }
