@@ -16,8 +16,8 @@ build:
 
 # The gate, and then the command lines, single lines, devices that fail, the worked scripts (also in threads, in whatever order comes), the
 # large scripts and the samples on the program as two compilers built it in the gate, what the README, the help and the manual page show, the
-# files and names that the documents point to, that want of memory is made at one place, and the conformance tools' tests but for those that
-# a busy machine can upset.
+# files and names that the documents point to, that want of memory is made at one place, that each edit still applies, and the conformance
+# tools' tests but for those that a busy machine can upset.
 WORKED := $(basename $(wildcard tests/worked-scripts/*.out)) $(wildcard tests/threads/*)
 test:
 	rt ci
@@ -38,13 +38,15 @@ test:
 	sh tests/readme.sh $(PROGRAM)
 	sh tests/signposts.sh
 	tests/memory-is-passed-on
+	tests/edit-reasons --apply
 	cd conformance && LOCKREPLAY=$(abspath $(PROGRAM)) python3 -m unittest tests.test_corpus tests.test_judging tests.test_lies tests.test_trace
 
 # Lays each crate out as the gate wants it.
 format:
 	@for crate in crates/*/; do (cd $$crate && rt fmt) || exit 1; done
 
-# Says of each must-fail edit what refuses it, and fails where that is a name alone; `make edits EDITS='CRATE EDIT'` tries some.
+# Says of each edit, of those in must-fail/ and in further-edits/, what refuses it, and fails where that is a name alone;
+# `make edits EDITS='CRATE EDIT'` tries some.
 edits:
 	rt all check
 	tests/edit-reasons $(EDITS)

@@ -54,13 +54,14 @@ rows() {
         NF == 9 {
             while (match($6, /`[A-Za-z]+\.[^`]*`/)) { print crate, substr($6, RSTART + 1, RLENGTH - 2); $6 = substr($6, RSTART + RLENGTH) }
             while (match($7, /`[^`]*`/)) { print crate, "src/" substr($7, RSTART + 1, RLENGTH - 2); $7 = substr($7, RSTART + RLENGTH) }
-            while (match($8, /`[^`]*`/)) { print crate, "must-fail/" substr($8, RSTART + 1, RLENGTH - 2) ".edit"; $8 = substr($8, RSTART + RLENGTH) }
+            while (match($8, /`[^`]*`/)) { print crate, "edits/" substr($8, RSTART + 1, RLENGTH - 2) ".edit"; $8 = substr($8, RSTART + RLENGTH) }
         }' docs/PROOFS.md | sort -u
 }
 
 rows > "$rows"
 while read -r crate name; do
     case $name in
+        edits/*) look "$crate has no edit ${name#*/}" [ -e "crates/$crate/must-fail/${name#*/}" -o -e "crates/$crate/further-edits/${name#*/}" ] ;;
         */*) look "$crate has no $name" [ -e "crates/$crate/$name" ] ;;
         *) look "$crate has no lemma $name" grep -rqwF --include="${name%%.*}.antt" -e "${name#*.}" "crates/$crate/proofs" ;;
     esac
