@@ -152,7 +152,7 @@ fn assert_comes_out(
 
 #[test]
 fn descriptors_come_and_go(rt: HostRuntime) -> Result<(), Fail> {
-    for run in &worked::RUNS {
+    for run in worked::RUNS {
         let mut tables = small_tables(rt.alloc())?;
         assert_comes_out(&rt, &mut tables, run.name, run.steps)?;
     }

@@ -344,24 +344,24 @@ fn assert_all_come_out(rt: &impl Abort, alloc: Global, runs: &[Run]) -> Result<(
 
 #[test]
 fn requests_are_answered(rt: HostRuntime) -> Result<(), Fail> {
-    assert_all_come_out(&rt, rt.alloc(), &replies::RUNS)?;
+    assert_all_come_out(&rt, rt.alloc(), replies::RUNS)?;
     Ok(())
 }
 
 #[test]
 fn waits_are_granted(rt: HostRuntime) -> Result<(), Fail> {
-    assert_all_come_out(&rt, rt.alloc(), &waits::RUNS)?;
+    assert_all_come_out(&rt, rt.alloc(), waits::RUNS)?;
     Ok(())
 }
 
 #[test]
 fn flock_locks_are_converted(rt: HostRuntime) -> Result<(), Fail> {
-    assert_all_come_out(&rt, rt.alloc(), &flocks::RUNS)?;
+    assert_all_come_out(&rt, rt.alloc(), flocks::RUNS)?;
     Ok(())
 }
 
 #[test]
 fn it_tells_what_is_asked_for(rt: HostRuntime) -> Result<(), Fail> {
-    assert_all_come_out(&rt, rt.alloc(), &asking::RUNS)?;
+    assert_all_come_out(&rt, rt.alloc(), asking::RUNS)?;
     Ok(())
 }

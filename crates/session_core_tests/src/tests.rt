@@ -270,12 +270,13 @@ fn arrive(
     request: Request,
 ) -> Result<u64, ArriveFault> {
     let before = standing_of(session)?;
-    let first = arrive_once(rt, session, p, request);
-    if !matches!(first, Err(ArriveFault::Memory(_))) {
-        return first;
+    match arrive_once(rt, session, p, request) {
+        Err(ArriveFault::Memory(_)) => {
+            assert_stands(rt, session, &before)?;
+            arrive_once(rt, session, p, request)
+        },
+        first => first,
     }
-    assert_stands(rt, session, &before)?;
-    arrive_once(rt, session, p, request)
 }
 
 /// `take_next`, likewise.
@@ -389,13 +390,18 @@ fn assert_comes_out(
     Ok(())
 }
 
+/// The run comes out as its steps say.
+fn assert_run(rt: &impl Abort, alloc: Global, run: &Run) -> Result<(), ArriveFault> {
+    let mut session = session_of(rt, alloc, run.processes, run.policy)?;
+    assert_comes_out(rt, &mut session, run.name, run.opening)?;
+    assert_comes_out(rt, &mut session, run.name, run.steps)
+}
+
 /// Each worked run comes out as its steps say.
 #[test]
 fn worked_runs_come_out(rt: HostRuntime) -> Result<(), Fail> {
-    for run in &RUNS {
-        let mut session = session_of(&rt, rt.alloc(), run.processes, run.policy)?;
-        assert_comes_out(&rt, &mut session, run.name, run.opening)?;
-        assert_comes_out(&rt, &mut session, run.name, run.steps)?;
+    for run in RUNS {
+        assert_run(&rt, rt.alloc(), run)?;
     }
     Ok(())
 }

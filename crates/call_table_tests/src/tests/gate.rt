@@ -79,7 +79,7 @@ struct Row {
     next: Option<Answer>,
 }
 
-const ROWS: [Row; 2] = [
+const ROWS: &[Row] = &[
     Row {
         process: 1,
         posted: 4,
@@ -111,7 +111,7 @@ fn lock_and_look(
     second: &mut Caller,
     server: &mut Server,
 ) -> Result<(), Memory> {
-    advance(rt, first, second, server, &LOCKED)?;
+    advance(rt, first, second, server, LOCKED)?;
     assert!(rt; second.post(LOOK).is_ok());
     Ok(())
 }
@@ -153,7 +153,7 @@ fn act_at_the_gate<R: Threads + Wait + Abort + Sync>(
 /// published. The other client is dropped, which leaves its words as they are, and the desk goes on.
 #[test]
 fn a_client_acts_while_the_desk_serves(rt: HostRuntime) -> Result<(), Fail> {
-    for row in &ROWS {
+    for row in ROWS {
         let (hub, first, last, desk) = open_table(&rt, rt.alloc(), 2, 4, RULES)?;
         let (mut first, mut second, mut server) = with_hub(&hub, first, last, desk);
         lock_and_look(&rt, &mut first, &mut second, &mut server)?;

@@ -136,7 +136,7 @@ pub fn advance(
 }
 
 /// Process 2 is there, and process 1 has a lock.
-pub const LOCKED: [(u8, Request); 3] = [(1, OPEN), (1, FORK), (1, lock!(SetLk, Write, 0, 1))];
+pub const LOCKED: &[(u8, Request)] = &[(1, OPEN), (1, FORK), (1, lock!(SetLk, Write, 0, 1))];
 
 /// How many cells each client has, at most.
 const DEPTH: u8 = 32;
@@ -164,7 +164,7 @@ fn empty(rt: &impl Abort, caller: &mut Caller) {
 }
 
 /// The last process of the largest table is there.
-const FORKED: [(u8, Request); 2] = [(1, OPEN), (1, Request::Fork { child: 64 })];
+const FORKED: &[(u8, Request)] = &[(1, OPEN), (1, Request::Fork { child: 64 })];
 
 /// Both clients fill their cells and empty them, again and again: 5,056 requests.
 fn pass_often(
@@ -173,7 +173,7 @@ fn pass_often(
     last: &mut Caller,
     server: &mut Server,
 ) -> Result<(), Memory> {
-    advance(rt, first, last, server, &FORKED)?;
+    advance(rt, first, last, server, FORKED)?;
     assert!(rt; first.collect() == Some((1, Reply::Fd(0), 1)));
     assert!(rt; first.collect() == Some((2, Reply::Ok, 2)));
     for _ in 0..79 {

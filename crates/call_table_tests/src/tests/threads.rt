@@ -25,7 +25,7 @@ struct Script {
     requests: usize,
 }
 
-const SCRIPTS: [Script; 2] = [
+const SCRIPTS: &[Script] = &[
     // Each locks a byte and then asks for the other's.
     Script {
         before: &[],
@@ -160,7 +160,7 @@ fn run_script<R: Threads + Wait + Abort + Sync>(
 }
 
 fn run_scripts<R: Threads + Wait + Abort + Sync>(rt: &R, alloc: Global) -> Result<(), Fail> {
-    for script in &SCRIPTS {
+    for script in SCRIPTS {
         let (hub, first, last, desk) = open_table(rt, alloc, 2, 4, RULES)?;
         let (first, second, mut server) = with_hub(&hub, first, last, desk);
         run_script(rt, alloc, first, second, &mut server, script)?;

@@ -34,7 +34,7 @@ pub const AFTER_TWENTY: &[Step] = &[
     Ends(1, &[7], &[]),
 ];
 
-pub const RUNS: [Run; 5] = [
+pub const RUNS: &[Run] = &[
     Run {
         name: "dup2 onto itself changes nothing, and onto another descriptor closes that first (POSIX.1-2017 dup2, DESCRIPTION)",
         steps: &[

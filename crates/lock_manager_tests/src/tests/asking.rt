@@ -42,7 +42,7 @@ const SECOND: Look = Look {
     size: 100,
 };
 
-pub const RUNS: [Run; 3] = [
+pub const RUNS: &[Run] = &[
     Run {
         name: "of two locks in the way the first is that of the least byte, and a lock that isn't in the way is no obstacle",
         steps: &[

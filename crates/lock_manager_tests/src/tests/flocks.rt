@@ -10,7 +10,7 @@ use lock_manager::{Errno, FlockOp, LkCmd};
 use range_core::{Kind, Mode, OFFMAX, Span, Whence};
 use wait_core::{Family, Wait};
 
-pub const RUNS: [Run; 5] = [
+pub const RUNS: &[Run] = &[
     Run {
         name: "an upgrade that is refused has lost its old lock, and the other reader keeps his",
         steps: &[

@@ -65,7 +65,7 @@ const TEN_FROM_30: Reply = Reply::Held {
     pid: -1,
 };
 
-pub const RUNS: [Run; 10] = [
+pub const RUNS: &[Run] = &[
     Run {
         name: "opens, locks and refusals in the order of the standard's errors",
         steps: &[

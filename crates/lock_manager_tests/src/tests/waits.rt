@@ -27,7 +27,7 @@ const BYTE_1: Span = Span { first: 1, last: 1 };
 
 const BYTE_2: Span = Span { first: 2, last: 2 };
 
-pub const RUNS: [Run; 8] = [
+pub const RUNS: &[Run] = &[
     Run {
         name: "of two that wait for each other the second is refused, and an unlock then grants the first",
         steps: &[

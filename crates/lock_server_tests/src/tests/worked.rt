@@ -12,7 +12,7 @@ const F: u64 = u64::MAX;
 const STRANGER: u64 = 1000;
 
 /// A wait is granted when the lock in its way goes, and is told once; its ticket is free again when it was told.
-const GRANTS_IN_ORDER: [Row; 13] = [
+const GRANTS_IN_ORDER: &[Row] = &[
     (F, Call::Set(1, (0, 9), Some(Write)), Told::Done),
     (F, Call::Set(2, (5, 5), Some(Read)), Told::Blocked),
     (
@@ -33,7 +33,7 @@ const GRANTS_IN_ORDER: [Row; 13] = [
 ];
 
 /// A cycle through three owners is refused, and a wait that isn't detected makes no step.
-const REFUSES_CYCLES: [Row; 12] = [
+const REFUSES_CYCLES: &[Row] = &[
     (F, Call::Set(1, (1, 1), Some(Write)), Told::Done),
     (F, Call::Set(2, (2, 2), Some(Write)), Told::Done),
     (F, Call::Set(3, (3, 3), Some(Write)), Told::Done),
@@ -49,7 +49,7 @@ const REFUSES_CYCLES: [Row; 12] = [
 ];
 
 /// A release while the owner waits keeps the room of its grants.
-const KEEPS_WAITS_AT_A_RELEASE: [Row; 14] = [
+const KEEPS_WAITS_AT_A_RELEASE: &[Row] = &[
     (F, Call::Set(1, (0, 9), Some(Write)), Told::Done),
     (F, Call::Set(2, (20, 29), Some(Write)), Told::Done),
     (F, Call::Wait(1, 2, (0, 4), Write, true), Told::Waits),
@@ -71,7 +71,7 @@ const KEEPS_WAITS_AT_A_RELEASE: [Row; 14] = [
 ];
 
 /// A conversion by flock loses the old lock before it is tested.
-const CONVERTS_FLOCKS: [Row; 10] = [
+const CONVERTS_FLOCKS: &[Row] = &[
     (F, Call::Flock(1, Some(Read)), Told::Done),
     (F, Call::Flock(2, Some(Read)), Told::Done),
     (F, Call::FlockWait(1, 1, Write), Told::Waits),
@@ -85,7 +85,7 @@ const CONVERTS_FLOCKS: [Row; 10] = [
 ];
 
 /// Under the queue policy a reader waits behind a writer, and goes on where the writer gives up.
-const QUEUES: [Row; 5] = [
+const QUEUES: &[Row] = &[
     (F, Call::Set(1, (0, 9), Some(Read)), Told::Done),
     (F, Call::Wait(1, 2, (0, 9), Write, true), Told::Waits),
     (F, Call::Wait(2, 3, (0, 9), Read, true), Told::Waits),
@@ -95,7 +95,7 @@ const QUEUES: [Row; 5] = [
 
 /// The flock lock of the owner that is named goes with the byte locks, and no other one; what stood in line is granted, and a wait of an
 /// owner that is released stays.
-const A_LAST_CLOSE_SETTLES_ONCE: [Row; 19] = [
+const A_LAST_CLOSE_SETTLES_ONCE: &[Row] = &[
     (F, Call::Note(1, 50), Told::Done),
     (F, Call::Set(1, (1, 1), Some(Write)), Told::Done),
     (F, Call::Note(2, 50), Told::Done),
@@ -118,7 +118,7 @@ const A_LAST_CLOSE_SETTLES_ONCE: [Row; 19] = [
 ];
 
 /// An owner that is forgotten was seen nowhere.
-const A_FORGOTTEN_OWNER_IS_NOT_RELEASED: [Row; 9] = [
+const A_FORGOTTEN_OWNER_IS_NOT_RELEASED: &[Row] = &[
     (F, Call::Note(1, 50), Told::Done),
     (F, Call::Set(1, (1, 1), Some(Write)), Told::Done),
     (F, Call::Note(2, 50), Told::Done),
@@ -135,7 +135,7 @@ const A_FORGOTTEN_OWNER_IS_NOT_RELEASED: [Row; 9] = [
 ];
 
 /// Those that came last through the open file lose their locks on its file, and who was flushed or came through another one since doesn't.
-const A_LAST_CLOSE_TAKES_WHO_CAME_THROUGH: [Row; 24] = [
+const A_LAST_CLOSE_TAKES_WHO_CAME_THROUGH: &[Row] = &[
     (7, Call::Note(1, 50), Told::Done),
     (7, Call::Set(1, (1, 1), Some(Write)), Told::Done),
     (7, Call::Note(2, 50), Told::Done),
@@ -179,7 +179,7 @@ const A_LAST_CLOSE_TAKES_WHO_CAME_THROUGH: [Row; 24] = [
 ];
 
 /// A lock, a split, waits and flock locks are each refused for want of memory at some growth.
-const GROWS: [Row; 20] = [
+const GROWS: &[Row] = &[
     (3, Call::Set(1, (0, 9), Some(Write)), Told::Done),
     (3, Call::Set(1, (5, 5), None), Told::Done),
     (4, Call::Wait(10, 1, (0, 9), Write, true), Told::Done),
@@ -244,15 +244,15 @@ fn follow(rt: &impl Abort, server: &mut LockServer, rows: &[Row]) -> Result<(), 
 #[test]
 fn worked_runs_come_out(rt: HostRuntime) -> Result<(), Fail> {
     for (policy, rows) in [
-        (Policy::Held, GRANTS_IN_ORDER.as_slice()),
-        (Policy::Held, &REFUSES_CYCLES),
-        (Policy::Held, &KEEPS_WAITS_AT_A_RELEASE),
-        (Policy::Held, &CONVERTS_FLOCKS),
-        (Policy::Queue, &QUEUES),
-        (Policy::Held, &A_LAST_CLOSE_SETTLES_ONCE),
-        (Policy::Held, &A_FORGOTTEN_OWNER_IS_NOT_RELEASED),
-        (Policy::Held, &A_LAST_CLOSE_TAKES_WHO_CAME_THROUGH),
-        (Policy::Held, &GROWS),
+        (Policy::Held, GRANTS_IN_ORDER),
+        (Policy::Held, REFUSES_CYCLES),
+        (Policy::Held, KEEPS_WAITS_AT_A_RELEASE),
+        (Policy::Held, CONVERTS_FLOCKS),
+        (Policy::Queue, QUEUES),
+        (Policy::Held, A_LAST_CLOSE_SETTLES_ONCE),
+        (Policy::Held, A_FORGOTTEN_OWNER_IS_NOT_RELEASED),
+        (Policy::Held, A_LAST_CLOSE_TAKES_WHO_CAME_THROUGH),
+        (Policy::Held, GROWS),
     ] {
         follow(&rt, &mut LockServer::new(rt.alloc(), policy), rows)?;
     }

@@ -116,31 +116,49 @@ fn is_expected(checker: &JournalChecker, wanted: Expects) -> bool {
     }
 }
 
-/// The entries are judged so, and a checker that found an illegal one accepts nothing more, for the sake of that one.
+/// Whether a checker that found an illegal entry accepts none of the worked journal.
+fn is_spent(alloc: Global, checker: &mut JournalChecker) -> Result<bool, Memory> {
+    let worked = journal(alloc, 8, &[])?;
+    Ok(accepted(checker, &worked)? == 0)
+}
+
+/// Whether the entries are judged so, and a checker that found an illegal one accepts nothing more, for the sake of that one.
+fn is_judged(
+    alloc: Global,
+    checker: &mut JournalChecker,
+    case: &Case,
+    entries: &[Entry],
+) -> Result<bool, Memory>
+    requires { (1 ≤ case.now.processes) × (case.now.processes ≤ 16) }
+{
+    let all_legal = case.legal == entries.len();
+    if is_run(alloc, case.processes, entries)? != all_legal {
+        return Ok(false);
+    }
+    if accepted(checker, entries)? != case.legal || !is_expected(checker, case.expects) {
+        return Ok(false);
+    }
+    Ok(all_legal || is_spent(alloc, checker)? && is_expected(checker, case.expects))
+}
+
+/// The same, of the entries of the case.
+fn is_case_judged(alloc: Global, case: &Case) -> Result<bool, Memory>
+    requires { (1 ≤ case.now.processes) × (case.now.processes ≤ 16) }
+{
+    let entries = journal(alloc, case.front, case.rest)?;
+    let mut checker = checker_of(alloc, case.processes)?;
+    is_judged(alloc, &mut checker, case, &entries)
+}
+
 fn assert_judged(rt: &impl Abort, alloc: Global, case: &Case) -> Result<(), Memory> {
     assert!(rt; 1 <= case.processes && case.processes <= 16);
-    let entries = journal(alloc, case.front, case.rest)?;
-    let all_legal = case.legal == entries.len();
-    let name = case.name;
-    assert_eq!(rt;
-        is_run(alloc, case.processes, &entries)?,
-        all_legal,
-        "{name}"
-    );
-    let mut checker = checker_of(alloc, case.processes)?;
-    assert_eq!(rt; accepted(&mut checker, &entries)?, case.legal, "{name}");
-    assert!(rt; is_expected(&checker, case.expects), "{name}");
-    if !all_legal {
-        let worked = journal(alloc, 8, &[])?;
-        assert_eq!(rt; accepted(&mut checker, &worked)?, 0, "{name}");
-        assert!(rt; is_expected(&checker, case.expects), "{name}");
-    }
+    assert!(rt; is_case_judged(alloc, case)?, "{}", case.name);
     Ok(())
 }
 
 #[test]
 fn journals_are_judged(rt: HostRuntime) -> Result<(), Fail> {
-    for case in &CASES {
+    for case in CASES {
         assert_judged(&rt, rt.alloc(), case)?;
     }
     Ok(())
@@ -171,18 +189,17 @@ struct Seen {
     answered: u64,
 }
 
-/// The checker tells that of each of these processes.
-fn assert_seen(rt: &impl Abort, checker: &JournalChecker, processes: &[Seen]) {
-    for seen in processes {
-        let p = seen.p;
-        assert!(rt; checker.manager().state_of(p) == seen.state, "process {p}");
-        assert!(rt; checker.taken(p) == seen.taken, "process {p}");
-        assert!(rt; checker.answered(p) == seen.answered, "process {p}");
-    }
+/// Whether the checker tells that of each of these processes.
+fn is_seen(checker: &JournalChecker, processes: &[Seen]) -> bool {
+    processes.iter().all(|seen| {
+        checker.manager().state_of(seen.p) == seen.state
+            && checker.taken(seen.p) == seen.taken
+            && checker.answered(seen.p) == seen.answered
+    })
 }
 
 /// Before the unlock two of the three processes wait, and a fourth isn't there.
-const BEFORE: [Seen; 5] = [
+const BEFORE: &[Seen] = &[
     Seen {
         p: 0,
         state: ProcState::Unborn,
@@ -216,7 +233,7 @@ const BEFORE: [Seen; 5] = [
 ];
 
 /// Behind it each is answered.
-const BEHIND: [Seen; 3] = [
+const BEHIND: &[Seen] = &[
     Seen {
         p: 1,
         state: ProcState::Live,
@@ -237,15 +254,30 @@ const BEHIND: [Seen; 3] = [
     },
 ];
 
+/// Whether the checker accepts so many entries of the worked journal, and these behind them, and tells that of the processes.
+fn goes_on(
+    alloc: Global,
+    checker: &mut JournalChecker,
+    front: usize,
+    rest: &[Line],
+    processes: &[Seen],
+) -> Result<bool, Memory> {
+    let entries = journal(alloc, front, rest)?;
+    Ok(accepted(checker, &entries)? == entries.len() && is_seen(checker, processes))
+}
+
+/// Whether the checker tells so before the unlock, and behind it.
+fn tells_both(alloc: Global, checker: &mut JournalChecker) -> Result<bool, Memory> {
+    Ok(
+        goes_on(alloc, checker, 7, &[], BEFORE)?
+            && goes_on(alloc, checker, 0, &[THIRD_UNLOCKS], BEHIND)?,
+    )
+}
+
 #[test]
 fn a_checker_tells_the_state_and_the_counts(rt: HostRuntime) -> Result<(), Fail> {
-    let front = journal(rt.alloc(), 7, &[])?;
-    let last = journal(rt.alloc(), 0, &[THIRD_UNLOCKS])?;
     let mut checker = checker_of(rt.alloc(), 3)?;
-    assert_eq!(rt; accepted(&mut checker, &front)?, 7);
-    assert_seen(&rt, &checker, &BEFORE);
-    assert_eq!(rt; accepted(&mut checker, &last)?, 1);
-    assert_seen(&rt, &checker, &BEHIND);
+    assert!(rt; tells_both(rt.alloc(), &mut checker)?);
     Ok(())
 }
 
@@ -265,18 +297,30 @@ fn locks_or_unlocks(alloc: Global, n: u64) -> Result<Entry, Memory> {
     })
 }
 
+/// Whether the checker accepts that entry.
+fn accepts(alloc: Global, checker: &mut JournalChecker, n: u64) -> Result<bool, Memory> {
+    let one = [locks_or_unlocks(alloc, n)?];
+    Ok(accepted(checker, &one)? == 1)
+}
+
+/// Whether the checker accepts the first 3000 entries, and the last of them no second time.
+fn accepts_often(alloc: Global, checker: &mut JournalChecker) -> Result<bool, Memory> {
+    let open = journal(alloc, 1, &[])?;
+    if accepted(checker, &open)? != 1 {
+        return Ok(false);
+    }
+    for n in 2..=3000 {
+        if !accepts(alloc, checker, n)? {
+            return Ok(false);
+        }
+    }
+    Ok(!accepts(alloc, checker, 3000)? && is_expected(checker, Expects::NumberAfter(3000)))
+}
+
 /// A checker keeps no entry, so a journal may be of any length: here each entry is dropped as soon as it was accepted.
 #[test]
 fn a_checker_accepts_entries_often(rt: HostRuntime) -> Result<(), Fail> {
     let mut checker = checker_of(rt.alloc(), 3)?;
-    let open = journal(rt.alloc(), 1, &[])?;
-    assert_eq!(rt; accepted(&mut checker, &open)?, 1);
-    for n in 2..=3000 {
-        let one = [locks_or_unlocks(rt.alloc(), n)?];
-        assert_eq!(rt; accepted(&mut checker, &one)?, 1);
-    }
-    let again = [locks_or_unlocks(rt.alloc(), 3000)?];
-    assert_eq!(rt; accepted(&mut checker, &again)?, 0);
-    assert!(rt; is_expected(&checker, Expects::NumberAfter(3000)));
+    assert!(rt; accepts_often(rt.alloc(), &mut checker)?);
     Ok(())
 }

@@ -70,7 +70,7 @@ const GRANTED: &[Said] = &[
 ];
 
 /// A worked run, in which one unlock grants two waits, one of them only after the other one's lock was set.
-pub(super) const WORKED: [Line; 8] = [
+pub(super) const WORKED: &[Line] = &[
     OPENS,
     FORKS_2,
     FORKS_3,
@@ -82,7 +82,7 @@ pub(super) const WORKED: [Line; 8] = [
 ];
 
 /// Journals, and how each is judged; more are tried on the program (`tests/lines/journals`).
-pub(super) const CASES: [Case; 9] = [
+pub(super) const CASES: &[Case] = &[
     Case {
         name: "an unlock that tells nothing",
         processes: 3,

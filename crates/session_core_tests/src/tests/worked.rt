@@ -48,7 +48,7 @@ const TWO_WAITING_CONVERSIONS: &[Step] = &[
 ];
 
 /// The worked runs.
-pub const RUNS: [Run; 20] = [
+pub const RUNS: &[Run] = &[
     Run {
         name: "mail comes in any order; of each process it is taken in order, and that of a process that isn't born stays",
         processes: 2,
