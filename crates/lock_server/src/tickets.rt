@@ -8,7 +8,7 @@ use std::alloc::Global;
 use std::collections::{BTreeMap, VecDeque};
 
 /// Where the request with a ticket stands.
-#[derive(Clone, Copy, Debug, PartialEq, Eq)]
+#[derive(Clone, Copy)]
 pub enum Place {
     /// Room is taken for it, and it may come to wait.
     Reserved,

@@ -9,7 +9,7 @@ use script_core::{Cause, ENTRY_MAX, JournalFault, JournalReader};
 use std::alloc::Global;
 
 /// What is wrong with a line of a journal.
-#[derive(Clone, Copy, Debug, PartialEq, Eq)]
+#[derive(Clone, Copy)]
 pub enum Finding {
     /// The journal may not go on with it, or at the end may not end before it. What is expected there is told by the reader.
     Illegal,

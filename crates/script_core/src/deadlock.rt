@@ -12,7 +12,7 @@ use std::alloc::Global;
 use wait_core::{Policy, Wait};
 
 /// A step of a cycle: what a process waits for.
-#[derive(Clone, Copy, Debug)]
+#[derive(Clone, Copy)]
 pub struct Link {
     /// What it waits for, or would wait for.
     pub wait: Wait,
@@ -23,7 +23,7 @@ pub struct Link {
 }
 
 /// Where a step of a cycle begins.
-#[derive(Clone, Copy, Debug)]
+#[derive(Clone, Copy)]
 pub enum Start {
     /// At the wait that would close the cycle.
     Wanted(Wait),

@@ -16,7 +16,7 @@ use session_core::{Entry, Notes};
 use std::alloc::Global;
 
 /// A request that was taken, with its tag.
-#[derive(Clone, Copy, Debug)]
+#[derive(Clone, Copy)]
 pub struct Taken {
     /// Its process.
     pub p: u8,

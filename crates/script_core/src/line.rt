@@ -13,7 +13,7 @@ use lock_manager::Request;
 use wait_core::Policy;
 
 /// What a line of a script says.
-#[derive(Clone, Copy, Debug, PartialEq, Eq)]
+#[derive(Clone, Copy)]
 pub enum Line {
     /// Nothing: it has no words, or is a comment.
     Skipped,

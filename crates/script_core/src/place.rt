@@ -16,7 +16,7 @@ use std::alloc::Global;
 use wait_core::Policy;
 
 /// What a line of a journal says.
-#[derive(Debug, Drop)]
+#[derive(Drop)]
 pub enum JournalLine {
     /// Nothing: it has no words, or is a comment.
     Skipped,
@@ -31,7 +31,7 @@ pub enum JournalLine {
 }
 
 /// Which lines came.
-#[derive(Clone, Copy, Debug, PartialEq, Eq)]
+#[derive(Clone, Copy)]
 pub enum Stage {
     /// No entry, and no line of the report.
     Header,
@@ -42,7 +42,7 @@ pub enum Stage {
 }
 
 /// Where a journal stands: what its header lines said, and which lines came.
-#[derive(Clone, Copy, Debug)]
+#[derive(Clone, Copy)]
 pub struct Place {
     /// The policy, if a line said it.
     pub policy: Option<Policy>,

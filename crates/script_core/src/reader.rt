@@ -13,7 +13,7 @@ use std::marker::Model;
 use wait_core::Policy;
 
 /// Reads a script line by line: what it said so far.
-#[derive(Debug, Drop)]
+#[derive(Drop)]
 pub struct Reader {
     policy: Option<Policy>,
     limits: Option<Limits>,
