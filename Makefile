@@ -2,7 +2,7 @@
 FILE ?= crates/lockreplay/stdin
 PROGRAM := crates/lockreplay/out/lockreplay
 
-.PHONY: run test build format memory threads edits conformance conformance-tests docs install library install-library embed lockfs fuse-test
+.PHONY: run test build format memory threads edits conformance conformance-tests docs install library install-library embed bench lockfs fuse-test
 
 run: build
 	@$(PROGRAM) $(if $(FILE),'$(FILE)')
@@ -116,6 +116,11 @@ install-library: library
 embed: library
 	@$(MAKE) --no-print-directory install-library DESTDIR= PREFIX='$(abspath embedding/out/installed)' > embedding/out/install.log
 	sh embedding/tests/embed.sh '$(abspath $(LIBRARY))' '$(abspath embedding/out)' '$(abspath embedding/out/installed)'
+
+# What the library's calls cost at growing sizes, as docs/PERFORMANCE.md has it; wants a C compiler.
+bench: library
+	@$(CC) -std=gnu11 -O2 -Wall -Wextra -Wshadow -Iembedding embedding/bench.c $(LIBRARY) -o embedding/out/bench
+	@embedding/out/bench
 
 # The file system that has its locks answered by the library; wants libfuse3.
 LOCKFS := embedding/out/lockfs

@@ -1,14 +1,15 @@
 //! What want of memory leaves, run with each allocation refused in turn. What lines, entries and reports say is tried on the program
 //! (`tests/lines.sh`, `tests/worked-scripts.sh`), and so are large ones (`tests/large-scripts.sh`).
-use fd_table::Limits;
-use lock_manager::{LkCmd, Lock, Request};
+use fd_table::{Access, Limits};
+use lock_manager::{FlockOp, LkCmd, Lock, Request, Rules};
 use range_core::{Kind, Whence};
 use script_core::{
-    Cause, JournalFault, JournalReader, ScriptFault, parse, parse_entry, write_entry,
+    Cause, JournalFault, JournalReader, ScriptFault, parse, parse_entry, write_entry, write_report,
 };
-use session_core::{Entry, Notes};
+use session_core::{Entry, Notes, RunAllFault, run_all};
 use std::alloc::Global;
 use std::process::Abort;
+use wait_core::Policy;
 
 /// A refused growth of `parse` is told of one of the lines, whatever the script says.
 #[test]
@@ -69,6 +70,45 @@ fn write_without_memory(rt: HostRuntime) {
             }
         }
     }
+}
+
+const RULES: Rules = Rules {
+    policy: Policy::Held,
+    limits: Limits::Small,
+};
+
+/// What stands behind the requests of [`write_report_without_memory`], written by hand.
+const REPORT: &[u8] = b"flock 7 description 1 ex
+wait 2#2 7 flock description 2 ex
+proc 1 sent 3 taken 3 answered 3 live
+proc 2 sent 2 taken 2 answered 1 waiting
+";
+
+/// A refused growth of `write_report` leaves the old bytes and a front of the text, and written again it is the whole one.
+#[test]
+fn write_report_without_memory(rt: HostRuntime) -> Result<(), RunAllFault> {
+    let access = Access::Rw;
+    let exclude = |fd| Request::Flock {
+        fd,
+        op: FlockOp::Ex,
+        nb: false,
+    };
+    let arrivals = [
+        (1, Request::OpenFile { file: 7, access }),
+        (1, exclude(0)),
+        (1, Request::Fork { child: 2 }),
+        (2, Request::OpenFile { file: 7, access }),
+        (2, exclude(1)),
+    ];
+    let session = run_all(rt.alloc(), 2, RULES, &arrivals)?;
+    let mut out = Vec::new(rt.alloc());
+    if write_report(&session, &[3, 2], &mut out).is_err() {
+        assert!(rt; REPORT.starts_with(&out));
+        out.clear();
+        write_report(&session, &[3, 2], &mut out)?;
+    }
+    assert_eq!(rt; out.as_slice(), REPORT);
+    Ok(())
 }
 
 /// Want of memory leaves what was read of a journal, and then the line is read as if it came first.

@@ -1,5 +1,5 @@
 //! The pending requests, in order of arrival.
-ghost use Rattle.std.specs.Prelude.{ℕ, ◌⊎◌, ◌≡◌, ◌≢◌, ◌<◌, ◌≤◌, ◌↔◌, List, [], ◌∷◌, ◌++◌, length, vec_capacity, IfOk, IfSome, IfNone, IsTrue, IsFalse, All, AllPairs, Any, slice_get, None, Some, take};
+ghost use Rattle.std.specs.Prelude.{ℕ, ◌⊎◌, ◌≡◌, ◌≢◌, ◌<◌, ◌≤◌, ◌↔◌, List, [], ◌∷◌, ◌++◌, length, vec_capacity, IfOk, IfSome, IfNone, IsTrue, IsFalse, All, AllPairs, Any, slice_get, None, Some, false, take};
 ghost use Rattle.wait_core.specs.declared.files.TheConstants.{FILES};
 ghost use Rattle.wait_core.specs.declared.processes.TheConstants.{PROCESSES};
 ghost use Rattle.wait_core.specs.declared.Policy.TheVariants.{Queue};
@@ -198,6 +198,7 @@ impl Waits {
         ensures processes { processes_of self.new ≡ processes_of self.old }
         ensures told { (locks : Locks) → AreTold self.old locks → AreTold self.new locks }
         ensures blocked { (locks : Locks) → AllBlocked (policy_of self.old) locks [] (waits_of self.old) → AreBlockedElsewhere self.new locks }
+        ensures forgotten { (file : ℕ) → has_file (changed_files self.new) file ≡ false }
     {
         self.changed = FileSet::empty();
     }

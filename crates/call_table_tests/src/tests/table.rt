@@ -195,3 +195,39 @@ fn thousands_pass_the_table_often(rt: HostRuntime) -> Result<(), Fail> {
     pass_often(&rt, &mut first, &mut last, &mut server)?;
     Ok(())
 }
+
+/// [`Desk::serve_one`], and once more where a growth was refused: then nothing new is shown to this client, to which nothing was.
+fn serve_unseen(
+    rt: &impl Abort,
+    hub: &Hub,
+    desk: &mut Desk,
+    client: &mut Client,
+) -> Result<Served, Memory>
+    requires desk { IsDeskOf hub.now desk.old }
+    requires client { IsClientOf hub.now client.old }
+    ensures desk { IsDeskOf hub.now desk.new }
+    ensures client { IsClientOf hub.now client.new }
+{
+    match desk.serve_one(hub, &Open) {
+        Err(_) => {
+            assert!(rt; client.collect(hub).is_none());
+            desk.serve_one(hub, &Open)
+        }
+        first => first,
+    }
+}
+
+/// In a table of one cell each, a client posts a fork and is dropped, which leaves its words as they are: the desk goes on, and what it
+/// met the child collects.
+#[test]
+fn a_dropped_client_is_served(rt: HostRuntime) -> Result<(), Fail> {
+    let (hub, mut first, mut last, mut desk) = open_table(&rt, rt.alloc(), 2, 1, RULES)?;
+    assert!(rt; first.post(&hub, FORK) == Ok(1));
+    drop(first);
+    assert!(rt; serve_unseen(&rt, &hub, &mut desk, &mut last)? == Served::Took(1));
+    assert!(rt; last.post(&hub, OPEN) == Ok(1));
+    assert!(rt; serve_unseen(&rt, &hub, &mut desk, &mut last)? == Served::Took(2));
+    let (_desk, mut last) = desk.meet(&hub, last);
+    assert!(rt; last.collect(&hub) == Some((1, Reply::Fd(0), 2)));
+    Ok(())
+}
