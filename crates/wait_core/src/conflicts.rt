@@ -41,8 +41,9 @@ impl Wait {
         self.file == file && meet(Family::Bytes, self.span, span)
     }
 
-    /// Whether a lock of another owner blocks the wait.
-    pub(crate) fn is_blocked_by_lock(&self, books: &[Book]) -> bool
+    /// Whether a lock of another owner blocks the wait; `books` has the locks, by file (POSIX.1-2017 fcntl, `F_SETLK`;
+    /// flock(2)). It takes no memory.
+    pub fn is_blocked_by_lock(&self, books: &[Book]) -> bool
         requires file { self.now.file < length books.now }
         requires range { IsByteRange self.now.span }
         requires owner { IsTrue (can_own self.now.family self.now.owner) }

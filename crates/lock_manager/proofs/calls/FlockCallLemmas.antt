@@ -1,11 +1,12 @@
 -- What flock comes to: at once, refused, or later.
-use Rattle.std.proofs.Common.{ℕ, ◌≡◌, ◌≢◌, refl, sym, ◌∙◌, ap, subst, Bool, true, false, Option, Some, None, List, [], ◌∷◌, ◌++◌, inl, inr, ◌⊎◌, IsTrue}
+use Rattle.std.proofs.Common.{arith, ℕ, ◌≡◌, ◌≢◌, refl, sym, ◌∙◌, ap, subst, Bool, true, false, Option, Some, None, List, [], ◌∷◌, ◌++◌, inl, inr, ◌⊎◌, IsTrue}
 use Rattle.std.proofs.lemmas.Bool.{eq-eqb}
 use Rattle.std.proofs.lemmas.Option.{same_Some}
 use Rattle.range_core.specs.declared.Mode.{Mode}
 use Rattle.range_core.specs.declared.Mode.TheVariants.{Read, Write}
 use Rattle.lock_book.specs.Changes.{flock_mode_in}
-use Rattle.std.specs.Prelude.{IsFalse, IsSome, ◌↔◌, slice_get, slice_set, ◌==◌, ◌&&◌, ◌||◌, if◌then◌else◌}
+use Rattle.std.proofs.lemmas.Grind.{common_steps}
+use Rattle.std.specs.Prelude.{IsFalse, IsTrue, not, IsSome, ◌↔◌, slice_get, slice_set, ◌==◌, ◌&&◌, ◌||◌, if◌then◌else◌}
 use Rattle.std.specs.List.{list_any}
 use Rattle.lock_book.specs.declared.Owner.TheVariants.{Description}
 use Rattle.lock_book.specs.declared.book.Book.{Book}
@@ -32,30 +33,6 @@ use Rattle.lock_manager.specs.WaitsKept.{AreApart, is_flock_wait, has_place_at}
 use Rattle.lock_manager.specs.MachineView.{Shows, machine_rules, machine_locks, machine_waits}
 use Rattle.lock_manager.proofs.calls.SetLemmas.{at_state, is_blocked, not_blocked}
 use Rattle.lock_manager.proofs.kept.GrantLemmas.{without_middle}
-
--- a request for a flock lock is blocked by a lock just where the file's book says so
-pub by_flock : (books : List Book) (book : Book) (wanted : Wait) (look : Look) → slice_get books look.file ≡ Some book → wanted ≡ wanted_flock wanted.p wanted.n look wanted.mode
-    → FlockConflict (flock_modes_of book) (Description look.desc) wanted.mode ↔ IsBlockedByLock (locks_of books) wanted
-by_flock books book wanted look was is = (
-  λ h. subst (λ w. IsBlockedByLock (locks_of books) w) (sym is) (subst (λ e. FlockConflict (flock_modes_at e) (Description look.desc) wanted.mode) (sym was) h),
-  λ h. subst (λ e. FlockConflict (flock_modes_at e) (Description look.desc) wanted.mode) was (subst (λ w. IsBlockedByLock (locks_of books) w) is h),
-)
-
--- of two reasons the second alone is asked for
-pub flock_second : (first nb result : Bool) (Found One Other : Type 0) → first ≡ false → IsTrue first ↔ Found → Found ↔ One → nb ≡ false → IsTrue result ↔ Other
-    → IsTrue result ↔ (One ⊎ (IsFalse nb × Other))
-flock_second first nb result Found One Other none tells same is second = (
-  λ h. inr (is, second.0 h),
-  λ any. elim any [ inl one ↦ absurd (let found : first ≡ true = tells.1 (same.1 one) in cc) | inr other ↦ second.1 other.1 ],
-)
-
--- of two reasons the second isn't asked for
-pub flock_none : (first nb result : Bool) (Found One Other : Type 0) → first ≡ false → IsTrue first ↔ Found → Found ↔ One → nb ≡ true → result ≡ false
-    → IsTrue result ↔ (One ⊎ (IsFalse nb × Other))
-flock_none first nb result Found One Other none tells same is never = (
-  λ h. absurd (cc),
-  λ any. elim any [ inl one ↦ absurd (let found : first ≡ true = tells.1 (same.1 one) in cc) | inr other ↦ absurd (let no = other.0 in cc) ],
-)
 
 -- where a wait in the list passes a test, some wait does
 pub found_asks : (test : Wait → Bool) (waits : List Wait) (p : ℕ) (wait : Wait) → wait_of waits p ≡ Some wait → test wait ≡ true → list_any test waits ≡ true
@@ -103,6 +80,13 @@ TestTells old new nb wanted note =
 -- what blocks the test
 abbrev pub IsTestBlocked : Machine → Bool → Wait → Locks → List Wait → Type 0
 IsTestBlocked old nb wanted locks waits = IsBlockedByLock locks wanted ⊎ (IsFalse nb × IsQueued (machine_rules old).policy waits wanted)
+
+-- who may wait is who doesn't ask never to
+pub asked : (old : Machine) (nb : Bool) (wanted : Wait)
+    → (IsBlockedByLock (machine_locks old) wanted ⊎ (IsTrue (not nb) × IsQueued (machine_rules old).policy (machine_waits old) wanted))
+    ↔ IsTestBlocked old nb wanted (machine_locks old) (machine_waits old)
+asked old true wanted = grind (arith, common_steps)
+asked old false wanted = grind (arith, common_steps)
 
 -- nothing blocks it
 pub flock_locked : (old new : Machine) (nb : Bool) (look : Look) (wanted : Wait) (note : Note) → wanted ≡ wanted_flock wanted.p wanted.n look wanted.mode

@@ -27,34 +27,6 @@ use Rattle.lock_manager.specs.LockCommands.{IsLocked, CommandComesTo}
 use Rattle.lock_manager.specs.MachineView.{Shows, machine_rules, machine_locks, machine_waits}
 use Rattle.lock_manager.proofs.calls.ReportLemmas.{same_locks}
 
--- a request for bytes is blocked by a lock just where the file's book says so
-pub by_book : (books : List Book) (book : Book) (wanted : Wait) → slice_get books wanted.file ≡ Some book → wanted.family ≡ Bytes
-    → ByteConflict (byte_modes_of book) wanted.owner wanted.span wanted.mode ↔ IsBlockedByLock (locks_of books) wanted
-by_book books book wanted was family = (
-  λ h. subst (λ f. IsBlockedIn f (locks_of books) wanted) (sym family) (subst (λ e. ByteConflict (byte_modes_at e) wanted.owner wanted.span wanted.mode) (sym was) h),
-  λ h. subst (λ e. ByteConflict (byte_modes_at e) wanted.owner wanted.span wanted.mode) was (subst (λ f. IsBlockedIn f (locks_of books) wanted) family h),
-)
-
--- of two reasons the first is there
-pub told_first : (result : Bool) (Found One Other : Type 0) → result ≡ true → IsTrue result ↔ Found → Found ↔ One → IsTrue result ↔ (One ⊎ Other)
-told_first result Found One Other is tells same = (λ h. inl (same.0 (tells.0 h)), λ any. is)
-
--- of two reasons the second alone is asked for
-pub told_second : (first asked result : Bool) (Found One Other : Type 0) → first ≡ false → IsTrue first ↔ Found → Found ↔ One → IsTrue asked → IsTrue result ↔ Other
-    → IsTrue result ↔ (One ⊎ (IsTrue asked × Other))
-told_second first asked result Found One Other none tells same is second = (
-  λ h. inr (is, second.0 h),
-  λ any. elim any [ inl one ↦ absurd (let found : first ≡ true = tells.1 (same.1 one) in cc) | inr other ↦ second.1 other.1 ],
-)
-
--- of two reasons the second isn't asked for
-pub told_none : (first asked result : Bool) (Found One Other : Type 0) → first ≡ false → IsTrue first ↔ Found → Found ↔ One → result ≡ false → result ≡ asked
-    → IsTrue result ↔ (One ⊎ (IsTrue asked × Other))
-told_none first asked result Found One Other none tells same never is = (
-  λ h. absurd (cc),
-  λ any. elim any [ inl one ↦ absurd (let found : first ≡ true = tells.1 (same.1 one) in cc) | inr other ↦ is ∙ other.0 ],
-)
-
 -- in each state that old shows the set command comes to this note alone, and new shows the state that it leaves
 abbrev pub CommandTells : Machine → Machine → LkCmd → Wait → Note → Type 0
 CommandTells old new cmd wanted note =

@@ -118,7 +118,7 @@ impl Machine {
         ensures same_rules { SameRules self.old self.new }
     {
         let Wait { p, n, .. } = wanted;
-        if !self.is_flock_blocked(look, nb, &wanted) {
+        if !self.is_blocked(!nb, &wanted) {
             self.change_flock(look.file, look.desc, Some(wanted.mode));
             return answered(p, n, Reply::Ok);
         }
@@ -127,17 +127,6 @@ impl Machine {
         }
         self.join(wanted);
         Note::Waits { p, n }
-    }
-
-    /// Whether a flock lock of another description stands in the way or, of a request that would wait, an earlier wait in
-    /// the queue.
-    fn is_flock_blocked(&self, look: Look, nb: bool, wanted: &Wait) -> bool
-        requires is { wanted.now ≡ wanted_flock_of wanted.now.p wanted.now.n look wanted.now.mode }
-        requires file { look.file < FILES }
-        ensures { IsTrue result ↔ (IsBlockedByLock (machine_locks self.now) wanted.now ⊎ (IsFalse nb × IsQueued (machine_rules self.now).policy (machine_waits self.now) wanted.now)) }
-    {
-        let book = &self.books[usize::from(look.file)];
-        book.flock_blocked(look.desc, wanted.mode) || !nb && self.waits.queued(wanted)
     }
 
     /// Keeps a place for the flock lock of the description.

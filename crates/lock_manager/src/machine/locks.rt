@@ -115,11 +115,12 @@ impl Machine {
         ensures same_rules { SameRules self.old self.new }
     {
         let Wait { p, n, .. } = wanted;
-        if !self.is_blocked(cmd, &wanted) {
+        let may_wait = cmd.may_wait();
+        if !self.is_blocked(may_wait, &wanted) {
             self.change(wanted.file, wanted.owner, wanted.span, Some(wanted.mode))?;
             return Ok(answered(p, n, Reply::Ok));
         }
-        if !cmd.may_wait() {
+        if !may_wait {
             return Ok(refused(p, n, Errno::EAGAIN));
         }
         if self.would_deadlock(cmd, &wanted) {
@@ -142,15 +143,12 @@ impl Machine {
         }
     }
 
-    /// Whether a lock of another owner stands in the way or, of a request that would wait, an earlier wait in the queue.
-    fn is_blocked(&self, cmd: LkCmd, wanted: &Wait) -> bool
-        requires family { wanted.now.family ≡ Family.Bytes }
-        requires well_formed { IsWellFormed (machine_processes self.now) wanted.now }
-        ensures { IsTrue result ↔ (IsBlockedByLock (machine_locks self.now) wanted.now ⊎ (IsTrue (may_wait cmd) × IsQueued (machine_rules self.now).policy (machine_waits self.now) wanted.now)) }
+    /// Whether a lock of another owner stands in the way or, of a request that may wait, an earlier wait in the queue.
+    pub(super) fn is_blocked(&self, may_wait: bool, wanted: &Wait) -> bool
+        requires { IsWellFormed (machine_processes self.now) wanted.now }
+        ensures { IsTrue result ↔ (IsBlockedByLock (machine_locks self.now) wanted.now ⊎ (IsTrue may_wait × IsQueued (machine_rules self.now).policy (machine_waits self.now) wanted.now)) }
     {
-        let book = &self.books[usize::from(wanted.file)];
-        book.blocked(wanted.owner, wanted.span, wanted.mode)
-            || cmd.may_wait() && self.waits.queued(wanted)
+        wanted.is_blocked_by_lock(&self.books) || may_wait && self.waits.queued(wanted)
     }
 
     /// Whether a request that would wait, for a traditional lock, would close a cycle (POSIX.1-2017 fcntl, `EDEADLK`).

@@ -9,21 +9,21 @@ use Rattle.lock_manager.specs.MachineView.{machine_rules, machine_processes, mac
 use Rattle.lock_book.specs.declared.Owner.TheVariants.{Process, Description}
 use Rattle.lock_manager.proofs.calls.CommandLemmas.{may_lock_waiting}
 use Rattle.lock_manager.proofs.calls.SetLemmas.{is_blocked}
-use Rattle.lock_manager.proofs.calls.FlockCallLemmas.{flock_locked, flock_held_off, flock_waiting}
+use Rattle.lock_manager.proofs.calls.FlockCallLemmas.{asked, flock_locked, flock_held_off, flock_waiting}
 use Rattle.lock_manager.proofs.machine.Machine.test_flock.Goals as goal
 
 pub change_flock-requires-clause-owner : goal.change_flock-requires-clause-owner
 change_flock-requires-clause-owner c =
     may_lock_waiting c.args.self.now.tables c.args.wanted.p c.args.look.file (Description c.args.look.desc) c.requires.asked.may_wait
 
-pub returns-then-not-is_flock_blocked-clause-told : goal.returns-then-not-is_flock_blocked-clause-told
-returns-then-not-is_flock_blocked-clause-told c =
+pub returns-then-not-is_blocked-clause-told : goal.returns-then-not-is_blocked-clause-told
+returns-then-not-is_blocked-clause-told c =
     flock_locked c.args.self.now c.change_flock.new.self c.args.nb c.args.look c.args.wanted c.answered.result c.requires.asked.is c.answered.ensures
-    (λ blocked. let is = c.is_flock_blocked.ensures.1 blocked in cc) c.change_flock.ensures.shows
+    (λ blocked. let is = c.is_blocked.ensures.1 ((asked c.args.self.now c.args.nb c.args.wanted).1 blocked) in cc) c.change_flock.ensures.shows
 
 pub returns-then-nb-clause-told : goal.returns-then-nb-clause-told
 returns-then-nb-clause-told c =
-    flock_held_off c.args.self.now c.args.nb c.args.wanted c.refused.result c.if-nb.true c.refused.ensures (c.is_flock_blocked.ensures.0 c.if-not-is_flock_blocked.false)
+    flock_held_off c.args.self.now c.args.nb c.args.wanted c.refused.result c.if-nb.true c.refused.ensures ((asked c.args.self.now c.args.nb c.args.wanted).0 (c.is_blocked.ensures.0 c.if-not-is_blocked.false))
 
 pub join-requires-clause-well_formed : goal.join-requires-clause-well_formed
 unfolding machine_state machine_processes
@@ -51,8 +51,8 @@ pub join-requires-clause-blocked : goal.join-requires-clause-blocked
 join-requires-clause-blocked c =
     let machine = c.args.self.now in
     is_blocked (machine_rules machine).policy (machine_locks machine) (machine_waits machine) c.args.wanted
-    (elim (c.is_flock_blocked.ensures.0 c.if-not-is_flock_blocked.false) [ inl by_lock ↦ inl by_lock | inr behind ↦ inr behind.1 ])
+    (elim (c.is_blocked.ensures.0 c.if-not-is_blocked.false) [ inl by_lock ↦ inl by_lock | inr behind ↦ inr behind.1 ])
 
 pub returns-clause-told : goal.returns-clause-told
 returns-clause-told c =
-    flock_waiting c.args.self.now c.join.new.self c.args.nb c.args.wanted c.if-nb.false (c.is_flock_blocked.ensures.0 c.if-not-is_flock_blocked.false) c.join.ensures.shows
+    flock_waiting c.args.self.now c.join.new.self c.args.nb c.args.wanted c.if-nb.false ((asked c.args.self.now c.args.nb c.args.wanted).0 (c.is_blocked.ensures.0 c.if-not-is_blocked.false)) c.join.ensures.shows
