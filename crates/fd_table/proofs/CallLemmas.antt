@@ -1,5 +1,6 @@
 -- From what a call leaves to what the definition says of it.
-use Rattle.std.proofs.Common.{◌≡◌, ℕ, ℤ, pos, ◌<◌, true, cond, eqb, List, length, get_or, set, Some, None, Ok, IsSome, refl, sym, ap, ◌∙◌, inl, inr, arith}
+use Rattle.std.proofs.lemmas.Grind.{common_steps}
+use Rattle.std.proofs.Common.{◌≡◌, ℕ, ℤ, pos, ◌<◌, true, cond, eqb, List, length, get_or, set, Some, None, Ok, IsSome, refl, ap, ◌∙◌, arith}
 use Rattle.std.specs.Option.{option_map}
 use Rattle.std.proofs.lemmas.Bool.{cases_eq, eq-eqb, ne_eqb, lt-ltb}
 use Rattle.std.proofs.lemmas.List.{get_or-set_same, get_or-set_other}
@@ -58,23 +59,12 @@ resize_done v w D p fd n size s h is whole seen made sizes born = (
 
 -- the sizes after one was written
 pub size-set : (sizes : List ℕ) (file place n : ℕ) → place ≡ file → place < length sizes → (x : ℕ) → get_or (set sizes place n) x 0 ≡ cond (eqb x file) n (get_or sizes x 0)
-size-set sizes file place n is within x =
-    elim (cases_eq x file) [
-      | inl here ↦
-          ap (λ k. get_or (set sizes place n) k 0) (here ∙ sym is) ∙ get_or-set_same sizes place n 0 within
-          ∙ sym (ap (λ b. cond b n (get_or sizes x 0)) (eq-eqb x file here))
-      | inr there ↦
-          get_or-set_other sizes place x n 0 (λ at. there (at ∙ is))
-          ∙ sym (ap (λ b. cond b n (get_or sizes x 0)) (ne_eqb x file there))
-    ]
+size-set sizes file place n is within x = grind (arith, common_steps, cases_eq, get_or-set_same, eq-eqb, get_or-set_other, ne_eqb)
 
 -- a descriptor with a key is open
 pub open_at_key : (rows : List Keys) (opened : Slab Opened) (made p fd : ℕ) (v : View) (D : Descriptors) → AreEntries rows opened made → ((q k : ℕ) → v.seen q k ≡ seen_in rows opened q k)
     → ViewStandsFor v D → IsSome (key_at rows p fd) → IsSome (D.description_of p fd)
-open_at_key rows opened made p fd v D entered shown h there =
-    let key = value_of_some (key_at rows p fd) there in
-    let seen = key_seen rows opened made p fd key.0 entered key.1 in
-    is_open v D p fd (numbered seen.0) h (shown p fd ∙ seen.2)
+open_at_key rows opened made p fd v D entered shown h there = grind (arith, common_steps, value_of_some, key_seen, is_open)
 
 -- a descriptor that is open has a key
 pub key_of_open : (rows : List Keys) (opened : Slab Opened) (p fd : ℕ) (v : View) (D : Descriptors) → ((q k : ℕ) → v.seen q k ≡ seen_in rows opened q k) → ViewStandsFor v D → key_at rows p fd ≡ None → D.description_of p fd ≡ None

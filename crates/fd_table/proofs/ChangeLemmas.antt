@@ -1,5 +1,6 @@
 -- The entries, and what is seen of them, where a descriptor gets a key or is closed.
-use Rattle.std.proofs.Common.{◌≡◌, ◌≢◌, ℕ, ◌+◌, ◌-◌, ◌<◌, ◌≤◌, cond, List, length, Option, Some, None, refl, sym, ap, ◌∙◌, inl, inr, arith}
+use Rattle.std.proofs.Common.{rules, ◌≡◌, ◌≢◌, ℕ, ◌+◌, ◌-◌, ◌<◌, ◌≤◌, cond, List, length, Option, Some, None, refl, sym, ap, ◌∙◌, inl, inr, arith}
+use Rattle.std.proofs.lemmas.Grind.{common_steps}
 use Rattle.std.specs.Option.{option_map}
 use Rattle.std.proofs.lemmas.Bool.{cases_lt, eq-eqb, ne_eqb}
 use Rattle.std.proofs.lemmas.Option.{same_Some, none-some}
@@ -28,19 +29,12 @@ one_for-other x key differs = ap {B = ℕ} (λ b. cond b 1 0) (ne_eqb key x (λ 
 -- a closed descriptor that gets a key is one user more of this key alone
 pub users_of-opened : (rows : List Keys) (p fd key : ℕ) → p < length rows → fd < length (row_at rows p) → key_at rows p fd ≡ None
     → (users_of (with_key rows p fd (Some key)) key ≡ users_of rows key + 1) × ((x : ℕ) → x ≢ key → users_of (with_key rows p fd (Some key)) x ≡ users_of rows x)
-users_of-opened rows p fd key inside within closed = (
-  omega (arith, users_of-with_key rows p fd (Some key) key inside within, ap (one_for key) closed, one_for-same key),
-  λ x differs. omega (arith, users_of-with_key rows p fd (Some key) x inside within, ap (one_for x) closed, one_for-other x key differs),
-)
+users_of-opened rows p fd key inside within closed = grind (arith, common_steps, users_of-with_key, one_for, one_for-same, one_for-other)
 
 -- a descriptor that is closed is one user less of its key alone
 pub users_of-closed : (rows : List Keys) (p fd key : ℕ) → key_at rows p fd ≡ Some key
     → (users_of (with_key rows p fd None) key + 1 ≡ users_of rows key) × ((x : ℕ) → x ≢ key → users_of (with_key rows p fd None) x ≡ users_of rows x)
-users_of-closed rows p fd key is =
-    let inside = key_within rows p fd key is in (
-      omega (arith, users_of-with_key rows p fd None key inside.0 inside.1, ap (one_for key) is, one_for-same key),
-      λ x differs. omega (arith, users_of-with_key rows p fd None x inside.0 inside.1, ap (one_for x) is, one_for-other x key differs),
-    )
+users_of-closed rows p fd key is = grind (arith, common_steps, key_within, users_of-with_key, one_for, one_for-same, one_for-other)
 
 -- no entry has more users than there are descriptors
 pub few_users : (processes : ℕ) (limits : Limits) (rows : List Keys) (opened : Slab Opened) (made key : ℕ) (entry : Opened) → AreRows processes limits rows → AreEntries rows opened made → get opened key ≡ Some entry → entry.users ≤ 65536
@@ -60,47 +54,23 @@ one_less entry = record entry { users = entry.users - 1 }
 pub entries_shared : (rows : List Keys) (old new : Slab Opened) (made p fd key : ℕ) (entry : Opened) → AreEntries rows old made → p < length rows → fd < length (row_at rows p) → key_at rows p fd ≡ None
     → get old key ≡ Some entry → Updates old new key (Some (one_more entry)) → AreEntries (with_key rows p fd (Some key)) new made
 entries_shared rows old new made p fd key entry h inside within closed was updates =
-    let at = h.each key entry was in
-    let users = users_of-opened rows p fd key inside within closed in
-    entries_rewritten rows (with_key rows p fd (Some key)) old new made key entry (one_more entry) h was updates refl
-    (record { positive = at.positive; given_out = at.given_out; file = at.file; offset = at.offset; used = omega (arith, at.used) })
-    (omega (arith, users.0, h.counted key entry was)) users.1
-    (λ q k x is.
-    elim (key_at_written rows p fd (Some key) within q k x is) [
-      | inl same ↦ some_is (get old x) entry (ap (get old) (sym (same_Some key x same)) ∙ was)
-      | inr there ↦ h.occupied q k x there.1
-    ])
+    search (rules, users_of-opened, entries_rewritten, key_at_written, some_is, same_Some)
 
 -- what is seen where a closed descriptor gets a key
 pub seen_shared : (rows : List Keys) (old new : Slab Opened) (p fd from key : ℕ) (entry : Opened) → fd < length (row_at rows p) → key_at rows p from ≡ Some key
     → get old key ≡ Some entry → Updates old new key (Some (one_more entry)) → (q k : ℕ) → seen_in (with_key rows p fd (Some key)) new q k ≡ cond (is_place p fd q k) (seen_in rows old p from) (seen_in rows old q k)
-seen_shared rows old new p fd from key entry within is was updates q k =
-    seen_by_same old new (rewritten_shows old new key entry (one_more entry) was updates refl) (key_at (with_key rows p fd (Some key)) q k)
-    ∙ seen-with_key rows old p fd (Some key) within q k
-    ∙ ap (λ o. cond (is_place p fd q k) (seen_by old o) (seen_in rows old q k)) (sym is)
+seen_shared rows old new p fd from key entry within is was updates q k = search (rules, seen_by_same, rewritten_shows, seen-with_key, seen_by)
 
 -- the entries where a descriptor is closed, and others use its description
 pub entries_unshared : (rows : List Keys) (old new : Slab Opened) (made p fd key : ℕ) (entry : Opened) → AreEntries rows old made → key_at rows p fd ≡ Some key
     → get old key ≡ Some entry → entry.users ≢ 1 → Updates old new key (Some (one_less entry)) → AreEntries (with_key rows p fd None) new made
 entries_unshared rows old new made p fd key entry h is was more updates =
-    let at = h.each key entry was in
-    let users = users_of-closed rows p fd key is in
-    let inside = key_within rows p fd key is in
-    entries_rewritten rows (with_key rows p fd None) old new made key entry (one_less entry) h was updates refl
-    (record { positive = at.positive; given_out = at.given_out; file = at.file; offset = at.offset; used = omega (arith, at.used) })
-    (omega (arith, users.0, h.counted key entry was)) users.1
-    (λ q k x held.
-    elim (key_at_written rows p fd None inside.1 q k x held) [
-      | inl same ↦ absurd (none-some x same)
-      | inr there ↦ h.occupied q k x there.1
-    ])
+    search (rules, users_of-closed, key_within, entries_rewritten, key_at_written, none-some)
 
 -- what is seen where a descriptor is closed, and others use its description
 pub seen_unshared : (rows : List Keys) (old new : Slab Opened) (p fd key : ℕ) (entry : Opened) → key_at rows p fd ≡ Some key
     → get old key ≡ Some entry → Updates old new key (Some (one_less entry)) → (q k : ℕ) → seen_in (with_key rows p fd None) new q k ≡ cond (is_place p fd q k) None (seen_in rows old q k)
-seen_unshared rows old new p fd key entry is was updates q k =
-    seen_by_same old new (rewritten_shows old new key entry (one_less entry) was updates refl) (key_at (with_key rows p fd None) q k)
-    ∙ seen-with_key rows old p fd None (key_within rows p fd key is).1 q k
+seen_unshared rows old new p fd key entry is was updates q k = search (rules, seen_by_same, rewritten_shows, seen-with_key, key_within)
 
 -- no other descriptor has the key of an entry with one user
 unused_after : (rows : List Keys) (opened : Slab Opened) (made p fd key : ℕ) (entry : Opened) → AreEntries rows opened made → key_at rows p fd ≡ Some key → get opened key ≡ Some entry → entry.users ≡ 1
@@ -129,18 +99,11 @@ seen_by_kept old new key slot (Some x) updates apart = ap (option_map numbered) 
 -- what is seen where the last descriptor of a description is closed
 pub seen_dropped : (rows : List Keys) (old new : Slab Opened) (made p fd key : ℕ) (entry : Opened) → AreEntries rows old made → key_at rows p fd ≡ Some key
     → get old key ≡ Some entry → entry.users ≡ 1 → Updates old new key None → (q k : ℕ) → seen_in (with_key rows p fd None) new q k ≡ cond (is_place p fd q k) None (seen_in rows old q k)
-seen_dropped rows old new made p fd key entry h is was one updates q k =
-    seen_by_kept old new key None (key_at (with_key rows p fd None) q k) updates (unused_after rows old made p fd key entry h is was one q k)
-    ∙ seen-with_key rows old p fd None (key_within rows p fd key is).1 q k
+seen_dropped rows old new made p fd key entry h is was one updates q k = search (rules, seen_by_kept, unused_after, seen-with_key, key_within)
 
 -- an entry behind what is seen
 pub entry_seen : (opened : Slab Opened) (held : Option ℕ) (s : Numbered) → seen_by opened held ≡ Some s → (x : ℕ) × (entry : Opened) × (held ≡ Some x) × (get opened x ≡ Some entry) × (numbered entry ≡ s)
-entry_seen opened None s is = absurd (none-some s is)
-entry_seen opened (Some x) s is = through (get opened x) refl is
-  where
-    through : (o : Option Opened) → get opened x ≡ o → option_map numbered o ≡ Some s → (x' : ℕ) × (entry : Opened) × (Some x ≡ Some x') × (get opened x' ≡ Some entry) × (numbered entry ≡ s)
-    through None at shown = absurd (none-some s shown)
-    through (Some entry) at shown = (x, entry, refl, at, same_Some (numbered entry) s shown)
+entry_seen opened held s h = search (rules, none-some, same_Some)
 
 -- what an open descriptor of the definition is seen as
 pub seen_from : (v : View) (D : Descriptors) (p fd number : ℕ) → ViewStandsFor v D → D.description_of p fd ≡ Some number → (s : Numbered) × (v.seen p fd ≡ Some s) × (s.number ≡ number)

@@ -1,5 +1,6 @@
 -- The entries of the slab, and what is seen of them, after each change.
-use Rattle.std.proofs.Common.{◌≡◌, ◌≢◌, ◌⊎◌, ℕ, ◌+◌, ◌<◌, ◌≤◌, Bool, true, false, cond, List, length, Option, Some, None, IsSome, is_some, refl, sym, ap, subst, ◌∙◌, inl, inr, arith}
+use Rattle.std.proofs.Common.{rules, ◌≡◌, ◌≢◌, ◌⊎◌, ℕ, ◌+◌, ◌<◌, ◌≤◌, Bool, true, false, cond, List, length, Option, Some, None, IsSome, is_some, refl, sym, ap, ◌∙◌, arith}
+use Rattle.std.proofs.lemmas.Grind.{common_steps}
 use Rattle.std.specs.Option.{option_map, option_and_then}
 use Rattle.std.proofs.lemmas.Bool.{cases_eq, eq-eqb, ne_eqb}
 use Rattle.std.proofs.lemmas.Option.{same_Some, none-some}
@@ -24,104 +25,30 @@ value_of_some (Some x) h = (x, refl)
 -- an entry after a change was there before, or is the one that was written
 pub updated_cases : (old new : Slab Opened) (key : ℕ) (slot : Option Opened) → Updates old new key slot → (x : ℕ) (entry : Opened) → get new x ≡ Some entry
     → ((x ≡ key) × (slot ≡ Some entry)) ⊎ ((x ≢ key) × (get old x ≡ Some entry))
-updated_cases old new key slot updates x entry is =
-    elim (cases_eq x key) [
-      | inl same ↦ inl (same, sym updates.changed ∙ ap (get new) (sym same) ∙ is)
-      | inr other ↦ inr (other, sym (updates.others x other) ∙ is)
-    ]
+updated_cases old new key slot updates x entry is = grind (arith, common_steps, cases_eq)
 
 -- a key that was occupied stays so, where a value is written
 pub stays_occupied : (old new : Slab Opened) (key : ℕ) (written : Opened) → Updates old new key (Some written) → (x : ℕ) → IsSome (get old x) → IsSome (get new x)
-stays_occupied old new key written updates x was =
-    elim (cases_eq x key) [
-      | inl same ↦ some_is (get new x) written (ap (get new) same ∙ updates.changed)
-      | inr other ↦ subst IsSome (sym (updates.others x other)) was
-    ]
+stays_occupied old new key written updates x was = grind (arith, common_steps, cases_eq, some_is)
 
 -- an entry is written again with the same number, where the rows may change too
 pub entries_rewritten : (rows after : List Keys) (old new : Slab Opened) (made key : ℕ) (entry written : Opened) → AreEntries rows old made → get old key ≡ Some entry
     → Updates old new key (Some written) → written.number ≡ entry.number → IsEntry made written → written.users ≡ users_of after key
     → ((x : ℕ) → x ≢ key → users_of after x ≡ users_of rows x) → ((p fd x : ℕ) → key_at after p fd ≡ Some x → IsSome (get old x)) → AreEntries after new made
 entries_rewritten rows after old new made key entry written h was updates number is_entry counted others occupied =
-    record {
-      occupied = λ p fd x is. stays_occupied old new key written updates x (occupied p fd x is);
-      counted = λ x e is.
-          elim (updated_cases old new key (Some written) updates x e is) [
-            | inl here ↦ ap (λ o. o.users) (sym (same_Some written e here.1)) ∙ counted ∙ ap (users_of after) (sym here.0)
-            | inr there ↦ h.counted x e there.1 ∙ sym (others x there.0)
-          ];
-      each = λ x e is.
-          elim (updated_cases old new key (Some written) updates x e is) [
-            | inl here ↦ subst (IsEntry made) (same_Some written e here.1) is_entry
-            | inr there ↦ h.each x e there.1
-          ];
-      distinct = λ x y e f is at same.
-          let before = λ (z : ℕ) (g : Opened) (now : get new z ≡ Some g). old_of z g now in
-          h.distinct x y (before x e is).0 (before y f at).0 (before x e is).1 (before y f at).1 ((before x e is).2 ∙ same ∙ sym (before y f at).2);
-    }
-  where
-    old_of : (z : ℕ) (g : Opened) → get new z ≡ Some g → (e : Opened) × (get old z ≡ Some e) × (e.number ≡ g.number)
-    old_of z g now =
-        elim (updated_cases old new key (Some written) updates z g now) [
-          | inl here ↦ (entry, ap (get old) here.0 ∙ was, sym number ∙ ap (λ o. o.number) (same_Some written g here.1))
-          | inr there ↦ (g, there.1, refl)
-        ]
+    search (rules, stays_occupied, updated_cases, same_Some)
 
 -- an entry that nobody uses any more is removed
 pub entries_removed : (rows after : List Keys) (old new : Slab Opened) (made key : ℕ) → AreEntries rows old made → Updates old new key None
     → ((x : ℕ) → x ≢ key → users_of after x ≡ users_of rows x) → ((p fd x : ℕ) → key_at after p fd ≡ Some x → (x ≢ key) × IsSome (get old x)) → AreEntries after new made
-entries_removed rows after old new made key h updates others occupied =
-    record {
-      occupied = λ p fd x is. let at = occupied p fd x is in subst IsSome (sym (updates.others x at.0)) at.1;
-      counted = λ x e is. let at = old_of x e is in h.counted x e at.1 ∙ sym (others x at.0);
-      each = λ x e is. h.each x e (old_of x e is).1;
-      distinct = λ x y e f is at same. h.distinct x y e f (old_of x e is).1 (old_of y f at).1 same;
-    }
-  where
-    old_of : (z : ℕ) (g : Opened) → get new z ≡ Some g → (z ≢ key) × (get old z ≡ Some g)
-    old_of z g now =
-        elim (updated_cases old new key None updates z g now) [
-          | inl here ↦ absurd (none-some g here.1)
-          | inr there ↦ (there.0, there.1)
-        ]
+entries_removed rows after old new made key h updates others occupied = search (rules, updated_cases, none-some)
 
 -- an entry with the next number is added at a vacant key
 pub entries_added : (rows after : List Keys) (old new : Slab Opened) (made key : ℕ) (added : Opened) → AreEntries rows old made → get old key ≡ None
     → Updates old new key (Some added) → added.number ≡ made + 1 → IsEntry (made + 1) added → added.users ≡ users_of after key
     → ((x : ℕ) → x ≢ key → users_of after x ≡ users_of rows x) → ((p fd x : ℕ) → key_at after p fd ≡ Some x → (x ≡ key) ⊎ IsSome (get old x)) → AreEntries after new (made + 1)
 entries_added rows after old new made key added h vacant updates number is_entry counted others occupied =
-    record {
-      occupied = λ p fd x is.
-          elim (occupied p fd x is) [
-            | inl same ↦ some_is (get new x) added (ap (get new) same ∙ updates.changed)
-            | inr was ↦ stays_occupied old new key added updates x was
-          ];
-      counted = λ x e is.
-          elim (updated_cases old new key (Some added) updates x e is) [
-            | inl here ↦ ap (λ o. o.users) (sym (same_Some added e here.1)) ∙ counted ∙ ap (users_of after) (sym here.0)
-            | inr there ↦ h.counted x e there.1 ∙ sym (others x there.0)
-          ];
-      each = λ x e is.
-          elim (updated_cases old new key (Some added) updates x e is) [
-            | inl here ↦ subst (IsEntry (made + 1)) (same_Some added e here.1) is_entry
-            | inr there ↦
-                let at = h.each x e there.1 in
-                record { positive = at.positive; given_out = omega (arith, at.given_out); file = at.file; offset = at.offset; used = at.used }
-          ];
-      distinct = λ x y e f is at same.
-          elim (updated_cases old new key (Some added) updates x e is) [
-            | inl here ↦
-                elim (updated_cases old new key (Some added) updates y f at) [
-                  | inl too ↦ here.0 ∙ sym too.0
-                  | inr there ↦ absurd (omega (arith, number, same, ap (λ o. o.number) (same_Some added e here.1), (h.each y f there.1).given_out))
-                ]
-            | inr here ↦
-                elim (updated_cases old new key (Some added) updates y f at) [
-                  | inl too ↦ absurd (omega (arith, number, same, ap (λ o. o.number) (same_Some added f too.1), (h.each x e here.1).given_out))
-                  | inr there ↦ h.distinct x y e f here.1 there.1 same
-                ]
-          ];
-    }
+    search (rules, some_is, stays_occupied, updated_cases, same_Some)
 
 -- what a key shows
 abbrev pub seen_by : Slab Opened → Option ℕ → Option Numbered
@@ -135,13 +62,7 @@ seen_by_same old new same (Some x) = same x
 -- an entry that is written again with what it showed shows the same
 pub rewritten_shows : (old new : Slab Opened) (key : ℕ) (entry written : Opened) → get old key ≡ Some entry → Updates old new key (Some written) → numbered written ≡ numbered entry
     → (x : ℕ) → option_map numbered (get new x) ≡ option_map numbered (get old x)
-rewritten_shows old new key entry written was updates same x =
-    elim (cases_eq x key) [
-      | inl here ↦
-          ap (λ k. option_map numbered (get new k)) here ∙ ap (option_map numbered) updates.changed ∙ ap Some same
-          ∙ sym (ap (option_map numbered) was) ∙ ap (λ k. option_map numbered (get old k)) (sym here)
-      | inr there ↦ ap (option_map numbered) (updates.others x there)
-    ]
+rewritten_shows old new key entry written was updates same x = search (rules, cases_eq)
 
 -- a function of a choice is the choice of its values
 pub at_cond : {X Y : Type 0} (f : X → Y) (b : Bool) (x y : X) → f (cond b x y) ≡ cond b (f x) (f y)
@@ -157,21 +78,12 @@ seen-with_key rows opened p fd key within q k =
 -- the key that is written is occupied where the others are
 pub key_at_written : (rows : List Keys) (p fd : ℕ) (key : Option ℕ) → fd < length (row_at rows p) → (q k x : ℕ) → key_at (with_key rows p fd key) q k ≡ Some x
     → (key ≡ Some x) ⊎ ((((q ≡ p) → (k ≡ fd) → ⊥)) × (key_at rows q k ≡ Some x))
-key_at_written rows p fd key within q k x is =
-    elim (place_cases p fd q k) [
-      | inl here ↦
-          inl (sym (key_at-with_key_same rows p fd key within) ∙ ap (key_at (with_key rows p fd key) p) (sym here.1) ∙ ap (λ place. key_at (with_key rows p fd key) place k) (sym here.0) ∙ is)
-      | inr there ↦ inr (there.0, sym (key_at-with_key_other rows p fd key q k there.0) ∙ is)
-    ]
+key_at_written rows p fd key within q k x is = grind (arith, common_steps, place_cases, key_at-with_key_same, key_at-with_key_other)
 
 -- an entry gets another offset: its rows stay
 pub entries_moved : (rows : List Keys) (old new : Slab Opened) (made key offset : ℕ) (entry : Opened) → AreEntries rows old made → get old key ≡ Some entry → offset ≤ OFFMAX
     → Updates old new key (Some (record entry { offset = offset })) → AreEntries rows new made
-entries_moved rows old new made key offset entry h was small updates =
-    let at = h.each key entry was in
-    entries_rewritten rows rows old new made key entry (record entry { offset = offset }) h was updates refl
-    (record { positive = at.positive; given_out = at.given_out; file = at.file; offset = small; used = at.used })
-    (h.counted key entry was) (λ x differs. refl) h.occupied
+entries_moved rows old new made key offset entry h was small updates = search (rules, entries_rewritten)
 
 -- an entry shows what it showed, but for the offset of this number
 moved_entry : (number offset : ℕ) (entry : Opened) → entry.number ≡ number → numbered (record entry { offset = offset }) ≡ moved number offset (numbered entry)
@@ -187,14 +99,4 @@ moved_slot number offset (Some e) differs = ap Some (unmoved_entry number offset
 -- each key shows what it showed, but for the offset of this number
 pub moved_shows : (rows : List Keys) (old new : Slab Opened) (made key offset : ℕ) (entry : Opened) → AreEntries rows old made → get old key ≡ Some entry
     → Updates old new key (Some (record entry { offset = offset })) → (held : Option ℕ) → seen_by new held ≡ option_map (moved entry.number offset) (seen_by old held)
-moved_shows rows old new made key offset entry h was updates None = refl
-moved_shows rows old new made key offset entry h was updates (Some x) =
-    elim (cases_eq x key) [
-      | inl here ↦
-          ap (λ k. option_map numbered (get new k)) here ∙ ap (option_map numbered) updates.changed
-          ∙ ap Some (moved_entry entry.number offset entry refl)
-          ∙ sym (ap (λ o. option_map (moved entry.number offset) (option_map numbered o)) (ap (get old) here ∙ was))
-      | inr there ↦
-          ap (option_map numbered) (updates.others x there)
-          ∙ moved_slot entry.number offset (get old x) (λ e is same. there (h.distinct x key e entry is was same))
-    ]
+moved_shows rows old new made key offset entry h h2 h3 held = search (rules, cases_eq, moved_entry, moved, moved_slot)

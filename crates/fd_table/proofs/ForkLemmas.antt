@@ -1,5 +1,6 @@
 -- The rows and the entries after a fork.
-use Rattle.std.proofs.Common.{◌≡◌, ℕ, ◌+◌, ◌<◌, ◌^◌, true, false, ◌||◌, cond, eqb, ltb, List, [], length, get_or, set, take, Option, Some, None, IsSome, refl, sym, ap, subst, ◌∙◌, inl, inr, arith}
+use Rattle.std.proofs.Common.{rules, ◌≡◌, ℕ, ◌+◌, ◌<◌, ◌^◌, true, false, ◌||◌, cond, eqb, List, [], length, get_or, set, take, Option, Some, None, refl, sym, ap, ◌∙◌, arith}
+use Rattle.std.proofs.lemmas.Grind.{common_steps}
 use Rattle.std.specs.Option.{option_map}
 use Rattle.std.proofs.lemmas.Bool.{cases_eq, eq-eqb, ne_eqb, ltb-true, ltb-false}
 use Rattle.std.proofs.lemmas.Option.{same_Some, none-some}
@@ -9,7 +10,7 @@ use Rattle.slab.specs.Slab.{Slab, get, Updates}
 use Rattle.fd_table.specs.declared.Limits.{Limits}
 use Rattle.fd_table.specs.declared.tables.Opened.{Opened}
 use Rattle.fd_table.specs.Rows.{Keys, row_at, has_row, key_at, is_key, users_in, users_of}
-use Rattle.fd_table.specs.Soundness.{IsEntry, AreRows, AreEntries, with_users}
+use Rattle.fd_table.specs.Soundness.{AreRows, AreEntries, with_users}
 use Rattle.fd_table.specs.TablesView.{numbered, seen_in}
 use Rattle.fd_table.proofs.RowsLemmas.{one_for, row_inside}
 use Rattle.fd_table.proofs.EntryLemmas.{some_is, value_of_some, seen_by, seen_by_same, at_cond}
@@ -47,132 +48,44 @@ counted_closed old now row fd within is counted x = same_count old now row fd x 
 
 -- a place whose key has no entry changes none
 pub counted_vacant : (old now : Slab Opened) (row : Keys) (fd key : ℕ) → fd < length row → get_or row fd None ≡ Some key → get now key ≡ None → AreCounted old now (take fd row) → AreCounted old now (take (fd + 1) row)
-counted_vacant old now row fd key within is vacant counted x =
-    elim (cases_eq x key) [
-      | inl same ↦
-          let before : get old x ≡ None = mapped_none (with_users (users_in (take fd row) x)) (get old x) (sym (counted x) ∙ ap (get now) same ∙ vacant) in
-          ap (get now) same ∙ vacant ∙ sym (ap (option_map (with_users (users_in (take (fd + 1) row) x))) before)
-      | inr differs ↦ same_count old now row fd x (Some key) within is (one_for-other x key differs) counted
-    ]
+counted_vacant old now row fd key within is vacant counted x = grind (arith, common_steps, cases_eq, mapped_none, same_count, one_for-other)
 
 -- a place with the key of an entry counts for it
 pub counted_more : (old now new : Slab Opened) (row : Keys) (fd key : ℕ) (entry : Opened) → fd < length row → get_or row fd None ≡ Some key → get now key ≡ Some entry → Updates now new key (Some (one_more entry)) → AreCounted old now (take fd row) → AreCounted old new (take (fd + 1) row)
 counted_more old now new row fd key entry within is was updates counted x =
-    elim (cases_eq x key) [
-      | inl same ↦
-          let before = mapped_from (with_users (users_in (take fd row) key)) (get old key) entry (sym (counted key) ∙ was) in
-          ap (get new) same ∙ updates.changed
-          ∙ ap (λ (e : Opened). Some (one_more e)) (sym before.2)
-          ∙ ap (λ n. Some (users_set before.0 n)) (omega (arith, users_more row fd key (Some key) within is, one_for-same key))
-          ∙ sym (ap (option_map (with_users (users_in (take (fd + 1) row) key))) before.1)
-          ∙ ap (λ k. option_map (with_users (users_in (take (fd + 1) row) k)) (get old k)) (sym same)
-      | inr differs ↦ updates.others x differs ∙ same_count old now row fd x (Some key) within is (one_for-other x key differs) counted
-    ]
+    grind (arith, common_steps, cases_eq, mapped_from, one_more, users_more, one_for-same, same_count, one_for-other)
 
 -- the child has the row of its parent
 pub key_at-forked : (rows : List Keys) (p child : ℕ) → child < length rows → (q k : ℕ) → key_at (set rows child (row_at rows p)) q k ≡ cond (eqb q child) (key_at rows p k) (key_at rows q k)
-key_at-forked rows p child inside q k =
-    elim (cases_eq q child) [
-      | inl same ↦
-          ap (λ place. key_at (set rows child (row_at rows p)) place k) same
-          ∙ ap (λ row. get_or row k None) (get_or-set_same rows child (row_at rows p) [] inside)
-          ∙ sym (ap (λ b. cond b (key_at rows p k) (key_at rows q k)) (eq-eqb q child same))
-      | inr other ↦
-          ap (λ row. get_or row k None) (get_or-set_other rows child q (row_at rows p) [] other)
-          ∙ sym (ap (λ b. cond b (key_at rows p k) (key_at rows q k)) (ne_eqb q child other))
-    ]
+key_at-forked rows p child inside q k = grind (arith, common_steps, cases_eq, get_or-set_same, eq-eqb, get_or-set_other, ne_eqb)
 
 length-forked : (rows : List Keys) (p child : ℕ) → child < length rows → (q : ℕ) → length (row_at (set rows child (row_at rows p)) q) ≡ cond (eqb q child) (length (row_at rows p)) (length (row_at rows q))
-length-forked rows p child inside q =
-    elim (cases_eq q child) [
-      | inl same ↦
-          ap (λ place. length (row_at (set rows child (row_at rows p)) place)) same
-          ∙ ap length (get_or-set_same rows child (row_at rows p) [] inside)
-          ∙ sym (ap (λ b. cond b (length (row_at rows p)) (length (row_at rows q))) (eq-eqb q child same))
-      | inr other ↦
-          ap length (get_or-set_other rows child q (row_at rows p) [] other)
-          ∙ sym (ap (λ b. cond b (length (row_at rows p)) (length (row_at rows q))) (ne_eqb q child other))
-    ]
+length-forked rows p child inside q = grind (arith, common_steps, cases_eq, get_or-set_same, eq-eqb, get_or-set_other, ne_eqb)
 
 -- the child has a row, where its parent has one
 pub has_row-forked : (rows : List Keys) (p child : ℕ) → child < length rows → has_row rows p ≡ true → (q : ℕ) → has_row (set rows child (row_at rows p)) q ≡ (eqb q child || has_row rows q)
-has_row-forked rows p child inside alive q =
-    ap (λ n. ltb 0 n) (length-forked rows p child inside q)
-    ∙ elim (cases_eq q child) as (λ _. ltb 0 (cond (eqb q child) (length (row_at rows p)) (length (row_at rows q))) ≡ (eqb q child || has_row rows q)) [
-      | inl same ↦
-          ap (λ b. ltb 0 (cond b (length (row_at rows p)) (length (row_at rows q)))) (eq-eqb q child same) ∙ alive
-          ∙ sym (ap (λ b. b || has_row rows q) (eq-eqb q child same))
-      | inr other ↦
-          ap (λ b. ltb 0 (cond b (length (row_at rows p)) (length (row_at rows q)))) (ne_eqb q child other)
-          ∙ sym (ap (λ b. b || has_row rows q) (ne_eqb q child other))
-    ]
+has_row-forked rows p child inside alive q = grind (arith, common_steps, length-forked, cases_eq, eq-eqb, ne_eqb)
 
 -- the rows stay rows
 pub AreRows-forked : (processes : ℕ) (limits : Limits) (rows : List Keys) (p child : ℕ) → child < length rows → 0 < child → has_row rows p ≡ true → AreRows processes limits rows → AreRows processes limits (set rows child (row_at rows p))
 AreRows-forked processes limits rows p child inside positive alive h =
-    record {
-      few = h.few;
-      count = length-set rows child (row_at rows p) ∙ h.count;
-      unused = get_or-set_other rows child 0 (row_at rows p) [] (λ same. omega arith) ∙ h.unused;
-      each = λ q has.
-          elim (cases_eq q child) [
-            | inl same ↦
-                length-forked rows p child inside q ∙ ap (λ b. cond b (length (row_at rows p)) (length (row_at rows q))) (eq-eqb q child same)
-                ∙ h.each p alive
-            | inr other ↦
-                length-forked rows p child inside q ∙ ap (λ b. cond b (length (row_at rows p)) (length (row_at rows q))) (ne_eqb q child other)
-                ∙ h.each q (sym (ap (λ b. b || has_row rows q) (ne_eqb q child other)) ∙ sym (has_row-forked rows p child inside alive q) ∙ has)
-          ];
-    }
+    grind (arith, common_steps, length-set, get_or-set_other, cases_eq, length-forked, eq-eqb, ne_eqb, has_row-forked)
 
 users_of-forked : (rows : List Keys) (p child key : ℕ) → child < length rows → row_at rows child ≡ [] → users_of (set rows child (row_at rows p)) key ≡ users_of rows key + users_in (row_at rows p) key
-users_of-forked rows p child key inside unborn =
-    let all = sum_by-set (λ keys. users_in keys key) rows child (row_at rows p) [] inside in
-    let none : users_in (row_at rows child) key ≡ 0 = ap (λ row. users_in row key) unborn in
-    omega (arith, all, none)
+users_of-forked rows p child key inside unborn = grind (arith, common_steps, sum_by-set)
 
 -- the entries after a fork
 pub entries_forked : (rows : List Keys) (old new : Slab Opened) (made p child : ℕ) → child < length rows → row_at rows child ≡ [] → AreCounted old new (row_at rows p) → AreEntries rows old made → AreEntries (set rows child (row_at rows p)) new made
 entries_forked rows old new made p child inside unborn counted h =
-    record {
-      occupied = λ q k key is.
-          let there = value_of_some (get old key) (was_occupied q k key is) in
-          some_is (get new key) (with_users (users_in (row_at rows p) key) there.0) (counted key ∙ ap (option_map (with_users (users_in (row_at rows p) key))) there.1);
-      counted = λ key entry is.
-          let before = mapped_from (with_users (users_in (row_at rows p) key)) (get old key) entry (sym (counted key) ∙ is) in
-          ap (λ (e : Opened). e.users) (sym before.2) ∙ ap (λ n. n + users_in (row_at rows p) key) (h.counted key before.0 before.1) ∙ sym (users_of-forked rows p child key inside unborn);
-      each = λ key entry is.
-          let before = mapped_from (with_users (users_in (row_at rows p) key)) (get old key) entry (sym (counted key) ∙ is) in
-          let at = h.each key before.0 before.1 in
-          subst (IsEntry made) before.2
-          (record { positive = at.positive; given_out = at.given_out; file = at.file; offset = at.offset; used = omega (arith, at.used) });
-      distinct = λ key other entry another is at same.
-          let before = mapped_from (with_users (users_in (row_at rows p) key)) (get old key) entry (sym (counted key) ∙ is) in
-          let beside = mapped_from (with_users (users_in (row_at rows p) other)) (get old other) another (sym (counted other) ∙ at) in
-          h.distinct key other before.0 beside.0 before.1 beside.1 (ap (λ (e : Opened). e.number) before.2 ∙ same ∙ sym (ap (λ (e : Opened). e.number) beside.2));
-    }
-  where
-    was_occupied : (q k key : ℕ) → key_at (set rows child (row_at rows p)) q k ≡ Some key → IsSome (get old key)
-    was_occupied q k key is =
-        elim (cases_eq q child) [
-          | inl same ↦ h.occupied p k key (sym (ap (λ b. cond b (key_at rows p k) (key_at rows q k)) (eq-eqb q child same)) ∙ sym (key_at-forked rows p child inside q k) ∙ is)
-          | inr other ↦ h.occupied q k key (sym (ap (λ b. cond b (key_at rows p k) (key_at rows q k)) (ne_eqb q child other)) ∙ sym (key_at-forked rows p child inside q k) ∙ is)
-        ]
+    search (rules, value_of_some, some_is, mapped_from, users_of-forked, cases_eq, eq-eqb, key_at-forked, ne_eqb)
 
 counted_shows : (old new : Slab Opened) (row : Keys) → AreCounted old new row → (key : ℕ) → option_map numbered (get new key) ≡ option_map numbered (get old key)
-counted_shows old new row counted key = ap (option_map numbered) (counted key) ∙ shows (users_in row key) (get old key)
-  where
-    shows : (more : ℕ) (o : Option Opened) → option_map numbered (option_map (with_users more) o) ≡ option_map numbered o
-    shows more None = refl
-    shows more (Some entry) = refl
+counted_shows old new row counted key = grind (arith, common_steps)
 
 -- what is seen after a fork
 pub seen_forked : (rows : List Keys) (old new : Slab Opened) (p child : ℕ) → child < length rows → AreCounted old new (row_at rows p)
     → (q k : ℕ) → seen_in (set rows child (row_at rows p)) new q k ≡ cond (eqb q child) (seen_in rows old p k) (seen_in rows old q k)
-seen_forked rows old new p child inside counted q k =
-    seen_by_same old new (counted_shows old new (row_at rows p) counted) (key_at (set rows child (row_at rows p)) q k)
-    ∙ ap (seen_by old) (key_at-forked rows p child inside q k)
-    ∙ at_cond (seen_by old) (eqb q child) (key_at rows p k) (key_at rows q k)
+seen_forked rows old new p child inside counted q k = grind (arith, common_steps, seen_by_same, counted_shows, seen_by, key_at-forked, at_cond)
 
 -- a process that was ever alive has a place among the rows
 pub row_of_alive : (rows : List Keys) (p : ℕ) → has_row rows p ≡ true → p < length rows

@@ -1,5 +1,6 @@
 -- The closing of the descriptors of a process one after the other, and what it releases.
-use Rattle.std.proofs.Common.{◌≡◌, ◌≢◌, ◌⊎◌, ◌↔◌, ℕ, ◌+◌, ◌<◌, ◌≤◌, Bool, true, false, ◌&&◌, cond, eqb, ltb, List, [], ◌∷◌, ◌++◌, length, get_or, set, replicate, Some, None, refl, sym, ap, subst, ◌∙◌, inl, inr, arith, Contains}
+use Rattle.std.proofs.Common.{rules, ◌≡◌, ◌≢◌, ◌⊎◌, ◌↔◌, ℕ, ◌+◌, ◌<◌, ◌≤◌, Bool, true, false, ◌&&◌, cond, eqb, ltb, List, [], ◌∷◌, ◌++◌, length, set, replicate, Some, None, refl, sym, ap, subst, ◌∙◌, inl, inr, arith, Contains}
+use Rattle.std.proofs.lemmas.Grind.{common_steps}
 use Rattle.std.specs.Option.{option_map}
 use Rattle.std.specs.List.{IsDistinct}
 use Rattle.std.specs.List.Sorted.{IsStrictlyIncreasing}
@@ -34,11 +35,7 @@ pub record IsGathered (D : Descriptors) (p n : ℕ) (marks : List Bool) (numbers
 
 -- a descriptor that isn't closed refers to what it referred to
 kept : (D : Descriptors) (p : ℕ) (closed : ℕ → Bool) (q k : ℕ) → ((q ≡ p) → closed k ≡ false) → (without_descriptors D p closed).description_of q k ≡ D.description_of q k
-kept D p closed q k apart =
-    elim (cases_eq q p) [
-      | inl same ↦ ap (λ b. cond b None (D.description_of q k)) (ap (λ b. b && closed k) (eq-eqb q p same) ∙ apart same)
-      | inr other ↦ ap (λ b. cond b None (D.description_of q k)) (and_left (eqb q p) (closed k) (ne_eqb q p other))
-    ]
+kept D p closed q k apart = grind (arith, common_steps, cases_eq, eq-eqb, and_left, ne_eqb)
 
 -- a descriptor that is closed refers to nothing
 gone : (D : Descriptors) (p : ℕ) (closed : ℕ → Bool) (q k : ℕ) → q ≡ p → closed k ≡ true → (without_descriptors D p closed).description_of q k ≡ None
@@ -46,34 +43,11 @@ gone D p closed q k same is = ap (λ b. cond b None (D.description_of q k)) (ap 
 
 -- where two tests agree on each open descriptor, the same descriptors are left
 pub same_closing : (D : Descriptors) (p : ℕ) (f g : ℕ → Bool) → ((k : ℕ) → (f k ≡ g k) ⊎ (D.description_of p k ≡ None)) → SameDescriptors (without_descriptors D p f) (without_descriptors D p g)
-same_closing D p f g agree =
-    record {
-      description_of = λ q k.
-          elim (cases_eq q p) [
-            | inl same ↦
-                elim (agree k) [
-                  | inl tests ↦ ap (λ b. cond (eqb q p && b) None (D.description_of q k)) tests
-                  | inr closed ↦ both f q k (ap (λ place. D.description_of place k) same ∙ closed) ∙ sym (both g q k (ap (λ place. D.description_of place k) same ∙ closed))
-                ]
-            | inr other ↦ kept D p f q k (λ same. absurd (other same)) ∙ sym (kept D p g q k (λ same. absurd (other same)))
-          ];
-      descriptions = refl;
-      sizes = λ file. refl;
-      ever_alive = λ q. refl;
-    }
-  where
-    both : (h : ℕ → Bool) (q k : ℕ) → D.description_of q k ≡ None → (without_descriptors D p h).description_of q k ≡ None
-    both h q k closed = elim (eqb q p && h k) as (λ b. cond b None (D.description_of q k) ≡ None) [ true ↦ refl | false ↦ closed ]
+same_closing D p f g agree = grind (arith, common_steps, cases_eq, kept)
 
 -- what agrees agrees both ways
 pub flip : {D E : Descriptors} → SameDescriptors E D → SameDescriptors D E
-flip same =
-    record {
-      description_of = λ p fd. sym (same.description_of p fd);
-      descriptions = sym same.descriptions;
-      sizes = λ file. sym (same.sizes file);
-      ever_alive = λ p. sym (same.ever_alive p);
-    }
+flip same = grind (arith, common_steps)
 
 -- what is open stays so in the same descriptors
 pub open_same : (D E : Descriptors) (x : ℕ) → SameDescriptors E D → IsOpen D x → IsOpen E x
@@ -81,34 +55,10 @@ open_same D E x same h = record { process = h.process; fd = h.fd; refers = same.
 
 -- one more number is closed
 below_more : (n k : ℕ) → k ≢ n → below (n + 1) k ≡ below n k
-below_more n k differs =
-    elim (cases_lt k n) [
-      | inl under ↦ lt-ltb k (n + 1) (omega arith) ∙ sym (lt-ltb k n under)
-      | inr over ↦ le-ltb k (n + 1) (omega (arith, differs)) ∙ sym (le-ltb k n over)
-    ]
+below_more n k differs = grind (arith, common_steps, cases_lt, lt-ltb, le-ltb)
 
 pub next_closed : (D : Descriptors) (p n : ℕ) → SameDescriptors (closed_below D p (n + 1)) (without_one (closed_below D p n) p n)
-next_closed D p n =
-    record {
-      description_of = λ q k.
-          elim (cases_eq q p) [
-            | inl same ↦
-                elim (cases_eq k n) [
-                  | inl here ↦
-                      gone D p (below (n + 1)) q k same (lt-ltb k (n + 1) (omega (arith, here)))
-                      ∙ sym (gone (closed_below D p n) p (λ j. eqb j n) q k same (eq-eqb k n here))
-                  | inr there ↦
-                      ap (λ b. cond (eqb q p && b) None (D.description_of q k)) (below_more n k there)
-                      ∙ sym (kept (closed_below D p n) p (λ j. eqb j n) q k (λ _. ne_eqb k n there))
-                ]
-            | inr other ↦
-                kept D p (below (n + 1)) q k (λ same. absurd (other same)) ∙ sym (kept D p (below n) q k (λ same. absurd (other same)))
-                ∙ sym (kept (closed_below D p n) p (λ j. eqb j n) q k (λ same. absurd (other same)))
-          ];
-      descriptions = refl;
-      sizes = λ file. refl;
-      ever_alive = λ q. refl;
-    }
+next_closed D p n = grind (arith, common_steps, cases_eq, gone, lt-ltb, eq-eqb, below_more, kept, ne_eqb)
 
 -- the next descriptor isn't closed yet
 next_open : (D : Descriptors) (p n : ℕ) → (closed_below D p n).description_of p n ≡ D.description_of p n
@@ -116,35 +66,14 @@ next_open D p n = kept D p (below n) p n (λ _. le-ltb n n (omega arith))
 
 -- no descriptor is closed at first
 pub first_closed : (D : Descriptors) (p : ℕ) → SameDescriptors (closed_below D p 0) D
-first_closed D p =
-    record {
-      description_of = λ q k. kept D p (below 0) q k (λ _. le-ltb k 0 (omega arith));
-      descriptions = refl;
-      sizes = λ file. refl;
-      ever_alive = λ q. refl;
-    }
+first_closed D p = grind (arith, common_steps, kept, le-ltb)
 
 unmarked : (count x : ℕ) → IsMarked (replicate count false) x → ⊥
-unmarked count x marked =
-    elim (cases_lt x count) [
-      | inl inside ↦ false≢true (sym (get_or-replicate count x false false inside) ∙ marked)
-      | inr past ↦ false≢true (sym (get_or_past (replicate count false) x false (omega (arith, length-replicate count false))) ∙ marked)
-    ]
+unmarked count x marked = grind (arith, common_steps, cases_lt, false≢true, get_or-replicate, get_or_past, length-replicate)
 
 -- at first nothing is released
 pub gathered_none : (D : Descriptors) (p count : ℕ) (marks : List Bool) → marks ≡ replicate count false → IsGathered D p 0 marks []
-gathered_none D p count marks is =
-    record {
-      marked = λ file. (
-        λ marked. absurd (unmarked count file (subst (λ xs. IsMarked xs file) is marked)),
-        λ closes. absurd (false≢true (sym (le-ltb closes.fd 0 (omega arith)) ∙ closes.is_closed)),
-      );
-      listed = λ x. (
-        λ there. absurd (contains_none x there),
-        λ closes. absurd (closes.1 (open_same D (closed_below D p 0) x (first_closed D p) closes.0)),
-      );
-      distinct = IsDistinct-from_apart eqb [] (λ i j d before within. absurd (omega (arith, within)));
-    }
+gathered_none D p count marks is = grind (arith, common_steps, unmarked, false≢true, le-ltb, contains_none, open_same, first_closed, IsDistinct-from_apart)
 
 -- what is closed below this number is closed below the next
 closes_more : (D : Descriptors) (p n file : ℕ) → ClosesFile D p (below n) file → ClosesFile D p (below (n + 1)) file
@@ -154,11 +83,7 @@ closes_more D p n file h =
 -- what is closed below the next number is closed below this one, or is this one
 closes_cases : (D : Descriptors) (p n file : ℕ) → ClosesFile D p (below (n + 1)) file
     → ClosesFile D p (below n) file ⊎ ((d : ℕ) × (D.description_of p n ≡ Some d) × (option_map (λ o. o.file) (description_numbered D.descriptions d) ≡ Some file))
-closes_cases D p n file h =
-    elim (cases_eq h.fd n) [
-      | inl here ↦ inr (h.description, ap (D.description_of p) (sym here) ∙ h.refers, h.of_file)
-      | inr there ↦ inl (record { fd = h.fd; is_closed = sym (below_more n h.fd there) ∙ h.is_closed; description = h.description; refers = h.refers; of_file = h.of_file })
-    ]
+closes_cases D p n file h = grind (arith, common_steps, cases_eq, below_more)
 
 -- a descriptor that wasn't open releases nothing more
 pub gathered_skip : (D : Descriptors) (p n : ℕ) (marks : List Bool) (numbers : List ℕ) → IsClosing (closed_below D p n) p n None → IsGathered D p n marks numbers → IsGathered D p (n + 1) marks numbers
@@ -199,23 +124,7 @@ gathered_skip D p n marks numbers closed h =
 marks_more : (D : Descriptors) (p n : ℕ) (marks : List Bool) (place file d : ℕ) → place ≡ file → place < length marks → D.description_of p n ≡ Some d → option_map (λ o. o.file) (description_numbered D.descriptions d) ≡ Some file
     → ((x : ℕ) → IsMarked marks x ↔ ClosesFile D p (below n) x) → (x : ℕ) → IsMarked (set marks place true) x ↔ ClosesFile D p (below (n + 1)) x
 marks_more D p n marks place file d is inside refers of_file h x =
-    elim (cases_eq x place) [
-      | inl here ↦ (
-        λ _. record { fd = n; is_closed = lt-ltb n (n + 1) (omega arith); description = d; refers = refers; of_file = of_file ∙ ap Some (sym (here ∙ is)) },
-        λ _. ap (λ k. get_or (set marks place true) k false) here ∙ get_or-set_same marks place true false inside,
-      )
-      | inr there ↦ (
-        λ marked. closes_more D p n x ((h x).0 (sym (get_or-set_other marks place x true false there) ∙ marked)),
-        λ closes.
-            get_or-set_other marks place x true false there
-            ∙ elim (closes_cases D p n x closes) as (λ _. IsMarked marks x) [
-              | inl before ↦ (h x).1 before
-              | inr now ↦
-                  let one : d ≡ now.0 = same_Some d now.0 (sym refers ∙ now.1) in
-                  absurd (there (same_Some x file (sym now.2 ∙ ap (λ m. option_map (λ o. o.file) (description_numbered D.descriptions m)) (sym one) ∙ of_file) ∙ sym is))
-            ],
-      )
-    ]
+    search (rules, cases_eq, lt-ltb, get_or-set_same, closes_more, get_or-set_other, closes_cases, same_Some)
 
 -- one more descriptor is closed, and others refer to its description
 pub gathered_shared : (D : Descriptors) (p n : ℕ) (marks : List Bool) (numbers : List ℕ) (place : ℕ) (closed : Closed) → place ≡ closed.file → place < length marks → ClosesOne (closed_below D p n) p n closed → closed.last ≡ None
@@ -277,11 +186,7 @@ gathered_last D p n marks numbers place number closed is inside one last h =
 
 -- each open descriptor is below the limit
 pub all_below : (D : Descriptors) (p limit : ℕ) → ((k : ℕ) → limit ≤ k → D.description_of p k ≡ None) → (k : ℕ) → (true ≡ below limit k) ⊎ (D.description_of p k ≡ None)
-all_below D p limit none k =
-    elim (cases_lt k limit) [
-      | inl inside ↦ inl (sym (lt-ltb k limit inside))
-      | inr past ↦ inr (none k past)
-    ]
+all_below D p limit none k = grind (arith, common_steps, cases_lt, lt-ltb)
 
 -- the end of a process, where all its descriptors lie below the limit
 pub gathered_all : (D : Descriptors) (p limit : ℕ) (marks : List Bool) (numbers : List ℕ) (released : Released) → ((k : ℕ) → limit ≤ k → D.description_of p k ≡ None) → IsGathered D p limit marks numbers

@@ -1,6 +1,6 @@
 -- What the closing of descriptors releases.
-use Rattle.std.proofs.Common.{◌≡◌, ◌≢◌, ◌↔◌, ℕ, zero, suc, ◌<◌, ◌≤◌, cond, eqb, List, [], ◌∷◌, length, get_or, Option, Some, None, refl, sym, ap, subst, ◌∙◌, inl, inr, arith, Contains}
-use Rattle.std.specs.Bool.{MatchBool}
+use Rattle.std.proofs.Common.{rules, ◌≡◌, ◌≢◌, ◌↔◌, ℕ, zero, suc, ◌<◌, ◌≤◌, cond, eqb, List, [], ◌∷◌, length, get_or, Option, Some, None, sym, ap, ◌∙◌, inl, inr, arith, Contains}
+use Rattle.std.proofs.lemmas.Grind.{common_steps}
 use Rattle.std.specs.Option.{option_map, option_to_list}
 use Rattle.std.specs.List.Sorted.{IsStrictlyIncreasing}
 use Rattle.std.proofs.lemmas.Bool.{cases_eq, eq-eqb, ne_eqb, eqb-true}
@@ -35,99 +35,31 @@ rising_short xs short = λ k within. absurd (omega (arith, short, within))
 
 -- a descriptor that is open after one is closed was open before, and is another
 pub open_before : (D : Descriptors) (p fd x : ℕ) → IsOpen (without_one D p fd) x → IsOpen D x
-open_before D p fd x h =
-    elim (place_cases p fd h.process h.fd) [
-      | inl here ↦ absurd (none-some x (sym (ap (λ b. cond b None (D.description_of h.process h.fd)) here.2) ∙ h.refers))
-      | inr there ↦ record { process = h.process; fd = h.fd; refers = sym (ap (λ b. cond b None (D.description_of h.process h.fd)) there.1) ∙ h.refers }
-    ]
+open_before D p fd x h = grind (arith, common_steps, place_cases, none-some)
 
 -- a description that another descriptor refers to stays open
 pub open_after : (D : Descriptors) (p fd d x : ℕ) → D.description_of p fd ≡ Some d → x ≢ d → IsOpen D x → IsOpen (without_one D p fd) x
-open_after D p fd d x refers differs h =
-    elim (place_cases p fd h.process h.fd) [
-      | inl here ↦
-          absurd (differs (same_Some x d (sym h.refers ∙ ap (λ q. D.description_of q h.fd) here.0 ∙ ap (D.description_of p) here.1 ∙ refers)))
-      | inr there ↦ record { process = h.process; fd = h.fd; refers = ap (λ b. cond b None (D.description_of h.process h.fd)) there.1 ∙ h.refers }
-    ]
+open_after D p fd d x refers differs h = grind (arith, common_steps, place_cases, same_Some)
 
 -- what is closed for good is told as the last
 last_told : (D E : Descriptors) (d : ℕ) (last : Option ℕ) → IsOpen D d → ((x : ℕ) → x ≢ d → IsOpen D x → IsOpen E x) → TellsLastClose E d last → AreExactly (option_to_list last) (ClosesDescription D E)
-last_told D E d None was others h =
-    record {
-      rising = rising_short [] (omega arith);
-      each = λ x. (
-        λ there. absurd (contains_none x there),
-        λ closed. absurd (elim (cases_eq x d) [
-          | inl same ↦ closed.1 (subst (IsOpen E) (sym same) h)
-          | inr differs ↦ closed.1 (others x differs closed.0)
-        ]),
-      );
-    }
-last_told D E d (Some number) was others h =
-    record {
-      rising = rising_short (number ∷ []) (omega arith);
-      each = λ x. (
-        λ there. let same : d ≡ x = sym h.0 ∙ contains_one number x there in (subst (IsOpen D) same was, subst (λ n. IsOpen E n → ⊥) same h.1),
-        λ closed.
-            elim (cases_eq x d) [
-              | inl same ↦ one_contains number x (h.0 ∙ sym same)
-              | inr differs ↦ absurd (closed.1 (others x differs closed.0))
-            ],
-      );
-    }
+last_told D E d last h h2 h3 = grind (arith, common_steps, rising_short, contains_none, cases_eq, contains_one, one_contains)
 
 -- the file of one closed descriptor
 file_told : (D : Descriptors) (p fd d file : ℕ) → D.description_of p fd ≡ Some d → option_map (λ o. o.file) (description_numbered D.descriptions d) ≡ Some file → AreExactly (file ∷ []) (ClosesFile D p (λ k. eqb k fd))
-file_told D p fd d file refers is =
-    record {
-      rising = rising_short (file ∷ []) (omega arith);
-      each = λ x. (
-        λ there. record { fd = fd; is_closed = eq-eqb fd fd refl; description = d; refers = refers; of_file = is ∙ ap Some (contains_one file x there) },
-        λ closed.
-            let at : closed.fd ≡ fd = eqb-true closed.fd fd closed.is_closed in
-            let one : d ≡ closed.description = same_Some d closed.description (sym refers ∙ ap (D.description_of p) (sym at) ∙ closed.refers) in
-            one_contains file x (same_Some file x (sym is ∙ ap (λ n. option_map (λ o. o.file) (description_numbered D.descriptions n)) one ∙ closed.of_file)),
-      );
-    }
+file_told D p fd d file refers is = grind (arith, common_steps, rising_short, eq-eqb, contains_one, eqb-true, same_Some, one_contains)
 
 -- what the closing of one descriptor releases, where afterwards as many descriptions are open
 pub released_one : (D E : Descriptors) (p fd : ℕ) (closed : Closed) → ClosesOne D p fd closed → ((x : ℕ) → IsOpen (without_one D p fd) x ↔ IsOpen E x) → AreReleased D E p (λ k. eqb k fd) (released_by (Some closed))
-released_one D E p fd closed h same =
-    record {
-      files = file_told D p fd h.description closed.file h.refers h.of_file;
-      descriptions =
-          last_told D E h.description closed.last (record { process = p; fd = fd; refers = h.refers })
-          (λ x differs was. (same x).0 (open_after D p fd h.description x h.refers differs was)) (told closed.last h.last);
-    }
-  where
-    told : (last : Option ℕ) → TellsLastClose (without_one D p fd) h.description last → TellsLastClose E h.description last
-    told None open_still = (same h.description).0 open_still
-    told (Some number) closed_now = (closed_now.0, λ still. closed_now.1 ((same h.description).1 still))
+released_one D E p fd closed h same = search (rules, file_told, last_told, open_after)
 
 -- a closed descriptor releases nothing
 pub released_none : (D E : Descriptors) (p fd : ℕ) → D.description_of p fd ≡ None → ((x : ℕ) → IsOpen D x → IsOpen E x) → AreReleased D E p (λ k. eqb k fd) nothing
-released_none D E p fd closed kept =
-    record {
-      files = record {
-        rising = rising_short [] (omega arith);
-        each = λ x. (
-          λ there. absurd (contains_none x there),
-          λ h. absurd (none-some h.description (sym closed ∙ ap (D.description_of p) (sym (eqb-true h.fd fd h.is_closed)) ∙ h.refers)),
-        );
-      };
-      descriptions = record {
-        rising = rising_short [] (omega arith);
-        each = λ x. (λ there. absurd (contains_none x there), λ h. absurd (h.1 (kept x h.0)));
-      };
-    }
+released_none D E p fd closed kept = grind (arith, common_steps, rising_short, contains_none, none-some, eqb-true)
 
 -- another descriptor of the process stays as it is
 pub without_one-other : (D : Descriptors) (p fd from : ℕ) → from ≢ fd → (without_one D p fd).description_of p from ≡ D.description_of p from
-without_one-other D p fd from apart =
-    elim (place_cases p fd p from) [
-      | inl here ↦ absurd (apart here.1)
-      | inr there ↦ ap (λ b. cond b None (D.description_of p from)) there.1
-    ]
+without_one-other D p fd from apart = grind (arith, common_steps, place_cases)
 
 -- a descriptor that gets a description that is open leaves as many open
 pub open_with : (D : Descriptors) (p fd from d : ℕ) → D.description_of p from ≡ Some d → from ≢ fd → (x : ℕ) → IsOpen (without_one D p fd) x ↔ IsOpen (with_descriptor D p fd d) x
@@ -162,11 +94,7 @@ open_with D p fd from d refers apart x = (
 
 -- a closed descriptor that is closed again leaves as many open
 pub open_without_closed : (D : Descriptors) (p fd x : ℕ) → D.description_of p fd ≡ None → IsOpen D x → IsOpen (without_one D p fd) x
-open_without_closed D p fd x closed h =
-    elim (place_cases p fd h.process h.fd) [
-      | inl here ↦ absurd (none-some x (sym closed ∙ ap (D.description_of p) (sym here.1) ∙ ap (λ q. D.description_of q h.fd) (sym here.0) ∙ h.refers))
-      | inr there ↦ record { process = h.process; fd = h.fd; refers = ap (λ b. cond b None (D.description_of h.process h.fd)) there.1 ∙ h.refers }
-    ]
+open_without_closed D p fd x closed h = grind (arith, common_steps, place_cases, none-some)
 
 -- what dup2 releases: the closing of the number, whose place is then taken by an open description
 pub released_moving : (D : Descriptors) (p fd from d : ℕ) (closed : Option Closed) → D.description_of p from ≡ Some d → from ≢ fd → IsClosing D p fd closed → AreReleased D (with_descriptor D p fd d) p (λ k. eqb k fd) (released_by closed)
@@ -177,28 +105,12 @@ released_moving D p fd from d (Some closed) refers apart h =
 
 -- a description at a place that is closed first
 pub moved_after_close : (D : Descriptors) (p fd d : ℕ) → SameDescriptors (with_descriptor D p fd d) (with_descriptor (without_one D p fd) p fd d)
-moved_after_close D p fd d =
-    record {
-      description_of = λ q k.
-          elim (place_cases p fd q k) [
-            | inl here ↦ ap (λ b. cond b (Some d) (D.description_of q k)) here.2 ∙ sym (ap (λ b. cond b (Some d) (cond b None (D.description_of q k))) here.2)
-            | inr there ↦ ap (λ b. cond b (Some d) (D.description_of q k)) there.1 ∙ sym (ap (λ b. cond b (Some d) (cond b None (D.description_of q k))) there.1)
-          ];
-      descriptions = refl;
-      sizes = λ file. refl;
-      ever_alive = λ q. refl;
-    }
+moved_after_close D p fd d = grind (arith, common_steps, place_cases)
 
 -- dup2 of a descriptor onto itself
 pub moves_onto_itself : (D : Descriptors) (p fd to d : ℕ) (released : Released) → to ≡ fd → released ≡ nothing → MovesTo D p fd to d released D
-moves_onto_itself D p fd to d released same none =
-    subst (λ b. MatchBool b ((released ≡ nothing) × SameDescriptors D D) (SameDescriptors D (with_descriptor D p to d) × AreReleased D D p (λ k. eqb k to) released))
-    (sym (eq-eqb to fd same)) (none, same_descriptors D)
+moves_onto_itself D p fd to d released same none = grind (arith, common_steps, eq-eqb, same_descriptors)
 
 -- dup2 of a descriptor to another number
 pub moves_elsewhere : (D : Descriptors) (p fd to d : ℕ) (closed : Option Closed) (released : Released) → D.description_of p fd ≡ Some d → fd ≢ to → IsClosing D p to closed → released ≡ released_by closed → MovesTo D p fd to d released (with_descriptor D p to d)
-moves_elsewhere D p fd to d closed released refers apart closing is =
-    let E : Descriptors = with_descriptor D p to d in
-    subst (λ b. MatchBool b ((released ≡ nothing) × SameDescriptors E D) (SameDescriptors E (with_descriptor D p to d) × AreReleased D E p (λ k. eqb k to) released))
-    (sym (ne_eqb to fd (λ same. apart (sym same))))
-    (same_descriptors E, subst (λ r. AreReleased D E p (λ k. eqb k to) r) (sym is) (released_moving D p to fd d closed refers apart closing))
+moves_elsewhere D p fd to d closed released refers apart closing is = grind (arith, common_steps, ne_eqb, same_descriptors, released_moving)

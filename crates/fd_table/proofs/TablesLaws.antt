@@ -1,5 +1,5 @@
 -- Any tables stand for some descriptors, so no clause that speaks of those is empty.
-use Rattle.std.proofs.Common.{◌≡◌, ℕ, zero, suc, ◌+◌, ◌<◌, ◌≤◌, cond, eqb, List, [], ◌∷◌, ◌++◌, length, get_or, Option, Some, None, refl, sym, ap, subst, ◌∙◌, inl, inr, arith}
+use Rattle.std.proofs.Common.{rules, ◌≡◌, ℕ, zero, suc, ◌+◌, ◌<◌, ◌≤◌, cond, eqb, List, [], ◌∷◌, ◌++◌, length, get_or, Option, Some, None, refl, sym, ap, subst, ◌∙◌, inl, inr, arith}
 use Rattle.std.specs.Option.{option_map}
 use Rattle.std.proofs.lemmas.Bool.{cases_eq, cases_lt, eq-eqb, ne_eqb}
 use Rattle.std.proofs.lemmas.List.{length-append}
@@ -8,8 +8,7 @@ use Rattle.fd_table.specs.declared.Access.TheVariants.{R}
 use Rattle.fd_table.specs.declared.tables.Opened.{Opened}
 use Rattle.fd_table.specs.declared.tables.Tables.{Tables}
 use Rattle.fd_table.specs.Descriptors.{Descriptors, OpenFileDescription, description_numbered}
-use Rattle.fd_table.specs.Rows.{key_at}
-use Rattle.fd_table.specs.TablesView.{Numbered, numbered, IsSeen, StandFor, view_of, seen_in}
+use Rattle.fd_table.specs.TablesView.{numbered, StandFor, view_of}
 use Rattle.fd_table.proofs.ViewLemmas.{numbered_kept, numbered_push}
 use Rattle.fd_table.proofs.ChangeLemmas.{entry_seen}
 
@@ -83,22 +82,4 @@ stood_for tables =
 -- any tables stand for some descriptors
 pub stand_for_some : (tables : Tables) → StandFor tables (stood_for tables)
 unfolding stood_for view_of
-stand_for_some tables =
-    record {
-      seen = λ p fd. shown (seen_in tables.rows.items tables.opened p fd) p fd refl;
-      made = length-given_out tables.opened.slots tables.made;
-      sizes = λ file. refl;
-      ever_alive = λ p. refl;
-    }
-  where
-    shown : (o : Option Numbered) (p fd : ℕ) → seen_in tables.rows.items tables.opened p fd ≡ o → IsSeen o (stood_for tables) p fd
-    shown None p fd is = ap (option_map (λ seen. seen.number)) is
-    shown (Some seen) p fd is =
-        let there = entry_seen tables.opened (key_at tables.rows.items p fd) seen is in
-        let entry = there.1 in
-        let at = tables.entered.each there.0 entry there.3 in (
-          ap (option_map (λ seen. seen.number)) is,
-          subst (λ (s : Numbered). description_numbered (given_out tables.opened.slots tables.made) s.number ≡ Some s.description) there.4
-              (numbered-given_out tables.opened.slots tables.made entry.number at.positive at.given_out
-              ∙ ap Some (found_entry tables.opened.slots there.0 entry (λ key other e f. tables.entered.distinct key other e f) there.3)),
-        )
+stand_for_some tables = search (rules, length-given_out, stood_for, entry_seen, given_out, numbered-given_out, found_entry)

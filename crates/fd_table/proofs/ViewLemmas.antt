@@ -1,5 +1,6 @@
 -- What is shown after each change stands for the descriptors after the same change.
-use Rattle.std.proofs.Common.{◌≡◌, ◌≢◌, ℕ, zero, suc, pred, ◌+◌, ◌||◌, cond, eqb, List, [], ◌∷◌, ◌++◌, length, set, Option, Some, None, refl, sym, ap, subst, ◌∙◌, inl, inr, add-one}
+use Rattle.std.proofs.Common.{arith, ◌≡◌, ◌≢◌, ℕ, zero, suc, pred, ◌+◌, ◌||◌, cond, eqb, List, [], ◌∷◌, ◌++◌, length, set, Option, Some, None, refl, ap, subst, ◌∙◌, add-one}
+use Rattle.std.proofs.lemmas.Grind.{common_steps}
 use Rattle.std.specs.List.{slice_get}
 use Rattle.std.specs.Option.{option_map}
 use Rattle.std.proofs.lemmas.Bool.{cases_eq, eq-eqb, ne_eqb}
@@ -29,13 +30,7 @@ seen_again (Some s) D E p fd q k same keeps h = (same ∙ h.0, keeps s.number s.
 
 -- two descriptors that agree at each place are stood for together
 pub stands_for_same : (v : View) (D E : Descriptors) → SameDescriptors E D → ViewStandsFor v D → ViewStandsFor v E
-stands_for_same v D E same h =
-    record {
-      seen = λ p fd. seen_again (v.seen p fd) D E p fd p fd (same.description_of p fd) (λ n x is. ap (λ ds. description_numbered ds n) same.descriptions ∙ is) (h.seen p fd);
-      made = ap length same.descriptions ∙ h.made;
-      sizes = λ file. same.sizes file ∙ h.sizes file;
-      ever_alive = λ p. same.ever_alive p ∙ h.ever_alive p;
-    }
+stands_for_same v D E same h = grind (arith, common_steps, seen_again)
 
 -- what is shown of everything but descriptors stays
 pub record SameRest (v w : View) : Type 0 where
@@ -45,55 +40,17 @@ pub record SameRest (v w : View) : Type 0 where
 
 -- all that is shown stays
 pub stands_for_view : (v w : View) (D : Descriptors) → ((p fd : ℕ) → w.seen p fd ≡ v.seen p fd) → SameRest v w → ViewStandsFor v D → ViewStandsFor w D
-stands_for_view v w D seen rest h =
-    record {
-      seen = λ p fd. subst (λ o. IsSeen o D p fd) (sym (seen p fd)) (h.seen p fd);
-      made = h.made ∙ sym rest.made;
-      sizes = λ file. h.sizes file ∙ sym (rest.sizes file);
-      ever_alive = λ p. h.ever_alive p ∙ sym (rest.born p);
-    }
+stands_for_view v w D seen rest h = grind (arith, common_steps)
 
 -- a descriptor refers to what another one of its process refers to
 pub shared : (v w : View) (D : Descriptors) (p from to description : ℕ) → ((q k : ℕ) → w.seen q k ≡ cond (is_place p to q k) (v.seen p from) (v.seen q k)) → SameRest v w
     → D.description_of p from ≡ Some description → ViewStandsFor v D → ViewStandsFor w (with_descriptor D p to description)
-shared v w D p from to description seen rest refers h =
-    record {
-      seen = λ q k.
-          elim (place_cases p to q k) [
-            | inl here ↦
-                subst (λ o. IsSeen o (with_descriptor D p to description) q k)
-                (sym (seen q k ∙ ap (λ b. cond b (v.seen p from) (v.seen q k)) here.2))
-                (seen_again (v.seen p from) D (with_descriptor D p to description) p from q k (ap (λ b. cond b (Some description) (D.description_of q k)) here.2 ∙ sym refers) (λ n x is. is) (h.seen p from))
-            | inr there ↦
-                subst (λ o. IsSeen o (with_descriptor D p to description) q k)
-                (sym (seen q k ∙ ap (λ b. cond b (v.seen p from) (v.seen q k)) there.1))
-                (seen_again (v.seen q k) D (with_descriptor D p to description) q k q k (ap (λ b. cond b (Some description) (D.description_of q k)) there.1) (λ n x is. is) (h.seen q k))
-          ];
-      made = h.made ∙ sym rest.made;
-      sizes = λ file. h.sizes file ∙ sym (rest.sizes file);
-      ever_alive = λ q. h.ever_alive q ∙ sym (rest.born q);
-    }
+shared v w D p from to description seen rest refers h = grind (arith, common_steps, place_cases, seen_again)
 
 -- a descriptor is closed
 pub closed_one : (v w : View) (D : Descriptors) (p fd : ℕ) → ((q k : ℕ) → w.seen q k ≡ cond (is_place p fd q k) None (v.seen q k)) → SameRest v w
     → ViewStandsFor v D → ViewStandsFor w (without_one D p fd)
-closed_one v w D p fd seen rest h =
-    record {
-      seen = λ q k.
-          elim (place_cases p fd q k) [
-            | inl here ↦
-                subst (λ o. IsSeen o (without_one D p fd) q k)
-                (sym (seen q k ∙ ap (λ b. cond b None (v.seen q k)) here.2))
-                (ap (λ b. cond b None (D.description_of q k)) here.2)
-            | inr there ↦
-                subst (λ o. IsSeen o (without_one D p fd) q k)
-                (sym (seen q k ∙ ap (λ b. cond b None (v.seen q k)) there.1))
-                (seen_again (v.seen q k) D (without_one D p fd) q k q k (ap (λ b. cond b None (D.description_of q k)) there.1) (λ n x is. is) (h.seen q k))
-          ];
-      made = h.made ∙ sym rest.made;
-      sizes = λ file. h.sizes file ∙ sym (rest.sizes file);
-      ever_alive = λ q. h.ever_alive q ∙ sym (rest.born q);
-    }
+closed_one v w D p fd seen rest h = grind (arith, common_steps, place_cases, seen_again)
 
 slice_get_kept : (xs ys : List OpenFileDescription) (i : ℕ) (x : OpenFileDescription) → slice_get xs i ≡ Some x → slice_get (xs ++ ys) i ≡ Some x
 slice_get_kept [] ys i x is = absurd (none-some x is)
@@ -119,51 +76,13 @@ after_open D p fd file access = with_descriptor (with_description D file access)
 pub opened_new : (v w : View) (D : Descriptors) (p fd file : ℕ) (access : Access) → ((q k : ℕ) → w.seen q k ≡ cond (is_place p fd q k) (Some (record { number = v.made + 1; description = record { file = file; access = access; offset = 0 } })) (v.seen q k))
     → w.made ≡ v.made + 1 → ((x : ℕ) → w.sizes x ≡ v.sizes x) → ((q : ℕ) → w.born q ≡ v.born q)
     → ViewStandsFor v D → ViewStandsFor w (after_open D p fd file access)
-opened_new v w D p fd file access seen made sizes born h =
-    let opened : OpenFileDescription = record { file = file; access = access; offset = 0 } in
-    let new : Numbered = record { number = v.made + 1; description = opened } in
-    let E : Descriptors = after_open D p fd file access in
-    let number : length D.descriptions + 1 ≡ v.made + 1 = ap (λ n. n + 1) h.made in
-    record {
-      seen = λ q k.
-          elim (place_cases p fd q k) [
-            | inl here ↦
-                subst (λ o. IsSeen o E q k)
-                (sym (seen q k ∙ ap (λ b. cond b (Some new) (v.seen q k)) here.2)) (
-                  ap (λ b. cond b (Some (length D.descriptions + 1)) (D.description_of q k)) here.2 ∙ ap Some number,
-                  subst (λ n. description_numbered E.descriptions n ≡ Some opened) number (numbered_push D.descriptions opened),
-                )
-            | inr there ↦
-                subst (λ o. IsSeen o E q k)
-                (sym (seen q k ∙ ap (λ b. cond b (Some new) (v.seen q k)) there.1))
-                (seen_again (v.seen q k) D E q k q k (ap (λ b. cond b (Some (length D.descriptions + 1)) (D.description_of q k)) there.1) (numbered_kept D.descriptions (opened ∷ [])) (h.seen q k))
-          ];
-      made = length-append D.descriptions (opened ∷ []) ∙ number ∙ sym made;
-      sizes = λ x. h.sizes x ∙ sym (sizes x);
-      ever_alive = λ q. h.ever_alive q ∙ sym (born q);
-    }
+opened_new v w D p fd file access seen made sizes born h = grind (arith, common_steps, place_cases, numbered_push, seen_again, numbered_kept, length-append)
 
 -- a child lives with what its parent refers to
 pub forked : (v w : View) (D : Descriptors) (p child : ℕ) → ((q k : ℕ) → w.seen q k ≡ cond (eqb q child) (v.seen p k) (v.seen q k))
     → w.made ≡ v.made → ((x : ℕ) → w.sizes x ≡ v.sizes x) → ((q : ℕ) → w.born q ≡ (eqb q child || v.born q))
     → ViewStandsFor v D → ViewStandsFor w (with_child D p child)
-forked v w D p child seen made sizes born h =
-    record {
-      seen = λ q k.
-          elim (cases_eq q child) [
-            | inl same ↦
-                subst (λ o. IsSeen o (with_child D p child) q k)
-                (sym (seen q k ∙ ap (λ b. cond b (v.seen p k) (v.seen q k)) (eq-eqb q child same)))
-                (seen_again (v.seen p k) D (with_child D p child) p k q k (ap (λ b. cond b (D.description_of p k) (D.description_of q k)) (eq-eqb q child same)) (λ n x is. is) (h.seen p k))
-            | inr other ↦
-                subst (λ o. IsSeen o (with_child D p child) q k)
-                (sym (seen q k ∙ ap (λ b. cond b (v.seen p k) (v.seen q k)) (ne_eqb q child other)))
-                (seen_again (v.seen q k) D (with_child D p child) q k q k (ap (λ b. cond b (D.description_of p k) (D.description_of q k)) (ne_eqb q child other)) (λ n x is. is) (h.seen q k))
-          ];
-      made = h.made ∙ sym made;
-      sizes = λ x. h.sizes x ∙ sym (sizes x);
-      ever_alive = λ q. ap (λ b. eqb q child || b) (h.ever_alive q) ∙ sym (born q);
-    }
+forked v w D p child seen made sizes born h = grind (arith, common_steps, cases_eq, eq-eqb, seen_again, ne_eqb)
 
 slice_get-set_same : (xs : List OpenFileDescription) (i : ℕ) (x y : OpenFileDescription) → slice_get xs i ≡ Some y → slice_get (set xs i x) i ≡ Some x
 slice_get-set_same [] i x y is = absurd (none-some y is)
@@ -182,9 +101,7 @@ numbered_set_same xs zero x y is = absurd (none-some y is)
 numbered_set_same xs (suc i) x y is = slice_get-set_same xs i x y is
 
 numbered_set_other : (xs : List OpenFileDescription) (n m : ℕ) (x y z : OpenFileDescription) → m ≢ n → description_numbered xs n ≡ Some y → description_numbered xs m ≡ Some z → description_numbered (set xs (pred n) x) m ≡ Some z
-numbered_set_other xs zero m x y z differs is other = absurd (none-some y is)
-numbered_set_other xs (suc i) zero x y z differs is other = absurd (none-some z other)
-numbered_set_other xs (suc i) (suc j) x y z differs is other = slice_get-set_other xs i j x (λ same. differs (ap suc same)) ∙ other
+numbered_set_other xs n m x y z h h2 h3 = grind (arith, common_steps, none-some, slice_get-set_other)
 
 -- the description at this offset
 abbrev offset_at : OpenFileDescription → ℕ → OpenFileDescription
@@ -195,44 +112,14 @@ abbrev pub moved : ℕ → ℕ → Numbered → Numbered
 moved number offset s = cond (eqb s.number number) (record s { description = record s.description { offset = offset } }) s
 
 seen_moved : (o : Option Numbered) (D : Descriptors) (number offset q k : ℕ) (opened : OpenFileDescription) → description_numbered D.descriptions number ≡ Some opened → IsSeen o D q k → IsSeen (option_map (moved number offset) o) (with_offset D number opened offset) q k
-seen_moved None D number offset q k opened is h = h
-seen_moved (Some s) D number offset q k opened is h =
-    elim (cases_eq s.number number) [
-      | inl same ↦
-          let at : description_numbered D.descriptions number ≡ Some s.description = ap (description_numbered D.descriptions) (sym same) ∙ h.1 in
-          let one : opened ≡ s.description = same_Some opened s.description (sym is ∙ at) in
-          subst (λ o. IsSeen (Some o) (with_offset D number opened offset) q k)
-          (sym (ap (λ b. cond b (record s { description = record s.description { offset = offset } }) s) (eq-eqb s.number number same))) (
-            h.0,
-            ap (description_numbered (with_offset D number opened offset).descriptions) same
-                ∙ numbered_set_same D.descriptions number (record opened { offset = offset }) opened is
-                ∙ ap (λ (x : OpenFileDescription). Some (offset_at x offset)) one,
-          )
-      | inr other ↦
-          subst (λ o. IsSeen (Some o) (with_offset D number opened offset) q k)
-          (sym (ap (λ b. cond b (record s { description = record s.description { offset = offset } }) s) (ne_eqb s.number number other)))
-          (h.0, numbered_set_other D.descriptions number s.number (record opened { offset = offset }) opened s.description other is h.1)
-    ]
+seen_moved o D number offset q k opened h h2 = grind (arith, common_steps, cases_eq, same_Some, eq-eqb, numbered_set_same, ne_eqb, numbered_set_other)
 
 -- a description gets another offset
 pub moved_offset : (v w : View) (D : Descriptors) (number offset : ℕ) (opened : OpenFileDescription) → ((q k : ℕ) → w.seen q k ≡ option_map (moved number offset) (v.seen q k)) → SameRest v w
     → description_numbered D.descriptions number ≡ Some opened → ViewStandsFor v D → ViewStandsFor w (with_offset D number opened offset)
-moved_offset v w D number offset opened seen rest is h =
-    record {
-      seen = λ q k.
-          subst (λ o. IsSeen o (with_offset D number opened offset) q k) (sym (seen q k)) (seen_moved (v.seen q k) D number offset q k opened is (h.seen q k));
-      made = length-set D.descriptions (pred number) (record opened { offset = offset }) ∙ h.made ∙ sym rest.made;
-      sizes = λ file. h.sizes file ∙ sym (rest.sizes file);
-      ever_alive = λ q. h.ever_alive q ∙ sym (rest.born q);
-    }
+moved_offset v w D number offset opened seen rest is h = grind (arith, common_steps, seen_moved, length-set)
 
 -- a file gets another size
 pub resized : (v w : View) (D : Descriptors) (file size : ℕ) → ((q k : ℕ) → w.seen q k ≡ v.seen q k) → w.made ≡ v.made → ((x : ℕ) → w.sizes x ≡ cond (eqb x file) size (v.sizes x)) → ((q : ℕ) → w.born q ≡ v.born q)
     → ViewStandsFor v D → ViewStandsFor w (with_size D file size)
-resized v w D file size seen made sizes born h =
-    record {
-      seen = λ q k. subst (λ o. IsSeen o (with_size D file size) q k) (sym (seen q k)) (seen_again (v.seen q k) D (with_size D file size) q k q k refl (λ n x is. is) (h.seen q k));
-      made = h.made ∙ sym made;
-      sizes = λ x. ap (λ y. cond (eqb x file) size y) (h.sizes x) ∙ sym (sizes x);
-      ever_alive = λ q. h.ever_alive q ∙ sym (born q);
-    }
+resized v w D file size seen made sizes born h = grind (arith, common_steps, seen_again)

@@ -1,5 +1,6 @@
 -- Who blocks a lock, read off the lists of owners: for `blocked`, `process_blocks` and `blocking_processes`.
-use Rattle.std.proofs.Common.{ℕ, ◌≡◌, ◌≢◌, ◌<◌, ◌≤◌, ◌↔◌, ◌∙◌, sym, ap, refl, subst, arith, true, false, Option, Some, None, List, [], ◌∷◌, ◌++◌, All, Any, map}
+use Rattle.std.proofs.Common.{rules, ℕ, ◌≡◌, ◌≢◌, ◌<◌, ◌≤◌, ◌↔◌, ◌∙◌, sym, ap, refl, subst, arith, true, false, Option, Some, None, List, [], ◌∷◌, ◌++◌, All, Any, map}
+use Rattle.std.proofs.lemmas.Grind.{common_steps}
 use Rattle.std.specs.Prelude.{is_some, nat_lt, IsTrue, IfSome, IfNone, MatchOption}
 use Rattle.std.specs.Borrow.{Bor}
 use Rattle.std.specs.Map.Iter.{TakesFirst, deref_pair}
@@ -28,10 +29,7 @@ use Rattle.lock_book.proofs.OwnerLemmas.{owner_cmp, same_owner, IsBefore-asymmet
 
 -- a process other than the owner blocks where its list has a hit
 pub ProcessBlocks-hit : (modes : ByteModes) (process : ℕ) (owner : Owner) (span : Span) (wanted : Mode) (hit : Option ℕ) → Process process ≢ owner → IfSome hit (IsFirstHit (modes (Process process)) span wanted) → IfNone hit ((byte : ℕ) → Covers span byte → ¬ HeldConflicts (modes (Process process) byte) wanted) → IsTrue (is_some hit) ↔ ProcessBlocks modes process owner span wanted
-ProcessBlocks-hit modes process owner span wanted None different some none =
-    (λ h. absurd (let e : false ≡ true = h in cc), λ b. absurd (none b.byte b.covered b.blocks.conflicts))
-ProcessBlocks-hit modes process owner span wanted (Some byte) different some none =
-    (λ h. record { byte = byte; covered = some.covered; blocks = record { another = different; conflicts = some.hit } }, λ b. refl)
+ProcessBlocks-hit modes process owner span wanted hit h h2 h3 = grind (arith, common_steps)
 
 -- one without a mode on any byte doesn't
 pub ProcessBlocks-none : (modes : ByteModes) (process : ℕ) (owner : Owner) (span : Span) (wanted : Mode) → modes (Process process) ≡ (λ byte. None) → ¬ ProcessBlocks modes process owner span wanted
@@ -164,9 +162,7 @@ modes_in_loop book items s t u r x start yields is step all =
 
 -- and comes after the entries so far
 pub before_in_loop : (book : Book) (items : List Item) (s t u : List (Owner × RangeList)) (r : Option Item) (x : Item) → s ≡ book.owners.entries → Yields (TakesFirst deref_pair) s items t → r ≡ Some x → TakesFirst deref_pair t r u → IsOrdered owner_cmp book.owners → All (λ y. IsBefore y.0.now x.0.now) items
-before_in_loop book items s t u r x start yields is step ordered =
-    All-weaker (λ y. owner_cmp y.0.now x.0.now ≡ Less) (λ y. IsBefore y.0.now x.0.now) (λ y less. IsBefore-from_less y.0.now x.0.now less) items
-    (earlier_in_loop owner_cmp book.owners.entries items s t u r x start yields is step ordered)
+before_in_loop book items s t u r x start yields is step ordered = search (rules, All-weaker, owner_cmp, IsBefore-from_less, earlier_in_loop)
 
 -- what holds of each entry's owner holds of each owner with a list
 pub owner_in : (book : Book) (items : List Item) (P : Owner → Type 0) → map deref_pair items ≡ book.owners.entries → All (λ x. P x.0.now) items → (other : Owner) (list : RangeList) → list_of book other ≡ Some list → P other

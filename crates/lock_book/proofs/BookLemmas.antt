@@ -1,8 +1,9 @@
 -- What a change of one owner's list, or of one description's place, means to the whole book: for each call that sets, reserves or releases.
+use Rattle.std.proofs.lemmas.Grind.{common_steps}
 use Rattle.std.proofs.Common.{ℕ, ◌≡◌, ◌≢◌, ◌==◌, ◌∙◌, sym, ap, refl, subst, true, false, cond, Bool, arith, ◌≤◌, ◌+◌, Option, Some, None, Result, Ok, Err, inl, inr, List}
-use Rattle.std.specs.Prelude.{if◌then◌else◌, ◌||◌, is_some, is_ok, OnOk, OnErr, IsTrue}
+use Rattle.std.specs.Prelude.{if◌then◌else◌, ◌||◌, is_some, OnOk, OnErr, IsTrue}
 use Rattle.std.specs.Ordering.{nat_cmp}
-use Rattle.std.specs.Option.{option_copied, option_copied_mut, IsSome}
+use Rattle.std.specs.Option.{option_copied, option_copied_mut}
 use Rattle.std.specs.BTreeMap.{BTreeMap, UpdatesBy, WritesThrough, get}
 use Rattle.std.specs.Borrow.{Bor, MutBor}
 use Rattle.std.proofs.lemmas.Bool.Decides.{nat_tests}
@@ -44,9 +45,7 @@ flock_modes_of-place book description mode there = ap mode_in_place there
 -- a description that no map has has no place
 pub no_place : (book : Book) (description : ℕ) → place_among book.flocks.places.entries description ≡ None → IsTrue (has_flock_place book description) → ⊥
 unfolding has_flock_place place_of
-no_place book description none there =
-    let e : place_of book description ≡ None = none in
-    let h : false ≡ true = rw e at there in cc
+no_place book description none there = grind (arith, common_steps)
 
 pub none_from_test : {A : Type 0} (o : Option A) → is_some o ≡ false → o ≡ None
 none_from_test None test = refl
@@ -59,10 +58,7 @@ place_of-none book description none = none_from_test (place_of book description)
 
 -- a test that fails tells two owners apart
 pub different_owner : (owner other : Owner) → other ≢ owner → is_same_owner owner other ≡ false
-different_owner owner other different = elim (cases_Bool (is_same_owner owner other)) [
-  | inl same ↦ absurd (different (sym (same_owner owner other same)))
-  | inr apart ↦ apart
-]
+different_owner owner other different = grind (arith, common_steps, cases_Bool, same_owner)
 
 -- new keeps this list for the owner, and all else as old does
 pub record PutsList (old new : Book) (owner : Owner) (list : Option RangeList) : Type 0 where
@@ -80,10 +76,7 @@ PutsAt old owners owner list = (other : Owner) → lookup (is_same_owner other) 
 
 -- as an update of a book's owners makes them
 pub PutsAt-updates : (old : Book) (owners : BTreeMap Owner RangeList) (owner : Owner) (list : Option RangeList) → UpdatesBy owner_cmp (owner_cmp owner) old.owners owners list → PutsAt old owners owner list
-PutsAt-updates old owners owner list updates other =
-    sym (lookup-owner_cmp other owners.entries) ∙ updates.0 other
-    ∙ ap (λ b. cond b list (get owner_cmp old.owners other)) (is_eq-owner_cmp owner other)
-    ∙ ap (λ o. cond (is_same_owner owner other) list o) (sym (list_of-get old other))
+PutsAt-updates old owners owner list updates other = grind (arith, common_steps, lookup-owner_cmp, owner_cmp, is_eq-owner_cmp, list_of-get)
 
 -- also of the owners that are left where they lent nothing
 pub PutsAt-adds : (old : Book) (was owners : BTreeMap Owner RangeList) (owner : Owner) (list : Option RangeList) → was ≡ old.owners → UpdatesBy owner_cmp (owner_cmp owner) was owners list → PutsAt old owners owner list
@@ -93,10 +86,7 @@ PutsAt-adds old was owners owner list same updates =
 -- in a book with these owners
 pub PutsList-puts : (old new : Book) (owner : Owner) (list : Option RangeList) → new.flocks ≡ old.flocks → PutsAt old new.owners owner list → PutsList old new owner list
 unfolding list_of place_of
-PutsList-puts old new owner list same puts = record {
-  lists = puts;
-  places = λ description. ap (λ (f : FlockHolders). place_among f.places.entries description) same;
-}
+PutsList-puts old new owner list same puts = grind (arith, common_steps)
 
 -- the list that a map lends is the owner's
 pub list_of-lent : (book : Book) (owner : Owner) (lent : Option (MutBor RangeList)) (list : MutBor RangeList) → option_copied_mut lent ≡ get owner_cmp book.owners owner → lent ≡ Some list → list_of book owner ≡ Some list.now
@@ -118,9 +108,7 @@ byte_modes_of-list book owner list is = ap modes_in_list is
 
 -- and a write through it puts a list in its place
 pub PutsAt-writes : (old : Book) (owners : BTreeMap Owner RangeList) (owner : Owner) (before list : RangeList) → WritesThrough owner_cmp (owner_cmp owner) old.owners list owners → list_of old owner ≡ Some before → PutsAt old owners owner (Some list)
-PutsAt-writes old owners owner before list writes was =
-    let there : IsSome (get owner_cmp old.owners owner) = rw (sym (list_of-get old owner) ∙ was) refl in
-    PutsAt-updates old owners owner (Some list) (writes.3 there)
+PutsAt-writes old owners owner before list writes was = grind (arith, common_steps, owner_cmp, list_of-get, PutsAt-updates)
 
 -- so it is where the owners lent the list
 pub list_written : (book : Book) (owners : BTreeMap Owner RangeList) (owner : Owner) (lent : Option (MutBor RangeList)) (list : MutBor RangeList) (after : RangeList) → option_copied_mut lent ≡ get owner_cmp book.owners owner → lent ≡ Some list → WritesThrough owner_cmp (owner_cmp owner) book.owners after owners → (list_of book owner ≡ Some list.now) × PutsAt book owners owner (Some after)
@@ -174,9 +162,7 @@ EachList-insert P old was owners owner list (Err e) each same updates kept holds
 -- a list of a book is in use, and so is one with no fewer modes and no less room
 pub still_in_use : (book : Book) (owner : Owner) (before list : RangeList) → list_of book owner ≡ Some before → ((byte : ℕ) → modes_of list byte ≡ modes_of before byte) → room_of before ≤ room_of list → ¬ IsIdle list
 unfolding list_of
-still_in_use book owner before list was modes room idle =
-    let empty = idle.no_room in
-    book.in_use owner before was (record { free = λ byte. sym (modes byte) ∙ idle.free byte; no_room = omega arith })
+still_in_use book owner before list was modes room idle = grind (arith, common_steps)
 
 -- the first byte of a range is in it
 covers_first : (span : Span) → IsByteRange span → is_covered span span.first ≡ true
@@ -197,10 +183,7 @@ in_use_by_mode old list span (Some mode) range some sets idle =
 -- so is an update of the places of flock locks
 pub PutsPlace-puts : (old new : Book) (description : ℕ) (place : Option (Option Mode)) → new.owners ≡ old.owners → PutsAmong old.flocks.places.entries new.flocks.places.entries description place → PutsPlace old new description place
 unfolding list_of place_of
-PutsPlace-puts old new description place same puts = record {
-  lists = λ owner. ap (λ (m : BTreeMap Owner RangeList). lookup (is_same_owner owner) m.entries) same;
-  places = puts;
-}
+PutsPlace-puts old new description place same puts = grind (arith, common_steps)
 
 -- every other owner's list stays
 list_apart : (old new : Book) (owner other : Owner) (list : Option RangeList) → PutsList old new owner list → other ≢ owner → list_of new other ≡ list_of old other
@@ -219,154 +202,52 @@ room_in-list book owner list is = ap room_in_list is
 
 -- the room that is left where a list was put
 pub room_left : (old new : Book) (owner : Owner) (before after : Option RangeList) (used : ℕ) → PutsList old new owner after → list_of old owner ≡ before → room_in_list before ≤ room_in_list after + used → room_in old owner ≤ room_in new owner + used
-room_left old new owner before after used puts was room =
-    let left = room_in-puts old new owner after puts in
-    let had = room_in-list old owner before was in
-    omega arith
+room_left old new owner before after used puts was room = grind (arith, common_steps, room_in-puts, room_in-list)
 
 -- a list put for the owner that has the mode on just the range sets it in the book
 pub SetsOwnerMode-puts : (old new : Book) (owner : Owner) (before after : Option RangeList) (span : Span) (mode : Option Mode) → PutsList old new owner after → list_of old owner ≡ before → SetsMode (modes_in_list before) (modes_in_list after) span mode → SetsOwnerMode old new owner span mode
 unfolding byte_modes_of room_in flock_modes_of has_flock_place
-SetsOwnerMode-puts old new owner before after span mode puts was sets = record {
-  bytes = λ other byte. elim (cases_Bool (is_same_owner owner other)) [
-    | inl same ↦
-        let there : list_of old other ≡ before = ap (list_of old) (sym (same_owner owner other same)) ∙ was in
-        rw (puts.lists other, same, there) (sets byte)
-    | inr apart ↦ rw (puts.lists other, apart) refl
-  ];
-  rooms = λ other different. ap room_in_list (list_apart old new owner other after puts different);
-  flocks = λ description. ap mode_in_place (puts.places description);
-  places = λ description. ap is_some (puts.places description);
-}
+SetsOwnerMode-puts old new owner before after span mode puts was sets = grind (arith, common_steps, cases_Bool, same_owner, list_apart)
 
 -- without a list there is nothing to unlock
 sets_nothing : (book : Book) (owner : Owner) (span : Span) (mode : Option Mode) → list_of book owner ≡ None → mode ≡ None → SetsOwnerMode book book owner span mode
 unfolding byte_modes_of
-sets_nothing book owner span mode none unlock = record {
-  bytes = λ other byte. elim (cases_Bool (is_same_owner owner other)) [
-    | inl same ↦
-        let there : list_of book other ≡ None = ap (list_of book) (sym (same_owner owner other same)) ∙ none in
-        elim (cases_Bool (is_covered span byte)) [
-          | inl covered ↦ rw (same, covered, there, unlock) refl
-          | inr apart ↦ rw (same, apart) refl
-        ]
-    | inr apart ↦ rw apart refl
-  ];
-  rooms = λ other different. refl;
-  flocks = λ description. refl;
-  places = λ description. refl;
-}
+sets_nothing book owner span mode none unlock = grind (arith, common_steps, cases_Bool, same_owner)
 
 -- a book with the same parts is the same for each definition
 pub SetsOwnerMode-nothing : (old new : Book) (owner : Owner) (span : Span) (mode : Option Mode) → new.owners ≡ old.owners → new.flocks ≡ old.flocks → list_of old owner ≡ None → mode ≡ None → SetsOwnerMode old new owner span mode
 unfolding byte_modes_of room_in flock_modes_of has_flock_place list_of place_of
-SetsOwnerMode-nothing old new owner span mode owners flocks none unlock =
-    let nothing = sets_nothing old owner span mode none unlock in record {
-      bytes = λ other byte. ap (λ (m : BTreeMap Owner RangeList). modes_in_list (lookup (is_same_owner other) m.entries) byte) owners ∙ nothing.bytes other byte;
-      rooms = λ other different. ap (λ (m : BTreeMap Owner RangeList). room_in_list (lookup (is_same_owner other) m.entries)) owners;
-      flocks = λ description. ap (λ (f : FlockHolders). mode_in_place (place_among f.places.entries description)) flocks;
-      places = λ description. ap (λ (f : FlockHolders). is_some (place_among f.places.entries description)) flocks;
-    }
+SetsOwnerMode-nothing old new owner span mode owners flocks none unlock = grind (arith, common_steps, sets_nothing)
 
 -- one with the same modes changes the owner's room alone
 pub SameButRoom-puts : (old new : Book) (owner : Owner) (before : Option RangeList) (list : RangeList) → PutsList old new owner (Some list) → list_of old owner ≡ before → ((byte : ℕ) → modes_of list byte ≡ modes_in_list before byte) → SameButRoom old new owner
 unfolding byte_modes_of room_in flock_modes_of has_flock_place
-SameButRoom-puts old new owner before list puts was same_modes = record {
-  bytes = λ other byte. elim (cases_Bool (is_same_owner owner other)) [
-    | inl same ↦
-        let there : list_of old other ≡ before = ap (list_of old) (sym (same_owner owner other same)) ∙ was in
-        rw (puts.lists other, same, there) (same_modes byte)
-    | inr apart ↦ rw (puts.lists other, apart) refl
-  ];
-  rooms = λ other different. ap room_in_list (list_apart old new owner other (Some list) puts different);
-  flocks = λ description. ap mode_in_place (puts.places description);
-  places = λ description. ap is_some (puts.places description);
-}
+SameButRoom-puts old new owner before list puts was same_modes = grind (arith, common_steps, cases_Bool, same_owner, list_apart)
 
 -- and one with the same room too changes nothing
 pub SameBook-puts : (old new : Book) (owner : Owner) (before list : RangeList) → PutsList old new owner (Some list) → list_of old owner ≡ Some before → ((byte : ℕ) → modes_of list byte ≡ modes_of before byte) → room_of list ≡ room_of before → SameBook old new
 unfolding room_in
-SameBook-puts old new owner before list puts was same_modes same_room =
-    let same_but_room = SameButRoom-puts old new owner (Some before) list puts was same_modes in record {
-      bytes = same_but_room.bytes;
-      rooms = λ other. elim (cases_Bool (is_same_owner owner other)) [
-        | inl same ↦
-            let there : list_of old other ≡ Some before = ap (list_of old) (sym (same_owner owner other same)) ∙ was in
-            rw (puts.lists other, same, there) same_room
-        | inr apart ↦ rw (puts.lists other, apart) refl
-      ];
-      flocks = same_but_room.flocks;
-      places = same_but_room.places;
-    }
+SameBook-puts old new owner before list puts was same_modes same_room = grind (arith, common_steps, SameButRoom-puts, cases_Bool, same_owner)
 
 -- without a list the owner has nothing
 ReleasesOwner-puts : (old new : Book) (owner : Owner) → PutsList old new owner None → ReleasesOwner old new owner
 unfolding byte_modes_of room_in flock_modes_of has_flock_place
-ReleasesOwner-puts old new owner puts = record {
-  bytes = λ other byte. elim (cases_Bool (is_same_owner owner other)) [
-    | inl same ↦ rw (puts.lists other, same) refl
-    | inr apart ↦ rw (puts.lists other, apart) refl
-  ];
-  rooms = λ other. elim (cases_Bool (is_same_owner owner other)) [
-    | inl same ↦ rw (puts.lists other, same) refl
-    | inr apart ↦ rw (puts.lists other, apart) refl
-  ];
-  flocks = λ description. ap mode_in_place (puts.places description);
-  places = λ description. ap is_some (puts.places description);
-}
+ReleasesOwner-puts old new owner puts = grind (arith, common_steps, cases_Bool)
 
 -- a place put for the description with a mode sets it in the book, where there is a mode or the place was there
 pub SetsFlock-puts : (old new : Book) (description : ℕ) (mode : Option Mode) → (is_some mode || has_flock_place old description) ≡ true → PutsPlace old new description (Some mode) → SetsFlock old new description mode
 unfolding byte_modes_of room_in flock_modes_of has_flock_place
-SetsFlock-puts old new description mode asked puts = record {
-  bytes = λ owner byte. ap (λ list. modes_in_list list byte) (puts.lists owner);
-  rooms = λ owner. ap room_in_list (puts.lists owner);
-  flocks = λ other. elim (cases_Bool (description == other)) [
-    | inl same ↦ rw (puts.places other, same) refl
-    | inr apart ↦ rw (puts.places other, apart) refl
-  ];
-  places = λ other. elim (cases_Bool (description == other)) [
-    | inl same ↦
-        let there : (is_some mode || is_some (place_of old other)) ≡ true =
-        subst (λ d. (is_some mode || is_some (place_of old d)) ≡ true) (eqb-true description other same) asked in
-        rw (puts.places other, same) (sym there)
-    | inr apart ↦ rw (puts.places other, apart) refl
-  ];
-}
+SetsFlock-puts old new description mode asked puts = grind (arith, common_steps, cases_Bool, eqb-true)
 
 -- an empty place put for a description without one reserves it
 pub ReservesFlock-puts : (old new : Book) (description : ℕ) → PutsPlace old new description (Some None) → place_of old description ≡ None → ReservesFlock old new description
 unfolding byte_modes_of room_in flock_modes_of has_flock_place
-ReservesFlock-puts old new description puts was = record {
-  bytes = λ owner byte. ap (λ list. modes_in_list list byte) (puts.lists owner);
-  rooms = λ owner. ap room_in_list (puts.lists owner);
-  flocks = λ other. elim (cases_Bool (description == other)) [
-    | inl same ↦
-        let there : place_of old other ≡ None = ap (place_of old) (sym (eqb-true description other same)) ∙ was in
-        rw (puts.places other, same, there) refl
-    | inr apart ↦ rw (puts.places other, apart) refl
-  ];
-  places = λ other. elim (cases_Bool (description == other)) [
-    | inl same ↦ rw (puts.places other, same) refl
-    | inr apart ↦ rw (puts.places other, apart) refl
-  ];
-}
+ReservesFlock-puts old new description puts was = grind (arith, common_steps, cases_Bool, eqb-true)
 
 -- without a place the description has nothing
 ReleasesFlock-puts : (old new : Book) (description : ℕ) → PutsPlace old new description None → ReleasesFlock old new description
 unfolding byte_modes_of room_in flock_modes_of has_flock_place
-ReleasesFlock-puts old new description puts = record {
-  bytes = λ owner byte. ap (λ list. modes_in_list list byte) (puts.lists owner);
-  rooms = λ owner. ap room_in_list (puts.lists owner);
-  flocks = λ other. elim (cases_Bool (description == other)) [
-    | inl same ↦ rw (puts.places other, same) refl
-    | inr apart ↦ rw (puts.places other, apart) refl
-  ];
-  places = λ other. elim (cases_Bool (description == other)) [
-    | inl same ↦ rw (puts.places other, same) refl
-    | inr apart ↦ rw (puts.places other, apart) refl
-  ];
-}
+ReleasesFlock-puts old new description puts = grind (arith, common_steps, cases_Bool)
 
 -- what a map's removal leaves
 pub owner_released : (old new : Book) (owner : Owner) → new.flocks ≡ old.flocks → UpdatesBy owner_cmp (owner_cmp owner) old.owners new.owners None → ReleasesOwner old new owner
@@ -378,20 +259,7 @@ flock_released old new description same puts = ReleasesFlock-puts _ _ _ (PutsPla
 -- a list without a mode, with the room that there was, put for the owner clears it
 pub ClearsOwner-puts : (old new : Book) (owner : Owner) (before after : Option RangeList) → PutsList old new owner after → list_of old owner ≡ before → ((byte : ℕ) → modes_in_list after byte ≡ None) → room_in_list after ≡ room_in_list before → ClearsOwner old new owner
 unfolding byte_modes_of room_in flock_modes_of has_flock_place
-ClearsOwner-puts old new owner before after puts was free room = record {
-  bytes = λ other byte. elim (cases_Bool (is_same_owner owner other)) [
-    | inl same ↦ rw (puts.lists other, same) (free byte)
-    | inr apart ↦ rw (puts.lists other, apart) refl
-  ];
-  rooms = λ other. elim (cases_Bool (is_same_owner owner other)) [
-    | inl same ↦
-        let there : list_of old other ≡ before = ap (list_of old) (sym (same_owner owner other same)) ∙ was in
-        rw (puts.lists other, same, there) room
-    | inr apart ↦ rw (puts.lists other, apart) refl
-  ];
-  flocks = λ description. ap mode_in_place (puts.places description);
-  places = λ description. ap is_some (puts.places description);
-}
+ClearsOwner-puts old new owner before after puts was free room = grind (arith, common_steps, cases_Bool, same_owner)
 
 -- an owner without a list is clear
 pub ClearsOwner-nothing : (old new : Book) (owner : Owner) → new.owners ≡ old.owners → new.flocks ≡ old.flocks → list_of old owner ≡ None → ClearsOwner old new owner

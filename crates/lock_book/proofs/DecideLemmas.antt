@@ -1,10 +1,10 @@
 -- Whether a lock is blocked can be decided: by a search of the owners or the places that a book keeps, and of the bytes of a range.
+use Rattle.std.proofs.lemmas.Grind.{common_steps}
 use Rattle.std.proofs.Common.{ℕ, ◌≡◌, ◌≢◌, ◌+◌, ◌-◌, ◌<◌, ◌≤◌, ◌⊎◌, inl, inr, subst, refl, arith, zero, suc, true, Bool, List, [], ◌∷◌, Option, Some, None}
 use Rattle.std.specs.Prelude.{◌==◌}
 use Rattle.std.specs.Map.{lookup}
 use Rattle.std.proofs.lemmas.Bool.{cases_Bool, cases_eq, eqb-true}
 use Rattle.range_core.specs.declared.Mode.{Mode}
-use Rattle.range_core.specs.declared.Mode.TheVariants.{Read, Write}
 use Rattle.range_core.specs.declared.Span.{Span}
 use Rattle.range_core.specs.declared.list.RangeList.{RangeList}
 use Rattle.range_core.specs.Ranges.{Covers, HeldConflicts}
@@ -21,31 +21,15 @@ use Rattle.lock_book.proofs.OwnerLemmas.{same_owner, is_same_owner-self}
 
 -- two owners are one, or not
 same_or_other : (one other : Owner) → (one ≡ other) ⊎ (one ≢ other)
-same_or_other one other = elim (cases_Bool (is_same_owner one other)) [
-  | inl same ↦ inl (same_owner one other same)
-  | inr differ ↦ inr (λ e. let same : is_same_owner one other ≡ true = subst (λ (o : Owner). is_same_owner one o ≡ true) e (is_same_owner-self one) in cc)
-]
+same_or_other one other = grind (arith, common_steps, cases_Bool, same_owner, is_same_owner-self)
 
 -- what is held, if anything, conflicts or not
 held_or_not : (held : Option Mode) (wanted : Mode) → HeldConflicts held wanted ⊎ ¬ HeldConflicts held wanted
-held_or_not None wanted = inr (λ conflict. conflict)
-held_or_not (Some Read) Read = inr (λ conflict. conflict)
-held_or_not (Some Read) Write = inl tt
-held_or_not (Some Write) wanted = inl (writes wanted)
-  where
-    writes : (wanted : Mode) → HeldConflicts (Some Write) wanted
-    writes Read = tt
-    writes Write = tt
+held_or_not held wanted = grind (arith, common_steps)
 
 -- whether another owner's lock on a byte stands in the way
 blocks_or_not : (modes : ByteModes) (owner : Owner) (wanted : Mode) (byte : ℕ) (other : Owner) → Blocks modes owner wanted byte other ⊎ ¬ Blocks modes owner wanted byte other
-blocks_or_not modes owner wanted byte other = elim (same_or_other other owner) [
-  | inl same ↦ inr (λ blocks. blocks.another same)
-  | inr another ↦ elim (held_or_not (modes other byte) wanted) [
-    | inl conflicts ↦ inl (record { another = another; conflicts = conflicts })
-    | inr none ↦ inr (λ blocks. none blocks.conflicts)
-  ]
-]
+blocks_or_not modes owner wanted byte other = grind (arith, common_steps, same_or_other, held_or_not)
 
 -- a number of which something holds, among so many from the first on
 record Among (P : ℕ → Type 0) (first count : ℕ) : Type 0 where
@@ -55,16 +39,7 @@ record Among (P : ℕ → Type 0) (first count : ℕ) : Type 0 where
   holds : P number
 
 one_more : (P : ℕ → Type 0) (first count : ℕ) → P (first + count) ⊎ ¬ P (first + count) → ¬ Among P first count → Among P first (suc count) ⊎ ¬ Among P first (suc count)
-one_more P first count (inl last) none = inl (record { number = first + count; from = omega arith; below = omega arith; holds = last })
-one_more P first count (inr not_last) none = inr (λ among. elim (cases_eq among.number (first + count)) [
-  | inl same ↦ not_last (subst P same among.holds)
-  | inr differs ↦ none (record {
-    number = among.number;
-    from = among.from;
-    below = (let h = among.below in omega arith);
-    holds = among.holds;
-  })
-])
+one_more P first count h h2 = grind (arith, common_steps, cases_eq)
 
 among_or_not : (P : ℕ → Type 0) → ((n : ℕ) → P n ⊎ ¬ P n) → (first count : ℕ) → Among P first count ⊎ ¬ Among P first count
 among_or_not P each first zero = inr (λ among. (let h = among.below in let k = among.from in absurd (omega arith)))
@@ -140,13 +115,7 @@ record HolderBlocks (book : Book) (owner : Owner) (wanted : Mode) (description :
   conflicts : HeldConflicts (flock_modes_of book description) wanted
 
 holder_blocks_or_not : (book : Book) (owner : Owner) (wanted : Mode) (description : ℕ) → HolderBlocks book owner wanted description ⊎ ¬ HolderBlocks book owner wanted description
-holder_blocks_or_not book owner wanted description = elim (same_or_other (Description description) owner) [
-  | inl same ↦ inr (λ blocks. blocks.another same)
-  | inr another ↦ elim (held_or_not (flock_modes_of book description) wanted) [
-    | inl conflicts ↦ inl (record { another = another; conflicts = conflicts })
-    | inr none ↦ inr (λ blocks. none blocks.conflicts)
-  ]
-]
+holder_blocks_or_not book owner wanted description = grind (arith, common_steps, same_or_other, held_or_not)
 
 -- a description with a flock lock has a place
 place_of_held : (place : Option (Option Mode)) (wanted : Mode) → HeldConflicts (mode_in_place place) wanted → (some : Option Mode) × (place ≡ Some some)

@@ -1,5 +1,5 @@
 -- The flock modes of a book, read off a loop over its places: for the report (`held`).
-use Rattle.std.proofs.Common.{ℕ, ◌≡◌, ◌<◌, ◌==◌, ◌∙◌, sym, ap, subst, Option, Some, None, List, All, map}
+use Rattle.std.proofs.Common.{rules, ℕ, ◌≡◌, ◌<◌, ◌==◌, ◌∙◌, sym, ap, subst, Option, Some, None, List, All, map}
 use Rattle.std.specs.Borrow.{Bor}
 use Rattle.std.specs.Iterator.{Yields}
 use Rattle.std.specs.Ordering.{nat_cmp}
@@ -14,7 +14,6 @@ use Rattle.lock_book.proofs.BookLemmas.{place_of-get, flock_modes_of-place}
 use Rattle.lock_book.proofs.LoopLemmas.{next_in_loop, earlier_in_loop, found_in_loop}
 use Rattle.lock_book.proofs.OwnerLemmas.{less_from_nat}
 use Rattle.std.proofs.lemmas.List.Elements.{All-weaker}
-use Rattle.std.specs.declared.cmp.Ordering.TheVariants.{Less}
 
 -- a place of a map of flock locks, as a loop over it gives it
 abbrev pub Place : Type 0
@@ -29,9 +28,7 @@ flock_mode_in_loop book places items s t u r x same start yields is step all =
 
 -- and a greater number than the places so far
 pub earlier_flocks : (places : BTreeMap ℕ (Option Mode)) (items : List Place) (s t u : List (ℕ × Option Mode)) (r : Option Place) (x : Place) → s ≡ places.entries → Yields (TakesFirst deref_pair) s items t → r ≡ Some x → TakesFirst deref_pair t r u → IsOrdered nat_cmp places → All (λ y. y.0.now < x.0.now) items
-earlier_flocks places items s t u r x start yields is step ordered =
-    All-weaker (λ y. nat_cmp y.0.now x.0.now ≡ Less) (λ y. y.0.now < x.0.now) (λ y less. less_from_nat y.0.now x.0.now less) items
-    (earlier_in_loop nat_cmp places.entries items s t u r x start yields is step ordered)
+earlier_flocks places items s t u r x start yields is step ordered = search (rules, All-weaker, less_from_nat, earlier_in_loop)
 
 -- a flock mode stands in a place
 place_in : (place : Option (Option Mode)) (mode : Mode) → mode_in_place place ≡ Some mode → place ≡ Some (Some mode)

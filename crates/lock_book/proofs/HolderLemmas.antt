@@ -1,5 +1,6 @@
 -- What the counts of locks by mode say of the places that they count.
-use Rattle.std.proofs.Common.{ℕ, ◌≡◌, ◌≢◌, ◌+◌, ◌^◌, ◌<◌, ◌≤◌, ◌↔◌, ◌∙◌, sym, ap, refl, subst, arith, true, false, cond, ◌==◌, Option, Some, None, [], ◌∷◌, All, Any, length, inl, inr}
+use Rattle.std.proofs.lemmas.Grind.{common_steps}
+use Rattle.std.proofs.Common.{ℕ, ◌≡◌, ◌≢◌, ◌+◌, ◌^◌, ◌<◌, ◌≤◌, ◌↔◌, ◌∙◌, sym, ap, refl, subst, arith, true, false, Option, Some, None, [], ◌∷◌, All, Any, length, inl, inr}
 use Rattle.std.specs.Prelude.{◌⊎◌, unwrap_or}
 use Rattle.std.specs.List.{AllByRecursion}
 use Rattle.std.specs.List.Sorted.{IsStrictlySortedBy}
@@ -28,11 +29,7 @@ use Rattle.lock_book.proofs.OwnerLemmas.{is_eq-nat_cmp, less_from_nat, lookup-na
 
 -- one lock at most stands in a place
 locks_in-le : (mode : Mode) (lock : Option Mode) → locks_in mode lock ≤ 1
-locks_in-le mode None = omega arith
-locks_in-le Read (Some Read) = omega arith
-locks_in-le Read (Some Write) = omega arith
-locks_in-le Write (Some Read) = omega arith
-locks_in-le Write (Some Write) = omega arith
+locks_in-le mode lock = grind (arith, common_steps)
 
 -- so there are no more locks of a mode than places
 pub locks_among-le : (mode : Mode) (places : Places) → locks_among mode places ≤ length places
@@ -51,45 +48,27 @@ locks_in_place mode None = refl
 locks_in_place mode (Some lock) = refl
 
 own_locks : (mode : Mode) (description : ℕ) (places : Places) → unwrap_or (option_map (locks_in mode) (lookup (is_at (nat_cmp description)) places)) 0 ≡ locks_in mode (flock_modes_among places description)
-own_locks mode description places =
-    ap (λ (place : Option (Option Mode)). unwrap_or (option_map (locks_in mode) place) 0) (lookup-nat_cmp description places)
-    ∙ locks_in_place mode (place_among places description)
+own_locks mode description places = grind (arith, common_steps, lookup-nat_cmp, locks_in_place)
 
 -- the locks are a description's own and the others
 pub count_apart : (mode : Mode) (description : ℕ) (places : Places) → locks_among mode (others description places) + locks_in mode (flock_modes_among places description) ≡ locks_among mode places
-count_apart mode description places =
-    let own = own_locks mode description places in
-    let all = sum_by-remove_entry (locks_in mode) (is_at (nat_cmp description)) places in
-    omega arith
+count_apart mode description places = grind (arith, common_steps, own_locks, sum_by-remove_entry)
 
 -- with what is put into its place in the place of what stood there
 pub count_put : (mode : Mode) (description : ℕ) (lock : Option Mode) (places : Places) → IsStrictlySortedBy nat_cmp (keys_of places) → locks_among mode (insert_entry nat_cmp places description lock) + locks_in mode (flock_modes_among places description) ≡ locks_among mode places + locks_in mode lock
-count_put mode description lock places sorted =
-    let own = own_locks mode description places in
-    let all = sum_by-insert_entry (locks_in mode) nat_cmp_total places description lock sorted in
-    omega arith
+count_put mode description lock places sorted = grind (arith, common_steps, own_locks, sum_by-insert_entry)
 
 -- of a count of all that may take off what stands there
 pub own_counted : (mode : Mode) (description : ℕ) (own : Option Mode) (places : Places) (all : ℕ) → own ≡ flock_modes_among places description → all ≡ locks_among mode places → locks_in mode own ≤ all
-own_counted mode description own places all is counted =
-    let same : locks_in mode own ≡ locks_in mode (flock_modes_among places description) = ap (locks_in mode) is in
-    let apart = count_apart mode description places in
-    omega arith
+own_counted mode description own places all is counted = grind (arith, common_steps, count_apart)
 
 -- what is left is the count of the others
 pub counted_others : (mode : Mode) (description : ℕ) (own : Option Mode) (places : Places) (all rest : ℕ) → own ≡ flock_modes_among places description → all ≡ locks_among mode places → rest + locks_in mode own ≡ all → rest ≡ locks_among mode (others description places)
-counted_others mode description own places all rest is counted left =
-    let same : locks_in mode own ≡ locks_in mode (flock_modes_among places description) = ap (locks_in mode) is in
-    let apart = count_apart mode description places in
-    omega arith
+counted_others mode description own places all rest is counted left = grind (arith, common_steps, count_apart)
 
 -- and with what is put there that of the new places
 pub counted_put : (mode : Mode) (description : ℕ) (own lock : Option Mode) (old new : Places) (all rest : ℕ) → IsStrictlySortedBy nat_cmp (keys_of old) → new ≡ insert_entry nat_cmp old description lock → own ≡ flock_modes_among old description → all ≡ locks_among mode old → rest + locks_in mode own ≡ all → rest + locks_in mode lock ≡ locks_among mode new
-counted_put mode description own lock old new all rest sorted put is counted left =
-    let same : locks_in mode own ≡ locks_in mode (flock_modes_among old description) = ap (locks_in mode) is in
-    let after : locks_among mode new ≡ locks_among mode (insert_entry nat_cmp old description lock) = ap (locks_among mode) put in
-    let sum = count_put mode description lock old sorted in
-    omega arith
+counted_put mode description own lock old new all rest sorted put is counted left = grind (arith, common_steps, count_put)
 
 -- which is at most their number
 pub counted_fits : (mode : Mode) (count : ℕ) (places : Places) (number : ℕ) → count ≡ locks_among mode places → number ≡ length places → number < 2 ^ 63 → count < 2 ^ 64
@@ -101,18 +80,11 @@ own_lock description places place lock looked is = is ∙ ap mode_in_place (look
 
 -- an update of a map puts a place
 pub PutsAmong-updates : (old new : BTreeMap ℕ (Option Mode)) (description : ℕ) (place : Option (Option Mode)) → UpdatesBy nat_cmp (nat_cmp description) old new place → PutsAmong old.entries new.entries description place
-PutsAmong-updates old new description place updates other =
-    sym (lookup-nat_cmp other new.entries) ∙ updates.0 other
-    ∙ ap (λ b. cond b place (lookup (is_at (nat_cmp other)) old.entries)) (is_eq-nat_cmp description other)
-    ∙ ap (λ o. cond (description == other) place o) (lookup-nat_cmp other old.entries)
+PutsAmong-updates old new description place updates other = grind (arith, common_steps, lookup-nat_cmp, is_eq-nat_cmp)
 
 -- a lock that is counted stands in some place
 is_or_none : (mode : Mode) (lock : Option Mode) → (lock ≡ Some mode) ⊎ (locks_in mode lock ≡ 0)
-is_or_none mode None = inr refl
-is_or_none Read (Some Read) = inl refl
-is_or_none Read (Some Write) = inr refl
-is_or_none Write (Some Read) = inr refl
-is_or_none Write (Some Write) = inl refl
+is_or_none mode lock = grind (arith, common_steps)
 
 some_lock : (mode : Mode) (places : Places) → 0 < locks_among mode places → Any (λ e. e.1 ≡ Some mode) places
 some_lock mode [] some = absurd (let none : 0 < 0 = some in omega arith)
@@ -191,9 +163,7 @@ conflicting_mode (Some mode) wanted conflicts = (mode, refl)
 
 -- descriptions with two numbers are two owners
 other_flock : (one other : ℕ) → one ≢ other → Description one ≢ Description other
-other_flock one other different same = different (same_description same) where
-  same_description : Description one ≡ Description other → one ≡ other
-  same_description e = cc
+other_flock one other different same = grind (arith, common_steps)
 
 -- where some of the counted locks conflicts some mode does that is counted
 module _ (count : LockCount) (places : Places) (shared : count.shared ≡ locks_among Read places) (exclusive : count.exclusive ≡ locks_among Write places) where
@@ -232,9 +202,7 @@ conflict_counted count description wanted places sorted shared exclusive = (
 
 -- a description has one lock at most
 one_own : (own : Option Mode) → locks_in Read own + locks_in Write own ≤ 1
-one_own None = omega arith
-one_own (Some Read) = omega arith
-one_own (Some Write) = omega arith
+one_own own = grind (arith, common_steps)
 
 -- of the counted locks of all, one at most isn't another description's
 pub conflict_near : (count : LockCount) (description : ℕ) (wanted : Mode) (places : Places) → IsStrictlySortedBy nat_cmp (keys_of places)

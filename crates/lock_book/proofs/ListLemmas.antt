@@ -1,5 +1,6 @@
 -- Some and all elements of lists that are put together.
-use Rattle.std.proofs.Common.{◌≡◌, ◌+◌, ◌-◌, ◌∙◌, ap, subst, arith, append_assoc, List, [], ◌∷◌, ◌++◌, All, Any, length, inl, inr}
+use Rattle.std.proofs.lemmas.Grind.{common_steps}
+use Rattle.std.proofs.Common.{◌≡◌, ◌+◌, ◌∙◌, ap, subst, arith, append_assoc, List, [], ◌∷◌, ◌++◌, All, Any, length}
 use Rattle.std.specs.List.{AllPairs}
 use Rattle.std.proofs.lemmas.Bool.{cases_lt}
 use Rattle.std.proofs.lemmas.List.{get_or_append_left, get_or-append-add, length-append}
@@ -15,9 +16,6 @@ pub Any-append_right : {X : Type 0} (P : X → Type 0) (xs ys : List X) → Any 
 Any-append_right P xs ys (k, x, within, is, holds) =
     (length xs + k, x, (let more = length-append xs ys in omega arith), get_or-append-add xs ys k x ∙ is, holds)
 
-pub Any-weaker : {X : Type 0} (P Q : X → Type 0) → ((x : X) → P x → Q x) → (xs : List X) → Any P xs → Any Q xs
-Any-weaker P Q weaker xs (k, x, within, is, holds) = (k, x, within, is, weaker x holds)
-
 -- what holds of each element holds of one that something else holds of
 pub All-at_Any : {X : Type 0} (P Q : X → Type 0) (xs : List X) → All P xs → Any Q xs → (x : X) × P x × Q x
 All-at_Any P Q xs all (k, x, within, is, holds) = (x, subst P is (all k x within), holds)
@@ -25,20 +23,7 @@ All-at_Any P Q xs all (k, x, within, is, holds) = (x, subst P is (all k x within
 -- two lists in order, each element of the one before each of the other
 pub AllPairs-append : {X : Type 0} (R : X → X → Type 0) (xs ys : List X) → AllPairs R xs → AllPairs R ys → All (λ x. All (λ y. R x y) ys) xs → AllPairs R (xs ++ ys)
 AllPairs-append R xs ys first second across i j d before within =
-    elim (cases_lt j (length xs)) [
-      | inl j_first ↦
-          rw (get_or_append_left xs ys d i (omega arith), get_or_append_left xs ys d j j_first) (first i j d before j_first)
-      | inr j_second ↦
-          let sum = length-append xs ys in
-          elim (cases_lt i (length xs)) [
-            | inl i_first ↦
-                rw (get_or_append_left xs ys d i i_first, get_or-append_right xs ys j d j_second)
-                (across i d i_first (j - length xs) d (omega arith))
-            | inr i_second ↦
-                rw (get_or-append_right xs ys i d i_second, get_or-append_right xs ys j d j_second)
-                (second (i - length xs) (j - length xs) d (omega arith) (omega arith))
-          ]
-    ]
+    grind (arith, common_steps, cases_lt, get_or_append_left, length-append, get_or-append_right)
 
 -- a push that succeeded, onto a list with some more behind the old one
 pub pushed : {X : Type 0} (old now new more : List X) (x : X) → new ≡ now ++ x ∷ [] → now ≡ old ++ more → new ≡ old ++ (more ++ x ∷ [])

@@ -1,4 +1,5 @@
 -- The report is determined by the locks.
+use Rattle.std.proofs.lemmas.Grind.{common_steps}
 use Rattle.std.proofs.Common.{ℕ, ◌≡◌, ◌≤◌, ◌∙◌, sym, ap, refl, subst, arith, zero, suc, Bool, List, [], ◌∷◌, ◌++◌, All, inl, inr}
 use Rattle.std.specs.List.{AllPairs, Contains}
 use Rattle.std.specs.Prelude.{◌⊎◌, ◌+◌}
@@ -10,7 +11,7 @@ use Rattle.lock_book.specs.declared.Owner.{Owner}
 use Rattle.lock_book.specs.declared.Held.{Held}
 use Rattle.lock_book.specs.Owners.{IsBefore}
 use Rattle.lock_book.specs.Conflicts.{ByteModes, FlockModes}
-use Rattle.lock_book.specs.Reports.{AreByteLocks, AreFlockLocks, IsFlockLine, AreFileReports, IsHeldReport}
+use Rattle.lock_book.specs.Reports.{AreByteLocks, AreFlockLocks, AreFileReports, IsHeldReport}
 use Rattle.lock_book.specs.OneReport.{LocksHaveOneFileReport, LocksHaveOneReport}
 use Rattle.lock_book.proofs.OwnerLemmas.{IsBefore-asymmetric, IsBefore-same}
 use Rattle.lock_book.proofs.HeldLemmas.{ComesBefore, IsRunLine}
@@ -19,13 +20,7 @@ contains_none : {X : Type 0} (x : X) → Contains [] x → ⊥
 contains_none x (k, within, is) = omega arith
 
 contains_cons : {X : Type 0} (y : X) (ys : List X) (x : X) → Contains (y ∷ ys) x → (y ≡ x) ⊎ Contains ys x
-contains_cons y ys x there = elim (Contains-append_cases (y ∷ []) ys x there) [
-  | inl first ↦ elim (Contains-push_cases [] y x first) [
-    | inl none ↦ absurd (contains_none x none)
-    | inr same ↦ inl same
-  ]
-  | inr later ↦ inr later
-]
+contains_cons y ys x there = grind (arith, common_steps, Contains-append_cases, Contains-push_cases, contains_none)
 
 contains_head : {X : Type 0} (y : X) (ys : List X) → Contains (y ∷ ys) y
 contains_head y ys = Contains-get_or (y ∷ ys) 0 y (omega arith)
@@ -76,19 +71,10 @@ same_line x z file whole owner mode span =
 
 -- two runs of one mode that share a first byte are one
 same_run : (modes : Modes) (mode : Mode) (one other : Span) → Covers other one.first → IsRun modes one.first mode one → IsRun modes other.first mode other → other ≡ one
-same_run modes mode one other shared one_run other_run =
-    let inner = one_run.largest other shared other_run.constant in
-    let within = one_run.covered in
-    let back = other_run.largest one (omega arith, omega arith) one_run.constant in
-    let first : other.first ≡ one.first = omega arith in
-    let last : other.last ≡ one.last = omega arith in
-    ap (λ (n : ℕ). record { first = n; last = other.last }) first ∙ ap (λ (n : ℕ). record { first = one.first; last = n }) last
+same_run modes mode one other shared one_run other_run = grind (arith, common_steps)
 
 same_byte_line : (file : ℕ) (modes : ByteModes) (x z : Held) → IsRunLine file modes x → IsRunLine file modes z → z.owner ≡ x.owner → z.mode ≡ x.mode → Covers z.span x.span.first → z ≡ x
-same_byte_line file modes x z x_line z_line owner mode shared =
-    let run : IsRun (modes x.owner) z.span.first x.mode z.span =
-    subst (λ (m : Mode). IsRun (modes x.owner) z.span.first m z.span) mode (subst (λ (o : Owner). IsRun (modes o) z.span.first z.mode z.span) owner z_line.2) in
-    same_line x z (z_line.0 ∙ sym x_line.0) (z_line.1 ∙ sym x_line.1) owner mode (same_run (modes x.owner) x.mode x.span z.span shared x_line.2 run)
+same_byte_line file modes x z x_line z_line owner mode shared = grind (arith, common_steps, same_line, same_run)
 
 -- each byte lock of one report is one of the other
 byte_lock_in : (file : ℕ) (modes : ByteModes) (xs ys : List Held) → AreByteLocks file modes xs → AreByteLocks file modes ys → (x : Held) → Contains xs x → Contains ys x
@@ -104,25 +90,11 @@ InOrder x y = ComesBefore x y × (x.span.first ≤ x.span.last) × (y.span.first
 
 in_order_once : (x y : Held) → InOrder x y → InOrder y x → ⊥
 unfolding InOrder
-in_order_once x y one other = elim one.0 [
-  | inl before ↦ elim other.0 [
-    | inl after ↦ IsBefore-asymmetric x.owner y.owner before after
-    | inr same ↦
-        (let itself = IsBefore-same x.owner y.owner x.owner x.owner refl (sym same.0) before in IsBefore-asymmetric x.owner x.owner itself itself)
-  ]
-  | inr same ↦ elim other.0 [
-    | inl after ↦
-        (let itself = IsBefore-same y.owner x.owner x.owner x.owner (sym same.0) refl after in IsBefore-asymmetric x.owner x.owner itself itself)
-    | inr lower ↦ (let a = same.1 in let b = lower.1 in let c = one.1 in let d = one.2 in omega arith)
-  ]
-]
+in_order_once x y one other = grind (arith, common_steps, IsBefore-asymmetric, IsBefore-same)
 
 in_order : (file : ℕ) (modes : ByteModes) (xs : List Held) → AreByteLocks file modes xs → AllPairs InOrder xs
 unfolding InOrder
-in_order file modes xs are i j d before within =
-    let one = (are.each i d (omega arith)).2.covered in
-    let other = (are.each j d within).2.covered in
-    (are.in_order i j d before within, omega arith, omega arith)
+in_order file modes xs are i j d before within = grind (arith, common_steps)
 
 -- so the byte locks are determined
 AreByteLocks-unique : (file : ℕ) (modes : ByteModes) (xs ys : List Held) → AreByteLocks file modes xs → AreByteLocks file modes ys → xs ≡ ys
@@ -132,13 +104,7 @@ AreByteLocks-unique file modes xs ys first second =
 
 -- each flock lock of one report is one of the other
 flock_lock_in : (file : ℕ) (modes : FlockModes) (xs ys : List Held) → AreFlockLocks file modes xs → AreFlockLocks file modes ys → (x : Held) → Contains xs x → Contains ys x
-flock_lock_in file modes xs ys first second x there =
-    let line = All-contains (IsFlockLine file modes) xs x first.each there in
-    let shown = second.every line.description x.mode line.mode in
-    let other = All-contains (IsFlockLine file modes) ys shown.1 second.each (shown.0, shown.2, shown.3) in
-    let same : shown.1 ≡ x = same_line x shown.1 (other.same_file ∙ sym line.same_file) (other.whole ∙ sym line.whole)
-    (shown.4.0 ∙ sym line.owner) shown.4.1 (other.span ∙ sym line.span) in
-    subst (Contains ys) same (shown.0, shown.2, shown.3)
+flock_lock_in file modes xs ys first second x there = grind (arith, common_steps, All-contains, same_line)
 
 AreFlockLocks-unique : (file : ℕ) (modes : FlockModes) (xs ys : List Held) → AreFlockLocks file modes xs → AreFlockLocks file modes ys → xs ≡ ys
 AreFlockLocks-unique file modes xs ys first second =

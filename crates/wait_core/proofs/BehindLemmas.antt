@@ -1,5 +1,6 @@
 -- Waits that stand behind no other one.
-use Rattle.std.proofs.Common.{ℕ, ◌≡◌, ◌≢◌, ◌<◌, ◌≤◌, ◌↔◌, ◌∙◌, sym, subst, refl, arith, Bool, true, false, List, [], ◌∷◌, ◌++◌, All, Any, length, get_or, take}
+use Rattle.std.proofs.lemmas.Grind.{common_steps}
+use Rattle.std.proofs.Common.{ℕ, ◌≡◌, ◌≢◌, ◌<◌, ◌≤◌, ◌↔◌, ◌∙◌, sym, subst, arith, Bool, List, [], ◌∷◌, ◌++◌, All, Any, length, get_or, take}
 use Rattle.std.specs.Prelude.{◌==◌, if◌then◌else◌, IsTrue, IsFalse}
 use Rattle.std.specs.List.{AllPairs}
 use Rattle.std.proofs.lemmas.Bool.{eq-eqb}
@@ -20,20 +21,8 @@ pub behind_joined : (old new : ProcessSet) (processes : ℕ) (waits : List Wait)
     → All (IsWellFormed processes) waits
     → wait.p ≤ processes → All (λ w. w.p ≢ wait.p) waits → ((q : ℕ) → q ≤ 64 → is_member new q ≡ (if q == wait.p then is_in else is_member old q))
     → policy ≡ Queue → IsTrue is_in ↔ IsQueued policy waits wait → AllPairs (IsBehindNone old) waits → AllPairs (IsBehindNone new) (waits ++ wait ∷ [])
-behind_joined old new processes waits wait is_in policy few well_formed process none members queue queued before = all_pairs_push (IsBehindNone new) waits wait
-    (λ i j d earlier within out conflict.
-    let w = get_or waits j d in
-    let known : w.p ≤ 64 = (let good = (well_formed j d within).process in omega (arith, good, few)) in
-    let other : (w.p == wait.p) ≡ false = (let differs = none j d within in grind (arith, nat_tests)) in
-    let was : is_member new w.p ≡ is_member old w.p = members w.p known ∙ rw other refl in
-    before i j d earlier within (sym was ∙ out) conflict)
-    (λ k d within out conflict.
-    let known : wait.p ≤ 64 = omega (arith, process, few) in
-    let itself : (wait.p == wait.p) ≡ true = eq-eqb wait.p wait.p refl in
-    let is : is_member new wait.p ≡ is_in = members wait.p known ∙ rw itself refl in
-    let some : Any (λ v. WaitsConflict v wait) waits = (k, get_or waits k d, within, get_or_default waits k (get_or waits k d) d within, conflict) in
-    let yes : is_in ≡ true = (subst (λ (p : Policy). IsTrue is_in ↔ IsQueued p waits wait) queue queued).1 some in
-    absurd (let no : true ≡ false = sym yes ∙ sym is ∙ out in cc))
+behind_joined old new processes waits wait is_in policy few well_formed process none members queue queued before =
+    grind (arith, common_steps, all_pairs_push, nat_tests, eq-eqb, get_or_default)
 
 -- a wait whose process isn't in the set conflicts with none before it
 pub behind_none_at : (set : ProcessSet) (waits : List Wait) (i : ℕ) (wait : Wait) → AllPairs (IsBehindNone set) waits → i < length waits

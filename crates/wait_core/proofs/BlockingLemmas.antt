@@ -1,5 +1,6 @@
 -- Sets of processes that block a wait: what one process more, or one wait more, makes of them.
-use Rattle.std.proofs.Common.{ℕ, ◌≡◌, ◌≢◌, ◌+◌, ◌<◌, ◌≤◌, ◌↔◌, ◌∙◌, inl, inr, sym, subst, refl, arith, Bool, false, List, [], ◌∷◌, Any, length, get_or, take}
+use Rattle.std.proofs.lemmas.Grind.{common_steps}
+use Rattle.std.proofs.Common.{ℕ, ◌≡◌, ◌≢◌, ◌+◌, ◌<◌, ◌≤◌, ◌↔◌, ◌∙◌, inl, inr, sym, refl, arith, Bool, false, List, [], ◌∷◌, Any, length, get_or, take}
 use Rattle.std.specs.Prelude.{IsTrue, IsFalse, ◌==◌, ◌||◌}
 use Rattle.std.proofs.lemmas.Bool.{cases_eq, eqb-true, eq-eqb, or_left}
 use Rattle.std.proofs.lemmas.Bool.Decides.{nat_tests}
@@ -23,10 +24,7 @@ inserted_other old new p members q other = let no : (q == p) ≡ false = grind (
 -- one process more is told
 pub told_more : (P : ℕ → Type 0) (old new : ProcessSet) (i : ℕ) → ((q : ℕ) → q ≢ i → is_member new q ≡ is_member old q) → IsTrue (is_member new i) ↔ P i
     → ((q : ℕ) → 1 ≤ q → q < i → IsTrue (is_member old q) ↔ P q) → (q : ℕ) → 1 ≤ q → q < i + 1 → IsTrue (is_member new q) ↔ P q
-told_more P old new i others here before q one few = elim (cases_eq q i) [
-  | inl same ↦ subst (λ (n : ℕ). IsTrue (is_member new n) ↔ P n) (sym same) here
-  | inr other ↦ subst (λ (b : Bool). IsTrue b ↔ P q) (sym (others q other)) (before q one (omega arith))
-]
+told_more P old new i others here before q one few = grind (arith, common_steps, cases_eq)
 
 -- and those after it aren't in the set yet
 pub missing_more : (old new : ProcessSet) (i : ℕ) → ((q : ℕ) → q ≢ i → is_member new q ≡ is_member old q) → ((q : ℕ) → i ≤ q → IsFalse (is_member old q)) → (q : ℕ) → i + 1 ≤ q → IsFalse (is_member new q)

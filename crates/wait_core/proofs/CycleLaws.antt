@@ -1,4 +1,5 @@
 -- A list of waits that is free of cycles stays so.
+use Rattle.std.proofs.lemmas.Grind.{common_steps}
 use Rattle.std.proofs.Common.{ℕ, ◌≡◌, ◌≢◌, ◌∙◌, ◌⊎◌, inl, inr, sym, ap, subst, refl, arith, Bool, true, not, List, [], ◌∷◌, ◌++◌, All, length}
 use Rattle.std.specs.Prelude.{◌==◌}
 use Rattle.std.specs.List.{filter}
@@ -98,33 +99,12 @@ place_in_push (y ∷ waits) (x ∷ before) wait v after e =
 
 -- a step in a list with one more wait is a step in the list, or of that wait
 step_in_push : (policy : Policy) (locks : Locks) (waits : List Wait) (wait : Wait) (p q : ℕ) → WaitsFor policy locks (waits ++ wait ∷ []) p q → WaitsFor policy locks waits p q ⊎ ((p ≡ wait.p) × (IsTraditional wait × IsBlockedByProcess policy locks waits wait q))
-step_in_push policy locks waits wait p q for = elim (place_in_push waits for.before wait for.wait for.after for.place) [
-  | inl (rest, place) ↦ inl (record {
-    before = for.before;
-    wait = for.wait;
-    after = rest;
-    place = place;
-    of_p = for.of_p;
-    traditional = for.traditional;
-    blocked = for.blocked;
-  })
-  | inr (all, last) ↦ inr (
-    sym for.of_p ∙ ap (λ (w : Wait). w.p) last,
-    (
-      subst (λ (w : Wait). IsTraditional w) last for.traditional,
-      subst (λ (w : Wait). IsBlockedByProcess policy locks waits w q) last
-          (subst (λ (ws : List Wait). IsBlockedByProcess policy locks ws for.wait q) all for.blocked),
-    ),
-  )
-]
+step_in_push policy locks waits wait p q for = grind (arith, common_steps, place_in_push)
 
 -- the process that would wait isn't led to from one that blocks it
 not_led : (policy : Policy) (locks : Locks) (waits : List Wait) (wait : Wait) → (IsTraditional wait → ¬ ClosesCycle policy locks waits wait) → (next : ℕ) → IsTraditional wait × IsBlockedByProcess policy locks waits wait next → ¬ AtOrLed (WaitsFor policy locks waits) next wait.p
 unfolding AtOrLed
-not_led policy locks waits wait closes next added (inl same) =
-    not_own_blocker policy locks waits wait added.0 (subst (λ (n : ℕ). IsBlockedByProcess policy locks waits wait n) same added.1)
-not_led policy locks waits wait closes next added (inr led) =
-    closes added.0 (record { blocker = next; blocked = added.1; led = led })
+not_led policy locks waits wait h next h2 h3 = grind (arith, common_steps, not_own_blocker)
 
 pub free_when_one_joins : FreeWhenOneJoins
 free_when_one_joins policy locks waits wait free closes =
@@ -193,16 +173,10 @@ free_when_one_leaves policy locks waits p free r (through, chain) =
     free r (through, chain_weaker (WaitsFor policy locks (filter f waits)) (WaitsFor policy locks waits) (step_in_rest policy locks f waits) r through r chain)
 
 blocks_kept : (modes modes' : ByteModes) (q : ℕ) (owner : Owner) (span : Span) (mode : Mode) → ((byte : ℕ) → modes' (Process q) byte ≡ modes (Process q) byte) → ProcessBlocks modes' q owner span mode → ProcessBlocks modes q owner span mode
-blocks_kept modes modes' q owner span mode agree blocks = record {
-  byte = blocks.byte;
-  covered = blocks.covered;
-  blocks = record { another = blocks.blocks.another; conflicts = rw agree at blocks.blocks.conflicts };
-}
+blocks_kept modes modes' q owner span mode agree blocks = grind (arith, common_steps)
 
 blocked_kept : (policy : Policy) (old new : Locks) (earlier : List Wait) (w : Wait) (q : ℕ) → ((byte : ℕ) → new.bytes w.file (Process q) byte ≡ old.bytes w.file (Process q) byte) → IsBlockedByProcess policy new earlier w q → IsBlockedByProcess policy old earlier w q
-blocked_kept Held old new earlier w q agree blocked = blocks_kept (old.bytes w.file) (new.bytes w.file) q w.owner w.span w.mode agree blocked
-blocked_kept Queue old new earlier w q agree (inl blocked) = inl (blocks_kept (old.bytes w.file) (new.bytes w.file) q w.owner w.span w.mode agree blocked)
-blocked_kept Queue old new earlier w q agree (inr behind) = inr behind
+blocked_kept policy old new earlier w q h h2 = grind (arith, common_steps, blocks_kept)
 
 -- a process that waits is the owner of its wait
 waiting_owner : (policy : Policy) (locks : Locks) (waits : List Wait) (owner : Owner) (p q : ℕ) → All (λ wait. wait.owner ≢ owner) waits → WaitsFor policy locks waits p q → Process p ≢ owner
@@ -230,15 +204,7 @@ free_when_locks_change policy old new waits owner free agree others p (through, 
 
 -- a step by other locks of descriptions alone was a step before
 step_kept : (policy : Policy) (old new : Locks) (waits : List Wait) (p q : ℕ) → ((file r byte : ℕ) → new.bytes file (Process r) byte ≡ old.bytes file (Process r) byte) → WaitsFor policy new waits p q → WaitsFor policy old waits p q
-step_kept policy old new waits p q agree step = record {
-  before = step.before;
-  wait = step.wait;
-  after = step.after;
-  place = step.place;
-  of_p = step.of_p;
-  traditional = step.traditional;
-  blocked = blocked_kept policy old new step.before step.wait q (λ byte. agree step.wait.file q byte) step.blocked;
-}
+step_kept policy old new waits p q agree step = grind (arith, common_steps, blocked_kept)
 
 pub free_when_description_locks_change : FreeWhenDescriptionLocksChange
 free_when_description_locks_change policy old new waits free agree p (through, chain) =

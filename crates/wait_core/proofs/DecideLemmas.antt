@@ -1,15 +1,14 @@
 -- Who waits for whom by a lock can be decided, and which waits are blocked. So what is told of it is known, where it is only known that
 -- it is told.
-use Rattle.std.proofs.Common.{ℕ, ◌≡◌, ◌≢◌, ◌⊎◌, inl, inr, ap, refl, arith, List, [], ◌∷◌, ◌++◌, Any, Option, Some, None}
+use Rattle.std.proofs.lemmas.Grind.{common_steps}
+use Rattle.std.proofs.Common.{ℕ, ◌≡◌, ◌≢◌, ◌⊎◌, inl, inr, arith, List, [], ◌∷◌, ◌++◌, Any, Option, Some, None}
 use Rattle.std.specs.Prelude.{slice_get}
 use Rattle.std.proofs.Math.Logic.{∥∥₁_elim, ∥∥₁_map}
 use Rattle.std.proofs.lemmas.Bool.{cases_eq, cases_lt, cases_Bool}
 use Rattle.range_core.specs.declared.Mode.{Mode}
-use Rattle.range_core.specs.declared.Mode.TheVariants.{Read, Write}
 use Rattle.range_core.specs.declared.Span.{Span}
 use Rattle.range_core.specs.Ranges.{Conflict}
 use Rattle.lock_book.specs.declared.Owner.{Owner}
-use Rattle.lock_book.specs.declared.Owner.TheVariants.{Process, Description}
 use Rattle.lock_book.specs.declared.book.Book.{Book}
 use Rattle.lock_book.specs.Conflicts.{ByteConflict, FlockConflict}
 use Rattle.lock_book.specs.Decided.{ByteConflictIsDecided, FlockConflictIsDecided, ProcessBlocksIsDecided}
@@ -30,17 +29,11 @@ use Rattle.wait_core.proofs.PairLemmas.{blocked_wait, waits_by_lock}
 
 -- two owners are one, or not
 pub same_or_other : (one other : Owner) → (one ≡ other) ⊎ (one ≢ other)
-same_or_other (Process p) (Process q) = elim (cases_eq p q) [ inl same ↦ inl (ap (λ (n : ℕ). Process n) same) | inr differs ↦ inr (λ e. differs cc) ]
-same_or_other (Process p) (Description e) = inr (λ same. cc)
-same_or_other (Description d) (Process q) = inr (λ same. cc)
-same_or_other (Description d) (Description e) = elim (cases_eq d e) [ inl same ↦ inl (ap (λ (n : ℕ). Description n) same) | inr differs ↦ inr (λ f. differs cc) ]
+same_or_other one other = grind (arith, common_steps, cases_eq)
 
 -- two modes conflict, or not
 conflict_or_not : (held wanted : Mode) → Conflict held wanted ⊎ ¬ Conflict held wanted
-conflict_or_not Read Read = inr (λ conflict. conflict)
-conflict_or_not Read Write = inl tt
-conflict_or_not Write Read = inl tt
-conflict_or_not Write Write = inl tt
+conflict_or_not held wanted = grind (arith, common_steps)
 
 -- whether something holds of some wait
 pub any_or_not : (P : Wait → Type 0) → ((wait : Wait) → P wait ⊎ ¬ P wait) → (waits : List Wait) → Any P waits ⊎ ¬ Any P waits
@@ -54,16 +47,7 @@ any_or_not P each (wait ∷ waits) = elim (each wait) [
 ]
 
 blocked_wait_or_not : ProcessBlocksIsDecided → (locks : Locks) (p q : ℕ) (wait : Wait) → IsBlockedWait locks p q wait ⊎ ¬ IsBlockedWait locks p q wait
-blocked_wait_or_not processes locks p q wait = elim (cases_eq wait.p p) [
-  | inr differs ↦ inr (λ is. differs is.of_p)
-  | inl of_p ↦ elim (same_or_other wait.owner (Process wait.p)) [
-    | inr differs ↦ inr (λ is. differs is.traditional)
-    | inl own ↦ elim (processes (locks.bytes wait.file) q wait.owner wait.span wait.mode) [
-      | inl blocked ↦ inl (record { of_p = of_p; traditional = own; blocked = blocked })
-      | inr none ↦ inr (λ is. none is.blocked)
-    ]
-  ]
-]
+blocked_wait_or_not processes locks p q wait = grind (arith, common_steps, cases_eq, same_or_other)
 
 -- whether a process waits for another by a lock
 pub waits_or_not : ProcessBlocksIsDecided → (locks : Locks) (waits : List Wait) (p q : ℕ) → WaitsFor Held locks waits p q ⊎ ¬ WaitsFor Held locks waits p q
@@ -108,20 +92,10 @@ blocked_in_or_not bytes flocks books Whole wait = flocks_or_not flocks (slice_ge
 
 -- whether two ranges meet
 meet_or_not : (family : Family) (one other : Span) → Meet family one other ⊎ ¬ Meet family one other
-meet_or_not Whole one other = inl tt
-meet_or_not Bytes one other = elim (cases_lt other.last one.first) [
-  | inl past ↦ inr (λ meet. (let h = meet.0 in omega arith))
-  | inr begins ↦ elim (cases_lt one.last other.first) [
-    | inl before ↦ inr (λ meet. (let h = meet.1 in omega arith))
-    | inr ends ↦ inl (begins, ends)
-  ]
-]
+meet_or_not family one other = grind (arith, common_steps, cases_lt)
 
 same_family_or_not : (one other : Family) → (one ≡ other) ⊎ (one ≢ other)
-same_family_or_not Bytes Bytes = inl refl
-same_family_or_not Bytes Whole = inr (λ e. cc)
-same_family_or_not Whole Bytes = inr (λ e. cc)
-same_family_or_not Whole Whole = inl refl
+same_family_or_not one other = grind (arith, common_steps)
 
 -- whether two waits conflict
 pub waits_conflict_or_not : (v w : Wait) → WaitsConflict v w ⊎ ¬ WaitsConflict v w

@@ -1,4 +1,5 @@
 -- The list of waits: its room, what it finds, and which of it are blocked.
+use Rattle.std.proofs.lemmas.Grind.{common_steps}
 use Rattle.std.proofs.Common.{ℕ, ◌≡◌, ◌≢◌, ◌+◌, ◌<◌, ◌≤◌, ◌∙◌, inl, inr, sym, ap, subst, refl, arith, append_assoc, append-nil, true, false, Some, None, List, [], ◌∷◌, ◌++◌, All, length, get_or, map, zero, suc, take, drop}
 use Rattle.std.specs.Prelude.{◌==◌, slice_get}
 use Rattle.std.specs.List.{AllPairs}
@@ -28,10 +29,6 @@ none_of (w ∷ waits) p none = elim (cases_eq w.p p) [
       let passed : (w.p == p) ≡ false = grind (arith, nat_tests) in
       All-cons (λ v. v.p ≢ p) w waits other (none_of waits p (rw passed at none))
 ]
-
--- the numbers of the processes that wait
-numbers_of : List Wait → List ℕ
-numbers_of waits = map (λ wait. wait.p) waits
 
 length-numbers_of : (waits : List Wait) → length (map (λ (wait : Wait). wait.p) waits) ≡ length waits
 length-numbers_of [] = refl
@@ -84,11 +81,7 @@ AllBlocked-push policy locks earlier (v ∷ waits) wait all blocked = (
 
 -- one more wait that is blocked, in the list as far as it was looked at
 pub blocked_so_far : (policy : Policy) (locks : Locks) (waits : List Wait) (i : ℕ) → i < length waits → AllBlocked policy locks [] (take i waits) → ((wait : Wait) → slice_get waits i ≡ Some wait → IsBlocked policy locks (take i waits) wait) → AllBlocked policy locks [] (take (i + 1) waits)
-blocked_so_far policy locks waits i within all blocked = elim (slice_get_cases waits i).1 [
-  | inl (wait, inside, some, is) ↦
-      rw (take_more waits i wait within, is) (AllBlocked-push policy locks [] (take i waits) wait all (blocked wait some))
-  | inr (past, none) ↦ absurd (omega arith)
-]
+blocked_so_far policy locks waits i within all blocked = grind (arith, common_steps, slice_get_cases, take_more, AllBlocked-push)
 
 -- the first wait that isn't blocked
 pub first_ready : (policy : Policy) (locks : Locks) (waits : List Wait) (i : ℕ) (wait : Wait) → i < length waits → wait ≡ get_or waits i wait → AllBlocked policy locks [] (take i waits) → ((w : Wait) → slice_get waits i ≡ Some w → ¬ IsBlocked policy locks (take i waits) w) → IsNextReady policy locks waits wait

@@ -1,5 +1,6 @@
 -- What the table of pairs tells, and what a change of the list or of the locks leaves of it.
-use Rattle.std.proofs.Common.{ℕ, ◌≡◌, ◌≢◌, ◌+◌, ◌<◌, ◌≤◌, ◌↔◌, ◌∙◌, ◌⊎◌, inl, inr, sym, ap, subst, arith, Bool, refl, true, false, not, suc, List, [], ◌∷◌, ◌++◌, All, Any, length, get_or, set, get_or-set_same, get_or-set_other, replicate, take, drop}
+use Rattle.std.proofs.Common.{rules, ℕ, ◌≡◌, ◌≢◌, ◌+◌, ◌<◌, ◌≤◌, ◌↔◌, ◌∙◌, ◌⊎◌, inl, inr, sym, ap, subst, arith, Bool, true, false, not, suc, List, [], ◌∷◌, ◌++◌, All, Any, length, get_or, set, get_or-set_same, get_or-set_other, replicate, take, drop}
+use Rattle.std.proofs.lemmas.Grind.{common_steps}
 use Rattle.std.specs.Prelude.{IsTrue, ◌==◌, if◌then◌else◌}
 use Rattle.std.specs.List.{AllPairs}
 use Rattle.std.proofs.lemmas.Bool.{cases_eq, cases_lt}
@@ -11,7 +12,7 @@ use Rattle.range_core.specs.declared.Mode.{Mode}
 use Rattle.range_core.specs.declared.Span.{Span}
 use Rattle.range_core.specs.Ranges.{Covers, IsByteRange}
 use Rattle.lock_book.specs.declared.Owner.{Owner}
-use Rattle.lock_book.specs.declared.Owner.TheVariants.{Process, Description}
+use Rattle.lock_book.specs.declared.Owner.TheVariants.{Process}
 use Rattle.lock_book.specs.Conflicts.{ByteModes, ProcessBlocks}
 use Rattle.wait_core.specs.declared.Policy.TheVariants.{Held}
 use Rattle.wait_core.specs.declared.Wait.{Wait}
@@ -30,13 +31,7 @@ use Rattle.wait_core.proofs.ProcessLemmas.{none_in}
 
 -- p waits for q by a lock where the list has a wait of p that a lock of q blocks
 pub blocked_wait : (locks : Locks) (waits : List Wait) (p q : ℕ) → WaitsFor Held locks waits p q → Any (IsBlockedWait locks p q) waits
-blocked_wait locks waits p q for = (
-  length for.before,
-  for.wait,
-  split_within waits for.before for.wait for.after for.place,
-  split_is waits for.before for.wait for.after for.place,
-  record { of_p = for.of_p; traditional = for.traditional; blocked = for.blocked },
-)
+blocked_wait locks waits p q for = search (rules, split_within, split_is)
 
 pub waits_by_lock : (locks : Locks) (waits : List Wait) (p q : ℕ) → Any (IsBlockedWait locks p q) waits → WaitsFor Held locks waits p q
 waits_by_lock locks waits p q (k, wait, within, is, holds) = record {
@@ -51,19 +46,11 @@ waits_by_lock locks waits p q (k, wait, within, is, holds) = record {
 
 -- a table that tells the pairs of the list and these locks
 pub told : (waits : Waits) (locks : Locks) → ((p q : ℕ) → p ≤ 64 → 1 ≤ q → q ≤ 64 → IsTrue (has_pair waits p q) ↔ Any (IsBlockedWait locks p q) (waits_of waits)) → AreTold waits locks
-told waits locks pairs = record {
-  pairs = λ p q p_few q_one q_few. (
-    λ has. waits_by_lock locks (waits_of waits) p q ((pairs p q p_few q_one q_few).0 has),
-    λ for. (pairs p q p_few q_one q_few).1 (blocked_wait locks (waits_of waits) p q for),
-  );
-}
+told waits locks pairs = search (rules, waits_by_lock, blocked_wait)
 
 -- and the way back
 pub tells : (waits : Waits) (locks : Locks) → AreTold waits locks → (p q : ℕ) → p ≤ 64 → 1 ≤ q → q ≤ 64 → IsTrue (has_pair waits p q) ↔ Any (IsBlockedWait locks p q) (waits_of waits)
-tells waits locks told p q p_few q_one q_few = (
-  λ has. blocked_wait locks (waits_of waits) p q ((told.pairs p q p_few q_one q_few).0 has),
-  λ any. (told.pairs p q p_few q_one q_few).1 (waits_by_lock locks (waits_of waits) p q any),
-)
+tells waits locks told p q p_few q_one q_few = grind (arith, common_steps, blocked_wait, waits_by_lock)
 
 pub keeps_other : (w : Wait) (p : ℕ) → w.p ≢ p → not (w.p == p) ≡ true
 keeps_other w p other = grind (arith, nat_tests)
@@ -96,14 +83,7 @@ told-leave old new locks process rest forgotten others was = told new locks (λ 
 
 -- a process blocks by locks that agree on the range
 pub blocks_same : (modes modes' : ByteModes) (q : ℕ) (owner : Owner) (span : Span) (mode : Mode) → ((byte : ℕ) → Covers span byte → modes' (Process q) byte ≡ modes (Process q) byte) → ProcessBlocks modes q owner span mode → ProcessBlocks modes' q owner span mode
-blocks_same modes modes' q owner span mode agree blocks = record {
-  byte = blocks.byte;
-  covered = blocks.covered;
-  blocks = record {
-    another = blocks.blocks.another;
-    conflicts = rw (agree blocks.byte blocks.covered) blocks.blocks.conflicts;
-  };
-}
+blocks_same modes modes' q owner span mode agree blocks = grind (arith, common_steps)
 
 -- no process has two waits
 pub one_place : (waits : List Wait) → AllPairs (λ v w. v.p ≢ w.p) waits → (i j : ℕ) (v w : Wait) → i < length waits → j < length waits → get_or waits i v ≡ v → get_or waits j w ≡ w → v.p ≡ w.p → i ≡ j
@@ -118,9 +98,7 @@ one_place waits apart i j v w i_within j_within v_is w_is same = elim (cases_eq 
 ]
 
 pub one_wait : (waits : List Wait) → AllPairs (λ v w. v.p ≢ w.p) waits → (i j : ℕ) (v w : Wait) → i < length waits → j < length waits → get_or waits i v ≡ v → get_or waits j w ≡ w → v.p ≡ w.p → v ≡ w
-one_wait waits apart i j v w i_within j_within v_is w_is same =
-    sym v_is ∙ get_or_default waits i v w i_within
-    ∙ ap (λ (n : ℕ). get_or waits n w) (one_place waits apart i j v w i_within j_within v_is w_is same) ∙ w_is
+one_wait waits apart i j v w i_within j_within v_is w_is same = grind (arith, common_steps, get_or_default, one_place)
 
 -- a process has a wait, or each wait is another one's
 pub of_process_or_none : (waits : List Wait) (p : ℕ) → Any (λ w. w.p ≡ p) waits ⊎ All (λ w. w.p ≢ p) waits
@@ -135,13 +113,7 @@ of_process_or_none (wait ∷ waits) p = elim (cases_eq wait.p p) [
 
 -- what blocks the one wait of a process blocks a wait of it
 pub by_its_wait : (locks : Locks) (waits : List Wait) (k q : ℕ) (wait : Wait) (b : Bool) → AllPairs (λ v w. v.p ≢ w.p) waits → k < length waits → get_or waits k wait ≡ wait → IsTrue b ↔ IsBlockedWait locks wait.p q wait → IsTrue b ↔ Any (IsBlockedWait locks wait.p q) waits
-by_its_wait locks waits k q wait b apart within is blocks = (
-  λ yes. (k, wait, within, is, blocks.0 yes),
-  λ any.
-      let (j, v, inside, v_is, holds) = any in
-      let same : v ≡ wait = one_wait waits apart j k v wait inside within v_is is holds.of_p in
-      blocks.1 (subst (λ (w : Wait). IsBlockedWait locks wait.p q w) same holds),
-)
+by_its_wait locks waits k q wait b apart within is blocks = grind (arith, common_steps, one_wait)
 
 -- of a process without a wait none is blocked
 pub none_blocked : (locks : Locks) (waits : List Wait) (p q : ℕ) → All (λ w. w.p ≢ p) waits → ¬ Any (IsBlockedWait locks p q) waits
@@ -149,18 +121,7 @@ none_blocked locks waits p q none (k, w, within, is, holds) = subst (λ (v : Wai
 
 -- a wait that is on another file than the one whose locks changed is blocked by the same locks
 kept_elsewhere : (old new : Locks) (file p q : ℕ) (wait : Wait) → AgreeBut file old new → wait.file ≢ file → IsBlockedWait old p q wait ↔ IsBlockedWait new p q wait
-kept_elsewhere old new file p q wait agree other = (
-  λ was. record {
-    of_p = was.of_p;
-    traditional = was.traditional;
-    blocked = blocks_same (old.bytes wait.file) (new.bytes wait.file) q wait.owner wait.span wait.mode (λ byte covered. agree wait.file (Process q) byte other) was.blocked;
-  },
-  λ is. record {
-    of_p = is.of_p;
-    traditional = is.traditional;
-    blocked = blocks_same (new.bytes wait.file) (old.bytes wait.file) q wait.owner wait.span wait.mode (λ byte covered. sym (agree wait.file (Process q) byte other)) is.blocked;
-  },
-)
+kept_elsewhere old new file p q wait agree other = grind (arith, common_steps, blocks_same)
 
 -- the pair is told anew, or it stays and so do the locks that it rests on
 abbrev pub IsToldOrKept : Waits → Waits → Locks → Locks → ℕ → Wait → Type 0
@@ -194,9 +155,7 @@ told-changed old new before after list apart pairs others was = told new after (
 
 -- a process whose wait is on another file has no wait on this one
 elsewhere_by_wait : (waits : List Wait) → AllPairs (λ v w. v.p ≢ w.p) waits → (k file : ℕ) (wait : Wait) → k < length waits → get_or waits k wait ≡ wait → wait.file ≢ file → All (IsElsewhere wait.p file) waits
-elsewhere_by_wait waits apart k file wait within is other j d inside same =
-    subst (λ (w : Wait). w.file ≢ file)
-    (one_wait waits apart k j wait (get_or waits j d) within inside is (get_or_default waits j (get_or waits j d) d inside) (sym same)) other
+elsewhere_by_wait waits apart k file wait within is other j d inside same = search (rules, one_wait, get_or_default)
 
 -- the pairs of the processes are told anew whose waits are on the file, and the others stay
 pub told-refresh : (old new : Waits) (before after : Locks) (file : ℕ) → waits_of new ≡ waits_of old → AllPairs (λ v w. v.p ≢ w.p) (waits_of old)
@@ -213,51 +172,22 @@ told-refresh old new before after file list apart anew others agree = told-chang
 -- a process blocks by the same locks where its own are the same on the range
 kept_of_owner : (old new : Locks) (file p q : ℕ) (owner : Owner) (span : Span) (wait : Wait) → IsByteRange wait.span → AgreeButOwner file owner span old new
     → (Process q ≡ owner → ¬ IsOn file span wait) → IsBlockedWait old p q wait ↔ IsBlockedWait new p q wait
-kept_of_owner old new file p q owner span wait range agree off =
-    let same : (byte : ℕ) → Covers wait.span byte → new.bytes wait.file (Process q) byte ≡ old.bytes wait.file (Process q) byte =
-    λ byte covered. agree wait.file q byte (omega (arith, range.1, covered.1))
-    (λ changed. off changed.1 (changed.0, (omega (arith, covered.0, changed.2.1), omega (arith, changed.2.0, covered.1)))) in (
-      λ was. record {
-        of_p = was.of_p;
-        traditional = was.traditional;
-        blocked = blocks_same (old.bytes wait.file) (new.bytes wait.file) q wait.owner wait.span wait.mode same was.blocked;
-      },
-      λ is. record {
-        of_p = is.of_p;
-        traditional = is.traditional;
-        blocked = blocks_same (new.bytes wait.file) (old.bytes wait.file) q wait.owner wait.span wait.mode (λ byte covered. sym (same byte covered)) is.blocked;
-      },
-    )
+kept_of_owner old new file p q owner span wait range agree off = grind (arith, common_steps, blocks_same)
 
 pub one_process : (q r : ℕ) → Process q ≡ Process r → q ≡ r
 one_process q r same = cc
 
 -- a process is the owner, or it isn't
 itself_or_another : (q : ℕ) (owner : Owner) → (Process q ≡ owner) ⊎ (Process q ≢ owner)
-itself_or_another q (Process r) = elim (cases_eq q r) [
-  | inl same ↦ inl (ap (λ (n : ℕ). Process n) same)
-  | inr differ ↦ inr (λ e. differ (one_process q r e))
-]
-itself_or_another q (Description d) = inr (λ e. let no : Process q ≡ Description d = e in cc)
+itself_or_another q owner = grind (arith, common_steps, cases_eq, one_process)
 
 -- a wait is on these bytes of the file, or it isn't
 on_or_off : (file : ℕ) (span : Span) (wait : Wait) → IsOn file span wait ⊎ ¬ IsOn file span wait
-on_or_off file span wait = elim (cases_eq wait.file file) [
-  | inr other ↦ inr (λ on. other on.0)
-  | inl here ↦ elim (cases_lt span.last wait.span.first) [
-    | inl past ↦ inr (λ on. omega (arith, past, on.1.0))
-    | inr begins ↦ elim (cases_lt wait.span.last span.first) [
-      | inl before ↦ inr (λ on. omega (arith, before, on.1.1))
-      | inr ends ↦ inl (here, (begins, ends))
-    ]
-  ]
-]
+on_or_off file span wait = grind (arith, common_steps, cases_eq, cases_lt)
 
 -- a process whose wait isn't on these bytes has no wait on them
 off_by_wait : (waits : List Wait) → AllPairs (λ v w. v.p ≢ w.p) waits → (k file : ℕ) (span : Span) (wait : Wait) → k < length waits → get_or waits k wait ≡ wait → ¬ IsOn file span wait → All (IsOff wait.p file span) waits
-off_by_wait waits apart k file span wait within is off j d inside same =
-    subst (λ (w : Wait). ¬ IsOn file span w)
-    (one_wait waits apart k j wait (get_or waits j d) within inside is (get_or_default waits j (get_or waits j d) d inside) (sym same)) off
+off_by_wait waits apart k file span wait within is off j d inside same = search (rules, one_wait, get_or_default)
 
 -- the pairs with the owner are told anew of the waits on these bytes, if it is a process, and the others stay
 pub told-owner : (old new : Waits) (before after : Locks) (file processes : ℕ) (owner : Owner) (span : Span) → waits_of new ≡ waits_of old → AllPairs (λ v w. v.p ≢ w.p) (waits_of old)
@@ -323,12 +253,7 @@ before_more P P' On i waits d apart within before last keeps k w below inside at
 
 -- and of one that isn't
 pub before_skip : (P On : Wait → Type 0) (i : ℕ) (waits : List Wait) (d : Wait) → i < length waits → ¬ On (get_or waits i d) → Before P On waits i → Before P On waits (i + 1)
-before_skip P On i waits d within off before k w below inside at on = elim (cases_eq k i) [
-  | inl same ↦
-      let w_is : w ≡ get_or waits i d = sym at ∙ ap (λ (n : ℕ). get_or waits n w) same ∙ get_or_default waits i w d within in
-      absurd (off (subst On w_is on))
-  | inr other ↦ before k w (omega arith) inside at on
-]
+before_skip P On i waits d h h2 h3 h4 h5 h6 h7 h8 h9 = grind (arith, common_steps, cases_eq, get_or_default)
 
 -- and of all
 pub before_all : (P On : Wait → Type 0) (waits : List Wait) → Before P On waits (length waits) → All (λ wait. On wait → P wait) waits
@@ -341,14 +266,7 @@ tells_still old new locks q w same was = subst (λ (b : Bool). IsTrue b ↔ IsBl
 
 -- where each row is the set of no process, there is no pair
 pub none_in_rows : (rows p q : ℕ) → ¬ IsTrue (is_member (get_or (replicate rows no_process) p no_process) q)
-none_in_rows rows p q has = elim (slice_get_cases (replicate rows no_process) p).1 [
-  | inl (row, within, some, same) ↦
-      let is = get_or-replicate rows p no_process no_process (rw length-replicate at within) in
-      let no = none_in q in let yes = rw is at has in cc
-  | inr (past, none) ↦
-      let is = get_or_past (replicate rows no_process) p no_process past in
-      let no = none_in q in let yes = rw is at has in cc
-]
+none_in_rows rows p q has = grind (arith, common_steps, slice_get_cases, get_or-replicate, length-replicate, none_in, get_or_past)
 
 -- the row that is put at p is row p then
 pub put_row : (rows : List ProcessSet) (row : ProcessSet) (i p q : ℕ) → i ≡ p → i < length rows → is_member (get_or (set rows i row) p no_process) q ≡ is_member row q
@@ -372,33 +290,12 @@ IsLeftFrom was now i = (k : ℕ) → i ≤ k → get_or now k no_process ≡ get
 pub cleared_more : (was now : List ProcessSet) (row : ProcessSet) (i x : ℕ) → i < length now
     → ((q : ℕ) → q ≤ 64 → is_member row q ≡ (if q == x then false else is_member (get_or now i no_process) q))
     → IsClearedBefore was now x i → IsLeftFrom was now i → IsClearedBefore was (set now i row) x (i + 1)
-cleared_more was now row i x within members cleared left k q below few = elim (cases_eq k i) [
-  | inl same ↦
-      let here : get_or (set now i row) k no_process ≡ row = rw same (get_or-set_same now i row no_process within) in
-      let old : get_or now i no_process ≡ get_or was k no_process = left i (omega arith) ∙ ap (λ (n : ℕ). get_or was n no_process) (sym same) in
-      rw here (members q few ∙ ap (λ (r : ProcessSet). if q == x then false else is_member r q) old)
-  | inr other ↦
-      let there : get_or (set now i row) k no_process ≡ get_or now k no_process = get_or-set_other now i k row no_process other in
-      rw there (cleared k q (omega arith) few)
-]
+cleared_more was now row i x within members cleared left k q below few = grind (arith, common_steps, cases_eq, get_or-set_same, get_or-set_other)
 
 pub left_more : (was now : List ProcessSet) (row : ProcessSet) (i : ℕ) → IsLeftFrom was now i → IsLeftFrom was (set now i row) (i + 1)
-left_more was now row i left k past =
-    let other : k ≢ i = omega arith in
-    let there : get_or (set now i row) k no_process ≡ get_or now k no_process = get_or-set_other now i k row no_process other in
-    rw there (left k (omega arith))
+left_more was now row i left k past = grind (arith, common_steps, get_or-set_other)
 
 -- and all are
 pub cleared_all : (was now : List ProcessSet) (x i : ℕ) → length now ≡ length was → length was ≤ i → IsClearedBefore was now x i
     → (p q : ℕ) → q ≤ 64 → is_member (get_or now p no_process) q ≡ (if q == x then false else is_member (get_or was p no_process) q)
-cleared_all was now x i long past cleared p q few = elim (cases_lt p (length was)) [
-  | inl within ↦ cleared p q (omega arith) few
-  | inr beyond ↦
-      let one : get_or now p no_process ≡ no_process = get_or_past now p no_process (omega arith) in
-      let two : get_or was p no_process ≡ no_process = get_or_past was p no_process beyond in
-      rw (one, two, none_in q) (still_false (q == x))
-]
-  where
-    still_false : (b : Bool) → false ≡ (if b then false else false)
-    still_false true = refl
-    still_false false = refl
+cleared_all was now x i long past cleared p q few = grind (arith, common_steps, cases_lt, get_or_past, none_in)

@@ -1,4 +1,5 @@
 -- Sets of processes, by their bits.
+use Rattle.std.proofs.lemmas.Grind.{common_steps}
 use Rattle.std.proofs.Common.{ℕ, ◌≡◌, ◌≢◌, ◌<◌, ◌≤◌, ◌*◌, ◌%◌, ◌^◌, ◌∙◌, ◌⊎◌, inl, inr, sym, ap, subst, refl, arith, Bool, true, false, zero, suc, w64}
 use Rattle.std.specs.Prelude.{◌==◌, ◌||◌, if◌then◌else◌, IsTrue, IsFalse, bit_and, bit_or}
 use Rattle.std.specs.Int.{bit_at, bit_not, trailing_zeros}
@@ -76,20 +77,12 @@ grown old new p k place few is fits missing =
     ]
 
 one_of_two : (a b : ℕ) → a < 2 → b < 2 → (Prim.Native.Nat.max a b == 1) ≡ (a == 1 || b == 1)
-one_of_two zero zero small few = refl
-one_of_two zero (suc zero) small few = refl
-one_of_two (suc zero) zero small few = refl
-one_of_two (suc zero) (suc zero) small few = refl
-one_of_two (suc (suc a)) b small few = absurd (omega (arith, small))
-one_of_two zero (suc (suc b)) small few = absurd (omega (arith, few))
-one_of_two (suc zero) (suc (suc b)) small few = absurd (omega (arith, few))
+one_of_two a b h h2 = grind (arith, common_steps)
 
 -- the members of the one set and of the other
 pub member_union : (one other both : ProcessSet) → both.bits ≡ bit_or one.bits other.bits → (q : ℕ) → is_member both q ≡ (is_member one q || is_member other q)
 unfolding is_member
-member_union one other both is zero = refl
-member_union one other both is (suc k) =
-    rw (is, bit_at_or one.bits other.bits k) (one_of_two (bit_at one.bits k) (bit_at other.bits k) (bit_at-lt one.bits k) (bit_at-lt other.bits k))
+member_union one other both h q = grind (arith, common_steps, bit_at_or, one_of_two, bit_at-lt)
 
 -- where a bit isn't left, a member of the one set is one of the other
 within_at : (set other : ProcessSet) (k : ℕ) → other.bits < 2 ^ 64 → k < 64 → bit_at (bit_and set.bits (bit_not w64 other.bits)) k ≡ 0 → IsTrue (is_member set (suc k)) → IsTrue (is_member other (suc k))

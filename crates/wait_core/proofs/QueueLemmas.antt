@@ -1,4 +1,5 @@
 -- Which process stands behind which in the queue, and what a wait more or less makes of that.
+use Rattle.std.proofs.lemmas.Grind.{common_steps}
 use Rattle.std.proofs.Common.{ℕ, ◌≡◌, ◌≢◌, ◌≤◌, ◌↔◌, ◌∙◌, ◌⊎◌, inl, inr, sym, ap, subst, refl, arith, Bool, true, false, not, List, [], ◌∷◌, ◌++◌, All, Any, append_assoc}
 use Rattle.std.specs.Prelude.{IsTrue, ◌==◌, ◌||◌, if◌then◌else◌}
 use Rattle.std.specs.List.{filter}
@@ -26,16 +27,7 @@ use Rattle.wait_core.proofs.ProcessLemmas.{or_cases, or_right}
 
 -- whether a wait is one of the process that conflicts
 conflict_of_or_not : (q : ℕ) (wait v : Wait) → IsConflictOf q wait v ⊎ ¬ IsConflictOf q wait v
-conflict_of_or_not q wait v = elim (cases_eq v.p q) [
-  | inr differs ↦ inr (λ is. differs is.0)
-  | inl of_q ↦ elim (same_or_other v.owner (Process v.p)) [
-    | inr differs ↦ inr (λ is. differs is.1)
-    | inl own ↦ elim (waits_conflict_or_not v wait) [
-      | inr none ↦ inr (λ is. none is.2)
-      | inl conflict ↦ inl (of_q, own, conflict)
-    ]
-  ]
-]
+conflict_of_or_not q wait v = grind (arith, common_steps, cases_eq, same_or_other, waits_conflict_or_not)
 
 -- whether a wait is one of the process p behind one of the process q
 behind_or_not : (earlier : List Wait) (p q : ℕ) (wait : Wait) → IsBehind earlier p q wait ⊎ ¬ IsBehind earlier p q wait
@@ -110,25 +102,7 @@ pub queue_joined : (old new : Pairs) (waits : List Wait) (wait : Wait) (row : Pr
     → ((q : ℕ) → IsTrue (is_member row q) ↔ IsTraditional wait × Any (IsConflictOf q wait) waits)
     → ((q : ℕ) → pair_in new wait.p q ≡ is_member row q) → ((p q : ℕ) → p ≢ wait.p → pair_in new p q ≡ pair_in old p q)
     → TellsQueue old waits → TellsQueue new (waits ++ wait ∷ [])
-queue_joined old new waits wait row none members own others told = record {
-  stands = λ p q p_few q_one q_few. elim (cases_eq p wait.p) [
-    | inl same ↦ subst (λ (n : ℕ). IsTrue (pair_in new n q) ↔ StandsBehind [] (waits ++ wait ∷ []) n q) (sym same) (
-      λ has. (let both = (members q).0 (sym (own q) ∙ has) in
-          stands_more [] waits wait wait.p q (inr (record { of_p = refl; traditional = both.0; behind = both.1 }))),
-      λ stands. own q ∙ elim (stands_joined [] waits wait wait.p q stands) [
-        | inl before ↦ absurd (none_stands [] waits wait.p q none before)
-        | inr last ↦ (members q).1 (last.traditional, last.behind)
-      ],
-    )
-    | inr other ↦ (
-      λ has. stands_more [] waits wait p q (inl ((told.stands p q p_few q_one q_few).0 (sym (others p q other) ∙ has))),
-      λ stands. others p q other ∙ elim (stands_joined [] waits wait p q stands) [
-        | inl before ↦ (told.stands p q p_few q_one q_few).1 before
-        | inr last ↦ absurd (other (sym last.of_p))
-      ],
-    )
-  ];
-}
+queue_joined old new waits wait row none members own others told = grind (arith, common_steps, cases_eq, stands_more, stands_joined, none_stands)
 
 module _ (x p q : ℕ) (p_other : p ≢ x) (q_other : q ≢ x) where
   behind_kept : (earlier : List Wait) (wait : Wait) → IsBehind earlier p q wait → IsBehind (filter (λ w. not (w.p == x)) earlier) p q wait
@@ -279,31 +253,10 @@ waits_in_queue locks waits p q (inl for) = record {
 waits_in_queue locks waits p q (inr stands) = stands_for locks [] waits p q stands
 
 pub queue_cases : (locks : Locks) (waits : List Wait) (p q : ℕ) → WaitsFor Queue locks waits p q → WaitsFor Held locks waits p q ⊎ StandsBehind [] waits p q
-queue_cases locks waits p q for = elim for.blocked [
-  | inl by_lock ↦ inl (record {
-    before = for.before;
-    wait = for.wait;
-    after = for.after;
-    place = for.place;
-    of_p = for.of_p;
-    traditional = for.traditional;
-    blocked = by_lock;
-  })
-  | inr behind ↦ inr (subst (λ (l : List Wait). StandsBehind [] l p q) (sym for.place)
-      (stands_at [] for.before for.wait for.after p q (record { of_p = for.of_p; traditional = for.traditional; behind = behind })))
-]
+queue_cases locks waits p q for = grind (arith, common_steps, stands_at)
 
 -- as it is told
 pub told_in_queue : (waits : Waits) (locks : Locks) (p q : ℕ) (behind : Bool) → p ≤ 64 → 1 ≤ q → q ≤ 64
     → IsTrue behind ↔ StandsBehind [] (waits_of waits) p q → AreTold waits locks
     → IsTrue (has_pair waits p q || behind) ↔ WaitsFor Queue locks (waits_of waits) p q
-told_in_queue waits locks p q behind p_few q_one q_few list told = (
-  λ yes. elim (or_cases (has_pair waits p q) behind yes) [
-    | inl has ↦ waits_in_queue locks (waits_of waits) p q (inl ((told.pairs p q p_few q_one q_few).0 has))
-    | inr waiting ↦ waits_in_queue locks (waits_of waits) p q (inr (list.0 waiting))
-  ],
-  λ for. elim (queue_cases locks (waits_of waits) p q for) [
-    | inl by_lock ↦ or_left (has_pair waits p q) behind ((told.pairs p q p_few q_one q_few).1 by_lock)
-    | inr waiting ↦ or_right (has_pair waits p q) behind (list.1 waiting)
-  ],
-)
+told_in_queue waits locks p q behind p_few q_one q_few list told = grind (arith, common_steps, or_cases, waits_in_queue, queue_cases, or_left, or_right)

@@ -1,9 +1,8 @@
 -- What a wait's blockers lead to: soundness and completeness of the search for a cycle.
-use Rattle.std.proofs.Common.{ℕ, ◌≡◌, ◌≤◌, ◌∙◌, ◌⊎◌, inl, inr, sym, ap, subst, refl, arith, List, [], ◌∷◌, ◌++◌, All, length}
+use Rattle.std.proofs.lemmas.Grind.{common_steps}
+use Rattle.std.proofs.Common.{ℕ, ◌≡◌, ◌≤◌, ◌⊎◌, inl, inr, sym, subst, refl, arith, List, [], ◌∷◌, ◌++◌, All, length}
 use Rattle.std.specs.Prelude.{IsTrue}
-use Rattle.lock_book.specs.declared.Owner.TheVariants.{Process}
 use Rattle.wait_core.specs.declared.Policy.{Policy}
-use Rattle.wait_core.specs.declared.Policy.TheVariants.{Held, Queue}
 use Rattle.wait_core.specs.declared.Wait.{Wait}
 use Rattle.wait_core.specs.declared.processes.ProcessSet.{ProcessSet}
 use Rattle.wait_core.specs.Locks.{Locks}
@@ -48,10 +47,7 @@ waiting_known policy locks waits processes p q each for =
 
 -- no traditional wait is blocked by its own process
 pub not_own_blocker : (policy : Policy) (locks : Locks) (waits : List Wait) (wait : Wait) → IsTraditional wait → ¬ IsBlockedByProcess policy locks waits wait wait.p
-not_own_blocker Held locks waits wait own blocked = blocked.blocks.another (sym own)
-not_own_blocker Queue locks waits wait own (inl blocked) = blocked.blocks.another (sym own)
-not_own_blocker Queue locks waits wait own (inr (k, v, within, is, holds)) =
-    holds.2.owners (holds.1 ∙ ap (λ (n : ℕ). Process n) holds.0 ∙ sym own)
+not_own_blocker policy locks waits wait h h2 = grind (arith, common_steps)
 
 -- who blocks the wait is reached
 pub blocked_reached : (policy : Policy) (locks : Locks) (waits : List Wait) (wait : Wait) (q : ℕ) → IsBlockedByProcess policy locks waits wait q → IsReached policy locks waits wait q
@@ -70,14 +66,7 @@ reach_step policy locks waits wait p q reached step = record {
 
 -- what is reached closes a cycle where it is the process that would wait
 pub reached_closes : (policy : Policy) (locks : Locks) (waits : List Wait) (wait : Wait) → IsTraditional wait → IsReached policy locks waits wait wait.p → ClosesCycle policy locks waits wait
-reached_closes policy locks waits wait own reached = record {
-  blocker = reached.blocker;
-  blocked = reached.blocked;
-  led = elim reached.led [
-    | inl same ↦ absurd (not_own_blocker policy locks waits wait own (subst (λ (n : ℕ). IsBlockedByProcess policy locks waits wait n) same reached.blocked))
-    | inr led ↦ led
-  ];
-}
+reached_closes policy locks waits wait own reached = grind (arith, common_steps, not_own_blocker)
 
 -- each process that p leads to is in the set
 abbrev pub LeadsInside : (ℕ → ℕ → Type 0) → ProcessSet → ℕ → Type 0

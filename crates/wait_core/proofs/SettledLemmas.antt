@@ -1,5 +1,6 @@
 -- Waits that are known to be blocked on all files but some, and what a change of the list or of the locks leaves of that.
-use Rattle.std.proofs.Common.{ℕ, ◌≡◌, ◌≢◌, ◌<◌, ◌≤◌, ◌∙◌, ◌⊎◌, inl, inr, sym, ap, subst, refl, arith, Bool, true, false, not, zero, suc, Option, Some, None, List, [], ◌∷◌, ◌++◌, All, Any, length, get_or, take, append_assoc, append-nil}
+use Rattle.std.proofs.Common.{rules, ℕ, ◌≡◌, ◌≢◌, ◌<◌, ◌≤◌, ◌∙◌, ◌⊎◌, inl, inr, sym, ap, subst, refl, arith, Bool, true, false, not, zero, suc, Option, Some, None, List, [], ◌∷◌, ◌++◌, All, Any, length, get_or, take, append_assoc, append-nil}
+use Rattle.std.proofs.lemmas.Grind.{common_steps}
 use Rattle.std.specs.Prelude.{◌==◌, ◌||◌, IfSome, IfNone, IsTrue, IsFalse}
 use Rattle.std.specs.List.{AllPairs, filter}
 use Rattle.std.proofs.lemmas.Bool.{cases_Bool, cases_eq}
@@ -21,7 +22,6 @@ use Rattle.wait_core.specs.Locks.{Locks}
 use Rattle.wait_core.specs.Blocking.{AllBlocked, IsBlocked, IsBlockedIn, WaitsConflict}
 use Rattle.wait_core.specs.Cycles.{IsTraditional}
 use Rattle.wait_core.specs.Files.{has_file}
-use Rattle.wait_core.specs.Pairs.{IsBlockedWait}
 use Rattle.wait_core.specs.Processes.{is_member}
 use Rattle.wait_core.specs.Settled.{AllBlockedBut, AllBlockedElsewhere, AllBlockedWhere, AgreeElsewhere}
 use Rattle.wait_core.specs.WellFormed.{IsWellFormed, can_own}
@@ -36,23 +36,11 @@ pub record SameOn (file : ℕ) (old new : Locks) : Type 0 where
   pub flocks : (description : ℕ) → new.flocks file description ≡ old.flocks file description
 
 blocked_in_same : (family : Family) (old new : Locks) (wait : Wait) → SameOn wait.file old new → IsBlockedIn family old wait → IsBlockedIn family new wait
-blocked_in_same Bytes old new wait same blocked = record {
-  byte = blocked.byte;
-  covered = blocked.covered;
-  other = blocked.other;
-  blocks = record { another = blocked.blocks.another; conflicts = rw (same.bytes blocked.other blocked.byte) blocked.blocks.conflicts };
-}
-blocked_in_same Whole old new wait same blocked = record {
-  description = blocked.description;
-  another = blocked.another;
-  conflicts = rw (same.flocks blocked.description) blocked.conflicts;
-}
+blocked_in_same family old new wait h h2 = grind (arith, common_steps)
 
 -- a wait is blocked still by locks that are the same on its file
 blocked_same : (policy : Policy) (old new : Locks) (earlier : List Wait) (wait : Wait) → SameOn wait.file old new → IsBlocked policy old earlier wait → IsBlocked policy new earlier wait
-blocked_same Held old new earlier wait same blocked = blocked_in_same wait.family old new wait same blocked
-blocked_same Queue old new earlier wait same (inl by_lock) = inl (blocked_in_same wait.family old new wait same by_lock)
-blocked_same Queue old new earlier wait same (inr by_wait) = inr by_wait
+blocked_same policy old new earlier wait h h2 = grind (arith, common_steps, blocked_in_same)
 
 -- more files, and locks that are the same on all others
 pub elsewhere_after : (files more : FileSet) (policy : Policy) (old new : Locks) → ((f : ℕ) → IsFalse (has_file more f) → IsFalse (has_file files f) × SameOn f old new)
@@ -70,18 +58,12 @@ neither false b is = (refl, is)
 
 -- who isn't among the processes with one more is another one, and wasn't among them
 pub not_before : (old new : ProcessSet) (p : ℕ) → ((q : ℕ) → is_member new q ≡ (q == p || is_member old q)) → (q : ℕ) → IsFalse (is_member new q) → (q ≢ p) × IsFalse (is_member old q)
-not_before old new p is q out =
-    let two = neither (q == p) (is_member old q) (sym (is q) ∙ out) in
-    ((let test : (q == p) ≡ false = two.0 in grind (arith, nat_tests)), two.1)
+not_before old new p is q out = grind (arith, common_steps, neither, nat_tests)
 
 -- one file more
 pub elsewhere_touched : (files more : FileSet) (policy : Policy) (old new : Locks) (file : ℕ) → ((f : ℕ) → has_file more f ≡ (f == file || has_file files f))
     → AgreeElsewhere file old new → (waits : List Wait) → AllBlockedElsewhere files policy old [] waits → AllBlockedElsewhere more policy new [] waits
-elsewhere_touched files more policy old new file is agree waits all =
-    elsewhere_after files more policy old new (λ f elsewhere.
-    let two = neither (f == file) (has_file files f) (sym (is f) ∙ elsewhere) in
-    let other : f ≢ file = (let test : (f == file) ≡ false = two.0 in grind (arith, nat_tests)) in
-    (two.1, record { bytes = λ owner byte. agree.bytes f owner byte other; flocks = λ description. agree.flocks f description other })) [] waits all
+elsewhere_touched files more policy old new file is agree waits all = grind (arith, common_steps, elsewhere_after, neither, nat_tests)
 
 -- one file more, and the same locks
 pub elsewhere_more : (files more : FileSet) (policy : Policy) (locks : Locks) (file : ℕ) → ((f : ℕ) → has_file more f ≡ (f == file || has_file files f))
@@ -104,9 +86,7 @@ elsewhere_joined files policy locks earlier (v ∷ waits) wait blocked all = (
 
 -- the file that was added is among the files
 pub among_more : (files more : FileSet) (file : ℕ) → ((f : ℕ) → has_file more f ≡ (f == file || has_file files f)) → IsTrue (has_file more file)
-among_more files more file is =
-    let here : (file == file) ≡ true = (let e : file ≡ file = refl in grind (arith, nat_tests)) in
-    is file ∙ ap (λ (b : Bool). b || has_file files file) here
+among_more files more file is = grind (arith, common_steps, nat_tests)
 
 module _ (files : FileSet) (p : ℕ) where
   -- the wait, if it is of the process, is on one of the files
@@ -182,9 +162,7 @@ none_leaves files waits p none = All-weaker (λ v. v.p ≢ p) (MayLeave files p)
 
 -- where it has one on one of the files, those that leave are on these
 pub one_leaves : (files : FileSet) (waits : List Wait) (p : ℕ) (wait : Wait) → AllPairs (λ v w. v.p ≢ w.p) waits → wait_of waits p ≡ Some wait → IsTrue (has_file files wait.file) → All (MayLeave files p) waits
-one_leaves files waits p wait apart found among =
-    All-weaker (λ v. v.p ≡ p → v.file ≡ wait.file) (MayLeave files p) (λ v there same. ap (has_file files) (there same) ∙ among) waits
-    (file_of_found waits p wait apart found)
+one_leaves files waits p wait apart found among = grind (arith, common_steps, All-weaker, file_of_found)
 
 -- on no file: each wait is blocked
 pub elsewhere_all : (files : FileSet) (policy : Policy) (locks : Locks) (earlier waits : List Wait) → AllBlocked policy locks earlier waits → AllBlockedElsewhere files policy locks earlier waits
@@ -226,13 +204,7 @@ by_process Whole locks wait q owner traditional blocks = absurd (let no : false 
 -- a wait is blocked by a lock where its process is told to wait for one
 pub told_blocked : (waits : Waits) (locks : Locks) (processes k : ℕ) (wait : Wait) → processes ≤ 64 → All (IsWellFormed processes) (waits_of waits) → AllPairs (λ v w. v.p ≢ w.p) (waits_of waits)
     → AreTold waits locks → k < length (waits_of waits) → get_or (waits_of waits) k wait ≡ wait → IsTold waits wait.p → IsBlockedIn wait.family locks wait
-told_blocked waits locks processes k wait few well_formed apart told within is (q, q_few, has) =
-    let good : IsWellFormed processes wait = subst (IsWellFormed processes) is (well_formed k wait within) in
-    let for = (told.pairs wait.p (suc q) (omega (arith, few, good.process)) (omega arith) (omega (arith, q_few))).0 has in
-    let (j, v, inside, v_is, holds) = blocked_wait locks (waits_of waits) wait.p (suc q) for in
-    let same : v ≡ wait = one_wait (waits_of waits) apart j k v wait inside within v_is is holds.of_p in
-    let its : IsBlockedWait locks wait.p (suc q) wait = subst (IsBlockedWait locks wait.p (suc q)) same holds in
-    by_process wait.family locks wait (suc q) good.owner its.traditional its.blocked
+told_blocked waits locks processes k wait h h2 h3 h4 h5 h6 h7 = search (rules, blocked_wait, one_wait, by_process)
 
 blocked_by_lock : (policy : Policy) (locks : Locks) (earlier : List Wait) (wait : Wait) → IsBlockedIn wait.family locks wait → IsBlocked policy locks earlier wait
 blocked_by_lock Held locks earlier wait by_lock = by_lock

@@ -1,5 +1,6 @@
 -- The set of the processes that wait, as waits join the list and leave it.
-use Rattle.std.proofs.Common.{ℕ, ◌≡◌, ◌≢◌, ◌≤◌, ◌∙◌, inl, inr, sym, ap, refl, arith, Bool, true, false, not, Option, None, Some, List, [], ◌∷◌, ◌++◌}
+use Rattle.std.proofs.lemmas.Grind.{common_steps}
+use Rattle.std.proofs.Common.{ℕ, ◌≡◌, ◌≤◌, ◌∙◌, inl, inr, sym, ap, refl, arith, Bool, true, false, not, Option, None, Some, List, [], ◌∷◌, ◌++◌}
 use Rattle.std.specs.Prelude.{◌==◌, ◌||◌, ◌&&◌, if◌then◌else◌, IfNone, IfSome}
 use Rattle.std.specs.List.{list_any}
 use Rattle.std.proofs.lemmas.Bool.{cases_eq, eqb-true}
@@ -11,7 +12,6 @@ use Rattle.wait_core.specs.declared.Wait.{Wait}
 use Rattle.wait_core.specs.declared.processes.ProcessSet.{ProcessSet}
 use Rattle.wait_core.specs.Processes.{AreThoseWaiting, is_member, no_process}
 use Rattle.wait_core.specs.WaitsView.{wait_of, without_wait_of}
-use Rattle.wait_core.specs.WellFormed.{IsWellFormed}
 use Rattle.wait_core.proofs.ListLemmas.{none_of}
 use Rattle.wait_core.proofs.ProcessLemmas.{none_in}
 
@@ -20,30 +20,15 @@ pub waiting_none : (set : ProcessSet) (waits : List Wait) → set ≡ no_process
 waiting_none set waits no_one no_wait q few = rw (no_one, no_wait) (none_in q)
 
 either_way : (one other : Bool) → (one || other) ≡ (other || (one || false))
-either_way true true = refl
-either_way true false = refl
-either_way false true = refl
-either_way false false = refl
+either_way one other = grind (arith, common_steps)
 
 same_test : (m n : ℕ) → (m == n) ≡ (n == m)
-same_test m n = elim (cases_eq m n) [
-  | inl same ↦ rw same refl
-  | inr other ↦
-      let there : (m == n) ≡ false = grind (arith, nat_tests) in
-      let back : (n == m) ≡ false = grind (arith, nat_tests) in
-      there ∙ sym back
-]
+same_test m n = grind (arith, common_steps, cases_eq, nat_tests)
 
 -- a wait joined
 pub waiting_joined : (old new : ProcessSet) (waits : List Wait) (wait : Wait) → ((q : ℕ) → is_member new q ≡ (q == wait.p || is_member old q))
     → AreThoseWaiting old waits → AreThoseWaiting new (waits ++ wait ∷ [])
-waiting_joined old new waits wait more known q few =
-    let is_of_q : Wait → Bool = λ w. w.p == q in
-    more q
-    ∙ ap (λ (b : Bool). q == wait.p || b) (known q few)
-    ∙ ap (λ (b : Bool). b || list_any (λ (w : Wait). w.p == q) waits) (same_test q wait.p)
-    ∙ either_way (wait.p == q) (list_any (λ (w : Wait). w.p == q) waits)
-    ∙ sym (list_any-append (λ (w : Wait). w.p == q) waits (wait ∷ []))
+waiting_joined old new waits wait more known q few = grind (arith, common_steps, same_test, either_way, list_any-append)
 
 without : (b other : Bool) → (if b then false else other) ≡ (not b && other)
 without true other = refl
@@ -51,9 +36,7 @@ without false other = refl
 
 -- what is left of the waits of a process when those of another one left
 waits_left : (waits : List Wait) (p q : ℕ) → list_any (λ w. w.p == q) (without_wait_of waits p) ≡ (not (q == p) && list_any (λ w. w.p == q) waits)
-waits_left waits p q =
-    any-filter_same (λ (w : Wait). w.p == q) (λ (w : Wait). not (w.p == p)) (not (q == p))
-    (λ w is. ap (λ (n : ℕ). not (n == p)) (eqb-true w.p q is)) waits
+waits_left waits p q = grind (arith, common_steps, any-filter_same, eqb-true)
 
 found_of : (waits : List Wait) (p : ℕ) (wait : Wait) → wait_of waits p ≡ Some wait → wait.p ≡ p
 found_of [] p wait found = absurd (let no = found in cc)
@@ -66,30 +49,10 @@ found_of (w ∷ waits) p wait found = elim (cases_eq w.p p) [
 ]
 
 none_waits : (waits : List Wait) (p q : ℕ) → wait_of waits p ≡ None → (not (q == p) && list_any (λ w. w.p == q) waits) ≡ list_any (λ w. w.p == q) waits
-none_waits waits p q none = elim (cases_eq q p) [
-  | inl same ↦
-      let nobody : list_any (λ (w : Wait). w.p == q) waits ≡ false = list_any_none (λ (w : Wait). w.p == q) waits
-      (All-weaker (λ (w : Wait). w.p ≢ p) (λ (w : Wait). (w.p == q) ≡ false) (λ w other. grind (arith, nat_tests)) waits (none_of waits p none)) in
-      let its_own : (q == p) ≡ true = grind (arith, nat_tests) in
-      rw (its_own, nobody) refl
-  | inr other ↦ let passed : (q == p) ≡ false = grind (arith, nat_tests) in rw passed refl
-]
-
--- a well-formed wait is of one of the processes that a set can have
-pub of_one : (processes : ℕ) (wait : Option Wait) → processes ≤ 64 → IfSome wait (IsWellFormed processes) → IfSome wait (λ some. (1 ≤ some.p) × (some.p ≤ 64))
-of_one processes None few well = tt
-of_one processes (Some wait) few well = (well.from_one, omega (arith, few, well.process))
+none_waits waits p q none = grind (arith, common_steps, cases_eq, list_any_none, All-weaker, nat_tests, none_of)
 
 -- the wait of a process left, if it had one
 pub waiting_left : (old new : ProcessSet) (waits : List Wait) (p : ℕ) (wait : Option Wait) → wait ≡ wait_of waits p
     → IfSome wait (λ some. (q : ℕ) → q ≤ 64 → is_member new q ≡ (if q == some.p then false else is_member old q)) → IfNone wait (new ≡ old)
     → AreThoseWaiting old waits → AreThoseWaiting new (without_wait_of waits p)
-waiting_left old new waits p (Some wait) found some none known q few =
-    let is : wait.p ≡ p = found_of waits p wait (sym found) in
-    some q few
-    ∙ ap (λ (n : ℕ). if q == n then false else is_member old q) is
-    ∙ without (q == p) (is_member old q)
-    ∙ ap (λ (b : Bool). not (q == p) && b) (known q few)
-    ∙ sym (waits_left waits p q)
-waiting_left old new waits p None found some none known q few =
-    ap (λ (set : ProcessSet). is_member set q) none ∙ known q few ∙ sym (none_waits waits p q (sym found)) ∙ sym (waits_left waits p q)
+waiting_left old new waits p wait h h2 h3 h4 h5 h6 = grind (arith, common_steps, found_of, without, waits_left, none_waits)

@@ -1,3 +1,4 @@
+use Rattle.std.proofs.lemmas.Grind.{common_steps}
 use Rattle.std.proofs.Common.{ℕ, ◌≡◌, ◌∙◌, true, false, ap, sym, subst, arith, get_or, ◌<◌, ◌↔◌}
 use Rattle.std.specs.Prelude.{IsTrue}
 use Rattle.lock_book.specs.Conflicts.{ProcessBlocks}
@@ -10,10 +11,7 @@ use Rattle.wait_core.proofs.Wait.blocking_by_lock.Goals as goal
 use Rattle.wait_core.proofs.Wait.blocking_by_lock.Goals.{then-blocks-from, else-blocks-from}
 
 pub loop-q-init : goal.loop-q-init
-loop-q-init c = record {
-  before = λ q one few. absurd (omega (arith, one, few));
-  after = λ q past. ap (λ (set : ProcessSet). is_member set q) c.empty-blocking.ensures ∙ none_in q;
-}
+loop-q-init c = grind (arith, common_steps, none_in)
 
 pub loop-q-preserved : goal.loop-q-preserved
 loop-q-preserved c =

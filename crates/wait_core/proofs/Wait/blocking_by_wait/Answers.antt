@@ -1,4 +1,5 @@
-use Rattle.std.proofs.Common.{◌≡◌, ◌↔◌, ◌∙◌, ap, sym, subst, true, false, Any, List, take}
+use Rattle.std.proofs.Common.{arith, ◌≡◌, ◌↔◌, ◌∙◌, ap, subst, Any, List, take}
+use Rattle.std.proofs.lemmas.Grind.{common_steps}
 use Rattle.std.specs.Prelude.{IsTrue}
 use Rattle.std.proofs.lemmas.List.{take_all}
 use Rattle.wait_core.specs.declared.Wait.{Wait}
@@ -12,10 +13,7 @@ use Rattle.wait_core.proofs.Wait.blocking_by_wait.Goals as goal
 use Rattle.wait_core.proofs.Wait.blocking_by_wait.Goals.{then-conflicts_with+then-is_traditional, else-conflicts_with, else-conflicts_with-via-then-conflicts_with+else-is_traditional, else-conflicts_with-via-else-conflicts_with}
 
 pub loop-other-init : goal.loop-other-init
-loop-other-init c q = (
-  λ has. absurd (let none = ap (λ (set : ProcessSet). is_member set q) c.empty-blocking.ensures ∙ none_in q in let differ : true ≡ false = sym has ∙ none in cc),
-  λ any. absurd (Any-nil (IsConflictOf q c.args.self.now) any),
-)
+loop-other-init c q = grind (arith, common_steps, none_in, Any-nil)
 
 pub loop-other-preserved : goal.loop-other-preserved
 loop-other-preserved c =

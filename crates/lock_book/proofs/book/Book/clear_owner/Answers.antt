@@ -1,4 +1,5 @@
-use Rattle.std.proofs.Common.{◌≡◌, ◌∙◌, sym, true, refl, Some, None}
+use Rattle.std.proofs.Common.{arith, ◌≡◌, ◌∙◌, sym, true, refl, Some, None}
+use Rattle.std.proofs.lemmas.Grind.{common_steps}
 use Rattle.lock_book.proofs.BookLemmas.{list_of-not_lent, list_written, PutsAt-removes, PutsList-puts, ClearsOwner-puts, ClearsOwner-nothing}
 use Rattle.lock_book.proofs.CoverLemmas.{AreKept-list, AreKept-removed, AreKept-left}
 use Rattle.lock_book.proofs.book.Book.clear_owner.Goals as goal
@@ -45,9 +46,7 @@ returns-else-is_idle c =
     c.clear.ensures.modes c.clear.ensures.room
 
 pub returns-in-None : goal.returns-in-None
-returns-in-None c =
-    ClearsOwner-nothing c.args.self.now _ c.args.owner c.get_mut.follows.holds-at-none refl
-    (list_of-not_lent _ _ _ c.get_mut.ensures.value c.in-None.is)
+returns-in-None c = grind (arith, common_steps, ClearsOwner-nothing, list_of-not_lent)
 
 pub invariant_of-self-in-None : goal.invariant_of-self-in-None
 invariant_of-self-in-None c =

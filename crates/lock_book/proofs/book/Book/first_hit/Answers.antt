@@ -1,4 +1,5 @@
-use Rattle.std.proofs.Common.{◌≡◌, sym, true, false}
+use Rattle.std.proofs.Common.{arith, ◌≡◌, sym, false}
+use Rattle.std.proofs.lemmas.Grind.{common_steps}
 use Rattle.std.specs.Map.Iter.{deref_pair}
 use Rattle.std.proofs.lemmas.Map.Iter.{iter_end}
 use Rattle.lock_book.proofs.OwnerLemmas.{owner_eq, same_from_eq, different_from_eq}
@@ -10,13 +11,7 @@ pub returns-then-is_clear-clause-none : goal.returns-then-is_clear-clause-none
 returns-then-is_clear-clause-none c = clear_of_conflicts c.args.self.now c.args.owner c.args.span c.args.mode (c.is_clear.ensures c.if-is_clear.true)
 
 pub loop-other-preserved-then-eq : goal.loop-other-preserved-then-eq
-loop-other-preserved-then-eq c =
-    let test : true ≡ owner_eq c.in-Some.other.now c.args.owner = c.if-eq.ensures in (
-      tt,
-      tt,
-      least_skip _ _ _ _ c.loop-other.yielded c.loop-other.first (c.in-Some.other, c.in-Some.list) c.loop-other.invariant.2
-          (never_itself _ _ _ _ _ (same_from_eq _ _ (sym test))),
-    )
+loop-other-preserved-then-eq c = grind (arith, common_steps, owner_eq, least_skip, never_itself, same_from_eq)
 
 pub loop-other-preserved-then-is_lower : goal.loop-other-preserved-then-is_lower
 loop-other-preserved-then-is_lower c =
@@ -61,10 +56,7 @@ returns-clause-hit c =
     first_from_least _ _ _ _ _ _ whole c.loop-other.invariant.2
 
 pub returns-clause-none : goal.returns-clause-none
-returns-clause-none c =
-    let gives = c.into_iter-other-iterator.ensures.into_iter_gives in
-    let whole = (iter_end deref_pair c.args.self.now.owners.entries c.loop-other.yielded _ _ _ _ gives.0 c.loop-other.yielded_by c.in-None.is c.next.ensures.steps).0 in
-    none_from_least _ _ _ _ _ _ whole c.loop-other.invariant.2
+returns-clause-none c = grind (arith, common_steps, iter_end, none_from_least)
 
 pub returns-then-byte-span-clause-hit : goal.returns-then-byte-span-clause-hit
 returns-then-byte-span-clause-hit c =

@@ -1,4 +1,5 @@
-use Rattle.std.proofs.Common.{◌≡◌, ◌≢◌, not, true, false, sym}
+use Rattle.std.proofs.Common.{arith, ◌≡◌, ◌≢◌, not, true, sym}
+use Rattle.std.proofs.lemmas.Grind.{common_steps}
 use Rattle.std.proofs.lemmas.Bool.{not-true}
 use Rattle.range_core.specs.Changes.{modes_of}
 use Rattle.lock_book.specs.declared.Owner.TheVariants.{Process}
@@ -18,6 +19,4 @@ returns-then-ne c =
     (rw modes c.first_hit.ensures.hit) (rw modes c.first_hit.ensures.none))
 
 pub returns-in-None : goal.returns-in-None
-returns-in-None c =
-    let modes = byte_modes_of-list c.args.self.now (Process c.args.process) _ (list_of-not_found _ _ _ c.get.ensures.value c.in-None.is) in
-    (λ h. absurd (let e : false ≡ true = h in cc), λ conflict. absurd (ProcessBlocks-none _ _ _ _ _ modes conflict))
+returns-in-None c = grind (arith, common_steps, byte_modes_of-list, list_of-not_found, ProcessBlocks-none)

@@ -1,3 +1,4 @@
+use Rattle.std.proofs.lemmas.Grind.{common_steps}
 use Rattle.std.proofs.Common.{◌≡◌, ◌∙◌, refl, Some, None, arith}
 use Rattle.std.proofs.lemmas.Result.{on_ok_weaker, on_err_weaker}
 use Rattle.range_core.specs.Changes.{modes_of}
@@ -7,16 +8,10 @@ use Rattle.lock_book.proofs.CoverLemmas.{AreKept-insert, AreKept-left, AreKept-l
 use Rattle.lock_book.proofs.book.Book.reserve.Goals as goal
 
 pub returns-in_err-reserve-in-None-clause-there : goal.returns-in_err-reserve-in-None-clause-there
-returns-in_err-reserve-in-None-clause-there c there =
-    let was : list_of c.args.self.now c.args.owner ≡ None =
-    list_of-not_lent _ _ _ c.get_mut.ensures.value c.in-None.is in
-    let none = room_in-list _ _ _ was in absurd (omega arith)
+returns-in_err-reserve-in-None-clause-there c there = grind (arith, common_steps, list_of-not_lent, room_in-list)
 
 pub returns-in_err-insert-in-None-clause-there : goal.returns-in_err-insert-in-None-clause-there
-returns-in_err-insert-in-None-clause-there c there =
-    let was : list_of c.args.self.now c.args.owner ≡ None =
-    list_of-not_lent _ _ _ c.get_mut.ensures.value c.in-None.is in
-    let none = room_in-list _ _ _ was in absurd (omega arith)
+returns-in_err-insert-in-None-clause-there c there = grind (arith, common_steps, list_of-not_lent, room_in-list)
 
 pub returns-in-Some-clause-ok : goal.returns-in-Some-clause-ok
 returns-in-Some-clause-ok c =

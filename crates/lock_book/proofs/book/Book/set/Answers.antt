@@ -1,3 +1,4 @@
+use Rattle.std.proofs.lemmas.Grind.{common_steps}
 use Rattle.std.proofs.Common.{◌≡◌, ◌∙◌, ap, sym, subst, true, refl, Some, None, Option, arith}
 use Rattle.std.specs.Prelude.{if◌then◌else◌}
 use Rattle.range_core.specs.declared.Mode.{Mode}
@@ -103,23 +104,13 @@ returns-in_ok-insert-in-None-clause-ok c =
     ∙ ap (λ (other : Option Mode). if is_covered c.args.span byte then c.args.mode else other) (c.new-added.ensures.modes byte))
 
 pub returns-then-is_none-clause-ok : goal.returns-then-is_none-clause-ok
-returns-then-is_none-clause-ok c =
-    SetsOwnerMode-nothing c.args.self.now _ c.args.owner _ _ c.get_mut.follows.holds-at-none refl
-    (list_of-not_lent _ _ _ c.get_mut.ensures.value c.in-None.is) (none_from_test c.args.mode c.if-is_none.ensures)
+returns-then-is_none-clause-ok c = grind (arith, common_steps, SetsOwnerMode-nothing, list_of-not_lent, none_from_test)
 
 pub invariant_of-self-then-is_none : goal.invariant_of-self-then-is_none
-invariant_of-self-then-is_none c =
-    let book = c.args.self.now in
-    let kept = AreKept-left c.raise.new.self book _
-    (AreCovered-grown c.prepare.new.self c.raise.new.self c.raise.ensures.kept book c.prepare.ensures) c.get_mut.follows.holds-at-none in
-    record { in_use = kept.in_use; covered = kept.covered }
+invariant_of-self-then-is_none c = grind (arith, common_steps, AreKept-left, AreCovered-grown)
 
 pub invariant_of-self-in-Break-branch-2 : goal.invariant_of-self-in-Break-branch-2
-invariant_of-self-in-Break-branch-2 c =
-    let book = c.args.self.now in
-    let kept = AreKept-left c.raise.new.self book _
-    (AreCovered-grown c.prepare.new.self c.raise.new.self c.raise.ensures.kept book c.prepare.ensures) c.get_mut.follows.holds-at-none in
-    record { in_use = kept.in_use; covered = kept.covered }
+invariant_of-self-in-Break-branch-2 c = grind (arith, common_steps, AreKept-left, AreCovered-grown)
 
 pub returns-in_err-set-in-Some-clause-unlock : goal.returns-in_err-set-in-Some-clause-unlock
 unfolding byte_modes_of

@@ -1,20 +1,15 @@
-use Rattle.std.proofs.Common.{◌++◌, ◌∙◌, ap, sym, map, take, List}
+use Rattle.std.proofs.Common.{arith, ◌++◌, ◌∙◌, ap, map, List}
+use Rattle.std.proofs.lemmas.Grind.{common_steps}
 use Rattle.std.proofs.lemmas.List.{map_more, take_all}
 use Rattle.range_core.specs.Changes.{modes_of}
 use Rattle.range_core.specs.declared.Mode.{Mode}
 use Rattle.range_core.specs.declared.Span.{Span}
-use Rattle.lock_book.specs.declared.Held.{Held}
 use Rattle.lock_book.proofs.ListLemmas.{pushed}
 use Rattle.lock_book.proofs.RunLemmas.{run_line, lines_of_runs}
 use Rattle.lock_book.proofs.book.reports.push_runs.Goals as goal
 
 pub loop-mode-preserved : goal.loop-mode-preserved
-loop-mode-preserved c =
-    let runs = c.runs-mode-items.result.now in
-    pushed c.args.locks.now.items c.loop-mode.locks.items c.push.new.self.items
-    (map (run_line c.args.file c.args.owner) (take c.loop-mode.mode-index runs)) _ c.in_ok-push.ensures.items c.loop-mode.invariant
-    ∙ ap (λ (l : List Held). c.args.locks.now.items ++ l)
-    (sym (map_more (run_line c.args.file c.args.owner) runs c.loop-mode.mode-index _ c.loop-mode-test.true))
+loop-mode-preserved c = grind (arith, common_steps, pushed, run_line, map_more)
 
 pub returns : goal.returns
 returns c =

@@ -1,4 +1,5 @@
-use Rattle.std.proofs.Common.{◌≡◌, ◌<◌, ◌∙◌, ap, sym, subst, refl, arith, false, List, length, get_or}
+use Rattle.std.proofs.lemmas.Grind.{common_steps}
+use Rattle.std.proofs.Common.{◌≡◌, ◌∙◌, ap, sym, subst, arith, false, List, length, get_or}
 use Rattle.std.specs.Prelude.{◌==◌, if◌then◌else◌}
 use Rattle.std.specs.Vec.{vec_len}
 use Rattle.std.proofs.lemmas.List.{with_items_is}
@@ -9,22 +10,10 @@ use Rattle.wait_core.proofs.PairLemmas.{cleared_all, cleared_more, left_more}
 use Rattle.wait_core.proofs.pairs.Pairs.clear.Goals as goal
 
 pub loop-row-init : goal.loop-row-init
-loop-row-init c = record {
-  cleared = λ k q below few. absurd (omega (arith, below));
-  left = λ k past. refl;
-}
+loop-row-init c = grind (arith, common_steps)
 
 pub loop-row-preserved : goal.loop-row-preserved
-loop-row-preserved c =
-    let was = c.deref_mut-row-items.result.now in
-    let now = c.loop-row.row-items in
-    let i = c.loop-row.row-index in
-    let within : i < length now = omega (arith, c.loop-row-test.true, c.loop-row.auto.row-items) in
-    record {
-      cleared = cleared_more was now c.without.result i c.args.process within
-          c.without.ensures c.loop-row.invariant.cleared c.loop-row.invariant.left;
-      left = left_more was now c.without.result i c.loop-row.invariant.left;
-    }
+loop-row-preserved c = grind (arith, common_steps, cleared_more, left_more)
 
 pub returns : goal.returns
 unfolding pair_in

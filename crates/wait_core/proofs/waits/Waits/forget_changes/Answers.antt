@@ -1,4 +1,5 @@
-use Rattle.std.proofs.Common.{[]}
+use Rattle.std.proofs.Common.{arith}
+use Rattle.std.proofs.lemmas.Grind.{common_steps}
 use Rattle.wait_core.specs.Settled.{changed_files}
 use Rattle.wait_core.specs.WaitsView.{waits_of, policy_of}
 use Rattle.wait_core.proofs.SettledLemmas.{elsewhere_all}
@@ -6,6 +7,4 @@ use Rattle.wait_core.proofs.waits.Waits.forget_changes.Goals as goal
 
 pub returns-clause-blocked : goal.returns-clause-blocked
 unfolding waits_of policy_of changed_files
-returns-clause-blocked c locks all =
-    let self = c.args.self.now in
-    record { blocked = elsewhere_all _ self.policy locks [] self.waits.items all }
+returns-clause-blocked c locks all = grind (arith, common_steps, elsewhere_all)

@@ -1,7 +1,7 @@
-use Rattle.std.proofs.Common.{ℕ, ◌≡◌, ◌≤◌, ◌∙◌, true, false, inl, inr, sym, ap, subst, arith}
+use Rattle.std.proofs.lemmas.Grind.{common_steps}
+use Rattle.std.proofs.Common.{ℕ, ◌≤◌, ◌∙◌, inl, inr, sym, subst, arith}
 use Rattle.std.specs.Prelude.{IsTrue, ◌==◌}
 use Rattle.std.proofs.lemmas.Bool.{eqb-true, or_left}
-use Rattle.wait_core.specs.declared.processes.ProcessSet.{ProcessSet}
 use Rattle.wait_core.specs.Locks.{locks_of}
 use Rattle.wait_core.specs.Cycles.{WaitsFor}
 use Rattle.wait_core.specs.Processes.{is_member}
@@ -12,14 +12,7 @@ use Rattle.wait_core.proofs.ReachLemmas.{blocked_reached, reach_step, reached_cl
 use Rattle.wait_core.proofs.waits.Waits.is_led_back.Goals as goal
 
 pub loop-next-init : goal.loop-next-init
-loop-next-init c =
-    let self = c.args.self.now in
-    let locks = locks_of c.args.books.now in record {
-      blockers = λ q one few blocked. (c.blockers-reached.ensures q one few).1 blocked;
-      reached = λ q one few known. blocked_reached (policy_of self) locks (waits_of self) c.args.wait.now q ((c.blockers-reached.ensures q one few).0 known);
-      followed = λ p few known. absurd (let none = ap (λ (set : ProcessSet). is_member set p) c.empty-followed.ensures ∙ none_in p in
-          let no : true ≡ false = sym known ∙ none in cc);
-    }
+loop-next-init c = grind (arith, common_steps, blocked_reached, none_in)
 
 pub loop-next-preserved : goal.loop-next-preserved
 loop-next-preserved c =
