@@ -107,18 +107,10 @@ gathered_skip D p n marks numbers closed h =
     }
   where
     agree : (k : ℕ) → D.description_of p n ≡ None → (below (n + 1) k ≡ below n k) ⊎ (D.description_of p k ≡ None)
-    agree k was =
-        elim (cases_eq k n) [
-          | inl here ↦ inr (ap (D.description_of p) here ∙ was)
-          | inr there ↦ inl (below_more n k there)
-        ]
+    agree k was = grind (arith, common_steps, cases_eq, below_more)
 
     flipped : (k : ℕ) → D.description_of p n ≡ None → (below n k ≡ below (n + 1) k) ⊎ (D.description_of p k ≡ None)
-    flipped k was =
-        elim (agree k was) [
-          | inl tests ↦ inl (sym tests)
-          | inr closed_one ↦ inr closed_one
-        ]
+    flipped k was = grind (arith, common_steps)
 
 -- the marks after one more
 marks_more : (D : Descriptors) (p n : ℕ) (marks : List Bool) (place file d : ℕ) → place ≡ file → place < length marks → D.description_of p n ≡ Some d → option_map (λ o. o.file) (description_numbered D.descriptions d) ≡ Some file
@@ -214,15 +206,7 @@ gathered_all D p limit marks numbers released none h files rising same =
     )
   where
     under : (k d : ℕ) → D.description_of p k ≡ Some d → k < limit
-    under k d refers =
-        elim (cases_lt k limit) [
-          | inl inside ↦ inside
-          | inr past ↦ absurd (none-some d (sym (none k past) ∙ refers))
-        ]
+    under k d refers = grind (arith, common_steps, cases_lt, none-some)
 
     agree : (k : ℕ) → (below limit k ≡ true) ⊎ (D.description_of p k ≡ None)
-    agree k =
-        elim (all_below D p limit none k) [
-          | inl inside ↦ inl (sym inside)
-          | inr past ↦ inr past
-        ]
+    agree k = grind (arith, common_steps, all_below)

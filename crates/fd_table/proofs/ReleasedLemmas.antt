@@ -67,12 +67,7 @@ open_with D p fd from d refers apart x = (
   λ h.
       elim (place_cases p fd h.process h.fd) [
         | inl here ↦ absurd (none-some x (sym (ap (λ b. cond b None (D.description_of h.process h.fd)) here.2) ∙ h.refers))
-        | inr there ↦
-            record {
-              process = h.process;
-              fd = h.fd;
-              refers = ap (λ b. cond b (Some d) (D.description_of h.process h.fd)) there.1 ∙ sym (ap (λ b. cond b None (D.description_of h.process h.fd)) there.1) ∙ h.refers;
-            }
+        | inr there ↦ grind (arith, common_steps)
       ],
   λ h.
       elim (place_cases p fd h.process h.fd) [
@@ -83,12 +78,7 @@ open_with D p fd from d refers apart x = (
               fd = from;
               refers = without_one-other D p fd from apart ∙ refers ∙ ap Some same;
             }
-        | inr there ↦
-            record {
-              process = h.process;
-              fd = h.fd;
-              refers = ap (λ b. cond b None (D.description_of h.process h.fd)) there.1 ∙ sym (ap (λ b. cond b (Some d) (D.description_of h.process h.fd)) there.1) ∙ h.refers;
-            }
+        | inr there ↦ grind (arith, common_steps)
       ],
 )
 

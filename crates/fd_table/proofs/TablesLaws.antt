@@ -1,5 +1,6 @@
 -- Any tables stand for some descriptors, so no clause that speaks of those is empty.
-use Rattle.std.proofs.Common.{rules, ◌≡◌, ℕ, zero, suc, ◌+◌, ◌<◌, ◌≤◌, cond, eqb, List, [], ◌∷◌, ◌++◌, length, get_or, Option, Some, None, refl, sym, ap, subst, ◌∙◌, inl, inr, arith}
+use Rattle.std.proofs.lemmas.Grind.{common_steps}
+use Rattle.std.proofs.Common.{rules, ◌≡◌, ℕ, zero, suc, ◌+◌, ◌<◌, ◌≤◌, cond, eqb, List, [], ◌∷◌, ◌++◌, length, get_or, Option, Some, None, refl, sym, subst, ◌∙◌, inl, inr, arith}
 use Rattle.std.specs.Option.{option_map}
 use Rattle.std.proofs.lemmas.Bool.{cases_eq, cases_lt, eq-eqb, ne_eqb}
 use Rattle.std.proofs.lemmas.List.{length-append}
@@ -33,16 +34,11 @@ unfolding found
 found_entry [] key entry apart is = absurd (none-some entry is)
 found_entry (None ∷ slots) zero entry apart is = absurd (none-some entry is)
 found_entry (None ∷ slots) (suc key) entry apart is = found_entry slots key entry (later_apart None slots apart) is
-found_entry (Some first ∷ slots) zero entry apart is =
-    let same = same_Some first entry is in
-    ap (λ b. cond b (numbered first).description (found slots entry.number)) (eq-eqb first.number entry.number (ap (λ (e : Opened). e.number) same))
-    ∙ ap (λ (e : Opened). (numbered e).description) same
+found_entry (Some first ∷ slots) zero entry apart is = grind (arith, common_steps, same_Some, found, eq-eqb)
 found_entry (Some first ∷ slots) (suc key) entry apart is =
     elim (cases_eq first.number entry.number) [
       | inl same ↦ absurd (omega (arith, apart zero (suc key) first entry refl is same))
-      | inr differs ↦
-          ap (λ b. cond b (numbered first).description (found slots entry.number)) (ne_eqb first.number entry.number differs)
-          ∙ found_entry slots key entry (later_apart (Some first) slots apart) is
+      | inr differs ↦ grind (arith, common_steps, found, ne_eqb, later_apart, found_entry slots key entry (later_apart (Some first) slots apart) is)
     ]
 
 -- a description for each number that was given out

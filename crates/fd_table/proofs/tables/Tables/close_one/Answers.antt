@@ -1,4 +1,5 @@
-use Rattle.std.proofs.Common.{◌≡◌, ◌≢◌, None, refl, sym, subst, ◌∙◌}
+use Rattle.std.proofs.Common.{rules, arith, ◌≡◌, ◌≢◌, None, refl, sym, subst, ◌∙◌}
+use Rattle.std.proofs.lemmas.Grind.{common_steps}
 use Rattle.std.proofs.lemmas.Option.{same_Some}
 use Rattle.slab.proofs.SlabLemmas.{Updates-with_value}
 use Rattle.fd_table.specs.declared.tables.Opened.{Opened}
@@ -11,17 +12,10 @@ use Rattle.fd_table.proofs.ChangeLemmas.{one_less, entries_dropped, seen_dropped
 use Rattle.fd_table.proofs.tables.Tables.close_one.Goals as goal
 
 pub invariant_of-self-clause-rowed : goal.invariant_of-self-clause-rowed
-invariant_of-self-clause-rowed c =
-    let t = c.args.self.now in
-    rw c.set_key.ensures (AreRows-with_key t.processes t.limits t.rows.items c.args.p c.args.fd None t.rowed)
+invariant_of-self-clause-rowed c = grind (arith, common_steps, AreRows-with_key)
 
 pub invariant_of-self-clause-entered : goal.invariant_of-self-clause-entered
-invariant_of-self-clause-entered c =
-    let t = c.args.self.now in
-    let held = sym c.key_at.ensures ∙ c.in_ok-key.was in
-    rw c.set_key.ensures
-    (entries_dropped t.rows.items t.opened c.remove.new.self t.made c.args.p c.args.fd c.in_ok-key.key c.index.result.now t.entered held c.index.ensures c.if-users-eq1.true
-    c.remove.ensures.updates)
+invariant_of-self-clause-entered c = search (rules, entries_dropped)
 
 pub returns-then-users-eq1-clause-step : goal.returns-then-users-eq1-clause-step
 unfolding view_of
@@ -38,9 +32,7 @@ returns-then-users-eq1-clause-step c = λ D h.
     )
 
 pub invariant_of-self-2-clause-rowed : goal.invariant_of-self-2-clause-rowed
-invariant_of-self-2-clause-rowed c =
-    let t = c.args.self.now in
-    rw c.set_key.ensures (AreRows-with_key t.processes t.limits t.rows.items c.args.p c.args.fd None t.rowed)
+invariant_of-self-2-clause-rowed c = grind (arith, common_steps, AreRows-with_key)
 
 pub invariant_of-self-2-clause-entered : goal.invariant_of-self-2-clause-entered
 invariant_of-self-2-clause-entered c =
@@ -71,7 +63,4 @@ returns-clause-step c = λ D h.
     )
 
 pub returns-clause-rows : goal.returns-clause-rows
-returns-clause-rows c =
-    let t = c.args.self.now in
-    let held = sym c.key_at.ensures ∙ c.in_ok-key.was in
-    rw c.set_key.ensures (WithKey-with_key t.rows.items c.args.p c.args.fd None (key_within t.rows.items c.args.p c.args.fd c.in_ok-key.key held).1)
+returns-clause-rows c = search (rules, WithKey-with_key, key_within)

@@ -1,6 +1,7 @@
+use Rattle.std.proofs.lemmas.Grind.{common_steps}
 use Rattle.std.proofs.Common.{◌≡◌, ◌<◌, List, false, length, set, refl, sym, ap, subst, ◌∙◌, arith}
 use Rattle.fd_table.specs.Rows.{Keys, row_at, has_row}
-use Rattle.fd_table.specs.Soundness.{AreRows, AreEntries}
+use Rattle.fd_table.specs.Soundness.{AreEntries}
 use Rattle.fd_table.specs.Descriptors.{with_child}
 use Rattle.fd_table.specs.TablesView.{view_of, processes_of, seen_in, IsSeen}
 use Rattle.fd_table.proofs.RowsLemmas.{row-short}
@@ -21,13 +22,7 @@ add_users-requires c = λ key entry is.
 
 pub invariant_of-self-clause-rowed : goal.invariant_of-self-clause-rowed
 unfolding view_of
-invariant_of-self-clause-rowed c =
-    let t = c.args.self.now in
-    let row : c.in_ok-row.row ≡ row_at t.rows.items c.args.p = row_read t.rows.items c.from.result c.args.p c.in_ok-row.row c.index.result.now c.from.ensures (row_of_alive t.rows.items c.args.p c.requires) c.index.ensures c.in_ok-row.ensures in
-    let after : set t.rows.items c.from-2.result c.in_ok-row.row ≡ set t.rows.items c.args.child (row_at t.rows.items c.args.p) =
-    ap (λ place. set t.rows.items place c.in_ok-row.row) c.from-2.ensures ∙ ap (set t.rows.items c.args.child) row in
-    subst (λ (rows : List Keys). AreRows t.processes t.limits rows) (sym after)
-    (AreRows-forked t.processes t.limits t.rows.items c.args.p c.args.child (omega (arith, t.rowed.count)) (omega arith) c.requires t.rowed)
+invariant_of-self-clause-rowed c = grind (arith, common_steps, row_read, row_of_alive, AreRows-forked)
 
 pub invariant_of-self-clause-entered : goal.invariant_of-self-clause-entered
 unfolding view_of

@@ -1,3 +1,4 @@
+use Rattle.std.proofs.lemmas.Grind.{common_steps}
 use Rattle.std.proofs.Common.{refl, arith}
 use Rattle.fd_table.specs.Descriptors.{descriptor_limit}
 use Rattle.fd_table.specs.TablesView.{view_of}
@@ -5,15 +6,7 @@ use Rattle.fd_table.proofs.OpeningLemmas.{AreOpeningRows, opening_keys, opening_
 use Rattle.fd_table.proofs.tables.Tables.new.Goals as goal
 
 pub invariant_of-result : goal.invariant_of-result
-invariant_of-result c =
-    let made : AreOpeningRows c.in_ok-rows.rows.items c.args.processes c.descriptors.result = record { count = c.in_ok-rows.ensures.count; each = c.in_ok-rows.ensures.rows } in
-    let rows : AreOpeningRows c.in_ok-rows.rows.items c.args.processes (descriptor_limit c.args.limits) = rw c.descriptors.ensures at made in
-    record {
-      rowed = opening_are_rows _ _ _ (omega arith) c.requires.0 rows;
-      entered = opening_are_entries _ _ (opening_keys _ _ _ c.requires.0 rows) c.new.ensures.empty;
-      sized = λ file. omega (arith, opening_size _ file c.empty_files.ensures);
-      bounded = omega arith;
-    }
+invariant_of-result c = grind (arith, common_steps, opening_are_rows, opening_are_entries, opening_keys, opening_size)
 
 pub returns-clause-opening : goal.returns-clause-opening
 unfolding view_of

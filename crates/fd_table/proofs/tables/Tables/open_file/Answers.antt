@@ -1,4 +1,5 @@
-use Rattle.std.proofs.Common.{◌+◌, Some, refl, ap, inl, arith}
+use Rattle.std.proofs.Common.{rules, ◌+◌, Some, refl, ap, inl, arith}
+use Rattle.std.proofs.lemmas.Grind.{common_steps}
 use Rattle.slab.specs.Slab.{Slab}
 use Rattle.fd_table.specs.declared.tables.Opened.{Opened}
 use Rattle.fd_table.specs.TablesView.{view_of, limits_of, seen_in}
@@ -22,17 +23,10 @@ returns-in_default-clause-step c = λ n D h.
     )
 
 pub invariant_of-self-2-clause-rowed : goal.invariant_of-self-2-clause-rowed
-invariant_of-self-2-clause-rowed c =
-    let t = c.args.self.now in
-    rw c.set_key.ensures (AreRows-with_key t.processes t.limits t.rows.items c.args.p c.in-Some.fd (Some c.in_ok-key.key) t.rowed)
+invariant_of-self-2-clause-rowed c = grind (arith, common_steps, AreRows-with_key)
 
 pub invariant_of-self-2-clause-entered : goal.invariant_of-self-2-clause-entered
-invariant_of-self-2-clause-entered c =
-    let t = c.args.self.now in
-    let least = c.in-Some.ensures.some in
-    rw c.set_key.ensures
-    (entries_opened t.rows.items t.opened c.insert.new.self t.made c.args.p c.in-Some.fd c.in_ok-key.key c.args.file c.args.access t.entered
-    (row_inside t.rows.items c.args.p c.in-Some.fd least.within) least.within least.closed (omega arith) c.in_ok-key.ensures.was_vacant c.in_ok-key.ensures.updates)
+invariant_of-self-2-clause-entered c = search (rules, entries_opened, row_inside)
 
 pub returns-clause-step : goal.returns-clause-step
 unfolding view_of limits_of

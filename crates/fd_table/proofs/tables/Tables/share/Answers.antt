@@ -1,3 +1,4 @@
+use Rattle.std.proofs.lemmas.Grind.{common_steps}
 use Rattle.std.proofs.Common.{Some, refl, sym, ◌∙◌, arith}
 use Rattle.slab.proofs.SlabLemmas.{Updates-with_value}
 use Rattle.fd_table.specs.TablesView.{view_of}
@@ -13,9 +14,7 @@ overflow_add-index_mut c =
     omega (arith, few_users t.processes t.limits t.rows.items t.opened t.made c.in-Some.key _ t.rowed t.entered c.index_mut.ensures.value)
 
 pub invariant_of-self-clause-rowed : goal.invariant_of-self-clause-rowed
-invariant_of-self-clause-rowed c =
-    let t = c.args.self.now in
-    rw c.set_key.ensures (AreRows-with_key t.processes t.limits t.rows.items c.args.p c.args.to (Some c.in-Some.key) t.rowed)
+invariant_of-self-clause-rowed c = grind (arith, common_steps, AreRows-with_key)
 
 pub invariant_of-self-clause-entered : goal.invariant_of-self-clause-entered
 invariant_of-self-clause-entered c =
