@@ -1,21 +1,16 @@
 -- The first of a list of which something holds: for `Manager::first_in_the_way`, clause `first`.
-use Rattle.std.proofs.Common.{ℕ, suc, ◌≡◌, ◌+◌, ◌<◌, List, ◌++◌, length, get_or, take, drop, refl, sym, ap, subst, ◌∙◌, All, arith, inl, inr}
-use Rattle.std.specs.Prelude.{Option, MatchOption, Some, None}
+use Rattle.std.proofs.Common.{rules, ℕ, suc, ◌≡◌, ◌<◌, List, ◌++◌, length, get_or, take, drop, sym, ap, subst, ◌∙◌, All, arith}
+use Rattle.std.proofs.lemmas.Grind.{common_steps}
+use Rattle.std.specs.Prelude.{Option, MatchOption, Some, None, slice_get}
 use Rattle.std.proofs.Math.Seq.{drop-cons}
-use Rattle.std.proofs.lemmas.List.{take-append-drop, get_or-take, length-take}
-use Rattle.std.specs.Prelude.{slice_get}
-use Rattle.std.proofs.lemmas.List.{get_or-append-add, length-append}
-use Rattle.range_core.specs.declared.Mode.{Mode}
-use Rattle.range_core.specs.Ranges.{Conflict, HeldConflicts}
-use Rattle.lock_book.specs.declared.Owner.TheVariants.{Description}
+use Rattle.std.proofs.lemmas.List.{take-append-drop, get_or-take, length-take, get_or-append-add, length-append}
 use Rattle.lock_book.specs.declared.Held.{Held}
 use Rattle.lock_book.specs.declared.book.Book.{Book}
 use Rattle.lock_book.specs.Books.{byte_modes_of, flock_modes_of}
 use Rattle.lock_book.specs.Conflicts.{ByteModes, FlockModes, ByteConflict, FlockConflict}
-use Rattle.lock_book.specs.Reports.{IsFileReport, IsFlockLine}
+use Rattle.lock_book.specs.Reports.{IsFileReport}
 use Rattle.wait_core.specs.declared.Family.TheVariants.{Bytes, Whole}
-use Rattle.wait_core.specs.declared.Policy.{Policy}
-use Rattle.wait_core.specs.declared.Policy.TheVariants.{Held as HeldAlone, Queue}
+use Rattle.wait_core.specs.declared.Policy.TheVariants.{Queue}
 use Rattle.wait_core.specs.declared.Wait.{Wait}
 use Rattle.wait_core.specs.Locks.{locks_of, byte_modes_at, flock_modes_at}
 use Rattle.wait_core.specs.Blocking.{IsBlockedIn, IsBlockedByLock, IsBlocked, IsQueued, WaitsConflict}
@@ -44,38 +39,12 @@ first_at Holds xs i x within none holds = record {
 pub first_of_bytes : (books : List Book) (book : Book) (wait : Wait) (first : Option Held) → slice_get books wait.file ≡ Some book → wait.family ≡ Bytes
     → MatchOption first (¬ ByteConflict (byte_modes_of book) wait.owner wait.span wait.mode) (IsFirstByteLock (byte_modes_of book) wait)
     → MatchOption first (¬ IsBlockedByLock (locks_of books) wait) (IsFirstLockOf wait.family (locks_of books) wait)
-first_of_bytes books book wait first was family given =
-    let here : MatchOption first (¬ IsBlockedIn Bytes (locks_of books) wait) (IsFirstLockOf Bytes (locks_of books) wait) =
-    subst (λ e. MatchOption first (¬ ByteConflict (byte_modes_at e) wait.owner wait.span wait.mode) (IsFirstByteLock (byte_modes_at e) wait)) (sym was) given in
-    subst (λ f. MatchOption first (¬ IsBlockedIn f (locks_of books) wait) (IsFirstLockOf f (locks_of books) wait)) (sym family) here
+first_of_bytes books book wait first was family given = grind (arith, common_steps)
 
 -- where no line of a file's report is against the request, no flock lock is
 no_flock : (bytes : ByteModes) (flocks : FlockModes) (wait : Wait) (report : List Held) → IsFileReport wait.file bytes flocks report
     → All (λ line. ¬ IsFlockAgainst wait line) report → ¬ FlockConflict flocks wait.owner wait.mode
-no_flock bytes flocks wait report is none conflict = stands (flocks conflict.description) refl conflict.conflicts
-  where
-    against : (mode : Mode) → Conflict mode wait.mode → (line : Held) → IsFlockLine wait.file flocks line
-        → (line.owner ≡ Description conflict.description) × (line.mode ≡ mode) → IsFlockAgainst wait line
-    against mode conflicts line says same = record {
-      whole = says.whole;
-      another = λ own. conflict.another (sym same.0 ∙ own);
-      conflicts = subst (λ m. Conflict m wait.mode) (sym same.1) conflicts;
-    }
-
-    behind : (place : ℕ) (line : Held) → place < length is.flock_locks → get_or is.flock_locks place line ≡ line → ¬ IsFlockAgainst wait line
-    behind place line within at h =
-        let more = length-append is.byte_locks is.flock_locks in
-        let whole = ap length is.is in
-        none (length is.byte_locks + place) line (omega arith)
-        (subst (IsFlockAgainst wait) (sym (ap (λ (l : List Held). get_or l (length is.byte_locks + place) line) is.is ∙ get_or-append-add is.byte_locks is.flock_locks place line ∙ at)) h)
-
-    stands : (held : Option Mode) → flocks conflict.description ≡ held → HeldConflicts held wait.mode → ⊥
-    stands None was conflicts = conflicts
-    stands (Some mode) was conflicts =
-        let found = is.are_flocks.every conflict.description mode was in
-        let says = is.are_flocks.each found.0 found.1 found.2 in
-        behind found.0 found.1 found.2 found.3
-        (against mode conflicts found.1 (subst (IsFlockLine wait.file flocks) found.3 says) found.4)
+no_flock bytes flocks wait report is none conflict = search (rules, length-append, get_or-append-add)
 
 -- of flock locks the first line of the file's report says the first
 pub first_of_flocks : (books : List Book) (book : Book) (wait : Wait) (items report : List Held) (first : Option Held) → slice_get books wait.file ≡ Some book
@@ -102,17 +71,4 @@ pub wait_in_the_way : (m : Machine) (wait : Wait) (queued : Option Wait) (first 
     → MatchOption queued (first ≡ None) (λ other. first ≡ Some (obstacles.Wait other))
     → MatchOption first (¬ IsBlocked (machine_rules m).policy (locks_held S) S.waits wait)
     (IsFirstInTheWay (machine_rules m).policy (locks_held S) S.waits wait)
-wait_in_the_way m wait None first S h free unqueued is =
-    subst (λ f. MatchOption f (¬ IsBlocked (machine_rules m).policy (locks_held S) S.waits wait) (IsFirstInTheWay (machine_rules m).policy (locks_held S) S.waits wait)) (sym is)
-    (at_state m S (λ locks waits. ¬ IsBlocked (machine_rules m).policy locks waits wait) h (unblocked (machine_rules m).policy unqueued))
-  where
-    unblocked : (policy : Policy) → ¬ IsQueued policy (machine_waits m) wait → ¬ IsBlocked policy (machine_locks m) (machine_waits m) wait
-    unblocked HeldAlone none blocked = free blocked
-    unblocked Queue none (inl blocked) = free blocked
-    unblocked Queue none (inr queued) = none queued
-wait_in_the_way m wait (Some other) first S h free queued is =
-    subst (λ f. MatchOption f (¬ IsBlocked (machine_rules m).policy (locks_held S) S.waits wait) (IsFirstInTheWay (machine_rules m).policy (locks_held S) S.waits wait)) (sym is) (
-      queued.0,
-      at_state m S (λ locks waits. ¬ IsBlockedByLock locks wait) h free,
-      at_state m S (λ locks waits. IsFirstOf (λ v. WaitsConflict v wait) waits other) h queued.1,
-    )
+wait_in_the_way m wait queued first S h h2 h3 h4 = search (rules, at_state)

@@ -1,5 +1,6 @@
 -- From a call on descriptors to what the request comes to.
-use Rattle.std.proofs.Common.{ℕ, ◌≡◌, refl, subst, Ok, Err, Result, IfOk, List}
+use Rattle.std.proofs.Common.{arith, ℕ, ◌≡◌, subst, Ok, Err, Result, IfOk, List}
+use Rattle.std.proofs.lemmas.Grind.{common_steps}
 use Rattle.std.proofs.Math.Logic.{∥∥₁_elim}
 use Rattle.std.specs.Prelude.{MatchResult}
 use Rattle.range_core.specs.declared.Memory.{Memory}
@@ -50,10 +51,7 @@ pub done_by : {X : Type 0} (Gives : Giving X) (after : State → Descriptors →
     → IsServedBy Gives after reply old p request
     → ((S : State) (E : Descriptors) → Shows old S → Gives S.descriptors (Ok x) E → StandFor new.tables E → Shows new (after S E x))
     → Gave Gives old.tables new.tables (Ok x) → Answers old new p request (reply x)
-done_by Gives after reply old new p request x served stands gave n S h =
-    let given = gave S.descriptors h.descriptors in
-    let T = after S given.0 x in
-    (T, served S n (answered T p n (reply x)) (Ok x, given.0, given.1, refl), stands S given.0 h given.1 given.2)
+done_by Gives after reply old new p request x served stands gave n S h = grind (arith, common_steps)
 
 -- the fault of a call that gives an X
 abbrev pub fault_of : (X : Type 0) → FdFault → Result X FdFault
@@ -61,9 +59,7 @@ fault_of X fault = Err fault
 
 -- a refusal isn't want of memory
 not_memory : (X : Type 0) (S : State) (p n : ℕ) (fault : FdFault) (outcome : Outcome) → IsRefusal S p n fault outcome → HadMemory (fault_of X fault)
-not_memory X S p n fault outcome refusal memory e =
-    let is_memory : fault ≡ faults.Memory memory = cc in
-    subst (λ f. IsRefusal S p n f outcome) is_memory refusal
+not_memory X S p n fault outcome refusal memory e = grind (arith, common_steps)
 
 -- a call that is refused, or that lacks memory
 pub refused_by : {X : Type 0} (Gives : Giving X) (after : State → Descriptors → X → State) (reply : X → Reply) (old new : Machine) (p : ℕ) (request : Request) (fault : FdFault) (result : Result Reply Memory)

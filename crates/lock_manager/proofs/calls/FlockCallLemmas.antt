@@ -1,12 +1,11 @@
 -- What flock comes to: at once, refused, or later.
-use Rattle.std.proofs.Common.{arith, ℕ, ◌≡◌, ◌≢◌, refl, sym, ◌∙◌, ap, subst, Bool, true, false, Option, Some, None, List, [], ◌∷◌, ◌++◌, inl, inr, ◌⊎◌, IsTrue}
+use Rattle.std.proofs.Common.{rules, arith, ℕ, ◌≡◌, ◌≢◌, refl, sym, ◌∙◌, ap, subst, Bool, true, false, Option, Some, None, List, [], ◌∷◌, ◌++◌, inl, inr, ◌⊎◌, IsTrue}
+use Rattle.std.proofs.lemmas.Grind.{common_steps}
 use Rattle.std.proofs.lemmas.Bool.{eq-eqb}
 use Rattle.std.proofs.lemmas.Option.{same_Some}
 use Rattle.range_core.specs.declared.Mode.{Mode}
-use Rattle.range_core.specs.declared.Mode.TheVariants.{Read, Write}
 use Rattle.lock_book.specs.Changes.{flock_mode_in}
-use Rattle.std.proofs.lemmas.Grind.{common_steps}
-use Rattle.std.specs.Prelude.{IsFalse, IsTrue, not, IsSome, ◌↔◌, slice_get, slice_set, ◌==◌, ◌&&◌, ◌||◌, if◌then◌else◌}
+use Rattle.std.specs.Prelude.{IsFalse, IsSome, ◌↔◌, slice_get, slice_set, ◌==◌, ◌||◌, if◌then◌else◌, IsTrue, not}
 use Rattle.std.specs.List.{list_any}
 use Rattle.lock_book.specs.declared.Owner.TheVariants.{Description}
 use Rattle.lock_book.specs.declared.book.Book.{Book}
@@ -16,16 +15,16 @@ use Rattle.fd_table.specs.declared.tables.Look.{Look}
 use Rattle.wait_core.specs.declared.Family.TheVariants.{Whole}
 use Rattle.wait_core.specs.declared.Wait.{Wait}
 use Rattle.wait_core.specs.Locks.{Locks, locks_of, flock_modes_at}
-use Rattle.wait_core.specs.Blocking.{IsBlockedByLock, IsBlocked, IsQueued}
-use Rattle.wait_core.specs.WaitsView.{wait_of, without_wait_of}
+use Rattle.wait_core.specs.Blocking.{IsBlockedByLock, IsQueued}
+use Rattle.wait_core.specs.WaitsView.{wait_of}
 use Rattle.lock_manager.specs.declared.machine.Machine.{Machine}
 use Rattle.lock_manager.specs.declared.request.Errno.TheVariants.{EAGAIN}
 use Rattle.lock_manager.specs.declared.request.Reply.TheVariants as replies
 use Rattle.lock_manager.specs.declared.request.Note.{Note}
 use Rattle.lock_manager.specs.declared.request.Note.TheVariants.{Answer, Waits}
 use Rattle.lock_manager.specs.declared.request.ProcState.TheVariants.{Live, Waiting}
-use Rattle.lock_manager.specs.State.{State, locks_held, with_flock_mode, with_lock_of, with_lock, with_process}
-use Rattle.lock_manager.specs.FlockCalls.{is_same_mode, wanted_flock, FlockTestComesTo, FlockModeComesTo, ConversionComesTo}
+use Rattle.lock_manager.specs.State.{State, locks_held, with_flock_mode, with_lock, with_process}
+use Rattle.lock_manager.specs.FlockCalls.{wanted_flock, FlockTestComesTo, FlockModeComesTo, ConversionComesTo}
 use Rattle.lock_manager.specs.ProcessCalls.{without_wait}
 use Rattle.lock_manager.specs.Settling.{Settles, granted}
 use Rattle.lock_manager.specs.declared.request.Rules.{Rules}
@@ -54,22 +53,14 @@ found_asks test (first ∷ rest) p wait found passes = at (first.p == p) found (
 
 -- a wait for a flock lock is one for that of its description on its file
 pub is_its_own_flock : (wait : Wait) (description : ℕ) → wait.family ≡ Whole → wait.owner ≡ Description description → is_flock_wait wait.file description wait ≡ true
-is_its_own_flock wait description family owner = rw (family, owner) (two (wait.file == wait.file) (description == description) (eq-eqb wait.file wait.file refl) (eq-eqb description description refl))
-  where
-    two : (a b : Bool) → a ≡ true → b ≡ true → (a && b) ≡ true
-    two a b e k = rw (e, k) refl
+is_its_own_flock wait description family owner = grind (arith, common_steps, eq-eqb)
 
 -- a machine that shows the state without the wait and with its flock lock shows what is granted
 pub shows_granted_flock : (machine : Machine) (S : State) (before : List Wait) (wait : Wait) (after : List Wait) (description : ℕ) → wait.family ≡ Whole → wait.owner ≡ Description description
     → AreApart S.waits → S.waits ≡ before ++ wait ∷ after
     → Shows machine (with_flock_mode (with_process (without_wait S wait.p) wait.p Live) wait.file description (Some wait.mode))
     → Shows machine (granted S before wait after)
-shows_granted_flock machine S before wait after description family owner apart place h =
-    let left : without_wait_of S.waits wait.p ≡ before ++ after =
-    ap (λ ws. without_wait_of ws wait.p) place ∙ without_middle before wait after (subst AreApart place apart) in
-    subst (λ f. Shows machine (with_process (record (with_lock_of f wait.owner S wait) { waits = before ++ after }) wait.p Live)) (sym family)
-    (subst (λ o. Shows machine (with_process (record (with_lock_of Whole o S wait) { waits = before ++ after }) wait.p Live)) (sym owner)
-    (record { bytes = h.bytes; flocks = h.flocks; descriptors = h.descriptors; waits = h.waits ∙ left; states = h.states }))
+shows_granted_flock machine S before wait after description family owner apart place h = grind (arith, common_steps, without_middle)
 
 -- in each state that old shows the test comes to this note, before whatever grants, and new shows the state that it leaves
 abbrev pub TestTells : Machine → Machine → Bool → Wait → Note → Type 0
@@ -107,31 +98,14 @@ flock_locked old new false look wanted note is note_is free stands grants S h =
 -- a lock blocks it, and it doesn't wait
 pub flock_held_off : (old : Machine) (nb : Bool) (wanted : Wait) (note : Note) → nb ≡ true → note ≡ Answer wanted.p wanted.n (replies.Err EAGAIN)
     → IsTestBlocked old nb wanted (machine_locks old) (machine_waits old) → TestTells old old nb wanted note
-flock_held_off old false wanted note never note_is blocked grants S h = absurd (cc)
-flock_held_off old true wanted note never note_is blocked grants S h = (
-  S,
-  elim (at_state old S (IsTestBlocked old true wanted) h blocked) [
-    | inl b ↦ inl (b, ap (λ k. record { told = k ∷ grants; after = S }) note_is)
-    | inr q ↦ absurd (let no = q.0 in cc)
-  ],
-  h,
-)
+flock_held_off old nb wanted note h h2 h3 h4 h5 h6 = grind (arith, common_steps, at_state)
 
 -- it waits
 pub flock_waiting : (old new : Machine) (nb : Bool) (wanted : Wait) → nb ≡ false
     → IsTestBlocked old nb wanted (machine_locks old) (machine_waits old)
     → ((S : State) → Shows old S → Shows new (with_process (record S { waits = S.waits ++ wanted ∷ [] }) wanted.p Waiting))
     → TestTells old new nb wanted (Waits wanted.p wanted.n)
-flock_waiting old new true wanted waits blocked stands grants S h = absurd (cc)
-flock_waiting old new false wanted waits blocked stands grants S h = (
-  with_process (record S { waits = S.waits ++ wanted ∷ [] }) wanted.p Waiting,
-  inl (either (at_state old S (IsTestBlocked old false wanted) h blocked), refl),
-  stands S h,
-)
-  where
-    either : IsTestBlocked old false wanted (locks_held S) S.waits → IsBlocked (machine_rules old).policy (locks_held S) S.waits wanted
-    either (inl b) = is_blocked (machine_rules old).policy (locks_held S) S.waits wanted (inl b)
-    either (inr q) = is_blocked (machine_rules old).policy (locks_held S) S.waits wanted (inr q.1)
+flock_waiting old new nb wanted h h2 h3 h4 h5 h6 = search (rules, at_state, is_blocked)
 
 -- a conversion: what the removal, the settling and the test come to
 pub converted : (old removed settled new : Machine) (nb : Bool) (look : Look) (wanted : Wait) (note : Note) (grants told : List Note)
@@ -189,19 +163,7 @@ pub flock_held : (machine : Machine) (nb : Bool) (look : Look) (wanted : Wait) (
     → told ≡ Answer wanted.p wanted.n replies.Ok ∷ []
     → (S : State) → Shows machine S
     → (T : State) × FlockModeComesTo (machine_rules machine) S look nb wanted (flock_mode_in S.flock_changes look.file look.desc) (record { told = told; after = T }) × Shows machine T
-flock_held machine nb look wanted book mode held told was is some same told_is S h = (
-  S,
-  subst (λ m. FlockModeComesTo (machine_rules machine) S look nb wanted m (record { told = told; after = S }))
-      (sym some ∙ flock_in_state machine S look.file look.desc book mode was is h)
-      (rw (one_mode held wanted.mode same) (ap (λ t. record { told = t; after = S }) told_is)),
-  h,
-)
-  where
-    one_mode : (one other : Mode) → one ≡ other → is_same_mode one other ≡ true
-    one_mode Read Read e = refl
-    one_mode Read Write e = cc
-    one_mode Write Read e = cc
-    one_mode Write Write e = refl
+flock_held machine nb look wanted book mode held told was is some same told_is S h = grind (arith, common_steps, flock_in_state)
 
 -- another mode is converted
 pub flock_converted : (old new : Machine) (nb : Bool) (look : Look) (wanted : Wait) (book : Book) (mode : Option Mode) (held : Mode) (told : List Note)
@@ -209,20 +171,7 @@ pub flock_converted : (old new : Machine) (nb : Bool) (look : Look) (wanted : Wa
     → ((S : State) → Shows old S → (T : State) × ConversionComesTo (machine_rules old) S look nb wanted (record { told = told; after = T }) × Shows new T)
     → (S : State) → Shows old S
     → (T : State) × FlockModeComesTo (machine_rules old) S look nb wanted (flock_mode_in S.flock_changes look.file look.desc) (record { told = told; after = T }) × Shows new T
-flock_converted old new nb look wanted book mode held told was is some other converts S h =
-    let given = converts S h in (
-      given.0,
-      subst (λ m. FlockModeComesTo (machine_rules old) S look nb wanted m (record { told = told; after = given.0 }))
-          (sym some ∙ flock_in_state old S look.file look.desc book mode was is h)
-          (rw (two_modes held wanted.mode other) given.1),
-      given.2,
-    )
-  where
-    two_modes : (one other : Mode) → one ≢ other → is_same_mode one other ≡ false
-    two_modes Read Read e = absurd (e refl)
-    two_modes Read Write e = refl
-    two_modes Write Read e = refl
-    two_modes Write Write e = absurd (e refl)
+flock_converted old new nb look wanted book mode held told was is some other converts S h = search (rules, flock_in_state)
 
 -- a description with a mode has a place
 pub place_of_held : (books : List Book) (file description : ℕ) (book : Book) (mode : Option Mode) (held : Mode) → slice_get books file ≡ Some book

@@ -1,6 +1,6 @@
 -- From the machine to the manager.
-use Rattle.std.proofs.Common.{ℕ, ◌≡◌, sym, ◌∙◌, subst, List, [], ◌++◌}
-use Rattle.lock_manager.specs.declared.request.Rules.{Rules}
+use Rattle.std.proofs.Common.{arith, ℕ, ◌≡◌, List, [], ◌++◌}
+use Rattle.std.proofs.lemmas.Grind.{common_steps}
 use Rattle.lock_manager.specs.Settling.{Settles}
 use Rattle.lock_manager.specs.declared.machine.Machine.{Machine}
 use Rattle.lock_manager.specs.declared.manager.Manager.{Manager}
@@ -11,8 +11,8 @@ use Rattle.wait_core.specs.Blocking.{AllBlocked}
 use Rattle.lock_manager.specs.State.{State}
 use Rattle.lock_manager.specs.Step.{Step}
 use Rattle.lock_manager.specs.Safety.{IsSafe}
-use Rattle.lock_manager.specs.MachineView.{Shows, SameMachine, Tells, machine_rules, machine_locks, machine_waits}
-use Rattle.lock_manager.specs.ManagerView.{StandsFor, SameManager, rules_of, processes_of, state_at, locks_in_books, waits_of}
+use Rattle.lock_manager.specs.MachineView.{Shows, Tells, machine_rules, machine_locks, machine_waits}
+use Rattle.lock_manager.specs.ManagerView.{StandsFor, rules_of, processes_of, state_at, locks_in_books, waits_of}
 
 -- the manager stands for what its machine shows
 pub stands_for : (manager : Manager) (S : State) → Shows manager.machine S → StandsFor manager S
@@ -23,17 +23,6 @@ stands_for manager S h = record { bytes = h.bytes; flocks = h.flocks; descriptor
 pub shows : (manager : Manager) (S : State) → StandsFor manager S → Shows manager.machine S
 unfolding locks_in_books state_at waits_of
 shows manager S h = record { bytes = h.bytes; flocks = h.flocks; descriptors = h.descriptors; waits = h.waits; states = h.states }
-
--- where the machine shows what it showed the manager stands for what it stood for
-pub same_manager : (old new : Manager) → SameMachine old.machine new.machine → SameManager old new
-unfolding rules_of processes_of state_at
-same_manager old new same =
-    record {
-      stands = λ S h. stands_for new S (same.shows S (shows old S h));
-      states = same.states;
-      rules = same.rules;
-      processes = same.processes;
-    }
 
 -- where each wait is blocked the machine is safe
 pub safe_machine : (machine : Machine) → AllBlocked (machine_rules machine).policy (machine_locks machine) [] (machine_waits machine)
@@ -48,17 +37,4 @@ pub one_step : (old new : Manager) (middle : Machine) (p n : ℕ) (request : Req
     → notes ≡ told ++ grants
     → (S : State) → StandsFor old S → (T : State) × Step (rules_of old) (processes_of old) S p n request notes T × StandsFor new T
 unfolding rules_of processes_of
-one_step old new middle p n request told grants notes live tells rules settles is S h =
-    let given = tells S (shows old S h) in
-    let settled = settles given.0 given.2 in (
-      settled.0,
-      record {
-        live = sym (h.states p) ∙ live;
-        outcome = record { told = told; after = given.0 };
-        comes_to = given.1;
-        grants = grants;
-        settles = subst (λ (rs : Rules). Settles rs.policy given.0 grants settled.0) rules settled.1;
-        are_notes = is;
-      },
-      stands_for new settled.0 settled.2,
-    )
+one_step old new middle p n request told grants notes h h2 h3 h4 h5 S h6 = grind (arith, common_steps, shows, stands_for)

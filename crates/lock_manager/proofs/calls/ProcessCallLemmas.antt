@@ -1,4 +1,5 @@
 -- What fork, exit, signal and kill do to the waits and to the states that a machine shows.
+use Rattle.std.proofs.lemmas.Grind.{common_steps}
 use Rattle.std.proofs.Common.{ℕ, suc, ◌≡◌, ◌≢◌, ◌≤◌, ◌+◌, refl, sym, ◌∙◌, ap, subst, List, [], ◌∷◌, length, Some, Bool, true, false, All, get_or, inl, inr, arith}
 use Rattle.std.proofs.Math.Logic.{∥∥₁_map}
 use Rattle.std.proofs.lemmas.Bool.{cases_Bool}
@@ -9,7 +10,7 @@ use Rattle.std.specs.Prelude.{◌==◌, if◌then◌else◌, not}
 use Rattle.std.specs.List.{filter, list_any}
 use Rattle.lock_book.specs.declared.book.Book.{Book}
 use Rattle.fd_table.specs.declared.tables.Tables.{Tables}
-use Rattle.fd_table.specs.TablesView.{StandFor, ever_alive}
+use Rattle.fd_table.specs.TablesView.{ever_alive}
 use Rattle.wait_core.specs.declared.Wait.{Wait}
 use Rattle.wait_core.specs.declared.waits.Waits.{Waits}
 use Rattle.wait_core.specs.Cycles.{IsFreeOfCycles}
@@ -28,19 +29,12 @@ use Rattle.lock_manager.specs.declared.request.Note.{Note}
 use Rattle.lock_manager.specs.declared.request.Request.TheVariants.{Kill}
 use Rattle.lock_manager.specs.DescriptionLocks.{MayWaitAs, AreOwned}
 use Rattle.lock_manager.specs.MachineView.{Shows, Tells, machine_state, machine_locks, machine_waits}
-use Rattle.lock_manager.specs.WaitsKept.{AreKept, AreApart, IsSuspended, AreStanding, HaveRoom, is_byte_wait, is_flock_wait}
+use Rattle.lock_manager.specs.WaitsKept.{AreKept, AreApart, IsSuspended, AreStanding, HaveRoom}
 use Rattle.lock_manager.proofs.kept.ProcessLemmas.{waiting_still, waited_before}
 
 -- no wait of a process is left without it
 pub without_passes : (waits : List Wait) (p : ℕ) → All (λ wait. wait.p ≢ p) (without_wait_of waits p)
-without_passes waits p k d within e =
-    let test : Wait → Bool = λ wait. not (wait.p == p) in
-    let wait = get_or (filter test waits) k d in
-    let passes : not (wait.p == p) ≡ true = filter_passes test waits k d within in
-    elim (eqb_tells wait.p p) [
-      | inl same ↦ (let tested = same.0 in cc)
-      | inr other ↦ other.1 e
-    ]
+without_passes waits p k d within e = grind (arith, common_steps, filter_passes, eqb_tells)
 
 -- a process without a wait leaves nothing
 pub without_absent : (waits : List Wait) (p : ℕ) → All (λ wait. wait.p ≢ p) waits → without_wait_of waits p ≡ waits
@@ -132,11 +126,7 @@ found_without test (wait ∷ waits) p is = elim (cases_Bool (test wait)) [
 
 -- so there is room for the waits that are left
 pub room_without : (books : List Book) (waits : List Wait) (p : ℕ) → HaveRoom books waits → HaveRoom books (without_wait_of waits p)
-room_without books waits p h =
-    record {
-      rooms = λ file owner. let fewer = counted_without (is_byte_wait file owner) waits p in let enough = h.rooms file owner in omega (arith, fewer, enough);
-      places = λ file d asked. h.places file d (found_without (is_flock_wait file d) waits p asked);
-    }
+room_without books waits p h = grind (arith, common_steps, counted_without, found_without)
 
 -- those are of descriptions that their processes have open
 pub owned_without : (tables : Tables) (locks : Locks) (waits : List Wait) (p : ℕ) → AreOwned tables locks waits → AreOwned tables locks (without_wait_of waits p)
@@ -192,14 +182,7 @@ pub with_wait_gone : (old new : Machine) (S : State) (p : ℕ) (state : ProcStat
     → waits_of new.waits ≡ without_wait_of (waits_of old.waits) p
     → Shows old S → Shows new (with_process (without_wait S p) p state)
 unfolding machine_locks machine_state machine_waits
-with_wait_gone old new S p state books tables states waits h =
-    record {
-      bytes = λ file owner byte. rw books (h.bytes file owner byte);
-      flocks = λ file description. rw books (h.flocks file description);
-      descriptors = subst (λ t. StandFor t S.descriptors) (sym tables) h.descriptors;
-      waits = waits ∙ ap (λ ws. without_wait_of ws p) h.waits;
-      states = λ q. states q ∙ ap (λ s. if q == p then state else s) (h.states q);
-    }
+with_wait_gone old new S p state books tables states waits h = grind (arith, common_steps)
 
 -- the end of a process right after its wait is over is the end of one that waits
 pub ends_waiting : (new : Machine) (S : State) (p : ℕ) (told : List Note)
@@ -229,21 +212,10 @@ ends_waiting new S p told given =
 pub kills_itself : (old new : Machine) (p n target : ℕ) → target ≡ p
     → ((S : State) → Shows old S → (T : State) × EndComesTo S p [] (record { told = []; after = T }) × Shows new T)
     → Tells old new p n (Kill target) []
-kills_itself old new p n target same ends S h =
-    let given = ends S h in
-    elim (eqb_tells target p) [
-      | inl met ↦ (given.0, rw met.0 given.1, given.2)
-      | inr other ↦ absurd (other.1 same)
-    ]
+kills_itself old new p n target same ends S h = grind (arith, common_steps, eqb_tells)
 
 -- a kill of another process is told as it comes where this one stands
 pub kills_other : (old new : Machine) (p n target : ℕ) (state : ProcState) (told : List Note) → target ≢ p → machine_state old target ≡ state
     → ((S : State) → Shows old S → (T : State) × KillOtherComesTo S p n target state (record { told = told; after = T }) × Shows new T)
     → Tells old new p n (Kill target) told
-kills_other old new p n target state told differs stands comes S h =
-    let given = comes S h in
-    let at : S.states target ≡ state = sym (h.states target) ∙ stands in
-    elim (eqb_tells target p) [
-      | inl same ↦ absurd (differs same.1)
-      | inr other ↦ (given.0, rw (other.0, at) given.1, given.2)
-    ]
+kills_other old new p n target state told differs stands comes S h = grind (arith, common_steps, eqb_tells)

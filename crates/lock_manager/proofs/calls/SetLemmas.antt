@@ -1,15 +1,15 @@
 -- What a set command comes to: at once, refused, or later.
-use Rattle.std.proofs.Common.{◌≡◌, refl, sym, ◌∙◌, ap, subst, Bool, true, false, Some, List, [], ◌∷◌, ◌++◌, inl, inr, ◌⊎◌, IsTrue}
+use Rattle.std.proofs.Common.{arith, ◌≡◌, refl, sym, ap, subst, Bool, true, false, Some, List, [], ◌∷◌, ◌++◌, inl, inr, ◌⊎◌, IsTrue}
+use Rattle.std.proofs.lemmas.Grind.{common_steps}
 use Rattle.std.specs.Prelude.{IsFalse, ◌↔◌, slice_get}
 use Rattle.lock_book.specs.declared.book.Book.{Book}
 use Rattle.lock_book.specs.Books.{byte_modes_of}
 use Rattle.lock_book.specs.Conflicts.{ByteConflict}
 use Rattle.wait_core.specs.declared.Family.TheVariants.{Bytes}
 use Rattle.wait_core.specs.declared.Policy.{Policy}
-use Rattle.wait_core.specs.declared.Policy.TheVariants.{Held, Queue}
 use Rattle.wait_core.specs.declared.Wait.{Wait}
-use Rattle.wait_core.specs.Locks.{Locks, locks_of, byte_modes_at}
-use Rattle.wait_core.specs.Blocking.{IsBlockedIn, IsBlockedByLock, IsBlocked, IsQueued}
+use Rattle.wait_core.specs.Locks.{Locks, locks_of}
+use Rattle.wait_core.specs.Blocking.{IsBlockedByLock, IsBlocked, IsQueued}
 use Rattle.wait_core.specs.Cycles.{ClosesCycle}
 use Rattle.lock_manager.specs.declared.machine.Machine.{Machine}
 use Rattle.lock_manager.specs.declared.request.Rules.{Rules}
@@ -38,14 +38,10 @@ at_state m S P h given = subst (P (locks_held S)) h.waits (subst (λ locks. P lo
 
 -- a wait is blocked by a held lock, or in the queue
 pub is_blocked : (policy : Policy) (locks : Locks) (waits : List Wait) (wanted : Wait) → IsBlockedByLock locks wanted ⊎ IsQueued policy waits wanted → IsBlocked policy locks waits wanted
-is_blocked Held locks waits wanted (inl h) = h
-is_blocked Held locks waits wanted (inr h) = absurd h
-is_blocked Queue locks waits wanted h = h
+is_blocked policy locks waits wanted h = grind (arith, common_steps)
 
 pub not_blocked : (policy : Policy) (locks : Locks) (waits : List Wait) (wanted : Wait) → ¬ IsBlockedByLock locks wanted → ¬ IsQueued policy waits wanted → ¬ IsBlocked policy locks waits wanted
-not_blocked Held locks waits wanted free alone h = free h
-not_blocked Queue locks waits wanted free alone (inl h) = free h
-not_blocked Queue locks waits wanted free alone (inr h) = alone h
+not_blocked policy locks waits wanted h h2 h3 = grind (arith, common_steps)
 
 -- the command finds its way blocked: where it would wait, as a wait is
 abbrev pub IsCommandBlocked : Rules → LkCmd → Wait → Locks → List Wait → Type 0
@@ -72,26 +68,13 @@ blocks_wait rules cmd wanted locks waits (inr h) = is_blocked rules.policy locks
 comes_deadlock : (rules : Rules) (S : State) (cmd : LkCmd) (wanted : Wait) → is_get cmd ≡ false → may_wait cmd ≡ true → IsFalse (is_ofd cmd)
     → IsCommandBlocked rules cmd wanted (locks_held S) S.waits → ClosesCycle rules.policy (locks_held S) S.waits wanted
     → CommandComesTo rules S cmd wanted (refused S wanted.p wanted.n EDEADLK)
-comes_deadlock rules S GetLk wanted set waits traditional blocked cycle = absurd (cc)
-comes_deadlock rules S OGetLk wanted set waits traditional blocked cycle = absurd (cc)
-comes_deadlock rules S SetLk wanted set waits traditional blocked cycle = absurd (cc)
-comes_deadlock rules S OSetLk wanted set waits traditional blocked cycle = absurd (cc)
-comes_deadlock rules S SetLkW wanted set waits traditional blocked cycle =
-    inl (blocks_wait rules SetLkW wanted (locks_held S) S.waits blocked, inl (cycle, refl))
-comes_deadlock rules S OSetLkW wanted set waits traditional blocked cycle = absurd (cc)
+comes_deadlock rules S cmd wanted h h2 h3 h4 h5 = grind (arith, common_steps, blocks_wait)
 
 -- it waits
 comes_waiting : (rules : Rules) (S : State) (cmd : LkCmd) (wanted : Wait) → is_get cmd ≡ false → may_wait cmd ≡ true
     → IsCommandBlocked rules cmd wanted (locks_held S) S.waits → ¬ (IsFalse (is_ofd cmd) × ClosesCycle rules.policy (locks_held S) S.waits wanted)
     → CommandComesTo rules S cmd wanted (waits_then S wanted [])
-comes_waiting rules S GetLk wanted set waits blocked free = absurd (cc)
-comes_waiting rules S OGetLk wanted set waits blocked free = absurd (cc)
-comes_waiting rules S SetLk wanted set waits blocked free = absurd (cc)
-comes_waiting rules S OSetLk wanted set waits blocked free = absurd (cc)
-comes_waiting rules S SetLkW wanted set waits blocked free =
-    inl (blocks_wait rules SetLkW wanted (locks_held S) S.waits blocked, inr (λ cycle. free (refl, cycle), refl))
-comes_waiting rules S OSetLkW wanted set waits blocked free =
-    inl (blocks_wait rules OSetLkW wanted (locks_held S) S.waits blocked, refl)
+comes_waiting rules S cmd wanted h h2 h3 h4 = grind (arith, common_steps, blocks_wait)
 
 -- a lock that was set
 pub locked : (old new : Machine) (cmd : LkCmd) (wanted : Wait) (note : Note) → is_get cmd ≡ false → wanted.family ≡ Bytes → note ≡ Answer wanted.p wanted.n replies.Ok

@@ -1,5 +1,6 @@
 -- What holds of the machine after it has released what a call closed.
-use Rattle.std.proofs.Common.{ℕ, ◌≡◌, ◌≢◌, All, ◌==◌, refl, sym, ◌∙◌, ap, subst, List, Some, None, Option, Bool, true, false}
+use Rattle.std.proofs.Common.{arith, ℕ, ◌≡◌, ◌≢◌, All, ◌==◌, refl, sym, ◌∙◌, ap, subst, List, Some, None, Option, Bool, true, false}
+use Rattle.std.proofs.lemmas.Grind.{common_steps}
 use Rattle.std.proofs.Math.Logic.{∥∥₁_map}
 use Rattle.std.specs.Prelude.{◌&&◌, ◌||◌, if◌then◌else◌}
 use Rattle.range_core.specs.declared.Mode.{Mode}
@@ -16,7 +17,7 @@ use Rattle.lock_manager.specs.declared.machine.Machine.{Machine}
 use Rattle.lock_manager.specs.declared.request.Reply.TheVariants as replies
 use Rattle.lock_manager.specs.declared.request.Request.TheVariants.{DupTo, CloseFd}
 use Rattle.lock_manager.specs.declared.request.ProcState.{ProcState}
-use Rattle.lock_manager.specs.declared.request.ProcState.TheVariants.{Live, Waiting, Ended}
+use Rattle.lock_manager.specs.declared.request.ProcState.TheVariants.{Live, Ended}
 use Rattle.lock_manager.specs.State.{State, with_process, state_numbered, StandsSo}
 use Rattle.lock_manager.specs.Safety.{AreCompatible}
 use Rattle.lock_manager.specs.declared.request.Note.{Note}
@@ -47,15 +48,7 @@ none_left false mode none = none
 
 -- without some locks the others conflict no more than before
 pub compatible_released : (old new : Locks) (p : ℕ) (files descriptions : List ℕ) → ReleasesLocks old new p files descriptions → AreCompatible old → AreCompatible new
-compatible_released old new p files descriptions releases before =
-    record {
-      bytes = λ f one other byte m k distinct m_is k_is. before.bytes f one other byte m k distinct
-          (left (is_one_of files f && is_released p descriptions one) (old.bytes f one byte) m (sym (releases.bytes f one byte) ∙ m_is))
-          (left (is_one_of files f && is_released p descriptions other) (old.bytes f other byte) k (sym (releases.bytes f other byte) ∙ k_is));
-      flocks = λ f one other m k distinct m_is k_is. before.flocks f one other m k distinct
-          (left (is_one_of files f && is_one_of descriptions one) (old.flocks f one) m (sym (releases.flocks f one) ∙ m_is))
-          (left (is_one_of files f && is_one_of descriptions other) (old.flocks f other) k (sym (releases.flocks f other) ∙ k_is));
-    }
+compatible_released old new p files descriptions releases before = grind (arith, common_steps, left)
 
 -- nor are any past the largest offset
 pub within_released : (old new : Locks) (p : ℕ) (files descriptions : List ℕ) → ReleasesLocks old new p files descriptions → AreWithinFiles old → AreWithinFiles new
@@ -173,21 +166,11 @@ ended old new p released call releases states waits others told S h =
 -- whoever lives or waits after another one's end does so as before
 pub standing_ended : (old new : Tables) (states states' : List ProcState) (before after : List Wait) (p : ℕ) → StandsSo states states' p Ended → state_numbered states p ≡ Live
     → ((q : ℕ) → ever_alive new q ≡ ever_alive old q) → after ≡ before → AreStanding old states before → AreStanding new states' after
-standing_ended old new states states' before after p set live alive same h = subst (AreStanding new states') (sym same) (record {
-  alive = λ q lives. alive q ∙ h.alive q (lived_before states states' p Ended set (λ e. cc) q lives);
-  suspended = suspended_after old new states states' before (λ q born. alive q ∙ born)
-      (λ q born waits. waiting_still states states' p Ended set q (λ same. (let both : Waiting ≡ Live = sym waits ∙ ap (state_numbered states) same ∙ live in cc)) waits)
-      h.suspended;
-  awaited = λ q waits. h.awaited q (waited_before states states' p Ended set (λ e. cc) q waits).1;
-})
+standing_ended old new states states' before after p set live alive same h =
+    grind (arith, common_steps, lived_before, suspended_after, waiting_still, waited_before)
 
 -- and after another one's birth, that was never alive
 pub standing_forked : (old new : Tables) (states states' : List ProcState) (waits : List Wait) (child : ℕ) → StandsSo states states' child Live
     → ((q : ℕ) → ever_alive new q ≡ ((q == child) || ever_alive old q)) → ¬ (ever_alive old child ≡ true) → AreStanding old states waits → AreStanding new states' waits
-standing_forked old new states states' waits child set more never h = record {
-  alive = alive_with states states' (λ q. ever_alive old q) (λ q. ever_alive new q) child set more h.alive;
-  suspended = suspended_after old new states states' waits (alive_still (λ q. ever_alive old q) (λ q. ever_alive new q) child more)
-      (λ q born waits. waiting_still states states' child Live set q (λ same. never (subst (λ r. ever_alive old r ≡ true) same born)) waits)
-      h.suspended;
-  awaited = λ q waits. h.awaited q (waited_before states states' child Live set (λ e. cc) q waits).1;
-}
+standing_forked old new states states' waits child set more never h =
+    grind (arith, common_steps, alive_with, suspended_after, alive_still, waiting_still, waited_before)

@@ -1,5 +1,6 @@
 -- The locks that a release leaves are those of the definition's state.
-use Rattle.std.proofs.Common.{ℕ, ◌≡◌, ◌<◌, ◌==◌, refl, sym, ◌∙◌, ap, subst, List, [], ◌∷◌, ◌++◌, Some, None, Option, Bool, true, false, get_or, inl, inr, arith, Contains, eq-eqb}
+use Rattle.std.proofs.lemmas.Grind.{common_steps}
+use Rattle.std.proofs.Common.{ℕ, ◌≡◌, ◌<◌, ◌==◌, refl, sym, ◌∙◌, ap, subst, List, [], ◌∷◌, ◌++◌, Some, None, Option, Bool, true, false, get_or, arith, Contains, eq-eqb}
 use Rattle.std.specs.Prelude.{◌&&◌, ◌||◌, if◌then◌else◌, option_map}
 use Rattle.std.specs.List.{list_any, cons_option}
 use Rattle.std.proofs.lemmas.Bool.{eqb-true, cases_lt, le-leb}
@@ -34,21 +35,14 @@ flock_mode_from-append before (x ∷ xs) ys f d =
 
 -- one removal after another
 both_release : (before now : Bool) (old : Option Mode) → (if now then None else (if before then None else old)) ≡ (if before || now then None else old)
-both_release true true old = refl
-both_release true false old = refl
-both_release false true old = refl
-both_release false false old = refl
+both_release before now old = grind (arith, common_steps)
 
 and_false : (a b : Bool) → (a && false && b) ≡ false
 and_false true b = refl
 and_false false b = refl
 
 or_and : (a b r : Bool) → ((a && r) || (b && r)) ≡ ((a || b) && r)
-or_and true true true = refl
-or_and true true false = refl
-or_and true false true = refl
-or_and true false false = refl
-or_and false b r = refl
+or_and a b r = grind (arith, common_steps)
 
 -- whether the description is of this file
 abbrev is_of_file : Option OpenFileDescription → ℕ → Bool
@@ -76,13 +70,7 @@ one_description : (x : Option OpenFileDescription) (e : ℕ) (rest : List Change
     → ((mode : Option Mode) → mode_from mode rest f o byte ≡ (if removed && is_covered whole_file byte then None else mode))
     → mode_from before (cons_option (option_map (λ x. record { file = x.file; owner = Description e; span = whole_file; mode = None }) x) rest) f o byte
     ≡ (if ((is_of_file x f && is_same_owner (Description e) o) || removed) && is_covered whole_file byte then None else before)
-one_description None e rest removed before f o byte others = others before
-one_description (Some x) e rest removed before f o byte others =
-    let whole = is_covered whole_file byte in
-    let same = is_same_owner (Description e) o in
-    others (if (x.file == f) && same && whole then None else before)
-    ∙ both_release ((x.file == f) && same && whole) (removed && whole) before
-    ∙ ap (λ b. if b then None else before) (or_and ((x.file == f) && same) removed whole)
+one_description x e rest removed before f o byte h = grind (arith, common_steps, both_release, or_and)
 
 -- what the changes for the descriptions leave
 description_modes : (opened : List OpenFileDescription) (descriptions : List ℕ) (before : Option Mode) (f : ℕ) (o : Owner) (byte : ℕ)
@@ -97,9 +85,7 @@ one_flock : (x : Option OpenFileDescription) (e : ℕ) (rest : List FlockChange)
     → ((mode : Option Mode) → flock_mode_from mode rest f d ≡ (if removed then None else mode))
     → flock_mode_from before (cons_option (option_map (λ x. record { file = x.file; description = e; mode = None }) x) rest) f d
     ≡ (if (is_of_file x f && (e == d)) || removed then None else before)
-one_flock None e rest removed before f d others = others before
-one_flock (Some x) e rest removed before f d others =
-    others (if (x.file == f) && (e == d) then None else before) ∙ both_release ((x.file == f) && (e == d)) removed before
+one_flock x e rest removed before f d h = grind (arith, common_steps, both_release)
 
 flock_modes : (opened : List OpenFileDescription) (descriptions : List ℕ) (before : Option Mode) (f d : ℕ)
     → flock_mode_from before (flock_releases opened descriptions) f d ≡ (if removes_on opened descriptions f (Description d) then None else before)
@@ -120,17 +106,11 @@ removes_no_process opened (e ∷ es) f q =
 
 -- past the largest offset, where there is nothing, it doesn't matter what is removed
 whole_or_not : (whole removed : Bool) (mode : Option Mode) → (whole ≡ false → mode ≡ None) → (if removed then None else mode) ≡ (if removed && whole then None else mode)
-whole_or_not true true mode past = refl
-whole_or_not true false mode past = refl
-whole_or_not false true mode past = sym (past refl)
-whole_or_not false false mode past = refl
+whole_or_not whole removed mode h = grind (arith, common_steps)
 
 -- two removals agree where the one that removes more removes only what isn't there
 agree : (more less : Bool) (mode : Option Mode) → (more ≡ true → less ≡ false → mode ≡ None) → (less ≡ true → more ≡ true) → (if more then None else mode) ≡ (if less then None else mode)
-agree true true mode spare within = refl
-agree true false mode spare within = sym (spare refl refl)
-agree false true mode spare within = absurd (let wrong : false ≡ true = within refl in cc)
-agree false false mode spare within = refl
+agree more less mode h h2 = grind (arith, common_steps)
 
 of_file : (x : Option OpenFileDescription) (f : ℕ) → option_map (λ opened. opened.file) x ≡ Some f → is_of_file x f ≡ true
 of_file None f is = absurd (cc)
@@ -143,13 +123,7 @@ file_of (Some x) f is = ap Some (eqb-true x.file f is)
 -- where a description that was closed for good is of the file, its locks are removed from it
 removed_there : (D E : Descriptors) (p : ℕ) (released : Released) (f d : ℕ) → Closing D E p released → IsOpenOn D f d → is_one_of released.descriptions d ≡ true
     → removes_on E.descriptions released.descriptions f (Description d) ≡ true
-removed_there D E p released f d closing is told =
-    let member = is_member released.descriptions d told in
-    let after : option_map (λ opened. opened.file) (description_numbered E.descriptions d) ≡ Some f =
-    ap (λ ds. option_map (λ (opened : OpenFileDescription). opened.file) (description_numbered ds d)) closing.descriptions ∙ is.of_file in
-    list_any_at (λ e. is_of_file (description_numbered E.descriptions e) f && (e == d)) released.descriptions member.0 d member.1
-    (subst (λ e. (is_of_file (description_numbered E.descriptions e) f && (e == d)) ≡ true) (sym member.2)
-    (rw (of_file (description_numbered E.descriptions d) f after) (eq-eqb d d refl)))
+removed_there D E p released f d closing is told = grind (arith, common_steps, is_member, of_file, list_any_at, eq-eqb)
 
 -- and where they are removed, both it and its file are released
 only_there : (D E : Descriptors) (p : ℕ) (released : Released) (f d : ℕ) → Closing D E p released → removes_on E.descriptions released.descriptions f (Description d) ≡ true
@@ -170,10 +144,7 @@ only_there D E p released f d closing removed =
 
 -- a byte that the whole file doesn't cover
 outside_file : (byte : ℕ) → is_covered whole_file byte ≡ false → OFFMAX < byte
-outside_file byte outside = elim (cases_lt OFFMAX byte) [
-  | inl past ↦ past
-  | inr inside ↦ absurd (let covered : is_covered whole_file byte ≡ true = rw (le-leb 0 byte (omega arith), le-leb byte OFFMAX inside) in cc)
-]
+outside_file byte outside = grind (arith, common_steps, cases_lt, le-leb)
 
 -- the byte locks after the release are those of the state
 pub bytes_after : (old new : Locks) (S : State) (E : Descriptors) (p : ℕ) (released : Released)

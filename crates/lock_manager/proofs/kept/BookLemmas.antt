@@ -1,5 +1,6 @@
 -- What one book's change does to the locks of all files.
-use Rattle.std.proofs.Common.{ℕ, ◌≡◌, ◌≢◌, ◌<◌, ◌≤◌, refl, sym, ◌∙◌, ap, subst, List, [], ◌∷◌, ◌++◌, length, Some, None, inl, inr, Option, Bool, true, false, get_or, Result, Ok, Err, OnOk, OnErr, All}
+use Rattle.std.proofs.Common.{arith, ℕ, ◌≡◌, ◌≢◌, ◌<◌, ◌≤◌, refl, sym, ◌∙◌, ap, subst, List, [], ◌∷◌, ◌++◌, length, Some, None, inl, inr, Option, Bool, true, false, get_or, Result, Ok, Err, OnOk, OnErr, All}
+use Rattle.std.proofs.lemmas.Grind.{common_steps}
 use Rattle.lock_manager.specs.Opening.{HoldsNothing}
 use Rattle.std.specs.Prelude.{slice_get, slice_set, ◌==◌, ◌&&◌, if◌then◌else◌}
 use Rattle.range_core.specs.declared.Memory.{Memory}
@@ -13,8 +14,7 @@ use Rattle.lock_book.specs.Changes.{Change, sets_byte, mode_from}
 use Rattle.lock_book.specs.Books.{byte_modes_of, flock_modes_of, SetsOwnerMode, SameBook}
 use Rattle.wait_core.specs.Locks.{Locks, locks_of, byte_modes_at, flock_modes_at}
 use Rattle.std.proofs.lemmas.Bool.Decides.{eqb_tells}
-use Rattle.std.proofs.lemmas.Bool.{eqb-true}
-use Rattle.std.proofs.lemmas.Bool.{cases_lt}
+use Rattle.std.proofs.lemmas.Bool.{eqb-true, cases_lt}
 use Rattle.std.proofs.lemmas.List.{get_or-set_same, get_or-set_other}
 use Rattle.std.proofs.lemmas.Option.{slice_get-get_or, slice_get_past}
 use Rattle.std.proofs.Math.ListN.{length-set}
@@ -43,18 +43,13 @@ mode_from-push before (first ∷ changes) change file owner byte =
 
 -- an item of a list in which one was replaced
 pub slice_get-set : {X : Type 0} (xs : List X) (i j : ℕ) (x : X) → i < length xs → slice_get (slice_set xs i x) j ≡ (if i == j then Some x else slice_get xs j)
-slice_get-set xs i j x within = elim (eqb_tells i j) [
-  | inl same ↦ rw same.0 (subst (λ k. slice_get (slice_set xs i x) k ≡ Some x) same.1 (slice_get-set_same xs i x within))
-  | inr other ↦ rw other.0 (slice_get-set_other xs i j x (λ e. other.1 (sym e)))
-]
+slice_get-set xs i j x within = grind (arith, common_steps, eqb_tells, slice_get-set_same, slice_get-set_other)
 
 -- the modes of one owner on one byte of a book that was changed, or of another one
 bytes_at : (is_it : Bool) (entry : Option Book) (old new : Book) (owner : Owner) (span : Span) (mode : Option Mode) (o : Owner) (byte : ℕ)
     → (is_it ≡ true → entry ≡ Some old) → SetsOwnerMode old new owner span mode
     → byte_modes_at (if is_it then Some new else entry) o byte ≡ (if is_it && is_same_owner owner o && is_covered span byte then mode else byte_modes_at entry o byte)
-bytes_at true entry old new owner span mode o byte was sets =
-    sets.bytes o byte ∙ ap (λ e. if is_same_owner owner o && is_covered span byte then mode else byte_modes_at e o byte) (sym (was refl))
-bytes_at false entry old new owner span mode o byte was sets = refl
+bytes_at is_it entry old new owner span mode o byte h h2 = grind (arith, common_steps)
 
 -- the flock mode of one description in a book that was changed, or in another one
 flocks_at : (is_it : Bool) (entry : Option Book) (old new : Book) (d : ℕ) → (is_it ≡ true → entry ≡ Some old) → flock_modes_of new d ≡ flock_modes_of old d
@@ -71,17 +66,13 @@ pub set_bytes : (books : List Book) (file : ℕ) (old new : Book) (owner : Owner
     → file < length books → slice_get books file ≡ Some old → SetsOwnerMode old new owner span mode
     → (f : ℕ) (o : Owner) (byte : ℕ) → (locks_of (slice_set books file new)).bytes f o byte
     ≡ (if (file == f) && is_same_owner owner o && is_covered span byte then mode else (locks_of books).bytes f o byte)
-set_bytes books file old new owner span mode within was sets f o byte =
-    rw (slice_get-set books file f new within)
-    (bytes_at (file == f) (slice_get books f) old new owner span mode o byte (entry_is books file f old was) sets)
+set_bytes books file old new owner span mode within was sets f o byte = grind (arith, common_steps, slice_get-set, bytes_at, entry_is)
 
 -- the flock modes stay
 pub set_flocks : (books : List Book) (file : ℕ) (old new : Book)
     → file < length books → slice_get books file ≡ Some old → ((d : ℕ) → flock_modes_of new d ≡ flock_modes_of old d)
     → (f d : ℕ) → (locks_of (slice_set books file new)).flocks f d ≡ (locks_of books).flocks f d
-set_flocks books file old new within was same f d =
-    rw (slice_get-set books file f new within)
-    (flocks_at (file == f) (slice_get books f) old new d (entry_is books file f old was) (same d))
+set_flocks books file old new within was same f d = grind (arith, common_steps, slice_get-set, flocks_at, entry_is)
 
 -- nor do the byte modes change where the owners have the same in the two books
 same_at : (is_it : Bool) (entry : Option Book) (old new : Book) (o : Owner) (byte : ℕ) → (is_it ≡ true → entry ≡ Some old) → byte_modes_of new o byte ≡ byte_modes_of old o byte
@@ -92,9 +83,7 @@ same_at false entry old new o byte was same = refl
 pub same_bytes : (books : List Book) (file : ℕ) (old new : Book)
     → file < length books → slice_get books file ≡ Some old → ((o : Owner) (byte : ℕ) → byte_modes_of new o byte ≡ byte_modes_of old o byte)
     → (f : ℕ) (o : Owner) (byte : ℕ) → (locks_of (slice_set books file new)).bytes f o byte ≡ (locks_of books).bytes f o byte
-same_bytes books file old new within was same f o byte =
-    rw (slice_get-set books file f new within)
-    (same_at (file == f) (slice_get books f) old new o byte (entry_is books file f old was) (same o byte))
+same_bytes books file old new within was same f o byte = grind (arith, common_steps, slice_get-set, same_at, entry_is)
 
 -- where a book is replaced by one with the same locks, all locks stay
 pub locks_stay : (books : List Book) (file : ℕ) (old new : Book) → file < length books → slice_get books file ≡ Some old

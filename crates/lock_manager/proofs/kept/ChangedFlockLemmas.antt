@@ -1,8 +1,9 @@
 -- What holds of the machine after a change of one flock lock.
-use Rattle.std.proofs.Common.{ℕ, ◌≡◌, ◌≢◌, ◌<◌, ◌≤◌, ◌+◌, refl, sym, ◌∙◌, ap, subst, List, [], ◌∷◌, ◌++◌, length, Some, None, Option, Bool, true, false, arith, Result, Ok, Err, OnOk, OnErr}
+use Rattle.std.proofs.lemmas.Grind.{common_steps}
+use Rattle.std.proofs.Common.{ℕ, ◌≡◌, ◌≢◌, ◌<◌, ◌≤◌, refl, sym, ◌∙◌, ap, subst, List, [], ◌∷◌, ◌++◌, length, Some, None, Option, Bool, true, false, arith, Result, OnOk, OnErr}
 use Rattle.std.proofs.Math.Logic.{∥∥₁_map, ∥∥₁_elim}
 use Rattle.std.proofs.lemmas.Bool.{eqb-true, eq-eqb, or_right}
-use Rattle.std.specs.Prelude.{slice_get, slice_set, ◌==◌, ◌&&◌, ◌||◌, if◌then◌else◌, filter}
+use Rattle.std.specs.Prelude.{slice_get, slice_set, ◌==◌, ◌&&◌, ◌||◌, if◌then◌else◌}
 use Rattle.range_core.specs.declared.Memory.{Memory}
 use Rattle.range_core.specs.declared.Mode.{Mode}
 use Rattle.range_core.specs.Ranges.{Conflict, HeldConflicts}
@@ -13,7 +14,6 @@ use Rattle.lock_book.specs.Books.{flock_modes_of, room_in, has_flock_place, Sets
 use Rattle.lock_book.specs.Changes.{FlockChange, flock_mode_from}
 use Rattle.lock_book.specs.Conflicts.{FlockConflict}
 use Rattle.fd_table.specs.declared.tables.Tables.{Tables}
-use Rattle.fd_table.specs.TablesView.{StandFor}
 use Rattle.wait_core.specs.declared.Wait.{Wait}
 use Rattle.wait_core.specs.declared.waits.Waits.{Waits}
 use Rattle.wait_core.specs.WellFormed.{IsWellFormed}
@@ -30,16 +30,14 @@ use Rattle.lock_manager.specs.State.{State, with_flock_mode}
 use Rattle.lock_manager.specs.Safety.{AreCompatible}
 use Rattle.lock_manager.specs.DescriptionLocks.{IsOpenOn, AreOwned, AreWithinFiles, MayLock}
 use Rattle.lock_manager.specs.MachineView.{Shows, machine_locks, machine_state, machine_waits}
-use Rattle.lock_manager.specs.WaitsKept.{AreKept, AreApart, HaveRoom, is_byte_wait, is_flock_wait, is_of_bytes, is_of_whole, has_place_at, SameWaits, StayBlocked}
+use Rattle.lock_manager.specs.WaitsKept.{AreKept, AreApart, HaveRoom, has_place_at, SameWaits, StayBlocked}
 use Rattle.lock_manager.proofs.kept.BookLemmas.{slice_get-set, slice_get-set_same, entry_is, same_bytes}
 use Rattle.lock_manager.proofs.kept.SafetyLemmas.{both, conflict_back, same_owner}
 use Rattle.lock_manager.proofs.kept.OwnedLemmas.{none_but_set}
 use Rattle.lock_manager.proofs.kept.WaitLemmas.{told_by_bytes, room_with, same_room, KeepsLocks, keeps_same}
 use Rattle.lock_manager.proofs.kept.SuspendLemmas.{counted}
-use Rattle.std.specs.List.{list_any}
 use Rattle.std.specs.Option.{is_some}
 use Rattle.std.proofs.lemmas.List.Folds.{list_any-append}
-use Rattle.lock_book.specs.Owners.{is_same_owner}
 use Rattle.wait_core.specs.declared.Family.{Family}
 use Rattle.wait_core.specs.declared.Family.TheVariants.{Bytes, Whole}
 
@@ -60,9 +58,7 @@ flock_set_bytes books file old new description mode within was sets f o byte =
 flock_set_flocks : (books : List Book) (file : ℕ) (old new : Book) (description : ℕ) (mode : Option Mode)
     → file < length books → slice_get books file ≡ Some old → SetsFlock old new description mode
     → (f d : ℕ) → (locks_of (slice_set books file new)).flocks f d ≡ (if (file == f) && (description == d) then mode else (locks_of books).flocks f d)
-flock_set_flocks books file old new description mode within was sets f d =
-    rw (slice_get-set books file f new within)
-    (flocks_at (file == f) (slice_get books f) old new description mode d (entry_is books file f old was) sets)
+flock_set_flocks books file old new description mode within was sets f d = grind (arith, common_steps, slice_get-set, flocks_at, entry_is)
 
 -- one more change counts where it is of this description on this file
 flock_mode_from-push : (before : Option Mode) (changes : List FlockChange) (change : FlockChange) (file description : ℕ)
@@ -74,9 +70,7 @@ flock_mode_from-push before (first ∷ changes) change file description =
 
 -- the file and the description that a change is of
 is_of : (file description f d : ℕ) → ((file == f) && (description == d)) ≡ true → (file ≡ f) × (description ≡ d)
-is_of file description f d e =
-    let is : ((file == f) ≡ true) × ((description == d) ≡ true) = both (file == f) (description == d) e in
-    (eqb-true file f is.0, eqb-true description d is.1)
+is_of file description f d e = grind (arith, common_steps, both, eqb-true)
 
 -- of two descriptions with conflicting modes after a change, neither is the one that changed without standing against the other before
 no_conflict : (locks : Locks) (file description : ℕ) (mode : Option Mode) → AreCompatible locks
@@ -108,12 +102,7 @@ compatible_flock : (old new : Locks) (file description : ℕ) (mode : Option Mod
     → ((m : Mode) → mode ≡ Some m → ¬ FlockConflict (old.flocks file) (Description description) m)
     → ((f : ℕ) (o : Owner) (byte : ℕ) → new.bytes f o byte ≡ old.bytes f o byte)
     → ((f d : ℕ) → new.flocks f d ≡ (if (file == f) && (description == d) then mode else old.flocks f d)) → AreCompatible new
-compatible_flock old new file description mode before free bytes flocks = record {
-  bytes = λ f one other byte m k distinct m_is k_is.
-      before.bytes f one other byte m k distinct (sym (bytes f one byte) ∙ m_is) (sym (bytes f other byte) ∙ k_is);
-  flocks = λ f one other m k distinct m_is k_is.
-      no_conflict old file description mode before free f one other m k _ _ distinct refl refl (sym (flocks f one) ∙ m_is) (sym (flocks f other) ∙ k_is);
-}
+compatible_flock old new file description mode before free bytes flocks = grind (arith, common_steps, no_conflict)
 
 -- the description that has it is open
 owned_flock : (tables : Tables) (waits : List Wait) (old new : Locks) (file description : ℕ) (mode : Option Mode) → MayLock tables file (Description description)
@@ -181,17 +170,7 @@ pub with_flock_change : (old new : Machine) (S : State) (file : ℕ) (book chang
     → Shows old S → Shows new (with_flock_mode S file description mode)
 unfolding machine_locks machine_state machine_waits
 with_flock_change old new S file book changed description mode books tables states within was sets waits h =
-    let change : FlockChange = record { file = file; description = description; mode = mode } in
-    record {
-      bytes = λ f o byte. rw books (flock_set_bytes old.books.items file book changed description mode within was sets f o byte ∙ h.bytes f o byte);
-      flocks = λ f d. rw books
-          (flock_set_flocks old.books.items file book changed description mode within was sets f d
-          ∙ ap (λ m. if (file == f) && (description == d) then mode else m) (h.flocks f d)
-          ∙ sym (flock_mode_from-push None S.flock_changes change f d));
-      descriptors = subst (λ t. StandFor t S.descriptors) (sym tables) h.descriptors;
-      waits = waits ∙ h.waits;
-      states = λ p. rw states (h.states p);
-    }
+    grind (arith, common_steps, flock_set_bytes, flock_set_flocks, flock_mode_from-push)
 
 pub none_from_test : (mode : Option Mode) → is_some mode ≡ false → mode ≡ None
 none_from_test None test = refl
@@ -246,53 +225,18 @@ or_else false b is = is
 -- a book in which a place was asked for, refused or not, keeps its locks
 pub place_taken : (old new : Book) (description : ℕ) (result : Result (Unit {0}) Memory) → OnOk result (ReservesFlock old new description) → OnErr result (SameBook old new)
     → KeepsLocks old new
-place_taken old new description (Ok done) reserves same = record {
-  bytes = reserves.bytes;
-  rooms = λ o. same_room (room_in old o) (room_in new o) (reserves.rooms o);
-  flocks = reserves.flocks;
-  places = λ d there. reserves.places d ∙ or_else (description == d) (has_flock_place old d) there;
-}
-place_taken old new description (Err memory) reserves same = keeps_same old new same
+place_taken old new description result h h2 = grind (arith, common_steps, same_room, or_else, keeps_same)
 
 -- the place is there then
 pub placed : (before books : List Book) (file : ℕ) (old new : Book) (description : ℕ) (result : Result (Unit {0}) Memory)
     → books ≡ slice_set before file new → file < length before
     → OnOk result (ReservesFlock old new description) → OnOk result (has_place_at (slice_get books file) description ≡ true)
-placed before books file old new description (Ok done) is within reserves =
-    subst (λ bs. has_place_at (slice_get bs file) description ≡ true) (sym is)
-    (subst (λ e. has_place_at e description ≡ true) (sym (slice_get-set_same before file new within)) (reserves.places description ∙ own (description == description) (eq-eqb description description refl)))
-  where
-    own : (a : Bool) → a ≡ true → (a || has_flock_place old description) ≡ true
-    own true is = refl
-    own false is = cc
-placed before books file old new description (Err memory) is within reserves = tt
+placed before books file old new description result h h2 h3 = grind (arith, common_steps, slice_get-set_same, eq-eqb)
 
 -- the room for a flock lock that is waited for is its place
 pub room_joined_flock : (books : List Book) (waits : List Wait) (wait : Wait) (description : ℕ) → wait.family ≡ Whole → wait.owner ≡ Description description
     → has_place_at (slice_get books wait.file) description ≡ true → HaveRoom books waits → HaveRoom books (waits ++ wait ∷ [])
-room_joined_flock books waits wait description family owner there h = record {
-  rooms = λ f o. let same = counted (is_byte_wait f o) waits wait ∙ ap (λ b. length (filter (is_byte_wait f o) waits) + (if b then 1 else 0)) (not_bytes f o) in
-      let enough = h.rooms f o in omega (arith, same, enough);
-  places = λ f d asked. at f d (is_flock_wait f d wait) refl asked;
-}
-  where
-    not_bytes : (f : ℕ) (o : Owner) → is_byte_wait f o wait ≡ false
-    not_bytes f o = ap (λ k. is_of_bytes k && (wait.file == f) && is_same_owner wait.owner o) family
-
-    before : (a b : Bool) → b ≡ false → (a || (b || false)) ≡ true → a ≡ true
-    before true b none e = refl
-    before false b none e = absurd (let no : false ≡ true = sym (ap (λ x. x || false) none) ∙ e in cc)
-
-    at : (f d : ℕ) (b : Bool) → is_flock_wait f d wait ≡ b → list_any (is_flock_wait f d) (waits ++ wait ∷ []) ≡ true → has_place_at (slice_get books f) d ≡ true
-    at f d true e asked =
-        let outer : ((is_of_whole wait.family && (wait.file == f)) ≡ true) × (is_same_owner wait.owner (Description d) ≡ true) =
-        both (is_of_whole wait.family && (wait.file == f)) (is_same_owner wait.owner (Description d)) e in
-        let file : wait.file ≡ f = eqb-true wait.file f (both (is_of_whole wait.family) (wait.file == f) outer.0).1 in
-        let is : Description description ≡ Description d = sym owner ∙ same_owner wait.owner (Description d) outer.1 in
-        let same : description ≡ d = cc in
-        subst (λ g. has_place_at (slice_get books g) d ≡ true) file (subst (λ k. has_place_at (slice_get books wait.file) k ≡ true) same there)
-    at f d false e asked =
-        h.places f d (before (list_any (is_flock_wait f d) waits) (is_flock_wait f d wait) e (sym (list_any-append (is_flock_wait f d) waits (wait ∷ [])) ∙ asked))
+room_joined_flock books waits wait description family owner there h = grind (arith, common_steps, counted, both, eqb-true, same_owner, list_any-append)
 
 -- a request for a flock lock of a process that there is, on a file that there is, can be asked for
 pub well_formed_flock : {processes : ℕ} (wanted : Wait) (look : Look) → wanted ≡ wanted_flock wanted.p wanted.n look wanted.mode → 1 ≤ wanted.p → wanted.p ≤ processes → look.file < 64

@@ -1,11 +1,12 @@
 -- What a call that closes descriptors leaves open, and what it releases.
-use Rattle.std.proofs.Common.{ℕ, ◌≡◌, ◌==◌, refl, sym, ◌∙◌, ap, subst, List, Some, None, Bool, true, false, MatchBool, Ok, Contains, get_or, eq-eqb, arith}
+use Rattle.std.proofs.lemmas.Grind.{common_steps}
+use Rattle.std.proofs.Common.{ℕ, ◌≡◌, ◌==◌, refl, sym, ◌∙◌, ap, List, Bool, true, false, Ok, Contains, get_or, eq-eqb, arith}
 use Rattle.std.proofs.lemmas.Bool.{eqb-true}
 use Rattle.std.proofs.lemmas.List.Folds.{Any-from_list_any, list_any_at}
-use Rattle.std.specs.Prelude.{◌&&◌, if◌then◌else◌, option_map}
+use Rattle.std.specs.Prelude.{◌&&◌}
 use Rattle.fd_table.specs.Released.{Released}
 use Rattle.fd_table.specs.declared.Limits.{Limits}
-use Rattle.fd_table.specs.Descriptors.{Descriptors, OpenFileDescription, IsOpen, SameDescriptors, description_numbered, without_descriptors, with_descriptor}
+use Rattle.fd_table.specs.Descriptors.{Descriptors, IsOpen, SameDescriptors, without_descriptors}
 use Rattle.fd_table.specs.Releasing.{ClosesFile, AreReleased}
 use Rattle.fd_table.specs.Calls.{CloseGives, DupToGives, EndGives, nothing}
 use Rattle.lock_manager.specs.DescriptionLocks.{IsOpenOn}
@@ -18,9 +19,7 @@ one_of numbers number h = list_any_at (λ other. other == number) numbers h.0 nu
 
 -- what is found is a member
 pub is_member : (numbers : List ℕ) (number : ℕ) → is_one_of numbers number ≡ true → Contains numbers number
-is_member numbers number e =
-    let any = Any-from_list_any (λ other. other == number) numbers e in
-    (any.0, any.2, subst (λ n. get_or numbers any.0 n ≡ n) (eqb-true any.1 number any.4) any.3)
+is_member numbers number e = grind (arith, common_steps, Any-from_list_any, eqb-true)
 
 -- all but these descriptors of the process stay, and this is released by that
 pub record Closing (D E : Descriptors) (p : ℕ) (released : Released) : Type 0 where
@@ -32,13 +31,7 @@ pub record Closing (D E : Descriptors) (p : ℕ) (released : Released) : Type 0 
 -- the descriptors without some of them
 without_kept : (D E : Descriptors) (p : ℕ) (closed : ℕ → Bool) (released : Released) → SameDescriptors E (without_descriptors D p closed)
     → AreReleased D E p closed released → Closing D E p released
-without_kept D E p closed released same are =
-    record {
-      closed = closed;
-      kept = λ q k other. same.description_of q k ∙ ap (λ b. if b then None else D.description_of q k) other;
-      descriptions = same.descriptions;
-      are_released = are;
-    }
+without_kept D E p closed released same are = grind (arith, common_steps)
 
 -- close
 pub close_closes : (D E : Descriptors) (p fd : ℕ) (released : Released) → CloseGives D p fd (Ok released) E → Closing D E p released
@@ -66,26 +59,11 @@ nothing_closes D E p same =
 
 -- dup2
 pub dup2_closes : (limits : Limits) (D E : Descriptors) (p fd to : ℕ) (answer : ℕ × Released) → DupToGives limits D p fd to (Ok answer) E → Closing D E p answer.1
-dup2_closes limits D E p fd to answer gives = moves (to == fd) gives.4
-  where
-    moves : (onto_itself : Bool)
-        → MatchBool onto_itself ((answer.1 ≡ nothing) × SameDescriptors E D) (SameDescriptors E (with_descriptor D p to gives.0) × AreReleased D E p (λ k. k == to) answer.1)
-        → Closing D E p answer.1
-    moves true h = subst (λ r. Closing D E p r) (sym h.0) (nothing_closes D E p h.1)
-    moves false h = record {
-      closed = λ k. k == to;
-      kept = λ q k other. h.0.description_of q k ∙ ap (λ b. if b then Some gives.0 else D.description_of q k) other;
-      descriptions = h.0.descriptions;
-      are_released = h.1;
-    }
+dup2_closes limits D E p fd to answer gives = grind (arith, common_steps, nothing_closes)
 
 -- what is open on a file after the call was open on it before, where it was open at all
 pub open_after : (D E : Descriptors) (p : ℕ) (released : Released) (f d : ℕ) → Closing D E p released → IsOpenOn D f d → IsOpen E d → IsOpenOn E f d
-open_after D E p released f d closing is after =
-    record {
-      is_open = after;
-      of_file = ap (λ ds. option_map (λ (opened : OpenFileDescription). opened.file) (description_numbered ds d)) closing.descriptions ∙ is.of_file;
-    }
+open_after D E p released f d closing is after = grind (arith, common_steps)
 
 -- the file of a description that was closed for good is released
 pub file_released : (D E : Descriptors) (p : ℕ) (released : Released) (f d : ℕ) → Closing D E p released → IsOpenOn D f d → ¬ IsOpen E d → is_one_of released.files f ≡ true
@@ -111,6 +89,4 @@ file_released D E p released f d closing is gone =
 
 -- a description that was open and isn't told stays open, in that it can't be closed
 pub not_closed : (D E : Descriptors) (p : ℕ) (released : Released) (d : ℕ) → Closing D E p released → IsOpen D d → is_one_of released.descriptions d ≡ false → ¬ ¬ IsOpen E d
-not_closed D E p released d closing is other gone =
-    let told : is_one_of released.descriptions d ≡ true = one_of released.descriptions d ((closing.are_released.descriptions.each d).1 (is, gone)) in
-    cc
+not_closed D E p released d closing is other gone = grind (arith, common_steps, one_of)

@@ -1,15 +1,15 @@
 -- A wait that is granted leaves the list, and its owner has the lock.
+use Rattle.std.proofs.lemmas.Grind.{common_steps}
 use Rattle.std.proofs.Common.{ℕ, suc, ◌≡◌, ◌≢◌, ◌<◌, ◌≤◌, ◌+◌, refl, sym, ◌∙◌, ap, subst, List, [], ◌∷◌, ◌++◌, length, get_or, Some, Bool, true, false, inl, inr, arith}
 use Rattle.std.proofs.Math.Logic.{∥∥₁_elim, ∥∥₁_map}
 use Rattle.std.proofs.lemmas.Bool.{eqb-true, eq-eqb}
 use Rattle.std.proofs.lemmas.Bool.Decides.{eqb_tells}
 use Rattle.std.proofs.lemmas.Option.{same_Some}
-use Rattle.std.specs.Prelude.{◌==◌, ◌&&◌, if◌then◌else◌, slice_get, slice_set}
+use Rattle.std.specs.Prelude.{◌==◌, if◌then◌else◌, slice_get, slice_set}
 use Rattle.std.specs.List.{filter}
 use Rattle.lock_book.specs.declared.Owner.{Owner}
 use Rattle.lock_book.specs.declared.Owner.TheVariants.{Process, Description}
 use Rattle.lock_book.specs.declared.book.Book.{Book}
-use Rattle.lock_book.specs.Owners.{is_same_owner}
 use Rattle.lock_book.specs.Books.{SetsOwnerMode, room_in}
 use Rattle.fd_table.specs.declared.tables.Tables.{Tables}
 use Rattle.wait_core.specs.declared.Family.TheVariants.{Bytes}
@@ -20,10 +20,10 @@ use Rattle.lock_manager.specs.declared.machine.Machine.{Machine}
 use Rattle.lock_manager.specs.declared.request.ProcState.TheVariants.{Live}
 use Rattle.lock_manager.specs.ProcessCalls.{without_wait}
 use Rattle.lock_manager.specs.Settling.{granted}
-use Rattle.lock_manager.specs.State.{State, with_byte_mode, with_lock_of, with_process}
+use Rattle.lock_manager.specs.State.{State, with_byte_mode, with_process}
 use Rattle.lock_manager.specs.MachineView.{Shows}
 use Rattle.lock_manager.specs.DescriptionLocks.{MayWaitAs, AreOwned, MayLock}
-use Rattle.lock_manager.specs.WaitsKept.{AreApart, HaveRoom, is_byte_wait, is_flock_wait, room_at}
+use Rattle.lock_manager.specs.WaitsKept.{AreApart, HaveRoom, is_byte_wait, room_at}
 use Rattle.lock_manager.proofs.kept.BookLemmas.{slice_get-set, entry_is}
 use Rattle.lock_manager.proofs.kept.OwnedLemmas.{stay_open_in_all}
 use Rattle.lock_manager.proofs.calls.ProcessCallLemmas.{found_holds, counted_without, found_without, without_absent}
@@ -51,10 +51,7 @@ one_fewer test (first ∷ rest) p wait found passes =
 
 -- a wait for a byte lock is one for a lock of its owner on its file
 is_its_own : (wait : Wait) → wait.family ≡ Bytes → is_byte_wait wait.file wait.owner wait ≡ true
-is_its_own wait family = rw family (both (wait.file == wait.file) (is_same_owner wait.owner wait.owner) (eq-eqb wait.file wait.file refl) (itself wait.owner))
-  where
-    both : (a b : Bool) → a ≡ true → b ≡ true → (a && b) ≡ true
-    both a b e k = rw (e, k) refl
+is_its_own wait family = grind (arith, common_steps, eq-eqb, itself)
 
 -- so there is room for it
 pub room_for_grant : (books : List Book) (waits : List Wait) (wait : Wait) (old : Book) → wait_of waits wait.p ≡ Some wait → wait.family ≡ Bytes
@@ -70,35 +67,7 @@ pub room_granted : (books : List Book) (waits : List Wait) (wait : Wait) (old ne
     → wait.file < length books → slice_get books wait.file ≡ Some old → SetsOwnerMode old new wait.owner wait.span (Some wait.mode)
     → room_in old wait.owner ≤ room_in new wait.owner + 1 → HaveRoom books waits → HaveRoom (slice_set books wait.file new) (without_wait_of waits wait.p)
 room_granted books waits wait old new found family within was sets kept h =
-    record {
-      rooms = λ f o. rw (slice_get-set books wait.file f new within) (rooms f o (wait.file == f) refl);
-      places = λ f d asked. rw (slice_get-set books wait.file f new within)
-          (places_at (wait.file == f) (slice_get books f) old new d (entry_is books wait.file f old was) (λ there. sets.places d ∙ there)
-          (h.places f d (found_without (is_flock_wait f d) waits wait.p asked)));
-    }
-  where
-    left : ℕ → Owner → ℕ
-    left f o = length (filter (is_byte_wait f o) (without_wait_of waits wait.p))
-
-    here : (o : Owner) (b : Bool) → is_same_owner wait.owner o ≡ b → left wait.file o ≤ room_in new o
-    here o true same =
-        let is : wait.owner ≡ o = same_owner wait.owner o same in
-        subst (λ x. left wait.file x ≤ room_in new x) is
-        (let fewer = one_fewer (is_byte_wait wait.file wait.owner) waits wait.p wait found (is_its_own wait family) in
-        let enough : length (filter (is_byte_wait wait.file wait.owner) waits) ≤ room_in old wait.owner =
-        subst (λ e. length (filter (is_byte_wait wait.file wait.owner) waits) ≤ room_at e wait.owner) was (h.rooms wait.file wait.owner) in
-        omega (arith, fewer, enough, kept))
-    here o false differs =
-        let other : o ≢ wait.owner = λ e. (let is : is_same_owner wait.owner o ≡ true = subst (λ x. is_same_owner wait.owner x ≡ true) (sym e) (itself wait.owner) in cc) in
-        let fewer = counted_without (is_byte_wait wait.file o) waits wait.p in
-        let enough : length (filter (is_byte_wait wait.file o) waits) ≤ room_in old o =
-        subst (λ e. length (filter (is_byte_wait wait.file o) waits) ≤ room_at e o) was (h.rooms wait.file o) in
-        let same = sets.rooms o other in
-        omega (arith, fewer, enough, same)
-
-    rooms : (f : ℕ) (o : Owner) (b : Bool) → (wait.file == f) ≡ b → left f o ≤ room_at (if b then Some new else slice_get books f) o
-    rooms f o true same = subst (λ g. left g o ≤ room_in new o) (eqb-true wait.file f same) (here o (is_same_owner wait.owner o) refl)
-    rooms f o false differs = let fewer = counted_without (is_byte_wait f o) waits wait.p in let enough = h.rooms f o in omega (arith, fewer, enough)
+    grind (arith, common_steps, slice_get-set, places_at, entry_is, found_without, same_owner, one_fewer, is_its_own, itself, counted_without, eqb-true)
 
 -- the owner of a wait may have the lock
 pub may_lock_granted : (tables : Tables) (locks : Locks) (waits : List Wait) (wait : Wait) → AreOwned tables locks waits → wait_of waits wait.p ≡ Some wait
@@ -151,8 +120,4 @@ pub shows_granted : (machine : Machine) (S : State) (before : List Wait) (wait :
     → S.waits ≡ before ++ wait ∷ after
     → Shows machine (with_byte_mode (with_process (without_wait S wait.p) wait.p Live) wait.file wait.owner wait.span (Some wait.mode))
     → Shows machine (granted S before wait after)
-shows_granted machine S before wait after family apart place h =
-    let left : without_wait_of S.waits wait.p ≡ before ++ after =
-    ap (λ ws. without_wait_of ws wait.p) place ∙ without_middle before wait after (subst AreApart place apart) in
-    subst (λ f. Shows machine (with_process (record (with_lock_of f wait.owner S wait) { waits = before ++ after }) wait.p Live)) (sym family)
-    (record { bytes = h.bytes; flocks = h.flocks; descriptors = h.descriptors; waits = h.waits ∙ left; states = h.states })
+shows_granted machine S before wait after family apart place h = grind (arith, common_steps, without_middle)

@@ -1,5 +1,6 @@
 -- What holds of the machine at every moment, after a change of one book and after a release.
-use Rattle.std.proofs.Common.{ℕ, ◌≡◌, ◌≢◌, ◌<◌, ◌≤◌, sym, ap, refl, arith, ◌∙◌, subst, true, false, inl, inr, List, length, Some, Option, All, Result, OnOk, OnErr}
+use Rattle.std.proofs.lemmas.Grind.{common_steps}
+use Rattle.std.proofs.Common.{ℕ, ◌≡◌, ◌≢◌, ◌<◌, ◌≤◌, sym, arith, ◌∙◌, subst, true, List, length, Some, Option, All, Result, OnOk, OnErr}
 use Rattle.std.proofs.Math.Logic.{∥∥₁_map}
 use Rattle.std.specs.Prelude.{◌==◌, ◌&&◌, if◌then◌else◌, slice_get, slice_set}
 use Rattle.std.proofs.lemmas.Bool.{cases_Bool, cases_eq, eqb-true}
@@ -13,7 +14,7 @@ use Rattle.lock_book.specs.declared.Owner.{Owner}
 use Rattle.lock_book.specs.declared.Owner.TheVariants.{Process}
 use Rattle.lock_book.specs.declared.book.Book.{Book}
 use Rattle.lock_book.specs.Owners.{is_same_owner}
-use Rattle.lock_book.specs.Books.{byte_modes_of, SetsOwnerMode, SameBook, room_in}
+use Rattle.lock_book.specs.Books.{SetsOwnerMode, SameBook, room_in}
 use Rattle.range_core.specs.Changes.{is_covered}
 use Rattle.lock_book.specs.Conflicts.{ByteConflict}
 use Rattle.fd_table.specs.declared.tables.Tables.{Tables}
@@ -22,7 +23,7 @@ use Rattle.fd_table.specs.Descriptors.{Descriptors}
 use Rattle.fd_table.specs.TablesView.{StandFor}
 use Rattle.wait_core.specs.declared.Policy.{Policy}
 use Rattle.wait_core.specs.declared.waits.Waits.{Waits}
-use Rattle.wait_core.specs.Locks.{Locks, byte_modes_at, locks_of}
+use Rattle.wait_core.specs.Locks.{Locks, locks_of}
 use Rattle.wait_core.specs.Cycles.{IsFreeOfCycles}
 use Rattle.wait_core.specs.WaitsView.{waits_of, AreTold, AgreeButOwner}
 use Rattle.wait_core.specs.Settled.{AreBlockedElsewhere, AgreeElsewhere}
@@ -49,16 +50,7 @@ covers_by_test span byte test = (grind (arith, nat_tests), grind (arith, nat_tes
 -- a set by the owner changes no other traditional lock, nor one of its own on other bytes
 set_apart : (file f q byte : ℕ) (owner : Owner) (span : Span) (mode before : Option Mode) → ¬ ((f ≡ file) × (Process q ≡ owner) × Covers span byte)
     → (if (file == f) && is_same_owner owner (Process q) && is_covered span byte then mode else before) ≡ before
-set_apart file f q byte owner span mode before apart = elim (cases_Bool (file == f)) [
-  | inl here ↦ elim (cases_Bool (is_same_owner owner (Process q))) [
-    | inl same ↦ elim (cases_Bool (is_covered span byte)) [
-      | inl covered ↦ absurd (apart (sym (eqb-true file f here), sym (same_owner owner (Process q) same), covers_by_test span byte covered))
-      | inr beside ↦ rw (here, same, beside) refl
-    ]
-    | inr differ ↦ rw (here, differ) refl
-  ]
-  | inr other ↦ rw other refl
-]
+set_apart file f q byte owner span mode before apart = grind (arith, common_steps, cases_Bool, eqb-true, same_owner, covers_by_test)
 
 pub owner_alone : (books : List Book) (file : ℕ) (old new : Book) (owner : Owner) (span : Span) (mode : Option Mode) (result : Result (Unit {0}) Memory)
     → file < length books → slice_get books file ≡ Some old → OnOk result (SetsOwnerMode old new owner span mode) → OnErr result (SameBook old new)
@@ -71,27 +63,15 @@ owner_alone books file old new owner span mode result within was sets same =
 -- nor does a release of what the process closed
 pub process_alone : (books : List Book) (file : ℕ) (old new : Book) (p : ℕ) (descriptions : List ℕ) → file < length books → slice_get books file ≡ Some old
     → ReleasesInBook old new p descriptions → AgreeButOwner file (Process p) (record { first = 0; last = OFFMAX }) (locks_of books) (locks_of (slice_set books file new))
-process_alone books file old new p descriptions within was releases f q byte few apart = elim (cases_eq f file) [
-  | inl here ↦
-      let differ : (p == q) ≡ false = elim (cases_Bool (p == q)) [
-        | inl same ↦ absurd (apart (here, ap (λ (n : ℕ). Process n) (sym (eqb-true p q same)), (omega arith, few)))
-        | inr differ ↦ differ
-      ] in
-      let now : byte_modes_of new (Process q) byte ≡ byte_modes_of old (Process q) byte = rw differ at (releases.bytes (Process q) byte) in
-      rw (here, slice_get-set_same books file new within, was) now
-  | inr other ↦ ap (λ e. byte_modes_at e (Process q) byte) (slice_get-set_other books file f new other)
-]
+process_alone books file old new p descriptions within was releases f q byte few apart =
+    grind (arith, common_steps, cases_eq, cases_Bool, eqb-true, slice_get-set_same, slice_get-set_other)
 
 -- what a refresh of the owner's pairs on these bytes leaves of what was known, where these are the books that it is told
 pub stays_known : (old new : Waits) (before after told_books : List Book) (file : ℕ) (owner : Owner) (span : Span) → told_books ≡ after → file < 64
     → ((locks : Locks) → AreTold old locks → AgreeButOwner file owner span locks (locks_of told_books) → AreTold new (locks_of told_books))
     → (file < 64 → (locks : Locks) → AreBlockedElsewhere old locks → AgreeElsewhere file locks (locks_of told_books) → AreBlockedElsewhere new (locks_of told_books))
     → AgreeElsewhere file (locks_of before) (locks_of after) → AgreeButOwner file owner span (locks_of before) (locks_of after) → StayKnown old new (locks_of before) (locks_of after)
-stays_known old new before after told_books file owner span is within told blocked agree alone =
-    subst (λ bs. StayKnown old new (locks_of before) (locks_of bs)) is (record {
-      told = λ was. told (locks_of before) was (subst (λ bs. AgreeButOwner file owner span (locks_of before) (locks_of bs)) (sym is) alone);
-      blocked = λ was. blocked within (locks_of before) was (subst (λ bs. AgreeElsewhere file (locks_of before) (locks_of bs)) (sym is) agree);
-    })
+stays_known old new before after told_books file owner span is within told blocked agree alone = grind (arith, common_steps)
 
 -- it holds after a change of one book by an owner that doesn't wait, which nothing blocks, refused or not, where there is room for
 -- the waits

@@ -1,11 +1,11 @@
 -- From one machine and a state that it stands for to the next.
-use Rattle.std.proofs.Common.{ℕ, ◌≡◌, ◌<◌, refl, sym, ◌∙◌, ap, subst, Option, Some, None, length, List, [], All, Bool, true, false}
+use Rattle.std.proofs.Common.{arith, ℕ, ◌≡◌, ◌<◌, refl, sym, ◌∙◌, ap, subst, Option, Some, length, List, [], All, true}
+use Rattle.std.proofs.lemmas.Grind.{common_steps}
 use Rattle.std.specs.Prelude.{slice_get, slice_set, ◌==◌, if◌then◌else◌}
 use Rattle.range_core.specs.declared.Mode.{Mode}
 use Rattle.range_core.specs.declared.Span.{Span}
 use Rattle.lock_book.specs.declared.Owner.{Owner}
 use Rattle.lock_book.specs.declared.book.Book.{Book}
-use Rattle.lock_book.specs.Changes.{Change, sets_byte}
 use Rattle.lock_book.specs.Books.{SetsOwnerMode}
 use Rattle.fd_table.specs.Descriptors.{Descriptors, opening_descriptors}
 use Rattle.fd_table.specs.TablesView.{StandFor, ever_alive}
@@ -25,28 +25,14 @@ use Rattle.lock_manager.proofs.kept.WaitLemmas.{KeepsLocks}
 pub with_tables : (old new : Machine) (S : State) (E : Descriptors) → new.books ≡ old.books → new.states ≡ old.states → waits_of new.waits ≡ waits_of old.waits
     → Shows old S → StandFor new.tables E → Shows new (record S { descriptors = E })
 unfolding machine_locks machine_state machine_waits
-with_tables old new S E books states waits h tables =
-    record {
-      bytes = λ file owner byte. rw books (h.bytes file owner byte);
-      flocks = λ file description. rw books (h.flocks file description);
-      descriptors = tables;
-      waits = waits ∙ h.waits;
-      states = λ p. rw states (h.states p);
-    }
+with_tables old new S E books states waits h tables = grind (arith, common_steps)
 
 -- other tables and another state of one process, with all else as it was
 pub with_tables_and_process : (old new : Machine) (S : State) (E : Descriptors) (p : ℕ) (state : ProcState) → new.books ≡ old.books
     → StandsSo old.states.items new.states.items p state → waits_of new.waits ≡ waits_of old.waits
     → Shows old S → StandFor new.tables E → Shows new (with_process (record S { descriptors = E }) p state)
 unfolding machine_locks machine_state machine_waits
-with_tables_and_process old new S E p state books states waits h tables =
-    record {
-      bytes = λ file owner byte. rw books (h.bytes file owner byte);
-      flocks = λ file description. rw books (h.flocks file description);
-      descriptors = tables;
-      waits = waits ∙ h.waits;
-      states = λ q. states q ∙ ap (λ s. if q == p then state else s) (h.states q);
-    }
+with_tables_and_process old new S E p state books states waits h tables = grind (arith, common_steps)
 
 -- after a change of one book the machine stands for the state with that change
 pub with_change : (old new : Machine) (S : State) (file : ℕ) (book changed : Book) (owner : Owner) (span : Span) (mode : Option Mode)
@@ -55,17 +41,7 @@ pub with_change : (old new : Machine) (S : State) (file : ℕ) (book changed : B
     → Shows old S → Shows new (with_byte_mode S file owner span mode)
 unfolding machine_locks machine_state machine_waits
 with_change old new S file book changed owner span mode books tables states within was sets waits h =
-    let change : Change = record { file = file; owner = owner; span = span; mode = mode } in
-    record {
-      bytes = λ f o byte. rw books
-          (set_bytes old.books.items file book changed owner span mode within was sets f o byte
-          ∙ ap (λ m. if sets_byte change f o byte then mode else m) (h.bytes f o byte)
-          ∙ sym (mode_from-push None S.changes change f o byte));
-      flocks = λ f d. rw books (set_flocks old.books.items file book changed within was sets.flocks f d ∙ h.flocks f d);
-      descriptors = subst (λ t. StandFor t S.descriptors) (sym tables) h.descriptors;
-      waits = waits ∙ h.waits;
-      states = λ p. rw states (h.states p);
-    }
+    grind (arith, common_steps, set_bytes, mode_from-push, set_flocks)
 
 -- after a change of one book that keeps its locks the machine stands for the same states
 pub same_by_book : (old new : Machine) (file : ℕ) (book same : Book)
@@ -95,30 +71,16 @@ same_by_book old new file book same books tables states rules processes waits wi
 pub at_opening : (m : Machine) → All HoldsNothing m.books.items → StandFor m.tables opening_descriptors
     → ((p : ℕ) → state_numbered m.states.items p ≡ (if p == 1 then Live else Unborn)) → waits_of m.waits ≡ [] → Shows m opening_state
 unfolding machine_locks machine_state machine_waits opening_state
-at_opening m empty tables states none = record {
-  bytes = λ file owner byte. unlocked_bytes m.books.items empty file owner byte;
-  flocks = λ file description. unlocked_flocks m.books.items empty file description;
-  descriptors = tables;
-  waits = none;
-  states = states;
-}
+at_opening m empty tables states none = grind (arith, common_steps, unlocked_bytes, unlocked_flocks)
 
 -- at the opening whoever lives was ever alive: process 1
 pub first_lives : (tables : Tables) (states : List ProcState) → StandFor tables opening_descriptors
     → ((p : ℕ) → state_numbered states p ≡ (if p == 1 then Live else Unborn))
     → (p : ℕ) → state_numbered states p ≡ Live → ever_alive tables p ≡ true
 unfolding opening_descriptors
-first_lives tables states opening are p live = sym (opening.ever_alive p) ∙ lives (p == 1) (sym (are p) ∙ live)
-  where
-    lives : (b : Bool) → (if b then Live else Unborn) ≡ Live → b ≡ true
-    lives true e = refl
-    lives false e = cc
+first_lives tables states opening are p live = grind (arith, common_steps)
 
 -- at the opening no process waits
 pub none_waits : (states : List ProcState) → ((p : ℕ) → state_numbered states p ≡ (if p == 1 then Live else Unborn))
     → (p : ℕ) → ¬ (state_numbered states p ≡ Waiting)
-none_waits states are p waiting = no_wait (p == 1) (sym (are p) ∙ waiting)
-  where
-    no_wait : (b : Bool) → ¬ ((if b then Live else Unborn) ≡ Waiting)
-    no_wait true e = cc
-    no_wait false e = cc
+none_waits states are p waiting = grind (arith, common_steps)

@@ -1,5 +1,6 @@
 -- Only descriptions that some descriptor refers to have locks, each on its own file, and only processes wait for them that have them open.
-use Rattle.std.proofs.Common.{ℕ, ◌≡◌, ◌<◌, refl, sym, ◌∙◌, ap, subst, List, [], length, Some, None, Option, Bool, true, false, Result, OnOk, OnErr, All, get_or, arith}
+use Rattle.std.proofs.lemmas.Grind.{common_steps}
+use Rattle.std.proofs.Common.{ℕ, ◌≡◌, ◌<◌, refl, sym, ◌∙◌, subst, List, [], length, Some, None, Option, Bool, true, false, Result, OnOk, OnErr, All, arith}
 use Rattle.std.proofs.Math.Logic.{∥∥₁_map, ∥∥₁_elim}
 use Rattle.std.proofs.lemmas.Option.{same_Some}
 use Rattle.std.proofs.lemmas.List.Elements.{All-nil}
@@ -15,7 +16,7 @@ use Rattle.lock_book.specs.declared.book.Book.{Book}
 use Rattle.lock_book.specs.Owners.{is_same_owner}
 use Rattle.lock_book.specs.Books.{SetsOwnerMode, SameBook}
 use Rattle.fd_table.specs.declared.tables.Tables.{Tables}
-use Rattle.fd_table.specs.Descriptors.{Descriptors, OpenFileDescription, description_numbered, opening_descriptors}
+use Rattle.fd_table.specs.Descriptors.{Descriptors, description_numbered, opening_descriptors}
 use Rattle.fd_table.specs.TablesView.{Numbered, IsSeen, StandFor, view_of}
 use Rattle.wait_core.specs.declared.Wait.{Wait}
 use Rattle.wait_core.specs.Locks.{Locks, locks_of}
@@ -41,23 +42,12 @@ may_wait_more D E wait (Process q) stay may = may
 may_wait_more D E wait (Description d) stay may = stay wait.file d may
 
 holders_more : (D E : Descriptors) (waits : List Wait) → StayOpen D E → AreOfHolders D waits → AreOfHolders E waits
-holders_more D E waits stay h k d within =
-    let wait = get_or waits k d in
-    may_wait_more D E wait wait.owner (λ file e has. stay file e wait.p has) (h k d within)
+holders_more D E waits stay h k d within = grind (arith, common_steps, may_wait_more)
 
 -- what is seen of a descriptor is what both descriptors say of it
 seen_by_both : (seen : Option Numbered) (D E : Descriptors) (p fd file d : ℕ) → IsSeen seen D p fd → IsSeen seen E p fd → D.description_of p fd ≡ Some d
     → option_map (λ opened. opened.file) (description_numbered D.descriptions d) ≡ Some file → HasOpenOn E p file d
-seen_by_both None D E p fd file d h k refers of_file = absurd (cc)
-seen_by_both (Some seen) D E p fd file d h k refers of_file =
-    let same : seen.number ≡ d = same_Some seen.number d (sym h.0 ∙ refers) in
-    let numbered : description_numbered E.descriptions d ≡ description_numbered D.descriptions d =
-    subst (λ n. description_numbered E.descriptions n ≡ description_numbered D.descriptions n) same (k.1 ∙ sym h.1) in
-    record {
-      fd = fd;
-      refers = k.0 ∙ ap Some same;
-      of_file = ap (option_map (λ (opened : OpenFileDescription). opened.file)) numbered ∙ of_file;
-    }
+seen_by_both seen D E p fd file d h h2 h3 h4 = grind (arith, common_steps, same_Some)
 
 -- all descriptors that the tables stand for agree on what is open on which file
 pub stay_open_in_all : (tables : Tables) (D E : Descriptors) → StandFor tables D → StandFor tables E → StayOpen D E
@@ -100,10 +90,7 @@ owned_after old new locks waits owned call =
 
 -- who may lock the file has the file open
 may_lock_on : (tables : Tables) (file : ℕ) (owner : Owner) (D : Descriptors) (d : ℕ) → StandFor tables D → MayLock tables file owner → owner ≡ Description d → ∥ IsOpenOn D file d ∥₁
-may_lock_on tables file (Process p) D d stands may is = absurd (cc)
-may_lock_on tables file (Description e) D d stands may is =
-    let same : e ≡ d = cc in
-    subst (λ n. ∥ IsOpenOn D file n ∥₁) same (may D stands)
+may_lock_on tables file owner D d h h2 h3 = grind (arith, common_steps)
 
 -- a mode that is set, or else what was none, is none
 pub none_but_set : (is_it : Bool) (mode before : Option Mode) → (is_it ≡ true → ⊥) → before ≡ None → (if is_it then mode else before) ≡ None
@@ -155,13 +142,4 @@ of_no_wait P waits none = subst (λ ws. All P ws) (sym none) (All-nil P)
 -- books that hold nothing, and no waits
 pub owned_at_opening : (tables : Tables) (books : List Book) (waits : List Wait) → StandFor tables opening_descriptors → All HoldsNothing books → waits ≡ []
     → AreOwned tables (locks_of books) waits
-owned_at_opening tables books waits opening empty none =
-    ∣ (
-      opening_descriptors,
-      opening,
-      record {
-        bytes = λ file d closed byte. unlocked_bytes books empty file (Description d) byte;
-        flocks = λ file d closed. unlocked_flocks books empty file d;
-      },
-      of_no_wait (λ wait. MayWaitAs opening_descriptors wait wait.owner) waits none,
-    ) ∣₁
+owned_at_opening tables books waits opening empty none = grind (arith, common_steps, unlocked_bytes, unlocked_flocks, of_no_wait)

@@ -1,11 +1,11 @@
 -- What the loops that release locks have done so far.
-use Rattle.std.proofs.Common.{ℕ, ◌≡◌, ◌+◌, ◌<◌, refl, sym, ◌∙◌, ap, List, length, take, get_or, Some, None, Option, Bool, true, false}
+use Rattle.std.proofs.Common.{arith, ℕ, ◌≡◌, ◌+◌, ◌<◌, refl, sym, ◌∙◌, ap, List, length, take, get_or, Some, Option, Bool, true, false}
+use Rattle.std.proofs.lemmas.Grind.{common_steps}
 use Rattle.std.proofs.lemmas.List.Folds.{list_any_more}
 use Rattle.std.specs.Prelude.{◌==◌, ◌&&◌, ◌||◌, if◌then◌else◌, slice_get, slice_set}
 use Rattle.lock_book.specs.declared.book.Book.{Book}
-use Rattle.wait_core.specs.Locks.{locks_of, byte_modes_at, flock_modes_at}
-use Rattle.lock_manager.specs.LockReleases.{is_one_of, is_released, ReleasesInBook, ReleasesLocks, ReleasesRoom}
-use Rattle.lock_manager.specs.WaitsKept.{room_at, has_place_at}
+use Rattle.wait_core.specs.Locks.{locks_of}
+use Rattle.lock_manager.specs.LockReleases.{is_one_of, ReleasesInBook, ReleasesLocks, ReleasesRoom}
 use Rattle.lock_manager.proofs.kept.BookLemmas.{slice_get-set, entry_is}
 
 -- one more number
@@ -37,16 +37,7 @@ pub released_file : (old books : List Book) (book new : Book) (p : ℕ) (files d
     → ReleasesLocks (locks_of old) (locks_of books) p (take i files) descriptions → ReleasesInBook book new p descriptions
     → ReleasesLocks (locks_of old) (locks_of (slice_set books file new)) p (take (i + 1) files) descriptions
 released_file old books book new p files descriptions i d file inside is within was before releases =
-    record {
-      bytes = λ f o byte. rw (slice_get-set books file f new within)
-          (entry_more (λ e. byte_modes_at e o byte) None (file == f) (is_one_of (take i files) f) (is_released p descriptions o) (slice_get books f) book new ((locks_of old).bytes f o byte)
-          (entry_is books file f book was) (releases.bytes o byte) (before.bytes f o byte)
-          ∙ ap (λ b. if b && is_released p descriptions o then None else (locks_of old).bytes f o byte) (files_more files i d file f inside is));
-      flocks = λ f e. rw (slice_get-set books file f new within)
-          (entry_more (λ x. flock_modes_at x e) None (file == f) (is_one_of (take i files) f) (is_one_of descriptions e) (slice_get books f) book new ((locks_of old).flocks f e)
-          (entry_is books file f book was) (releases.flocks e) (before.flocks f e)
-          ∙ ap (λ b. if b && is_one_of descriptions e then None else (locks_of old).flocks f e) (files_more files i d file f inside is));
-    }
+    grind (arith, common_steps, slice_get-set, entry_more, entry_is, files_more)
 
 -- and its room
 pub released_room : (old books : List Book) (book new : Book) (p : ℕ) (files descriptions : List ℕ) (i d file : ℕ) → i < length files → get_or files i d ≡ file
@@ -54,13 +45,4 @@ pub released_room : (old books : List Book) (book new : Book) (p : ℕ) (files d
     → ReleasesRoom old books p (take i files) descriptions → ReleasesInBook book new p descriptions
     → ReleasesRoom old (slice_set books file new) p (take (i + 1) files) descriptions
 released_room old books book new p files descriptions i d file inside is within was before releases =
-    record {
-      rooms = λ f o. rw (slice_get-set books file f new within)
-          (entry_more (λ e. room_at e o) 0 (file == f) (is_one_of (take i files) f) (is_released p descriptions o) (slice_get books f) book new (room_at (slice_get old f) o)
-          (entry_is books file f book was) (releases.rooms o) (before.rooms f o)
-          ∙ ap (λ b. if b && is_released p descriptions o then 0 else room_at (slice_get old f) o) (files_more files i d file f inside is));
-      places = λ f e. rw (slice_get-set books file f new within)
-          (entry_more (λ x. has_place_at x e) false (file == f) (is_one_of (take i files) f) (is_one_of descriptions e) (slice_get books f) book new (has_place_at (slice_get old f) e)
-          (entry_is books file f book was) (releases.places e) (before.places f e)
-          ∙ ap (λ b. if b && is_one_of descriptions e then false else has_place_at (slice_get old f) e) (files_more files i d file f inside is));
-    }
+    grind (arith, common_steps, slice_get-set, entry_more, entry_is, files_more)

@@ -1,13 +1,13 @@
 -- No owners conflict after a change that nothing blocked.
-use Rattle.std.proofs.Common.{ℕ, ◌≡◌, ◌≢◌, ◌<◌, refl, sym, ◌∙◌, ap, subst, List, [], ◌∷◌, ◌++◌, Some, Option, Bool, true, false, All}
-use Rattle.std.specs.Prelude.{◌==◌, ◌&&◌, nat_le, if◌then◌else◌, slice_get, slice_set, Result, OnOk, OnErr, length}
+use Rattle.std.proofs.Common.{arith, ℕ, ◌≡◌, ◌≢◌, ◌<◌, refl, sym, ◌∙◌, ap, subst, List, [], ◌∷◌, ◌++◌, Some, Option, Bool, true, false, All}
+use Rattle.std.proofs.lemmas.Grind.{common_steps}
+use Rattle.std.specs.Prelude.{◌==◌, ◌&&◌, if◌then◌else◌, slice_get, slice_set, Result, OnOk, OnErr, length}
 use Rattle.range_core.specs.declared.Memory.{Memory}
 use Rattle.lock_book.specs.declared.book.Book.{Book}
 use Rattle.lock_book.specs.Books.{SetsOwnerMode, SameBook}
 use Rattle.lock_manager.proofs.kept.BookLemmas.{unlocked_bytes, unlocked_flocks, changed, after_set}
 use Rattle.std.proofs.lemmas.Bool.{eqb-true, eq-eqb, leb-true}
 use Rattle.range_core.specs.declared.Mode.{Mode}
-use Rattle.range_core.specs.declared.Mode.TheVariants.{Read, Write}
 use Rattle.range_core.specs.declared.Span.{Span}
 use Rattle.range_core.specs.Ranges.{Conflict, Covers, HeldConflicts}
 use Rattle.range_core.specs.Changes.{is_covered}
@@ -24,10 +24,7 @@ use Rattle.lock_manager.specs.Opening.{HoldsNothing}
 
 -- two owners that are found the same are the same
 pub same_owner : (a b : Owner) → is_same_owner a b ≡ true → a ≡ b
-same_owner (Process p) (Process q) e = ap Process (eqb-true p q e)
-same_owner (Process p) (Description d) e = cc
-same_owner (Description d) (Process p) e = cc
-same_owner (Description d) (Description c) e = ap Description (eqb-true d c e)
+same_owner a b h = grind (arith, common_steps, eqb-true)
 
 -- an owner is the same as itself
 pub itself : (owner : Owner) → is_same_owner owner owner ≡ true
@@ -36,10 +33,7 @@ itself (Description d) = eq-eqb d d refl
 
 -- conflict is symmetric
 pub conflict_back : (m k : Mode) → Conflict m k → Conflict k m
-conflict_back Read Read h = h
-conflict_back Read Write h = tt
-conflict_back Write Read h = tt
-conflict_back Write Write h = tt
+conflict_back m k h = grind (arith, common_steps)
 
 -- what a change on this byte of this file is
 pub record Hits (file : ℕ) (owner : Owner) (span : Span) (f : ℕ) (o : Owner) (byte : ℕ) : Type 0 where
@@ -52,17 +46,7 @@ both true b e = (refl, e)
 both false b e = cc
 
 pub hit : (file : ℕ) (owner : Owner) (span : Span) (f : ℕ) (o : Owner) (byte : ℕ) → ((file == f) && is_same_owner owner o && is_covered span byte) ≡ true → Hits file owner span f o byte
-hit file owner span f o byte e =
-    let outer : (((file == f) && is_same_owner owner o) ≡ true) × (is_covered span byte ≡ true) =
-    both ((file == f) && is_same_owner owner o) (is_covered span byte) e in
-    let inner : ((file == f) ≡ true) × (is_same_owner owner o ≡ true) = both (file == f) (is_same_owner owner o) outer.0 in
-    let ends : (nat_le span.first byte ≡ true) × (nat_le byte span.last ≡ true) =
-    both (nat_le span.first byte) (nat_le byte span.last) outer.1 in
-    record {
-      file_is = eqb-true file f inner.0;
-      owner_is = same_owner owner o inner.1;
-      covered = (leb-true span.first byte ends.0, leb-true byte span.last ends.1);
-    }
+hit file owner span f o byte e = grind (arith, common_steps, both, eqb-true, same_owner, leb-true)
 
 -- no list without waits has one
 no_place : (before : List Wait) (wait : Wait) (after : List Wait) → [] ≡ before ++ wait ∷ after → ⊥
@@ -116,23 +100,13 @@ pub compatible_set : (old new : Locks) (file : ℕ) (owner : Owner) (span : Span
     → ((m : Mode) → mode ≡ Some m → ¬ ByteConflict (old.bytes file) owner span m)
     → ((f : ℕ) (o : Owner) (byte : ℕ) → new.bytes f o byte ≡ changed old file owner span mode f o byte)
     → ((f d : ℕ) → new.flocks f d ≡ old.flocks f d) → AreCompatible new
-compatible_set old new file owner span mode before free bytes flocks = record {
-  bytes = λ f one other byte m k distinct m_is k_is.
-      no_conflict old file owner span mode before free f one other byte m k _ _ distinct refl refl (sym (bytes f one byte) ∙ m_is) (sym (bytes f other byte) ∙ k_is);
-  flocks = λ f one other m k distinct m_is k_is.
-      before.flocks f one other m k distinct (sym (flocks f one) ∙ m_is) (sym (flocks f other) ∙ k_is);
-}
+compatible_set old new file owner span mode before free bytes flocks = grind (arith, common_steps, no_conflict)
 
 -- the same locks are as compatible
 pub compatible_same : (old new : Locks) → AreCompatible old
     → ((f : ℕ) (o : Owner) (byte : ℕ) → new.bytes f o byte ≡ old.bytes f o byte)
     → ((f d : ℕ) → new.flocks f d ≡ old.flocks f d) → AreCompatible new
-compatible_same old new before bytes flocks = record {
-  bytes = λ f one other byte m k distinct m_is k_is.
-      before.bytes f one other byte m k distinct (sym (bytes f one byte) ∙ m_is) (sym (bytes f other byte) ∙ k_is);
-  flocks = λ f one other m k distinct m_is k_is.
-      before.flocks f one other m k distinct (sym (flocks f one) ∙ m_is) (sym (flocks f other) ∙ k_is);
-}
+compatible_same old new before bytes flocks = grind (arith, common_steps)
 
 -- one book's change that nothing blocks, or that was refused, makes no conflict
 pub compatible_after : (books : List Book) (file : ℕ) (old new : Book) (owner : Owner) (span : Span) (mode : Option Mode) (result : Result (Unit {0}) Memory)
@@ -147,10 +121,4 @@ compatible_after books file old new owner span mode result within was free sets 
 
 -- where there are no locks none conflict
 pub compatible_without_locks : (books : List Book) → All HoldsNothing books → AreCompatible (locks_of books)
-compatible_without_locks books empty =
-    record {
-      bytes = λ f one other byte m k distinct m_is k_is.
-          absurd (let none = unlocked_bytes books empty f one byte in cc);
-      flocks = λ f one other m k distinct m_is k_is.
-          absurd (let none = unlocked_flocks books empty f one in cc);
-    }
+compatible_without_locks books empty = grind (arith, common_steps, unlocked_bytes, unlocked_flocks)

@@ -1,5 +1,6 @@
 -- What is open stays open in the calls that close nothing.
-use Rattle.std.proofs.Common.{ℕ, zero, suc, ◌≡◌, ◌+◌, pred, refl, sym, ◌∙◌, ap, subst, List, [], ◌∷◌, ◌++◌, length, Some, None, Option, Bool, true, false, Result, Ok, Err, OnErr, inl, inr, ℤ}
+use Rattle.std.proofs.Common.{arith, ℕ, zero, suc, ◌≡◌, refl, ◌∙◌, ap, List, [], ◌∷◌, ◌++◌, Some, None, Option, Bool, true, false, Result, Ok, Err, OnErr, ℤ}
+use Rattle.std.proofs.lemmas.Grind.{common_steps}
 use Rattle.std.proofs.lemmas.Option.{slice_get_within}
 use Rattle.std.proofs.lemmas.Bool.{eqb-true}
 use Rattle.std.proofs.lemmas.Bool.Decides.{eqb_tells}
@@ -34,13 +35,7 @@ slice_get_kept (y ∷ xs) ys (suc i) x is = slice_get_kept xs ys i x is
 file_kept : (xs ys : List OpenFileDescription) (d file : ℕ)
     → file_of xs d ≡ Some file
     → file_of (xs ++ ys) d ≡ Some file
-file_kept xs ys zero file is = is
-file_kept xs ys (suc i) file is = at (slice_get xs i) refl is
-  where
-    at : (o : Option OpenFileDescription) → slice_get xs i ≡ o → option_map (λ opened. opened.file) o ≡ Some file
-        → option_map (λ opened. opened.file) (slice_get (xs ++ ys) i) ≡ Some file
-    at None was is = absurd (cc)
-    at (Some x) was is = ap (option_map (λ (opened : OpenFileDescription). opened.file)) (slice_get_kept xs ys i x was) ∙ is
+file_kept xs ys d file h = grind (arith, common_steps, slice_get_kept)
 
 -- a free descriptor is given a description: every other one keeps its own
 other_refers : (D : Descriptors) (p fd q k number d : ℕ) (is_it : Bool) → (is_it ≡ true → D.description_of q k ≡ None)
@@ -53,16 +48,7 @@ given_stays : (D E : Descriptors) (p fd number : ℕ) → D.description_of p fd 
     → ((q k : ℕ) → E.description_of q k ≡ (if (q == p) && (k == fd) then Some number else D.description_of q k))
     → ((d file : ℕ) → file_of D.descriptions d ≡ Some file → file_of E.descriptions d ≡ Some file)
     → StayOpen D E
-given_stays D E p fd number free given files f d q is =
-    let k = is.fd in
-    let was_free : ((q == p) && (k == fd)) ≡ true → D.description_of q k ≡ None = λ e.
-    let place : ((q == p) ≡ true) × ((k == fd) ≡ true) = both (q == p) (k == fd) e in
-    ap (λ r. D.description_of r k) (eqb-true q p place.0) ∙ ap (D.description_of p) (eqb-true k fd place.1) ∙ free in
-    record {
-      fd = k;
-      refers = given q k ∙ other_refers D p fd q k number d ((q == p) && (k == fd)) was_free is.refers;
-      of_file = files d f is.of_file;
-    }
+given_stays D E p fd number free given files f d q is = grind (arith, common_steps, both, eqb-true, other_refers)
 
 -- where each descriptor and each file of a description stay, what was open stays open
 same_stays : (D E : Descriptors) → ((q k : ℕ) → E.description_of q k ≡ D.description_of q k)
@@ -77,9 +63,7 @@ same_files xs ys same d file is = ap (λ ds. file_of ds d) same ∙ is
 
 -- an open leaves open what was open
 pub opened_stays : (limits : Limits) (D E : Descriptors) (p file : ℕ) (access : Access) (fd : ℕ) → OpenGives limits D p file access (Ok fd) E → StayOpen D E
-opened_stays limits D E p file access fd gives =
-    given_stays D E p fd (length D.descriptions + 1) gives.2.free gives.3.description_of
-    (λ d f is. ap (λ ds. file_of ds d) gives.3.descriptions ∙ file_kept D.descriptions (record { file = file; access = access; offset = 0 } ∷ []) d f is)
+opened_stays limits D E p file access fd gives = grind (arith, common_steps, given_stays, file_kept)
 
 -- so does dup
 pub dupped_stays : (limits : Limits) (D E : Descriptors) (p fd free : ℕ) → DupGives limits D p fd (Ok free) E → StayOpen D E
@@ -89,26 +73,11 @@ dupped_stays limits D E p fd free gives =
 -- a description that is given an offset keeps its file
 file_with_offset : (xs : List OpenFileDescription) (i : ℕ) (opened : OpenFileDescription) (offset d file : ℕ) → slice_get xs i ≡ Some opened
     → file_of xs d ≡ Some file → file_of (slice_set xs i (record opened { offset = offset })) d ≡ Some file
-file_with_offset xs i opened offset zero file was is = is
-file_with_offset xs i opened offset (suc k) file was is = elim (eqb_tells k i) [
-  | inl same ↦
-      let here : file_of xs (suc i) ≡ Some file = subst (λ j. file_of xs (suc j) ≡ Some file) same.1 is in
-      subst (λ j. file_of (slice_set xs i (record opened { offset = offset })) (suc j) ≡ Some file) (sym same.1)
-      (ap (option_map (λ (o : OpenFileDescription). o.file)) (slice_get-set_same xs i (record opened { offset = offset }) (slice_get_within xs i opened was))
-      ∙ ap (option_map (λ (o : OpenFileDescription). o.file)) (sym was) ∙ here)
-  | inr other ↦ ap (option_map (λ (o : OpenFileDescription). o.file)) (slice_get-set_other xs i k (record opened { offset = offset }) other.1) ∙ is
-]
+file_with_offset xs i opened offset d file h h2 = grind (arith, common_steps, eqb_tells, slice_get-set_same, slice_get_within, slice_get-set_other)
 
 -- so does a seek
 pub sought_stays : (D E : Descriptors) (p fd : ℕ) (offset : ℤ) → SeekGives D p fd offset (Ok tt) E → StayOpen D E
-sought_stays D E p fd offset gives = at gives.1.number gives.1.numbered gives.4.descriptions
-  where
-    at : (number : ℕ) → description_numbered D.descriptions number ≡ Some gives.0
-        → E.descriptions ≡ slice_set D.descriptions (pred number) (record gives.0 { offset = gives.2 }) → StayOpen D E
-    at zero numbered descriptions = absurd (cc)
-    at (suc i) numbered descriptions =
-        same_stays D E gives.4.description_of
-        (λ d file is. ap (λ ds. file_of ds d) descriptions ∙ file_with_offset D.descriptions i gives.0 gives.2 d file numbered is)
+sought_stays D E p fd offset gives = grind (arith, common_steps, same_stays, file_with_offset)
 
 -- so does a resize
 pub resized_stays : (D E : Descriptors) (p fd : ℕ) (size : ℤ) → ResizeGives D p fd size (Ok tt) E → StayOpen D E
@@ -122,27 +91,11 @@ not_child D p child q k d false none refers = refers
 
 -- so does a fork, since the child had no descriptor before
 pub forked_stays : (processes : ℕ) (D E : Descriptors) (p child : ℕ) → ((fd : ℕ) → D.description_of child fd ≡ None) → ForkGives processes D p child (Ok tt) E → StayOpen D E
-forked_stays processes D E p child none gives f d q is =
-    let k = is.fd in
-    record {
-      fd = k;
-      refers = gives.1.description_of q k
-          ∙ not_child D p child q k d (q == child) (λ e. ap (λ r. D.description_of r k) (eqb-true q child e) ∙ none k) is.refers;
-      of_file = same_files D.descriptions E.descriptions gives.1.descriptions d f is.of_file;
-    }
+forked_stays processes D E p child none gives f d q is = grind (arith, common_steps, not_child, eqb-true, same_files)
 
 -- what is kept stays under other tables, where locks and waits of descriptions are of open ones
 kept_in : (m : Machine) (tables : Tables) → AreOwned tables (locks_of m.books.items) (waits_of m.waits) → AreKept m.rules.policy tables m.books.items m.waits
-kept_in m tables owned = record {
-  compatible = m.kept.compatible;
-  owned = owned;
-  within = m.kept.within;
-  told = m.kept.told;
-  blocked = m.kept.blocked;
-  apart = m.kept.apart;
-  room = m.kept.room;
-  free_of_cycles = m.kept.free_of_cycles;
-}
+kept_in m tables owned = grind (arith, common_steps)
 
 -- so it does after a call that is refused
 pub kept_by_refusal : (m : Machine) (tables : Tables) → ((D : Descriptors) → StandFor m.tables D → StandFor tables D) → AreKept m.rules.policy tables m.books.items m.waits

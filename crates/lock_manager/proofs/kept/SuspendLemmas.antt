@@ -1,9 +1,8 @@
 -- What holds of the machine when one more process waits.
-use Rattle.std.proofs.Common.{ℕ, ◌≡◌, ◌≢◌, ◌<◌, ◌≤◌, ◌+◌, refl, sym, ◌∙◌, ap, subst, List, [], ◌∷◌, ◌++◌, length, Some, None, Option, Bool, true, false, All, Result, Ok, Err, OnOk, OnErr, inl, inr, arith}
+use Rattle.std.proofs.lemmas.Grind.{common_steps}
+use Rattle.std.proofs.Common.{ℕ, ◌≡◌, ◌≢◌, ◌<◌, ◌≤◌, ◌+◌, refl, sym, ◌∙◌, ap, subst, List, [], ◌∷◌, ◌++◌, length, Some, None, Bool, true, false, All, Result, OnOk, OnErr, inl, inr, arith}
 use Rattle.std.proofs.Math.Logic.{∥∥₁_map}
-use Rattle.std.specs.Prelude.{slice_get, slice_set, ◌==◌, ◌&&◌, ◌||◌, if◌then◌else◌, filter, find}
-use Rattle.std.specs.Option.{option_or}
-use Rattle.std.specs.List.{list_any}
+use Rattle.std.specs.Prelude.{slice_get, slice_set, if◌then◌else◌, filter}
 use Rattle.std.proofs.lemmas.Bool.{cases_Bool, eqb-true, eq-eqb}
 use Rattle.std.proofs.lemmas.Bool.Decides.{eqb_tells}
 use Rattle.std.proofs.lemmas.List.Elements.{All-head, All-tail, All-push, filter-append}
@@ -15,7 +14,6 @@ use Rattle.range_core.specs.declared.Memory.{Memory}
 use Rattle.lock_book.specs.declared.Owner.{Owner}
 use Rattle.lock_book.specs.declared.Owner.TheVariants.{Process, Description}
 use Rattle.lock_book.specs.declared.book.Book.{Book}
-use Rattle.lock_book.specs.Owners.{is_same_owner}
 use Rattle.lock_book.specs.Books.{room_in, SameButRoom, SameBook}
 use Rattle.fd_table.specs.declared.tables.Tables.{Tables}
 use Rattle.fd_table.specs.Descriptors.{Descriptors}
@@ -35,7 +33,7 @@ use Rattle.lock_manager.specs.State.{State, state_numbered, with_process, Stands
 use Rattle.lock_manager.specs.DescriptionLocks.{AreOwned, AreWithinFiles, MayWait, MayWaitAs}
 use Rattle.lock_manager.specs.Safety.{AreCompatible}
 use Rattle.lock_manager.specs.MachineView.{Shows, machine_state, machine_locks, machine_waits}
-use Rattle.lock_manager.specs.WaitsKept.{AreKept, AreStanding, AreApart, IsSuspended, HaveRoom, is_byte_wait, is_flock_wait, is_of_bytes, is_of_whole, room_at, has_place_at, StayKnown}
+use Rattle.lock_manager.specs.WaitsKept.{AreKept, AreStanding, AreApart, HaveRoom, is_byte_wait, room_at, StayKnown}
 use Rattle.lock_manager.proofs.kept.BookLemmas.{slice_get-set_same, locks_stay}
 use Rattle.lock_manager.proofs.kept.SafetyLemmas.{same_owner, itself, both}
 use Rattle.lock_manager.proofs.kept.ProcessLemmas.{waiting_still, stands_set, lived_before}
@@ -71,40 +69,12 @@ owned_joined tables locks waits wait may owned =
 -- its process waits from now on, and is awaited in the longer list, as the others are
 pub standing_joined : (tables : Tables) (states states' : List ProcState) (waits : List Wait) (wait : Wait) → StandsSo states states' wait.p Waiting
     → state_numbered states wait.p ≡ Live → AreStanding tables states waits → AreStanding tables states' (waits ++ wait ∷ [])
-standing_joined tables states states' waits wait set live h = record {
-  alive = λ p lives. h.alive p (lived_before states states' wait.p Waiting set (λ e. cc) p lives);
-  suspended = All-push (IsSuspended tables states') waits wait
-      (suspended_after tables tables states states' waits (λ q born. born) (λ q born waiting. still q waiting) h.suspended)
-      (record { born = h.alive wait.p live; waiting = stands_set states states' wait.p Waiting set });
-  awaited = λ q waiting none. elim (eqb_tells q wait.p) [
-    | inl same ↦ last (find (λ w. w.p == q) waits) (wait.p == q) (subst (λ k. (wait.p == k) ≡ true) (sym same.1) (eq-eqb wait.p wait.p refl)) (sym (found q) ∙ none)
-    | inr other ↦ h.awaited q (sym (set q ∙ rw other.0 refl) ∙ waiting) (first (find (λ w. w.p == q) waits) (find (λ w. w.p == q) (wait ∷ [])) (sym (found q) ∙ none))
-  ];
-}
-  where
-    still : (q : ℕ) → state_numbered states q ≡ Waiting → state_numbered states' q ≡ Waiting
-    still q waiting = waiting_still states states' wait.p Waiting set q (λ e. (let both : Waiting ≡ Live = sym waiting ∙ ap (state_numbered states) e ∙ live in cc)) waiting
-
-    found : (q : ℕ) → wait_of (waits ++ wait ∷ []) q ≡ option_or (find (λ w. w.p == q) waits) (find (λ w. w.p == q) (wait ∷ []))
-    found q = find-append (λ w. w.p == q) waits (wait ∷ [])
-
-    first : (one other : Option Wait) → option_or one other ≡ None → one ≡ None
-    first None other e = refl
-    first (Some w) other e = cc
-
-    last : (one : Option Wait) (b : Bool) → b ≡ true → option_or one (if b then Some wait else None) ≡ None → ⊥
-    last None true is e = cc
-    last None false is e = cc
-    last (Some w) b is e = cc
+standing_joined tables states states' waits wait set live h =
+    grind (arith, common_steps, lived_before, All-push, suspended_after, stands_set, eqb_tells, eq-eqb, waiting_still, both, find-append)
 
 -- one more wait counts where it passes the test
 pub counted : (p : Wait → Bool) (waits : List Wait) (wait : Wait) → length (filter p (waits ++ wait ∷ [])) ≡ length (filter p waits) + (if p wait then 1 else 0)
-counted p waits wait =
-    ap length (filter-append p waits (wait ∷ [])) ∙ length-append (filter p waits) (filter p (wait ∷ [])) ∙ ap (λ n. length (filter p waits) + n) (one (p wait))
-  where
-    one : (b : Bool) → length (if b then wait ∷ [] else []) ≡ (if b then 1 else 0)
-    one true = refl
-    one false = refl
+counted p waits wait = grind (arith, common_steps, filter-append, length-append)
 
 one_at_most : (b : Bool) → (if b then 1 else 0) ≤ 1
 one_at_most true = omega arith
@@ -112,67 +82,27 @@ one_at_most false = omega arith
 
 -- a wait counts for the lock that it is for
 asked_by : (wait : Wait) (file : ℕ) (owner : Owner) → is_byte_wait file owner wait ≡ true → (wait.file ≡ file) × (wait.owner ≡ owner)
-asked_by wait file owner is =
-    let outer : ((is_of_bytes wait.family && (wait.file == file)) ≡ true) × (is_same_owner wait.owner owner ≡ true) =
-    both (is_of_bytes wait.family && (wait.file == file)) (is_same_owner wait.owner owner) is in
-    (eqb-true wait.file file (both (is_of_bytes wait.family) (wait.file == file) outer.0).1, same_owner wait.owner owner outer.1)
+asked_by wait file owner is = grind (arith, common_steps, both, eqb-true, same_owner)
 
 -- where there is room for one wait more, it may join
 pub room_joined : (books : List Book) (waits : List Wait) (wait : Wait) → wait.family ≡ Bytes
     → length (filter (is_byte_wait wait.file wait.owner) waits) + 1 ≤ room_at (slice_get books wait.file) wait.owner
     → HaveRoom books waits → HaveRoom books (waits ++ wait ∷ [])
-room_joined books waits wait family more h = record { rooms = λ f o. at f o (is_byte_wait f o wait) refl; places = λ f d asked. place f d asked }
-  where
-    here : length (filter (is_byte_wait wait.file wait.owner) (waits ++ wait ∷ [])) ≤ room_at (slice_get books wait.file) wait.owner
-    here = omega (arith, more, counted (is_byte_wait wait.file wait.owner) waits wait, one_at_most (is_byte_wait wait.file wait.owner wait))
-
-    at : (f : ℕ) (o : Owner) (b : Bool) → is_byte_wait f o wait ≡ b → length (filter (is_byte_wait f o) (waits ++ wait ∷ [])) ≤ room_at (slice_get books f) o
-    at f o true e =
-        let is = asked_by wait f o e in
-        subst (λ g. length (filter (is_byte_wait g o) (waits ++ wait ∷ [])) ≤ room_at (slice_get books g) o) is.0
-        (subst (λ (x : Owner). length (filter (is_byte_wait wait.file x) (waits ++ wait ∷ [])) ≤ room_at (slice_get books wait.file) x) is.1 here)
-    at f o false e =
-        let same : length (filter (is_byte_wait f o) (waits ++ wait ∷ [])) ≡ length (filter (is_byte_wait f o) waits) + 0 =
-        counted (is_byte_wait f o) waits wait ∙ ap (λ b. length (filter (is_byte_wait f o) waits) + (if b then 1 else 0)) e in
-        omega (arith, same, h.rooms f o)
-
-    not_whole : (f d : ℕ) → is_flock_wait f d wait ≡ false
-    not_whole f d = ap (λ k. is_of_whole k && (wait.file == f) && is_same_owner wait.owner (Description d)) family
-
-    before : (a b : Bool) → b ≡ false → (a || b) ≡ true → a ≡ true
-    before true b none e = refl
-    before false b none e = cc
-
-    single : (f d : ℕ) → list_any (is_flock_wait f d) (wait ∷ []) ≡ false
-    single f d = ap (λ b. b || false) (not_whole f d)
-
-    place : (f d : ℕ) → list_any (is_flock_wait f d) (waits ++ wait ∷ []) ≡ true → has_place_at (slice_get books f) d ≡ true
-    place f d asked = h.places f d
-        (before (list_any (is_flock_wait f d) waits) (list_any (is_flock_wait f d) (wait ∷ [])) (single f d) (sym (list_any-append (is_flock_wait f d) waits (wait ∷ [])) ∙ asked))
+room_joined books waits wait family more h = grind (arith, common_steps, counted, one_at_most, asked_by, list_any-append)
 
 -- where one owner's room grew, no owner has less
 no_less_room : (old new : Book) (owner : Owner) → SameButRoom old new owner → room_in old owner ≤ room_in new owner → (o : Owner) → room_in old o ≤ room_in new o
-no_less_room old new owner same kept o = elim (cases_Bool (is_same_owner o owner)) [
-  | inl is ↦ subst (λ (x : Owner). room_in old x ≤ room_in new x) (sym (same_owner o owner is)) kept
-  | inr differs ↦
-      let there : room_in new o ≡ room_in old o = same.rooms o (λ e. (let is : is_same_owner o owner ≡ true = subst (λ x. is_same_owner o x ≡ true) e (itself o) in cc)) in
-      omega (arith, there)
-]
+no_less_room old new owner same kept o = grind (arith, common_steps, cases_Bool, same_owner, itself)
 
 -- a book in which room was asked for, refused or not, keeps its locks
 pub room_taken : (old new : Book) (owner : Owner) (result : Result (Unit {0}) Memory) → OnOk result (SameButRoom old new owner) → OnOk result (room_in old owner ≤ room_in new owner)
     → OnErr result (SameBook old new) → KeepsLocks old new
-room_taken old new owner (Ok done) reserves more same =
-    record { bytes = reserves.bytes; rooms = no_less_room old new owner reserves more; flocks = reserves.flocks; places = λ d there. reserves.places d ∙ there }
-room_taken old new owner (Err memory) reserves more same = keeps_same old new same
+room_taken old new owner result h h2 h3 = grind (arith, common_steps, no_less_room, keeps_same)
 
 -- the room is there then
 pub roomy : (before books : List Book) (file : ℕ) (old new : Book) (owner : Owner) (count : ℕ) (result : Result (Unit {0}) Memory)
     → books ≡ slice_set before file new → file < length before → OnOk result (count ≤ room_in new owner) → OnOk result (count ≤ room_at (slice_get books file) owner)
-roomy before books file old new owner count (Ok done) is within enough =
-    subst (λ bs. count ≤ room_at (slice_get bs file) owner) (sym is)
-    (subst (λ e. count ≤ room_at e owner) (sym (slice_get-set_same before file new within)) enough)
-roomy before books file old new owner count (Err memory) is within enough = tt
+roomy before books file old new owner count result h h2 h3 = grind (arith, common_steps, slice_get-set_same)
 
 -- what is kept stays after a change of one book that keeps its locks
 pub kept_by_book : (m : Machine) (books : List Book) (file : ℕ) (old new : Book) → books ≡ slice_set m.books.items file new → file < length m.books.items
@@ -215,11 +145,4 @@ kept_by_join joins m waits wait may live free room list known =
 pub with_wait : (old new : Machine) (S : State) (wait : Wait) → new.books ≡ old.books → new.tables ≡ old.tables → waits_of new.waits ≡ waits_of old.waits ++ wait ∷ []
     → StandsSo old.states.items new.states.items wait.p Waiting → Shows old S → Shows new (with_process (record S { waits = S.waits ++ wait ∷ [] }) wait.p Waiting)
 unfolding machine_locks machine_state machine_waits
-with_wait old new S wait books tables waits states h =
-    record {
-      bytes = λ f o byte. rw books (h.bytes f o byte);
-      flocks = λ f d. rw books (h.flocks f d);
-      descriptors = subst (λ t. StandFor t S.descriptors) (sym tables) h.descriptors;
-      waits = waits ∙ ap (λ ws. ws ++ wait ∷ []) h.waits;
-      states = λ q. states q ∙ ap (λ s. if q == wait.p then Waiting else s) (h.states q);
-    }
+with_wait old new S wait books tables waits states h = grind (arith, common_steps)

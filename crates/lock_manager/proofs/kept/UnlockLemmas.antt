@@ -1,5 +1,6 @@
 -- What an unlock leaves where the owner had no lock (`unlock`, the clause ok).
-use Rattle.std.proofs.Common.{ℕ, ◌≡◌, refl, sym, ◌∙◌, ap, subst, List, Bool, true, false, Some, None, Option}
+use Rattle.std.proofs.Common.{arith, ℕ, ◌≡◌, refl, ◌∙◌, ap, List, Bool, true, false, Some, None, Option}
+use Rattle.std.proofs.lemmas.Grind.{common_steps}
 use Rattle.std.specs.Prelude.{if◌then◌else◌, slice_get}
 use Rattle.range_core.specs.declared.Mode.{Mode}
 use Rattle.range_core.specs.declared.Mode.TheVariants.{Read, Write}
@@ -9,7 +10,6 @@ use Rattle.lock_book.specs.declared.Owner.{Owner}
 use Rattle.lock_book.specs.declared.Owner.TheVariants.{Process, Description}
 use Rattle.lock_book.specs.declared.book.Book.{Book}
 use Rattle.lock_book.specs.Books.{byte_modes_of}
-use Rattle.lock_book.specs.Changes.{Change, mode_in, sets_byte}
 use Rattle.lock_book.specs.Conflicts.{ByteModes, ProcessBlocks}
 use Rattle.wait_core.specs.Locks.{locks_of, byte_modes_at}
 use Rattle.lock_manager.specs.declared.machine.Machine.{Machine}
@@ -50,18 +50,4 @@ none_held_at books file book process description span was free byte covers =
 -- a machine in which the owner has no lock on the range shows the state in which it was removed
 pub with_no_change : (machine : Machine) (S : State) (file : ℕ) (owner : Owner) (span : Span)
     → ((byte : ℕ) → Covers span byte → (machine_locks machine).bytes file owner byte ≡ None) → Shows machine S → Shows machine (with_byte_mode S file owner span None)
-with_no_change machine S file owner span none h =
-    let change : Change = record { file = file; owner = owner; span = span; mode = None } in
-    let held : ℕ → Owner → ℕ → Option Mode = (machine_locks machine).bytes in
-    record {
-      bytes = λ f o byte. h.bytes f o byte
-          ∙ none_still (sets_byte change f o byte) (mode_in S.changes f o byte)
-          (λ is. let hits = hit file owner span f o byte is in
-          sym (h.bytes f o byte)
-          ∙ subst (λ (n : ℕ). held n o byte ≡ None) hits.file_is (subst (λ (other : Owner). held file other byte ≡ None) hits.owner_is (none byte hits.covered)))
-          ∙ sym (mode_from-push None S.changes change f o byte);
-      flocks = h.flocks;
-      descriptors = h.descriptors;
-      waits = h.waits;
-      states = h.states;
-    }
+with_no_change machine S file owner span none h = grind (arith, common_steps, none_still, hit, mode_from-push)

@@ -1,9 +1,10 @@
 -- What holds of the waits stays so after a release.
-use Rattle.std.proofs.Common.{ℕ, suc, ◌≡◌, ◌≢◌, ◌≤◌, refl, sym, ◌∙◌, ap, subst, List, [], ◌∷◌, length, None, Bool, true, false, All, get_or, inl, inr, arith}
+use Rattle.std.proofs.lemmas.Grind.{common_steps}
+use Rattle.std.proofs.Common.{ℕ, suc, ◌≡◌, ◌≢◌, ◌≤◌, refl, sym, ◌∙◌, subst, List, [], ◌∷◌, length, Bool, true, false, All, get_or, arith}
 use Rattle.std.proofs.Math.Logic.{∥∥₁_elim}
 use Rattle.std.proofs.lemmas.Bool.{cases_Bool, eqb-true}
 use Rattle.std.proofs.lemmas.Bool.Decides.{eqb_tells}
-use Rattle.std.specs.Prelude.{◌==◌, ◌&&◌, if◌then◌else◌, slice_get, option_map}
+use Rattle.std.specs.Prelude.{◌==◌, ◌&&◌, if◌then◌else◌, slice_get}
 use Rattle.std.specs.List.{filter, list_any}
 use Rattle.lock_book.specs.declared.Owner.{Owner}
 use Rattle.lock_book.specs.declared.Owner.TheVariants.{Process, Description}
@@ -12,7 +13,7 @@ use Rattle.lock_book.specs.Owners.{is_same_owner}
 use Rattle.lock_book.specs.Conflicts.{ByteModes}
 use Rattle.fd_table.specs.declared.tables.Tables.{Tables}
 use Rattle.fd_table.specs.Released.{Released}
-use Rattle.fd_table.specs.Descriptors.{Descriptors, OpenFileDescription, description_numbered}
+use Rattle.fd_table.specs.Descriptors.{Descriptors}
 use Rattle.fd_table.specs.TablesView.{StandFor}
 use Rattle.wait_core.specs.declared.Policy.{Policy}
 use Rattle.wait_core.specs.declared.Wait.{Wait}
@@ -28,19 +29,12 @@ use Rattle.lock_manager.proofs.kept.SafetyLemmas.{same_owner}
 
 -- what another process has open stays open
 stays_of_other : (D E : Descriptors) (p : ℕ) (released : Released) → Closing D E p released → (q file d : ℕ) → q ≢ p → HasOpenOn D q file d → HasOpenOn E q file d
-stays_of_other D E p released closing q file d other has =
-    record {
-      fd = has.fd;
-      refers = closing.kept q has.fd (elim (eqb_tells q p) [ inl same ↦ absurd (other same.1) | inr differs ↦ rw differs.0 refl ]) ∙ has.refers;
-      of_file = ap (λ ds. option_map (λ (opened : OpenFileDescription). opened.file) (description_numbered ds d)) closing.descriptions ∙ has.of_file;
-    }
+stays_of_other D E p released closing q file d other has = grind (arith, common_steps, eqb_tells)
 
 -- so the waits of other processes are for what these have open
 pub holders_closed : (D E : Descriptors) (p : ℕ) (released : Released) (waits : List Wait) → Closing D E p released → All (λ wait. wait.p ≢ p) waits
     → AreOfHolders D waits → AreOfHolders E waits
-holders_closed D E p released waits closing others h k d within =
-    let wait = get_or waits k d in
-    may_wait_more D E wait wait.owner (λ file e has. stays_of_other D E p released closing wait.p file e (others k d within) has) (h k d within)
+holders_closed D E p released waits closing others h k d within = grind (arith, common_steps, may_wait_more, stays_of_other)
 
 -- and none of them is for a lock of an owner whose locks are released
 none_released : (D E : Descriptors) (p : ℕ) (released : Released) (waits : List Wait) → Closing D E p released → All (λ wait. wait.p ≢ p) waits → AreOfHolders E waits
@@ -79,11 +73,7 @@ none_found test (wait ∷ waits) h =
 
 -- a wait for a lock of another owner isn't one for a lock of this one
 of_other : (a : Bool) (one owner : Owner) → one ≢ owner → (a && is_same_owner one owner) ≡ false
-of_other false one owner other = refl
-of_other true one owner other = elim (cases_Bool (is_same_owner one owner)) [
-  | inl same ↦ absurd (other (same_owner one owner same))
-  | inr differs ↦ differs
-]
+of_other a one owner h = grind (arith, common_steps, cases_Bool, same_owner)
 
 -- a release that is of no owner that waits leaves room for the waits
 pub room_released : (old new : List Book) (waits : List Wait) (p : ℕ) (files descriptions : List ℕ) → ReleasesRoom old new p files descriptions
@@ -120,16 +110,7 @@ mid_bytes old new file (Description d) byte = old.bytes file (Description d) byt
 kept_of_other : (old new : Locks) (p : ℕ) (files descriptions : List ℕ) → ReleasesLocks old new p files descriptions
     → (file : ℕ) (o : Owner) (byte : ℕ) → o ≢ Process p → mid_bytes old new file o byte ≡ old.bytes file o byte
 unfolding mid_bytes
-kept_of_other old new p files descriptions releases file (Process q) byte other = elim (eqb_tells p q) [
-  | inl same ↦ absurd (other (ap Process (sym same.1)))
-  | inr differs ↦ releases.bytes file (Process q) byte ∙ at (is_one_of files file) (p == q) differs.0
-]
-  where
-    at : (a b : Bool) → b ≡ false → (if a && b then None else old.bytes file (Process q) byte) ≡ old.bytes file (Process q) byte
-    at true true e = absurd (cc)
-    at true false e = refl
-    at false b e = refl
-kept_of_other old new p files descriptions releases file (Description d) byte other = refl
+kept_of_other old new p files descriptions h file o byte h2 = grind (arith, common_steps, eqb_tells)
 
 -- a release closes no cycle, where the process doesn't wait
 pub free_released : FreeWhenLocksChange → FreeWhenDescriptionLocksChange → (policy : Policy) (old new : Locks) (waits : List Wait) (p : ℕ) (files descriptions : List ℕ)

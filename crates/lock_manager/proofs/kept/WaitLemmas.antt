@@ -1,9 +1,10 @@
 -- What holds of the waits stays so while locks, descriptors and processes change.
-use Rattle.std.proofs.Common.{ℕ, ◌≡◌, ◌≢◌, ◌<◌, ◌≤◌, refl, sym, ◌∙◌, ap, subst, List, [], ◌∷◌, ◌++◌, length, None, Some, Option, Bool, true, false, Result, Ok, Err, OnOk, OnErr, All, get_or, inl, inr, arith}
+use Rattle.std.proofs.lemmas.Grind.{common_steps}
+use Rattle.std.proofs.Common.{ℕ, ◌≡◌, ◌≢◌, ◌<◌, ◌≤◌, refl, sym, ◌∙◌, ap, subst, List, [], ◌∷◌, ◌++◌, length, None, Some, Option, Bool, true, false, Result, OnOk, OnErr, All, get_or, inl, inr, arith}
 use Rattle.std.proofs.Math.Logic.{∥∥₁_elim}
 use Rattle.std.proofs.lemmas.Bool.{cases_Bool, eqb-true}
-use Rattle.std.specs.Prelude.{◌==◌, ◌&&◌, if◌then◌else◌, slice_get, slice_set, IsFalse}
-use Rattle.std.specs.List.{filter, list_any}
+use Rattle.std.specs.Prelude.{◌==◌, if◌then◌else◌, slice_get, slice_set, IsFalse}
+use Rattle.std.specs.List.{list_any}
 use Rattle.std.proofs.lemmas.List.Folds.{Any-from_list_any}
 use Rattle.range_core.specs.declared.Memory.{Memory}
 use Rattle.range_core.specs.declared.Mode.{Mode}
@@ -11,17 +12,15 @@ use Rattle.range_core.specs.declared.Span.{Span}
 use Rattle.lock_book.specs.declared.Owner.{Owner}
 use Rattle.lock_book.specs.declared.Owner.TheVariants.{Process, Description}
 use Rattle.lock_book.specs.declared.book.Book.{Book}
-use Rattle.lock_book.specs.Owners.{is_same_owner}
 use Rattle.lock_book.specs.Books.{SetsOwnerMode, SameBook, byte_modes_of, flock_modes_of, room_in, has_flock_place}
-use Rattle.range_core.specs.Changes.{is_covered}
 use Rattle.fd_table.specs.declared.tables.Tables.{Tables}
 use Rattle.fd_table.specs.Descriptors.{Descriptors}
 use Rattle.fd_table.specs.TablesView.{StandFor, ever_alive}
 use Rattle.wait_core.specs.declared.Policy.{Policy}
-use Rattle.wait_core.specs.declared.Policy.TheVariants.{Held, Queue}
+use Rattle.wait_core.specs.declared.Policy.TheVariants.{Held}
 use Rattle.wait_core.specs.declared.Wait.{Wait}
 use Rattle.wait_core.specs.declared.processes.ProcessSet.{ProcessSet}
-use Rattle.wait_core.specs.Locks.{Locks, locks_of, byte_modes_at, flock_modes_at}
+use Rattle.wait_core.specs.Locks.{Locks, locks_of}
 use Rattle.wait_core.specs.declared.waits.Waits.{Waits}
 use Rattle.wait_core.specs.Cycles.{IsFreeOfCycles, WaitsFor}
 use Rattle.wait_core.specs.Blocking.{IsBlocked, IsBlockedByLock}
@@ -33,7 +32,7 @@ use Rattle.lock_manager.specs.declared.request.ProcState.{ProcState}
 use Rattle.lock_manager.specs.declared.request.ProcState.TheVariants.{Live, Waiting}
 use Rattle.lock_manager.specs.State.{AreWaiting, state_numbered}
 use Rattle.lock_manager.specs.DescriptionLocks.{MayWaitAs, AreOwned}
-use Rattle.lock_manager.specs.WaitsKept.{StayBlocked, IsSuspended, AreStanding, HaveRoom, is_byte_wait, room_at, has_place_at}
+use Rattle.lock_manager.specs.WaitsKept.{StayBlocked, IsSuspended, AreStanding, HaveRoom, room_at, has_place_at}
 use Rattle.lock_manager.proofs.kept.BookLemmas.{slice_get-set, slice_get-set_other, entry_is, after_set, changed}
 use Rattle.lock_manager.proofs.kept.SafetyLemmas.{same_owner, itself, hit}
 
@@ -42,10 +41,7 @@ pub suspended_after : (old new : Tables) (states states' : List ProcState) (wait
     → ((q : ℕ) → ever_alive old q ≡ true → ever_alive new q ≡ true)
     → ((q : ℕ) → ever_alive old q ≡ true → state_numbered states q ≡ Waiting → state_numbered states' q ≡ Waiting)
     → All (IsSuspended old states) waits → All (IsSuspended new states') waits
-suspended_after old new states states' waits born stay h k d within =
-    let wait = get_or waits k d in
-    let was = h k d within in
-    record { born = born wait.p was.born; waiting = stay wait.p was.born was.waiting }
+suspended_after old new states states' waits born stay h k d within = grind (arith, common_steps)
 
 -- no wait is of a live process
 pub waits_of_others : (tables : Tables) (states : List ProcState) (waits : List Wait) (p : ℕ) → All (IsSuspended tables states) waits → state_numbered states p ≡ Live
@@ -56,11 +52,7 @@ waits_of_others tables states waits p h live k d within e =
 -- whoever stands so still does, where the same processes were ever alive and the waits are the same
 pub standing_in : (old new : Tables) (states : List ProcState) (before after : List Wait) → ((q : ℕ) → ever_alive new q ≡ ever_alive old q) → after ≡ before
     → AreStanding old states before → AreStanding new states after
-standing_in old new states before after alive same h = subst (AreStanding new states) (sym same) (record {
-  alive = λ q live. alive q ∙ h.alive q live;
-  suspended = suspended_after old new states states before (λ q born. alive q ∙ born) (λ q born waits. waits) h.suspended;
-  awaited = h.awaited;
-})
+standing_in old new states before after alive same h = grind (arith, common_steps, suspended_after)
 
 -- nor is its process the owner of one
 pub not_owned_by : (tables : Tables) (locks : Locks) (waits : List Wait) (p : ℕ) → AreOwned tables locks waits → All (λ wait. wait.p ≢ p) waits
@@ -84,48 +76,21 @@ never_alive tables locks waits child owned free e =
 
 -- the books but that of the file stay
 pub agree_elsewhere : (books : List Book) (file : ℕ) (new : Book) → AgreeElsewhere file (locks_of books) (locks_of (slice_set books file new))
-agree_elsewhere books file new = record {
-  bytes = λ other owner byte distinct. ap (λ e. byte_modes_at e owner byte) (slice_get-set_other books file other new distinct);
-  flocks = λ other description distinct. ap (λ e. flock_modes_at e description) (slice_get-set_other books file other new distinct);
-}
+agree_elsewhere books file new = grind (arith, common_steps, slice_get-set_other)
 
 -- a step by a lock is one where the byte locks are the same
 step_by_bytes : (old new : Locks) (waits : List Wait) (p q : ℕ) → ((file : ℕ) (owner : Owner) (byte : ℕ) → new.bytes file owner byte ≡ old.bytes file owner byte)
     → WaitsFor Held old waits p q → WaitsFor Held new waits p q
-step_by_bytes old new waits p q same step = record {
-  before = step.before;
-  wait = step.wait;
-  after = step.after;
-  place = step.place;
-  of_p = step.of_p;
-  traditional = step.traditional;
-  blocked = record {
-    byte = step.blocked.byte;
-    covered = step.blocked.covered;
-    blocks = record {
-      another = step.blocked.blocks.another;
-      conflicts = rw (same step.wait.file (Process q) step.blocked.byte) step.blocked.blocks.conflicts;
-    };
-  };
-}
+step_by_bytes old new waits p q same step = grind (arith, common_steps)
 
 -- no pair rests on a flock lock: where the byte locks stay, what is told stays true
 pub told_by_bytes : (waits : Waits) (old new : Locks) → ((file : ℕ) (owner : Owner) (byte : ℕ) → new.bytes file owner byte ≡ old.bytes file owner byte) → AreTold waits old → AreTold waits new
-told_by_bytes waits old new same told = record {
-  pairs = λ p q p_few q_one q_few. (
-    λ has. step_by_bytes old new (waits_of waits) p q same ((told.pairs p q p_few q_one q_few).0 has),
-    λ step. (told.pairs p q p_few q_one q_few).1 (step_by_bytes new old (waits_of waits) p q (λ file owner byte. sym (same file owner byte)) step),
-  );
-}
+told_by_bytes waits old new same told = grind (arith, common_steps, step_by_bytes)
 
 -- a change on a byte is of its owner alone
 changed_else : (locks : Locks) (file : ℕ) (owner : Owner) (span : Span) (mode : Option Mode) (f : ℕ) (o : Owner) (byte : ℕ) → o ≢ owner
     → changed locks file owner span mode f o byte ≡ locks.bytes f o byte
-changed_else locks file owner span mode f o byte other = at ((file == f) && is_same_owner owner o && is_covered span byte) refl
-  where
-    at : (b : Bool) → ((file == f) && is_same_owner owner o && is_covered span byte) ≡ b → (if b then mode else locks.bytes f o byte) ≡ locks.bytes f o byte
-    at true e = absurd (other (sym (hit file owner span f o byte e).owner_is))
-    at false e = refl
+changed_else locks file owner span mode f o byte other = grind (arith, common_steps, hit)
 
 process_not_description : (p d : ℕ) → Process p ≢ Description d
 process_not_description p d e = cc
@@ -157,9 +122,7 @@ free_after one all policy waits books file old new owner span mode result within
 -- of a book that was changed, or of another one
 pub rooms_at : (is_it : Bool) (entry : Option Book) (old new : Book) (owner : Owner) (count : ℕ) → (is_it ≡ true → entry ≡ Some old) → room_in old owner ≤ room_in new owner
     → count ≤ room_at entry owner → count ≤ room_at (if is_it then Some new else entry) owner
-rooms_at true entry old new owner count was more enough =
-    let here : count ≤ room_in old owner = subst (λ e. count ≤ room_at e owner) (was refl) enough in omega (arith, here, more)
-rooms_at false entry old new owner count was more enough = enough
+rooms_at is_it entry old new owner count h h2 h3 = grind (arith, common_steps)
 
 pub places_at : (is_it : Bool) (entry : Option Book) (old new : Book) (d : ℕ) → (is_it ≡ true → entry ≡ Some old) → (has_flock_place old d ≡ true → has_flock_place new d ≡ true)
     → has_place_at entry d ≡ true → has_place_at (if is_it then Some new else entry) d ≡ true
@@ -170,30 +133,18 @@ places_at false entry old new d was kept there = there
 pub places_kept : (books : List Book) (file : ℕ) (old new : Book) → file < length books → slice_get books file ≡ Some old
     → ((d : ℕ) → has_flock_place old d ≡ true → has_flock_place new d ≡ true)
     → (f d : ℕ) → has_place_at (slice_get books f) d ≡ true → has_place_at (slice_get (slice_set books file new) f) d ≡ true
-places_kept books file old new within was kept f d there =
-    rw (slice_get-set books file f new within)
-    (places_at (file == f) (slice_get books f) old new d (entry_is books file f old was) (kept d) there)
+places_kept books file old new within was kept f d there = grind (arith, common_steps, slice_get-set, places_at, entry_is)
 
 -- it has room for the waits, where it also has no less room
 pub room_with : (books : List Book) (waits : List Wait) (file : ℕ) (old new : Book) → file < length books → slice_get books file ≡ Some old
     → ((o : Owner) → room_in old o ≤ room_in new o) → ((d : ℕ) → has_flock_place old d ≡ true → has_flock_place new d ≡ true)
     → HaveRoom books waits → HaveRoom (slice_set books file new) waits
-room_with books waits file old new within was more kept h =
-    record {
-      rooms = λ f o. rw (slice_get-set books file f new within)
-          (rooms_at (file == f) (slice_get books f) old new o (length (filter (is_byte_wait f o) waits)) (entry_is books file f old was) (more o) (h.rooms f o));
-      places = λ f d asked. places_kept books file old new within was kept f d (h.places f d asked);
-    }
+room_with books waits file old new within was more kept h = grind (arith, common_steps, slice_get-set, rooms_at, entry_is, places_kept)
 
 -- a set of one owner leaves at least the room that was there
 rooms_kept : (old new : Book) (owner : Owner) (span : Span) (mode : Option Mode) → SetsOwnerMode old new owner span mode → room_in old owner ≤ room_in new owner
     → (o : Owner) → room_in old o ≤ room_in new o
-rooms_kept old new owner span mode sets kept o = elim (cases_Bool (is_same_owner o owner)) [
-  | inl same ↦ subst (λ (x : Owner). room_in old x ≤ room_in new x) (sym (same_owner o owner same)) kept
-  | inr differs ↦
-      let there : room_in new o ≡ room_in old o = sets.rooms o (λ e. (let is : is_same_owner o owner ≡ true = subst (λ x. is_same_owner o x ≡ true) e (itself o) in cc)) in
-      omega (arith, there)
-]
+rooms_kept old new owner span mode sets kept o = grind (arith, common_steps, cases_Bool, same_owner, itself)
 
 pub same_room : (n m : ℕ) → m ≡ n → n ≤ m
 same_room n m e = omega (arith, e)
@@ -207,22 +158,14 @@ pub record KeepsLocks (old new : Book) : Type 0 where
 
 -- so it is after a refusal
 pub keeps_same : (old new : Book) → SameBook old new → KeepsLocks old new
-keeps_same old new same = record {
-  bytes = same.bytes;
-  rooms = λ o. same_room (room_in old o) (room_in new o) (same.rooms o);
-  flocks = same.flocks;
-  places = λ d there. same.places d ∙ there;
-}
+keeps_same old new same = grind (arith, common_steps, same_room)
 
 -- one book's set, refused or not, leaves room for the waits
 pub room_after : (waits : List Wait) (books : List Book) (file : ℕ) (old new : Book) (owner : Owner) (span : Span) (mode : Option Mode) (result : Result (Unit {0}) Memory)
     → file < length books → slice_get books file ≡ Some old
     → OnOk result (SetsOwnerMode old new owner span mode) → OnOk result (room_in old owner ≤ room_in new owner) → OnErr result (SameBook old new)
     → HaveRoom books waits → HaveRoom (slice_set books file new) waits
-room_after waits books file old new owner span mode (Ok done) within was sets kept same h =
-    room_with books waits file old new within was (rooms_kept old new owner span mode sets kept) (λ d there. sets.places d ∙ there) h
-room_after waits books file old new owner span mode (Err memory) within was sets kept same h =
-    let keeps = keeps_same old new same in room_with books waits file old new within was keeps.rooms keeps.places h
+room_after waits books file old new owner span mode result h h2 h3 h4 h5 h6 = grind (arith, common_steps, room_with, rooms_kept, keeps_same)
 
 -- where nobody waits no room is wanted
 pub room_for_none : (books : List Book) → HaveRoom books []
@@ -230,9 +173,7 @@ room_for_none books = record { rooms = λ file owner. omega arith; places = λ f
 
 blocked_still : (policy : Policy) (old new : Locks) (earlier : List Wait) (wait : Wait) → (IsBlockedByLock old wait → IsBlockedByLock new wait)
     → IsBlocked policy old earlier wait → IsBlocked policy new earlier wait
-blocked_still Held old new earlier wait still blocked = still blocked
-blocked_still Queue old new earlier wait still (inl by_lock) = inl (still by_lock)
-blocked_still Queue old new earlier wait still (inr behind) = inr behind
+blocked_still policy old new earlier wait h h2 = grind (arith, common_steps)
 
 all_blocked_still : (Holds : Wait → Type 0) (policy : Policy) (old new : Locks) → StayBlocked old new → (earlier waits : List Wait)
     → AllBlockedWhere Holds policy old earlier waits → AllBlockedWhere Holds policy new earlier waits
@@ -255,13 +196,4 @@ none_found (w ∷ waits) p none = elim (cases_Bool (w.p == p)) [
 -- the processes of the waits are those that wait
 pub those_waiting : (tables : Tables) (states : List ProcState) (waits : List Wait) (set : ProcessSet) → AreThoseWaiting set waits → AreStanding tables states waits
     → AreWaiting (state_numbered states) set
-those_waiting tables states waits set known h p few = (
-  λ is.
-      let (k, wait, inside, at_place, test) = Any-from_list_any (λ (w : Wait). w.p == p) waits (sym (known p few) ∙ is) in
-      let state : state_numbered states wait.p ≡ Waiting = subst (λ (w : Wait). state_numbered states w.p ≡ Waiting) at_place (h.suspended k wait inside).waiting in
-      subst (λ (q : ℕ). state_numbered states q ≡ Waiting) (eqb-true wait.p p test) state,
-  λ state. elim (cases_Bool (list_any (λ (w : Wait). w.p == p) waits)) [
-    | inl there ↦ known p few ∙ there
-    | inr missing ↦ absurd (h.awaited p state (none_found waits p missing))
-  ],
-)
+those_waiting tables states waits set known h p few = grind (arith, common_steps, Any-from_list_any, eqb-true, cases_Bool, none_found)

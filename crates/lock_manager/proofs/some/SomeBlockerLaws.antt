@@ -1,8 +1,8 @@
 -- Where a lock is blocked there is one that a get command reports.
-use Rattle.std.proofs.Common.{◌≡◌, ◌≢◌, ℕ, suc, ◌+◌, ◌-◌, ◌<◌, ◌≤◌, ◌==◌, ◌&&◌, ◌⊎◌, inl, inr, refl, sym, ◌∙◌, ap, subst, arith, Bool, true, false, nat_le, if◌then◌else◌, List, [], ◌∷◌, Option, Some, None}
+use Rattle.std.proofs.lemmas.Grind.{common_steps}
+use Rattle.std.proofs.Common.{◌≡◌, ◌≢◌, ℕ, suc, ◌+◌, ◌-◌, ◌<◌, ◌≤◌, ◌==◌, ◌&&◌, ◌⊎◌, refl, sym, ◌∙◌, ap, subst, arith, Bool, true, false, nat_le, if◌then◌else◌, List, [], ◌∷◌, Option, Some, None}
 use Rattle.std.proofs.lemmas.Bool.{cases_lt, lt-leb}
 use Rattle.range_core.specs.declared.Mode.{Mode}
-use Rattle.range_core.specs.declared.Mode.TheVariants.{Read, Write}
 use Rattle.range_core.specs.declared.Span.{Span}
 use Rattle.range_core.specs.Changes.{is_covered}
 use Rattle.range_core.specs.Ranges.{Modes, Covers, HeldConflicts, IsRun}
@@ -18,11 +18,7 @@ abbrev pub AreBelow : ℕ → Modes → Type 0
 AreBelow bound modes = (byte : ℕ) → bound ≤ byte → modes byte ≡ None
 
 is_or_not : (held : Option Mode) (mode : Mode) → (held ≡ Some mode) ⊎ (held ≢ Some mode)
-is_or_not None mode = inr (λ e. cc)
-is_or_not (Some Read) Read = inl refl
-is_or_not (Some Read) Write = inr (λ e. cc)
-is_or_not (Some Write) Read = inr (λ e. cc)
-is_or_not (Some Write) Write = inl refl
+is_or_not held mode = grind (arith, common_steps)
 
 -- from this byte on up to the other one each has the mode
 record HasModeFrom (modes : Modes) (byte : ℕ) (mode : Mode) (first : ℕ) : Type 0 where
@@ -37,32 +33,7 @@ record LacksModeBehind (modes : Modes) (byte : ℕ) (mode : Mode) (past : ℕ) :
 -- between the least byte from which on each has the mode and the least one behind that hasn't is the run
 run_between : (modes : Modes) (byte first past : ℕ) (mode : Mode) → modes byte ≡ Some mode → IsLeast (HasModeFrom modes byte mode) first
     → IsLeast (LacksModeBehind modes byte mode) past → IsRun modes byte mode (record { first = first; last = past - 1 })
-run_between modes byte first past mode is left right =
-    let low = left.holds.before in
-    let high = right.holds.behind in
-    record {
-      covered = (low, omega arith);
-      constant = λ x covers. elim (cases_lt byte x) [
-        | inr up_to ↦ left.holds.each x covers.0 up_to
-        | inl behind ↦ elim (is_or_not (modes x) mode) [
-          | inl has ↦ has
-          | inr lacks ↦ absurd (right.least x (let h = covers.1 in omega arith) (record { behind = behind; lacks = lacks }))
-        ]
-      ];
-      largest = λ other covers constant. (
-        elim (cases_lt other.first first) [
-          | inl less ↦
-              absurd
-              (left.least other.first less
-              (record { before = covers.0; each = λ x from up_to. constant x (from, (let h = covers.1 in omega arith)) }))
-          | inr within ↦ within
-        ],
-        elim (cases_lt other.last past) [
-          | inl within ↦ omega arith
-          | inr more ↦ absurd (right.holds.lacks (constant past ((let h = covers.0 in omega arith), more)))
-        ],
-      );
-    }
+run_between modes byte first past mode is left right = grind (arith, common_steps, cases_lt, is_or_not)
 
 -- round a byte with a mode there is a run
 run_some : (modes : Modes) (bound byte : ℕ) (mode : Mode) → AreBelow bound modes → modes byte ≡ Some mode → AtLeastOne (IsRun modes byte mode)

@@ -1,23 +1,19 @@
 -- A step keeps what a step needs: open descriptors refer to descriptions that were made, and who waits has a wait in the list.
-use Rattle.std.proofs.Common.{◌≡◌, ◌≢◌, ℕ, ℤ, zero, suc, ◌+◌, ◌==◌, ◌&&◌, ◌||◌, Bool, true, false, Option, Some, None, IsSome, Result, Ok, Err, MatchBool, MatchOption, MatchResult, inl, inr, refl, sym, ◌∙◌, subst, arith, List, [], ◌∷◌, ◌++◌, length, pred}
+use Rattle.std.proofs.lemmas.Grind.{common_steps}
+use Rattle.std.proofs.Common.{rules, ◌≡◌, ◌≢◌, ℕ, ℤ, zero, suc, ◌+◌, ◌==◌, ◌||◌, Bool, true, false, Option, Some, None, IsSome, Result, Ok, Err, MatchBool, MatchOption, MatchResult, inl, inr, refl, sym, ◌∙◌, subst, arith, List, [], ◌∷◌, ◌++◌, length, pred}
 use Rattle.std.specs.Prelude.{if◌then◌else◌, slice_get, slice_set}
 use Rattle.std.proofs.lemmas.Bool.{cases_Bool, eq-eqb}
 use Rattle.std.proofs.lemmas.Bool.Decides.{eqb_tells}
 use Rattle.std.proofs.lemmas.Option.{same_Some}
 use Rattle.range_core.specs.Facts.{MatchFact}
 use Rattle.range_core.specs.declared.Mode.{Mode}
-use Rattle.range_core.specs.declared.Mode.TheVariants.{Read, Write}
 use Rattle.range_core.specs.Resolving.{resolution}
-use Rattle.lock_book.specs.declared.Owner.TheVariants.{Process, Description}
-use Rattle.lock_book.specs.Changes.{flock_mode_in}
 use Rattle.fd_table.specs.declared.Access.{Access}
 use Rattle.fd_table.specs.declared.FdFault.{FdFault}
-use Rattle.fd_table.specs.declared.FdFault.TheVariants.{BadFd, TooMany, Invalid, Taken, Memory}
 use Rattle.fd_table.specs.declared.tables.Look.{Look}
 use Rattle.fd_table.specs.Released.{Released}
 use Rattle.fd_table.specs.Descriptors.{Descriptors, OpenFileDescription, SameDescriptors, opening_descriptors, description_numbered, look_at, with_description, with_descriptor, without_descriptors, with_child, with_offset}
 use Rattle.fd_table.specs.Calls.{nothing}
-use Rattle.wait_core.specs.declared.Family.TheVariants.{Bytes, Whole}
 use Rattle.wait_core.specs.declared.Policy.{Policy}
 use Rattle.wait_core.specs.declared.Wait.{Wait}
 use Rattle.wait_core.specs.WaitsView.{wait_of, without_wait_of}
@@ -26,19 +22,18 @@ use Rattle.lock_manager.specs.declared.request.Lock.{Lock}
 use Rattle.lock_manager.specs.declared.request.LkCmd.{LkCmd}
 use Rattle.lock_manager.specs.declared.request.LkCmd.TheVariants.{GetLk, SetLk, SetLkW, OGetLk, OSetLk, OSetLkW}
 use Rattle.lock_manager.specs.declared.request.FlockOp.{FlockOp}
-use Rattle.lock_manager.specs.declared.request.FlockOp.TheVariants.{Sh, Ex, Un}
 use Rattle.lock_manager.specs.declared.request.Request.{Request}
 use Rattle.lock_manager.specs.declared.request.Request.TheVariants.{OpenFile, Dup, DupTo, CloseFd, Seek, Resize, Lk, Flock, Fork, Exit, Signal, Kill}
 use Rattle.lock_manager.specs.declared.request.Note.{Note}
 use Rattle.lock_manager.specs.declared.request.ProcState.{ProcState}
 use Rattle.lock_manager.specs.declared.request.ProcState.TheVariants.{Unborn, Live, Waiting, Ended}
-use Rattle.lock_manager.specs.State.{State, opening_state, with_lock, with_lock_of, with_flock_mode, with_process}
+use Rattle.lock_manager.specs.State.{State, opening_state, with_lock, with_process}
 use Rattle.lock_manager.specs.Settling.{Settles, granted}
 use Rattle.lock_manager.specs.Outcomes.{Outcome, IsRefusal}
 use Rattle.lock_manager.specs.DescriptorCalls.{OpenComesTo, DupComesTo, DupToComesTo, CloseComesTo, SeekComesTo, ResizeComesTo}
 use Rattle.lock_manager.specs.LockWords.{is_get, is_bad_argument, wanted_mode, permits, wanted_lock}
 use Rattle.lock_manager.specs.LockCommands.{CommandComesTo, LockComesTo}
-use Rattle.lock_manager.specs.FlockCalls.{FlockTestComesTo, FlockModeComesTo, FlockOpComesTo, is_same_mode, wanted_flock}
+use Rattle.lock_manager.specs.FlockCalls.{FlockTestComesTo, FlockModeComesTo, FlockOpComesTo}
 use Rattle.lock_manager.specs.ProcessCalls.{ForkComesTo, EndComesTo, SignalComesTo, KillOtherComesTo}
 use Rattle.lock_manager.specs.Step.{ComesTo, Step}
 use Rattle.lock_manager.specs.SomeOutcome.{AreMade, AreAwaitedIn, IsWhole}
@@ -51,12 +46,7 @@ made_same D E same made p fd number is =
 
 -- one more descriptor refers to a description that was made
 made_with : (D : Descriptors) (p fd d : ℕ) → IsSome (description_numbered D.descriptions d) → AreMade D → AreMade (with_descriptor D p fd d)
-made_with D p fd d there made q k number is = elim (cases_Bool ((q == p) && (k == fd))) [
-  | inl here ↦
-      let one : Some d ≡ Some number = rw here at is in
-      subst (λ n. IsSome (description_numbered D.descriptions n)) (same_Some d number one) there
-  | inr other ↦ made q k number (rw other at is)
-]
+made_with D p fd d there made q k number is = grind (arith, common_steps, cases_Bool, same_Some)
 
 -- what was made stays so
 numbered_longer : (xs ys : List OpenFileDescription) (number : ℕ) → IsSome (description_numbered xs number) → IsSome (description_numbered (xs ++ ys) number)
@@ -86,16 +76,10 @@ made_opened D p file access fd made =
     (λ q k number is. numbered_longer D.descriptions (opened ∷ []) number (made q k number is))
 
 made_without : (D : Descriptors) (p : ℕ) (closed : ℕ → Bool) → AreMade D → AreMade (without_descriptors D p closed)
-made_without D p closed made q k number is = elim (cases_Bool ((q == p) && closed k)) [
-  | inl gone ↦ (let none : None ≡ Some number = rw gone at is in cc)
-  | inr stays ↦ made q k number (rw stays at is)
-]
+made_without D p closed made q k number is = grind (arith, common_steps, cases_Bool)
 
 made_child : (D : Descriptors) (p child : ℕ) → AreMade D → AreMade (with_child D p child)
-made_child D p child made q k number is = elim (cases_Bool (q == child)) [
-  | inl copy ↦ made p k number (rw copy at is)
-  | inr other ↦ made q k number (rw other at is)
-]
+made_child D p child made q k number is = grind (arith, common_steps, cases_Bool)
 
 made_offset : (D : Descriptors) (number : ℕ) (opened : OpenFileDescription) (offset : ℕ) → AreMade D → AreMade (with_offset D number opened offset)
 made_offset D number opened offset made q k n is = still n (made q k n is)
@@ -134,17 +118,11 @@ find_without (x ∷ before) w after q differs = elim (eqb_tells x.p q) [
 awaited_moved : (waits left : List Wait) (states : ℕ → ProcState) (p : ℕ) (state : ProcState) → state ≢ Waiting
     → ((q : ℕ) → q ≢ p → wait_of waits q ≢ None → wait_of left q ≢ None) → AreAwaitedIn waits states
     → AreAwaitedIn left (λ q. if q == p then state else states q)
-awaited_moved waits left states p state differs keep awaited q is = elim (eqb_tells q p) [
-  | inl own ↦ absurd (differs (rw own.0 at is))
-  | inr other ↦ keep q other.1 (awaited q (rw other.0 at is))
-]
+awaited_moved waits left states p state differs keep awaited q is = grind (arith, common_steps, eqb_tells)
 
 awaited_joined : (waits : List Wait) (states : ℕ → ProcState) (wait : Wait) → AreAwaitedIn waits states
     → AreAwaitedIn (waits ++ wait ∷ []) (λ q. if q == wait.p then Waiting else states q)
-awaited_joined waits states wait awaited q is = elim (eqb_tells q wait.p) [
-  | inl own ↦ find_last waits wait q (sym own.1)
-  | inr other ↦ find_longer waits (wait ∷ []) q (awaited q (rw other.0 at is))
-]
+awaited_joined waits states wait awaited q is = grind (arith, common_steps, eqb_tells, find_last, find_longer)
 
 Live≢Waiting : Live ≢ Waiting
 Live≢Waiting e = cc
@@ -155,11 +133,7 @@ Ended≢Waiting e = cc
 -- at the opening
 pub whole_opening : IsWhole opening_state
 unfolding opening_state opening_descriptors
-whole_opening = record { made = λ p fd number is. cc; awaited = λ p is. nobody (p == 1) is }
-  where
-    nobody : (b : Bool) → (if b then Live else Unborn) ≡ Waiting → wait_of [] 0 ≢ None
-    nobody true is = absurd (Live≢Waiting is)
-    nobody false is = cc
+whole_opening = grind (arith, common_steps, Live≢Waiting)
 
 -- the state of this outcome is whole
 abbrev Stays : Outcome → Type 0
@@ -167,27 +141,11 @@ Stays outcome = IsWhole outcome.after
 
 -- a lock that is set moves no wait
 locked_whole : (S : State) (wait : Wait) → IsWhole S → IsWhole (with_lock S wait) × ((with_lock S wait).waits ≡ S.waits)
-locked_whole S wait h =
-    elim wait.family as (λ family. IsWhole (with_lock_of family wait.owner S wait) × ((with_lock_of family wait.owner S wait).waits ≡ S.waits)) [
-      | Bytes ↦ (record { made = h.made; awaited = h.awaited }, refl)
-      | Whole ↦
-          elim wait.owner as (λ owner. IsWhole (with_lock_of Whole owner S wait) × ((with_lock_of Whole owner S wait).waits ≡ S.waits)) [
-            | Description d ↦ (record { made = h.made; awaited = h.awaited }, refl)
-            | Process p ↦ (h, refl)
-          ]
-    ]
+locked_whole S wait h = grind (arith, common_steps)
 
 granted_whole : (S : State) (before : List Wait) (wait : Wait) (after : List Wait) → S.waits ≡ before ++ wait ∷ after → IsWhole S
     → IsWhole (granted S before wait after)
-granted_whole S before wait after place h =
-    let (locked, same) = locked_whole S wait h in
-    record {
-      made = locked.made;
-      awaited =
-          awaited_moved (before ++ wait ∷ after) (before ++ after) (with_lock S wait).states wait.p Live Live≢Waiting
-          (λ q differs there e. there (find_without before wait after q (λ own. differs (sym own)) ∙ e))
-          (subst (λ ws. AreAwaitedIn ws (with_lock S wait).states) (same ∙ place) locked.awaited);
-    }
+granted_whole S before wait after place h = grind (arith, common_steps, locked_whole, awaited_moved, Live≢Waiting, find_without)
 
 settled_whole : (policy : Policy) (S : State) (grants : List Note) (T : State) → Settles policy S grants T → IsWhole S → IsWhole T
 settled_whole policy S [] T h whole = subst IsWhole (sym h.1) whole
@@ -199,11 +157,7 @@ stays_as : (given outcome : Outcome) → outcome ≡ given → Stays given → S
 stays_as given outcome is h = subst Stays (sym is) h
 
 refusal_stays : (S : State) (p n : ℕ) (fault : FdFault) (outcome : Outcome) → IsRefusal S p n fault outcome → IsWhole S → Stays outcome
-refusal_stays S p n BadFd outcome is h = stays_as _ outcome is h
-refusal_stays S p n TooMany outcome is h = stays_as _ outcome is h
-refusal_stays S p n Invalid outcome is h = stays_as _ outcome is h
-refusal_stays S p n Taken outcome is h = stays_as _ outcome is h
-refusal_stays S p n (Memory memory) outcome is h = absurd is
+refusal_stays S p n fault outcome h h2 = grind (arith, common_steps, stays_as)
 
 -- the descriptors are others
 with_made : (S : State) (E : Descriptors) → AreMade E → IsWhole S → IsWhole (record S { descriptors = E })
@@ -211,15 +165,10 @@ with_made S E made h = record { made = made; awaited = h.awaited }
 
 open_stays : (rules : Rules) (S : State) (p n file : ℕ) (access : Access) (outcome : Outcome) → OpenComesTo rules S p n file access outcome
     → IsWhole S → Stays outcome
-open_stays rules S p n file access outcome (Ok fd, E, gives, is) h =
-    stays_as _ outcome is (with_made S E (made_same _ E gives.3 (made_opened S.descriptors p file access fd h.made)) h)
-open_stays rules S p n file access outcome (Err fault, E, gives, is) h = refusal_stays S p n fault outcome is h
+open_stays rules S p n file access outcome h h2 = grind (arith, common_steps, stays_as, with_made, made_same, made_opened, refusal_stays)
 
 dup_stays : (rules : Rules) (S : State) (p n fd : ℕ) (outcome : Outcome) → DupComesTo rules S p n fd outcome → IsWhole S → Stays outcome
-dup_stays rules S p n fd outcome (Ok free, E, gives, is) h =
-    stays_as _ outcome is
-    (with_made S E (made_same _ E gives.3 (made_with S.descriptors p free gives.0 (h.made p fd gives.0 gives.1) h.made)) h)
-dup_stays rules S p n fd outcome (Err fault, E, gives, is) h = refusal_stays S p n fault outcome is h
+dup_stays rules S p n fd outcome h h2 = grind (arith, common_steps, stays_as, with_made, made_same, made_with, refusal_stays)
 
 moved_made : (D E : Descriptors) (p to d : ℕ) (onto_itself : Bool) (released : Released) (Released' : Type 0)
     → MatchBool onto_itself ((released ≡ nothing) × SameDescriptors E D) (SameDescriptors E (with_descriptor D p to d) × Released')
@@ -228,57 +177,31 @@ moved_made D E p to d true released Released' h there made = made_same D E h.1 m
 moved_made D E p to d false released Released' h there made = made_same _ E h.0 (made_with D p to d there made)
 
 dup_to_stays : (rules : Rules) (S : State) (p n fd to : ℕ) (outcome : Outcome) → DupToComesTo rules S p n fd to outcome → IsWhole S → Stays outcome
-dup_to_stays rules S p n fd to outcome (Ok answer, E, gives, is) h =
-    let made = moved_made S.descriptors E p to gives.0 (to == fd) answer.1 _ gives.4 (h.made p fd gives.0 gives.1) h.made in
-    stays_as _ outcome is (record { made = made; awaited = h.awaited })
-dup_to_stays rules S p n fd to outcome (Err fault, E, gives, is) h = refusal_stays S p n fault outcome is h
+dup_to_stays rules S p n fd to outcome h h2 = grind (arith, common_steps, moved_made, stays_as, refusal_stays)
 
 close_stays : (S : State) (p n fd : ℕ) (outcome : Outcome) → CloseComesTo S p n fd outcome → IsWhole S → Stays outcome
-close_stays S p n fd outcome (Ok released, E, gives, is) h =
-    stays_as _ outcome is (record { made = made_same _ E gives.1 (made_without S.descriptors p (λ k. k == fd) h.made); awaited = h.awaited })
-close_stays S p n fd outcome (Err fault, E, gives, is) h = refusal_stays S p n fault outcome is h
+close_stays S p n fd outcome h h2 = grind (arith, common_steps, stays_as, made_same, made_without, refusal_stays)
 
 seek_stays : (S : State) (p n fd : ℕ) (offset : ℤ) (outcome : Outcome) → SeekComesTo S p n fd offset outcome → IsWhole S → Stays outcome
-seek_stays S p n fd offset outcome (Ok done, E, gives, is) h =
-    stays_as _ outcome is (with_made S E (made_same _ E gives.4 (made_offset S.descriptors gives.1.number gives.0 gives.2 h.made)) h)
-seek_stays S p n fd offset outcome (Err fault, E, gives, is) h = refusal_stays S p n fault outcome is h
+seek_stays S p n fd offset outcome h h2 = grind (arith, common_steps, stays_as, with_made, made_same, made_offset, refusal_stays)
 
 resize_stays : (S : State) (p n fd : ℕ) (size : ℤ) (outcome : Outcome) → ResizeComesTo S p n fd size outcome → IsWhole S → Stays outcome
-resize_stays S p n fd size outcome (Ok done, E, gives, is) h =
-    stays_as _ outcome is (with_made S E (made_same _ E gives.4 (λ q k number refers. h.made q k number refers)) h)
-resize_stays S p n fd size outcome (Err fault, E, gives, is) h = refusal_stays S p n fault outcome is h
+resize_stays S p n fd size outcome h h2 = grind (arith, common_steps, stays_as, with_made, made_same, refusal_stays)
 
 fork_stays : (processes : ℕ) (S : State) (p n child : ℕ) (outcome : Outcome) → ForkComesTo processes S p n child outcome → IsWhole S → Stays outcome
-fork_stays processes S p n child outcome (Ok done, E, gives, is) h =
-    stays_as _ outcome is
-    (record {
-      made = made_same _ E gives.1 (made_child S.descriptors p child h.made);
-      awaited = awaited_moved S.waits S.waits S.states child Live Live≢Waiting (λ q differs there. there) h.awaited;
-    })
-fork_stays processes S p n child outcome (Err fault, E, gives, is) h = refusal_stays S p n fault outcome is h
+fork_stays processes S p n child outcome h h2 = grind (arith, common_steps, stays_as, made_same, made_child, awaited_moved, Live≢Waiting, refusal_stays)
 
 -- without its wait a process waits no more
 awaited_left : (S : State) (target : ℕ) (state : ProcState) → state ≢ Waiting → IsWhole S
     → AreAwaitedIn (without_wait_of S.waits target) (λ q. if q == target then state else S.states q)
-awaited_left S target state differs h =
-    awaited_moved S.waits (without_wait_of S.waits target) S.states target state differs
-    (λ q other there e. there (sym (other_found S.waits target q other) ∙ e)) h.awaited
+awaited_left S target state differs h = grind (arith, common_steps, awaited_moved, other_found)
 
 end_stays : (S : State) (p : ℕ) (told : List Note) (outcome : Outcome) → EndComesTo S p told outcome → IsWhole S → Stays outcome
-end_stays S p told outcome (released, E, gives, is) h =
-    stays_as _ outcome is
-    (record {
-      made = made_same _ E gives.0 (made_without S.descriptors p (λ k. true) h.made);
-      awaited = awaited_left S p Ended Ended≢Waiting h;
-    })
+end_stays S p told outcome h h2 = grind (arith, common_steps, stays_as, made_same, made_without, awaited_left, Ended≢Waiting)
 
 signal_stays : (S : State) (p n target : ℕ) (state : ProcState) (outcome : Outcome) → SignalComesTo S p n target state outcome → IsWhole S
     → Stays outcome
-signal_stays S p n target Unborn outcome is h = stays_as _ outcome is h
-signal_stays S p n target Ended outcome is h = stays_as _ outcome is h
-signal_stays S p n target Live outcome is h = stays_as _ outcome is h
-signal_stays S p n target Waiting outcome is h =
-    stays_as _ outcome is.2 (record { made = h.made; awaited = awaited_left S target Live Live≢Waiting h })
+signal_stays S p n target state outcome h h2 = grind (arith, common_steps, stays_as, awaited_left, Live≢Waiting)
 
 kill_other_stays : (S : State) (p n target : ℕ) (state : ProcState) (outcome : Outcome) → KillOtherComesTo S p n target state outcome
     → IsWhole S → Stays outcome
@@ -355,21 +278,11 @@ flock_test_stays rules S false wanted grants outcome is h =
 
 flock_mode_stays : (rules : Rules) (S : State) (look : Look) (nb : Bool) (wanted : Wait) (held : Option Mode) (outcome : Outcome)
     → FlockModeComesTo rules S look nb wanted held outcome → IsWhole S → Stays outcome
-flock_mode_stays rules S look nb wanted None outcome is h = flock_test_stays rules S nb wanted [] outcome is h
-flock_mode_stays rules S look nb wanted (Some held) outcome is h =
-    bool_stays (is_same_mode held wanted.mode) _ _ outcome is (λ already. stays_as _ outcome already h)
-    (λ converted.
-    flock_test_stays rules converted.1 nb wanted converted.0 outcome converted.3
-    (settled_whole rules.policy (with_flock_mode S look.file look.desc None) converted.0 converted.1 converted.2
-    (record { made = h.made; awaited = h.awaited })))
+flock_mode_stays rules S look nb wanted held outcome h h2 = grind (arith, common_steps, flock_test_stays, bool_stays, stays_as, settled_whole)
 
 flock_op_stays : (rules : Rules) (S : State) (p n : ℕ) (look : Look) (op : FlockOp) (nb : Bool) (outcome : Outcome)
     → FlockOpComesTo rules S p n look op nb outcome → IsWhole S → Stays outcome
-flock_op_stays rules S p n look Un nb outcome is h = stays_as _ outcome is (record { made = h.made; awaited = h.awaited })
-flock_op_stays rules S p n look Sh nb outcome is h =
-    flock_mode_stays rules S look nb (wanted_flock p n look Read) (flock_mode_in S.flock_changes look.file look.desc) outcome is h
-flock_op_stays rules S p n look Ex nb outcome is h =
-    flock_mode_stays rules S look nb (wanted_flock p n look Write) (flock_mode_in S.flock_changes look.file look.desc) outcome is h
+flock_op_stays rules S p n look op nb outcome h h2 = grind (arith, common_steps, stays_as, flock_mode_stays)
 
 -- whatever the request
 request_stays : (rules : Rules) (processes : ℕ) (S : State) (p n : ℕ) (request : Request) (outcome : Outcome)
@@ -394,6 +307,4 @@ request_stays rules processes S p n (Kill target) outcome is h =
 -- a step keeps it
 pub step_whole : (rules : Rules) (processes : ℕ) (S : State) (p n : ℕ) (request : Request) (notes : List Note) (T : State) → IsWhole S
     → Step rules processes S p n request notes T → IsWhole T
-step_whole rules processes S p n request notes T h step =
-    settled_whole rules.policy step.outcome.after step.grants T step.settles
-    (request_stays rules processes S p n request step.outcome step.comes_to h)
+step_whole rules processes S p n request notes T h step = grind (arith, common_steps, settled_whole, request_stays)

@@ -1,10 +1,10 @@
 -- A state that a manager stands for has what a step needs.
-use Rattle.std.proofs.Common.{◌≡◌, ◌≢◌, ℕ, Option, Some, None, IsSome, refl, sym, ◌∙◌, subst}
+use Rattle.std.proofs.Common.{rules, arith, ◌≡◌, ℕ, Option, Some, IsSome}
+use Rattle.std.proofs.lemmas.Grind.{common_steps}
 use Rattle.std.proofs.lemmas.Option.{same_Some}
 use Rattle.fd_table.specs.declared.tables.Tables.{Tables}
 use Rattle.fd_table.specs.Descriptors.{Descriptors, description_numbered}
 use Rattle.fd_table.specs.TablesView.{Numbered, IsSeen, StandFor, view_of}
-use Rattle.wait_core.specs.WaitsView.{wait_of}
 use Rattle.lock_manager.specs.declared.manager.Manager.{Manager}
 use Rattle.lock_manager.specs.State.{State}
 use Rattle.lock_manager.specs.MachineView.{machine_state, machine_waits}
@@ -16,28 +16,15 @@ use Rattle.lock_manager.proofs.some.StaysWholeLemmas.{whole_opening, step_whole}
 -- what is seen was made
 seen_made : (D : Descriptors) (p fd number : ℕ) (seen : Option Numbered) → IsSeen seen D p fd → D.description_of p fd ≡ Some number
     → IsSome (description_numbered D.descriptions number)
-seen_made D p fd number None is refers = cc
-seen_made D p fd number (Some seen) is refers =
-    let same : seen.number ≡ number = same_Some seen.number number (sym is.0 ∙ refers) in
-    subst (λ n. IsSome (description_numbered D.descriptions n)) same (rw is.1 refl)
+seen_made D p fd number seen h h2 = grind (arith, common_steps, same_Some)
 
 stood_made : (tables : Tables) (D : Descriptors) → StandFor tables D → AreMade D
 stood_made tables D h p fd number refers = seen_made D p fd number ((view_of tables).seen p fd) (h.seen p fd) refers
 
 whole : (manager : Manager) (S : State) → StandsFor manager S → IsWhole S
 unfolding state_at waits_of machine_state machine_waits
-whole manager S h =
-    record {
-      made = stood_made manager.machine.tables S.descriptors h.descriptors;
-      awaited = λ p waits. subst (λ ws. wait_of ws p ≢ None) h.waits (manager.machine.standing.awaited p (h.states p ∙ waits));
-    }
+whole manager S h = grind (arith, common_steps, stood_made)
 
 -- so is each state that steps from the opening lead to, and from each there is a step
 pub some_step : StepHasSomeOutcome
-some_step =
-    record {
-      opening = whole_opening;
-      kept = step_whole;
-      managers = whole;
-      some = Step-some;
-    }
+some_step = search (rules, whole_opening, step_whole, whole, Step-some)

@@ -1,5 +1,6 @@
 -- Predicates that at most one value meets, and the choices by a fact and the chains that are made of them.
-use Rattle.std.proofs.Common.{◌≡◌, sym, ◌∙◌, subst, subst₂, inl, inr}
+use Rattle.std.proofs.Common.{arith, ◌≡◌, sym, ◌∙◌, subst, subst₂}
+use Rattle.std.proofs.lemmas.Grind.{common_steps}
 use Rattle.range_core.specs.Facts.{MatchFact}
 
 -- at most one value meets the predicate
@@ -12,10 +13,7 @@ one_value a x y h k = h ∙ sym k
 
 -- where each case has at most one value, so has the choice by a fact
 pub MatchFact-unique : {A : Type 0} (Fact : Type 0) (P Q : A → Type 0) → AtMostOne P → AtMostOne Q → AtMostOne (λ x. MatchFact Fact (P x) (Q x))
-MatchFact-unique Fact P Q p q x y (inl h) (inl k) = p x y h.1 k.1
-MatchFact-unique Fact P Q p q x y (inl h) (inr k) = absurd (k.0 h.0)
-MatchFact-unique Fact P Q p q x y (inr h) (inl k) = absurd (h.0 k.0)
-MatchFact-unique Fact P Q p q x y (inr h) (inr k) = q x y h.1 k.1
+MatchFact-unique Fact P Q h h2 h3 h4 h5 h6 = grind (arith, common_steps)
 
 -- at most one value comes of one that is determined
 pub by_one : {A X : Type 0} (Gives : A → Type 0) (Comes : A → X → Type 0) → AtMostOne Gives → ((a : A) → AtMostOne (Comes a))

@@ -1,14 +1,15 @@
 -- What the other calls on descriptors answer and leave is determined.
-use Rattle.std.proofs.Common.{◌≡◌, ℕ, ◌<◌, ◌≤◌, ◌==◌, Bool, true, false, MatchBool, Some, None, Result, Ok, Err, ℤ, pos, ◌<ℤ◌, refl, sym, ◌∙◌, ap, ap₂, subst, ◌⊎◌, inl, inr, arith}
+use Rattle.std.proofs.lemmas.Grind.{common_steps}
+use Rattle.std.proofs.Common.{◌≡◌, ℕ, ◌<◌, ◌≤◌, ◌==◌, Bool, true, false, MatchBool, Some, None, Result, Ok, Err, ℤ, pos, ◌<ℤ◌, refl, sym, ◌∙◌, ap, ◌⊎◌, inl, inr, arith}
 use Rattle.std.proofs.lemmas.Int.{ints}
 use Rattle.std.proofs.lemmas.Option.{same_Some}
 use Rattle.fd_table.specs.declared.Limits.{Limits}
 use Rattle.fd_table.specs.declared.FdFault.{FdFault}
 use Rattle.fd_table.specs.declared.FdFault.TheVariants.{BadFd, TooMany, Invalid, Taken, Memory}
 use Rattle.fd_table.specs.Released.{Released}
-use Rattle.fd_table.specs.Descriptors.{Descriptors, OpenFileDescription, SameDescriptors, descriptor_limit, description_numbered, with_descriptor, without_descriptors, with_child, with_offset, with_size}
+use Rattle.fd_table.specs.Descriptors.{Descriptors, OpenFileDescription, SameDescriptors, descriptor_limit, with_descriptor, without_descriptors}
 use Rattle.fd_table.specs.Releasing.{AreReleased}
-use Rattle.fd_table.specs.Calls.{DupGives, DupToGives, MovesTo, CloseGives, EndGives, ForkGives, Refers, SeekGives, ResizeGives, nothing}
+use Rattle.fd_table.specs.Calls.{DupGives, DupToGives, CloseGives, EndGives, ForkGives, Refers, SeekGives, ResizeGives, nothing}
 use Rattle.lock_manager.proofs.unique.OpenCallLaws.{same_everywhere, both_same, open_not_free, IsLowestFree-unique, IsFull-none}
 use Rattle.lock_manager.proofs.unique.ReleaseLaws.{closing-unique}
 
@@ -18,27 +19,8 @@ one_description old p fd description other h k = same_Some description other (sy
 
 pub DupGives-unique : (limits : Limits) (old : Descriptors) (p fd : ℕ) (result : Result ℕ FdFault) (D : Descriptors) (other : Result ℕ FdFault) (E : Descriptors)
     → DupGives limits old p fd result D → DupGives limits old p fd other E → (result ≡ other) × (D ≡ E)
-DupGives-unique limits old p fd (Err Invalid) D other E h k = absurd h
-DupGives-unique limits old p fd (Err Taken) D other E h k = absurd h
-DupGives-unique limits old p fd (Err (Memory memory)) D other E h k = absurd h
-DupGives-unique limits old p fd result D (Err Invalid) E h k = absurd k
-DupGives-unique limits old p fd result D (Err Taken) E h k = absurd k
-DupGives-unique limits old p fd result D (Err (Memory memory)) E h k = absurd k
-DupGives-unique limits old p fd (Err BadFd) D (Err BadFd) E h k = (refl, both_same D E old h.1 k.1)
-DupGives-unique limits old p fd (Err BadFd) D (Err TooMany) E h k = absurd (open_not_free old p fd k.0 h.0)
-DupGives-unique limits old p fd (Err BadFd) D (Ok other) E h k = absurd (cc)
-DupGives-unique limits old p fd (Err TooMany) D (Err BadFd) E h k = absurd (open_not_free old p fd h.0 k.0)
-DupGives-unique limits old p fd (Err TooMany) D (Err TooMany) E h k = (refl, both_same D E old h.2 k.2)
-DupGives-unique limits old p fd (Err TooMany) D (Ok other) E h k = absurd (IsFull-none limits old p other h.1 k.2)
-DupGives-unique limits old p fd (Ok free) D (Err BadFd) E h k = absurd (cc)
-DupGives-unique limits old p fd (Ok free) D (Err TooMany) E h k = absurd (IsFull-none limits old p free k.1 h.2)
-DupGives-unique limits old p fd (Ok free) D (Ok other) E h k =
-    let same : free ≡ other = IsLowestFree-unique limits old p free other h.2 k.2 in (
-      ap Ok same,
-      same_everywhere D (with_descriptor old p free h.0) h.3
-          ∙ ap₂ (with_descriptor old p) same (one_description old p fd h.0 k.0 h.1 k.1)
-          ∙ sym (same_everywhere E (with_descriptor old p other k.0) k.3),
-    )
+DupGives-unique limits old p fd result D other E h h2 =
+    grind (arith, common_steps, both_same, open_not_free, IsFull-none, IsLowestFree-unique, same_everywhere, one_description)
 
 MovesTo-unique : (old : Descriptors) (p fd to description : ℕ) (onto_itself : Bool) (released : Released) (D : Descriptors) (other : Released) (E : Descriptors)
     → MatchBool onto_itself ((released ≡ nothing) × SameDescriptors D old) (SameDescriptors D (with_descriptor old p to description) × AreReleased old D p (λ k. k == to) released)
@@ -56,22 +38,7 @@ not_bad_fd limits old p fd to description refers within (inr past) = omega arith
 
 pub DupToGives-unique : (limits : Limits) (old : Descriptors) (p fd to : ℕ) (result : Result (ℕ × Released) FdFault) (D : Descriptors) (other : Result (ℕ × Released) FdFault) (E : Descriptors)
     → DupToGives limits old p fd to result D → DupToGives limits old p fd to other E → (result ≡ other) × (D ≡ E)
-DupToGives-unique limits old p fd to (Err TooMany) D other E h k = absurd h
-DupToGives-unique limits old p fd to (Err Invalid) D other E h k = absurd h
-DupToGives-unique limits old p fd to (Err Taken) D other E h k = absurd h
-DupToGives-unique limits old p fd to (Err (Memory memory)) D other E h k = absurd h
-DupToGives-unique limits old p fd to result D (Err TooMany) E h k = absurd k
-DupToGives-unique limits old p fd to result D (Err Invalid) E h k = absurd k
-DupToGives-unique limits old p fd to result D (Err Taken) E h k = absurd k
-DupToGives-unique limits old p fd to result D (Err (Memory memory)) E h k = absurd k
-DupToGives-unique limits old p fd to (Err BadFd) D (Err BadFd) E h k = (refl, both_same D E old h.1 k.1)
-DupToGives-unique limits old p fd to (Err BadFd) D (Ok other) E h k = absurd (not_bad_fd limits old p fd to k.0 k.1 k.2 h.0)
-DupToGives-unique limits old p fd to (Ok answer) D (Err BadFd) E h k = absurd (not_bad_fd limits old p fd to h.0 h.1 h.2 k.0)
-DupToGives-unique limits old p fd to (Ok answer) D (Ok other) E h k =
-    let same : h.0 ≡ k.0 = one_description old p fd h.0 k.0 h.1 k.1 in
-    let moved : (answer.1 ≡ other.1) × (D ≡ E) =
-    MovesTo-unique old p fd to k.0 (to == fd) answer.1 D other.1 E (subst (λ d. MovesTo old p fd to d answer.1 D) same h.4) k.4 in
-    (λ i. Ok ((h.3 ∙ sym k.3) i, moved.0 i), moved.1)
+DupToGives-unique limits old p fd to result D other E h h2 = grind (arith, common_steps, both_same, not_bad_fd, one_description, MovesTo-unique)
 
 pub CloseGives-unique : (old : Descriptors) (p fd : ℕ) (result : Result Released FdFault) (D : Descriptors) (other : Result Released FdFault) (E : Descriptors)
     → CloseGives old p fd result D → CloseGives old p fd other E → (result ≡ other) × (D ≡ E)
@@ -98,24 +65,11 @@ EndGives-unique old p released D other E h k =
 
 pub ForkGives-unique : (processes : ℕ) (old : Descriptors) (p child : ℕ) (result : Result (Unit {0}) FdFault) (D : Descriptors) (other : Result (Unit {0}) FdFault) (E : Descriptors)
     → ForkGives processes old p child result D → ForkGives processes old p child other E → (result ≡ other) × (D ≡ E)
-ForkGives-unique processes old p child (Err BadFd) D other E h k = absurd h
-ForkGives-unique processes old p child (Err TooMany) D other E h k = absurd h
-ForkGives-unique processes old p child (Err Invalid) D other E h k = absurd h
-ForkGives-unique processes old p child (Err (Memory memory)) D other E h k = absurd h
-ForkGives-unique processes old p child result D (Err BadFd) E h k = absurd k
-ForkGives-unique processes old p child result D (Err TooMany) E h k = absurd k
-ForkGives-unique processes old p child result D (Err Invalid) E h k = absurd k
-ForkGives-unique processes old p child result D (Err (Memory memory)) E h k = absurd k
-ForkGives-unique processes old p child (Err Taken) D (Err Taken) E h k = (refl, both_same D E old h.1 k.1)
-ForkGives-unique processes old p child (Err Taken) D (Ok other) E h k = absurd (h.0 k.0)
-ForkGives-unique processes old p child (Ok done) D (Err Taken) E h k = absurd (k.0 h.0)
-ForkGives-unique processes old p child (Ok done) D (Ok other) E h k = (refl, both_same D E (with_child old p child) h.1 k.1)
+ForkGives-unique processes old p child result D other E h h2 = grind (arith, common_steps, both_same)
 
 -- the description to which a descriptor refers, and its number, are determined
 Refers-unique : (old : Descriptors) (p fd : ℕ) (opened other : OpenFileDescription) (h : Refers old p fd opened) (k : Refers old p fd other) → (h.number ≡ k.number) × (opened ≡ other)
-Refers-unique old p fd opened other h k =
-    let same : h.number ≡ k.number = one_description old p fd h.number k.number h.is k.is in
-    (same, same_Some opened other (sym h.numbered ∙ ap (description_numbered old.descriptions) same ∙ k.numbered))
+Refers-unique old p fd opened other h k = grind (arith, common_steps, one_description, same_Some)
 
 -- a number below 0 is no count
 negative : (offset : ℤ) (n : ℕ) → offset <ℤ pos 0 → offset ≡ pos n → ⊥
@@ -123,50 +77,8 @@ negative offset n below is = omega (arith, ints)
 
 pub SeekGives-unique : (old : Descriptors) (p fd : ℕ) (offset : ℤ) (result : Result (Unit {0}) FdFault) (D : Descriptors) (other : Result (Unit {0}) FdFault) (E : Descriptors)
     → SeekGives old p fd offset result D → SeekGives old p fd offset other E → (result ≡ other) × (D ≡ E)
-SeekGives-unique old p fd offset (Err TooMany) D other E h k = absurd h
-SeekGives-unique old p fd offset (Err Taken) D other E h k = absurd h
-SeekGives-unique old p fd offset (Err (Memory memory)) D other E h k = absurd h
-SeekGives-unique old p fd offset result D (Err TooMany) E h k = absurd k
-SeekGives-unique old p fd offset result D (Err Taken) E h k = absurd k
-SeekGives-unique old p fd offset result D (Err (Memory memory)) E h k = absurd k
-SeekGives-unique old p fd offset (Err BadFd) D (Err BadFd) E h k = (refl, both_same D E old h.1 k.1)
-SeekGives-unique old p fd offset (Err BadFd) D (Err Invalid) E h k = absurd (open_not_free old p fd k.0 h.0)
-SeekGives-unique old p fd offset (Err BadFd) D (Ok other) E h k = absurd (cc)
-SeekGives-unique old p fd offset (Err Invalid) D (Err BadFd) E h k = absurd (open_not_free old p fd h.0 k.0)
-SeekGives-unique old p fd offset (Err Invalid) D (Err Invalid) E h k = (refl, both_same D E old h.2 k.2)
-SeekGives-unique old p fd offset (Err Invalid) D (Ok other) E h k = absurd (negative offset k.2 h.1 k.3)
-SeekGives-unique old p fd offset (Ok done) D (Err BadFd) E h k = absurd (cc)
-SeekGives-unique old p fd offset (Ok done) D (Err Invalid) E h k = absurd (negative offset h.2 k.1 h.3)
-SeekGives-unique old p fd offset (Ok done) D (Ok other) E h k =
-    let same : (h.1.number ≡ k.1.number) × (h.0 ≡ k.0) = Refers-unique old p fd h.0 k.0 h.1 k.1 in
-    let count : h.2 ≡ k.2 = cc in (
-      refl,
-      same_everywhere D (with_offset old h.1.number h.0 h.2) h.4
-          ∙ (λ i. with_offset old (same.0 i) (same.1 i) (count i))
-          ∙ sym (same_everywhere E (with_offset old k.1.number k.0 k.2) k.4),
-    )
+SeekGives-unique old p fd offset result D other E h h2 = grind (arith, common_steps, both_same, open_not_free, negative, Refers-unique, same_everywhere)
 
 pub ResizeGives-unique : (old : Descriptors) (p fd : ℕ) (size : ℤ) (result : Result (Unit {0}) FdFault) (D : Descriptors) (other : Result (Unit {0}) FdFault) (E : Descriptors)
     → ResizeGives old p fd size result D → ResizeGives old p fd size other E → (result ≡ other) × (D ≡ E)
-ResizeGives-unique old p fd size (Err TooMany) D other E h k = absurd h
-ResizeGives-unique old p fd size (Err Taken) D other E h k = absurd h
-ResizeGives-unique old p fd size (Err (Memory memory)) D other E h k = absurd h
-ResizeGives-unique old p fd size result D (Err TooMany) E h k = absurd k
-ResizeGives-unique old p fd size result D (Err Taken) E h k = absurd k
-ResizeGives-unique old p fd size result D (Err (Memory memory)) E h k = absurd k
-ResizeGives-unique old p fd size (Err BadFd) D (Err BadFd) E h k = (refl, both_same D E old h.1 k.1)
-ResizeGives-unique old p fd size (Err BadFd) D (Err Invalid) E h k = absurd (open_not_free old p fd k.0 h.0)
-ResizeGives-unique old p fd size (Err BadFd) D (Ok other) E h k = absurd (cc)
-ResizeGives-unique old p fd size (Err Invalid) D (Err BadFd) E h k = absurd (open_not_free old p fd h.0 k.0)
-ResizeGives-unique old p fd size (Err Invalid) D (Err Invalid) E h k = (refl, both_same D E old h.2 k.2)
-ResizeGives-unique old p fd size (Err Invalid) D (Ok other) E h k = absurd (negative size k.2 h.1 k.3)
-ResizeGives-unique old p fd size (Ok done) D (Err BadFd) E h k = absurd (cc)
-ResizeGives-unique old p fd size (Ok done) D (Err Invalid) E h k = absurd (negative size h.2 k.1 h.3)
-ResizeGives-unique old p fd size (Ok done) D (Ok other) E h k =
-    let same : (h.1.number ≡ k.1.number) × (h.0 ≡ k.0) = Refers-unique old p fd h.0 k.0 h.1 k.1 in
-    let count : h.2 ≡ k.2 = cc in (
-      refl,
-      same_everywhere D (with_size old h.0.file h.2) h.4
-          ∙ (λ i. with_size old (same.1 i).file (count i))
-          ∙ sym (same_everywhere E (with_size old k.0.file k.2) k.4),
-    )
+ResizeGives-unique old p fd size result D other E h h2 = grind (arith, common_steps, both_same, open_not_free, negative, Refers-unique, same_everywhere)

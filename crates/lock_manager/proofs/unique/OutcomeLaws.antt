@@ -1,17 +1,16 @@
 -- What a request comes to is determined, and so is the step.
-use Rattle.std.proofs.Common.{◌≡◌, ℕ, ℤ, List, [], ◌∷◌, ◌++◌, ◌==◌, Bool, true, false, Option, None, sym, ◌∙◌, ap₂, subst, Some, Result}
+use Rattle.std.proofs.Common.{arith, rules, ◌≡◌, ℕ, ℤ, List, [], ◌∷◌, ◌==◌, Bool, true, false, Option, sym, ◌∙◌, Some, Result}
+use Rattle.std.proofs.lemmas.Grind.{common_steps}
 use Rattle.std.proofs.lemmas.Option.{same_Some}
 use Rattle.std.specs.Prelude.{MatchResult}
 use Rattle.range_core.specs.declared.Mode.{Mode}
 use Rattle.fd_table.specs.declared.Access.{Access}
 use Rattle.fd_table.specs.declared.FdFault.{FdFault}
-use Rattle.fd_table.specs.declared.FdFault.TheVariants.{BadFd, TooMany, Invalid, Taken, Memory}
 use Rattle.fd_table.specs.declared.tables.Look.{Look}
 use Rattle.fd_table.specs.Descriptors.{Descriptors}
-use Rattle.fd_table.specs.Calls.{OpenGives, DupGives, DupToGives, CloseGives, SeekGives, ResizeGives, ForkGives, EndGives}
+use Rattle.fd_table.specs.Calls.{SeekGives, ResizeGives, EndGives}
 use Rattle.wait_core.specs.declared.Wait.{Wait}
 use Rattle.wait_core.specs.Blocking.{IsBlockedByLock, IsBlocked}
-use Rattle.wait_core.specs.Cycles.{ClosesCycle}
 use Rattle.wait_core.specs.WaitsView.{wait_of}
 use Rattle.lock_manager.specs.declared.request.Rules.{Rules}
 use Rattle.lock_manager.specs.declared.request.Lock.{Lock}
@@ -22,16 +21,15 @@ use Rattle.lock_manager.specs.declared.request.Request.TheVariants.{OpenFile, Du
 use Rattle.lock_manager.specs.declared.request.Reply.TheVariants as replies
 use Rattle.lock_manager.specs.declared.request.ProcState.{ProcState}
 use Rattle.lock_manager.specs.declared.request.ProcState.TheVariants.{Unborn, Live, Waiting, Ended}
-use Rattle.lock_manager.specs.State.{State, locks_held, with_flock_mode, with_process}
+use Rattle.lock_manager.specs.State.{State, locks_held}
 use Rattle.lock_manager.specs.Outcomes.{Outcome, answered, IsRefusal}
 use Rattle.lock_manager.specs.declared.request.Note.{Note}
 use Rattle.lock_manager.specs.declared.request.Note.TheVariants.{Answer}
-use Rattle.lock_manager.specs.DescriptorCalls.{OpenComesTo, DupComesTo, DupToComesTo, CloseComesTo, SeekComesTo, ResizeComesTo, with_released}
+use Rattle.lock_manager.specs.DescriptorCalls.{OpenComesTo, DupComesTo, DupToComesTo, CloseComesTo, SeekComesTo, ResizeComesTo}
 use Rattle.lock_manager.specs.LockCommands.{GetComesTo, SetComesTo, SetOrWaitComesTo, WaitOrDeadlockComesTo, CommandComesTo, LockComesTo}
 use Rattle.lock_manager.specs.declared.request.FlockOp.{FlockOp}
-use Rattle.lock_manager.specs.FlockCalls.{FlockTestComesTo, FlockModeComesTo, FlockComesTo, is_same_mode}
+use Rattle.lock_manager.specs.FlockCalls.{FlockTestComesTo, FlockModeComesTo, FlockComesTo}
 use Rattle.lock_manager.specs.ProcessCalls.{ForkComesTo, EndComesTo, SignalComesTo, KillOtherComesTo, KillComesTo}
-use Rattle.lock_manager.specs.Settling.{Settles}
 use Rattle.lock_manager.specs.Step.{ComesTo}
 use Rattle.lock_manager.specs.OneOutcome.{StepHasOneOutcome}
 use Rattle.lock_manager.proofs.unique.AtMostOneLemmas.{AtMostOne, one_value, MatchFact-unique, by_one, by_two}
@@ -43,11 +41,7 @@ use Rattle.lock_manager.proofs.unique.SettlingLaws.{Settles-unique}
 
 -- each refusal is one outcome
 IsRefusal-unique : (S : State) (p n : ℕ) (fault : FdFault) → AtMostOne (IsRefusal S p n fault)
-IsRefusal-unique S p n BadFd = one_value _
-IsRefusal-unique S p n TooMany = one_value _
-IsRefusal-unique S p n Invalid = one_value _
-IsRefusal-unique S p n Taken = one_value _
-IsRefusal-unique S p n (Memory memory) = λ x y h k. absurd h
+IsRefusal-unique S p n fault = grind (arith, common_steps, one_value)
 
 -- the answer of a call on descriptors is one outcome, that of its result or the refusal
 answer-unique : {R : Type 0} (S : State) (p n : ℕ) (done : R → Outcome) (result : Result R FdFault)
@@ -55,24 +49,16 @@ answer-unique : {R : Type 0} (S : State) (p n : ℕ) (done : R → Outcome) (res
 answer-unique S p n done result = MatchResult-by (λ P. AtMostOne P) result _ _ (λ r. one_value (done r)) (λ fault. IsRefusal-unique S p n fault)
 
 OpenComesTo-unique : (rules : Rules) (S : State) (p n file : ℕ) (access : Access) → AtMostOne (OpenComesTo rules S p n file access)
-OpenComesTo-unique rules S p n file access =
-    by_two (OpenGives rules.limits S.descriptors p file access) _ (OpenGives-unique rules.limits S.descriptors p file access)
-    (λ result descriptors. answer-unique S p n (λ fd. answered (record S { descriptors = descriptors }) p n (replies.Fd fd)) result)
+OpenComesTo-unique rules S p n file access = grind (arith, common_steps, by_two, OpenGives-unique, answer-unique)
 
 DupComesTo-unique : (rules : Rules) (S : State) (p n fd : ℕ) → AtMostOne (DupComesTo rules S p n fd)
-DupComesTo-unique rules S p n fd =
-    by_two (DupGives rules.limits S.descriptors p fd) _ (DupGives-unique rules.limits S.descriptors p fd)
-    (λ result descriptors. answer-unique S p n (λ free. answered (record S { descriptors = descriptors }) p n (replies.Fd free)) result)
+DupComesTo-unique rules S p n fd = grind (arith, common_steps, by_two, DupGives-unique, answer-unique)
 
 DupToComesTo-unique : (rules : Rules) (S : State) (p n fd to : ℕ) → AtMostOne (DupToComesTo rules S p n fd to)
-DupToComesTo-unique rules S p n fd to =
-    by_two (DupToGives rules.limits S.descriptors p fd to) _ (DupToGives-unique rules.limits S.descriptors p fd to)
-    (λ result descriptors. answer-unique S p n (λ answer. answered (with_released S descriptors p answer.1) p n (replies.Fd answer.0)) result)
+DupToComesTo-unique rules S p n fd to = grind (arith, common_steps, by_two, DupToGives-unique, answer-unique)
 
 CloseComesTo-unique : (S : State) (p n fd : ℕ) → AtMostOne (CloseComesTo S p n fd)
-CloseComesTo-unique S p n fd =
-    by_two (CloseGives S.descriptors p fd) _ (CloseGives-unique S.descriptors p fd)
-    (λ result descriptors. answer-unique S p n (λ released. answered (with_released S descriptors p released) p n replies.Ok) result)
+CloseComesTo-unique S p n fd = grind (arith, common_steps, by_two, CloseGives-unique, answer-unique)
 
 -- a call that answers nothing but that it is done
 done-unique : (S : State) (p n : ℕ) (descriptors : Descriptors) (result : Result (Unit {0}) FdFault)
@@ -88,9 +74,7 @@ ResizeComesTo-unique S p n fd size =
     by_two (ResizeGives S.descriptors p fd size) _ (ResizeGives-unique S.descriptors p fd size) (λ result descriptors. done-unique S p n descriptors result)
 
 ForkComesTo-unique : (processes : ℕ) (S : State) (p n child : ℕ) → AtMostOne (ForkComesTo processes S p n child)
-ForkComesTo-unique processes S p n child =
-    by_two (ForkGives processes S.descriptors p child) _ (ForkGives-unique processes S.descriptors p child)
-    (λ result descriptors. answer-unique S p n (λ done. answered (with_process (record S { descriptors = descriptors }) child Live) p n replies.Ok) result)
+ForkComesTo-unique processes S p n child = grind (arith, common_steps, by_two, ForkGives-unique, answer-unique)
 
 EndComesTo-unique : (S : State) (p : ℕ) (told : List Note) → AtMostOne (EndComesTo S p told)
 EndComesTo-unique S p told =
@@ -101,10 +85,7 @@ wait-unique : (S : State) (p : ℕ) → AtMostOne (λ wait. wait_of S.waits p �
 wait-unique S p x y h k = same_Some x y (sym h ∙ k)
 
 SignalComesTo-unique : (S : State) (p n target : ℕ) (state : ProcState) → AtMostOne (SignalComesTo S p n target state)
-SignalComesTo-unique S p n target Unborn = one_value _
-SignalComesTo-unique S p n target Ended = one_value _
-SignalComesTo-unique S p n target Live = one_value _
-SignalComesTo-unique S p n target Waiting = by_one _ _ (wait-unique S target) (λ wait. one_value _)
+SignalComesTo-unique S p n target state = grind (arith, common_steps, one_value, by_one, wait-unique)
 
 KillOtherComesTo-unique : (S : State) (p n target : ℕ) (state : ProcState) → AtMostOne (KillOtherComesTo S p n target state)
 KillOtherComesTo-unique S p n target Unborn = one_value _
@@ -127,10 +108,7 @@ SetOrWaitComesTo-unique : (rules : Rules) (S : State) (wanted : Wait) → AtMost
 SetOrWaitComesTo-unique rules S wanted = MatchFact-unique (IsBlocked rules.policy (locks_held S) S.waits wanted) _ _ (one_value _) (one_value _)
 
 WaitOrDeadlockComesTo-unique : (rules : Rules) (S : State) (wanted : Wait) → AtMostOne (WaitOrDeadlockComesTo rules S wanted)
-WaitOrDeadlockComesTo-unique rules S wanted =
-    MatchFact-unique (IsBlocked rules.policy (locks_held S) S.waits wanted) _ _
-    (MatchFact-unique (ClosesCycle rules.policy (locks_held S) S.waits wanted) _ _ (one_value _) (one_value _))
-    (one_value _)
+WaitOrDeadlockComesTo-unique rules S wanted = grind (arith, common_steps, MatchFact-unique, one_value)
 
 CommandComesTo-unique : (rules : Rules) (S : State) (cmd : LkCmd) (wanted : Wait) → AtMostOne (CommandComesTo rules S cmd wanted)
 CommandComesTo-unique rules S GetLk wanted = GetComesTo-unique S wanted
@@ -149,12 +127,7 @@ FlockTestComesTo-unique rules S true wanted grants = MatchFact-unique (IsBlocked
 FlockTestComesTo-unique rules S false wanted grants = MatchFact-unique (IsBlocked rules.policy (locks_held S) S.waits wanted) _ _ (one_value _) (one_value _)
 
 FlockModeComesTo-unique : (rules : Rules) (S : State) (look : Look) (nb : Bool) (wanted : Wait) (held : Option Mode) → AtMostOne (FlockModeComesTo rules S look nb wanted held)
-FlockModeComesTo-unique rules S look nb wanted None = FlockTestComesTo-unique rules S nb wanted []
-FlockModeComesTo-unique rules S look nb wanted (Some held) =
-    MatchBool-by (λ P. AtMostOne P) (is_same_mode held wanted.mode) _ _ (one_value _)
-    (by_two (λ grants settled. Settles rules.policy (with_flock_mode S look.file look.desc None) grants settled) _
-    (λ grants settled others other h k. Settles-unique rules.policy (with_flock_mode S look.file look.desc None) grants settled others other h k)
-    (λ grants settled. FlockTestComesTo-unique rules settled nb wanted grants))
+FlockModeComesTo-unique rules S look nb wanted held = grind (arith, common_steps, FlockTestComesTo-unique, MatchBool-by, one_value, by_two, Settles-unique)
 
 FlockComesTo-unique : (rules : Rules) (S : State) (p n fd : ℕ) (op : FlockOp) (nb : Bool) → AtMostOne (FlockComesTo rules S p n fd op nb)
 FlockComesTo-unique rules S p n fd op nb =
@@ -177,8 +150,4 @@ ComesTo-unique rules processes S p n (Lk fd cmd lock) = LockComesTo-unique rules
 
 -- the step has one outcome
 pub Step-unique : StepHasOneOutcome
-Step-unique rules processes S p n request notes others T U h k =
-    let same : h.outcome ≡ k.outcome = ComesTo-unique rules processes S p n request h.outcome k.outcome h.comes_to k.comes_to in
-    let settled : (h.grants ≡ k.grants) × (T ≡ U) =
-    Settles-unique rules.policy k.outcome.after h.grants T k.grants U (subst (λ outcome. Settles rules.policy outcome.after h.grants T) same h.settles) k.settles in
-    (h.are_notes ∙ ap₂ (λ outcome grants. outcome.told ++ grants) same settled.0 ∙ sym k.are_notes, settled.1)
+Step-unique h h2 h3 h4 h5 h6 h7 h8 h9 h10 h11 h12 = grind (arith, common_steps, ComesTo-unique, Settles-unique)

@@ -1,5 +1,6 @@
 -- What the closing of descriptors releases is determined.
-use Rattle.std.proofs.Common.{◌≡◌, ℕ, zero, suc, ◌<◌, List, [], ◌∷◌, length, get_or, Contains, AllPairs, refl, sym, subst, ◌⊎◌, inl, inr, ⊎_elim, Bool, arith}
+use Rattle.std.proofs.lemmas.Grind.{common_steps}
+use Rattle.std.proofs.Common.{◌≡◌, ℕ, zero, suc, ◌<◌, List, [], ◌∷◌, Contains, AllPairs, refl, sym, subst, ◌⊎◌, inl, inr, ⊎_elim, Bool, arith}
 use Rattle.std.proofs.lemmas.List.Kept.{AllPairs-from_increasing}
 use Rattle.fd_table.specs.Released.{Released}
 use Rattle.fd_table.specs.Descriptors.{Descriptors, SameDescriptors}
@@ -23,11 +24,7 @@ contains_later : (x : ℕ) (xs : List ℕ) (z : ℕ) → Contains xs z → Conta
 contains_later x xs z h = (suc h.0, omega (arith, h.1), h.2)
 
 first_or_later : (x : ℕ) (xs : List ℕ) (z : ℕ) → Contains (x ∷ xs) z → (x ≡ z) ⊎ Contains xs z
-first_or_later x xs z h = at h.0 h.1 h.2
-  where
-    at : (k : ℕ) → k < length (x ∷ xs) → get_or (x ∷ xs) k z ≡ z → (x ≡ z) ⊎ Contains xs z
-    at zero within found = inl found
-    at (suc k) within found = inr (k, omega arith, found)
+first_or_later x xs z h = grind (arith, common_steps)
 
 -- a member of a rising list is the first number or lies above it
 first_or_above : (x : ℕ) (xs : List ℕ) (z : ℕ) → Rise (x ∷ xs) → Contains (x ∷ xs) z → (x ≡ z) ⊎ (x < z)

@@ -1,12 +1,11 @@
+use Rattle.std.proofs.Common.{arith, refl}
+use Rattle.std.proofs.lemmas.Grind.{common_steps}
 use Rattle.lock_manager.proofs.kept.WaitLemmas.{standing_in}
-use Rattle.std.proofs.Common.{refl}
-use Rattle.lock_manager.proofs.calls.DescriptorCallLemmas.{Dups, with_descriptors, served_by_dup}
+use Rattle.lock_manager.proofs.calls.DescriptorCallLemmas.{Dups, with_descriptors, served_by_dup, done_by, refused_by}
 use Rattle.lock_manager.proofs.kept.NextStateLemmas.{with_tables}
 use Rattle.lock_manager.specs.declared.request.Reply.TheVariants as replies
 use Rattle.lock_manager.specs.declared.request.Request.TheVariants.{Dup}
-use Rattle.lock_manager.proofs.calls.DescriptorCallLemmas.{done_by, refused_by}
 use Rattle.fd_table.specs.TablesView.{limits_of}
-use Rattle.wait_core.specs.WaitsView.{waits_of}
 use Rattle.lock_manager.proofs.kept.StayOpenLemmas.{dupped_stays, kept_by_call}
 use Rattle.lock_manager.proofs.machine.Machine.dup.Goals as goal
 
@@ -18,9 +17,7 @@ invariant_of-self-clause-kept c =
     (λ other. c.dup.ensures.step) c.dup.ensures.refused
 
 pub invariant_of-self-clause-standing : goal.invariant_of-self-clause-standing
-invariant_of-self-clause-standing c =
-    let machine = c.args.self.now in
-    standing_in machine.tables c.dup.new.self machine.states.items (waits_of machine.waits) (waits_of machine.waits) c.dup.ensures.kept.alive refl machine.standing
+invariant_of-self-clause-standing c = grind (arith, common_steps, standing_in)
 
 pub returns-in-Ok-clause-answers : goal.returns-in-Ok-clause-answers
 returns-in-Ok-clause-answers c =

@@ -1,4 +1,5 @@
-use Rattle.std.proofs.Common.{◌∙◌, refl}
+use Rattle.std.proofs.Common.{arith, refl}
+use Rattle.std.proofs.lemmas.Grind.{common_steps}
 use Rattle.fd_table.specs.TablesView.{limits_of}
 use Rattle.wait_core.specs.Locks.{locks_of}
 use Rattle.wait_core.specs.WaitsView.{waits_of}
@@ -25,23 +26,10 @@ invariant_of-self-clause-kept c =
     after.locks after.room after.waits after.known after.free
 
 pub invariant_of-self-clause-standing : goal.invariant_of-self-clause-standing
-invariant_of-self-clause-standing c =
-    let machine = c.args.self.now in
-    standing_in machine.tables c.dup2.new.self machine.states.items (waits_of machine.waits) (waits_of c.release.new.waits) c.dup2.ensures.kept.alive c.release.ensures.waits.waits machine.standing
+invariant_of-self-clause-standing c = grind (arith, common_steps, standing_in)
 
 pub invariant_of-self-in-Err-1 : goal.invariant_of-self-in-Err-1
-invariant_of-self-in-Err-1 c =
-    let machine = c.args.self.now in
-    record {
-      files = machine.files;
-      numbered = machine.numbered;
-      tabled = c.dup2.ensures.kept.processes ∙ machine.tabled;
-      limited = c.dup2.ensures.kept.limits ∙ machine.limited;
-      policy = machine.policy;
-      counted = machine.counted;
-      kept = kept_by_refusal machine c.dup2.new.self c.in-Err.ensures.refused;
-      standing = standing_in machine.tables c.dup2.new.self machine.states.items (waits_of machine.waits) (waits_of machine.waits) c.dup2.ensures.kept.alive refl machine.standing;
-    }
+invariant_of-self-in-Err-1 c = grind (arith, common_steps, kept_by_refusal, standing_in)
 
 pub returns-in-Ok-clause-answers : goal.returns-in-Ok-clause-answers
 returns-in-Ok-clause-answers c =

@@ -1,4 +1,5 @@
-use Rattle.std.proofs.Common.{◌≤◌, length, arith}
+use Rattle.std.proofs.lemmas.Grind.{common_steps}
+use Rattle.std.proofs.Common.{arith}
 use Rattle.wait_core.specs.WaitsView.{waits_of}
 use Rattle.lock_manager.specs.MachineView.{machine_state}
 use Rattle.lock_manager.proofs.kept.ClosingLemmas.{end_closes}
@@ -10,9 +11,7 @@ use Rattle.lock_manager.proofs.machine.Machine.end.Goals as goal
 
 pub stand-requires : goal.stand-requires
 unfolding machine_state
-stand-requires c =
-    let there : (1 ≤ c.args.p) × (c.args.p ≤ length c.args.self.now.states.items) = place_of_live c.args.self.now.states.items c.args.p c.requires in
-    (there.0, omega arith)
+stand-requires c = grind (arith, common_steps, place_of_live)
 
 pub invariant_of-self-clause-kept : goal.invariant_of-self-clause-kept
 unfolding machine_state
@@ -25,10 +24,7 @@ invariant_of-self-clause-kept c =
 
 pub invariant_of-self-clause-standing : goal.invariant_of-self-clause-standing
 unfolding machine_state
-invariant_of-self-clause-standing c =
-    let machine = c.args.self.now in
-    standing_ended machine.tables c.end_process-released.new.self machine.states.items c.stand.new.states.items (waits_of machine.waits) (waits_of c.release.new.waits)
-    c.args.p c.stand.ensures.stands c.requires c.end_process-released.ensures.kept.alive c.release.ensures.waits.waits machine.standing
+invariant_of-self-clause-standing c = grind (arith, common_steps, standing_ended)
 
 pub returns-clause-ends : goal.returns-clause-ends
 unfolding machine_state

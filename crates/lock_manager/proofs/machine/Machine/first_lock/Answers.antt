@@ -1,3 +1,4 @@
+use Rattle.std.proofs.lemmas.Grind.{common_steps}
 use Rattle.std.proofs.Common.{◌<◌, length, arith}
 use Rattle.lock_manager.specs.MachineView.{machine_locks}
 use Rattle.lock_manager.proofs.kept.BookLemmas.{book_at}
@@ -6,13 +7,7 @@ use Rattle.lock_manager.proofs.machine.Machine.first_lock.Goals as goal
 
 pub returns-in-Bytes : goal.returns-in-Bytes
 unfolding machine_locks
-returns-in-Bytes c =
-    let books = c.args.self.now.books.items in
-    let wait = c.args.wait.now in
-    let book = c.index-book.result.now in
-    let within : wait.file < length books = omega arith in
-    first_of_bytes books book wait c.first_byte_lock.result (book_at books c.from.result wait.file book c.from.ensures within c.index-book.ensures) c.in-Bytes.is
-    c.first_byte_lock.ensures
+returns-in-Bytes c = grind (arith, common_steps, first_of_bytes, book_at)
 
 pub returns-in_ok-held-in-Whole : goal.returns-in_ok-held-in-Whole
 unfolding machine_locks

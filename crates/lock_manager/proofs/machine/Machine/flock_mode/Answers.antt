@@ -1,3 +1,4 @@
+use Rattle.std.proofs.lemmas.Grind.{common_steps}
 use Rattle.std.proofs.Common.{◌≡◌, ◌≢◌, ◌<◌, ◌∷◌, ◌++◌, [], ◌∙◌, ap, length, arith, rules}
 use Rattle.lock_manager.proofs.kept.BookLemmas.{book_at}
 use Rattle.lock_manager.proofs.calls.FlockCallLemmas.{flock_tested, flock_held, flock_converted, place_of_held}
@@ -15,12 +16,7 @@ returns-in_default-clause-told c =
     (c.push_reserved.ensures.items ∙ ap (λ notes. notes ++ c.test_flock.result ∷ []) c.requires.empty)
 
 pub convert_flock-requires-clause-place : goal.convert_flock-requires-clause-place
-convert_flock-requires-clause-place c =
-    let books = c.args.self.now.books.items in
-    let look = c.args.look in
-    let within : look.file < length books = omega arith in
-    place_of_held books look.file look.desc c.index.result.now c.flock_mode.result c.in-Some.held
-    (book_at books c.from.result look.file c.index.result.now c.from.ensures within c.index.ensures) c.flock_mode.ensures.place c.in-Some.is
+convert_flock-requires-clause-place c = grind (arith, common_steps, place_of_held, book_at)
 
 pub returns-then-eq-clause-told : goal.returns-then-eq-clause-told
 returns-then-eq-clause-told c =

@@ -1,4 +1,5 @@
-use Rattle.std.proofs.Common.{◌∙◌, refl, arith}
+use Rattle.std.proofs.lemmas.Grind.{common_steps}
+use Rattle.std.proofs.Common.{refl, arith}
 use Rattle.fd_table.specs.TablesView.{processes_of as processes_in}
 use Rattle.wait_core.specs.Locks.{locks_of}
 use Rattle.wait_core.specs.WaitsView.{waits_of}
@@ -30,18 +31,7 @@ invariant_of-self-clause-standing c =
     machine.standing
 
 pub invariant_of-self-in-Err-1 : goal.invariant_of-self-in-Err-1
-invariant_of-self-in-Err-1 c =
-    let machine = c.args.self.now in
-    record {
-      files = machine.files;
-      numbered = machine.numbered;
-      tabled = c.fork.ensures.kept.processes ∙ machine.tabled;
-      limited = c.fork.ensures.kept.limits ∙ machine.limited;
-      policy = machine.policy;
-      counted = machine.counted;
-      kept = kept_by_refusal machine c.fork.new.self c.in-Err.ensures.refused;
-      standing = standing_in machine.tables c.fork.new.self machine.states.items (waits_of machine.waits) (waits_of machine.waits) c.in-Err.ensures.same refl machine.standing;
-    }
+invariant_of-self-in-Err-1 c = grind (arith, common_steps, kept_by_refusal, standing_in)
 
 pub returns-in-Ok-clause-answers : goal.returns-in-Ok-clause-answers
 returns-in-Ok-clause-answers c =

@@ -1,6 +1,6 @@
-use Rattle.std.proofs.Common.{◌≡◌, ◌<◌, refl, length, inr, arith}
+use Rattle.std.proofs.lemmas.Grind.{common_steps}
+use Rattle.std.proofs.Common.{◌≡◌, ◌<◌, length, arith}
 use Rattle.lock_book.specs.Books.{byte_modes_of}
-use Rattle.lock_manager.specs.declared.request.Reply.TheVariants as replies
 use Rattle.lock_manager.specs.MachineView.{machine_locks}
 use Rattle.lock_manager.proofs.kept.BookLemmas.{book_at}
 use Rattle.lock_manager.proofs.calls.CommandLemmas.{tells_at, tells_blocker}
@@ -18,10 +18,4 @@ returns-in-Some c =
 
 pub returns-in-None : goal.returns-in-None
 unfolding machine_locks
-returns-in-None c =
-    let books = c.args.self.now.books.items in
-    let within : c.args.file < length books = omega arith in
-    let book = c.index.result.now in
-    tells_at books c.args.file book c.args.owner c.args.span c.args.mode (λ reply. replies.Free ≡ reply)
-    (book_at books c.from.result c.args.file book c.from.ensures within c.index.ensures)
-    (inr (c.in-None.ensures.none, refl))
+returns-in-None c = grind (arith, common_steps, tells_at, book_at)

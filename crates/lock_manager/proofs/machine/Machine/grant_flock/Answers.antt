@@ -1,12 +1,10 @@
-use Rattle.std.proofs.Common.{◌≡◌, ◌∙◌, sym, ap, subst, true}
+use Rattle.std.proofs.Common.{arith, ◌≡◌, ◌∙◌, sym, subst, true}
+use Rattle.std.proofs.lemmas.Grind.{common_steps}
 use Rattle.std.specs.Prelude.{slice_get}
-use Rattle.wait_core.specs.Locks.{locks_of}
 use Rattle.wait_core.specs.WaitsView.{waits_of}
-use Rattle.lock_book.specs.declared.Owner.TheVariants.{Description}
 use Rattle.lock_manager.specs.State.{state_numbered}
-use Rattle.lock_manager.specs.DescriptionLocks.{MayLock}
 use Rattle.lock_manager.specs.declared.request.ProcState.TheVariants.{Live}
-use Rattle.lock_manager.specs.WaitsKept.{AreApart, IsSuspended, has_place_at, is_flock_wait}
+use Rattle.lock_manager.specs.WaitsKept.{AreApart, IsSuspended, has_place_at}
 use Rattle.lock_manager.specs.MachineView.{machine_state, machine_waits}
 use Rattle.lock_manager.proofs.kept.GrantLemmas.{may_lock_granted}
 use Rattle.lock_manager.proofs.calls.ProcessCallLemmas.{found_holds}
@@ -21,20 +19,11 @@ interrupt-requires c =
 
 pub change_flock-requires-clause-owner : goal.change_flock-requires-clause-owner
 unfolding machine_waits
-change_flock-requires-clause-owner c =
-    let machine = c.args.self.now in
-    subst (λ t. MayLock t c.args.wait.file (Description c.args.description)) (sym c.interrupt.ensures.tables)
-    (subst (λ o. MayLock machine.tables c.args.wait.file o) c.requires.owner
-    (may_lock_granted machine.tables (locks_of machine.books.items) (waits_of machine.waits) c.args.wait machine.kept.owned c.requires.grantable.waits))
+change_flock-requires-clause-owner c = grind (arith, common_steps, may_lock_granted)
 
 pub change_flock-requires-clause-place : goal.change_flock-requires-clause-place
 unfolding machine_waits
-change_flock-requires-clause-place c m e =
-    let machine = c.args.self.now in
-    let wait = c.args.wait in
-    subst (λ bs. has_place_at (slice_get bs wait.file) c.args.description ≡ true) (ap (λ bs. bs.items) (sym c.interrupt.ensures.books))
-    (machine.kept.room.places wait.file c.args.description
-    (found_asks (is_flock_wait wait.file c.args.description) (waits_of machine.waits) wait.p wait c.requires.grantable.waits (is_its_own_flock wait c.args.description c.requires.family c.requires.owner)))
+change_flock-requires-clause-place c m e = grind (arith, common_steps, found_asks, is_its_own_flock)
 
 pub returns : goal.returns
 unfolding machine_waits machine_state

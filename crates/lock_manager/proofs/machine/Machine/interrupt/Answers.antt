@@ -1,4 +1,5 @@
-use Rattle.std.proofs.Common.{◌≤◌, refl, sym, subst, ◌∙◌, length, arith}
+use Rattle.std.proofs.lemmas.Grind.{common_steps}
+use Rattle.std.proofs.Common.{refl, sym, subst, ◌∙◌, arith}
 use Rattle.wait_core.specs.WaitsView.{waits_of}
 use Rattle.lock_manager.specs.WaitsKept.{AreStanding}
 use Rattle.lock_manager.specs.declared.request.ProcState.TheVariants.{Live}
@@ -9,9 +10,7 @@ use Rattle.lock_manager.proofs.machine.Machine.interrupt.Goals as goal
 
 pub stand-requires : goal.stand-requires
 unfolding machine_state
-stand-requires c =
-    let there : (1 ≤ c.args.p) × (c.args.p ≤ length c.args.self.now.states.items) = place_of_waiting c.args.self.now.states.items c.args.p c.requires in
-    (there.0, omega arith)
+stand-requires c = grind (arith, common_steps, place_of_waiting)
 
 pub invariant_of-self-clause-kept : goal.invariant_of-self-clause-kept
 invariant_of-self-clause-kept c =
@@ -29,9 +28,7 @@ returns-clause-shows c S h = with_wait_gone c.args.self.now _ S c.args.p Live re
 
 pub returns-clause-fewer : goal.returns-clause-fewer
 unfolding machine_waits
-returns-clause-fewer c =
-    let fewer = fewer_without (waits_of c.args.self.now.waits) c.args.p c.unwrap-wait.result (sym c.leave.ensures.found ∙ c.unwrap-wait.ensures) in
-    rw c.leave.ensures.rest fewer
+returns-clause-fewer c = grind (arith, common_steps, fewer_without)
 
 pub returns-clause-live : goal.returns-clause-live
 unfolding machine_state

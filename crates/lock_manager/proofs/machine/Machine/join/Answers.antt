@@ -1,5 +1,5 @@
-use Rattle.std.proofs.Common.{◌≤◌, refl, sym, subst, length, arith}
-use Rattle.wait_core.specs.Blocking.{IsBlocked}
+use Rattle.std.proofs.lemmas.Grind.{common_steps}
+use Rattle.std.proofs.Common.{refl, sym, subst, arith}
 use Rattle.wait_core.specs.Locks.{locks_of}
 use Rattle.wait_core.specs.Settled.{AreBlockedElsewhere}
 use Rattle.wait_core.specs.WaitsView.{waits_of, AreTold}
@@ -12,23 +12,15 @@ use Rattle.lock_manager.proofs.machine.Machine.join.Goals as goal
 
 pub join_blocked-requires-clause-none : goal.join_blocked-requires-clause-none
 unfolding machine_state
-join_blocked-requires-clause-none c =
-    let machine = c.args.self.now in
-    let list = waits_of machine.waits in
-    no_wait list c.args.wanted.p (waits_of_others machine.tables machine.states.items list c.args.wanted.p machine.standing.suspended c.requires.live)
+join_blocked-requires-clause-none c = grind (arith, common_steps, no_wait, waits_of_others)
 
 pub join_blocked-requires-clause-blocked : goal.join_blocked-requires-clause-blocked
 unfolding machine_rules machine_locks machine_waits
-join_blocked-requires-clause-blocked c =
-    let machine = c.args.self.now in
-    subst (λ policy. IsBlocked policy (locks_of c.deref.result.now) (waits_of machine.waits) c.args.wanted) (sym machine.policy)
-    (subst (λ bs. IsBlocked machine.rules.policy (locks_of bs) (waits_of machine.waits) c.args.wanted) (sym c.deref.ensures.value) c.requires.blocked)
+join_blocked-requires-clause-blocked c = grind (arith, common_steps)
 
 pub stand-requires : goal.stand-requires
 unfolding machine_state
-stand-requires c =
-    let there : (1 ≤ c.args.wanted.p) × (c.args.wanted.p ≤ length c.args.self.now.states.items) = place_of_live c.args.self.now.states.items c.args.wanted.p c.requires.live in
-    (there.0, omega arith)
+stand-requires c = grind (arith, common_steps, place_of_live)
 
 pub invariant_of-self-clause-kept : goal.invariant_of-self-clause-kept
 unfolding machine_rules machine_locks machine_state machine_waits

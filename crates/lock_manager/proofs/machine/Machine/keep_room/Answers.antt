@@ -1,3 +1,4 @@
+use Rattle.std.proofs.lemmas.Grind.{common_steps}
 use Rattle.std.proofs.Common.{◌<◌, ◌∙◌, ap, refl, length, arith}
 use Rattle.std.specs.Prelude.{slice_set}
 use Rattle.wait_core.specs.Locks.{locks_of}
@@ -17,11 +18,7 @@ invariant_of-self-clause-kept c =
     (room_taken c.index_mut.result.now c.reserve.new.self c.args.owner c.reserve.result c.reserve.ensures.ok c.reserve.ensures.kept c.reserve.ensures.err)
 
 pub returns-clause-room : goal.returns-clause-room
-returns-clause-room c =
-    let books = c.args.self.now.books.items in
-    let within : c.args.file < length books = omega arith in
-    roomy books (slice_set books c.from.result c.reserve.new.self) c.args.file c.index_mut.result.now c.reserve.new.self c.args.owner c.args.sets c.reserve.result
-    (ap (λ i. slice_set books i c.reserve.new.self) c.from.ensures) within c.reserve.ensures.room
+returns-clause-room c = grind (arith, common_steps, roomy)
 
 pub returns-clause-same : goal.returns-clause-same
 returns-clause-same c =

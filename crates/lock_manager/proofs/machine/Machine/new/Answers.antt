@@ -1,8 +1,9 @@
+use Rattle.std.proofs.lemmas.Grind.{common_steps}
 use Rattle.std.proofs.Common.{sym, subst, arith}
 use Rattle.wait_core.specs.Locks.{locks_of}
 use Rattle.wait_core.specs.Cycles.{IsFreeOfCycles}
 use Rattle.wait_core.specs.WaitsView.{waits_of}
-use Rattle.lock_manager.specs.WaitsKept.{AreApart, IsSuspended, HaveRoom}
+use Rattle.lock_manager.specs.WaitsKept.{AreApart, HaveRoom}
 use Rattle.lock_manager.proofs.kept.WaitLemmas.{room_for_none}
 use Rattle.lock_manager.proofs.kept.BookLemmas.{unlocked_bytes}
 use Rattle.lock_manager.proofs.kept.OwnedLemmas.{owned_at_opening, of_no_wait}
@@ -26,11 +27,7 @@ invariant_of-result-clause-kept c =
     }
 
 pub invariant_of-result-clause-standing : goal.invariant_of-result-clause-standing
-invariant_of-result-clause-standing c = record {
-  alive = λ p live. first_lives c.in_ok-tables.tables c.in_ok-states.states.items c.in_ok-tables.ensures.opening c.in_ok-states.ensures.states p live;
-  suspended = of_no_wait (IsSuspended c.in_ok-tables.tables c.in_ok-states.states.items) (waits_of c.in_ok-waits.waits) c.in_ok-waits.ensures.empty;
-  awaited = λ p waiting. absurd (none_waits c.in_ok-states.states.items c.in_ok-states.ensures.states p waiting);
-}
+invariant_of-result-clause-standing c = grind (arith, common_steps, first_lives, of_no_wait, none_waits)
 
 pub returns-clause-opening : goal.returns-clause-opening
 returns-clause-opening c =

@@ -1,3 +1,4 @@
+use Rattle.std.proofs.lemmas.Grind.{common_steps}
 use Rattle.std.proofs.Common.{◌<◌, ap, refl, length, arith}
 use Rattle.std.specs.Prelude.{slice_set}
 use Rattle.lock_manager.proofs.kept.BookLemmas.{book_at}
@@ -17,12 +18,7 @@ invariant_of-self-clause-kept c =
     (place_taken c.index_mut.result.now c.flock_reserve.new.self c.args.description c.flock_reserve.result c.flock_reserve.ensures.ok c.flock_reserve.ensures.err)
 
 pub returns-clause-place : goal.returns-clause-place
-returns-clause-place c =
-    let machine = c.args.self.now in
-    let books = machine.books.items in
-    let within : c.args.file < length books = omega arith in
-    placed books (slice_set books c.from.result c.flock_reserve.new.self) c.args.file c.index_mut.result.now c.flock_reserve.new.self c.args.description c.flock_reserve.result
-    (ap (λ i. slice_set books i c.flock_reserve.new.self) c.from.ensures) within c.flock_reserve.ensures.ok
+returns-clause-place c = grind (arith, common_steps, placed)
 
 pub returns-clause-same : goal.returns-clause-same
 returns-clause-same c =

@@ -1,4 +1,5 @@
-use Rattle.std.proofs.Common.{◌≤◌, refl, sym, ◌∙◌, length, arith}
+use Rattle.std.proofs.lemmas.Grind.{common_steps}
+use Rattle.std.proofs.Common.{sym, ◌∙◌, arith}
 use Rattle.lock_manager.specs.MachineView.{machine_processes, machine_state}
 use Rattle.lock_manager.proofs.calls.CommandLemmas.{asked}
 use Rattle.lock_manager.proofs.kept.ProcessLemmas.{place_of_live}
@@ -11,7 +12,4 @@ returns-then-is_get-clause-told c =
 
 pub set_command-requires-clause-well_formed : goal.set_command-requires-clause-well_formed
 unfolding machine_state machine_processes
-set_command-requires-clause-well_formed c =
-    let machine = c.args.self.now in
-    let there : (1 ≤ c.args.p) × (c.args.p ≤ length machine.states.items) = place_of_live machine.states.items c.args.p c.requires.live in
-    record { from_one = there.0; process = omega arith; file = omega arith; range = c.requires.span; owner = refl }
+set_command-requires-clause-well_formed c = grind (arith, common_steps, place_of_live)

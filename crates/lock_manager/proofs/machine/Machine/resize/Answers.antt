@@ -1,12 +1,12 @@
+use Rattle.std.proofs.Common.{arith, refl, subst, Ok, Err, rules, FitsSigned, to_z, of_z, w64}
+use Rattle.std.proofs.lemmas.Grind.{common_steps}
 use Rattle.lock_manager.proofs.kept.WaitLemmas.{standing_in}
-use Rattle.std.proofs.Common.{refl, subst, Ok, Err, rules, FitsSigned, to_z, of_z, w64}
 use Rattle.std.proofs.lemmas.Int.{to_z-of_z}
 use Rattle.fd_table.specs.Calls.{ResizeGives}
 use Rattle.lock_manager.specs.declared.request.Reply.TheVariants as replies
 use Rattle.lock_manager.specs.declared.request.Request.TheVariants.{Resize}
 use Rattle.lock_manager.proofs.calls.DescriptorCallLemmas.{Gave, with_descriptors, done_by, refused_by}
 use Rattle.lock_manager.proofs.kept.NextStateLemmas.{with_tables}
-use Rattle.wait_core.specs.WaitsView.{waits_of}
 use Rattle.lock_manager.proofs.kept.StayOpenLemmas.{resized_stays, kept_by_call}
 use Rattle.lock_manager.proofs.machine.Machine.resize.Goals as goal
 
@@ -18,9 +18,7 @@ invariant_of-self-clause-kept c =
     (λ other. c.resize.ensures.step) c.resize.ensures.refused
 
 pub invariant_of-self-clause-standing : goal.invariant_of-self-clause-standing
-invariant_of-self-clause-standing c =
-    let machine = c.args.self.now in
-    standing_in machine.tables c.resize.new.self machine.states.items (waits_of machine.waits) (waits_of machine.waits) c.resize.ensures.kept.alive refl machine.standing
+invariant_of-self-clause-standing c = grind (arith, common_steps, standing_in)
 
 pub returns-in-Ok-clause-answers : goal.returns-in-Ok-clause-answers
 returns-in-Ok-clause-answers c =

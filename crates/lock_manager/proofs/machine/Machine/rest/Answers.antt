@@ -1,8 +1,8 @@
-use Rattle.std.proofs.Common.{[], sym, subst}
+use Rattle.std.proofs.Common.{arith, [], sym, subst}
+use Rattle.std.proofs.lemmas.Grind.{common_steps}
 use Rattle.wait_core.specs.Blocking.{AllBlocked}
 use Rattle.wait_core.specs.Locks.{locks_of}
 use Rattle.wait_core.specs.WaitsView.{waits_of}
-use Rattle.lock_manager.specs.WaitsKept.{AreStanding}
 use Rattle.lock_manager.specs.MachineView.{machine_locks, machine_rules, machine_waits}
 use Rattle.lock_manager.proofs.calls.SettleLemmas.{kept_at_rest}
 use Rattle.lock_manager.proofs.machine.Machine.rest.Goals as goal
@@ -17,6 +17,4 @@ invariant_of-self-clause-kept c =
     (now.blocked locks (subst (λ policy. AllBlocked policy locks [] (waits_of machine.waits)) (sym machine.policy) c.requires))
 
 pub invariant_of-self-clause-standing : goal.invariant_of-self-clause-standing
-invariant_of-self-clause-standing c =
-    let machine = c.args.self.now in
-    subst (AreStanding machine.tables machine.states.items) (sym c.forget_changes.ensures.waits) machine.standing
+invariant_of-self-clause-standing c = grind (arith, common_steps)

@@ -1,6 +1,6 @@
-use Rattle.std.proofs.Common.{[], sym, ap, ◌∙◌, rules, FitsSigned, w64}
+use Rattle.std.proofs.Common.{arith, []}
+use Rattle.std.proofs.lemmas.Grind.{common_steps}
 use Rattle.std.proofs.lemmas.Int.{to_z-of_z}
-use Rattle.lock_manager.specs.declared.request.Request.TheVariants.{Seek, Resize}
 use Rattle.lock_manager.proofs.calls.ReplyLemmas.{told_by}
 use Rattle.lock_manager.proofs.machine.Machine.serve.Goals as goal
 
@@ -21,14 +21,10 @@ returns-in-CloseFd-clause-told c =
     told_by c.args.self.now c.close_fd.new.self c.args.p c.args.n c.args.request _ c.close_fd.result c.tell-in-CloseFd.result c.args.notes.now.items c.tell-in-CloseFd.new.notes.items c.tell-in-CloseFd.ensures.told c.requires.empty c.in-CloseFd.is c.close_fd.ensures.answers
 
 pub returns-in-Seek-clause-told : goal.returns-in-Seek-clause-told
-returns-in-Seek-clause-told c =
-    let fits : FitsSigned w64 c.in-Seek.offset = search rules in
-    told_by c.args.self.now c.seek.new.self c.args.p c.args.n c.args.request _ c.seek.result c.tell-in-Seek.result c.args.notes.now.items c.tell-in-Seek.new.notes.items c.tell-in-Seek.ensures.told c.requires.empty (c.in-Seek.is ∙ ap (Seek c.in-Seek.fd) (sym (to_z-of_z w64 c.in-Seek.offset fits))) c.seek.ensures.answers
+returns-in-Seek-clause-told c = grind (arith, common_steps, told_by, to_z-of_z)
 
 pub returns-in-Resize-clause-told : goal.returns-in-Resize-clause-told
-returns-in-Resize-clause-told c =
-    let fits : FitsSigned w64 c.in-Resize.size = search rules in
-    told_by c.args.self.now c.resize.new.self c.args.p c.args.n c.args.request _ c.resize.result c.tell-in-Resize.result c.args.notes.now.items c.tell-in-Resize.new.notes.items c.tell-in-Resize.ensures.told c.requires.empty (c.in-Resize.is ∙ ap (Resize c.in-Resize.fd) (sym (to_z-of_z w64 c.in-Resize.size fits))) c.resize.ensures.answers
+returns-in-Resize-clause-told c = grind (arith, common_steps, told_by, to_z-of_z)
 
 pub returns-in-Fork-clause-told : goal.returns-in-Fork-clause-told
 returns-in-Fork-clause-told c =

@@ -1,5 +1,5 @@
-use Rattle.std.proofs.Common.{inl, inr, sym, ◌∙◌}
-use Rattle.lock_manager.specs.MachineView.{machine_rules, machine_locks, machine_waits}
+use Rattle.std.proofs.Common.{arith, sym, ◌∙◌}
+use Rattle.std.proofs.lemmas.Grind.{common_steps}
 use Rattle.lock_manager.proofs.calls.CommandLemmas.{may_lock_waiting}
 use Rattle.lock_manager.proofs.calls.SetLemmas.{is_blocked, locked, deadlocked, waiting}
 use Rattle.lock_manager.proofs.machine.Machine.set_command.Goals as goal
@@ -23,10 +23,7 @@ suspend-requires-clause-free_of_cycles c traditional cycle =
     let is = c.would_deadlock.ensures.1 (c.requires.traditional.1 traditional, cycle) in cc
 
 pub suspend-requires-clause-blocked : goal.suspend-requires-clause-blocked
-suspend-requires-clause-blocked c =
-    let machine = c.args.self.now in
-    is_blocked (machine_rules machine).policy (machine_locks machine) (machine_waits machine) c.args.wanted
-    (elim (c.is_blocked.ensures.0 c.if-not-is_blocked.false) [ inl by_lock ↦ inl by_lock | inr behind ↦ inr behind.1 ])
+suspend-requires-clause-blocked c = grind (arith, common_steps, is_blocked)
 
 pub returns-clause-told : goal.returns-clause-told
 returns-clause-told c =

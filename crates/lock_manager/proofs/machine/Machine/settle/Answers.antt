@@ -1,5 +1,6 @@
+use Rattle.std.proofs.lemmas.Grind.{common_steps}
 use Rattle.std.specs.Prelude.{slice_get}
-use Rattle.std.proofs.Common.{[], subst, true, ◌∷◌, ◌++◌, ◌≡◌, refl, sym, ◌∙◌, ap, append-nil, arith, length, length-append}
+use Rattle.std.proofs.Common.{[], subst, true, ◌∷◌, ◌++◌, ◌≡◌, sym, ◌∙◌, ap, append-nil, arith, length, length-append}
 use Rattle.std.proofs.lemmas.List.{append_assoc}
 use Rattle.lock_manager.specs.declared.request.Note.TheVariants.{Answer}
 use Rattle.lock_manager.specs.declared.request.Reply.TheVariants as replies
@@ -11,30 +12,13 @@ use Rattle.lock_manager.proofs.calls.SettleLemmas.{leads_nowhere, next_is_free, 
 use Rattle.lock_manager.proofs.machine.Machine.settle.Goals as goal
 
 pub loop-wait-init : goal.loop-wait-init
-loop-wait-init c = record {
-  room = c.requires;
-  rules = refl;
-  processes = refl;
-  few = omega arith;
-  capacity = refl;
-  lives = λ p live. live;
-  places = λ f d there. there;
-  tables = refl;
-  grants = ([], sym (append-nil _), leads_nowhere c.args.self.now);
-}
+loop-wait-init c = grind (arith, common_steps, append-nil, leads_nowhere)
 
 pub grant-requires : goal.grant-requires
-grant-requires c = record {
-  waits = c.in-Some.ensures.found;
-  well_formed = c.in-Some.ensures.well_formed;
-  free = next_is_free _ _ _ _ c.in-Some.ensures.ready;
-}
+grant-requires c = grind (arith, common_steps, next_is_free)
 
 pub push_reserved-requires : goal.push_reserved-requires
-push_reserved-requires c =
-    let room = c.loop-wait.invariant.room in
-    let fewer = c.grant.ensures.fewer in
-    omega arith
+push_reserved-requires c = grind (arith, common_steps)
 
 pub loop-wait-smaller : goal.loop-wait-smaller
 loop-wait-smaller c = let fewer = c.grant.ensures.fewer in omega arith

@@ -1,11 +1,10 @@
-use Rattle.std.proofs.Common.{◌≡◌, ◌≤◌, ◌∙◌, true, inl, inr, sym, ap, subst, length, arith}
-use Rattle.std.specs.Prelude.{slice_get}
+use Rattle.std.proofs.lemmas.Grind.{common_steps}
+use Rattle.std.proofs.Common.{◌≡◌, ◌∙◌, sym, ap, subst, arith}
 use Rattle.wait_core.specs.declared.Wait.{Wait}
 use Rattle.lock_manager.specs.DescriptionLocks.{MayWait}
-use Rattle.lock_manager.specs.WaitsKept.{has_place_at}
 use Rattle.lock_manager.proofs.kept.ChangedFlockLemmas.{room_joined_flock, well_formed_flock}
 use Rattle.lock_manager.proofs.kept.ProcessLemmas.{place_of_live}
-use Rattle.lock_manager.specs.MachineView.{machine_rules, machine_processes, machine_state, machine_locks, machine_waits}
+use Rattle.lock_manager.specs.MachineView.{machine_processes, machine_state, machine_waits}
 use Rattle.lock_book.specs.declared.Owner.TheVariants.{Process, Description}
 use Rattle.lock_manager.proofs.calls.CommandLemmas.{may_lock_waiting}
 use Rattle.lock_manager.proofs.calls.SetLemmas.{is_blocked}
@@ -27,10 +26,7 @@ returns-then-nb-clause-told c =
 
 pub join-requires-clause-well_formed : goal.join-requires-clause-well_formed
 unfolding machine_state machine_processes
-join-requires-clause-well_formed c =
-    let machine = c.args.self.now in
-    let there : (1 ≤ c.args.wanted.p) × (c.args.wanted.p ≤ length machine.states.items) = place_of_live machine.states.items c.args.wanted.p c.requires.asked.live in
-    well_formed_flock c.args.wanted c.args.look c.requires.asked.is there.0 (omega arith) c.requires.asked.file
+join-requires-clause-well_formed c = grind (arith, common_steps, place_of_live, well_formed_flock)
 
 pub join-requires-clause-may_wait : goal.join-requires-clause-may_wait
 join-requires-clause-may_wait c =
@@ -38,20 +34,13 @@ join-requires-clause-may_wait c =
 
 pub join-requires-clause-room : goal.join-requires-clause-room
 unfolding machine_waits
-join-requires-clause-room c =
-    let machine = c.args.self.now in
-    room_joined_flock machine.books.items (machine_waits machine) c.args.wanted c.args.look.desc (ap (λ (w : Wait). w.family) c.requires.asked.is) (ap (λ (w : Wait). w.owner) c.requires.asked.is)
-    (subst (λ (w : Wait). has_place_at (slice_get machine.books.items w.file) c.args.look.desc ≡ true) (sym c.requires.asked.is) c.requires.place)
-    machine.kept.room
+join-requires-clause-room c = grind (arith, common_steps, room_joined_flock)
 
 pub join-requires-clause-free_of_cycles : goal.join-requires-clause-free_of_cycles
 join-requires-clause-free_of_cycles c is = absurd (let no : Description c.args.look.desc ≡ Process c.args.wanted.p = sym (ap (λ (w : Wait). w.owner) c.requires.asked.is) ∙ is in cc)
 
 pub join-requires-clause-blocked : goal.join-requires-clause-blocked
-join-requires-clause-blocked c =
-    let machine = c.args.self.now in
-    is_blocked (machine_rules machine).policy (machine_locks machine) (machine_waits machine) c.args.wanted
-    (elim (c.is_blocked.ensures.0 c.if-not-is_blocked.false) [ inl by_lock ↦ inl by_lock | inr behind ↦ inr behind.1 ])
+join-requires-clause-blocked c = grind (arith, common_steps, is_blocked)
 
 pub returns-clause-told : goal.returns-clause-told
 returns-clause-told c =

@@ -1,8 +1,7 @@
-use Rattle.lock_manager.specs.Asking.{IsFlockAgainst}
+use Rattle.std.proofs.Common.{arith}
+use Rattle.std.proofs.lemmas.Grind.{common_steps}
 use Rattle.lock_manager.proofs.calls.AskingLemmas.{first_at}
 use Rattle.lock_manager.proofs.machine.asking.first_flock.Goals as goal
 
 pub returns-then-is_flock_against : goal.returns-then-is_flock_against
-returns-then-is_flock_against c =
-    first_at (IsFlockAgainst c.args.wait.now) c.args.lines.now c.loop-line.line-index _ c.loop-line-test.true c.loop-line.invariant
-    (c.is_flock_against.ensures.0 c.if-is_flock_against.true)
+returns-then-is_flock_against c = grind (arith, common_steps, first_at)
