@@ -1,9 +1,10 @@
 -- The steps by which a client collects keep the rule.
+use Rattle.std.proofs.lemmas.Grind.{common_steps}
 use Rattle.std.proofs.lemmas.List.{set-get_or}
 use Rattle.std.proofs.lemmas.Bool.{eqb-true}
-use Rattle.std.proofs.Common.{◌≡◌, ◌⊎◌, ⊎_elim, inl, inr, ℕ, ◌+◌, ◌<◌, ◌≤◌, Bool, true, false, true≢false, eq-eqb, List, [], ◌∷◌, ◌++◌, length, get_or, set, refl, sym, ap, ◌∙◌, subst, arith, length-append, append_assoc}
+use Rattle.std.proofs.Common.{◌≡◌, ◌⊎◌, ⊎_elim, ℕ, ◌+◌, ◌<◌, ◌≤◌, Bool, true, false, eq-eqb, List, [], ◌∷◌, ◌++◌, length, get_or, set, refl, sym, ap, ◌∙◌, subst, arith, length-append, append_assoc}
 use Rattle.std.specs.Prelude.{◌||◌, ◌&&◌, ◌==◌}
-use mathlib.Core.Option.{some, some-injective}
+use mathlib.Core.Option.{some}
 use lib.ListN.{get_elem?}
 use Rattle.atomic_table.specs.Table.{State, Step, keeps, Allows}
 use Rattle.atomic_table.proofs.Lists.{at_longer}
@@ -20,7 +21,7 @@ use Rattle.call_table.specs.declared.desk_view.DeskView.{DeskView}
 use Rattle.call_table.specs.Spelling.{answer_spelled, ReplyFits}
 use Rattle.call_table.specs.Places.{Place, answered, index_of, IsProcess, word_at}
 use Rattle.call_table.specs.Views.{tally_at}
-use Rattle.call_table.specs.Rule.{CellHas, BeginsAnswer, answer_cell, ClosingAgrees, Agrees, mark_of, Kept}
+use Rattle.call_table.specs.Rule.{answer_cell, ClosingAgrees, Agrees, mark_of, Kept}
 use Rattle.call_table.specs.Steps.{Seated, HasClient, client_found, client_read, client_collected, client_marked, IsSeen, Finds, Gets, Collects, Marks}
 use Rattle.call_table.proofs.Pushing.{some_at, prefix_more, prefix_all}
 use Rattle.call_table.proofs.Frames.{answer_six, requests_same, answers_same, answers_found, closing_same}
@@ -62,9 +63,7 @@ answers_front p place (x ∷ xs) rest =
     )
 
 pub drained_by : (a b e : Bool) → (a || (b && e)) ≡ true → (a ≡ true) ⊎ ((b ≡ true) × (e ≡ true))
-drained_by true b e h = inl refl
-drained_by false true e h = inr (refl, h)
-drained_by false false e h = absurd (true≢false (sym h))
+drained_by a b e h = grind (arith, common_steps)
 
 -- a client that found the desk closed, and then all answers collected, is drained
 pub closing_found : {p : ℕ} {journal seen : List Event} {published found looks : ℕ} {closed : Bool} {c : ClientView}
@@ -86,13 +85,7 @@ closing_found {found = found} {c = c} is e =
 -- the number of published answers, at the client
 finds_agree : (depth p : ℕ) (at : Place → ℕ) (d : DeskView) (c : ClientView) (found : ℕ) → found ≡ at (answered p)
     → Agrees depth p at d c → Agrees depth p at d (client_found c d.journal found)
-finds_agree depth p at d c found is g =
-    let published : found ≡ (tally_at d.tallies p).published = is ∙ g.answers.answered_word in
-    record {
-      requests = requests_same g.requests;
-      answers = answers_found published g.answers;
-      closing = closing_found published g.closing;
-    }
+finds_agree depth p at d c found is g = grind (arith, common_steps, requests_same, answers_found, closing_found)
 
 pub may_find : (setup : Setup) (slots id : ℕ) (me : Seated) (c : ClientView) (word : ℕ) (told : Step (Unit {0})) → HasClient c me
     → word ≡ index_of setup.processes setup.depth (answered c.process)
@@ -168,40 +161,12 @@ next_word depth p at d c more few g =
 gets_agree : (depth p : ℕ) (at : Place → ℕ) (d : DeskView) (c : ClientView) (a : ℕ × Reply × ℕ) (found : ℕ) → c.collected < c.known
     → get_elem? (answers_to p d.journal) c.collected ≡ some a
     → IsPrefixOf (c.read ++ found ∷ []) (answer_spelled a.1 a.2) → Agrees depth p at d c → Agrees depth p at d (client_read c found)
-gets_agree depth p at d c a found more there begins g =
-    let words : List ℕ = c.read ++ found ∷ [] in
-    let reads : BeginsAnswer words (answers_to p d.journal) c.collected =
-    λ b e. subst (λ (y : ℕ × Reply × ℕ). IsPrefixOf words (answer_spelled y.1 y.2)) (some-injective a b (sym there ∙ e)) begins in
-    let reads_known : 0 < length words → c.collected < c.known = λ _. more in
-    record {
-      requests = requests_same g.requests;
-      answers = assumption (g.answers, reads, reads_known);
-      closing = closing_same g.closing;
-    }
+gets_agree depth p at d c a found more there begins g = grind (arith, common_steps, requests_same, closing_same)
 
 -- the last word of the next answer
 collects_agree : (depth p : ℕ) (at : Place → ℕ) (d : DeskView) (c : ClientView) → c.collected < c.known → Agrees depth p at d c
     → Agrees depth p at d (client_collected c)
-collects_agree depth p at d c more g =
-    let q = g.requests in let t = g.answers in
-    let answers : List (ℕ × Reply × ℕ) = answers_to p d.journal in
-    let published : ℕ = (tally_at d.tallies p).published in
-    let room : length c.posted ≤ (c.collected + 1) + depth = omega (arith, q.room) in
-    let collected_most : c.collected + 1 ≤ c.known = omega arith in
-    let cells : (before : ℕ) (a : ℕ × Reply × ℕ) → c.collected + 1 ≤ before → before < published → get_elem? answers before ≡ some a
-    → CellHas at (answer_cell depth p before) (answer_spelled a.1 a.2) = λ before a h. t.cells before a (omega arith) in
-    let reads : BeginsAnswer [] answers (c.collected + 1) = λ b e. (answer_spelled b.1 b.2, refl) in
-    let reads_known : 0 < 0 → c.collected + 1 < c.known = λ h. absurd (omega arith) in
-    record {
-      requests = assumption (q, room);
-      answers = assumption (t, collected_most, cells, reads, reads_known);
-      closing = record {
-        all_published = g.closing.all_published;
-        over_closed = g.closing.over_closed;
-        drained_over = g.closing.drained_over;
-        drained_all = λ h. let all = g.closing.drained_all h in absurd (omega arith);
-      };
-    }
+collects_agree depth p at d c more g = grind (arith, common_steps)
 
 pub may_get : (setup : Setup) (slots id : ℕ) (me : Seated) (c : ClientView) (word : ℕ) (told : Step (Unit {0})) → HasClient c me
     → c.collected < c.known → length c.read < 6
@@ -258,17 +223,7 @@ may_collect setup slots id me c word told is more five where_is =
 -- the closing mark, at the client
 marks_agree : (depth p : ℕ) (at : Place → ℕ) (d : DeskView) (c : ClientView) (found : ℕ) → (found ≡ 1 → d.closed ≡ true)
     → (d.closed ≡ true → found ≡ 1) → Agrees depth p at d c → Agrees depth p at d (client_marked c found)
-marks_agree depth p at d c found one closed g =
-    record {
-      requests = requests_same g.requests;
-      answers = answers_same g.answers;
-      closing = record {
-        all_published = g.closing.all_published;
-        over_closed = λ h. one (eqb-true found 1 h);
-        drained_over = λ h. eq-eqb found 1 (closed (g.closing.over_closed (g.closing.drained_over h)));
-        drained_all = g.closing.drained_all;
-      };
-    }
+marks_agree depth p at d c found one closed g = grind (arith, common_steps, requests_same, answers_same, eqb-true, eq-eqb)
 
 mark_is : (b : Bool) → mark_of b ≡ 1 → b ≡ true
 mark_is true h = refl

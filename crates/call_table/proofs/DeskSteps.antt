@@ -1,9 +1,10 @@
 -- The steps by which the desk looks and reads keep the rule.
+use Rattle.std.proofs.lemmas.Grind.{common_steps}
 use Rattle.std.proofs.lemmas.List.{set-get_or}
-use Rattle.std.proofs.Common.{◌≡◌, ℕ, ◌+◌, ◌<◌, ◌≤◌, List, [], ◌∷◌, ◌++◌, length, get_or, set, refl, sym, ap, ◌∙◌, subst, arith}
+use Rattle.std.proofs.Common.{◌≡◌, ℕ, ◌<◌, ◌≤◌, List, [], ◌∷◌, ◌++◌, length, get_or, set, refl, sym, ap, ◌∙◌, subst, arith}
 use native.Mathlib.Decide.{ℕ_discrete}
 use mathlib.Core.Logic.{dite}
-use mathlib.Core.Option.{some, none, some-injective}
+use mathlib.Core.Option.{some, none}
 use lib.ListN.{get_elem?}
 use Rattle.atomic_table.specs.Table.{State, Step, step, keeps, Allows}
 use Rattle.lock_manager.specs.declared.request.Request.{Request}
@@ -16,7 +17,7 @@ use Rattle.call_table.specs.declared.desk_view.DeskView.{DeskView}
 use Rattle.call_table.specs.declared.tally.Tally.{Tally}
 use Rattle.call_table.specs.Spelling.{request_spelled, RequestFits}
 use Rattle.call_table.specs.Places.{Place, posted, index_of, IsProcess, word_at}
-use Rattle.call_table.specs.Views.{desk_of, tally_at, with_tally}
+use Rattle.call_table.specs.Views.{desk_of, tally_at}
 use Rattle.call_table.specs.Rule.{CellHas, BeginsRequest, request_cell, RequestsAgree, AnswersAgree, ClosingAgrees, Agrees, Kept}
 use Rattle.call_table.specs.Steps.{Seated, HasDesk, desk_looked, desk_read, Looks, Reads}
 use Rattle.call_table.proofs.Pushing.{some_at, prefix_more, tally_here, tally_else}
@@ -46,23 +47,7 @@ desk_is d u e = ap (λ (m : Seated). desk_of m.0) e
 -- a look: the number of posted requests of process p, at the client that posted them
 looks_agree : (depth p : ℕ) (at : Place → ℕ) (d : DeskView) (c : ClientView) (found : ℕ) → found ≡ at (posted p)
     → Agrees depth p at d c → Agrees depth p at (desk_looked d p found) c
-looks_agree depth p at d c found is g =
-    let q = g.requests in
-    let old : Tally = tally_at d.tallies p in
-    let t : Tally = record old { looked = found; probes = old.probes + 1 } in
-    let now : tally_at (with_tally d.tallies p t) p ≡ t = tally_here d.tallies p t in
-    let requests : List Request = requests_taken p d.journal in
-    let all : found ≡ length c.posted = is ∙ q.posted_word in
-    let least : length requests ≤ found = omega (arith, all, q.looked_least, q.looked_most) in
-    let most : found ≤ length c.posted = omega (arith, all) in
-    let reads : p ≡ p → BeginsRequest [] c.posted (length requests) = λ _ r _. (request_spelled r, refl) in
-    let reads_some : p ≡ p → 0 < 0 → length requests < found = λ _ h. absurd (omega arith) in
-    record {
-      requests = subst (λ (u : Tally). RequestsAgree depth p at requests u.looked (p, []) c) (sym now)
-          (assumption (q, least, most, reads, reads_some));
-      answers = subst (λ (u : Tally). AnswersAgree depth p at d.journal u.published d.filling c) (sym now) g.answers;
-      closing = subst (λ (u : Tally). ClosingAgrees p d.journal u.published d.closed c) (sym now) g.closing;
-    }
+looks_agree depth p at d c found is g = grind (arith, common_steps, tally_here)
 
 pub may_look : (setup : Setup) (slots id : ℕ) (me : Seated) (d : DeskView) (word : ℕ)
     → IsProcess setup.processes word → HasDesk d me
@@ -113,17 +98,7 @@ reads_agree : (depth p : ℕ) → 1 ≤ p → (at : Place → ℕ) (d : DeskView
     → IsPrefixOf (d.reading.1 ++ found ∷ []) (request_spelled r)
     → length (requests_taken p d.journal) < (tally_at d.tallies p).looked
     → Agrees depth p at d c → Agrees depth p at (desk_read d found) c
-reads_agree depth p l at d c r found mine next begins some_left g =
-    let requests : List Request = requests_taken p d.journal in
-    let words : List ℕ = d.reading.1 ++ found ∷ [] in
-    let reads : d.reading.0 ≡ p → BeginsRequest words c.posted (length requests) =
-    λ _ x e. subst (λ (y : Request). IsPrefixOf words (request_spelled y)) (some-injective r x (sym next ∙ e)) begins in
-    let reads_some : d.reading.0 ≡ p → 0 < length words → length requests < (tally_at d.tallies p).looked = λ _ _. some_left in
-    record {
-      requests = assumption (g.requests, reads, reads_some);
-      answers = g.answers;
-      closing = g.closing;
-    }
+reads_agree depth p l at d c r found mine next begins some_left g = grind (arith, common_steps)
 
 -- the next untaken request of a process of which more was seen than taken, and its word that is next to be read
 next_word : (depth p : ℕ) (at : Place → ℕ) (d : DeskView) (c : ClientView) → d.reading.0 ≡ p

@@ -1,10 +1,10 @@
 -- What a client knows once it has collected.
+use Rattle.std.proofs.lemmas.Grind.{common_steps}
 use Rattle.std.proofs.lemmas.List.{take_more_set, take_all, length-take-le}
 use Rattle.std.proofs.Common.{◌≡◌, ℕ, ◌+◌, ◌<◌, ◌≤◌, true, List, [], ◌∷◌, ◌++◌, length, take, set, sym, ap, ◌∙◌, subst, arith, length-set}
 use mathlib.Core.Option.{some}
 use lib.ListN.{get_elem?}
 use Rattle.lock_manager.specs.declared.request.Reply.{Reply}
-use Rattle.lock_manager.specs.declared.request.Request.{Request}
 use Rattle.session_core.specs.Mail.{answers_to}
 use Rattle.atomic_table.specs.Table.{Step, Allows}
 use Rattle.call_table.specs.declared.setup.Setup.{Setup}
@@ -26,23 +26,8 @@ pub sits_as : (setup : Setup) (me after : Seated) (process posted collected now 
     → SitsAs me setup process posted collected → HasClient c after
     → c.process ≡ (client_of me.0).process → c.posted ≡ (client_of me.0).posted → c.collected ≡ now → c.filled ≡ [] → c.read ≡ []
     → collected ≤ now → now ≤ posted → SitsAs after setup process posted now
-sits_as setup me after process posted collected now c sits is process_same posted_same collected_is
-    filled_none read_none more most =
-    let same : client_of after.0 ≡ c = view_is c after is in
-    let room = sits.room in
-    record {
-      is = is ∙ ap (λ (v : ClientView). (Client v, [])) (sym same);
-      process_is = ap (λ (v : ClientView). v.process) same ∙ process_same ∙ sits.process_is;
-      posted_is = ap (λ (v : ClientView). length v.posted) same ∙ ap (λ (v : List Request). length v) posted_same ∙ sits.posted_is;
-      collected_is = ap (λ (v : ClientView). v.collected) same ∙ collected_is;
-      filled_none = ap (λ (v : ClientView). v.filled) same ∙ filled_none;
-      read_none = ap (λ (v : ClientView). v.read) same ∙ read_none;
-      sized = sits.sized;
-      is_process = sits.is_process;
-      collected_most = most;
-      room = omega arith;
-      few = sits.few;
-    }
+sits_as setup me after process posted collected now c sits is process_same posted_same collected_is filled_none read_none more most =
+    grind (arith, common_steps, view_is)
 
 -- the word i of the next answer may be loaded, after those before it
 pub may_get_next : (setup key : Setup) (slots id : ℕ) (me : Seated) (c : ClientView) (words : List ℕ) (p before i word : ℕ)
@@ -98,37 +83,11 @@ FoundSo c found after =
 
 pub is_nothing : (c : ClientView) (after : Seated) (found collected : ℕ) → FoundSo c found after → c.collected ≡ collected
     → found ≡ collected → IsNothing c (client_of after.0)
-is_nothing c after found collected told is none =
-    let same : found ≡ c.collected = none ∙ sym is in
-    record {
-      journal = told.0;
-      view = view_is (client_found c told.0 found) after told.1 ∙ ap (client_found c told.0) same;
-      seen = told.2;
-      grows = subst (λ (v : ClientView). c.known ≤ v.known) (sym (view_is (client_found c told.0 found) after told.1)) told.3;
-      all = λ over. sym same ∙ told.5 over;
-    }
+is_nothing c after found collected told is none = grind (arith, common_steps, view_is)
 
 pub is_collected : (c : ClientView) (mid after : Seated) (found collected : ℕ) (words : List ℕ) (reply : Reply) (place : ℕ)
     → FoundSo c found mid → c.collected ≡ collected
     → HasClient (client_collected (client_of mid.0)) after → IsNextAnswer (client_of mid.0) words
     → ((r : Reply) (p : ℕ) → ReplyFits r → words ≡ answer_spelled r p → (reply ≡ r) × (place ≡ p))
     → IsCollected c (client_of after.0) (collected + 1, reply, place)
-is_collected c mid after found collected words reply place told is now next reads =
-    let was : client_of mid.0 ≡ client_found c told.0 found = view_is (client_found c told.0 found) mid told.1 in
-    let then : client_of after.0 ≡ client_collected (client_found c told.0 found) =
-    view_is (client_collected (client_of mid.0)) after now ∙ ap client_collected was in
-    let there : IsNextAnswer (client_found c told.0 found) words = subst (λ (v : ClientView). IsNextAnswer v words) was next in
-    let a : ℕ × Reply × ℕ = there.0 in
-    let read = reads a.1 a.2 there.2 there.3 in
-    let number : a.0 ≡ c.collected + 1 = number_at c.process told.0 told.2.in_turn c.collected a there.1 in
-    let same : ◌≡◌ {A = ℕ × Reply × ℕ} a (collected + 1, reply, place) =
-    λ i. ((number ∙ ap (λ (n : ℕ). n + 1) is) i, sym read.0 i, sym read.1 i) in
-    record {
-      journal = told.0;
-      found = found;
-      view = then;
-      seen = told.2;
-      grows = subst (λ (v : ClientView). c.known ≤ v.known) (sym then) told.3;
-      number = sym (ap (λ (v : ClientView). v.collected) then ∙ ap (λ (n : ℕ). n + 1) is);
-      is_next = there.1 ∙ ap (λ (b : ℕ × Reply × ℕ). some b) same;
-    }
+is_collected c mid after found collected words reply place told is now next reads = grind (arith, common_steps, view_is, number_at)

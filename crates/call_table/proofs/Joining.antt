@@ -1,7 +1,7 @@
 -- The opening, and the steps by which seats are split and joined, keep the rule.
+use Rattle.std.proofs.lemmas.Grind.{common_steps, merely}
 use Rattle.std.proofs.Common.{◌≡◌, ◌≢◌, ⊎_elim, ℕ, zero, suc, ◌+◌, ◌*◌, ◌<◌, ◌≤◌, Bool, true, true≢false, eqb, cond, eq-eqb, ne_eqb, List, [], ◌∷◌, length, get_or, set, refl, sym, ap, ◌∙◌, subst, arith, length-set}
 use Rattle.std.specs.Prelude.{replicate}
-use Rattle.std.proofs.lemmas.Grind.{merely}
 use native.Mathlib.Decide.{ℕ_discrete}
 use mathlib.Core.Logic.{dite}
 use mathlib.Core.Option.{some, some-injective, some-ne-none}
@@ -10,7 +10,6 @@ use Rattle.std.proofs.lemmas.List.{set-get_or}
 use Rattle.atomic_table.specs.Table.{Step, keeps, Allows, Splits, Joins, opening}
 use Rattle.atomic_table.proofs.Lists.{at_set, set_else, set_again}
 use Rattle.lock_manager.specs.State.{opening_state}
-use Rattle.lock_manager.specs.declared.request.Request.{Request}
 use Rattle.lock_manager.specs.State as manager
 use Rattle.session_core.specs.Runs.{IsRun}
 use Rattle.session_core.specs.Mail.{IsPrefixOf, requests_taken, answers_to}
@@ -22,8 +21,8 @@ use Rattle.call_table.specs.declared.before.Before.{Before}
 use Rattle.call_table.specs.declared.desk_view.DeskView.{DeskView}
 use Rattle.call_table.specs.declared.tally.Tally.{Tally}
 use Rattle.call_table.specs.Places.{Place, posted, IsProcess, words_of, word_at}
-use Rattle.call_table.specs.Views.{client_of, desk_of, tally_at, with_tally, new_client, new_desk, opening_view}
-use Rattle.call_table.specs.Rule.{RequestsAgree, AnswersAgree, ClosingAgrees, Agrees, ClientStands, DeskStands, Outgrows, Stands, mark_of, Kept}
+use Rattle.call_table.specs.Views.{client_of, desk_of, new_client, new_desk, opening_view}
+use Rattle.call_table.specs.Rule.{Agrees, ClientStands, DeskStands, Outgrows, Stands, mark_of, Kept}
 use Rattle.call_table.specs.Steps.{Seated, Compares, met_desk, met_client, before_meeting}
 use Rattle.call_table.proofs.Pushing.{at_push, tally_here, tally_else}
 use Rattle.call_table.proofs.Frames.{desk_stays, answers_found}
@@ -108,42 +107,12 @@ may_make setup id d room s k here =
 -- joining, at the process of the client
 meets_agree : (depth p : ℕ) (at : Place → ℕ) (d : DeskView) (c : ClientView) → c.process ≡ p → Agrees depth p at d c
     → Agrees depth p at (met_desk d c) (met_client d c)
-meets_agree depth p at d c is g =
-    let q = g.requests in
-    let old : Tally = tally_at d.tallies p in
-    let new : Tally = record old { looked = length c.posted } in
-    let here : tally_at (met_desk d c).tallies p ≡ new =
-    ap (λ (y : ℕ). tally_at (with_tally d.tallies y (record (tally_at d.tallies y) { looked = length c.posted })) p) is
-    ∙ tally_here d.tallies p new in
-    let n_is : (tally_at d.tallies c.process).published ≡ old.published = ap (λ (y : ℕ). (tally_at d.tallies y).published) is in
-    let requests : List Request = requests_taken p d.journal in
-    let least : length requests ≤ length c.posted = omega (arith, q.looked_least, q.looked_most) in
-    let most : length c.posted ≤ length c.posted = omega arith in
-    let reads_some : d.reading.0 ≡ p → 0 < length d.reading.1 → length requests < length c.posted =
-    λ e h. omega (arith, q.reads_some e h, q.looked_most) in
-    record {
-      requests = subst (λ (u : Tally). RequestsAgree depth p at requests u.looked d.reading (met_client d c)) (sym here)
-          (assumption (q, least, most, reads_some));
-      answers = subst (λ (u : Tally). AnswersAgree depth p at d.journal u.published d.filling (met_client d c)) (sym here)
-          (answers_found n_is g.answers);
-      closing = subst (λ (u : Tally). ClosingAgrees p d.journal u.published d.closed (met_client d c)) (sym here)
-          (closing_found n_is g.closing);
-    }
+meets_agree depth p at d c is g = grind (arith, common_steps, tally_here, answers_found, closing_found)
 
 -- joining: neither knows less of the other than before
 outgrows : (depth p : ℕ) (at : Place → ℕ) (d : DeskView) (c : ClientView) → c.process ≡ p → Agrees depth p at d c
     → Outgrows (met_desk d c) (met_client d c) (before_meeting d c)
-outgrows depth p at d c is g =
-    let t : Tally = tally_at d.tallies c.process in
-    let now : Tally = record t { looked = length c.posted } in
-    let here : tally_at (with_tally d.tallies c.process now) c.process ≡ now = tally_here d.tallies c.process now in
-    let same : tally_at d.tallies c.process ≡ tally_at d.tallies p = ap (λ (y : ℕ). tally_at d.tallies y) is in
-    record {
-      looked = subst (λ (n : ℕ). t.looked ≤ n) (sym (ap (λ (u : Tally). u.looked) here))
-          (subst (λ (u : Tally). u.looked ≤ length c.posted) (sym same) g.requests.looked_most);
-      known = subst (λ (u : Tally). c.known ≤ u.published) (sym same) g.answers.known_most;
-      seen = g.answers.seen;
-    }
+outgrows depth p at d c is g = grind (arith, common_steps, tally_here)
 
 pub may_join : (setup : Setup) (id other : ℕ) (d : DeskView) (c : ClientView)
     → Joins (Kept setup) id (Desk d) other (Client c) (Both (met_desk d c) (met_client d c) (before_meeting d c)) Spent
@@ -284,9 +253,7 @@ may_part setup id d c before s k here =
 
 -- the opening
 zeros : (n i : ℕ) → ◌≡◌ {A = ℕ} (get_or (replicate n 0) i 0) 0
-zeros zero i = refl
-zeros (suc n) zero = refl
-zeros (suc n) (suc i) = zeros n i
+zeros n i = grind (arith, common_steps)
 
 pub opens : (setup : Setup) (words : List ℕ) → 1 ≤ setup.depth → words ≡ replicate (words_of setup.processes setup.depth) 0
     → Kept setup (opening {S = Unit {0}} words [] (opening_view setup))

@@ -1,17 +1,15 @@
 -- What the desk and a client know once they have met.
-use Rattle.std.proofs.Common.{◌≡◌, ℕ, Bool, true, [], length, refl, sym, ap, ◌∙◌, subst}
-use native.Mathlib.Decide.{ℕ_discrete}
-use mathlib.Core.Logic.{dite}
+use Rattle.std.proofs.Common.{arith, ◌≡◌, ℕ, Bool, true, [], length, sym, ◌∙◌, subst}
+use Rattle.std.proofs.lemmas.Grind.{common_steps}
 use Rattle.atomic_table.specs.Table.{Splits, Joins}
 use Rattle.session_core.specs.declared.session.Session.{Session}
 use Rattle.session_core.specs.Mail.{IsPrefixOf, requests_taken, answers_to}
 use Rattle.call_table.specs.declared.setup.Setup.{Setup}
-use Rattle.call_table.specs.declared.view.View.TheVariants.{Spent, Desk, Both}
+use Rattle.call_table.specs.declared.view.View.TheVariants.{Spent, Both}
 use Rattle.call_table.specs.declared.client_view.ClientView.{ClientView}
 use Rattle.call_table.specs.declared.before.Before.{Before}
 use Rattle.call_table.specs.declared.desk_view.DeskView.{DeskView}
-use Rattle.call_table.specs.declared.tally.Tally.{Tally}
-use Rattle.call_table.specs.Views.{desk_of, client_of, tally_at, with_tally}
+use Rattle.call_table.specs.Views.{desk_of, client_of}
 use Rattle.call_table.specs.Rule.{Outgrows, Kept}
 use Rattle.call_table.specs.Steps.{Seated, HasDesk, HasClient, joined, desk_parted, client_parted, met_desk, met_client, before_meeting}
 use Rattle.call_table.specs.Seats.{SitsAsDesk}
@@ -23,9 +21,7 @@ use Rattle.call_table.proofs.Serving.{desk_view_is}
 
 pub may_join_as : (setup : Setup) (id other : ℕ) (me his : Seated) (d : DeskView) (c : ClientView) → HasDesk d me → HasClient c his
     → Joins (Kept setup) id me.0 other his.0 (joined me.0 his.0) Spent
-may_join_as setup id other me his d c is his_is =
-    subst (λ (y : Seated × Seated). Joins (Kept setup) id y.0.0 other y.1.0 (joined y.0.0 y.1.0) Spent)
-    (λ i. (sym is i, sym his_is i)) (may_join setup id other d c)
+may_join_as setup id other me his d c is his_is = grind (arith, common_steps, may_join)
 
 pub joined_is : (me his after : Seated) (d : DeskView) (c : ClientView) → HasDesk d me → HasClient c his
     → after ≡ (joined me.0 his.0, me.1) → after ≡ (Both (met_desk d c) (met_client d c) (before_meeting d c), [])
@@ -46,56 +42,11 @@ other_is me after d c before is e = e ∙ (λ i. (client_parted (is i).0, []))
 
 pub sits_met : (me after : Seated) (setup : Setup) (closed : Bool) (session : Session) (c : ClientView)
     → SitsAsDesk me setup closed session → HasDesk (met_desk (desk_of me.0) c) after → SitsAsDesk after setup closed session
-sits_met me after setup closed session c sits is =
-    let d : DeskView = desk_of me.0 in
-    let p : ℕ = c.process in
-    let t : Tally = record {
-      published = (tally_at d.tallies p).published;
-      looked = length c.posted;
-      probes = (tally_at d.tallies p).probes;
-    } in
-    let same : desk_of after.0 ≡ met_desk d c = desk_view_is (met_desk d c) after is in
-    record {
-      is = is ∙ ap (λ (v : DeskView). (Desk v, [])) (sym same);
-      setup_is = ap (λ (v : DeskView). v.setup) same ∙ sits.setup_is;
-      closed_is = ap (λ (v : DeskView). v.closed) same ∙ sits.closed_is;
-      journal_is = ap (λ (v : DeskView). v.journal) same ∙ sits.journal_is;
-      published = λ q l. ap (λ (v : DeskView). (tally_at v.tallies q).published) same
-          ∙ dite (ℕ_discrete q p)
-          (λ e. ap (λ (x : ℕ). (tally_at (with_tally d.tallies p t) x).published) e
-          ∙ ap (λ (u : Tally). u.published) (tally_here d.tallies p t)
-          ∙ ap (λ (x : ℕ). (tally_at d.tallies x).published) (sym e))
-          (λ n. ap (λ (u : Tally). u.published) (tally_else d.tallies p q t n))
-          ∙ sits.published q l;
-      filling_none = ap (λ (v : DeskView). v.filling) same ∙ sits.filling_none;
-      rules_are = sits.rules_are;
-      processes_are = sits.processes_are;
-      mail_none = sits.mail_none;
-      sized = sits.sized;
-    }
+sits_met me after setup closed session c sits is = grind (arith, common_steps, desk_view_is, tally_here, tally_else)
 
 pub is_met : (d : DeskView) (c : ClientView) (me his : Seated)
     → IsPrefixOf (requests_taken c.process d.journal) c.posted
     × ((met_client d c).drained ≡ true → c.collected ≡ length (answers_to c.process d.journal))
     × Outgrows (met_desk d c) (met_client d c) (before_meeting d c)
     → HasDesk (met_desk d c) me → HasClient (met_client d c) his → IsMet d c (desk_of me.0) (client_of his.0)
-is_met d c me his told is his_is =
-    let p : ℕ = c.process in
-    let t : Tally = record {
-      published = (tally_at d.tallies p).published;
-      looked = length c.posted;
-      probes = (tally_at d.tallies p).probes;
-    } in
-    let here : tally_at (with_tally d.tallies p t) p ≡ t = tally_here d.tallies p t in
-    let met : IsMet d c (met_desk d c) (met_client d c) = record {
-      seen = refl;
-      begins = told.2.seen;
-      knows_more = told.2.known;
-      looked_more = told.2.looked;
-      known = sym (ap (λ (u : Tally). u.published) here);
-      looked = ap (λ (u : Tally). u.looked) here;
-      taken_in_order = told.0;
-      drained_all = told.1;
-    } in
-    subst (λ (y : DeskView × ClientView). IsMet d c y.0 y.1)
-    (λ i. (sym (desk_view_is (met_desk d c) me is) i, sym (view_is (met_client d c) his his_is) i)) met
+is_met d c me his told is his_is = grind (arith, common_steps, tally_here, desk_view_is, view_is)

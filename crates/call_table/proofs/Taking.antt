@@ -1,6 +1,7 @@
 -- The step by which the desk takes a request keeps the rule.
+use Rattle.std.proofs.lemmas.Grind.{common_steps}
 use Rattle.std.proofs.lemmas.List.Elements.{filter-append}
-use Rattle.std.proofs.Common.{◌≡◌, ◌≢◌, ℕ, ◌+◌, ◌<◌, ◌≤◌, Bool, true, false, true≢false, eqb, cond, eq-eqb, ne_eqb, List, [], ◌∷◌, ◌++◌, map, length, set, refl, sym, ap, ◌∙◌, subst, arith, length-append, length-set, append_assoc, append-nil}
+use Rattle.std.proofs.Common.{◌≡◌, ◌≢◌, ℕ, ◌+◌, ◌<◌, ◌≤◌, true, false, true≢false, eq-eqb, List, [], ◌∷◌, ◌++◌, length, set, refl, sym, ap, ◌∙◌, subst, arith, length-append, length-set, append_assoc, append-nil}
 use Rattle.std.proofs.lemmas.List.{map-append}
 use native.Mathlib.Decide.{ℕ_discrete}
 use Rattle.std.proofs.Math.Decide.{dec_lt}
@@ -12,7 +13,7 @@ use Rattle.lock_manager.specs.State as manager
 use Rattle.lock_manager.specs.declared.request.Request.{Request}
 use Rattle.lock_manager.specs.declared.request.Reply.{Reply}
 use Rattle.session_core.specs.Event.{Event}
-use Rattle.session_core.specs.Runs.{IsRun, events_of}
+use Rattle.session_core.specs.Runs.{IsRun}
 use Rattle.session_core.specs.Mail.{IsPrefixOf, requests_taken, answers_in, answers_from, answers_to}
 use Rattle.call_table.specs.declared.setup.Setup.{Setup}
 use Rattle.call_table.specs.declared.view.View.TheVariants.{Desk}
@@ -35,15 +36,10 @@ use Rattle.call_table.specs.InTurn.{AreInTurn}
 -- what one more event adds to the requests of a process that were taken
 pub taken_here : (p : ℕ) (H : List Event) (e : Event) → e.p ≡ p
     → requests_taken p (H ++ e ∷ []) ≡ requests_taken p H ++ e.request ∷ []
-taken_here p H e is =
-    ap (map (λ (x : Event). x.request)) (filter-append (λ (x : Event). eqb x.p p) H (e ∷ [])
-    ∙ ap (λ (b : Bool). events_of p H ++ cond b (e ∷ []) []) (eq-eqb e.p p is))
-    ∙ map-append (λ (x : Event). x.request) (events_of p H) (e ∷ [])
+taken_here p H e is = grind (arith, common_steps, filter-append, eq-eqb, map-append)
 
 pub taken_else : (p : ℕ) (H : List Event) (e : Event) → e.p ≢ p → requests_taken p (H ++ e ∷ []) ≡ requests_taken p H
-taken_else p H e other =
-    ap (map (λ (x : Event). x.request)) (filter-append (λ (x : Event). eqb x.p p) H (e ∷ [])
-    ∙ ap (λ (b : Bool). events_of p H ++ cond b (e ∷ []) []) (ne_eqb e.p p other) ∙ append-nil (events_of p H))
+taken_else p H e other = grind (arith, common_steps, filter-append, append-nil)
 
 answers_longer : (p place : ℕ) (H : List Event) (e : Event)
     → (more : List (ℕ × Reply × ℕ)) × (answers_from p place (H ++ e ∷ []) ≡ answers_from p place H ++ more)

@@ -1,5 +1,6 @@
 -- The answers among the notes of one more event, in the order in which they are published.
-use Rattle.std.proofs.Common.{◌≡◌, ◌≢◌, ℕ, ◌+◌, ◌<◌, ⊎_elim, get_or, take, drop, length-append, eqb, cond, eq-eqb, ne_eqb, Bool, true, false, List, [], ◌∷◌, ◌++◌, length, refl, sym, ap, ◌∙◌, subst, arith, append_assoc, append-nil}
+use Rattle.std.proofs.lemmas.Grind.{common_steps}
+use Rattle.std.proofs.Common.{◌≡◌, ◌≢◌, ℕ, ◌+◌, ◌<◌, get_or, take, drop, length-append, eqb, cond, eq-eqb, ne_eqb, Bool, true, false, List, [], ◌∷◌, ◌++◌, length, refl, sym, ap, ◌∙◌, subst, arith, append_assoc, append-nil}
 use mathlib.Core.Option.{some}
 use lib.ListN.{get_elem?}
 use Rattle.lock_manager.specs.declared.request.Reply.{Reply}
@@ -12,12 +13,11 @@ use Rattle.std.proofs.lemmas.List.{take_more, take_all, take-append-drop}
 use Rattle.std.proofs.lemmas.List.Elements.{All-get_or}
 use Rattle.session_core.specs.Headline.{told_process}
 use Rattle.call_table.specs.declared.desk_view.DeskView.{DeskView}
-use Rattle.call_table.specs.declared.tally.Tally.{Tally}
 use Rattle.call_table.specs.InTurn.{AreInTurn}
 use Rattle.call_table.specs.Places.{IsProcess}
 use Rattle.call_table.specs.Serving.{IsUntold, IsTold}
 use Rattle.call_table.specs.Steps.{desk_told, IsNextToTell}
-use Rattle.call_table.specs.Views.{tally_at, with_tally}
+use Rattle.call_table.specs.Views.{tally_at}
 use Rattle.call_table.proofs.Pushing.{tally_here, tally_else}
 use Rattle.call_table.proofs.InTurnLaws.{number_at}
 
@@ -70,21 +70,7 @@ pub next_to_tell : (q n : ℕ) (reply : Reply) (H : List Event) (e : Event) (bef
       reply,
       length H + 1,
     )
-next_to_tell q n reply H e before after is =
-    let place : ℕ = length H + 1 in
-    let all : answers_to q (H ++ e ∷ []) ≡ (answers_to q H ++ answers_in q place before) ++ (
-      n,
-      reply,
-      place,
-    ) ∷ answers_in q place after =
-    answers_exact q H e
-    ∙ ap (λ (l : List (ℕ × Reply × ℕ)). answers_to q H ++ l)
-    (ap (answers_in q place) is ∙ answers_in-append q place before (Answer q n reply ∷ after)
-    ∙ ap (λ (l : List (ℕ × Reply × ℕ)). answers_in q place before ++ l) (answer_here q place n reply after))
-    ∙ sym (append_assoc (answers_to q H) (answers_in q place before) ((n, reply, place) ∷ answers_in q place after)) in
-    subst (λ (l : List (ℕ × Reply × ℕ)). get_elem? l (length (answers_to q H ++ answers_in q place before)) ≡ some
-    (n, reply, place)) (sym all)
-    (at_middle (answers_to q H ++ answers_in q place before) (n, reply, place) (answers_in q place after))
+next_to_tell q n reply H e before after is = grind (arith, common_steps, answers_exact, answers_in-append, answer_here, append_assoc, at_middle)
 
 -- its number is the one after the published ones, which is what publishing stores
 pub number_to_tell : (q n : ℕ) (reply : Reply) (H : List Event) (e : Event) (before after : List Note)
@@ -106,83 +92,27 @@ pub record ToldSome (processes : ℕ) (old new : DeskView) (told : List Note) : 
 -- a note that a process waits is no answer
 pub ToldSome-waits : (processes : ℕ) (old d : DeskView) (told : List Note) (p n : ℕ) → ToldSome processes old d told
     → ToldSome processes old d (told ++ Waits p n ∷ [])
-ToldSome-waits processes old d told p n h =
-    record {
-      same = h.same;
-      looked = h.looked;
-      probes = h.probes;
-      published = λ before q there is.
-          h.published before q there is
-          ∙ ap (λ (l : List (ℕ × Reply × ℕ)). length (answers_to q before ++ l))
-          (sym (answers_in-append q (length before + 1) told (Waits p n ∷ [])
-          ∙ append-nil (answers_in q (length before + 1) told)));
-    }
+ToldSome-waits processes old d told p n h = grind (arith, common_steps, answers_in-append, append-nil)
 
 -- how many answers there are to a process with one more
 one_more : (p place n : ℕ) (reply : Reply) (answers : List (ℕ × Reply × ℕ)) (told : List Note)
     → length (answers ++ answers_in p place (told ++ Answer p n reply ∷ [])) ≡ length (answers ++ answers_in p place told) + 1
-one_more p place n reply answers told =
-    ap (λ (l : List (ℕ × Reply × ℕ)). length (answers ++ l))
-    (answers_in-append p place told (Answer p n reply ∷ []) ∙ ap (λ (l : List (ℕ × Reply × ℕ)). answers_in p place told ++ l)
-    (answer_here p place n reply []))
-    ∙ ap (λ (l : List (ℕ × Reply × ℕ)). length l) (sym (append_assoc answers (answers_in p place told) ((n, reply, place) ∷ [])))
-    ∙ length-append (answers ++ answers_in p place told) ((n, reply, place) ∷ [])
+one_more p place n reply answers told = grind (arith, common_steps, answers_in-append, answer_here, append_assoc, length-append)
 
 no_more : (p q place n : ℕ) (reply : Reply) (told : List Note) → p ≢ q
     → answers_in q place (told ++ Answer p n reply ∷ []) ≡ answers_in q place told
-no_more p q place n reply told other =
-    answers_in-append q place told (Answer p n reply ∷ [])
-    ∙ ap (λ (l : List (ℕ × Reply × ℕ)). answers_in q place told ++ l) (answer_else q p place n reply [] other)
-    ∙ append-nil (answers_in q place told)
+no_more p q place n reply told other = grind (arith, common_steps, answers_in-append, answer_else, append-nil)
 
 -- an answer was published
 pub ToldSome-answer : (processes : ℕ) (old d after : DeskView) (told : List Note) (p n : ℕ) (reply : Reply) → after ≡ desk_told d p
     → ToldSome processes old d told → ToldSome processes old after (told ++ Answer p n reply ∷ [])
-ToldSome-answer processes old d after told p n reply is h =
-    let ts : List Tally = d.tallies in
-    let t : Tally = tally_at ts p in
-    let u : Tally = record { published = t.published + 1; looked = t.looked; probes = t.probes } in
-    let here : tally_at (with_tally ts p u) p ≡ u = tally_here ts p u in
-    subst (λ (v : DeskView). ToldSome processes old v (told ++ Answer p n reply ∷ [])) (sym is)
-    (record {
-      same = ap (λ (v : DeskView). record v { tallies = with_tally ts p u; filling = (0, []) }) h.same;
-      looked = λ q.
-          ⊎_elim
-          (λ (e : q ≡ p).
-          subst (λ (r : ℕ). (tally_at (with_tally ts p u) r).looked ≡ (tally_at old.tallies r).looked) (sym e)
-          (ap (λ (t : Tally). t.looked) here ∙ h.looked p))
-          (λ (n : q ≢ p). ap (λ (t : Tally). t.looked) (tally_else ts p q u n) ∙ h.looked q)
-          (cases_eq q p);
-      probes = λ q.
-          ⊎_elim
-          (λ (e : q ≡ p).
-          subst (λ (r : ℕ). (tally_at (with_tally ts p u) r).probes ≡ (tally_at old.tallies r).probes) (sym e)
-          (ap (λ (t : Tally). t.probes) here ∙ h.probes p))
-          (λ (n : q ≢ p). ap (λ (t : Tally). t.probes) (tally_else ts p q u n) ∙ h.probes q)
-          (cases_eq q p);
-      published = λ before q there start.
-          ⊎_elim
-          (λ (e : q ≡ p).
-          subst (λ (r : ℕ). (tally_at (with_tally ts p u) r).published ≡ length
-          (answers_to r before ++ answers_in r (length before + 1) (told ++ Answer p n reply ∷ []))) (sym e)
-          (ap (λ (t : Tally). t.published) here
-          ∙ ap (λ (k : ℕ). k + 1) (h.published before p (subst (IsProcess processes) e there)
-          (subst (λ (r : ℕ). (tally_at old.tallies r).published ≡ length (answers_to r before)) e start))
-          ∙ sym (one_more p (length before + 1) n reply (answers_to p before) told)))
-          (λ (other : q ≢ p).
-          ap (λ (t : Tally). t.published) (tally_else ts p q u other) ∙ h.published before q there start
-          ∙ ap (λ (l : List (ℕ × Reply × ℕ)). length (answers_to q before ++ l))
-          (sym (no_more p q (length before + 1) n reply told (λ e. other (sym e)))))
-          (cases_eq q p);
-    })
+ToldSome-answer processes old d after told p n reply is h = grind (arith, common_steps, tally_here, tally_else, cases_eq, one_more, no_more)
 
 -- one note more, whichever it is
 pub told_more : (processes : ℕ) (old d : DeskView) (notes : List Note) (i : ℕ) (note default : Note) → i < length notes
     → get_or notes i default ≡ note
     → ToldSome processes old d (take i notes ++ note ∷ []) → ToldSome processes old d (take (i + 1) notes)
-told_more processes old d notes i note default within read h =
-    subst (λ (l : List Note). ToldSome processes old d l)
-    (sym (take_more notes i default within ∙ ap (λ (x : Note). take i notes ++ x ∷ []) read)) h
+told_more processes old d notes i note default within read h = grind (arith, common_steps, take_more)
 
 -- a note that is an answer is the next to publish to its process
 pub record IsNextTold (processes : ℕ) (d : DeskView) (p n : ℕ) (reply : Reply) (place : ℕ) : Type 0 where
@@ -225,15 +155,4 @@ next_told processes old d notes place i p n reply default untold told within rea
 -- all are published
 pub told_all : (processes : ℕ) (old d : DeskView) (notes : List Note) (place i : ℕ) → IsUntold processes old notes place
     → ToldSome processes old d (take i notes) → ¬ (i < length notes) → IsTold processes old d
-told_all processes old d notes place i untold told past =
-    record {
-      same = told.same;
-      looked = told.looked;
-      probes = told.probes;
-      published = λ q there.
-          told.published untold.before q there (untold.published q there)
-          ∙ ap (λ (l : List Note). length (answers_to q untold.before ++ answers_in q (length untold.before + 1) l))
-          (take_all i notes (omega arith) ∙ sym untold.notes_are)
-          ∙ ap length (sym (answers_exact q untold.before untold.event))
-          ∙ ap (λ (l : List Event). length (answers_to q l)) (sym untold.journal);
-    }
+told_all processes old d notes place i untold told past = grind (arith, common_steps, take_all, answers_exact)
