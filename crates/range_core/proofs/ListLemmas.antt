@@ -1,5 +1,6 @@
 -- `AllPairs` of two lists in a row, and of their parts; what a splice leaves.
-use Rattle.std.proofs.Common.{ℕ, ◌≡◌, ◌+◌, ◌-◌, ◌<◌, ◌≤◌, List, ◌++◌, All, AllPairs, length, take, drop, get_or, refl, ap, sym, ◌∙◌, arith, inl, inr}
+use Rattle.std.proofs.lemmas.Grind.{common_steps}
+use Rattle.std.proofs.Common.{ℕ, ◌≡◌, ◌+◌, ◌-◌, ◌≤◌, List, ◌++◌, All, AllPairs, length, take, drop, get_or, refl, ap, sym, ◌∙◌, arith}
 use Rattle.std.proofs.lemmas.Bool.{cases_lt}
 use Rattle.std.specs.List.{AllWithin, between, refill}
 use Rattle.std.proofs.lemmas.List.Edits.{paste_all, length-between, get_or-between}
@@ -11,20 +12,7 @@ use Rattle.std.proofs.Math.Seq.{drop-append-add}
 -- two lists in order, each element of the one before each of the other
 pub AllPairs-append : {X : Type 0} (R : X → X → Type 0) (xs ys : List X) → AllPairs R xs → AllPairs R ys → All (λ x. All (λ y. R x y) ys) xs → AllPairs R (xs ++ ys)
 AllPairs-append R xs ys first second across i j d before within =
-    elim (cases_lt j (length xs)) [
-      | inl j_first ↦
-          rw (get_or_append_left xs ys d i (omega arith), get_or_append_left xs ys d j j_first) (first i j d before j_first)
-      | inr j_second ↦
-          let sum = length-append xs ys in
-          elim (cases_lt i (length xs)) [
-            | inl i_first ↦
-                rw (get_or_append_left xs ys d i i_first, get_or-append_right xs ys (length xs) j d refl j_second)
-                (across i d i_first (j - length xs) d (omega arith))
-            | inr i_second ↦
-                rw (get_or-append_right xs ys (length xs) i d refl i_second, get_or-append_right xs ys (length xs) j d refl j_second)
-                (second (i - length xs) (j - length xs) d (omega arith) (omega arith))
-          ]
-    ]
+    grind (arith, common_steps, cases_lt, get_or_append_left, length-append, get_or-append_right)
 
 -- one element at most has no pair
 pub AllPairs-few : {X : Type 0} (R : X → X → Type 0) (xs : List X) → length xs ≤ 1 → AllPairs R xs
@@ -51,19 +39,13 @@ ordered_parts {X} R xs ys pairs =
 
 -- what holds of the elements within some places, of the parts of the list there
 pub All-take_within : {X : Type 0} (P : X → Type 0) (xs : List X) (n : ℕ) → n ≤ length xs → AllWithin P xs 0 n → All P (take n xs)
-All-take_within P xs n there all k d within =
-    let inside : k < n = omega (arith, length-take-le n xs there) in
-    rw (get_or-take n xs k d inside) (all k d (omega arith) inside)
+All-take_within P xs n there all k d within = grind (arith, common_steps, length-take-le, get_or-take)
 
 pub All-drop_within : {X : Type 0} (P : X → Type 0) (xs : List X) (n : ℕ) → AllWithin P xs n (length xs) → All P (drop n xs)
-All-drop_within P xs n all k d within =
-    let rest = length-drop n xs in
-    rw (get_or-drop n xs k d) (all (n + k) d (omega arith) (omega arith))
+All-drop_within P xs n all k d within = grind (arith, common_steps, length-drop, get_or-drop)
 
 pub All-between_within : {X : Type 0} (P : X → Type 0) (xs : List X) (i j : ℕ) → j ≤ length xs → AllWithin P xs i j → All P (between i j xs)
-All-between_within P xs i j there all k d within =
-    let count = length-between xs i j there in
-    rw (get_or-between xs i j k d (omega arith)) (all (i + k) d (omega arith) (omega arith))
+All-between_within P xs i j there all k d within = grind (arith, common_steps, length-between, get_or-between)
 
 -- a list that is written back as a slice of its length
 written : {X : Type 0} (n : ℕ) (old new : List X) → n ≡ length new → refill n old new ≡ new

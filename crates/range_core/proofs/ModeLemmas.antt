@@ -1,5 +1,6 @@
 -- The mode that a list of runs gives a byte.
-use Rattle.std.proofs.Common.{ℕ, zero, suc, ◌≡◌, ◌<◌, ◌≤◌, true, false, refl, Option, Some, None, List, [], ◌∷◌, ◌++◌, All, AllPairs, length, get_or, arith, ◌⊎◌, inl, inr}
+use Rattle.std.proofs.lemmas.Grind.{common_steps}
+use Rattle.std.proofs.Common.{ℕ, zero, suc, ◌≡◌, ◌<◌, true, false, refl, Option, Some, None, List, [], ◌∷◌, ◌++◌, All, AllPairs, length, get_or, arith, ◌⊎◌, inl, inr}
 use Rattle.std.specs.Prelude.{if◌then◌else◌}
 use Rattle.std.proofs.lemmas.Bool.{cases_lt}
 use Rattle.std.proofs.lemmas.Bool.Decides.{nat_tests}
@@ -11,28 +12,14 @@ use Rattle.range_core.specs.Changes.{is_covered, mode_in}
 
 -- a range covers the byte, or the test says that it doesn't
 pub cases_covers : (span : Span) (byte : ℕ) → Covers span byte ⊎ (is_covered span byte ≡ false)
-cases_covers span byte =
-    elim (cases_lt byte span.first) [
-      | inl before ↦ inr (grind (arith, nat_tests))
-      | inr from ↦ elim (cases_lt span.last byte) [
-        | inl behind ↦ inr (grind (arith, nat_tests))
-        | inr upto ↦ inl (from, upto)
-      ]
-    ]
+cases_covers span byte = grind (arith, common_steps, cases_lt, nat_tests)
 
 -- what the test says of a byte that the range covers, and of one that it doesn't
 pub is_covered-true : (span : Span) (byte : ℕ) → Covers span byte → is_covered span byte ≡ true
-is_covered-true span byte covers =
-    let from : span.first ≤ byte = covers.0 in
-    let upto : byte ≤ span.last = covers.1 in
-    grind (arith, nat_tests)
+is_covered-true span byte covers = grind (arith, common_steps, nat_tests)
 
 pub uncovered : (span : Span) (byte : ℕ) → ¬ (Covers span byte) → is_covered span byte ≡ false
-uncovered span byte outside =
-    elim (cases_covers span byte) [
-      | inl covers ↦ absurd (outside covers)
-      | inr is ↦ is
-    ]
+uncovered span byte outside = grind (arith, common_steps, cases_covers)
 
 -- the first of the two that is there
 abbrev pub mode_or : Option Mode → Option Mode → Option Mode

@@ -1,5 +1,6 @@
 -- What stands in the place of the touched runs after a set, and the whole list with it.
-use Rattle.std.proofs.Common.{ℕ, ◌≡◌, ◌+◌, ◌-◌, ◌<◌, ◌≤◌, false, refl, ap, sym, ◌∙◌, ◌⊎◌, Option, Some, None, List, [], ◌∷◌, ◌++◌, All, AllPairs, length, take, drop, get_or, subst, arith, inl, inr}
+use Rattle.std.proofs.Common.{rules, ℕ, ◌≡◌, ◌+◌, ◌-◌, ◌<◌, ◌≤◌, refl, ap, sym, ◌∙◌, ◌⊎◌, Option, Some, None, List, [], ◌∷◌, ◌++◌, All, AllPairs, length, take, drop, get_or, subst, arith, inl, inr}
+use Rattle.std.proofs.lemmas.Grind.{common_steps}
 use Rattle.std.proofs.lemmas.Bool.{cases_lt, false≢true}
 use Rattle.std.proofs.lemmas.List.{length-append, get_or_append_left, get_or-append-add}
 use Rattle.std.specs.List.{between}
@@ -9,7 +10,7 @@ use Rattle.range_core.specs.declared.Mode.{Mode}
 use Rattle.range_core.specs.declared.Span.{Span}
 use Rattle.range_core.specs.declared.Mode.TheVariants.{Read}
 use Rattle.range_core.specs.Ranges.{Covers, IsApart, IsByteRange, SplitsRun}
-use Rattle.range_core.specs.Changes.{is_covered, mode_in, SetsMode}
+use Rattle.range_core.specs.Changes.{mode_in, SetsMode}
 use Rattle.range_core.specs.Replacing.{AreInOrder, AreTouched, own_run, IsInside, IsLeftEnd, IsReplacement, IsRightEnd}
 use Rattle.range_core.proofs.EndLemmas.{All-own_run}
 use Rattle.range_core.proofs.ListLemmas.{AllPairs-append, AllPairs-few, ordered_parts}
@@ -31,44 +32,11 @@ mode_in-three a b c byte = mode_in-append a (b ++ c) byte ∙ ap (λ m. mode_or 
 -- the two ends, and the own run between them
 replaced_modes : (touched left right : List (Mode × Span)) (span : Span) (mode : Option Mode) (first last : ℕ) → span.first ≤ span.last → IsLeftEnd touched span mode first left → IsRightEnd touched span mode last right → SetsMode (mode_in touched) (mode_in (left ++ (own_run mode first last ++ right))) span mode
 replaced_modes touched left right span mode first last range l r byte =
-    let own = own_run mode first last in
-    let Uncovered = λ (run : Mode × Span). ¬ (Covers run.1 byte) in
-    mode_in-three left own right byte
-    ∙ elim (cases_lt byte first) [
-      | inl lower ↦
-          let no_own : mode_in own byte ≡ None = mode_in-none own byte (All-own_run Uncovered mode first last (λ m is covers. omega (arith, covers.0))) in
-          let no_right : mode_in right byte ≡ None = mode_in-none right byte (λ k d within covers. omega (arith, (r.beside k d within).0, covers.0)) in
-          let outside : is_covered span byte ≡ false = uncovered span byte (λ covers. omega (arith, covers.0)) in
-          rw (no_own, no_right, outside) (mode_or-None (mode_in left byte) ∙ sym (l.outside byte lower))
-      | inr from ↦
-          let no_left : mode_in left byte ≡ None = mode_in-none left byte (λ k d within covers. omega (arith, (l.beside k d within).1, covers.1)) in
-          elim (cases_lt last byte) [
-            | inl higher ↦
-                let no_own : mode_in own byte ≡ None = mode_in-none own byte (All-own_run Uncovered mode first last (λ m is covers. omega (arith, covers.1))) in
-                let outside : is_covered span byte ≡ false = uncovered span byte (λ covers. omega (arith, covers.1)) in
-                rw (no_left, no_own, outside) (sym (r.outside byte higher))
-            | inr upto ↦
-                let no_right : mode_in right byte ≡ None = mode_in-none right byte (λ k d within covers. omega (arith, (r.beside k d within).0, covers.0)) in
-                rw (no_left, own_mode mode first last byte from upto, no_right)
-                (mode_or-None mode ∙ elim (cases_covers span byte) [
-                  | inl covers ↦ rw (is_covered-true span byte covers) refl
-                  | inr outside ↦ rw outside (elim (cases_lt byte span.first) [
-                    | inl before ↦ sym (l.joined byte from before)
-                    | inr not_before ↦ elim (cases_lt span.last byte) [
-                      | inl behind ↦ sym (r.joined byte behind upto)
-                      | inr not_behind ↦ absurd (false≢true (sym outside ∙ is_covered-true span byte (not_before, not_behind)))
-                    ]
-                  ])
-                ])
-          ]
-    ]
+    search (rules, mode_in-three, cases_lt, mode_in-none, All-own_run, uncovered, mode_or-None, own_mode, cases_covers, is_covered-true, false≢true)
 
 -- the one run of a list covers the bytes to which it gives a mode
 covers_one : (run : Mode × Span) (byte : ℕ) (mode : Mode) → mode_in (run ∷ []) byte ≡ Some mode → Covers run.1 byte
-covers_one run byte mode is = elim (cases_covers run.1 byte) [
-  | inl covers ↦ covers
-  | inr outside ↦ absurd (let none : None ≡ Some mode = rw outside at is in cc)
-]
+covers_one run byte mode is = grind (arith, common_steps, cases_covers)
 
 own_none : (mode : Option Mode) (first last : ℕ) → mode ≡ None → length (own_run mode first last) ≡ 0
 own_none None first last is = refl
@@ -76,14 +44,10 @@ own_none (Some own) first last is = absurd (let none : Some own ≡ None = is in
 
 -- the byte before an own run with a piece beside it, and the one behind
 left_byte : (touched left : List (Mode × Span)) (piece : Mode × Span) (span : Span) (mode : Option Mode) (first : ℕ) → IsLeftEnd touched span mode first (piece ∷ left) → mode_in touched piece.1.last ≡ Some piece.0
-left_byte touched left piece span mode first l =
-    let beside = l.beside 0 piece (omega arith) in
-    l.outside piece.1.last (omega (arith, beside.1)) ∙ mode_in-at (piece ∷ left) 0 piece piece.1.last (AllPairs-few IsApart (piece ∷ left) l.single) (omega arith) (beside.0, omega arith)
+left_byte touched left piece span mode first l = grind (arith, common_steps, mode_in-at, AllPairs-few)
 
 right_byte : (touched right : List (Mode × Span)) (piece : Mode × Span) (span : Span) (mode : Option Mode) (last : ℕ) → IsRightEnd touched span mode last (piece ∷ right) → mode_in touched piece.1.first ≡ Some piece.0
-right_byte touched right piece span mode last r =
-    let beside = r.beside 0 piece (omega arith) in
-    r.outside piece.1.first (omega (arith, beside.0)) ∙ mode_in-at (piece ∷ right) 0 piece piece.1.first (AllPairs-few IsApart (piece ∷ right) r.single) (omega arith) (omega arith, beside.1.0)
+right_byte touched right piece span mode last r = grind (arith, common_steps, mode_in-at, AllPairs-few)
 
 -- of the one touched run pieces stay at both ends only where the range lies inside it
 one_left : (run : Mode × Span) (left right : List (Mode × Span)) (span : Span) (mode : Option Mode) (first last : ℕ) → IsLeftEnd (run ∷ []) span mode first left → IsRightEnd (run ∷ []) span mode last right → (length left + length right ≤ 1) ⊎ IsInside (run ∷ []) span
@@ -152,14 +116,10 @@ replaced touched left right span mode first last range l r =
 
 -- what holds of each element of two lists in a row
 All-first : (P : Mode × Span → Type 0) (xs ys : List (Mode × Span)) → All P (xs ++ ys) → All P xs
-All-first P xs ys all k d within =
-    let sum = length-append xs ys in
-    rw (← get_or_append_left xs ys d k within) (all k d (omega arith))
+All-first P xs ys all k d within = search (rules, length-append, get_or_append_left)
 
 All-second : (P : Mode × Span → Type 0) (xs ys : List (Mode × Span)) → All P (xs ++ ys) → All P ys
-All-second P xs ys all k d within =
-    let sum = length-append xs ys in
-    rw (← get_or-append-add xs ys k d) (all (length xs + k) d (omega arith))
+All-second P xs ys all k d within = search (rules, length-append, get_or-append-add)
 
 -- the whole list after a set
 pub record IsSet (old new : List (Mode × Span)) (span : Span) (mode : Option Mode) : Type 0 where

@@ -1,17 +1,15 @@
 -- The runs in a list that is in order are the runs of the modes that it gives, and the least byte that conflicts is found in them.
-use Rattle.std.proofs.Common.{ℕ, ◌≡◌, ◌≢◌, ◌+◌, ◌-◌, ◌<◌, ◌≤◌, max, sym, refl, Option, Some, None, List, All, AllPairs, length, drop, get_or, arith, ◌⊎◌, inl, inr}
+use Rattle.std.proofs.lemmas.Grind.{common_steps}
+use Rattle.std.proofs.Common.{ℕ, ◌≡◌, ◌≢◌, ◌+◌, ◌-◌, ◌<◌, ◌≤◌, max, sym, refl, Option, Some, None, List, All, AllPairs, length, get_or, arith, ◌⊎◌, inl, inr}
 use Rattle.std.specs.List.{AllWithin, between}
 use Rattle.std.specs.List.Sorted.{IsNonDecreasingBy}
 use Rattle.std.proofs.lemmas.Bool.{cases_lt}
 use Rattle.std.proofs.lemmas.List.{get_or_default}
-use Rattle.std.proofs.lemmas.List.Edits.{length-between, get_or-between}
-use Rattle.std.proofs.lemmas.List.Elements.{All-take, All-drop}
 use Rattle.range_core.specs.declared.Mode.{Mode}
 use Rattle.range_core.specs.declared.Mode.TheVariants.{Read}
 use Rattle.range_core.specs.declared.Span.{Span}
 use Rattle.range_core.specs.Ranges.{Modes, Covers, Conflict, HeldConflicts, IsApart, IsByteRange, IsConstant, IsFirstHit, IsRun, AreRuns}
 use Rattle.range_core.specs.Changes.{mode_in}
-use Rattle.range_core.specs.Replacing.{AreInOrder}
 use Rattle.range_core.proofs.ModeLemmas.{held_at, mode_in-at, mode_in-none}
 
 -- a range of one mode round the byte is the largest where the bytes before it and after it have another mode or none
@@ -115,22 +113,10 @@ begins_from runs k d byte ranges apart within before j e from inside =
 
 -- runs in order rise by their first bytes, and by their last ones
 pub lasts_rise : (runs : List (Mode × Span)) → All (λ run. IsByteRange run.1) runs → AllPairs IsApart runs → IsNonDecreasingBy (λ run. run.1.last) runs
-lasts_rise runs ranges apart i j d upto within =
-    elim (cases_lt i j) [
-      | inl before ↦ omega (arith, (ranges j d within).0, (apart i j d before within).0)
-      | inr from ↦
-          let same : i ≡ j = omega arith in
-          rw same (omega arith)
-    ]
+lasts_rise runs ranges apart i j d upto within = grind (arith, common_steps, cases_lt)
 
 pub firsts_rise : (runs : List (Mode × Span)) → All (λ run. IsByteRange run.1) runs → AllPairs IsApart runs → IsNonDecreasingBy (λ run. run.1.first) runs
-firsts_rise runs ranges apart i j d upto within =
-    elim (cases_lt i j) [
-      | inl before ↦ omega (arith, (ranges i d (omega arith)).0, (apart i j d before within).0)
-      | inr from ↦
-          let same : i ≡ j = omega arith in
-          rw same (omega arith)
-    ]
+firsts_rise runs ranges apart i j d upto within = grind (arith, common_steps, cases_lt)
 
 -- the least byte of the span that one run covers conflicts first, where no run before it that reaches the span does
 pub IsFirstHit_at : (runs : List (Mode × Span)) (start k : ℕ) (d : Mode × Span) (span : Span) (against : Mode) → All (λ run. IsByteRange run.1) runs → AllPairs IsApart runs → AllWithin (λ run. run.1.last < span.first) runs 0 start → AllWithin (λ run. ¬ (Conflict run.0 against)) runs start k → k < length runs → span.first ≤ (get_or runs k d).1.last → (get_or runs k d).1.first ≤ span.last → span.first ≤ span.last → Conflict (get_or runs k d).0 against → IsFirstHit (mode_in runs) span against (max (get_or runs k d).1.first span.first)

@@ -1,7 +1,7 @@
+use Rattle.std.proofs.lemmas.Grind.{common_steps}
 use Rattle.std.proofs.Common.{◌≡◌, ◌≢◌, ◌-◌, ◌<◌, ◌≤◌, sym, subst, ◌∙◌, Some, [], ◌∷◌, arith}
 use Rattle.std.proofs.lemmas.Bool.{false≢true}
 use Rattle.range_core.specs.declared.Mode.{Mode}
-use Rattle.range_core.specs.declared.Mode.TheVariants.{Read}
 use Rattle.range_core.specs.declared.Span.{Span}
 use Rattle.range_core.specs.Replacing.{IsLeftEnd}
 use Rattle.range_core.proofs.EndLemmas.{left_clear, left_joined, left_piece}
@@ -37,7 +37,4 @@ returns-in_default c =
     left_clear touched c.args.span c.args.mode run c.requires.in_order (λ some. subst (λ (r : Mode × Span). c.args.span.first ≤ r.1.first) is c.if-run-span.false)
 
 pub returns-in_default-2 : goal.returns-in_default-2
-returns-in_default-2 c =
-    let blank : Mode × Span = (Read, record { first = 0; last = 0 }) in
-    let none = rw c.in_default.is at c.first.ensures.item in
-    left_clear c.args.touched.now c.args.span c.args.mode blank c.requires.in_order (λ some. absurd (omega (arith, none.3)))
+returns-in_default-2 c = grind (arith, common_steps, left_clear)

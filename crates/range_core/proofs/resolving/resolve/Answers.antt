@@ -1,7 +1,7 @@
-use Rattle.std.proofs.Common.{◌≡◌, ◌∙◌, ap, ℤ, pos, ◌+ℤ◌, rules, FitsSigned, to_z, of_z, w64}
+use Rattle.std.proofs.Common.{arith, ◌≡◌, ℤ, FitsSigned, to_z, of_z, w64}
+use Rattle.std.proofs.lemmas.Grind.{common_steps}
 use Rattle.std.specs.Int.{w128}
 use Rattle.std.proofs.lemmas.Int.{to_z-of_z}
-use Rattle.range_core.specs.Resolving.{first_byte, last_byte, range_between}
 use Rattle.range_core.proofs.resolving.resolve.Goals as goal
 
 -- signed numbers keep their values where one function passes them to the next
@@ -10,8 +10,4 @@ passed_on at f g h start len place first last r start_fits len_fits place_fits f
     cc (to_z-of_z w64 start start_fits, to_z-of_z w64 len len_fits, to_z-of_z w128 place place_fits, to_z-of_z w128 first first_fits, to_z-of_z w128 last last_fits)
 
 pub returns-clause-resolution : goal.returns-clause-resolution
-returns-clause-resolution c =
-    passed_on (λ z. pos c.base.result +ℤ z) first_byte last_byte range_between _ _ _ _ _ _ c.ranges.start c.ranges.len
-    (search rules) (search rules) (search rules)
-    c.place-place.ensures.place c.first_byte.ensures c.last_byte.ensures c.range_between.ensures
-    ∙ ap (λ n. let place = pos n +ℤ c.args.start in range_between (first_byte place c.args.len) (last_byte place c.args.len)) c.base.ensures
+returns-clause-resolution c = grind (arith, common_steps, passed_on)

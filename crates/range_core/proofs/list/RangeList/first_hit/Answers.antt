@@ -1,4 +1,5 @@
-use Rattle.std.proofs.Common.{◌+◌, ◌<◌, ◌≤◌, length, get_or, max, sym, ap, ◌∙◌, subst, arith}
+use Rattle.std.proofs.lemmas.Grind.{common_steps}
+use Rattle.std.proofs.Common.{◌+◌, ◌<◌, ◌≤◌, length, max, sym, ap, ◌∙◌, subst, arith}
 use Rattle.std.proofs.lemmas.Bool.{false≢true}
 use Rattle.std.proofs.lemmas.List.{length-drop, get_or_default}
 use Rattle.std.proofs.lemmas.List.Elements.{AllWithin-more}
@@ -17,15 +18,7 @@ blank = (Read, record { first = 0; last = 0 })
 
 pub loop-run-preserved : goal.loop-run-preserved
 unfolding blank
-loop-run-preserved c k d low high =
-    let runs = c.args.self.now.runs.items in
-    let place = c.ending_from-place.result + c.loop-run.run-index in
-    let is = rest_at runs c.from-run-items.result.now c.ending_from-place.result c.loop-run.run-index blank c.from-run-items.ensures in
-    let within : place < length runs = omega (arith, c.loop-run-test.true, ap length c.from-run-items.ensures, length-drop c.ending_from-place.result runs) in
-    let clear = λ (e : Mode × Span) (conflict : Conflict (get_or runs place e).0 c.args.against).
-    let same = is ∙ get_or_default runs place blank e within in
-    false≢true (sym c.if-conflicts_with.false ∙ c.conflicts_with.ensures.1 (subst (λ (run : Mode × Span). Conflict run.0 c.args.against) (sym same) conflict)) in
-    AllWithin-more (λ (run : Mode × Span). ¬ (Conflict run.0 c.args.against)) runs c.ending_from-place.result place c.loop-run.invariant clear k d low (omega arith)
+loop-run-preserved c k d low high = grind (arith, common_steps, rest_at, blank, length-drop, get_or_default, false≢true, AllWithin-more)
 
 pub returns-then-span-run-clause-none : goal.returns-then-span-run-clause-none
 unfolding modes_of blank
