@@ -1,5 +1,6 @@
 -- Answers among notes and events, counted and looked up.
-use Rattle.std.proofs.Common.{ℕ, ◌≡◌, ◌+◌, ◌<◌, refl, sym, ◌∙◌, ap, true, false, eq-eqb, ne_eqb, length, List, [], ◌∷◌, ◌++◌, ⊎_elim, Some, None, drop, get_or, find, option_map}
+use Rattle.std.proofs.Common.{arith, ℕ, ◌≡◌, ◌+◌, ◌<◌, refl, sym, ◌∙◌, ap, true, false, eq-eqb, ne_eqb, length, List, [], ◌∷◌, ◌++◌, ⊎_elim, Some, None, drop, get_or, find, option_map}
+use Rattle.std.proofs.lemmas.Grind.{common_steps}
 use Rattle.std.specs.Prelude.{◌==◌, if◌then◌else◌}
 use Rattle.std.proofs.lemmas.Bool.{cases_eq}
 use Rattle.std.proofs.lemmas.List.{at_drop_more}
@@ -51,11 +52,7 @@ reply_among-place p n place other (Waits q m ∷ notes) = reply_among-place p n 
 pub reply_to-skip : (p n : ℕ) (events : List Event) (i : ℕ) (event : Event) → i < length events → event ≡ get_or events i event
     → reply_among n (answers_in p 0 event.notes) ≡ None
     → reply_among n (answers_from p (i + 1) (drop i events)) ≡ reply_among n (answers_from p (i + 1 + 1) (drop (i + 1) events))
-reply_to-skip p n events i event within read none =
-    at_drop_more (λ l. reply_among n (answers_from p (i + 1) l)) events i event within
-    ∙ ap (λ x. reply_among n (answers_from p (i + 1) (x ∷ drop (i + 1) events))) (sym read)
-    ∙ reply_among-after n (answers_in p (i + 1) event.notes) (answers_from p (i + 1 + 1) (drop (i + 1) events))
-    (reply_among-place p n (i + 1) 0 event.notes ∙ none)
+reply_to-skip p n events i event within read none = grind (arith, common_steps, at_drop_more, reply_among-after, reply_among-place)
 
 pub reply_to-hit : (p n : ℕ) (events : List Event) (i : ℕ) (event : Event) (reply : Reply) → i < length events
     → event ≡ get_or events i event → reply_among n (answers_in p 0 event.notes) ≡ Some reply

@@ -1,6 +1,7 @@
 -- The last answer to each process: as a journal grows, and by its number.
-use Rattle.std.proofs.Common.{ℕ, zero, suc, ◌≡◌, ◌+◌, ◌<◌, ◌≤◌, refl, sym, ◌∙◌, ap, subst, arith, true, false, eq-eqb, ne_eqb, length, List, [], ◌∷◌, ◌++◌, ⊎_elim, Option, Some, None, IfSome, slice_get}
-use Rattle.std.specs.Prelude.{◌==◌, if◌then◌else◌, slice_index_or}
+use Rattle.std.proofs.Common.{rules, ℕ, zero, suc, ◌≡◌, ◌+◌, ◌<◌, ◌≤◌, refl, sym, ◌∙◌, ap, subst, arith, true, false, eq-eqb, ne_eqb, length, List, [], ◌∷◌, ◌++◌, Option, Some, None, IfSome, slice_get}
+use Rattle.std.proofs.lemmas.Grind.{common_steps}
+use Rattle.std.specs.Prelude.{◌==◌, if◌then◌else◌}
 use Rattle.std.proofs.lemmas.Bool.{cases_lt}
 use Rattle.std.proofs.lemmas.List.{append-nil, nil_from_length}
 use Rattle.std.proofs.lemmas.Option.{slice_get_past}
@@ -49,13 +50,7 @@ pub AreLastAnswers-push : (processes : ℕ) (last last' : LastAnswers) (journal 
     → journal' ≡ journal ++ event ∷ [] → processes_in last' ≡ processes_in last
     → ((p : ℕ) → 1 ≤ p → p ≤ processes_in last → last_of last' p ≡ latest (last_of last p) (answers_in p 0 event.notes))
     → AreLastAnswers processes last journal → AreLastAnswers processes last' journal'
-AreLastAnswers-push processes last last' journal journal' event more as_many told h = record {
-  one_each = as_many ∙ h.one_each;
-  latest_is = λ p low high.
-      told p low (subst (λ n. p ≤ n) (sym h.one_each) high)
-      ∙ ap (λ known. latest known (answers_in p 0 event.notes)) (h.latest_is p low high)
-      ∙ sym (ap (λ l. latest None (answers_to p l)) more ∙ latest-push p 1 None journal event);
-}
+AreLastAnswers-push processes last last' journal journal' event more as_many told h = grind (arith, common_steps, latest-push)
 
 -- the number of what is known last
 abbrev pub number_in : Option declared.Answer → ℕ
@@ -137,13 +132,7 @@ taken_past mailboxes zero past = refl
 taken_past mailboxes (suc place) past = ap taken_in (slice_get_past mailboxes place (omega arith))
 
 pub last_past : (last : LastAnswers) (p : ℕ) → processes_in last < p → last_of last p ≡ None
-last_past last zero past = refl
-last_past last (suc place) past = index_past last.answers.items place (omega arith)
-  where
-    index_past : (xs : List (Option declared.Answer)) (i : ℕ) → length xs ≤ i → slice_index_or xs i None ≡ None
-    index_past [] i past = refl
-    index_past (x ∷ xs) zero past = absurd (omega arith)
-    index_past (x ∷ xs) (suc i) past = index_past xs i (omega arith)
+last_past last p h = grind (arith, common_steps)
 
 -- a process without a mailbox was answered nothing
 answers_past : (manager : Manager) (sent : ℕ → List Request) (processes : ℕ) (mailboxes : List Mailbox) (journal : List Event) (p : ℕ)
@@ -156,15 +145,7 @@ answers_past manager sent processes mailboxes journal p mail holds nothing =
 pub last_is : (manager : Manager) (sent : ℕ → List Request) (processes : ℕ) (mailboxes : List Mailbox) (last : LastAnswers) (journal : List Event) (p : ℕ)
     → IsMailKept processes mailboxes journal → AreLastAnswers processes last journal → ∥ Holds manager sent journal ∥₁
     → last_of last p ≡ latest None (answers_to p journal)
-last_is manager sent processes mailboxes last journal zero mail answered holds =
-    ap (latest None) (sym (answers_past manager sent processes mailboxes journal 0 mail holds refl))
-last_is manager sent processes mailboxes last journal (suc place) mail answered holds =
-    ⊎_elim
-    (λ past.
-    last_past last (suc place) (rw answered.one_each past)
-    ∙ ap (latest None) (sym (answers_past manager sent processes mailboxes journal (suc place) mail holds (taken_past mailboxes (suc place) (rw mail.one_each past)))))
-    (λ within. answered.latest_is (suc place) (omega arith) within)
-    (cases_lt processes (suc place))
+last_is manager sent processes mailboxes last journal p h h2 h3 = search (rules, answers_past, last_past, taken_past, cases_lt)
 
 -- its number is how many answers there are
 pub last_number : (manager : Manager) (sent : ℕ → List Request) (journal : List Event) (p : ℕ) (last : Option declared.Answer)

@@ -1,5 +1,6 @@
 -- Mailboxes by process: what is written to one of them, and what stays.
-use Rattle.std.proofs.Common.{ℕ, zero, suc, ◌≡◌, ◌≢◌, ◌+◌, ◌-◌, ◌<◌, ◌≤◌, refl, sym, ◌∙◌, ap, subst, arith, length, length-append, take, slice_get, set, get_or, List, [], ◌∷◌, ◌++◌, Some, Option, Result, Ok, Err, IfOk, eq-eqb, ne_eqb, ⊎_elim}
+use Rattle.std.proofs.Common.{rules, ℕ, zero, suc, ◌≡◌, ◌≢◌, ◌+◌, ◌-◌, ◌<◌, ◌≤◌, refl, sym, ◌∙◌, ap, subst, arith, length, length-append, take, slice_get, set, get_or, List, [], ◌∷◌, ◌++◌, Some, Option, Result, Ok, Err, IfOk, eq-eqb, ne_eqb, ⊎_elim}
+use Rattle.std.proofs.lemmas.Grind.{common_steps}
 use Rattle.std.specs.Prelude.{◌==◌, if◌then◌else◌, IsNone, IsTrue}
 use Rattle.std.proofs.lemmas.List.{get_or-set_same, length-set, length-map, append-nil, append_assoc}
 use Rattle.std.proofs.lemmas.Option.{slice_get-get_or}
@@ -9,9 +10,9 @@ use Rattle.fd_table.specs.declared.Limits.TheVariants.{Small, Wide}
 use Rattle.fd_table.specs.Descriptors.{process_limit}
 use Rattle.lock_manager.specs.declared.request.Request.{Request}
 use Rattle.lock_manager.specs.declared.manager.Manager.{Manager}
-use Rattle.lock_manager.specs.ManagerView.{SameManager, rules_of, processes_of}
+use Rattle.lock_manager.specs.ManagerView.{SameManager}
 use Rattle.session_core.specs.declared.session.Session.{Session}
-use Rattle.session_core.specs.Runs.{IsStep, events_of}
+use Rattle.session_core.specs.Runs.{events_of}
 use Rattle.session_core.specs.SessionView.{manager_of, events_in, sent_of, SameSession, Arrives, TakesRequest, sent_with}
 use Rattle.session_core.specs.declared.mailbox.Mailbox.{Mailbox}
 use Rattle.wait_core.specs.declared.processes.ProcessSet.{ProcessSet}
@@ -52,35 +53,23 @@ StandsAt-index mailboxes processes p index mailbox each low high is read =
 -- the mailbox of the process is there
 pub mailbox_of-there : (mailboxes : List Mailbox) (place p : ℕ) (mailbox : Mailbox) → StandsAt mailboxes place p mailbox
     → mailbox_of mailboxes p ≡ Some mailbox
-mailbox_of-there mailboxes place zero mailbox at = absurd (omega arith)
-mailbox_of-there mailboxes place (suc k) mailbox at =
-    let same : k ≡ place = omega arith in
-    rw same (slice_get-get_or mailboxes place mailbox at.within ∙ ap (λ x. Some x) (sym at.read))
+mailbox_of-there mailboxes place p mailbox h = grind (arith, common_steps, slice_get-get_or)
 
 -- the mailbox that is written is the new one
 pub mailbox_of-set_same : (mailboxes : List Mailbox) (place p : ℕ) (old new : Mailbox) → StandsAt mailboxes place p old
     → mailbox_of (set mailboxes place new) p ≡ Some new
-mailbox_of-set_same mailboxes place zero old new at = absurd (omega arith)
-mailbox_of-set_same mailboxes place (suc k) old new at =
-    let same : k ≡ place = omega arith in
-    rw same (slice_get-set_same mailboxes place new at.within)
+mailbox_of-set_same mailboxes place p old new h = grind (arith, common_steps, slice_get-set_same)
 
 -- every other mailbox stays
 mailbox_of-set_other : (mailboxes : List Mailbox) (place p q : ℕ) (old new : Mailbox) → StandsAt mailboxes place p old → q ≢ p
     → mailbox_of (set mailboxes place new) q ≡ mailbox_of mailboxes q
-mailbox_of-set_other mailboxes place p zero old new at other = refl
-mailbox_of-set_other mailboxes place p (suc k) old new at other =
-    slice_get-set_other mailboxes place k new (omega (arith, at.numbered))
+mailbox_of-set_other mailboxes place p q old new h h2 = grind (arith, common_steps, slice_get-set_other)
 
 -- what is read off a mailbox, where one was written
 of_set : {X : Type 0} (f : Option Mailbox → X) (mailboxes : List Mailbox) (place p : ℕ) (old new : Mailbox)
     → StandsAt mailboxes place p old → (q : ℕ)
     → f (mailbox_of (set mailboxes place new) q) ≡ (if q == p then f (Some new) else f (mailbox_of mailboxes q))
-of_set f mailboxes place p old new at q =
-    ⊎_elim
-    (λ same. rw (eq-eqb q p same, same) (ap f (mailbox_of-set_same mailboxes place p old new at)))
-    (λ other. rw (ne_eqb q p other) (ap f (mailbox_of-set_other mailboxes place p q old new at other)))
-    (cases_eq q p)
+of_set f mailboxes place p old new h q = search (rules, eq-eqb, mailbox_of-set_same, mailbox_of-set_other, cases_eq)
 
 -- what waits, where a mailbox was written
 pub mail_waiting-set : (mailboxes : List Mailbox) (place p : ℕ) (old new : Mailbox) → StandsAt mailboxes place p old → (q : ℕ)
@@ -108,12 +97,7 @@ mail_taken-kept mailboxes place p old new at same q =
 pub IsMailKept-written : (processes : ℕ) (mailboxes : List Mailbox) (journal : List Event) (place p : ℕ) (old new : Mailbox)
     → StandsAt mailboxes place p old → new.taken ≡ old.taken → IsMailKept processes mailboxes journal
     → IsMailKept processes (set mailboxes place new) journal
-IsMailKept-written processes mailboxes journal place p old new at same mail =
-    record {
-      some = mail.some;
-      one_each = rw length-set mail.one_each;
-      taken = λ q. mail_taken-kept mailboxes place p old new at same q ∙ mail.taken q;
-    }
+IsMailKept-written processes mailboxes journal place p old new h h2 h3 = search (rules, length-set, mail_taken-kept)
 
 -- a mailbox that is written with the same requests leaves all that was sent
 pub mail_sent-kept : (mailboxes : List Mailbox) (journal : List Event) (place p : ℕ) (old new : Mailbox) → StandsAt mailboxes place p old
@@ -128,20 +112,7 @@ mail_sent-kept mailboxes journal place p old new at same q =
 pub Holds-sent : (manager : Manager) (mailboxes mailboxes' : List Mailbox) (journal : List Event)
     → ((q : ℕ) → length (mail_sent mailboxes' journal q) ≤ request_limit) → Holds manager (mail_sent mailboxes journal) journal
     → Holds manager (mail_sent mailboxes' journal) journal
-Holds-sent manager mailboxes mailboxes' journal few holds =
-    record {
-      taken_in_order = λ q. (mail_waiting mailboxes' q, refl);
-      answered_once = holds.answered_once;
-      answers_numbered = holds.answers_numbered;
-      answered_taken = holds.answered_taken;
-      answered_in_turn = holds.answered_in_turn;
-      within_limits = record { some = holds.within_limits.some; few = holds.within_limits.few; requests = few };
-      told_in_range = holds.told_in_range;
-      quiet_before_birth = holds.quiet_before_birth;
-      quiet_after_end = holds.quiet_after_end;
-      safe = holds.safe;
-      replayed = holds.replayed;
-    }
+Holds-sent manager mailboxes mailboxes' journal few holds = grind (arith, common_steps)
 
 -- two lists without the last item of the second
 take-behind : {X : Type 0} (xs ys : List X) → 0 < length ys
@@ -189,11 +160,7 @@ mail_sent-pushed mailboxes journal place p old new request at pushed q =
 -- how much a process sent: what was taken of it, and what waits
 pub length-mail_sent : (processes : ℕ) (mailboxes : List Mailbox) (journal : List Event) → IsMailKept processes mailboxes journal
     → (p : ℕ) → length (mail_sent mailboxes journal p) ≡ mail_taken mailboxes p + length (mail_waiting mailboxes p)
-length-mail_sent processes mailboxes journal mail p =
-    let both = length-append (requests_taken p journal) (mail_waiting mailboxes p) in
-    let taken = length-map (events_of p journal) (λ event. event.request) in
-    let as_many = mail.taken p in
-    omega arith
+length-mail_sent processes mailboxes journal mail p = grind (arith, common_steps, length-append, length-map)
 
 -- the same of a mailbox that is there
 pub length-mail_sent-there : (processes : ℕ) (mailboxes : List Mailbox) (journal : List Event) (p : ℕ) (mailbox : Mailbox)
@@ -206,10 +173,7 @@ length-mail_sent-there processes mailboxes journal p mailbox mail there =
 pub untaken_waits : (processes : ℕ) (mailboxes : List Mailbox) (journal : List Event) (p : ℕ) (mailbox : Mailbox)
     → IsMailKept processes mailboxes journal → mailbox_of mailboxes p ≡ Some mailbox
     → length (events_of p journal) < length (mail_sent mailboxes journal p) → 0 < length mailbox.waiting.items
-untaken_waits processes mailboxes journal p mailbox mail there untaken =
-    let sent = length-mail_sent-there processes mailboxes journal p mailbox mail there in
-    let taken = sym (ap taken_in there) ∙ mail.taken p in
-    omega (arith, untaken)
+untaken_waits processes mailboxes journal p mailbox mail there untaken = grind (arith, common_steps, length-mail_sent-there)
 
 -- a manager stands for what it stands for
 pub SameManager-refl : (manager : Manager) → SameManager manager manager
@@ -227,51 +191,12 @@ pub SameSession-withdrawn : (old between refused new : Session) (p : ℕ) (reque
     → ((q : ℕ) → sent_of new q ≡ (if q == p then take (length (sent_of refused q) - 1) (sent_of refused q) else sent_of refused q))
     → events_in new ≡ events_in refused → manager_of new ≡ manager_of refused → SameSession old new
 SameSession-withdrawn old between refused new p request n arrived same shorter same_journal same_manager =
-    let first = arrived.manager in
-    let second : SameManager (manager_of between) (manager_of new) =
-    subst (λ m. SameManager (manager_of between) m) (sym same_manager) same.manager in
-    record {
-      manager = record {
-        stands = λ S stands. second.stands S (first.stands S stands);
-        states = λ q. second.states q ∙ first.states q;
-        rules = second.rules ∙ first.rules;
-        processes = second.processes ∙ first.processes;
-      };
-      journal = same_journal ∙ same.journal ∙ arrived.journal;
-      sent = λ q.
-          let sent = same.sent q ∙ arrived.sent q in
-          shorter q
-          ∙ ⊎_elim
-          (λ own.
-          let more : sent_of refused q ≡ sent_of old q ++ request ∷ [] = sent ∙ rw (eq-eqb q p own) refl in
-          rw (eq-eqb q p own)
-          (ap (λ l. take (length l - 1) l) more ∙ take-behind (sent_of old q) (request ∷ []) (omega arith) ∙ append-nil (sent_of old q)))
-          (λ other. rw (ne_eqb q p other) (sent ∙ rw (ne_eqb q p other) refl))
-          (cases_eq q p);
-    }
+    grind (arith, common_steps, eq-eqb, take-behind, append-nil, cases_eq)
 
 -- a request that arrived and was taken then is taken as one
 pub TakesRequest-arrived : (old between new : Session) (p : ℕ) (request : Request) (n place : ℕ) → Arrives old between p request n
     → TakesRequest between new p request (sent_of between) place → TakesRequest old new p request (sent_with old p request) place
-TakesRequest-arrived old between new p request n place arrived took =
-    let same = arrived.manager in
-    record {
-      event = took.event;
-      process = took.process;
-      request_is = took.request_is;
-      number = took.number ∙ ap (λ l. length (events_of p l) + 1) arrived.journal;
-      journal = took.journal ∙ ap (λ l. l ++ took.event ∷ []) arrived.journal;
-      at_place = took.at_place;
-      step = λ S stands.
-          let moved = took.step S (same.stands S stands) in (
-            moved.0,
-            subst (λ rules. IsStep rules (processes_of (manager_of old)) S took.event moved.0) same.rules
-                (subst (λ k. IsStep (rules_of (manager_of between)) k S took.event moved.0) same.processes moved.1),
-            moved.2,
-          );
-      sent_is = λ q. took.sent_is q ∙ arrived.sent q;
-      same_rules = record { rules = took.same_rules.rules ∙ same.rules; processes = took.same_rules.processes ∙ same.processes };
-    }
+TakesRequest-arrived old between new p request n place arrived took = search (rules)
 
 -- where a request in the mailbox of a process wasn't taken, the process has such mail
 pub HasMail-there : (mailboxes : List Mailbox) (place p : ℕ) (mailbox : Mailbox) → StandsAt mailboxes place p mailbox
@@ -302,9 +227,7 @@ slice_get-behind (x ∷ xs) ys = slice_get-behind xs ys
 -- the next request of a process is the first that waits
 pub next_untaken-waits : (mailboxes : List Mailbox) (journal : List Event) (p : ℕ)
     → next_untaken (mail_sent mailboxes journal) journal p ≡ slice_get (mail_waiting mailboxes p) 0
-next_untaken-waits mailboxes journal p =
-    ap (λ n. slice_get (mail_sent mailboxes journal p) n) (sym (length-map (events_of p journal) (λ event. event.request)))
-    ∙ slice_get-behind (requests_taken p journal) (mail_waiting mailboxes p)
+next_untaken-waits mailboxes journal p = grind (arith, common_steps, length-map, slice_get-behind)
 
 -- a process without a next request has no such mail
 pub no_mail : (mailboxes : List Mailbox) (journal : List Event) (q : ℕ)

@@ -1,6 +1,7 @@
 -- Under the queue policy a request that would wait were it blocked sets its lock at once only where no wait conflicts with it.
-use Rattle.std.proofs.Common.{ℕ, ◌≡◌, ◌≢◌, ◌≤◌, ◌⊎◌, inl, inr, refl, sym, ◌∙◌, ap, subst, Bool, true, false, List, [], ◌∷◌, ◌++◌, ⊎_elim, Any, Option, Some, None, MatchBool, MatchOption, MatchResult}
-use Rattle.std.specs.Prelude.{IsTrue, IsFalse, ◌||◌}
+use Rattle.std.proofs.Common.{arith, rules, ℕ, ◌≡◌, ◌≢◌, ◌≤◌, ◌⊎◌, inl, inr, refl, sym, ◌∙◌, ap, subst, Bool, true, false, List, [], ◌∷◌, ◌++◌, ⊎_elim, Any, Option, Some, None, MatchBool, MatchOption}
+use Rattle.std.proofs.lemmas.Grind.{common_steps}
+use Rattle.std.specs.Prelude.{IsTrue, IsFalse}
 use Rattle.std.specs.List.{Contains, AllByRecursion as Each}
 use Rattle.std.proofs.lemmas.List.Elements.{All-contains, All-from_recursion, Contains-append_left, Contains-append_right}
 use Rattle.range_core.specs.declared.Mode.{Mode}
@@ -23,10 +24,10 @@ use Rattle.lock_manager.specs.declared.request.Request.TheVariants.{OpenFile, Du
 use Rattle.lock_manager.specs.declared.request.Note.{Note}
 use Rattle.lock_manager.specs.declared.request.Note.TheVariants.{Answer, Waits}
 use Rattle.lock_manager.specs.declared.request.Reply.TheVariants as replies
-use Rattle.lock_manager.specs.State.{State, opening_state, locks_held, with_lock, with_byte_mode, with_flock_mode}
-use Rattle.lock_manager.specs.Outcomes.{Outcome, answered, answered_then, refused, waits_then, range_error}
-use Rattle.lock_manager.specs.LockWords.{is_get, is_bad_argument, may_wait, permits, lock_owner, wanted_lock}
-use Rattle.lock_manager.specs.LockCommands.{LockComesTo, DescribedComesTo, RangeComesTo, ModeComesTo, CommandComesTo}
+use Rattle.lock_manager.specs.State.{State, opening_state, locks_held, with_lock, with_flock_mode}
+use Rattle.lock_manager.specs.Outcomes.{Outcome, answered_then, refused, waits_then}
+use Rattle.lock_manager.specs.LockWords.{may_wait}
+use Rattle.lock_manager.specs.LockCommands.{LockComesTo, CommandComesTo}
 use Rattle.lock_manager.specs.FlockCalls.{FlockComesTo, FlockOpComesTo, FlockModeComesTo, FlockTestComesTo, is_same_mode, flock_wanted_mode, wanted_flock}
 use Rattle.lock_manager.specs.Step.{ComesTo}
 use Rattle.lock_manager.specs.OneOutcome.{StepHasOneOutcome}
@@ -67,15 +68,11 @@ Passes-each R waits (note ∷ notes) left h all =
 -- who is answered Ok by the first note isn't refused, and doesn't wait
 Ok≢refused : (S : State) (p n : ℕ) (error : Errno) (outcome : Outcome) (grants notes others : List Note) → outcome ≡ refused S p n error
     → notes ≡ outcome.told ++ grants → notes ≡ Answer p n replies.Ok ∷ others → ⊥
-Ok≢refused S p n error outcome grants notes others is are told =
-    let first : Answer p n replies.Ok ∷ others ≡ Answer p n (replies.Err error) ∷ grants = sym told ∙ are ∙ ap (λ (o : Outcome). o.told ++ grants) is in
-    cc
+Ok≢refused S p n error outcome grants notes others is are told = grind (arith, common_steps)
 
 Ok≢waits : (S : State) (wait : Wait) (p n : ℕ) (made : List Note) (outcome : Outcome) (grants notes others : List Note)
     → outcome ≡ waits_then S wait made → notes ≡ outcome.told ++ grants → notes ≡ Answer p n replies.Ok ∷ others → ⊥
-Ok≢waits S wait p n made outcome grants notes others is are told =
-    let first : Answer p n replies.Ok ∷ others ≡ Waits wait.p wait.n ∷ (made ++ grants) = sym told ∙ are ∙ ap (λ (o : Outcome). o.told ++ grants) is in
-    cc
+Ok≢waits S wait p n made outcome grants notes others is are told = grind (arith, common_steps)
 
 -- no wait in the list conflicts with the lock where it is tested; and who left the list before that was granted
 record IsTurnKept (rules : Rules) (S : State) (event : Event) (wanted : Wait) : Type 0 where
@@ -127,32 +124,7 @@ lock_kept : (rules : Rules) (S : State) (event : Event) (p n fd : ℕ) (cmd : Lk
     → LockComesTo rules S p n fd cmd lock outcome → event.notes ≡ outcome.told ++ grants → event.notes ≡ Answer p n replies.Ok ∷ others
     → IsTurnKept rules S event wanted
 lock_kept rules S event p n fd cmd lock wanted outcome grants others queue may asks is are told =
-    let look = asks.look in
-    let span = asks.span in
-    let mode = asks.mode in
-    let described : DescribedComesTo rules S p n cmd lock look outcome =
-    subst
-    (λ o. MatchOption o (outcome ≡ refused S p n EBADF) (λ look. DescribedComesTo rules S p n cmd lock look outcome))
-    asks.of_open is in
-    ⊎_elim (λ no. absurd (Ok≢refused S p n _ outcome grants event.notes others no are told))
-    (λ good.
-    let ranged : RangeComesTo rules S p n cmd lock.kind look span outcome =
-    subst
-    (λ r. MatchResult r (λ span. RangeComesTo rules S p n cmd lock.kind look span outcome) (λ fault. outcome ≡ refused S p n (range_error fault)))
-    asks.of_range good in
-    let moded : ModeComesTo rules S p n cmd look span mode outcome =
-    subst
-    (λ o.
-    MatchOption o (outcome ≡ answered (with_byte_mode S look.file (lock_owner cmd p look) span None) p n replies.Ok)
-    (λ mode. ModeComesTo rules S p n cmd look span mode outcome))
-    asks.of_kind ranged in
-    ⊎_elim
-    (λ yes.
-    subst (IsTurnKept rules S event) (sym asks.is)
-    (command_kept rules S event cmd (wanted_lock cmd p n look span mode) outcome grants others queue may (refl, refl) yes are told))
-    (λ no. absurd (Ok≢refused S p n _ outcome grants event.notes others no are told))
-    (cases_bool (is_get cmd || permits look.access mode) moded))
-    (cases_bool (is_bad_argument cmd lock) described)
+    grind (arith, common_steps, Ok≢refused, command_kept, cases_bool)
 
 -- a flock request that would wait, tested in this state
 test_ready : (rules : Rules) (settled : State) (event : Event) (wanted : Wait) (made : List Note) (outcome : Outcome) (grants others : List Note)
@@ -160,15 +132,10 @@ test_ready : (rules : Rules) (settled : State) (event : Event) (wanted : Wait) (
     → event.notes ≡ Answer wanted.p wanted.n replies.Ok ∷ others
     → ¬ IsBlocked rules.policy (locks_held settled) settled.waits wanted
     × (outcome ≡ answered_then (with_lock settled wanted) wanted.p wanted.n replies.Ok made)
-test_ready rules settled event wanted made outcome grants others (inl blocked) are told =
-    absurd (Ok≢waits settled wanted wanted.p wanted.n made outcome grants event.notes others blocked.1 are told)
-test_ready rules settled event wanted made outcome grants others (inr free) are told = free
+test_ready rules settled event wanted made outcome grants others h h2 h3 = grind (arith, common_steps, Ok≢waits)
 
 same_mode : (m k : Mode) → IsTrue (is_same_mode m k) → m ≡ k
-same_mode Read Read e = refl
-same_mode Read Write e = cc
-same_mode Write Read e = cc
-same_mode Write Write e = refl
+same_mode m k h = grind (arith, common_steps)
 
 known_bool : {Yes No : Type 0} (b : Bool) → MatchBool b Yes No → ((b ≡ true) × Yes) ⊎ No
 known_bool true h = inl (refl, h)

@@ -1,4 +1,5 @@
 -- Under the queue policy waits that conflict are granted in turn.
+use Rattle.std.proofs.lemmas.Grind.{common_steps}
 use Rattle.std.proofs.Common.{ℕ, ◌≡◌, ◌≢◌, ◌+◌, ◌≤◌, ◌⊎◌, inl, inr, refl, sym, ◌∙◌, ap, subst, arith, eq-eqb, ne_eqb, length, append_assoc, List, [], ◌∷◌, ◌++◌, ⊎_elim, Option, Some, Result, Ok}
 use Rattle.std.specs.Prelude.{slice_get}
 use Rattle.std.specs.List.{Contains, AllByRecursion as Each}
@@ -6,8 +7,6 @@ use Rattle.std.proofs.lemmas.Bool.{cases_eq}
 use Rattle.std.proofs.lemmas.List.Concat.{flat_map-append}
 use Rattle.std.proofs.lemmas.List.Elements.{All-contains, All-from_recursion, Contains-append_left, Contains-append_right, Contains-append_cases}
 use Rattle.std.proofs.lemmas.Option.{IfSome_then}
-use Rattle.range_core.specs.Resolving.{resolution}
-use Rattle.fd_table.specs.declared.tables.Look.{Look}
 use Rattle.wait_core.specs.declared.Policy.TheVariants.{Queue}
 use Rattle.wait_core.specs.declared.Wait.{Wait}
 use Rattle.wait_core.specs.Blocking.{WaitsConflict}
@@ -16,14 +15,11 @@ use Rattle.lock_manager.specs.declared.request.Lock.{Lock}
 use Rattle.lock_manager.specs.declared.request.LkCmd.{LkCmd}
 use Rattle.lock_manager.specs.declared.request.FlockOp.{FlockOp}
 use Rattle.lock_manager.specs.declared.request.Request.{Request}
-use Rattle.lock_manager.specs.declared.request.Request.TheVariants.{OpenFile, Dup, DupTo, CloseFd, Seek, Resize, Lk, Flock, Fork, Exit, Signal, Kill}
 use Rattle.lock_manager.specs.declared.request.Note.{Note}
 use Rattle.lock_manager.specs.declared.request.Note.TheVariants.{Answer, Waits}
 use Rattle.lock_manager.specs.declared.request.Reply.{Reply}
 use Rattle.lock_manager.specs.declared.request.Reply.TheVariants as replies
 use Rattle.lock_manager.specs.declared.request.ProcState.{ProcState}
-use Rattle.lock_manager.specs.LockWords.{wanted_lock}
-use Rattle.lock_manager.specs.FlockCalls.{wanted_flock}
 use Rattle.lock_manager.specs.State.{State, opening_state}
 use Rattle.lock_manager.specs.OneOutcome.{StepHasOneOutcome}
 use Rattle.session_core.specs.Event.{Event}
@@ -59,47 +55,17 @@ Ok-one e k = cc
 
 asks_one_bytes : (S : State) (p n fd : ℕ) (cmd : LkCmd) (lock : Lock) (v w : Wait) → AsksForBytes S p n fd cmd lock v
     → AsksForBytes S p n fd cmd lock w → v ≡ w
-asks_one_bytes S p n fd cmd lock v w h k =
-    let look : h.look ≡ k.look = Some-one h.of_open k.of_open in
-    let span : h.span ≡ k.span =
-    Ok-one h.of_range (subst (λ (l : Look). resolution lock.whence lock.start lock.len l.offset l.size ≡ Ok k.span) (sym look) k.of_range) in
-    let mode : h.mode ≡ k.mode = Some-one h.of_kind k.of_kind in
-    h.is ∙ (λ i. wanted_lock cmd p n (look i) (span i) (mode i)) ∙ sym k.is
+asks_one_bytes S p n fd cmd lock v w h k = grind (arith, common_steps, Some-one, Ok-one)
 
 asks_one_whole : (S : State) (p n fd : ℕ) (op : FlockOp) (v w : Wait) → AsksForWhole S p n fd op v → AsksForWhole S p n fd op w → v ≡ w
-asks_one_whole S p n fd op v w h k =
-    let look : h.look ≡ k.look = Some-one h.of_open k.of_open in
-    let mode : h.mode ≡ k.mode = Some-one h.of_op k.of_op in
-    h.is ∙ (λ i. wanted_flock p n (look i) (mode i)) ∙ sym k.is
+asks_one_whole S p n fd op v w h k = grind (arith, common_steps, Some-one)
 
 pub WouldWaitAs-one : (S : State) (p n : ℕ) (request : Request) (v w : Wait) → WouldWaitAs S p n request v → WouldWaitAs S p n request w → v ≡ w
-WouldWaitAs-one S p n (Lk fd cmd lock) v w h k = asks_one_bytes S p n fd cmd lock v w h.1 k.1
-WouldWaitAs-one S p n (Flock fd op nb) v w h k = asks_one_whole S p n fd op v w h.1 k.1
-WouldWaitAs-one S p n (OpenFile file access) v w h k = absurd h
-WouldWaitAs-one S p n (Dup fd) v w h k = absurd h
-WouldWaitAs-one S p n (DupTo fd to) v w h k = absurd h
-WouldWaitAs-one S p n (CloseFd fd) v w h k = absurd h
-WouldWaitAs-one S p n (Seek fd offset) v w h k = absurd h
-WouldWaitAs-one S p n (Resize fd size) v w h k = absurd h
-WouldWaitAs-one S p n (Fork child) v w h k = absurd h
-WouldWaitAs-one S p n Exit v w h k = absurd h
-WouldWaitAs-one S p n (Signal target) v w h k = absurd h
-WouldWaitAs-one S p n (Kill target) v w h k = absurd h
+WouldWaitAs-one S p n request v w h h2 = grind (arith, common_steps, asks_one_bytes, asks_one_whole)
 
 -- and it is the request of that process, with that number
 pub WouldWaitAs-of : (S : State) (p n : ℕ) (request : Request) (v : Wait) → WouldWaitAs S p n request v → (v.p ≡ p) × (v.n ≡ n)
-WouldWaitAs-of S p n (Lk fd cmd lock) v h = (ap (λ (x : Wait). x.p) h.1.is, ap (λ (x : Wait). x.n) h.1.is)
-WouldWaitAs-of S p n (Flock fd op nb) v h = (ap (λ (x : Wait). x.p) h.1.is, ap (λ (x : Wait). x.n) h.1.is)
-WouldWaitAs-of S p n (OpenFile file access) v h = absurd h
-WouldWaitAs-of S p n (Dup fd) v h = absurd h
-WouldWaitAs-of S p n (DupTo fd to) v h = absurd h
-WouldWaitAs-of S p n (CloseFd fd) v h = absurd h
-WouldWaitAs-of S p n (Seek fd offset) v h = absurd h
-WouldWaitAs-of S p n (Resize fd size) v h = absurd h
-WouldWaitAs-of S p n (Fork child) v h = absurd h
-WouldWaitAs-of S p n Exit v h = absurd h
-WouldWaitAs-of S p n (Signal target) v h = absurd h
-WouldWaitAs-of S p n (Kill target) v h = absurd h
+WouldWaitAs-of S p n request v h = grind (arith, common_steps)
 
 -- each number that is answered to a process among these notes is one of those that were counted
 counted_below : (q m : ℕ) (reply : Reply) (last : ℕ) (notes : List Note) → AreCountedFrom last (numbers_in q notes)
@@ -217,11 +183,7 @@ Leads-stands rules processes S (event ∷ events) T taken counts v queue t next 
 -- once w's request was taken, no later one is it
 later_than : (S : State) (taken : ℕ → ℕ) (event : Event) (w x : Wait) → event.n ≡ taken event.p + 1 → w.n ≤ taken w.p
     → WouldWaitAs S event.p event.n event.request x → OnlyAs w x
-later_than S taken event w x number past asks same =
-    let of_event = WouldWaitAs-of S event.p event.n event.request x asks in
-    let p : event.p ≡ w.p = sym of_event.0 ∙ same.0 in
-    let n : taken w.p + 1 ≡ w.n = ap (λ q. taken q + 1) (sym p) ∙ sym number ∙ sym of_event.1 ∙ same.1 in
-    absurd (omega arith)
+later_than S taken event w x number past asks same = grind (arith, common_steps, WouldWaitAs-of)
 
 not_own : (taken : ℕ → ℕ) (event : Event) (w : Wait) → event.n ≡ taken event.p + 1 → w.n ≤ taken w.p
     → ¬ ((event.p ≡ w.p) × (event.n ≡ w.n))

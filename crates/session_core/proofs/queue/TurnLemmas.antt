@@ -1,4 +1,5 @@
 -- What becomes of a wait in the list, while others are granted.
+use Rattle.std.proofs.lemmas.Grind.{common_steps}
 use Rattle.std.proofs.Common.{ℕ, suc, ◌≡◌, ◌≢◌, ◌⊎◌, inl, inr, refl, sym, ◌∙◌, ap, subst, arith, List, [], ◌∷◌, ◌++◌, ⊎_elim, Some, length}
 use Rattle.std.specs.List.{Contains, AllByRecursion as Each}
 use Rattle.std.proofs.lemmas.Bool.{cases_eq}
@@ -43,10 +44,7 @@ split_head x y xs (t ∷ told) others differs is =
 -- and with two others
 split_two : {X : Type 0} (x x' y : X) (xs told others : List X) → x ≢ y → x' ≢ y → x ∷ x' ∷ xs ≡ told ++ y ∷ others
     → (rest : List X) × (told ≡ x ∷ x' ∷ rest) × (xs ≡ rest ++ y ∷ others)
-split_two x x' y xs told others differs also is =
-    let (rest, first, later) = split_head x y (x' ∷ xs) told others differs is in
-    let (rest', second, last) = split_head x' y xs rest others also later in
-    (rest', first ∙ ap (λ l. x ∷ l) second, last)
+split_two x x' y xs told others differs also is = grind (arith, common_steps, split_head)
 
 -- one of two lists that are one has it
 pub split_append : {X : Type 0} (xs ys before : List X) (x : X) (after : List X) → xs ++ ys ≡ before ++ x ∷ after
@@ -148,27 +146,13 @@ Waits-join S p n request notes left q m (ends h) among =
 
 -- the event that ends a process does so in the words of the headline
 ends_process : (event : Event) (waits left : List Wait) → (h : Ends waits event.p event.n event.request event.notes left) → EndsProcess event h.target
-ends_process event waits left h =
-    ⊎_elim (λ own. ⊎_elim (λ exit. inl (own.0, exit)) (λ kill. inr (inl (own.0, kill))) own.1)
-    (λ other.
-    inr
-    (inr (
-      other.0,
-      other.1,
-      subst (λ l. Contains l (Answer event.p event.n replies.Ok)) (sym (h.are ∙ ap (λ l. l ++ h.grants) other.2))
-          (Contains-here (Answer event.p event.n replies.Ok) (Answer event.p event.n replies.Ok) h.grants refl),
-    )))
-    h.how
+ends_process event waits left h = grind (arith, common_steps, Contains-here)
 
 -- the wait that is interrupted is the last that was taken of its process
 interrupted : (states : ℕ → ProcState) (taken : ℕ → ℕ) (P Q : Wait → Type 0) (v : Wait) (waits : List Wait) (target : ℕ) (wait : Wait)
     → Each (IsLastTaken states taken) waits → StandsIn P Q v waits → wait_of waits target ≡ Some wait → v.p ≡ target
     → Answer target wait.n (replies.Err EINTR) ≡ Answer v.p v.n (replies.Err EINTR)
-interrupted states taken P Q v waits target wait lasts stands found same =
-    let other = found_wait (IsLastTaken states taken) target waits wait found lasts in
-    let mine = StandsIn-each P Q v (IsLastTaken states taken) waits lasts stands in
-    let number : wait.n ≡ v.n = other.1.last ∙ ap taken (other.0 ∙ sym same) ∙ sym mine.last in
-    ap (λ q. Answer q wait.n (replies.Err EINTR)) (sym same) ∙ ap (λ m. Answer v.p m (replies.Err EINTR)) number
+interrupted states taken P Q v waits target wait lasts stands found same = grind (arith, common_steps, found_wait, StandsIn-each)
 
 -- a wait in the list is over by an event, or stays
 pub Move-stands : (P Q : Wait → Type 0) (v : Wait) (S : State) (taken : ℕ → ℕ) (event : Event) (left : List Wait)

@@ -1,5 +1,6 @@
 -- What each event does to the list of waits, under the queue policy.
-use Rattle.std.proofs.Common.{ℕ, ◌≡◌, ◌≢◌, ◌⊎◌, inl, inr, refl, sym, ◌∙◌, ap, subst, append-nil, append_assoc, eq-eqb, ne_eqb, Bool, true, false, List, [], ◌∷◌, ◌++◌, ⊎_elim, Any, Option, Some, None, Result, Ok, Err, MatchBool, MatchOption, MatchResult}
+use Rattle.std.proofs.Common.{arith, rules, ℕ, ◌≡◌, ◌≢◌, ◌⊎◌, inl, inr, refl, sym, ap, subst, append-nil, append_assoc, eq-eqb, ne_eqb, Bool, List, [], ◌∷◌, ◌++◌, ⊎_elim, Any, Option, Some, None, Result, Ok, Err, MatchBool, MatchOption, MatchResult}
+use Rattle.std.proofs.lemmas.Grind.{common_steps}
 use Rattle.std.specs.Prelude.{IsTrue, IsFalse, ◌||◌}
 use Rattle.std.proofs.lemmas.Bool.{cases_eq}
 use Rattle.range_core.specs.declared.Mode.{Mode}
@@ -8,7 +9,6 @@ use Rattle.range_core.specs.declared.Span.{Span}
 use Rattle.range_core.specs.Resolving.{resolution}
 use Rattle.lock_book.specs.Changes.{flock_mode_in}
 use Rattle.fd_table.specs.declared.FdFault.{FdFault}
-use Rattle.fd_table.specs.declared.FdFault.TheVariants as faults
 use Rattle.fd_table.specs.declared.tables.Look.{Look}
 use Rattle.fd_table.specs.Descriptors.{look_at}
 use Rattle.wait_core.specs.declared.Policy.{Policy}
@@ -33,11 +33,11 @@ use Rattle.lock_manager.specs.declared.request.Reply.{Reply}
 use Rattle.lock_manager.specs.declared.request.Reply.TheVariants as replies
 use Rattle.lock_manager.specs.declared.request.ProcState.{ProcState}
 use Rattle.lock_manager.specs.declared.request.ProcState.TheVariants.{Unborn, Live, Waiting, Ended}
-use Rattle.lock_manager.specs.State.{State, with_lock, with_byte_mode, with_flock_mode, with_process}
+use Rattle.lock_manager.specs.State.{State, with_lock, with_flock_mode, with_process}
 use Rattle.lock_manager.specs.Settling.{Settles, granted}
-use Rattle.lock_manager.specs.Outcomes.{Outcome, answered, answered_then, refused, waits_then, range_error, IsRefusal}
+use Rattle.lock_manager.specs.Outcomes.{Outcome, answered, answered_then, refused, waits_then, IsRefusal}
 use Rattle.lock_manager.specs.DescriptorCalls.{with_released}
-use Rattle.lock_manager.specs.LockWords.{is_get, is_bad_argument, may_wait, wanted_mode, permits, held_reply, lock_owner, wanted_lock}
+use Rattle.lock_manager.specs.LockWords.{is_get, may_wait, wanted_mode, permits, held_reply, wanted_lock}
 use Rattle.lock_manager.specs.LockCommands.{LockComesTo, DescribedComesTo, RangeComesTo, ModeComesTo, CommandComesTo}
 use Rattle.lock_manager.specs.FlockCalls.{FlockComesTo, FlockOpComesTo, FlockModeComesTo, FlockTestComesTo, is_same_mode, wanted_flock}
 use Rattle.lock_manager.specs.ProcessCalls.{EndComesTo, SignalComesTo, KillOtherComesTo, KillComesTo}
@@ -99,40 +99,7 @@ pub data WaitsMove (S : State) (p n : ℕ) (request : Request) (notes : List Not
 -- and then by further grants
 WaitsMove-then : (S : State) (p n : ℕ) (request : Request) (told : List Note) (middle : List Wait) (grants : List Note) (left : List Wait)
     → WaitsMove S p n request told middle → Passes middle grants left → WaitsMove S p n request (told ++ grants) left
-WaitsMove-then S p n request told middle grants left (answers h) k =
-    answers (record { reply = h.reply; grants = h.grants ++ grants; are = ap (λ l. l ++ grants) h.are; passes = Passes-then S.waits h.grants middle grants left h.passes k })
-WaitsMove-then S p n request told middle grants left (joins h) k =
-    joins
-    (record {
-      wait = h.wait;
-      asks = h.asks;
-      inner = h.inner;
-      middle = h.middle;
-      outer = h.outer ++ grants;
-      are = ap (λ l. l ++ grants) h.are ∙ ap (λ l. Waits p n ∷ l) (append_assoc h.inner h.outer grants);
-      first = h.first;
-      second = Passes-then (h.middle ++ h.wait ∷ []) h.outer middle grants left h.second k;
-    })
-WaitsMove-then S p n request told middle grants left (interrupts h) k =
-    interrupts
-    (record {
-      target = h.target;
-      wait = h.wait;
-      found = h.found;
-      grants = h.grants ++ grants;
-      are = ap (λ l. l ++ grants) h.are;
-      passes = Passes-then (without_wait_of S.waits h.target) h.grants middle grants left h.passes k;
-    })
-WaitsMove-then S p n request told middle grants left (ends h) k =
-    ends
-    (record {
-      target = h.target;
-      told = h.told;
-      how = h.how;
-      grants = h.grants ++ grants;
-      are = ap (λ l. l ++ grants) h.are ∙ append_assoc h.told h.grants grants;
-      passes = Passes-then (without_wait_of S.waits h.target) h.grants middle grants left h.passes k;
-    })
+WaitsMove-then S p n request told middle grants left h h2 = grind (arith, common_steps, Passes-then, append_assoc)
 
 -- what nothing blocks under the queue policy conflicts with no earlier wait
 pub ready_apart : (policy : Policy) (locks : Locks) (earlier : List Wait) (wait : Wait) → policy ≡ Queue → ¬ IsBlocked policy locks earlier wait
@@ -174,11 +141,7 @@ comes_refused S p n request error outcome is = comes_answer S S p n request (rep
 
 comes_refusal : (S : State) (p n : ℕ) (request : Request) (fault : FdFault) (outcome : Outcome) → IsRefusal S p n fault outcome
     → Comes S p n request outcome
-comes_refusal S p n request faults.BadFd outcome is = comes_refused S p n request _ outcome is
-comes_refusal S p n request faults.TooMany outcome is = comes_refused S p n request _ outcome is
-comes_refusal S p n request faults.Invalid outcome is = comes_refused S p n request _ outcome is
-comes_refusal S p n request faults.Taken outcome is = comes_refused S p n request _ outcome is
-comes_refusal S p n request (faults.Memory memory) outcome is = absurd is
+comes_refusal S p n request fault outcome h = grind (arith, common_steps, comes_refused)
 
 -- a call that moves no wait
 comes_call : {X : Type 0} (S : State) (p n : ℕ) (request : Request) (T : X → State) (reply : X → Reply) (result : Result X FdFault)
@@ -192,19 +155,7 @@ comes_call S p n request T reply (Err fault) outcome same is = comes_refusal S p
 comes_wait : (S settled : State) (request : Request) (wanted : Wait) (grants : List Note) (outcome : Outcome)
     → WouldWaitAs S wanted.p wanted.n request wanted → Passes S.waits grants settled.waits → outcome ≡ waits_then settled wanted grants
     → Comes S wanted.p wanted.n request outcome
-comes_wait S settled request wanted grants outcome asks passes is =
-    subst (Comes S wanted.p wanted.n request) (sym is)
-    (joins
-    (record {
-      wait = wanted;
-      asks = asks;
-      inner = grants;
-      middle = settled.waits;
-      outer = [];
-      are = ap (λ l. Waits wanted.p wanted.n ∷ l) (sym (append-nil grants));
-      first = passes;
-      second = refl;
-    }))
+comes_wait S settled request wanted grants outcome asks passes is = grind (arith, common_steps, append-nil)
 
 -- the lock is set, which moves no wait
 locked_waits : (S : State) (wanted : Wait) → (with_lock S wanted).waits ≡ S.waits
@@ -260,45 +211,21 @@ comes_mode rules S p n fd cmd lock look span mode outcome opened ranged moded is
 comes_range : (rules : Rules) (S : State) (p n fd : ℕ) (cmd : LkCmd) (lock : Lock) (look : Look) (span : Span) (outcome : Outcome)
     → look_at S.descriptors p fd ≡ Some look → resolution lock.whence lock.start lock.len look.offset look.size ≡ Ok span
     → RangeComesTo rules S p n cmd lock.kind look span outcome → Comes S p n (Lk fd cmd lock) outcome
-comes_range rules S p n fd cmd lock look span outcome opened ranged is =
-    ⊎_elim
-    (λ unlocked.
-    comes_answer S (with_byte_mode S look.file (lock_owner cmd p look) span None) p n (Lk fd cmd lock) replies.Ok outcome refl unlocked)
-    (λ moded. comes_mode rules S p n fd cmd lock look span moded.0 outcome opened ranged moded.1 moded.2)
-    (known_option (λ mode. ModeComesTo rules S p n cmd look span mode outcome) (wanted_mode lock.kind) is)
+comes_range rules S p n fd cmd lock look span outcome opened ranged is = grind (arith, common_steps, comes_answer, comes_mode, known_option)
 
 comes_described : (rules : Rules) (S : State) (p n fd : ℕ) (cmd : LkCmd) (lock : Lock) (look : Look) (outcome : Outcome)
     → look_at S.descriptors p fd ≡ Some look → DescribedComesTo rules S p n cmd lock look outcome → Comes S p n (Lk fd cmd lock) outcome
-comes_described rules S p n fd cmd lock look outcome opened is =
-    ⊎_elim (λ no. comes_refused S p n (Lk fd cmd lock) _ outcome no)
-    (λ good.
-    ⊎_elim (λ ranged. comes_range rules S p n fd cmd lock look ranged.0 outcome opened ranged.1 ranged.2)
-    (λ no. comes_refused S p n (Lk fd cmd lock) (range_error no.0) outcome no.1)
-    (known_result (λ span. RangeComesTo rules S p n cmd lock.kind look span outcome) (λ fault. outcome ≡ refused S p n (range_error fault))
-    (resolution lock.whence lock.start lock.len look.offset look.size) good))
-    (cases_bool (is_bad_argument cmd lock) is)
+comes_described rules S p n fd cmd lock look outcome opened is = grind (arith, common_steps, comes_refused, comes_range, known_result, cases_bool)
 
 comes_lock : (rules : Rules) (S : State) (p n fd : ℕ) (cmd : LkCmd) (lock : Lock) (outcome : Outcome)
     → LockComesTo rules S p n fd cmd lock outcome → Comes S p n (Lk fd cmd lock) outcome
-comes_lock rules S p n fd cmd lock outcome is =
-    ⊎_elim (λ no. comes_refused S p n (Lk fd cmd lock) _ outcome no)
-    (λ opened. comes_described rules S p n fd cmd lock opened.0 outcome opened.1 opened.2)
-    (known_option (λ look. DescribedComesTo rules S p n cmd lock look outcome) (look_at S.descriptors p fd) is)
+comes_lock rules S p n fd cmd lock outcome is = grind (arith, common_steps, comes_refused, comes_described, known_option)
 
 -- the test of a flock request, behind the grants of its conversion or none
 comes_flock_test : (rules : Rules) (S settled : State) (request : Request) (nb : Bool) (wanted : Wait) (grants : List Note) (outcome : Outcome)
     → (IsFalse nb → WouldWaitAs S wanted.p wanted.n request wanted) → Passes S.waits grants settled.waits
     → FlockTestComesTo rules settled nb wanted grants outcome → Comes S wanted.p wanted.n request outcome
-comes_flock_test rules S settled request true wanted grants outcome asks passes is =
-    ⊎_elim (λ no. comes_answer_then S settled wanted.p wanted.n request _ grants outcome passes no)
-    (λ yes.
-    comes_answer_then S (with_lock settled wanted) wanted.p wanted.n request _ grants outcome
-    (subst (λ left. Passes S.waits grants left) (sym (locked_waits settled wanted)) passes) yes) (cases_fact is)
-comes_flock_test rules S settled request false wanted grants outcome asks passes is =
-    ⊎_elim (λ waits. comes_wait S settled request wanted grants outcome (asks refl) passes waits)
-    (λ yes.
-    comes_answer_then S (with_lock settled wanted) wanted.p wanted.n request _ grants outcome
-    (subst (λ left. Passes S.waits grants left) (sym (locked_waits settled wanted)) passes) yes) (cases_fact is)
+comes_flock_test rules S settled request nb wanted grants outcome h h2 h3 = grind (arith, common_steps, comes_answer_then, locked_waits, cases_fact, comes_wait)
 
 comes_flock_mode : (rules : Rules) (S : State) (request : Request) (look : Look) (nb : Bool) (wanted : Wait) (mode : Option Mode) (outcome : Outcome)
     → rules.policy ≡ Queue → (IsFalse nb → WouldWaitAs S wanted.p wanted.n request wanted)
@@ -325,26 +252,16 @@ comes_flock_op rules S p n fd look Ex nb outcome queue opened is =
 
 comes_flock : (rules : Rules) (S : State) (p n fd : ℕ) (op : FlockOp) (nb : Bool) (outcome : Outcome) → rules.policy ≡ Queue
     → FlockComesTo rules S p n fd op nb outcome → Comes S p n (Flock fd op nb) outcome
-comes_flock rules S p n fd op nb outcome queue is =
-    ⊎_elim (λ no. comes_refused S p n (Flock fd op nb) _ outcome no)
-    (λ opened. comes_flock_op rules S p n fd opened.0 op nb outcome queue opened.1 opened.2)
-    (known_option (λ look. FlockOpComesTo rules S p n look op nb outcome) (look_at S.descriptors p fd) is)
+comes_flock rules S p n fd op nb outcome queue is = grind (arith, common_steps, comes_refused, comes_flock_op, known_option)
 
 -- a process ends
 comes_end : (S : State) (p n target : ℕ) (request : Request) (told : List Note) (outcome : Outcome) → IsToldOf p n request target told
     → EndComesTo S target told outcome → Comes S p n request outcome
-comes_end S p n target request told outcome how is =
-    subst (Comes S p n request) (sym is.3)
-    (ends (record { target = target; told = told; how = how; grants = []; are = sym (append-nil told); passes = refl }))
+comes_end S p n target request told outcome how is = grind (arith, common_steps, append-nil)
 
 comes_signal : (S : State) (p n target : ℕ) (state : ProcState) (outcome : Outcome) → SignalComesTo S p n target state outcome
     → Comes S p n (Signal target) outcome
-comes_signal S p n target Unborn outcome is = comes_refused S p n (Signal target) _ outcome is
-comes_signal S p n target Ended outcome is = comes_refused S p n (Signal target) _ outcome is
-comes_signal S p n target Live outcome is = comes_answer S S p n (Signal target) _ outcome refl is
-comes_signal S p n target Waiting outcome is =
-    subst (Comes S p n (Signal target)) (sym is.2)
-    (interrupts (record { target = target; wait = is.0; found = is.1; grants = []; are = refl; passes = refl }))
+comes_signal S p n target state outcome h = grind (arith, common_steps, comes_refused, comes_answer)
 
 comes_kill_other : (S : State) (p n target : ℕ) (state : ProcState) (outcome : Outcome) → p ≢ target
     → KillOtherComesTo S p n target state outcome → Comes S p n (Kill target) outcome

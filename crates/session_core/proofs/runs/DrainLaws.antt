@@ -1,5 +1,6 @@
 -- A list of arrivals has one drain, since a step has one outcome.
-use Rattle.std.proofs.Common.{ℕ, ◌≡◌, ◌+◌, ◌<◌, refl, sym, ◌∙◌, ap, subst, arith, length, List, [], ◌∷◌, ◌++◌, append-nil, append_assoc, inl, inr, Option, Some}
+use Rattle.std.proofs.lemmas.Grind.{common_steps}
+use Rattle.std.proofs.Common.{ℕ, ◌≡◌, ◌+◌, ◌<◌, refl, sym, ◌∙◌, ap, subst, arith, length, List, [], ◌∷◌, ◌++◌, append-nil, append_assoc, Option, Some}
 use Rattle.std.specs.Prelude.{IsNone}
 use Rattle.std.proofs.lemmas.Bool.{cases_lt}
 use Rattle.lock_manager.specs.declared.request.Rules.{Rules}
@@ -24,15 +25,7 @@ not_below states sent events event next h k below = no_mail (next_untaken sent e
 -- the next event is of one process
 next_process : (states : ℕ → ProcState) (sent : ℕ → List Request) (events : List Event) (event next : Event)
     → IsNext states sent events event → IsNext states sent events next → event.p ≡ next.p
-next_process states sent events event next h k =
-    elim (cases_lt event.p next.p) [
-      | inl below ↦ absurd (not_below states sent events event next h k below)
-      | inr above ↦
-          elim (cases_lt next.p event.p) [
-            | inl under ↦ absurd (not_below states sent events next event k h under)
-            | inr over ↦ omega arith
-          ]
-    ]
+next_process states sent events event next h k = grind (arith, common_steps, cases_lt, not_below)
 
 -- where mail is taken one event is next, and it leaves one state
 next_event : StepHasOneOutcome → (rules : Rules) (processes : ℕ) (sent : ℕ → List Request) (events : List Event) (S : State) (event next : Event) (T U : State)

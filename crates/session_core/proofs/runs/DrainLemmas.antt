@@ -1,5 +1,6 @@
 -- Draining: one more event taken, how much mail is left, and one more arrival.
-use Rattle.std.proofs.Common.{ℕ, zero, suc, ◌≡◌, ◌≢◌, ◌+◌, ◌-◌, ◌<◌, ◌≤◌, refl, sym, ◌∙◌, ap, subst, arith, eq-eqb, ne_eqb, length, length-append, List, [], ◌∷◌, ◌++◌, ⊎_elim, true, false, Option, Some, None, Result, Err, is_some, slice_get, get_or, take, drop, map, filter}
+use Rattle.std.proofs.lemmas.Grind.{common_steps}
+use Rattle.std.proofs.Common.{rules, ℕ, zero, suc, ◌≡◌, ◌≢◌, ◌+◌, ◌-◌, ◌<◌, ◌≤◌, refl, sym, ◌∙◌, ap, subst, arith, eq-eqb, ne_eqb, length, length-append, List, [], ◌∷◌, ◌++◌, ⊎_elim, true, false, Option, Some, None, Result, Err, is_some, slice_get, get_or, take, drop}
 use Rattle.std.specs.Prelude.{◌==◌, if◌then◌else◌, IsNone}
 use Rattle.std.proofs.lemmas.Bool.{cases_eq}
 use Rattle.std.proofs.lemmas.List.{append-nil, append_assoc, map-append, take-append-drop, drop_more, take_more}
@@ -27,30 +28,18 @@ use Rattle.session_core.proofs.MailLemmas.{next_untaken-waits}
 pub IsNext-along : (states states' : ℕ → ProcState) (sent sent' : ℕ → List Request) (events events' : List Event) (event : Event)
     → ((p : ℕ) → states p ≡ states' p) → ((p : ℕ) → sent p ≡ sent' p) → events ≡ events' → IsNext states sent events event
     → IsNext states' sent' events' event
-IsNext-along states states' sent sent' events events' event same_states same_sent same_events h =
-    let first : states ≡ states' = λ i p. same_states p i in
-    let second : sent ≡ sent' = λ i p. same_sent p i in
-    subst (λ l. IsNext states' sent' l event) same_events
-    (subst (λ f. IsNext states' f events event) second (subst (λ f. IsNext f sent events event) first h))
+IsNext-along states states' sent sent' events events' event same_states same_sent same_events h = grind (arith, common_steps)
 
 pub IsDrained-along : (states states' : ℕ → ProcState) (sent sent' : ℕ → List Request) (events events' : List Event)
     → ((p : ℕ) → states p ≡ states' p) → ((p : ℕ) → sent p ≡ sent' p) → events ≡ events' → IsDrained states sent events
     → IsDrained states' sent' events'
-IsDrained-along states states' sent sent' events events' same_states same_sent same_events h =
-    let first : states ≡ states' = λ i p. same_states p i in
-    let second : sent ≡ sent' = λ i p. same_sent p i in
-    subst (λ l. IsDrained states' sent' l) same_events
-    (subst (λ f. IsDrained states' f events) second (subst (λ f. IsDrained f sent events) first h))
+IsDrained-along states states' sent sent' events events' same_states same_sent same_events h = grind (arith, common_steps)
 
 pub DrainsMail-along : (rules rules' : Rules) (processes processes' : ℕ) (sent sent' : ℕ → List Request) (events events' : List Event)
     (S : State) (more : List Event) (T : State) → rules ≡ rules' → processes ≡ processes' → ((p : ℕ) → sent p ≡ sent' p)
     → events ≡ events' → DrainsMail rules processes sent events S more T → DrainsMail rules' processes' sent' events' S more T
 DrainsMail-along rules rules' processes processes' sent sent' events events' S more T same_rules same_processes same_sent same_events h =
-    let mail : sent ≡ sent' = λ i p. same_sent p i in
-    subst (λ l. DrainsMail rules' processes' sent' l S more T) same_events
-    (subst (λ f. DrainsMail rules' processes' f events S more T) mail
-    (subst (λ n. DrainsMail rules' n sent events S more T) same_processes
-    (subst (λ r. DrainsMail r processes sent events S more T) same_rules h)))
+    grind (arith, common_steps)
 
 -- one more event taken
 pub TakesMail-push : (rules : Rules) (processes : ℕ) (sent : ℕ → List Request) (events : List Event) (S : State) (more : List Event)
@@ -135,9 +124,7 @@ mail_left-push sent events event (suc k) low high within =
 
 mailbox_within : (mailboxes : List Mailbox) (k : ℕ) (mailbox : Option Mailbox) (request : Request)
     → slice_get mailboxes k ≡ mailbox → slice_get (waiting_in mailbox) 0 ≡ Some request → (1 ≤ suc k) × (suc k ≤ length mailboxes)
-mailbox_within mailboxes k None request is found = cc
-mailbox_within mailboxes k (Some mailbox) request is found =
-    let within = slice_get_within mailboxes k mailbox is in (omega arith, omega arith)
+mailbox_within mailboxes k mailbox request h h2 = grind (arith, common_steps, slice_get_within)
 
 waits_within : (mailboxes : List Mailbox) (p : ℕ) (request : Request) → slice_get (mail_waiting mailboxes p) 0 ≡ Some request
     → (1 ≤ p) × (p ≤ length mailboxes)
@@ -154,47 +141,16 @@ mail_within mailboxes journal p request found =
 pub mail_left-takes : (old new : Session) (place : ℕ) → TakesOne old new place
     → mail_left (sent_of new) (events_in new) (processes_of (manager_of new)) < mail_left (sent_of old) (events_in old) (processes_of (manager_of old))
 unfolding manager_of events_in sent_of
-mail_left-takes old new place takes =
-    let event = takes.event in
-    let range = mail_within old.mailboxes.items old.journal.items event.p event.request takes.is_next.request in
-    let within = slice_get_within (sent_of old event.p) (length (events_of event.p (events_in old))) event.request takes.is_next.request in
-    let less = mail_left-push (sent_of old) (events_in old) event (processes_of (manager_of old)) range.0 (rw (← old.mail.one_each) range.1) within in
-    let sent : sent_of new ≡ sent_of old = λ i p. takes.sent p i in
-    let same : mail_left (sent_of new) (events_in new) (processes_of (manager_of new)) ≡ mail_left (sent_of old) (events_in old ++ event ∷ []) (processes_of (manager_of old)) =
-    ap (λ f. mail_left f (events_in new) (processes_of (manager_of new))) sent
-    ∙ ap (λ l. mail_left (sent_of old) l (processes_of (manager_of new))) takes.journal
-    ∙ ap (λ k. mail_left (sent_of old) (events_in old ++ event ∷ []) k) takes.same_rules.processes in
-    omega arith
+mail_left-takes old new place takes = grind (arith, common_steps, mail_within, slice_get_within, mail_left-push)
 
 -- nothing was taken yet
 pub TakesSome-none : (session : Session) → TakesSome session session
-TakesSome-none session =
-    record {
-      sent = λ p. refl;
-      same_rules = record { rules = refl; processes = refl };
-      goes_on = λ S stands.
-          record { more = []; state = S; takes = refl; journal = sym (append-nil (events_in session)); stands = stands };
-    }
+TakesSome-none session = grind (arith, common_steps, append-nil)
 
 goes_on-push : (old between new : Session) (place : ℕ) → (some : TakesSome old between) → (one : TakesOne between new place) → (S : State)
     → GoesOn old between (TakesMail (rules_of (manager_of old)) (processes_of (manager_of old)) (sent_of old) (events_in old)) S
     → GoesOn old new (TakesMail (rules_of (manager_of old)) (processes_of (manager_of old)) (sent_of old) (events_in old)) S
-goes_on-push old between new place some one S g =
-    let event = one.event in
-    let next = one.step g.state g.stands in
-    let step : IsStep (rules_of (manager_of old)) (processes_of (manager_of old)) g.state event next.0 =
-    subst (λ rules. IsStep rules (processes_of (manager_of old)) g.state event next.0) some.same_rules.rules
-    (subst (λ processes. IsStep (rules_of (manager_of between)) processes g.state event next.0) some.same_rules.processes next.1) in
-    let is_next : IsNext g.state.states (sent_of old) (events_in old ++ g.more) event =
-    IsNext-along (state_at (manager_of between)) g.state.states (sent_of between) (sent_of old) (events_in between) (events_in old ++ g.more) event
-    g.stands.states some.sent g.journal one.is_next in
-    record {
-      more = g.more ++ event ∷ [];
-      state = next.0;
-      takes = TakesMail-push (rules_of (manager_of old)) (processes_of (manager_of old)) (sent_of old) (events_in old) S g.more g.state event next.0 g.takes is_next step;
-      journal = one.journal ∙ ap (λ l. l ++ event ∷ []) g.journal ∙ append_assoc (events_in old) g.more (event ∷ []);
-      stands = next.2;
-    }
+goes_on-push old between new place some one S g = search (rules, IsNext-along, TakesMail-push, append_assoc)
 
 -- one more was taken
 pub TakesSome-push : (old between new : Session) (place : ℕ) → TakesSome old between → TakesOne between new place → TakesSome old new
@@ -211,27 +167,7 @@ TakesSome-push old between new place some one =
 -- until there is none
 pub Drains-from : (old between new : Session) → TakesSome old between
     → IsDrained (state_at (manager_of between)) (sent_of between) (events_in between) → SameSession between new → Drains old new
-Drains-from old between new some drained same =
-    record {
-      sent = λ p. same.sent p ∙ some.sent p;
-      same_rules = record {
-        rules = same.manager.rules ∙ some.same_rules.rules;
-        processes = same.manager.processes ∙ some.same_rules.processes;
-      };
-      goes_on = λ S stands.
-          let g = some.goes_on S stands in
-          record {
-            more = g.more;
-            state = g.state;
-            takes = (
-              g.takes,
-              IsDrained-along (state_at (manager_of between)) g.state.states (sent_of between) (sent_of old) (events_in between) (events_in old ++ g.more)
-                  g.stands.states some.sent g.journal drained,
-            );
-            journal = same.journal ∙ g.journal;
-            stands = same.manager.stands g.state g.stands;
-          };
-    }
+Drains-from old between new some drained same = grind (arith, common_steps, IsDrained-along)
 
 -- a place means that one event was taken
 pub TakesNext-some : (old new : Session) (result : Option ℕ) → is_some result ≡ true → TakesNext old new result
@@ -247,9 +183,7 @@ TakesNext-none old new (Some place) none takes = cc
 
 -- a session that shows the same is at rest too
 pub at_rest_still : (old new : Session) → SameSession old new → IsAtRest old → IsAtRest new
-at_rest_still old new same rest =
-    IsDrained-along (state_at (manager_of old)) (state_at (manager_of new)) (sent_of old) (sent_of new) (events_in old) (events_in new)
-    (λ p. sym (same.manager.states p)) (λ p. sym (same.sent p)) (sym same.journal) rest
+at_rest_still old new same rest = grind (arith, common_steps, IsDrained-along)
 
 -- without mail it is at rest
 pub at_rest_empty : (rules : Rules) (processes : ℕ) (session : Session) → IsEmptySession rules processes session → IsAtRest session
@@ -263,26 +197,12 @@ at_rest_all session p out rest q live =
 
 -- where a session is at rest, there is nothing to take
 pub Drains-none : (session : Session) → IsAtRest session → Drains session session
-Drains-none session rest =
-    Drains-from session session session (TakesSome-none session) rest (record {
-      manager = record { stands = λ S stands. stands; states = λ p. refl; rules = refl; processes = refl };
-      journal = refl;
-      sent = λ p. refl;
-    })
+Drains-none session rest = grind (arith, common_steps, Drains-from, TakesSome-none)
 
 -- what was sent with one arrival more
 pub requests_sent-push : (p : ℕ) (arrivals : List (ℕ × Request)) (q : ℕ) (request : Request)
     → requests_sent p (arrivals ++ (q, request) ∷ []) ≡ (if p == q then requests_sent p arrivals ++ request ∷ [] else requests_sent p arrivals)
-requests_sent-push p arrivals q request =
-    ap (λ l. map (λ (arrival : ℕ × Request). arrival.1) l) (filter-append (λ (arrival : ℕ × Request). arrival.0 == p) arrivals ((q, request) ∷ []))
-    ∙ ⊎_elim
-    (λ same.
-    rw (eq-eqb p q same, eq-eqb q p (sym same))
-    (map-append (λ (arrival : ℕ × Request). arrival.1) (filter (λ (arrival : ℕ × Request). arrival.0 == p) arrivals) ((q, request) ∷ [])))
-    (λ other.
-    rw (ne_eqb p q other, ne_eqb q p (λ e. other (sym e)))
-    (ap (λ l. map (λ (arrival : ℕ × Request). arrival.1) l) (append-nil (filter (λ (arrival : ℕ × Request). arrival.0 == p) arrivals))))
-    (cases_eq p q)
+requests_sent-push p arrivals q request = grind (arith, common_steps, filter-append, eq-eqb, map-append, append-nil, cases_eq)
 
 -- what holds of a session after so many arrivals
 pub record HasRun (rules : Rules) (processes : ℕ) (arrivals : List (ℕ × Request)) (session : Session) : Type 0 where
@@ -295,15 +215,7 @@ pub record HasRun (rules : Rules) (processes : ℕ) (arrivals : List (ℕ × Req
 
 pub HasRun-opening : (rules : Rules) (processes : ℕ) (session : Session) → IsEmptySession rules processes session
     → HasRun rules processes [] session
-HasRun-opening rules processes session empty =
-    record {
-      rules_are = empty.rules_are;
-      processes_are = empty.processes_are;
-      sent = empty.sent;
-      state = opening_state;
-      drained = (empty.journal, refl);
-      stands = empty.opening;
-    }
+HasRun-opening rules processes session empty = grind (arith, common_steps)
 
 pub HasRun-push : (rules : Rules) (processes : ℕ) (arrivals : List (ℕ × Request)) (old new : Session) (p : ℕ) (request : Request)
     → HasRun rules processes arrivals old → Delivers old new p request → HasRun rules processes (arrivals ++ (p, request) ∷ []) new
@@ -326,17 +238,13 @@ HasRun-push rules processes arrivals old new p request h delivers =
     }
 
 requests_sent-append : (p : ℕ) (xs ys : List (ℕ × Request)) → requests_sent p (xs ++ ys) ≡ requests_sent p xs ++ requests_sent p ys
-requests_sent-append p xs ys =
-    ap (λ l. map (λ (arrival : ℕ × Request). arrival.1) l) (filter-append (λ (arrival : ℕ × Request). arrival.0 == p) xs ys)
-    ∙ map-append (λ (arrival : ℕ × Request). arrival.1) (filter (λ (arrival : ℕ × Request). arrival.0 == p) xs) (filter (λ (arrival : ℕ × Request). arrival.0 == p) ys)
+requests_sent-append p xs ys = grind (arith, common_steps, filter-append, map-append)
 
 -- one arrival more of a list
 pub HasRun-more : (rules : Rules) (processes : ℕ) (arrivals : List (ℕ × Request)) (i : ℕ) (d : ℕ × Request) (old new : Session)
     → i < length arrivals → HasRun rules processes (take i arrivals) old
     → Delivers old new (get_or arrivals i d).0 (get_or arrivals i d).1 → HasRun rules processes (take (i + 1) arrivals) new
-HasRun-more rules processes arrivals i d old new within h delivers =
-    subst (λ l. HasRun rules processes l new) (sym (take_more arrivals i d within))
-    (HasRun-push rules processes (take i arrivals) old new (get_or arrivals i d).0 (get_or arrivals i d).1 h delivers)
+HasRun-more rules processes arrivals i d old new within h delivers = grind (arith, common_steps, take_more, HasRun-push)
 
 -- one arrival past the most is too many
 pub too_many : (arrivals : List (ℕ × Request)) (i : ℕ) (d : ℕ × Request) (most : ℕ) → i < length arrivals

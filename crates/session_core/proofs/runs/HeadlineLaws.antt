@@ -1,5 +1,6 @@
 -- The headline, from what a session keeps: its journal is a run whose state the manager stands for.
-use Rattle.std.proofs.Common.{ℕ, ◌≡◌, ◌+◌, ◌<◌, ◌≤◌, ◌⊎◌, inl, inr, sym, ◌∙◌, ap, subst, arith, length, List, ◌∷◌, ◌++◌, ⊎_elim, Option, Some, None, IfSome, IfNone, All, map, slice_get, option_map}
+use Rattle.std.proofs.Common.{rules, ℕ, ◌≡◌, ◌+◌, ◌<◌, ◌≤◌, ◌⊎◌, sym, ◌∙◌, ap, subst, arith, length, List, ◌∷◌, ◌++◌, ⊎_elim, Option, Some, None, IfSome, IfNone, All, map, slice_get, option_map}
+use Rattle.std.proofs.lemmas.Grind.{common_steps}
 use Rattle.std.specs.List.{AllByRecursion as Each}
 use Rattle.std.proofs.lemmas.Bool.{cases_lt}
 use Rattle.std.proofs.lemmas.List.{length-map, nil_from_length}
@@ -7,7 +8,6 @@ use Rattle.std.proofs.lemmas.List.Elements.{All-from_recursion}
 use Rattle.std.proofs.lemmas.Option.{slice_get_within, IfSome_then}
 use Rattle.lock_manager.specs.declared.request.Request.{Request}
 use Rattle.lock_manager.specs.declared.request.ProcState.{ProcState}
-use Rattle.lock_manager.specs.declared.request.ProcState.TheVariants.{Unborn, Live, Waiting, Ended}
 use Rattle.lock_manager.specs.declared.manager.Manager.{Manager}
 use Rattle.lock_manager.specs.State.{State, opening_state}
 use Rattle.lock_manager.specs.ManagerView.{IsSafeManager, rules_of, processes_of, state_at}
@@ -25,16 +25,12 @@ none q = 0
 
 -- the numbers of a replayed journal follow one another
 replayed_next : (manager : Manager) (journal : List Event) → IsReplayed manager journal → AreNext none journal
-replayed_next manager journal r =
-    AreNext-numbered none journal
-    (λ q place. IfSome_then (slice_get (events_of q journal) place) (r.run.numbered q place) (λ event e. omega arith))
+replayed_next manager journal r = grind (arith, common_steps, AreNext-numbered)
 
 -- what a replayed journal leaves
 pub replayed_tallied : (manager : Manager) (journal : List Event) → 1 ≤ processes_of manager → (r : IsReplayed manager journal)
     → IsTallied (processes_of manager) none none journal r.state
-replayed_tallied manager journal some r =
-    Leads-tallied (rules_of manager) (processes_of manager) opening_state journal r.state none none
-    (opening_tallies (processes_of manager) some) (replayed_next manager journal r) r.run.leads
+replayed_tallied manager journal some r = search (rules, Leads-tallied, opening_tallies, replayed_next)
 
 -- the numbers of the answers to a process count from 1
 pub answers_counted : (processes : ℕ) (journal : List Event) (T : State) → IsTallied processes none none journal T → (p : ℕ)
@@ -49,27 +45,15 @@ length-answers p journal =
 -- how many answers there are to a process that stands so
 tally_of : (processes : ℕ) (journal : List Event) (T : State) → IsTallied processes none none journal T → (p : ℕ)
     → TallyAt (T.states p) (length (events_of p journal)) (length (answers_to p journal))
-tally_of processes journal T t p =
-    let zero_taken : 0 + length (events_of p journal) ≡ length (events_of p journal) = omega arith in
-    let zero_answered : 0 + length (numbers_of p journal) ≡ length (answers_to p journal) =
-    let e = length-answers p journal in omega arith in
-    subst (λ a. TallyAt (T.states p) (length (events_of p journal)) a) zero_answered
-    (subst (λ k. TallyAt (T.states p) k (0 + length (numbers_of p journal))) zero_taken (t.tallies.tally p))
+tally_of processes journal T t p = grind (arith, common_steps, numbers_of, length-answers)
 
 pub at_most_taken : (state : ProcState) (taken answered : ℕ) → TallyAt state taken answered → answered ≤ taken
-at_most_taken Unborn taken answered h = omega arith
-at_most_taken Live taken answered h = omega arith
-at_most_taken Waiting taken answered h = omega arith
-at_most_taken Ended taken answered h = ⊎_elim (λ behind. omega arith) (λ even. omega arith) h
+at_most_taken state taken answered h = grind (arith, common_steps)
 
 -- a process with a taken request that wasn't answered waits or has ended, and it was the last
 unanswered_last : (state : ProcState) (taken answered place : ℕ) → TallyAt state taken answered → answered ≤ place → place < taken
     → (taken ≡ place + 1) × (IsWaiting state ⊎ IsEnded state)
-unanswered_last Unborn taken answered place h low high = absurd (omega arith)
-unanswered_last Live taken answered place h low high = absurd (omega arith)
-unanswered_last Waiting taken answered place h low high = (omega arith, inl tt)
-unanswered_last Ended taken answered place h low high =
-    ⊎_elim (λ behind. (omega arith, inr tt)) (λ even. absurd (omega arith)) h
+unanswered_last state taken answered place h h2 h3 = grind (arith, common_steps)
 
 IfNone-always : {X : Type 0} (o : Option X) (P : Type 0) → P → IfNone o P
 IfNone-always None P h = h

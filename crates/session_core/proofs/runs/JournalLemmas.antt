@@ -1,5 +1,6 @@
 -- A journal with one more event.
-use Rattle.std.proofs.Common.{ℕ, zero, suc, ◌≡◌, ◌≢◌, ◌+◌, ◌<◌, ◌≤◌, refl, sym, ◌∙◌, ap, subst, arith, eq-eqb, ne_eqb, length, length-append, set, List, [], ◌∷◌, ◌++◌, ⊎_elim, Option, Some, None, IfSome, All, map, slice_get, drop}
+use Rattle.std.proofs.Common.{rules, ℕ, zero, suc, ◌≡◌, ◌≢◌, ◌+◌, ◌<◌, ◌≤◌, refl, sym, ◌∙◌, ap, subst, arith, eq-eqb, ne_eqb, length, length-append, set, List, [], ◌∷◌, ◌++◌, ⊎_elim, Option, Some, None, IfSome, All, map, slice_get, drop}
+use Rattle.std.proofs.lemmas.Grind.{common_steps}
 use Rattle.std.specs.Prelude.{◌==◌, if◌then◌else◌}
 use Rattle.std.specs.List.{AllByRecursion as Each}
 use Rattle.std.proofs.lemmas.Bool.{cases_eq}
@@ -12,7 +13,7 @@ use Rattle.lock_manager.specs.State.{State, opening_state}
 use Rattle.lock_manager.specs.ManagerView.{StandsFor, SameManager, IsSafeManager, rules_of, processes_of}
 use Rattle.session_core.specs.declared.mailbox.Mailbox.{Mailbox}
 use Rattle.session_core.specs.Event.{Event}
-use Rattle.session_core.specs.Mailboxes.{mailbox_of, mail_waiting, mail_sent, mail_taken, waiting_in, taken_in, IsMailKept, IsEmptyMailbox}
+use Rattle.session_core.specs.Mailboxes.{mail_waiting, mail_sent, mail_taken, waiting_in, taken_in, IsMailKept, IsEmptyMailbox}
 use Rattle.session_core.specs.Runs.{IsStep, Leads, IsRun, AreNumbered, events_of}
 use Rattle.session_core.specs.Mail.{IsPrefixOf, requests_taken}
 use Rattle.session_core.specs.Draining.{IsReplayed, next_untaken}
@@ -35,13 +36,7 @@ events_of-push_other q journal event other =
 -- how many events of a process there are then
 pub length-events_of-push : (q : ℕ) (journal : List Event) (event : Event)
     → length (events_of q (journal ++ event ∷ [])) ≡ (if q == event.p then length (events_of q journal) + 1 else length (events_of q journal))
-length-events_of-push q journal event =
-    ⊎_elim
-    (λ own.
-    rw (eq-eqb q event.p own)
-    (ap length (events_of-push_own q journal event (sym own)) ∙ length-append (events_of q journal) (event ∷ [])))
-    (λ other. rw (ne_eqb q event.p other) (ap length (events_of-push_other q journal event (λ e. other (sym e)))))
-    (cases_eq q event.p)
+length-events_of-push q journal event = grind (arith, common_steps, eq-eqb, events_of-push_own, length-append, events_of-push_other, cases_eq)
 
 -- what is at a place of a list with one more item
 IfSome-push : {X : Type 0} (P : X → ℕ → Type 0) (xs : List X) (x : X) (first : ℕ)
@@ -91,20 +86,7 @@ pub IsReplayed-push : (old new : Manager) (journal : List Event) (event : Event)
     → rules_of new ≡ rules_of old → processes_of new ≡ processes_of old
     → ((S : State) → StandsFor old S → (T : State) × IsStep (rules_of old) (processes_of old) S event T × StandsFor new T)
     → IsReplayed old journal → IsReplayed new (journal ++ event ∷ [])
-IsReplayed-push old new journal event number same_rules same_processes steps r =
-    let next = steps r.state r.stands in
-    let run : IsRun (rules_of old) (processes_of old) (journal ++ event ∷ []) next.0 =
-    record {
-      leads = Leads-push (rules_of old) (processes_of old) _ journal r.state event next.0 r.run.leads next.1;
-      numbered = AreNumbered-push journal event number r.run.numbered;
-    } in
-    record {
-      state = next.0;
-      run =
-          subst (λ rules. IsRun rules (processes_of new) (journal ++ event ∷ []) next.0) (sym same_rules)
-          (subst (λ processes. IsRun (rules_of old) processes (journal ++ event ∷ []) next.0) (sym same_processes) run);
-      stands = next.2;
-    }
+IsReplayed-push old new journal event number same_rules same_processes steps r = grind (arith, common_steps, Leads-push, AreNumbered-push)
 
 Some-injective : {X : Type 0} {x y : X} → Some x ≡ Some y → x ≡ y
 Some-injective e = cc
@@ -173,26 +155,13 @@ Holds-same old new sent journal journal' some same_journal same safe h =
 -- no process has sent more than it may
 pub mail_sent-few : (processes : ℕ) (mailboxes : List Mailbox) (journal : List Event) → IsMailKept processes mailboxes journal → (p : ℕ)
     → length (mail_sent mailboxes journal p) ≤ request_limit
-mail_sent-few processes mailboxes journal mail p =
-    let both = length-mail_sent processes mailboxes journal mail p in
-    let limit = few (mailbox_of mailboxes p) in
-    omega arith
-  where
-    few : (mailbox : Option Mailbox) → taken_in mailbox + length (waiting_in mailbox) ≤ request_limit
-    few None = omega arith
-    few (Some mailbox) = mailbox.limited
+mail_sent-few processes mailboxes journal mail p = grind (arith, common_steps, length-mail_sent)
 
 -- where the next request of a process is there, it is the first in its mailbox
 pub next_within : (mailboxes : List Mailbox) (place p : ℕ) (mailbox : Mailbox) (journal : List Event) (request : Request)
     → StandsAt mailboxes place p mailbox → next_untaken (mail_sent mailboxes journal) journal p ≡ Some request
     → mailbox.waiting.items ≡ request ∷ drop 1 mailbox.waiting.items
-next_within mailboxes place p mailbox journal request at next =
-    first mailbox.waiting.items
-    (ap (λ m. slice_get (waiting_in m) 0) (sym (mailbox_of-there mailboxes place p mailbox at)) ∙ sym (next_untaken-waits mailboxes journal p) ∙ next)
-  where
-    first : (waiting : List Request) → slice_get waiting 0 ≡ Some request → waiting ≡ request ∷ drop 1 waiting
-    first [] is = cc
-    first (other ∷ waiting) is = let same : other ≡ request = Some-injective is in ap (λ r. r ∷ waiting) same
+next_within mailboxes place p mailbox journal request h h2 = grind (arith, common_steps, mailbox_of-there, next_untaken-waits, Some-injective)
 
 -- so there is one in it
 pub next_waits : (mailboxes : List Mailbox) (place p : ℕ) (mailbox : Mailbox) (journal : List Event) (request : Request)
@@ -256,9 +225,7 @@ pub mail_sent-took : (mailboxes : List Mailbox) (place p : ℕ) (before after : 
     → StandsAt mailboxes place p before → after.waiting.items ≡ drop 1 before.waiting.items → event.p ≡ p
     → journal' ≡ journal ++ event ∷ [] → next_untaken (mail_sent mailboxes journal) journal p ≡ Some event.request → (q : ℕ)
     → mail_sent (set mailboxes place after) journal' q ≡ mail_sent mailboxes journal q
-mail_sent-took mailboxes place p before after journal journal' event at rest own same next q =
-    let first = next_within mailboxes place p before journal event.request at next ∙ ap (λ l. event.request ∷ l) (sym rest) in
-    ap (λ l. mail_sent (set mailboxes place after) l q) same ∙ mail_sent-taken mailboxes place p before after journal event at own first q
+mail_sent-took mailboxes place p before after journal journal' event h h2 h3 h4 h5 q = search (rules, next_within, mail_sent-taken)
 
 -- and so does the headline
 pub Holds-taken : (old new : Manager) (mailboxes mailboxes' : List Mailbox) (journal journal' : List Event)

@@ -1,5 +1,6 @@
 -- Runs made again: their fronts, the one state that they leave, and one more event.
-use Rattle.std.proofs.Common.{ℕ, zero, suc, ◌≡◌, ◌≢◌, ◌+◌, ◌-◌, ◌<◌, ◌≤◌, None, refl, sym, ◌∙◌, ap, subst, arith, length, List, [], ◌∷◌, ◌++◌, ⊎_elim, Some, IfSome, slice_get, get_or, set, get_or-set_same, get_or-set_other, replicate, take, drop, length-append}
+use Rattle.std.proofs.lemmas.Grind.{common_steps}
+use Rattle.std.proofs.Common.{rules, ℕ, zero, suc, ◌≡◌, ◌≢◌, ◌+◌, ◌-◌, ◌<◌, ◌≤◌, None, refl, sym, ◌∙◌, ap, subst, arith, length, List, [], ◌∷◌, ◌++◌, ⊎_elim, Some, IfSome, slice_get, get_or, set, get_or-set_same, get_or-set_other, replicate, take, drop, length-append}
 use Rattle.std.specs.Prelude.{◌==◌}
 use Rattle.std.specs.declared.vec.Vec.{Vec}
 use Rattle.std.specs.declared.alloc.Global.{Global}
@@ -8,8 +9,7 @@ use Rattle.std.proofs.lemmas.List.{append_assoc, take-append-drop, take_more}
 use Rattle.std.proofs.lemmas.List.Elements.{filter-append}
 use Rattle.lock_manager.specs.declared.request.Rules.{Rules}
 use Rattle.lock_manager.specs.declared.request.Note.{Note}
-use Rattle.lock_manager.specs.declared.request.ProcState.{ProcState}
-use Rattle.lock_manager.specs.declared.request.ProcState.TheVariants.{Unborn, Live, Waiting, Ended}
+use Rattle.lock_manager.specs.declared.request.ProcState.TheVariants.{Unborn}
 use Rattle.lock_manager.specs.State.{State, opening_state}
 use Rattle.lock_manager.specs.Step.{Step}
 use Rattle.lock_manager.specs.OneOutcome.{StepHasOneOutcome}
@@ -18,7 +18,7 @@ use Rattle.session_core.specs.declared.check.Replay.{Replay}
 use Rattle.session_core.specs.Event.{Event}
 use Rattle.session_core.specs.Runs.{IsStep, IsRun, Leads, AreNumbered, events_of}
 use Rattle.session_core.specs.declared.check.Expected.{Expected}
-use Rattle.session_core.specs.declared.check.Expected.TheVariants.{NoRequest, NumberAfter, Notes}
+use Rattle.session_core.specs.declared.check.Expected.TheVariants.{Notes}
 use Rattle.session_core.specs.Legality.{WouldHave}
 use Rattle.session_core.specs.Mail.{answers_in, answers_to}
 use Rattle.session_core.specs.LastAnswers.{latest, last_of, processes_in}
@@ -90,9 +90,7 @@ IsRun-last one rules processes events S event T before run =
 -- the run that was made, under the rules that are given
 made_run : (rules : Rules) (processes : ℕ) (replay : Replay) (events : List Event) → (made : HasMade rules processes replay events)
     → IsRun rules processes events made.replayed.state
-made_run rules processes replay events made =
-    subst (λ r. IsRun r processes events made.replayed.state) made.rules_are
-    (subst (λ n. IsRun (rules_of replay.manager) n events made.replayed.state) made.processes_are made.replayed.run)
+made_run rules processes replay events made = grind (arith, common_steps)
 
 pub run_of : (rules : Rules) (processes : ℕ) (replay : Replay) (events : List Event) → HasMade rules processes replay events
     → (T : State) × IsRun rules processes events T
@@ -122,18 +120,12 @@ not_begun rules processes events event none more T run =
     none front.0 front.1
 
 not_next : (replay : Replay) (event : Event) (expected : Expected) → IsOutOfTurn replay event expected → ¬ IsNextOf replay event
-not_next replay event (NoRequest state) out next = out.1 (sym out.0 ∙ next.able.live)
-not_next replay event (NumberAfter taken) out next = out.2 (next.number ∙ ap (λ k. k + 1) (sym out.1))
-not_next replay event (Notes notes) out next = out
+not_next replay event expected h h2 = grind (arith, common_steps)
 
 WouldHave-out_of_turn : (rules : Rules) (processes : ℕ) (replay : Replay) (events : List Event) (event : Event) (expected : Expected)
     → (made : HasMade rules processes replay events) → IsOutOfTurn replay event expected
     → WouldHave rules processes events made.replayed.state event expected
-WouldHave-out_of_turn rules processes replay events event (NoRequest state) made out =
-    (sym (made.replayed.stands.states event.p) ∙ out.0, out.1)
-WouldHave-out_of_turn rules processes replay events event (NumberAfter taken) made out =
-    (sym (made.replayed.stands.states event.p) ∙ out.0, out.1 ∙ made.counts event.p, out.2)
-WouldHave-out_of_turn rules processes replay events event (Notes notes) made out = absurd out
+WouldHave-out_of_turn rules processes replay events event expected made h = grind (arith, common_steps)
 
 -- where the event is out of turn it is illegal
 pub Repeats-out_of_turn : StepHasOneOutcome → (old new : Replay) (event : Event) (expected : Expected) → IsOutOfTurn old event expected
@@ -149,28 +141,14 @@ Repeats-out_of_turn one old new event expected out rules processes events made =
     }
 
 count_elsewhere : (counts : List ℕ) (place n p : ℕ) → suc place ≢ p → count_of (set counts place n) p ≡ count_of counts p
-count_elsewhere counts place n zero other = refl
-count_elsewhere counts place n (suc k) other =
-    let apart : k ≢ place = λ e. other (ap suc (sym e)) in rw get_or-set_other refl
+count_elsewhere counts place n p h = grind (arith, common_steps, get_or-set_other)
 
 -- the counts with one more request of the process of one more event
 count_of-push : (counts : List ℕ) (place : ℕ) (events : List Event) (event : Event) → suc place ≡ event.p → place < length counts
     → event.n ≡ count_of counts event.p + 1 → ((p : ℕ) → count_of counts p ≡ length (events_of p events)) → (p : ℕ)
     → count_of (set counts place event.n) p ≡ length (events_of p (events ++ event ∷ []))
-count_of-push counts place events event at within number h p =
-    ⊎_elim
-    (λ (own : event.p ≡ p).
-    let more : length (events_of p (events ++ event ∷ [])) ≡ length (events_of p events) + 1 =
-    ap length (events_of-push_own p events event own) ∙ length-append (events_of p events) (event ∷ []) in
-    let there : suc place ≡ p = at ∙ own in
-    let here : count_of (set counts place event.n) (suc place) ≡ event.n = rw get_or-set_same refl in
-    let counted : event.n ≡ count_of counts p + 1 = subst (λ q. event.n ≡ count_of counts q + 1) own number in
-    subst (λ q. count_of (set counts place event.n) q ≡ event.n) there here ∙ counted ∙ ap (λ k. k + 1) (h p) ∙ sym more)
-    (λ (other : event.p ≢ p).
-    let same : length (events_of p (events ++ event ∷ [])) ≡ length (events_of p events) =
-    ap length (events_of-push_other p events event other) in
-    count_elsewhere counts place event.n p (λ e. other (sym at ∙ e)) ∙ h p ∙ sym same)
-    (cases_eq event.p p)
+count_of-push counts place events event h h2 h3 h4 p =
+    grind (arith, common_steps, events_of-push_own, length-append, get_or-set_same, events_of-push_other, count_elsewhere, cases_eq)
 
 -- one more event, which the replay's manager told: the event's process and number are the next, and so many notes were told
 pub Makes-told : (old new : Replay) (event : Event) (place : ℕ) (notes : List Note) → IsNextOf old event → place ≡ event.p - 1
@@ -221,25 +199,14 @@ Repeats-other_notes one old new event notes other makes rules processes events m
     }
 
 count_of-zeros : (many p : ℕ) → count_of (replicate many 0) p ≡ 0
-count_of-zeros many zero = refl
-count_of-zeros zero (suc place) = refl
-count_of-zeros (suc many) (suc zero) = refl
-count_of-zeros (suc many) (suc (suc place)) = count_of-zeros many (suc place)
+count_of-zeros many p = grind (arith, common_steps)
 
 -- at the opening no event was made
 pub HasMade-opening : (rules : Rules) (processes : ℕ) (replay : Replay) (many : ℕ) → 1 ≤ processes → rules_of replay.manager ≡ rules
     → processes_of replay.manager ≡ processes → StandsFor replay.manager opening_state → replay.taken.items ≡ replicate many 0
     → processes_in replay.answers ≡ processes → ((p : ℕ) → last_of replay.answers p ≡ None)
     → HasMade rules processes replay []
-HasMade-opening rules processes replay many some rules_are processes_are opening zeros as_many none =
-    record {
-      some = some;
-      rules_are = rules_are;
-      processes_are = processes_are;
-      replayed = record { state = opening_state; run = record { leads = refl; numbered = λ q place. tt }; stands = opening };
-      counts = λ p. ap (λ counts. count_of counts p) zeros ∙ count_of-zeros many p;
-      answered = record { one_each = as_many; latest_is = λ p low high. none p };
-    }
+HasMade-opening rules processes replay many some rules_are processes_are opening zeros as_many none = grind (arith, common_steps, count_of-zeros)
 
 -- the events so far with this one are so many of all
 pub take_next : (events : List Event) (i : ℕ) (event : Event) → i < length events → event ≡ get_or events i event
@@ -258,29 +225,12 @@ no_run rules processes events i event within at none T run =
 -- the manager of what was made stands for each state that the events leave
 pub after_made : StepHasOneOutcome → (rules : Rules) (processes : ℕ) (replay : Replay) (events : List Event) → HasMade rules processes replay events
     → IsAfter rules processes events replay.manager
-after_made one rules processes replay events made =
-    let run = made_run rules processes replay events made in
-    record {
-      rules_are = made.rules_are;
-      processes_are = made.processes_are;
-      stands = λ T other.
-          subst (λ S. StandsFor replay.manager S) (Leads-unique one rules processes opening_state events made.replayed.state T run.leads other.leads)
-          made.replayed.stands;
-    }
+after_made one rules processes replay events made = grind (arith, common_steps, made_run, Leads-unique)
 
 -- a process that isn't there is unborn
 unborn_outside : (processes : ℕ) (S : State) (taken answered : ℕ → ℕ) → Tallies processes S taken answered → (p : ℕ)
     → (1 ≤ p → p ≤ processes → ⊥) → S.states p ≡ Unborn
-unborn_outside processes S taken answered t p outside = by_state (S.states p) refl
-  where
-    alive : S.states p ≢ Unborn → ⊥
-    alive some = let born = t.born p some in outside born.low born.high
-
-    by_state : (state : ProcState) → S.states p ≡ state → S.states p ≡ Unborn
-    by_state Unborn is = is
-    by_state Live is = absurd (alive (λ unborn. let no : Live ≡ Unborn = sym is ∙ unborn in cc))
-    by_state Waiting is = absurd (alive (λ unborn. let no : Waiting ≡ Unborn = sym is ∙ unborn in cc))
-    by_state Ended is = absurd (alive (λ unborn. let no : Ended ≡ Unborn = sym is ∙ unborn in cc))
+unborn_outside processes S taken answered t p outside = grind (arith, common_steps)
 
 -- it was answered nothing
 answers_outside : (rules : Rules) (processes : ℕ) (replay : Replay) (events : List Event) (p : ℕ) → HasMade rules processes replay events

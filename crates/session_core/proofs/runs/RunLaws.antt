@@ -1,4 +1,5 @@
 -- What holds of every run: numbers, answers in turn, and quiet after an end.
+use Rattle.std.proofs.lemmas.Grind.{common_steps}
 use Rattle.std.proofs.Common.{ℕ, zero, suc, ◌≡◌, ◌≢◌, ◌+◌, ◌<◌, ◌≤◌, refl, sym, ◌∙◌, ap, subst, arith, true, false, eq-eqb, ne_eqb, length, length-append, List, [], ◌∷◌, ◌++◌, ⊎_elim, Some, IfSome, map, find, slice_get, get_or}
 use Rattle.std.specs.Prelude.{◌==◌, if◌then◌else◌}
 use Rattle.std.specs.List.{AllByRecursion as Each}
@@ -12,13 +13,12 @@ use Rattle.lock_manager.specs.declared.request.Rules.{Rules}
 use Rattle.lock_manager.specs.declared.request.Reply.{Reply}
 use Rattle.lock_manager.specs.declared.request.Note.{Note}
 use Rattle.lock_manager.specs.declared.request.Note.TheVariants.{Answer, Waits}
-use Rattle.lock_manager.specs.declared.request.ProcState.TheVariants.{Unborn, Live}
 use Rattle.lock_manager.specs.State.{State, opening_state}
 use Rattle.session_core.specs.Event.{Event}
 use Rattle.session_core.specs.Runs.{Leads, events_of}
 use Rattle.session_core.specs.Mail.{answers_in, answers_from}
 use Rattle.session_core.specs.Headline.{IsEnded, told_process, EndsProcess, LeavesAlone}
-use Rattle.session_core.proofs.tallies.Tally.{numbers_in, AreCountedFrom, AreCountedFrom-append, TallyAt, Tallies, Tallies-along, one_more}
+use Rattle.session_core.proofs.tallies.Tally.{numbers_in, AreCountedFrom, AreCountedFrom-append, Tallies, Tallies-along, one_more}
 use Rattle.session_core.proofs.tallies.StepLaws.{Step-tells, Step-ends}
 
 -- the numbers of the answers to a process in these events
@@ -123,17 +123,7 @@ Leads-quiet_after rules processes S (e ∷ before) event after T taken counts t 
 -- at the opening nothing was taken or answered
 pub opening_tallies : (processes : ℕ) → 1 ≤ processes → Tallies processes opening_state (λ q. 0) (λ q. 0)
 unfolding opening_state opening_descriptors
-opening_tallies processes some =
-    record {
-      born = λ q there.
-          let first : q ≡ 1 =
-          ⊎_elim (λ e. e) (λ other. absurd (there (rw (ne_eqb q 1 other) refl))) (cases_eq q 1) in
-          record { low = omega arith; high = omega arith; alive = eq-eqb q 1 first };
-      waits = tt;
-      apart = tt;
-      tally = λ q.
-          elim (q == 1) as (λ b. TallyAt (if b then Live else Unborn) 0 0) [ true ↦ refl | false ↦ (refl, refl) ];
-    }
+opening_tallies processes some = grind (arith, common_steps, cases_eq, eq-eqb)
 
 -- the numbers of the answers are those of the notes
 answers_in-numbers : (p place : ℕ) (notes : List Note) → map (λ answer. answer.0) (answers_in p place notes) ≡ numbers_in p notes
@@ -157,10 +147,7 @@ counted_at last (n ∷ numbers) h zero within = omega (arith, h.0)
 counted_at last (n ∷ numbers) h (suc k) within = let here = counted_at (last + 1) numbers h.1 k (omega arith) in omega arith
 
 pub IsStrictlyIncreasing-counted : (last : ℕ) (numbers : List ℕ) → AreCountedFrom last numbers → IsStrictlyIncreasing numbers
-IsStrictlyIncreasing-counted last numbers h k within =
-    let here = counted_at last numbers h k (omega arith) in
-    let next = counted_at last numbers h (k + 1) within in
-    omega arith
+IsStrictlyIncreasing-counted last numbers h k within = grind (arith, common_steps, counted_at)
 
 pub counted_answers : (last : ℕ) (answers : List (ℕ × Reply × ℕ)) → AreCountedFrom last (map (λ answer. answer.0) answers) → (place : ℕ)
     → IfSome (slice_get answers place) (λ answer. answer.0 ≡ last + place + 1)

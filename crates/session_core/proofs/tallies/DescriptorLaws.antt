@@ -1,6 +1,6 @@
 -- What the calls on descriptors come to.
-use Rattle.std.proofs.Common.{ℕ, ℤ, ◌≡◌, refl, ⊎_elim, Result, Ok, Err, OnOk, MatchResult}
-use Rattle.std.specs.Prelude.{◌==◌}
+use Rattle.std.proofs.Common.{arith, ℕ, ℤ, ◌≡◌, refl, Result, Ok, Err, OnOk, MatchResult}
+use Rattle.std.proofs.lemmas.Grind.{common_steps}
 use Rattle.fd_table.specs.declared.FdFault.{FdFault}
 use Rattle.fd_table.specs.declared.Limits.{Limits}
 use Rattle.fd_table.specs.declared.Access.{Access}
@@ -32,9 +32,7 @@ DupGives-alive limits old p fd (Err fault) new h = tt
 
 DupToGives-alive : (limits : Limits) (old : Descriptors) (p fd to : ℕ) (result : Result (ℕ × Released) FdFault) (new : Descriptors)
     → DupToGives limits old p fd to result new → OnOk result (SameAlive new old)
-DupToGives-alive limits old p fd to (Ok answer) new h =
-    ⊎_elim (λ onto_itself. onto_itself.1.ever_alive) (λ moved. moved.0.ever_alive) (cases_bool (to == fd) h.4)
-DupToGives-alive limits old p fd to (Err fault) new h = tt
+DupToGives-alive limits old p fd to result new h = grind (arith, common_steps, cases_bool)
 
 CloseGives-alive : (old : Descriptors) (p fd : ℕ) (result : Result Released FdFault) (new : Descriptors)
     → CloseGives old p fd result new → OnOk result (SameAlive new old)

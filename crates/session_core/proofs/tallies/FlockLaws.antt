@@ -1,6 +1,6 @@
 -- What flock comes to.
-use Rattle.std.proofs.Common.{ℕ, ◌≡◌, ◌≢◌, ◌+◌, ◌≤◌, refl, sym, ◌∙◌, ap, subst, Bool, true, false, length, List, [], ◌∷◌, ◌++◌, ⊎_elim, Option, Some, None}
-use Rattle.std.specs.Prelude.{◌==◌, if◌then◌else◌}
+use Rattle.std.proofs.Common.{arith, ℕ, ◌≡◌, ◌+◌, refl, sym, ◌∙◌, ap, subst, Bool, true, false, length, List, [], ◌∷◌, ◌++◌, ⊎_elim, Option, Some, None}
+use Rattle.std.proofs.lemmas.Grind.{common_steps}
 use Rattle.std.specs.List.{AllByRecursion as Each}
 use Rattle.std.proofs.lemmas.List.{append-nil}
 use Rattle.range_core.specs.declared.Mode.{Mode}
@@ -24,8 +24,7 @@ use Rattle.lock_manager.specs.State.{State, with_flock_mode, with_lock, with_pro
 use Rattle.lock_manager.specs.Settling.{Settles, granted}
 use Rattle.lock_manager.specs.Outcomes.{Outcome, answered, answered_then, waits_then}
 use Rattle.lock_manager.specs.FlockCalls.{FlockComesTo, FlockOpComesTo, FlockModeComesTo, FlockTestComesTo, is_same_mode, wanted_flock}
-use Rattle.session_core.specs.Headline.{told_process, IsEnded}
-use Rattle.session_core.proofs.tallies.Tally.{numbers_in, AreCountedFrom, Tallies, Tells, MovesOne-tells, Tells-then, Tallies-along, numbers_in-append, one_more, Each-middle}
+use Rattle.session_core.proofs.tallies.Tally.{numbers_in, Tallies, Tells, MovesOne-tells, Tells-then, Tallies-along, numbers_in-append, one_more, Each-middle}
 use Rattle.session_core.proofs.tallies.Moves.{SameProcesses, SameProcesses-refl, SameProcesses-lock, Settles-tells, nothing_told, tallies_kept, wait_moves}
 use Rattle.session_core.proofs.tallies.OutcomeLaws.{IsAtHand, IsTold, told_answer, told_refused, cases_fact, cases_bool, cases_option}
 
@@ -42,9 +41,7 @@ no_grants processes S p live =
 -- who lives lives after a grant
 granted_live : (S : State) (before : List Wait) (wait : Wait) (after : List Wait) (p : ℕ) → S.states p ≡ Live
     → (granted S before wait after).states p ≡ Live
-granted_live S before wait after p live =
-    let stays : (with_lock S wait).states p ≡ Live = ap (λ states. states p) (SameProcesses-lock S wait).states ∙ live in
-    elim (p == wait.p) as (λ b. (if b then Live else (with_lock S wait).states p) ≡ Live) [ true ↦ refl | false ↦ stays ]
+granted_live S before wait after p live = grind (arith, common_steps, SameProcesses-lock)
 
 -- who lives lives after settling
 Settles-live : (policy : Policy) (S : State) (grants : List Note) (T : State) (p : ℕ) → S.states p ≡ Live → Settles policy S grants T
@@ -67,13 +64,7 @@ settled_grants processes policy S U p grants T same live h =
 -- the same was told where a state with the same processes is reached
 Tells-same : (processes : ℕ) (states : ℕ → ProcState) (counts : ℕ → ℕ) (notes : List Note) (S T : State) (taken : ℕ → ℕ)
     → SameProcesses S T → Tells processes states counts notes S taken → Tells processes states counts notes T taken
-Tells-same processes states counts notes S T taken same h =
-    record {
-      tallies = tallies_kept processes S T taken (λ q. counts q + length (numbers_in q notes)) same h.tallies;
-      counted = h.counted;
-      in_range = h.in_range;
-      ended = λ q e. (subst IsEnded (sym (ap (λ states. states q) same.states)) (h.ended q e).0, (h.ended q e).1);
-    }
+Tells-same processes states counts notes S T taken same h = grind (arith, common_steps, tallies_kept, numbers_in)
 
 -- the caller is answered, and then the grants are told
 told_answer_then : (processes : ℕ) (S settled T : State) (taken counts : ℕ → ℕ) (p n : ℕ) (reply : Reply) (grants : List Note) (outcome : Outcome)
@@ -94,20 +85,7 @@ Each-last P xs x h = let k = Each-middle P xs x [] h in (k.0, subst (λ l. Each 
 -- a note that a process waits may stand first as well as last, for it is no answer
 waits_first : (processes : ℕ) (states : ℕ → ProcState) (counts : ℕ → ℕ) (p n : ℕ) (notes : List Note) (T : State) (taken : ℕ → ℕ)
     → Tells processes states counts (notes ++ Waits p n ∷ []) T taken → Tells processes states counts (Waits p n ∷ notes) T taken
-waits_first processes states counts p n notes T taken h =
-    let same : (q : ℕ) → numbers_in q (notes ++ Waits p n ∷ []) ≡ numbers_in q notes =
-    λ q. numbers_in-append q notes (Waits p n ∷ []) ∙ append-nil (numbers_in q notes) in
-    record {
-      tallies =
-          Tallies-along processes T taken (λ q. counts q + length (numbers_in q (notes ++ Waits p n ∷ []))) taken
-          (λ q. counts q + length (numbers_in q notes))
-          (λ q. refl)
-          (λ q. ap (λ l. counts q + length l) (same q))
-          h.tallies;
-      counted = λ q. subst (λ l. AreCountedFrom (counts q) l) (same q) (h.counted q);
-      in_range = Each-last (λ note. (1 ≤ told_process note) × (told_process note ≤ processes)) notes (Waits p n) h.in_range;
-      ended = λ q e. ((h.ended q e).0, Each-last (λ note. told_process note ≢ q) notes (Waits p n) (h.ended q e).1);
-    }
+waits_first processes states counts p n notes T taken h = grind (arith, common_steps, numbers_in, numbers_in-append, append-nil, Tallies-along, Each-last)
 
 -- the caller waits, and then the grants are told
 told_waits_then : (processes : ℕ) (S settled : State) (taken counts : ℕ → ℕ) (wanted : Wait) (grants : List Note) (outcome : Outcome)

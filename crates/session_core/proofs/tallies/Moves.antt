@@ -1,4 +1,5 @@
 -- What one process may do in a step, each with the tallies that it leaves.
+use Rattle.std.proofs.lemmas.Grind.{common_steps}
 use Rattle.std.proofs.Common.{ℕ, ◌≡◌, ◌≢◌, ◌+◌, refl, sym, ◌∙◌, ap, subst, arith, true, eq-eqb, ne_eqb, length, List, [], ◌∷◌, ◌++◌, ⊎_elim, Some}
 use Rattle.std.specs.Prelude.{◌==◌, if◌then◌else◌}
 use Rattle.std.specs.List.{AllByRecursion as Each}
@@ -6,15 +7,13 @@ use Rattle.std.proofs.lemmas.Bool.{cases_eq}
 use Rattle.wait_core.specs.declared.Policy.{Policy}
 use Rattle.wait_core.specs.declared.Wait.{Wait}
 use Rattle.wait_core.specs.WaitsView.{wait_of, without_wait_of}
-use Rattle.wait_core.specs.declared.Family.TheVariants.{Bytes, Whole}
-use Rattle.lock_book.specs.declared.Owner.TheVariants.{Process, Description}
 use Rattle.lock_manager.specs.declared.request.Note.{Note}
 use Rattle.lock_manager.specs.declared.request.Note.TheVariants.{Answer, Waits}
 use Rattle.lock_manager.specs.declared.request.Reply.{Reply}
 use Rattle.lock_manager.specs.declared.request.Reply.TheVariants as replies
 use Rattle.lock_manager.specs.declared.request.ProcState.{ProcState}
 use Rattle.lock_manager.specs.declared.request.ProcState.TheVariants.{Unborn, Live, Waiting, Ended}
-use Rattle.lock_manager.specs.State.{State, with_lock, with_lock_of, with_process}
+use Rattle.lock_manager.specs.State.{State, with_lock, with_process}
 use Rattle.lock_manager.specs.ProcessCalls.{without_wait}
 use Rattle.lock_manager.specs.Settling.{Settles, granted}
 use Rattle.session_core.specs.Headline.{IsWaiting, IsEnded}
@@ -31,43 +30,17 @@ SameProcesses-refl S = record { states = refl; waits = refl; alive = λ q. refl 
 
 -- setting a lock moves no process
 pub SameProcesses-lock : (S : State) (wait : Wait) → SameProcesses S (with_lock S wait)
-SameProcesses-lock S wait =
-    elim wait.family as (λ family. SameProcesses S (with_lock_of family wait.owner S wait)) [
-      | Bytes ↦ record { states = refl; waits = refl; alive = λ q. refl }
-      | Whole ↦
-          elim wait.owner as (λ owner. SameProcesses S (with_lock_of Whole owner S wait)) [
-            | Process p ↦ record { states = refl; waits = refl; alive = λ q. refl }
-            | Description d ↦ record { states = refl; waits = refl; alive = λ q. refl }
-          ]
-    ]
+SameProcesses-lock S wait = grind (arith, common_steps)
 
 -- nobody moves
 pub tallies_kept : (processes : ℕ) (S T : State) (taken answered : ℕ → ℕ) → SameProcesses S T → Tallies processes S taken answered
     → Tallies processes T taken answered
-tallies_kept processes S T taken answered same t =
-    record {
-      born = λ q there.
-          let b : IsBorn processes S q = t.born q (λ e. there (ap (λ states. states q) same.states ∙ e)) in
-          record { low = b.low; high = b.high; alive = same.alive q ∙ b.alive };
-      waits =
-          subst (λ waits. Each (IsLastTaken T.states taken) waits) (sym same.waits)
-          (subst (λ states. Each (IsLastTaken states taken) S.waits) (sym same.states) t.waits);
-      apart = subst AreApart (sym same.waits) t.apart;
-      tally = λ q. subst (λ states. TallyAt (states q) (taken q) (answered q)) (sym same.states) (t.tally q);
-    }
+tallies_kept processes S T taken answered same t = grind (arith, common_steps)
 
 -- nothing is told
 pub nothing_told : (processes : ℕ) (S T : State) (taken answered : ℕ → ℕ) → SameProcesses S T → Tallies processes S taken answered
     → Tells processes S.states answered [] T taken
-nothing_told processes S T taken answered same t =
-    record {
-      tallies =
-          Tallies-along processes T taken answered taken (λ q. answered q + 0) (λ q. refl) (λ q. omega arith)
-          (tallies_kept processes S T taken answered same t);
-      counted = λ q. tt;
-      in_range = tt;
-      ended = λ q e. (subst IsEnded (sym (ap (λ states. states q) same.states)) e, tt);
-    }
+nothing_told processes S T taken answered same t = grind (arith, common_steps, Tallies-along, tallies_kept)
 
 -- a process that is at hand in the tallies was born
 pub born_of : (processes : ℕ) (S : State) (taken answered : ℕ → ℕ) → Tallies processes S taken answered → (q : ℕ) (state : ProcState)
@@ -79,29 +52,18 @@ Live≢Unborn e = cc
 
 -- who waits has been born, hasn't ended, and has one request more than answers
 waiting_born : (state : ProcState) → IsWaiting state → state ≢ Unborn
-waiting_born Unborn h e = h
-waiting_born Live h e = h
-waiting_born Waiting h e = cc
-waiting_born Ended h e = h
+waiting_born state h h2 = grind (arith, common_steps)
 
 waiting_goes_on : (state : ProcState) → IsWaiting state → ¬ IsEnded state
-waiting_goes_on Unborn h e = h
-waiting_goes_on Live h e = h
-waiting_goes_on Waiting h e = e
-waiting_goes_on Ended h e = h
+waiting_goes_on state h h2 = grind (arith, common_steps)
 
 waiting_behind : (state : ProcState) (taken answered : ℕ) → IsWaiting state → TallyAt state taken answered → taken ≡ answered + 1
-waiting_behind Unborn taken answered h t = absurd h
-waiting_behind Live taken answered h t = absurd h
-waiting_behind Waiting taken answered h t = t
-waiting_behind Ended taken answered h t = absurd h
+waiting_behind state taken answered h h2 = grind (arith, common_steps)
 
 -- who doesn't wait has no wait
 idle_apart : (states : ℕ → ProcState) (taken : ℕ → ℕ) (p : ℕ) (waits : List Wait) → ¬ IsWaiting (states p)
     → Each (IsLastTaken states taken) waits → Each (λ wait. wait.p ≢ p) waits
-idle_apart states taken p waits idle h =
-    Each-map (IsLastTaken states taken) (λ wait. wait.p ≢ p) waits
-    (λ wait last same. idle (subst IsWaiting (ap states same) last.waiting)) h
+idle_apart states taken p waits idle h = grind (arith, common_steps, Each-map)
 
 -- who lives has no wait
 pub live_apart : (states : ℕ → ProcState) (taken : ℕ → ℕ) (p : ℕ) (waits : List Wait) → states p ≡ Live
@@ -112,12 +74,7 @@ live_apart states taken p waits live h = idle_apart states taken p waits (λ wai
 pub waits_of_others : (states states' : ℕ → ProcState) (taken taken' : ℕ → ℕ) (r : ℕ) (waits : List Wait)
     → ((q : ℕ) → q ≢ r → states' q ≡ states q) → ((q : ℕ) → q ≢ r → taken' q ≡ taken q)
     → Each (λ wait. wait.p ≢ r) waits → Each (IsLastTaken states taken) waits → Each (IsLastTaken states' taken') waits
-waits_of_others states states' taken taken' r waits same_states same_taken apart h =
-    Each-both (λ wait. wait.p ≢ r) (IsLastTaken states taken) (IsLastTaken states' taken') waits
-    (λ wait other last.
-    record { waiting = subst IsWaiting (sym (same_states wait.p other)) last.waiting; last = last.last ∙ sym (same_taken wait.p other) })
-    apart
-    h
+waits_of_others states states' taken taken' r waits same_states same_taken apart h = grind (arith, common_steps, Each-both)
 
 -- a live process' request is taken and answered, and no process moves
 pub answer_moves : (processes : ℕ) (S T : State) (taken answered : ℕ → ℕ) (p n : ℕ) (reply : Reply)
@@ -276,23 +233,7 @@ pub end_moves : (processes : ℕ) (S T : State) (taken answered taken' : ℕ →
     → StandsNow S p Ended T → T.waits ≡ without_wait_of S.waits p → KeepsAlive S T
     → MovesOne processes S taken answered p [] T taken'
 end_moves processes S T taken answered taken' p t tally goes_on born taken_there now waits_are alive =
-    let same : answered p ≡ answered p + 0 = omega arith in
-    record {
-      here = subst (λ s. TallyAt s (taken' p) (answered p + 0)) (sym (stands_here S p Ended T now)) (subst (λ a. TallyAt Ended (taken' p) a) same tally);
-      counted = tt;
-      not_ended = goes_on;
-      born = born_kept processes S T p alive (t.born p born);
-      notes_here = tt;
-      states = stands_there S p Ended T now;
-      taken_there = taken_there;
-      alive = alive;
-      waits =
-          subst (λ waits. Each (IsLastTaken T.states taken') waits) (sym waits_are)
-          (waits_of_others S.states T.states taken taken' p (without_wait_of S.waits p) (stands_there S p Ended T now) taken_there
-          (without_wait-others p S.waits)
-          (without_wait-each (IsLastTaken S.states taken) p S.waits t.waits));
-      apart = subst AreApart (sym waits_are) (without_wait-apart p S.waits t.apart);
-    }
+    grind (arith, common_steps, stands_here, born_kept, stands_there, waits_of_others, without_wait-others, without_wait-each, without_wait-apart)
 
 -- a process that was never alive begins to live
 pub begin_moves : (processes : ℕ) (S T : State) (taken answered : ℕ → ℕ) (child : ℕ) → Tallies processes S taken answered

@@ -1,5 +1,6 @@
 -- What fork, exit, signal and kill come to: a process begins to live, wakes or ends.
-use Rattle.std.proofs.Common.{ℕ, ◌≡◌, ◌≢◌, ◌+◌, ◌⊎◌, inl, inr, refl, sym, ◌∙◌, ap, subst, true, false, ◌||◌, eq-eqb, ne_eqb, length, List, [], ◌∷◌, Result, Ok, Err, MatchBool, MatchResult, ⊎_elim}
+use Rattle.std.proofs.Common.{arith, ℕ, ◌≡◌, ◌≢◌, ◌+◌, ◌⊎◌, inl, inr, refl, sym, ◌∙◌, ap, subst, true, false, ◌||◌, eq-eqb, length, List, [], ◌∷◌, Result, Ok, Err, MatchResult, ⊎_elim}
+use Rattle.std.proofs.lemmas.Grind.{common_steps}
 use Rattle.std.specs.Prelude.{◌==◌, if◌then◌else◌, IsFalse}
 use Rattle.fd_table.specs.declared.FdFault.{FdFault}
 use Rattle.fd_table.specs.Descriptors.{Descriptors, SameDescriptors, with_child}
@@ -21,10 +22,7 @@ use Rattle.session_core.proofs.tallies.OutcomeLaws.{IsAtHand, IsTold, told_answe
 
 -- a process is unborn, or it isn't
 unborn_or_not : (state : ProcState) → (state ≡ Unborn) ⊎ (state ≢ Unborn)
-unborn_or_not Unborn = inl refl
-unborn_or_not Live = inr (λ e. cc)
-unborn_or_not Waiting = inr (λ e. cc)
-unborn_or_not Ended = inr (λ e. cc)
+unborn_or_not state = grind (arith, common_steps)
 
 -- who was never alive is unborn
 unborn : (processes : ℕ) (S : State) (taken counts : ℕ → ℕ) → Tallies processes S taken counts → (q : ℕ)
@@ -157,29 +155,17 @@ told_kill processes S taken counts p n target outcome h is =
 
 -- after the end of a process it has ended
 pub ended_by_end : (S : State) (p : ℕ) (told : List Note) (outcome : Outcome) → EndComesTo S p told outcome → IsEnded (outcome.after.states p)
-ended_by_end S p told outcome is =
-    let now : outcome.after.states p ≡ Ended = ap (λ o. o.after.states p) is.3 ∙ rw (eq-eqb p p refl) refl in
-    subst IsEnded (sym now) tt
+ended_by_end S p told outcome is = grind (arith, common_steps, eq-eqb)
 
 -- after the kill of oneself likewise
 pub ended_by_own_kill : (S : State) (p n : ℕ) (outcome : Outcome) → KillComesTo S p n p outcome → IsEnded (outcome.after.states p)
-ended_by_own_kill S p n outcome is =
-    let own : EndComesTo S p [] outcome =
-    subst (λ b. MatchBool b (EndComesTo S p [] outcome) (KillOtherComesTo S p n p (S.states p) outcome)) (eq-eqb p p refl) is in
-    ended_by_end S p [] outcome own
+ended_by_own_kill S p n outcome is = grind (arith, common_steps, eq-eqb, ended_by_end)
 
 killed_or_refused_as : (S : State) (p n target : ℕ) (state : ProcState) (outcome : Outcome) → KillOtherComesTo S p n target state outcome
     → IsEnded (outcome.after.states target) ⊎ (outcome ≡ refused S p n ESRCH)
-killed_or_refused_as S p n target Unborn outcome is = inr is
-killed_or_refused_as S p n target Ended outcome is = inr is
-killed_or_refused_as S p n target Live outcome is = inl (ended_by_end S target (Answer p n replies.Ok ∷ []) outcome is)
-killed_or_refused_as S p n target Waiting outcome is = inl (ended_by_end S target (Answer p n replies.Ok ∷ []) outcome is)
+killed_or_refused_as S p n target state outcome h = grind (arith, common_steps, ended_by_end)
 
 -- after the kill of another this one has ended, or the kill was refused
 pub killed_or_refused : (S : State) (p n target : ℕ) (outcome : Outcome) → p ≢ target → KillComesTo S p n target outcome
     → IsEnded (outcome.after.states target) ⊎ (outcome ≡ refused S p n ESRCH)
-killed_or_refused S p n target outcome differs is =
-    let other : KillOtherComesTo S p n target (S.states target) outcome =
-    subst (λ b. MatchBool b (EndComesTo S p [] outcome) (KillOtherComesTo S p n target (S.states target) outcome))
-    (ne_eqb target p (λ e. differs (sym e))) is in
-    killed_or_refused_as S p n target (S.states target) outcome other
+killed_or_refused S p n target outcome differs is = grind (arith, common_steps, killed_or_refused_as)

@@ -1,4 +1,5 @@
 -- How much was taken of each process and answered to it: what each state of a run keeps, and what moves one process.
+use Rattle.std.proofs.lemmas.Grind.{common_steps}
 use Rattle.std.proofs.Common.{ℕ, suc, ◌≡◌, ◌≢◌, ◌+◌, ◌≤◌, ◌⊎◌, refl, sym, ◌∙◌, ap, subst, arith, true, eq-eqb, ne_eqb, length, length-append, List, [], ◌∷◌, ◌++◌, ⊎_elim}
 use Rattle.std.specs.Prelude.{◌==◌, if◌then◌else◌}
 use Rattle.std.specs.List.{AllByRecursion as Each}
@@ -74,10 +75,7 @@ one_more-other p q taken other = rw (ne_eqb p q (λ e. other (sym e))) refl
 -- the tallies at each process are what counts
 pub Tallies-along : (processes : ℕ) (S : State) (taken answered taken' answered' : ℕ → ℕ) → ((q : ℕ) → taken q ≡ taken' q)
     → ((q : ℕ) → answered q ≡ answered' q) → Tallies processes S taken answered → Tallies processes S taken' answered'
-Tallies-along processes S taken answered taken' answered' same_taken same_answered h =
-    let first : taken ≡ taken' = λ i q. same_taken q i in
-    let second : answered ≡ answered' = λ i q. same_answered q i in
-    subst (λ f. Tallies processes S taken' f) second (subst (λ f. Tallies processes S f answered) first h)
+Tallies-along processes S taken answered taken' answered' same_taken same_answered h = grind (arith, common_steps)
 
 -- lists of numbers and notes, one after another
 pub numbers_in-append : (q : ℕ) (xs ys : List Note) → numbers_in q (xs ++ ys) ≡ numbers_in q xs ++ numbers_in q ys
@@ -168,13 +166,7 @@ tally_after processes S taken answered r notes T taken' t m q =
 born_after : (processes : ℕ) (S : State) (taken answered : ℕ → ℕ) (r : ℕ) (notes : List Note) (T : State) (taken' : ℕ → ℕ)
     → Tallies processes S taken answered → MovesOne processes S taken answered r notes T taken' → (q : ℕ)
     → T.states q ≢ Unborn → IsBorn processes T q
-born_after processes S taken answered r notes T taken' t m q there =
-    ⊎_elim
-    (λ same. subst (λ x. IsBorn processes T x) (sym same) m.born)
-    (λ other.
-    let b : IsBorn processes S q = t.born q (λ e. there (m.states q other ∙ e)) in
-    record { low = b.low; high = b.high; alive = m.alive q b.alive })
-    (cases_eq q r)
+born_after processes S taken answered r notes T taken' t m q there = grind (arith, common_steps, cases_eq)
 
 counted_after : (answered : ℕ → ℕ) (r : ℕ) (notes : List Note) → AreCountedFrom (answered r) (numbers_in r notes)
     → Each (λ note. told_process note ≡ r) notes → (q : ℕ) → AreCountedFrom (answered q) (numbers_in q notes)
@@ -214,19 +206,4 @@ pub Tells-then : (processes : ℕ) (states : ℕ → ProcState) (answered : ℕ 
     → Tells processes S.states (λ q. answered q + length (numbers_in q first)) second T taken'
     → Tells processes states answered (first ++ second) T taken'
 Tells-then processes states answered first S taken second T taken' h k =
-    record {
-      tallies =
-          Tallies-along processes T taken' (λ q. answered q + length (numbers_in q first) + length (numbers_in q second)) taken'
-          (λ q. answered q + length (numbers_in q (first ++ second)))
-          (λ q. refl)
-          (λ q. rw (numbers_in-append q first second, length-append (numbers_in q first) (numbers_in q second)) (omega arith))
-          k.tallies;
-      counted = λ q.
-          subst (λ l. AreCountedFrom (answered q) l) (sym (numbers_in-append q first second))
-          (AreCountedFrom-append (answered q) (numbers_in q first) (numbers_in q second) (h.counted q) (k.counted q));
-      in_range = Each-append (λ note. (1 ≤ told_process note) × (told_process note ≤ processes)) first second h.in_range k.in_range;
-      ended = λ q e.
-          let before = h.ended q e in
-          let after = k.ended q before.0 in
-          (after.0, Each-append (λ note. told_process note ≢ q) first second before.1 after.1);
-    }
+    grind (arith, common_steps, Tallies-along, numbers_in-append, length-append, AreCountedFrom-append, Each-append)

@@ -1,3 +1,4 @@
+use Rattle.std.proofs.lemmas.Grind.{common_steps}
 use Rattle.std.proofs.Common.{◌≡◌, ◌∙◌, ◌+◌, ◌≤◌, refl, sym, arith, length, [], ◌∷◌, ◌++◌, eq-eqb, ne_eqb}
 use Rattle.std.proofs.lemmas.Result.{IfErr-weaker}
 use Rattle.std.proofs.Math.Logic.{∥∥₁_map}
@@ -51,11 +52,7 @@ returns-clause-ok c =
 
 pub returns-clause-full : goal.returns-clause-full
 unfolding manager_of events_in sent_of
-returns-clause-full c =
-    let self = c.args.self.now in
-    let old = c.index_mut.result.now in
-    let at = StandsAt-index self.mailboxes.items _ c.args.p c.from.result old self.mail.one_each c.requires.0 c.requires.1 c.from.ensures c.index_mut.ensures.value in
-    rw (length-mail_sent-there _ self.mailboxes.items self.journal.items c.args.p old self.mail (mailbox_of-there self.mailboxes.items _ c.args.p old at)) c.push.ensures.full
+returns-clause-full c = grind (arith, common_steps, StandsAt-index, length-mail_sent-there, mailbox_of-there)
 
 pub returns-clause-err : goal.returns-clause-err
 unfolding manager_of events_in sent_of

@@ -1,4 +1,5 @@
-use Rattle.std.proofs.Common.{◌≡◌, ◌∙◌, ap, sym, Some, None}
+use Rattle.std.proofs.Common.{arith, ◌≡◌, ◌∙◌, ap, sym, Some}
+use Rattle.std.proofs.lemmas.Grind.{common_steps}
 use Rattle.session_core.specs.Mail.{answers_in, answers_to, reply_among}
 use Rattle.session_core.specs.SessionView.{events_in}
 use Rattle.session_core.proofs.AnswerLemmas.{reply_to-skip, reply_to-hit}
@@ -15,9 +16,4 @@ returns-in-Some c =
     sym (ap (λ l. reply_among c.args.n (answers_to c.args.p l)) (sym c.deref-entry-items.ensures.value) ∙ c.loop-entry.invariant ∙ hit)
 
 pub loop-entry-preserved : goal.loop-entry-preserved
-loop-entry-preserved c =
-    let events = c.deref-entry-items.result.now in
-    let notes = c.as_slice.ensures ∙ ap (λ e. e.notes) c.entry.view_is in
-    let none : reply_among c.args.n (answers_in c.args.p 0 c.entry-item.result.notes) ≡ None =
-    ap (λ l. reply_among c.args.n (answers_in c.args.p 0 l)) (sym notes) ∙ sym c.in_default.ensures in
-    c.loop-entry.invariant ∙ reply_to-skip c.args.p c.args.n events c.loop-entry.entry-index c.entry-item.result c.loop-entry-test.true c.entry-item.is none
+loop-entry-preserved c = grind (arith, common_steps, reply_to-skip)

@@ -1,10 +1,10 @@
+use Rattle.std.proofs.lemmas.Grind.{common_steps, merely}
 use Rattle.std.proofs.Common.{◌∙◌, sym, ap, arith, length, None}
 use Rattle.session_core.specs.Mail.{answers_to}
 use Rattle.session_core.specs.LastAnswers.{latest}
 use Rattle.lock_manager.specs.ManagerView.{processes_of}
 use Rattle.session_core.specs.Mailboxes.{IsMailKept}
 use Rattle.session_core.specs.SessionView.{manager_of, events_in, sent_of}
-use Rattle.std.proofs.lemmas.Grind.{merely}
 use Rattle.session_core.proofs.MailLemmas.{few_processes}
 use Rattle.session_core.proofs.runs.JournalLemmas.{Holds-opening, nothing_sent, mail_sent-few}
 use Rattle.session_core.proofs.session.Session.new.Goals as goal
@@ -28,11 +28,4 @@ invariant_of-result c =
 
 pub returns-clause-empty : goal.returns-clause-empty
 unfolding manager_of events_in sent_of
-returns-clause-empty c =
-    record {
-      rules_are = c.in_ok-manager.ensures.rules;
-      processes_are = c.in_ok-manager.ensures.processes;
-      opening = c.in_ok-manager.ensures.opening;
-      journal = c.new-3.ensures.items;
-      sent = λ q. rw c.new-3.ensures.items (nothing_sent c.in_ok-mailboxes.mailboxes.items c.in_ok-mailboxes.ensures.empty q).0;
-    }
+returns-clause-empty c = grind (arith, common_steps, nothing_sent)

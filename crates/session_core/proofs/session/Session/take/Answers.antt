@@ -1,3 +1,4 @@
+use Rattle.std.proofs.lemmas.Grind.{common_steps}
 use Rattle.std.proofs.Common.{◌≡◌, ◌∙◌, ap, sym, subst, refl, arith, ℕ, ◌+◌, ◌≤◌, None, length, [], ◌∷◌, ◌++◌, eq-eqb, ne_eqb}
 use Rattle.std.proofs.Math.Logic.{∥∥₁_map}
 use Rattle.session_core.specs.Event.{Event}
@@ -39,10 +40,7 @@ invariant_of-self-in-Break-branch-2 c =
 
 pub advance-more-requires : goal.advance-more-requires
 unfolding manager_of events_in sent_of
-advance-more-requires c =
-    let self = c.args.self.now in
-    let at = StandsAt-index self.mailboxes.items _ c.args.p c.from.result c.index_mut.result.now self.mail.one_each c.requires.process.0 c.requires.process.1 c.from.ensures c.index_mut.ensures.value in
-    next_waits self.mailboxes.items _ c.args.p c.index_mut.result.now self.journal.items c.args.request at c.requires.next
+advance-more-requires c = grind (arith, common_steps, StandsAt-index, next_waits)
 
 pub invariant_of-self-2 : goal.invariant_of-self-2
 unfolding manager_of events_in sent_of

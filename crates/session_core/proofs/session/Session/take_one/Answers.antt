@@ -1,5 +1,6 @@
+use Rattle.std.proofs.Common.{arith}
+use Rattle.std.proofs.lemmas.Grind.{common_steps}
 use Rattle.std.proofs.lemmas.Result.{IfOk-weaker, IfErr-weaker}
-use Rattle.session_core.specs.SessionView.{SameSession}
 use Rattle.session_core.proofs.MailLemmas.{SameSession-withdrawn, TakesRequest-arrived}
 use Rattle.session_core.proofs.session.Session.take_one.Goals as goal
 
@@ -12,12 +13,4 @@ returns-else-is_err-clause-taken c =
     (λ place took. TakesRequest-arrived old between new c.args.p c.args.request c.in-Ok.field-0 place c.in-Ok.ensures.ok took) c.take-taken.ensures.taken
 
 pub returns-then-is_err-clause-memory : goal.returns-then-is_err-clause-memory
-returns-then-is_err-clause-memory c =
-    let old = c.args.self.now in
-    let between = c.arrive.new.self in
-    let refused = c.take-taken.new.self in
-    IfErr-weaker c.take-taken.result (λ fault. SameSession between refused) _
-    (λ fault same.
-    SameSession-withdrawn old between refused c.withdraw.new.self c.args.p c.args.request c.in-Ok.field-0 c.in-Ok.ensures.ok same
-    c.withdraw.ensures.sent c.withdraw.ensures.journal c.withdraw.ensures.manager)
-    c.take-taken.ensures.memory
+returns-then-is_err-clause-memory c = grind (arith, common_steps, IfErr-weaker, SameSession-withdrawn)

@@ -1,3 +1,5 @@
+use Rattle.std.proofs.Common.{arith}
+use Rattle.std.proofs.lemmas.Grind.{common_steps}
 use Rattle.std.proofs.Math.Logic.{∥∥₁_map}
 use Rattle.session_core.specs.SessionView.{manager_of, events_in, sent_of}
 use Rattle.session_core.proofs.MailLemmas.{StandsAt-index, mailbox_of-there, IsMailInside-set, IsMailKept-written, HasMail-there, mail_sent-withdrawn, untaken_waits, Holds-sent}
@@ -6,12 +8,7 @@ use Rattle.session_core.proofs.session.Session.withdraw.Goals as goal
 
 pub withdraw-requires : goal.withdraw-requires
 unfolding manager_of events_in sent_of
-withdraw-requires c =
-    let self = c.args.self.now in
-    let old = c.index_mut.result.now in
-    let at = StandsAt-index self.mailboxes.items _ c.args.p c.from.result old self.mail.one_each c.requires.process.0 c.requires.process.1 c.from.ensures c.index_mut.ensures.value in
-    let there = mailbox_of-there self.mailboxes.items _ c.args.p old at in
-    untaken_waits _ self.mailboxes.items self.journal.items c.args.p old self.mail there c.requires.untaken
+withdraw-requires c = grind (arith, common_steps, StandsAt-index, mailbox_of-there, untaken_waits)
 
 pub invariant_of-self : goal.invariant_of-self
 unfolding manager_of events_in sent_of
@@ -36,10 +33,4 @@ invariant_of-self c =
 
 pub returns-clause-sent : goal.returns-clause-sent
 unfolding manager_of events_in sent_of
-returns-clause-sent c =
-    let self = c.args.self.now in
-    let mailboxes = self.mailboxes.items in
-    let old = c.index_mut.result.now in
-    let at = StandsAt-index mailboxes _ c.args.p c.from.result old self.mail.one_each c.requires.process.0 c.requires.process.1 c.from.ensures c.index_mut.ensures.value in
-    let waits = untaken_waits _ mailboxes self.journal.items c.args.p old self.mail (mailbox_of-there mailboxes _ c.args.p old at) c.requires.untaken in
-    mail_sent-withdrawn mailboxes self.journal.items _ c.args.p old c.withdraw.new.self at waits c.withdraw.ensures.waiting
+returns-clause-sent c = grind (arith, common_steps, StandsAt-index, untaken_waits, mailbox_of-there, mail_sent-withdrawn)
