@@ -1,4 +1,5 @@
 -- The owners for which a wait on a file waits: for `add_steps`, `add_blockers`, `add_holders`, `add_conflicting`.
+use Rattle.std.proofs.lemmas.Grind.{common_steps}
 use Rattle.std.proofs.Common.{ℕ, ◌≡◌, ◌+◌, ◌≤◌, ◌∙◌, inl, inr, sym, ap, refl, subst, arith, suc, true, false, Option, Some, None, List, ◌∷◌, ◌++◌, Any, Contains, length, take, drop}
 use Rattle.std.specs.Prelude.{IsFalse, IsTrue, slice_get}
 use Rattle.std.proofs.lemmas.Bool.{cases_lt}
@@ -129,11 +130,7 @@ byte_line F bytes wait other range are held among family blocks =
 
 -- a line of the report of the flock locks is a lock of them
 flock_line : (F : FileState) (flocks : List Held) (wait : Pending) (other : ℕ) → AreFlockLocks 0 F.flocks flocks → (held : Held) → Contains flocks held → HeldBlocks held wait other → BlocksByFlock F wait other
-flock_line F flocks wait other are held among blocks =
-    let line : IsFlockLine 0 F.flocks held = All-contains (IsFlockLine 0 F.flocks) flocks held are.each among in
-    let same : line.description ≡ other = (let one : Description line.description ≡ Description other = sym line.owner ∙ blocks.owner in cc) in
-    let mode : F.flocks other ≡ Some held.mode = subst (λ (n : ℕ). F.flocks n ≡ Some held.mode) same line.mode in
-    record { another = blocks.another; conflicts = subst (λ (m : Option Mode). HeldConflicts m wait.mode) (sym mode) blocks.conflicts }
+flock_line F flocks wait other are held among blocks = grind (arith, common_steps, All-contains)
 
 module _ (F : FileState) (report : List Held) (wait : Pending) (range : IsByteRange wait.span) (says : IsFileReport 0 F.bytes F.flocks report) where
   -- a line that blocks the wait is a lock that does

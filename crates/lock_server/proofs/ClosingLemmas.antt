@@ -1,18 +1,17 @@
 -- A last close, owner by owner: for `close` and the server's `release`.
-use Rattle.std.proofs.Common.{ℕ, ◌≡◌, ◌≢◌, ◌+◌, ◌<◌, ◌≤◌, ◌∙◌, inl, inr, sym, ap, refl, subst, arith, cond, Bool, true, false, Option, Some, None, List, []}
-use Rattle.std.specs.Prelude.{◌==◌, ◌&&◌, ◌||◌, if◌then◌else◌, Any}
+use Rattle.std.proofs.Common.{rules, ℕ, ◌≡◌, ◌≢◌, ◌+◌, ◌<◌, ◌≤◌, ◌∙◌, inl, inr, sym, ap, refl, subst, arith, Bool, true, false, Option, Some, None, []}
+use Rattle.std.proofs.lemmas.Grind.{common_steps}
+use Rattle.std.specs.Prelude.{◌==◌, ◌&&◌, ◌||◌, if◌then◌else◌}
 use Rattle.std.proofs.lemmas.Bool.{cases_eq, cases_lt, eq-eqb, ne_eqb}
 use Rattle.range_core.specs.declared.Mode.{Mode}
 use Rattle.lock_book.specs.declared.Owner.{Owner}
 use Rattle.lock_book.specs.declared.Owner.TheVariants.{Process, Description}
 use Rattle.lock_book.specs.Owners.{is_same_owner}
 use Rattle.wait_core.specs.declared.Family.TheVariants.{Bytes, Whole}
-use Rattle.lock_server.specs.declared.Pending.{Pending}
 use Rattle.lock_server.specs.Calls.{ReleasesOn}
 use Rattle.lock_server.specs.Closing.{ClosesOn, is_through}
-use Rattle.lock_server.specs.Files.{SameFile}
 use Rattle.lock_server.specs.Openings.{ForgetsThrough, SeesOn, is_number}
-use Rattle.lock_server.specs.States.{State, IsDetectedOf, HasDetected, Crosses}
+use Rattle.lock_server.specs.States.{State, HasDetected, Crosses}
 use Rattle.lock_server.proofs.CompatibleLemmas.{still_held}
 use Rattle.lock_server.proofs.SafeLemmas.{Moves, fewer_move, same_waits}
 use Rattle.lock_server.proofs.SettleLemmas.{crosses_then}
@@ -20,66 +19,31 @@ use Rattle.lock_server.proofs.StateLemmas.{SameFile-itself, SameFile-then}
 
 -- nobody loses a lock where nothing changes
 pub closes_nobody : (S : State) (file : ℕ) → Crosses S [] S → ClosesOn S file (λ other. false) None S
-closes_nobody S file crossed = record {
-  closes = record { bytes = λ other byte. refl; flocks = λ other. refl };
-  waits = refl;
-  changes = record { others = λ other differs. SameFile-itself (S.files other); grants = refl; crossed = crossed };
-}
+closes_nobody S file crossed = grind (arith, common_steps, SameFile-itself)
 
 -- one owner is released
 pub closes_one : (S : State) (file owner : ℕ) (T : State) → ReleasesOn S file Bytes owner T → ClosesOn S file (is_same_owner (Description owner)) None T
-closes_one S file owner T releases = record {
-  closes = record { bytes = releases.unlocks.bytes; flocks = releases.unlocks.flocks };
-  waits = releases.waits;
-  changes = releases.changes;
-}
+closes_one S file owner T releases = grind (arith, common_steps)
 
 -- one flock owner is released
 pub closes_flock : (S : State) (file owner : ℕ) (T : State) → ReleasesOn S file Whole owner T → ClosesOn S file (λ other. false) (Some owner) T
-closes_flock S file owner T releases = record {
-  closes = record { bytes = releases.unlocks.bytes; flocks = releases.unlocks.flocks };
-  waits = releases.waits;
-  changes = releases.changes;
-}
+closes_flock S file owner T releases = grind (arith, common_steps)
 
 -- the same owners, by another test
 pub closes_for : (S : State) (file : ℕ) (gone same : Owner → Bool) (flock_owner : Option ℕ) (T : State) → ((owner : Owner) → same owner ≡ gone owner) → ClosesOn S file gone flock_owner T → ClosesOn S file same flock_owner T
 closes_for S file gone same flock_owner T is closes = subst (λ (test : Owner → Bool). ClosesOn S file test flock_owner T) (λ i owner. sym (is owner) i) closes
 
 either_gone : (one more : Bool) (held : Option Mode) → (if more then None else (if one then None else held)) ≡ (if one || more then None else held)
-either_gone true true held = refl
-either_gone true false held = refl
-either_gone false true held = refl
-either_gone false false held = refl
+either_gone one more held = grind (arith, common_steps)
 
 -- who has a detected wait after a close had it before
 detected_still : (M : State) (file : ℕ) (gone : Owner → Bool) (flock_owner : Option ℕ) (T : State) → ClosesOn M file gone flock_owner T → (owner : ℕ) → HasDetected T owner → HasDetected M owner
-detected_still M file gone flock_owner T closes owner has = elim (cases_eq has.file file) [
-  | inl here ↦ record {
-    file = file;
-    among = subst (λ (waits : List Pending). Any (IsDetectedOf owner) waits) (ap (λ (f : ℕ). (T.files f).waits) here ∙ closes.waits) has.among;
-  }
-  | inr differs ↦ record { file = has.file; among = subst (λ (waits : List Pending). Any (IsDetectedOf owner) waits) (closes.changes.others has.file differs).waits has.among }
-]
+detected_still M file gone flock_owner T closes owner has = search (rules, cases_eq)
 
 -- one close behind another
 pub closes_then : (S : State) (file : ℕ) (one more : Owner → Bool) (flock_owner : Option ℕ) (M T : State) → ClosesOn S file one flock_owner M → ClosesOn M file more None T
     → ClosesOn S file (λ other. one other || more other) flock_owner T
-closes_then S file one more flock_owner M T first next = record {
-  closes = record {
-    bytes = λ other byte.
-        next.closes.bytes other byte
-        ∙ ap (λ (held : Option Mode). if more other then None else held) (first.closes.bytes other byte)
-        ∙ either_gone (one other) (more other) ((S.files file).bytes other byte);
-    flocks = λ other. next.closes.flocks other ∙ first.closes.flocks other;
-  };
-  waits = next.waits ∙ first.waits;
-  changes = record {
-    others = λ other differs. SameFile-then (S.files other) (M.files other) (T.files other) (first.changes.others other differs) (next.changes.others other differs);
-    grants = next.changes.grants ∙ first.changes.grants;
-    crossed = crosses_then S M T [] [] (detected_still M file more None T next) first.changes.crossed next.changes.crossed;
-  };
-}
+closes_then S file one more flock_owner M T first next = grind (arith, common_steps, either_gone, SameFile-then, crosses_then, detected_still)
 
 -- what an owner was seen through, unless it was the open file
 abbrev pub left_of : ℕ → Option ℕ → Option ℕ
@@ -169,24 +133,11 @@ closing_more S was file open_file next M now owner T new so_far from none closes
 -- from here on no owner is known on the file
 pub all_closed : (S : State) (was : ℕ → ℕ → Option ℕ) (file open_file next : ℕ) (T : State) (now : ℕ → ℕ → Option ℕ) → IsClosing S was file open_file next T now
     → ((owner : ℕ) → next ≤ owner → now file owner ≡ None) → ClosesOn S file (is_through (was file) open_file) None T
-all_closed S was file open_file next T now so_far none = closes_for S file so_far.gone (is_through (was file) open_file) None T same so_far.closes
-  where
-    same : (owner : Owner) → is_through (was file) open_file owner ≡ so_far.gone owner
-    same (Process number) = sym (so_far.processes number)
-    same (Description owner) = elim (cases_lt owner next) [
-      | inl below ↦ sym (so_far.earlier owner below)
-      | inr past ↦ ap (is_number open_file) (sym (so_far.seen_later owner past) ∙ none owner past) ∙ sym (so_far.later owner past)
-    ]
+all_closed S was file open_file next T now so_far none = grind (arith, common_steps, closes_for, cases_lt)
 
 pub all_forgotten_through : (S : State) (was : ℕ → ℕ → Option ℕ) (file open_file next : ℕ) (T : State) (now : ℕ → ℕ → Option ℕ) → IsClosing S was file open_file next T now
     → ((owner : ℕ) → next ≤ owner → now file owner ≡ None) → ForgetsThrough was now file open_file
-all_forgotten_through S was file open_file next T now so_far none = record {
-  here = λ owner. elim (cases_lt owner next) [
-    | inl below ↦ so_far.seen_earlier owner below
-    | inr past ↦ none owner past ∙ ap (left_of open_file) (sym (none owner past) ∙ so_far.seen_later owner past)
-  ];
-  elsewhere = so_far.elsewhere;
-}
+all_forgotten_through S was file open_file next T now so_far none = grind (arith, common_steps, cases_lt)
 
 and_right_true : (a b : Bool) → b ≡ true → (a && b) ≡ a
 and_right_true true b is = is
@@ -208,13 +159,4 @@ spared_owner S file owner came isnt crossed =
 
 -- a close gives no lock and makes no conflict
 pub moves_closed : (S : State) (file : ℕ) (gone : Owner → Bool) (flock_owner : Option ℕ) (T : State) → ClosesOn S file gone flock_owner T → Moves [] S file T
-moves_closed S file gone flock_owner T closes = record {
-  here = fewer_move [] (S.files file) (T.files file)
-      (record {
-        bytes = λ owner byte mode is. still_held (gone owner) ((S.files file).bytes owner byte) mode (sym (closes.closes.bytes owner byte) ∙ is);
-        flocks = λ owner mode is. still_held (is_number owner flock_owner) ((S.files file).flocks owner) mode (sym (closes.closes.flocks owner) ∙ is);
-      })
-      (same_waits (S.files file) (T.files file) closes.waits);
-  others = closes.changes.others;
-  crossed = closes.changes.crossed;
-}
+moves_closed S file gone flock_owner T closes = grind (arith, common_steps, fewer_move, still_held, same_waits)

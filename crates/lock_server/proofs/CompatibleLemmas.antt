@@ -1,14 +1,14 @@
 -- No owners conflict after a change that nothing blocked.
-use Rattle.std.proofs.Common.{ℕ, ◌≡◌, ◌≢◌, ◌∙◌, ◌⊎◌, inl, inr, sym, ap, subst, refl, Bool, true, false, Option, Some, None, List}
-use Rattle.std.specs.Prelude.{◌==◌, ◌&&◌, nat_le, if◌then◌else◌}
+use Rattle.std.proofs.Common.{arith, ℕ, ◌≡◌, ◌≢◌, ◌∙◌, ◌⊎◌, inl, inr, sym, subst, refl, Bool, true, false, Option, Some, None, List}
+use Rattle.std.proofs.lemmas.Grind.{common_steps}
+use Rattle.std.specs.Prelude.{◌==◌, ◌&&◌, if◌then◌else◌}
 use Rattle.std.proofs.lemmas.Bool.{eqb-true, leb-true}
 use Rattle.range_core.specs.declared.Mode.{Mode}
-use Rattle.range_core.specs.declared.Mode.TheVariants.{Read, Write}
 use Rattle.range_core.specs.declared.Span.{Span}
 use Rattle.range_core.specs.Ranges.{Conflict, Covers, HeldConflicts}
 use Rattle.range_core.specs.Changes.{is_covered}
 use Rattle.lock_book.specs.declared.Owner.{Owner}
-use Rattle.lock_book.specs.declared.Owner.TheVariants.{Process, Description}
+use Rattle.lock_book.specs.declared.Owner.TheVariants.{Description}
 use Rattle.lock_book.specs.Owners.{is_same_owner}
 use Rattle.wait_core.specs.declared.Family.{Family}
 use Rattle.wait_core.specs.declared.Family.TheVariants.{Bytes, Whole}
@@ -24,16 +24,10 @@ use Rattle.lock_server.proofs.StepLemmas.{LocksFrom}
 
 -- two owners that are found the same are the same
 same_owner : (a b : Owner) → is_same_owner a b ≡ true → a ≡ b
-same_owner (Process p) (Process q) e = ap Process (eqb-true p q e)
-same_owner (Process p) (Description d) e = let h : false ≡ true = e in cc
-same_owner (Description d) (Process p) e = let h : false ≡ true = e in cc
-same_owner (Description d) (Description c) e = ap Description (eqb-true d c e)
+same_owner a b h = grind (arith, common_steps, eqb-true)
 
 conflict_back : (m k : Mode) → Conflict m k → Conflict k m
-conflict_back Read Read h = h
-conflict_back Read Write h = tt
-conflict_back Write Read h = tt
-conflict_back Write Write h = tt
+conflict_back m k h = grind (arith, common_steps)
 
 both : (a b : Bool) → (a && b) ≡ true → (a ≡ true) × (b ≡ true)
 both true b e = (refl, e)
@@ -45,10 +39,7 @@ record Hits (owner : Owner) (span : Span) (other : Owner) (byte : ℕ) : Type 0 
   covered : Covers span byte
 
 hit : (owner : Owner) (span : Span) (other : Owner) (byte : ℕ) → (is_same_owner owner other && is_covered span byte) ≡ true → Hits owner span other byte
-hit owner span other byte e =
-    let outer = both (is_same_owner owner other) (is_covered span byte) e in
-    let ends : (nat_le span.first byte ≡ true) × (nat_le byte span.last ≡ true) = both (nat_le span.first byte) (nat_le byte span.last) outer.1 in
-    record { is = same_owner owner other outer.0; covered = (leb-true span.first byte ends.0, leb-true byte span.last ends.1) }
+hit owner span other byte e = grind (arith, common_steps, both, same_owner, leb-true)
 
 module _ (F : FileState) (wait : Pending) (before : IsCompatible F) where
   -- of two owners with conflicting modes after a set, the one that was given its mode was blocked
@@ -132,16 +123,10 @@ pub record FewerLocks (F G : FileState) : Type 0 where
   pub flocks : (owner : ℕ) (mode : Mode) → G.flocks owner ≡ Some mode → F.flocks owner ≡ Some mode
 
 pub compatible_fewer : (F G : FileState) → FewerLocks F G → IsCompatible F → IsCompatible G
-compatible_fewer F G fewer before = record {
-  bytes = λ one other byte m k distinct m_is k_is. before.bytes one other byte m k distinct (fewer.bytes one byte m m_is) (fewer.bytes other byte k k_is);
-  flocks = λ one other m k distinct m_is k_is. before.flocks one other m k distinct (fewer.flocks one m m_is) (fewer.flocks other k k_is);
-}
+compatible_fewer F G fewer before = grind (arith, common_steps)
 
 pub from_fewer : (Given : ℕ → Type 0) (F G : FileState) → FewerLocks F G → LocksFrom Given F G
-from_fewer Given F G fewer = record {
-  bytes = λ owner byte mode is. inl (fewer.bytes (Description owner) byte mode is);
-  flocks = λ owner mode is. inl (fewer.flocks owner mode is);
-}
+from_fewer Given F G fewer = grind (arith, common_steps)
 
 pub still_held : (a : Bool) (held : Option Mode) (mode : Mode) → (if a then None else held) ≡ Some mode → held ≡ Some mode
 still_held true held mode is = let h : None ≡ Some mode = is in cc
@@ -149,21 +134,10 @@ still_held false held mode is = is
 
 -- a lock that goes leaves fewer
 pub fewer_unlocked : (family : Family) (F : FileState) (owner : ℕ) (G : FileState) → Unlocks family F owner G → FewerLocks F G
-fewer_unlocked Bytes F owner G unlocks = record {
-  bytes = λ other byte mode is. still_held (is_same_owner (Description owner) other) (F.bytes other byte) mode (sym (unlocks.bytes other byte) ∙ is);
-  flocks = λ other mode is. sym (unlocks.flocks other) ∙ is;
-}
-fewer_unlocked Whole F owner G unlocks = record {
-  bytes = λ other byte mode is. sym (unlocks.bytes other byte) ∙ is;
-  flocks = λ other mode is. still_held (owner == other) (F.flocks other) mode (sym (unlocks.flocks other) ∙ is);
-}
+fewer_unlocked family F owner G h = grind (arith, common_steps, still_held)
 
 pub fewer_unset : (family : Family) (F : FileState) (owner : ℕ) (span : Span) (G : FileState) → SetsLock family F owner span None G → FewerLocks F G
-fewer_unset Bytes F owner span G sets = record {
-  bytes = λ other byte mode is. still_held (is_same_owner (Description owner) other && is_covered span byte) (F.bytes other byte) mode (sym (sets.bytes other byte) ∙ is);
-  flocks = λ other mode is. sym (sets.flocks other) ∙ is;
-}
-fewer_unset Whole F owner span G sets = fewer_unlocked Whole F owner G sets
+fewer_unset family F owner span G h = grind (arith, common_steps, still_held, fewer_unlocked)
 
 -- what is there after a set was there, or is the owner's
 from_either : (a : Bool) (new held : Option Mode) (mode : Mode) (Given : Type 0) → (a ≡ true → Given) → (if a then new else held) ≡ Some mode → (held ≡ Some mode) ⊎ Given
@@ -171,17 +145,7 @@ from_either true new held mode Given given is = inr (given refl)
 from_either false new held mode Given given is = inl is
 
 pub from_set : (family : Family) (F : FileState) (owner : ℕ) (span : Span) (mode : Option Mode) (G : FileState) → SetsLock family F owner span mode G → LocksFrom (λ other. other ≡ owner) F G
-from_set Bytes F owner span mode G sets = record {
-  bytes = λ other byte held is.
-      from_either (is_same_owner (Description owner) (Description other) && is_covered span byte) mode (F.bytes (Description other) byte) held (other ≡ owner)
-      (λ e. (let here : Description owner ≡ Description other = (hit (Description owner) span (Description other) byte e).is in let is : owner ≡ other = cc in sym is))
-      (sym (sets.bytes (Description other) byte) ∙ is);
-  flocks = λ other held is. inl (sym (sets.flocks other) ∙ is);
-}
-from_set Whole F owner span mode G sets = record {
-  bytes = λ other byte held is. inl (sym (sets.bytes (Description other) byte) ∙ is);
-  flocks = λ other held is. from_either (owner == other) mode (F.flocks other) held (other ≡ owner) (λ e. sym (eqb-true owner other e)) (sym (sets.flocks other) ∙ is);
-}
+from_set family F owner span mode G h = grind (arith, common_steps, from_either, hit, eqb-true)
 
 -- a wait that isn't blocked isn't held back by a lock
 pub free_from_open : (policy : Policy) (F : FileState) (earlier : List Pending) (wait : Pending) → ¬ IsWaitBlocked policy F earlier wait → ¬ IsHeldBack F wait

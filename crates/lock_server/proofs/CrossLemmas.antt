@@ -1,4 +1,5 @@
 -- Who is crossed after a change, by the waiters, and so by the state of a table.
+use Rattle.std.proofs.lemmas.Grind.{common_steps}
 use Rattle.std.proofs.Common.{ℕ, ◌≡◌, ◌≢◌, ◌<◌, ◌∙◌, ◌⊎◌, inl, inr, sym, ap, refl, subst, arith, zero, suc, true, false, Bool, Option, Some, None, List, [], ◌∷◌, ◌++◌}
 use Rattle.std.specs.Prelude.{◌↔◌, IsTrue, Contains}
 use Rattle.std.proofs.lemmas.Bool.{cases_eq}
@@ -96,22 +97,7 @@ module _ (waits : ℕ → List Pending) (was : Waiters) (known : WaitersKnown wa
 
 -- first nobody is given a lock, and then some are
 pub CrossesBy-then : (was between now : Waiters) (given : List ℕ) → CrossesBy was [] between → CrossesBy between given now → ((owner : ℕ) → files_of now owner ≡ files_of between owner) → CrossesBy was given now
-CrossesBy-then was between now given first next files owner = (
-  λ is_crossed. (let h = (next owner).0 is_crossed in (
-    h.0,
-    elim h.1 [
-      | inl crossed ↦ elim ((first owner).0 crossed).1 [ inl before ↦ inl before | inr none ↦ absurd (contains_none owner none) ]
-      | inr among ↦ inr among
-    ],
-  )),
-  λ h. (next owner).1 (
-    h.0,
-    elim h.1 [
-      | inl crossed ↦ inl ((first owner).1 (λ none. h.0 (files owner ∙ none), inl crossed))
-      | inr among ↦ inr among
-    ],
-  ),
-)
+CrossesBy-then was between now given first next files owner = grind (arith, common_steps, contains_none)
 
 -- who is crossed among the waiters is crossed in the state
 pub Crosses-by : (S T : State) (was now : Waiters) (given : List ℕ) → ((owner : ℕ) → S.crossed owner ≡ crossed_of was owner) → ((owner : ℕ) → T.crossed owner ≡ crossed_of now owner)

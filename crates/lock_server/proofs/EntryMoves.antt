@@ -1,6 +1,7 @@
 -- What a table's calls leave: of the fact `indexed`, and of the state, where the entry of one file is written.
-use Rattle.std.proofs.Common.{ℕ, ◌≡◌, ◌≢◌, ◌==◌, ◌∙◌, sym, ap, subst, refl, inl, inr, true, false, Bool, Option, Some, None, Result, Ok, Err, List, [], ◌∷◌, ◌++◌, All, Any}
-use Rattle.std.specs.Prelude.{◌↔◌, ◌&&◌, is_some, IsTrue, IsSome, IfNone, OnOk, OnErr}
+use Rattle.std.proofs.Common.{arith, ℕ, ◌≡◌, ◌≢◌, ◌∙◌, sym, ap, subst, refl, inl, inr, true, false, Bool, Option, Some, None, Result, Ok, Err, List, [], ◌∷◌, ◌++◌, All, Any}
+use Rattle.std.proofs.lemmas.Grind.{common_steps}
+use Rattle.std.specs.Prelude.{is_some, IsTrue, IsSome, IfNone, OnOk, OnErr}
 use Rattle.std.specs.BTreeMap.{BTreeMap, UpdatesBy, get, is_at}
 use Rattle.std.specs.Borrow.{MutBor}
 use Rattle.std.specs.Map.{lookup}
@@ -9,18 +10,15 @@ use Rattle.std.specs.Ordering.{nat_cmp}
 use Rattle.std.proofs.lemmas.Bool.{cases_Bool, cases_eq}
 use Rattle.range_core.specs.declared.Mode.{Mode}
 use Rattle.range_core.specs.declared.Span.{Span}
-use Rattle.lock_book.specs.declared.Owner.TheVariants.{Description}
-use Rattle.lock_book.specs.Owners.{is_same_owner}
 use Rattle.wait_core.specs.declared.Family.{Family}
 use Rattle.wait_core.specs.declared.Family.TheVariants.{Bytes, Whole}
 use Rattle.lock_server.specs.declared.Pending.{Pending}
 use Rattle.lock_server.specs.declared.file.LockFile.{LockFile}
 use Rattle.lock_server.specs.declared.table.Table.{Table}
 use Rattle.lock_server.specs.declared.tickets.Place.{Place}
-use Rattle.lock_server.specs.declared.tickets.Place.TheVariants.{Reserved, Waits, Granted}
+use Rattle.lock_server.specs.declared.tickets.Place.TheVariants.{Reserved, Waits}
 use Rattle.lock_server.specs.declared.tickets.Tickets.{Tickets}
 use Rattle.lock_server.specs.declared.waiters.Waiters.{Waiters}
-use Rattle.range_core.specs.Changes.{is_covered}
 use Rattle.lock_server.specs.Files.{FileState, SetsBytes, SetsLock, Unlocks, Joins, Leaves, untouched}
 use Rattle.lock_server.specs.FileView.{file_state, keeps_place, state_at}
 use Rattle.lock_server.specs.Waiting.{IsReserved, IsReservedIn, KeepsFlockRoom}
@@ -44,14 +42,7 @@ SameWaiters-itself waiters = record { files = λ owner. refl; crossed = λ owner
 
 -- of a file without an entry nothing is unlocked
 pub untouched_unlocked : (family : Family) (owner : ℕ) → Unlocks family untouched owner untouched
-untouched_unlocked Bytes owner = record {
-  bytes = λ other byte. elim (cases_Bool (is_same_owner (Description owner) other)) [ inl same ↦ rw same refl | inr apart ↦ rw apart refl ];
-  flocks = λ other. refl;
-}
-untouched_unlocked Whole owner = record {
-  bytes = λ other byte. refl;
-  flocks = λ other. elim (cases_Bool (owner == other)) [ inl same ↦ rw same refl | inr apart ↦ rw apart refl ];
-}
+untouched_unlocked family owner = grind (arith, common_steps, cases_Bool)
 
 pub releases_nothing : (files : BTreeMap ℕ LockFile) (tickets : Tickets) (waiters : Waiters) (file : ℕ) (family : Family) (owner : ℕ) → IsIndexed files tickets waiters → get nat_cmp files file ≡ None
     → ReleasesOn (state_by files tickets waiters) file family owner (state_by files tickets waiters)
@@ -63,10 +54,7 @@ releases_nothing files tickets waiters file family owner known none = record {
 }
 
 untouched_unset : (owner : ℕ) (span : Span) → SetsBytes untouched owner span None untouched
-untouched_unset owner span = record {
-  bytes = λ other byte. elim (cases_Bool (is_same_owner (Description owner) other && is_covered span byte)) [ inl there ↦ rw there refl | inr elsewhere ↦ rw elsewhere refl ];
-  flocks = λ other. refl;
-}
+untouched_unset owner span = grind (arith, common_steps, cases_Bool)
 
 pub unlocks_nothing : (files : BTreeMap ℕ LockFile) (tickets : Tickets) (waiters : Waiters) (file owner : ℕ) (span : Span) → IsIndexed files tickets waiters → get nat_cmp files file ≡ None
     → SetsOn (state_by files tickets waiters) file Bytes owner span None (state_by files tickets waiters)
@@ -215,18 +203,8 @@ same_indexed files tickets was now same known =
 -- a request is noted, or refused
 pub noted_indexed : {X E : Type 0} (r : Result X E) (files : BTreeMap ℕ LockFile) (tickets after : Tickets) (waiters : Waiters) (ticket : ℕ) → IsIndexed files tickets waiters → IsIdle (place_at tickets ticket)
     → OnOk r (SetsPlace tickets after ticket (Some Reserved)) → grants_of after ≡ grants_of tickets → OnErr r (SameTickets tickets after) → IsIndexed files after waiters
-noted_indexed (Ok x) files tickets after waiters ticket known idle ok grants err =
-    indexed files after waiters (tickets_noted (waits_in files) tickets after ticket (Some Reserved) (tickets_known files tickets waiters known) idle idle_reserved ok grants)
-    (waiters_known files tickets waiters known)
-noted_indexed (Err e) files tickets after waiters ticket known idle ok grants err =
-    indexed files after waiters (record {
-      pending = λ other file. subst (λ (place : Option Place). (place ≡ Some (Waits file)) ↔ IsTrue (has_key ticket_of other (waits_in files file))) (sym (err.places other)) (known.pending other file);
-      granted = λ other.
-          subst (λ (place : Option Place). (place ≡ Some Granted) ↔ IsTrue (has_key itself other (grants_of after))) (sym (err.places other))
-          (subst (λ (grants : List ℕ). (place_at tickets other ≡ Some Granted) ↔ IsTrue (has_key itself other grants)) (sym err.grants) (known.granted other));
-      once_on_a_file = known.once_on_a_file;
-      granted_once = rw err.grants known.granted_once;
-    }) (waiters_known files tickets waiters known)
+noted_indexed r files tickets after waiters ticket h h2 h3 h4 h5 =
+    grind (arith, common_steps, indexed, tickets_noted, waits_in, tickets_known, idle_reserved, waiters_known, has_key, ticket_of, itself)
 
 -- what holds of nothing can't be where it doesn't hold
 pub some_unless : {A P : Type 0} (found : Option A) → IfNone found P → ¬ P → IsSome found
@@ -235,9 +213,7 @@ some_unless (Some x) holds none = refl
 
 flock_room : (before after : LockFile) → KeepsFlockRoom before after → (wait : Pending) → wait.family ≡ Whole → IsReservedIn wait.family before wait → IsReservedIn wait.family after wait
 unfolding keeps_place
-flock_room before after keeps wait of_whole room =
-    subst (λ (family : Family). IsReservedIn family after wait) (sym of_whole)
-    (keeps.places wait.owner (subst (λ (family : Family). IsReservedIn family before wait) of_whole room))
+flock_room before after keeps wait of_whole room = grind (arith, common_steps)
 
 -- an entry that keeps its room for flock requests keeps it in the table
 pub keeps_room_on : (old new : Table) (file : ℕ) (before after : LockFile) → entry_of old file ≡ Some before → entry_of new file ≡ Some after → KeepsFlockRoom before after

@@ -1,5 +1,6 @@
 -- The two halves of a conversion by flock: for `convert`, `flock_or_refuse`, `flock_or_wait`, `flock` and `flock_wait`.
-use Rattle.std.proofs.Common.{ℕ, ◌≡◌, ◌≢◌, ◌∙◌, inl, inr, sym, ap, subst, refl, Bool, false, true, Option, Some, None}
+use Rattle.std.proofs.Common.{arith, ℕ, ◌≡◌, ◌≢◌, ◌∙◌, inl, inr, sym, ap, subst, refl, Bool, false, true, Option, Some, None}
+use Rattle.std.proofs.lemmas.Grind.{common_steps}
 use Rattle.std.specs.Option.{option_eq}
 use Rattle.range_core.specs.contracts.ModePartialEq.TheImpl.{eq-value as equality}
 use Rattle.range_core.specs.declared.Mode.{Mode}
@@ -14,8 +15,7 @@ use Rattle.lock_server.specs.declared.Answer.TheVariants.{Done}
 use Rattle.lock_server.specs.declared.WaitAnswer.{WaitAnswer}
 use Rattle.lock_server.specs.declared.WaitAnswer.TheVariants as told
 use Rattle.lock_server.specs.declared.table.Table.{Table}
-use Rattle.lock_server.specs.Calls.{ConvertsFrom, FlockComesTo, FlockWaitComesTo, IsRefused, ReleasesOn, SetsOn, TestComesTo, WaitComesTo}
-use Rattle.lock_server.specs.Files.{SetsLock}
+use Rattle.lock_server.specs.Calls.{ConvertsFrom, FlockComesTo, FlockWaitComesTo, IsRefused, SetsOn, TestComesTo, WaitComesTo}
 use Rattle.lock_server.specs.FileView.{keeps_place}
 use Rattle.lock_server.specs.States.{SameState, State}
 use Rattle.lock_server.specs.TableRoom.{HasFlockPlace, HasRoomFor, KeepsRoomOn}
@@ -24,11 +24,7 @@ use Rattle.lock_server.proofs.StateLemmas.{SameState-itself, state_from_same}
 
 -- a set of a flock lock, as the request asks for it
 pub set_as_asked : (S : State) (file : ℕ) (wanted : Pending) (T : State) → wanted.family ≡ Whole → SetsOn S file Whole wanted.owner whole_file (Some wanted.mode) T → SetsOn S file wanted.family wanted.owner wanted.span (Some wanted.mode) T
-set_as_asked S file wanted T family sets = record {
-  sets = subst (λ (f : Family). SetsLock f (S.files file) wanted.owner wanted.span (Some wanted.mode) (T.files file)) (sym family) sets.sets;
-  waits = sets.waits;
-  changes = sets.changes;
-}
+set_as_asked S file wanted T family sets = grind (arith, common_steps)
 
 pub KeepsRoomOn-itself : (table : Table) (file : ℕ) → KeepsRoomOn table table file
 KeepsRoomOn-itself table file = record { places = λ owner place. place; requests = λ wait family detect room. room }
@@ -55,9 +51,7 @@ mode_itself Write = refl
 
 -- what the test tells apart is apart
 pub apart_by_test : (held : Option Mode) (mode : Mode) (answer : Bool) → answer ≡ option_eq (equality).it held (Some mode) → answer ≡ false → held ≢ Some mode
-apart_by_test held mode answer says differs same =
-    let yes_it_is : option_eq (equality).it held (Some mode) ≡ true = ap (λ (h : Option Mode). option_eq (equality).it h (Some mode)) same ∙ mode_itself mode in
-    let h : false ≡ true = sym differs ∙ says ∙ yes_it_is in cc
+apart_by_test held mode answer says differs same = grind (arith, common_steps, mode_itself)
 
 -- a request that isn't detected is never refused
 pub never_refused : (policy : Policy) (S : State) (file : ℕ) (wanted : Pending) → wanted.detect ≡ false → ¬ IsRefused policy S file wanted

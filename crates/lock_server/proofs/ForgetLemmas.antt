@@ -1,10 +1,10 @@
 -- An owner that is forgotten, on one file and then on all: for `dismiss` and `forget`.
-use Rattle.std.proofs.Common.{ℕ, ◌≡◌, ◌≢◌, ◌+◌, ◌<◌, ◌≤◌, ◌∙◌, inl, inr, sym, ap, refl, subst, arith, cond, Bool, false, not, Option, Some, None, List, [], ◌∷◌, ◌++◌, All, Contains, length, length-append}
+use Rattle.std.proofs.Common.{rules, ℕ, ◌≡◌, ◌≢◌, ◌+◌, ◌<◌, ◌≤◌, ◌∙◌, inl, inr, sym, ap, refl, subst, arith, cond, Bool, false, Option, Some, None, List, [], ◌∷◌, ◌++◌, All, Contains, length, length-append}
+use Rattle.std.proofs.lemmas.Grind.{common_steps}
 use Rattle.std.specs.Prelude.{IsTrue, AllPairs, MatchOption, filter}
 use Rattle.std.proofs.lemmas.Bool.{cases_eq, cases_lt}
 use Rattle.std.proofs.lemmas.List.Elements.{All-head, All-nil, All-push, All-tail, All-weaker, Contains-append_left, Contains-push, filter-append}
 use Rattle.std.proofs.lemmas.List.Quantifiers.{all_pairs_push}
-use Rattle.lock_book.specs.declared.Owner.TheVariants.{Description}
 use Rattle.wait_core.specs.declared.Family.TheVariants.{Bytes}
 use Rattle.wait_core.specs.declared.Policy.{Policy}
 use Rattle.lock_server.specs.declared.Pending.{Pending}
@@ -22,18 +22,11 @@ pub record IsDismissing (S : State) (file owner : ℕ) (T : State) : Type 0 wher
 
 -- at first none of its waits
 pub dismissing_none : (S : State) (file owner : ℕ) (T : State) → ReleasesOn S file Bytes owner T → IsDismissing S file owner T
-dismissing_none S file owner T releases = record {
-  unlocks = releases.unlocks;
-  kept = ap (λ (waits : List Pending). filter (is_other_wait owner) waits) releases.waits;
-  changes = releases.changes;
-}
+dismissing_none S file owner T releases = grind (arith, common_steps)
 
 -- what a filter drops doesn't count
 filter_without : (p : Pending → Bool) (before after : List Pending) (wait : Pending) → p wait ≡ false → filter p (before ++ wait ∷ after) ≡ filter p (before ++ after)
-filter_without p before after wait drops =
-    filter-append p before (wait ∷ after)
-    ∙ ap (λ (b : Bool). filter p before ++ cond b (wait ∷ filter p after) (filter p after)) drops
-    ∙ sym (filter-append p before after)
+filter_without p before after wait drops = grind (arith, common_steps, filter-append)
 
 -- a filter that all pass drops nothing
 filter_all : (p : Pending → Bool) (waits : List Pending) → All (λ wait. IsTrue (p wait)) waits → filter p waits ≡ waits
@@ -45,39 +38,15 @@ filter_all p (wait ∷ waits) all =
 
 -- one of its waits more
 pub dismissing_more : (S : State) (file owner : ℕ) (M T : State) → IsDismissing S file owner M → DismissesOn M file owner T → IsDismissing S file owner T
-dismissing_more S file owner M T so_far one =
-    let other = is_other_wait owner in
-    let before = one.before in let after = one.after in
-    let without : filter other (T.files file).waits ≡ filter other (M.files file).waits =
-    ap (λ (waits : List Pending). filter other waits) one.leaves.waits
-    ∙ sym (filter_without other before after one.wait (ap not one.of_owner))
-    ∙ sym (ap (λ (waits : List Pending). filter other waits) one.leaves.place) in
-    record {
-      unlocks = record {
-        bytes = λ any byte. one.leaves.locks.bytes any byte ∙ so_far.unlocks.bytes any byte;
-        flocks = λ any. one.leaves.locks.flocks any ∙ so_far.unlocks.flocks any;
-      };
-      kept = without ∙ so_far.kept;
-      changes = record {
-        others = λ any differs. SameFile-then (S.files any) (M.files any) (T.files any) (so_far.changes.others any differs) (one.changes.others any differs);
-        grants = one.changes.grants ∙ so_far.changes.grants;
-        crossed = crosses_then S M T [] [] (detected_before M file T before after one.wait one.changes.others one.leaves.place one.leaves.waits)
-            so_far.changes.crossed one.changes.crossed;
-      };
-    }
+dismissing_more S file owner M T so_far one = grind (arith, common_steps, filter_without, SameFile-then, crosses_then, detected_before)
 
 -- none of its waits is left
 pub all_dismissed : (S : State) (file owner : ℕ) (M T : State) → IsDismissing S file owner M → All (λ wait. IsTrue (is_other_wait owner wait)) (M.files file).waits → SameState M T → ForgetsOn S file owner T
-all_dismissed S file owner M T so_far all same =
-    subst (λ (U : State). ForgetsOn S file owner U) (sym (state_from_same M T same))
-    (record { unlocks = so_far.unlocks; waits = sym (filter_all (is_other_wait owner) (M.files file).waits all) ∙ so_far.kept; changes = so_far.changes })
+all_dismissed S file owner M T so_far all same = search (rules, state_from_same, filter_all)
 
 -- one wait that is dismissed is one wait less
 pub fewer_after : (M : State) (file owner : ℕ) (T : State) → DismissesOn M file owner T → length (T.files file).waits < length (M.files file).waits
-fewer_after M file owner T one =
-    let was = ap (λ (waits : List Pending). length waits) one.leaves.place in
-    let now = ap (λ (waits : List Pending). length waits) one.leaves.waits in
-    omega (arith, was, now, length-append one.before one.after, length-append one.before (one.wait ∷ one.after))
+fewer_after M file owner T one = grind (arith, common_steps, length-append)
 
 -- the least file that is not looked at, where those up to this one are
 abbrev pub next_of : Option ℕ → ℕ
@@ -103,30 +72,17 @@ pub record IsForgetting (policy : Policy) (S : State) (owner next : ℕ) (T : St
 
 -- an untouched file knows no owner
 stranger : (F : FileState) (owner : ℕ) → SameFile untouched F → IsStrangerOn F owner
-stranger F owner same = record {
-  bytes = λ byte. same.locks.bytes (Description owner) byte;
-  waits = subst (λ (waits : List Pending). All (λ wait. IsTrue (is_other_wait owner wait)) waits) (sym same.waits) (All-nil (λ (wait : Pending). IsTrue (is_other_wait owner wait)));
-}
+stranger F owner same = grind (arith, common_steps, All-nil)
 
 SameFile-back : (F G : FileState) → SameFile F G → SameFile G F
-SameFile-back F G same = record {
-  locks = record { bytes = λ owner byte. sym (same.locks.bytes owner byte); flocks = λ owner. sym (same.locks.flocks owner) };
-  waits = sym same.waits;
-}
+SameFile-back F G same = grind (arith, common_steps)
 
 stranger_still : (F G : FileState) (owner : ℕ) → SameFile F G → SameFile untouched G → IsStrangerOn F owner
 stranger_still F G owner same none = stranger F owner (SameFile-then untouched G F none (SameFile-back F G same))
 
 -- at first no file is looked at
 pub forgetting_none : (policy : Policy) (S : State) (owner : ℕ) → IsForgetting policy S owner 0 S
-forgetting_none policy S owner = record {
-  done = [];
-  rising = λ i j d before within. absurd (let none : j < 0 = within in omega arith);
-  below = All-nil (λ (file : ℕ). file < 0);
-  strangers = λ file none. absurd (omega arith);
-  later = λ file from. SameFile-itself (S.files file);
-  forgets = record { files = λ file. SameFile-itself (S.files file); grants = refl; crossed = λ owner. refl };
-}
+forgetting_none policy S owner = grind (arith, common_steps, All-nil, SameFile-itself)
 
 forgets_more : (policy : Policy) (files : List ℕ) (S : State) (owner file : ℕ) (M between after T : State) → ForgetsIn policy files S owner M → ForgetsOn M file owner between → SettlesFile policy between file after
     → SameState after T → ForgetsIn policy (files ++ file ∷ []) S owner T

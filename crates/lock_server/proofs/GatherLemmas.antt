@@ -1,4 +1,5 @@
 -- Owners that loops gather: for `add_steps`, `add_blockers`, `add_holders`, `add_conflicting`.
+use Rattle.std.proofs.lemmas.Grind.{common_steps}
 use Rattle.std.proofs.Common.{ℕ, ◌≡◌, ◌+◌, ◌<◌, ◌≤◌, ◌∙◌, ◌⊎◌, inl, inr, sym, ap, subst, arith, Some, List, [], ◌∷◌, ◌++◌, Any, length}
 use Rattle.std.specs.Prelude.{◌↔◌, slice_get}
 use Rattle.std.proofs.lemmas.Bool.{cases_lt}
@@ -12,33 +13,15 @@ AddsOwners-same old Added none = record { kept = λ other h. h; added = λ other
 
 -- one owner, the only one of which it holds
 pub AddsOwners-push : (old new : List ℕ) (owner : ℕ) (Added : ℕ → Type 0) → new ≡ old ++ owner ∷ [] → Added owner → ((other : ℕ) → Added other → other ≡ owner) → AddsOwners old new Added
-AddsOwners-push old new owner Added items holds alone = record {
-  kept = λ other h. rw items (Contains-append_left old (owner ∷ []) other h);
-  added = λ other h. rw (items, alone other h) (Contains-push old owner);
-  only = λ other h. elim (Contains-push_cases old owner other (rw items at h)) [
-    | inl before ↦ inl before
-    | inr is ↦ inr (subst Added is holds)
-  ];
-}
+AddsOwners-push old new owner Added items holds alone = grind (arith, common_steps, Contains-append_left, Contains-push, Contains-push_cases)
 
 -- the same owners, said otherwise
 pub AddsOwners-as : (old new : List ℕ) (P Q : ℕ → Type 0) → ((other : ℕ) → P other ↔ Q other) → AddsOwners old new P → AddsOwners old new Q
-AddsOwners-as old new P Q same adds = record {
-  kept = adds.kept;
-  added = λ other h. adds.added other ((same other).1 h);
-  only = λ other h. elim (adds.only other h) [ inl before ↦ inl before | inr here ↦ inr ((same other).0 here) ];
-}
+AddsOwners-as old new P Q same adds = grind (arith, common_steps)
 
 -- those of the one kind, and then those of the other
 pub AddsOwners-both : (old mid new : List ℕ) (P Q : ℕ → Type 0) → AddsOwners old mid P → AddsOwners mid new Q → AddsOwners old new (λ other. P other ⊎ Q other)
-AddsOwners-both old mid new P Q one two = record {
-  kept = λ other h. two.kept other (one.kept other h);
-  added = λ other h. elim h [ inl p ↦ two.kept other (one.added other p) | inr q ↦ two.added other q ];
-  only = λ other h. elim (two.only other h) [
-    | inl m ↦ elim (one.only other m) [ inl before ↦ inl before | inr p ↦ inr (inl p) ]
-    | inr q ↦ inr (inr q)
-  ];
-}
+AddsOwners-both old mid new P Q one two = grind (arith, common_steps)
 
 -- one of the first so many elements gives the owner, by its place too
 pub record IsGivenBefore {X : Type 0} (Gives : ℕ → X → ℕ → Type 0) (xs : List X) (n other : ℕ) : Type 0 where

@@ -1,23 +1,20 @@
 -- The wait at a place that is granted, and the place where a wait is found.
-use Rattle.std.proofs.Common.{ℕ, ◌≡◌, ◌+◌, ◌<◌, ◌∙◌, inl, inr, sym, ap, refl, subst, arith, true, false, Bool, Option, Some, None, List, [], ◌∷◌, ◌++◌, All, length, length-append, get_or}
-use Rattle.std.specs.Prelude.{if◌then◌else◌, ◌&&◌, ◌==◌, position, nat_lt, slice_get, IsTrue}
-use Rattle.std.specs.List.{position_or_len}
+use Rattle.std.proofs.lemmas.Grind.{common_steps}
+use Rattle.std.proofs.Common.{ℕ, ◌≡◌, ◌+◌, ◌<◌, refl, subst, arith, true, false, Bool, Some, None, List, [], ◌∷◌, ◌++◌, All, length, length-append, get_or}
+use Rattle.std.specs.Prelude.{position, slice_get, IsTrue}
 use Rattle.std.proofs.lemmas.Bool.{cases_lt, lt-ltb, le-ltb}
 use Rattle.std.proofs.lemmas.List.Sums.{fails_before_first}
 use Rattle.std.proofs.lemmas.List.Quantifiers.{position-Some}
 use Rattle.std.proofs.lemmas.Option.{slice_get-get_or, slice_get_cases}
-use Rattle.range_core.specs.declared.Mode.{Mode}
-use Rattle.range_core.specs.Changes.{is_covered}
 use Rattle.lock_book.specs.declared.Owner.TheVariants.{Description}
 use Rattle.range_core.specs.Ranges.{IsByteRange}
 use Rattle.lock_book.specs.Books.{room_in, has_flock_place}
-use Rattle.lock_book.specs.Owners.{is_same_owner}
 use Rattle.wait_core.specs.declared.Family.{Family}
 use Rattle.wait_core.specs.declared.Family.TheVariants.{Bytes, Whole}
 use Rattle.wait_core.specs.declared.Policy.{Policy}
 use Rattle.lock_server.specs.declared.Pending.{Pending}
 use Rattle.lock_server.specs.Files.{FileState, SameLocks, SetsLock, GetsLock}
-use Rattle.lock_server.specs.Settling.{Grants, IsNext}
+use Rattle.lock_server.specs.Settling.{Grants}
 use Rattle.lock_server.specs.Waiting.{IsReadyAt, IsReservedIn, LeavesAt}
 use Rattle.lock_server.specs.Room.{byte_waits}
 use Rattle.lock_server.specs.declared.file.LockFile.{LockFile}
@@ -41,36 +38,18 @@ same_parts {X} (a ∷ xs) (b ∷ ys) x y us vs long same =
 
 -- a lock that is given after the wait left is given where it stood
 gets_in : (family : Family) (F M G : FileState) (wait : Pending) → SameLocks F M → SetsLock family M wait.owner wait.span (Some wait.mode) G → SetsLock family F wait.owner wait.span (Some wait.mode) G
-gets_in Bytes F M G wait same sets = record {
-  bytes = λ other byte. sets.bytes other byte
-      ∙ ap (λ (held : Option Mode). if is_same_owner (Description wait.owner) other && is_covered wait.span byte then Some wait.mode else held) (same.bytes other byte);
-  flocks = λ other. sets.flocks other ∙ same.flocks other;
-}
-gets_in Whole F M G wait same sets = record {
-  bytes = λ other byte. sets.bytes other byte ∙ same.bytes other byte;
-  flocks = λ other. sets.flocks other ∙ ap (λ (held : Option Mode). if wait.owner == other then Some wait.mode else held) (same.flocks other);
-}
+gets_in family F M G wait h h2 = grind (arith, common_steps)
 
 pub gets_where_it_stood : (F M G : FileState) (wait : Pending) → SameLocks F M → GetsLock M wait G → GetsLock F wait G
 gets_where_it_stood F M G wait same gets = gets_in wait.family F M G wait same gets
 
 -- the list without the wait is one shorter
 pub one_fewer : (F M : FileState) (place : ℕ) (wait : Pending) → LeavesAt F place wait M → length M.waits + 1 ≡ length F.waits
-one_fewer F M place wait left =
-    let now = ap length left.leaves.waits in
-    let was = ap length left.leaves.place in
-    omega (arith, now, was, length-append left.before left.after, length-append left.before (wait ∷ left.after))
+one_fewer F M place wait left = grind (arith, common_steps, length-append)
 
 -- the wait at the place that is ready is granted
 pub grants_at : (policy : Policy) (F M G : FileState) (place : ℕ) (wait : Pending) → LeavesAt F place wait M → GetsLock F wait G → G.waits ≡ M.waits → IsReadyAt policy F place → Grants policy F wait G
-grants_at policy F M G place wait left gets waits ready =
-    let parts = same_parts ready.before left.before ready.wait wait ready.after left.after (ready.at ∙ sym left.at) (sym ready.is_next.place ∙ left.leaves.place) in record {
-      before = ready.before;
-      after = ready.after;
-      is_next = subst (λ (w : Pending). IsNext policy F ready.before w ready.after) parts.here ready.is_next;
-      gets = gets;
-      waits = waits ∙ left.leaves.waits ∙ sym (ap (λ (l : List Pending). l ++ ready.after) parts.before ∙ ap (λ (l : List Pending). left.before ++ l) parts.after);
-    }
+grants_at policy F M G place wait left gets waits ready = grind (arith, common_steps, same_parts)
 
 -- what is found passes the test
 pub found_passes : {X : Type 0} (p : X → Bool) (xs : List X) (place : ℕ) (x : X) → position p xs ≡ Some place → slice_get xs place ≡ Some x → p x ≡ true
@@ -82,33 +61,14 @@ found_passes {X} p xs place x found is =
 
 -- and where nothing is found nothing does
 pub none_passes : {X : Type 0} (p : X → Bool) (xs : List X) → position p xs ≡ None → All (λ x. p x ≡ false) xs
-none_passes p xs none = elim (cases_lt (position_or_len p xs) (length xs)) [
-  | inl inside ↦
-      absurd (let found : nat_lt (position_or_len p xs) (length xs) ≡ true = lt-ltb (position_or_len p xs) (length xs) inside in
-      let h : Some (position_or_len p xs) ≡ None = rw found at none in cc)
-  | inr past ↦ λ k d within. fails_before_first p xs k d (omega arith)
-]
+none_passes p xs none = grind (arith, common_steps, cases_lt, lt-ltb, fails_before_first)
 
 pub found_within : {X : Type 0} (p : X → Bool) (xs : List X) (place : ℕ) → position p xs ≡ Some place → place < length xs
-found_within p xs place found = elim (cases_lt (position_or_len p xs) (length xs)) [
-  | inl inside ↦
-      (let test : nat_lt (position_or_len p xs) (length xs) ≡ true = lt-ltb (position_or_len p xs) (length xs) inside in
-      let here : Some (position_or_len p xs) ≡ Some place = rw test at found in
-      let same : position_or_len p xs ≡ place = cc in omega arith)
-  | inr past ↦
-      absurd (let test : nat_lt (position_or_len p xs) (length xs) ≡ false = le-ltb (position_or_len p xs) (length xs) past in
-      let h : None ≡ Some place = rw test at found in cc)
-]
+found_within p xs place found = grind (arith, common_steps, cases_lt, lt-ltb, le-ltb)
 
 -- the wait at a place has a range that all have
 pub range_at : (waits : List Pending) (place : ℕ) (wait : Pending) → All (λ other. IsByteRange other.span) waits → slice_get waits place ≡ Some wait → IsByteRange wait.span
-range_at waits place wait all is = elim (slice_get_cases waits place).1 [
-  | inl (other, inside, some, there) ↦
-      (let there_now = slice_get-get_or waits place wait inside in
-      let same : get_or waits place wait ≡ wait = cc in
-      subst (λ (w : Pending). IsByteRange w.span) same (all place wait inside))
-  | inr (past, none) ↦ absurd (let h : None ≡ Some wait = sym none ∙ is in cc)
-]
+range_at waits place wait all is = grind (arith, common_steps, slice_get_cases, slice_get-get_or)
 
 -- the room that is held for a wait of each family
 pub room_for_one : (file : LockFile) (wait : Pending) → wait.family ≡ Bytes → IsReservedIn wait.family file wait → byte_waits file.waits.items wait.owner < room_in file.book (Description wait.owner)

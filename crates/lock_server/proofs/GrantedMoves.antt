@@ -1,5 +1,6 @@
 -- What a grant leaves of the fact `indexed`, and of the state: for `grant_next`.
-use Rattle.std.proofs.Common.{ℕ, ◌≡◌, ◌∙◌, sym, ap, refl, inl, inr, Option, Some, None, [], ◌∷◌, ◌++◌}
+use Rattle.std.proofs.Common.{arith, ℕ, ◌≡◌, ◌∙◌, sym, ap, refl, inl, inr, Option, Some, [], ◌∷◌, ◌++◌}
+use Rattle.std.proofs.lemmas.Grind.{common_steps}
 use Rattle.std.specs.Prelude.{IsSome}
 use Rattle.std.specs.Borrow.{MutBor}
 use Rattle.std.specs.BTreeMap.{BTreeMap, get}
@@ -34,9 +35,7 @@ use Rattle.lock_server.proofs.WaiterMoves.{WaitersKnown, waiters_crossed}
 
 -- where a wait is ready the file has an entry, which the map lends
 pub lent_of_ready : (policy : Policy) (files : BTreeMap ℕ LockFile) (file place : ℕ) → IsReadyAt policy (state_in files file) place → (lent : Option (MutBor LockFile)) → option_copied_mut lent ≡ get nat_cmp files file → IsSome lent
-lent_of_ready policy files file place ready None value =
-    absurd (no_place ready.before ready.wait ready.after (ap (λ (found : Option LockFile). (state_at found).waits) value ∙ ready.is_next.place))
-lent_of_ready policy files file place ready (Some locks) value = refl
+lent_of_ready policy files file place h lent h2 = grind (arith, common_steps, no_place)
 
 module _ (old new : BTreeMap ℕ LockFile) (tickets free : Tickets) (was between now : Waiters) (file : ℕ) (before after : LockFile) (is : get nat_cmp old file ≡ Some before) (puts : PutsEntry old new file (Some after)) (known : IsIndexed old tickets was) (policy : Policy) (wait : Pending) (grants : Grants policy (file_state before) wait (file_state after)) where
   stood : waits_in old file ≡ grants.before ++ wait ∷ grants.after

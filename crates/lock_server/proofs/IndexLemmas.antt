@@ -1,5 +1,6 @@
 -- What is known of tickets and of owners, where a file changes.
-use Rattle.std.proofs.Common.{ℕ, ◌≡◌, ◌≢◌, ◌==◌, ◌∙◌, inl, inr, sym, ap, refl, subst, true, false, Bool, Option, Some, List, [], ◌∷◌, Any}
+use Rattle.std.proofs.Common.{arith, ℕ, ◌≡◌, ◌≢◌, ◌==◌, inl, inr, sym, refl, subst, true, Bool, Option, Some, List, [], ◌∷◌, Any}
+use Rattle.std.proofs.lemmas.Grind.{common_steps}
 use Rattle.std.specs.Prelude.{◌&&◌, AllPairs}
 use Rattle.std.specs.BTreeMap.{BTreeMap, UpdatesBy, WritesThrough, get}
 use Rattle.std.specs.Borrow.{MutBor}
@@ -11,7 +12,7 @@ use Rattle.lock_server.specs.declared.file.LockFile.{LockFile}
 use Rattle.lock_server.specs.declared.tickets.Tickets.{Tickets}
 use Rattle.lock_server.specs.declared.waiters.Waiters.{Waiters}
 use Rattle.lock_server.specs.Files.{FileState, SameFile}
-use Rattle.lock_server.specs.FileView.{file_state, state_at}
+use Rattle.lock_server.specs.FileView.{file_state}
 use Rattle.lock_server.specs.States.{IsDetectedOf}
 use Rattle.lock_server.specs.Index.{IsIndexed, state_in, detected_waits}
 use Rattle.lock_server.proofs.ListLemmas.{Any-here, Any-there}
@@ -28,27 +29,16 @@ PutsEntry-updates old new file entry updates = record { here = updates.1; others
 -- the entry that a map lent, and what a write through it puts there
 pub file_written : (old new : BTreeMap ℕ LockFile) (file : ℕ) (lent : Option (MutBor LockFile)) (locks : MutBor LockFile) (after : LockFile) → option_copied_mut lent ≡ get nat_cmp old file → lent ≡ Some locks
     → WritesThrough nat_cmp (nat_cmp file) old after new → (get nat_cmp old file ≡ Some locks.now) × PutsEntry old new file (Some after)
-file_written old new file lent locks after value is writes =
-    let was : get nat_cmp old file ≡ Some locks.now = sym value ∙ ap option_copied_mut is in
-    (was, PutsEntry-updates old new file (Some after) (writes.3 (rw was refl)))
+file_written old new file lent locks after value is writes = grind (arith, common_steps, PutsEntry-updates)
 
 -- a file that keeps its waits leaves those of every file
 pub waits_kept : (old new : BTreeMap ℕ LockFile) (file : ℕ) (before after : LockFile) → PutsEntry old new file (Some after) → get nat_cmp old file ≡ Some before
     → (file_state after).waits ≡ (file_state before).waits → (other : ℕ) → (state_in new other).waits ≡ (state_in old other).waits
-waits_kept old new file before after puts was same other = elim (cases_eq other file) [
-  | inl here ↦
-      (let now : state_in new other ≡ file_state after = ap (λ n. state_at (get nat_cmp new n)) here ∙ ap state_at puts.here in
-      let had : state_in old other ≡ file_state before = ap (λ n. state_at (get nat_cmp old n)) here ∙ ap state_at was in
-      ap (λ (F : FileState). F.waits) now ∙ same ∙ sym (ap (λ (F : FileState). F.waits) had))
-  | inr differs ↦ ap (λ (entry : Option LockFile). (state_at entry).waits) (puts.others other differs)
-]
+waits_kept old new file before after puts was same other = grind (arith, common_steps, cases_eq)
 
 -- the files but the one are the same
 pub same_from_eq : (F G : FileState) → G ≡ F → SameFile F G
-same_from_eq F G e = record {
-  locks = record { bytes = λ owner byte. ap (λ (H : FileState). H.bytes owner byte) e; flocks = λ owner. ap (λ (H : FileState). H.flocks owner) e };
-  waits = ap (λ (H : FileState). H.waits) e;
-}
+same_from_eq F G e = grind (arith, common_steps)
 
 -- what is known holds where each file has the waits that it had
 pub IsIndexed-same : (old new : BTreeMap ℕ LockFile) (tickets : Tickets) (waiters : Waiters) → ((file : ℕ) → (state_in new file).waits ≡ (state_in old file).waits)
@@ -67,10 +57,7 @@ abbrev pub is_detected_of : ℕ → Pending → Bool
 is_detected_of owner wait = wait.detect && (wait.owner == owner)
 
 detected_by_test : (owner : ℕ) (wait : Pending) → is_detected_of owner wait ≡ true → IsDetectedOf owner wait
-detected_by_test owner wait test = elim (cases_Bool wait.detect) [
-  | inl detected ↦ (detected, eqb-true wait.owner owner (rw detected at test))
-  | inr passed ↦ absurd (let h : false ≡ true = rw passed at test in cc)
-]
+detected_by_test owner wait test = grind (arith, common_steps, cases_Bool, eqb-true)
 
 -- where detected waits of an owner are counted there is one
 pub some_detected : (owner : ℕ) (waits : List Pending) → detected_waits waits owner ≢ 0 → Any (IsDetectedOf owner) waits

@@ -1,12 +1,11 @@
 -- What holds between two calls holds after a wait joined that closes no cycle: for the server's fact `safe`.
-use Rattle.std.proofs.Common.{ℕ, ◌≡◌, ◌∙◌, ◌⊎◌, inl, inr, sym, ap, subst, refl, List, [], ◌∷◌, ◌++◌}
+use Rattle.std.proofs.Common.{arith, ℕ, ◌≡◌, ◌∙◌, ◌⊎◌, inl, inr, sym, ap, subst, refl, List, [], ◌∷◌, ◌++◌}
+use Rattle.std.proofs.lemmas.Grind.{common_steps}
 use Rattle.std.specs.Prelude.{IsTrue}
 use Rattle.std.proofs.lemmas.Bool.{cases_eq}
 use Rattle.wait_core.specs.declared.Policy.{Policy}
-use Rattle.wait_core.specs.Blocking.{AllBlocked}
 use Rattle.lock_server.specs.declared.Pending.{Pending}
-use Rattle.lock_server.specs.Pendings.{as_wait, as_waits}
-use Rattle.lock_server.specs.Files.{FileState, Joins, locks_on}
+use Rattle.lock_server.specs.Files.{FileState, Joins}
 use Rattle.lock_server.specs.Settling.{IsSettled, IsWaitBlocked}
 use Rattle.lock_server.specs.States.{State}
 use Rattle.lock_server.specs.Deadlock.{IsBlockedByOwner, WaitsFor, WaitsForOn, WaitsUncrossed, IsFreeOfCycles}
@@ -33,9 +32,7 @@ joined_is F wait G joins i = record {
 
 -- a blocked wait joins blocked ones
 joined_settled : (policy : Policy) (F : FileState) (wait : Pending) → IsSettled policy F → IsWaitBlocked policy F F.waits wait → IsSettled policy (with_wait F wait)
-joined_settled policy F wait settled blocked =
-    subst (λ (waits : List _). AllBlocked policy (locks_on F) [] waits) (sym (as_waits-append F.waits (wait ∷ [])))
-    (AllBlocked-push policy (locks_on F) [] (as_waits F.waits) (as_wait wait) settled blocked)
+joined_settled policy F wait settled blocked = grind (arith, common_steps, as_waits-append, AllBlocked-push)
 
 -- a place in the longer list is one in the list, or the last
 record IsFrom (waits before : List Pending) (one wait : Pending) : Type 0 where
@@ -68,10 +65,7 @@ BlocksNew policy F wait other = IsTrue wait.detect × IsBlockedByOwner policy F 
 
 -- the locks of the longer list block the same
 blocked_before : (policy : Policy) (F : FileState) (wait : Pending) (before : List Pending) (one : Pending) (other : ℕ) → IsBlockedByOwner policy (with_wait F wait) before one other → IsBlockedByOwner policy F before one other
-blocked_before policy F wait before one other blocked = elim (still_blocked (λ n. ⊥) F (with_wait F wait) (record { bytes = λ owner byte mode is. inl is; flocks = λ owner mode is. inl is }) policy before before one other (λ any. any) blocked) [
-  | inl was ↦ was
-  | inr none ↦ absurd none
-]
+blocked_before policy F wait before one other blocked = grind (arith, common_steps, still_blocked)
 
 module _ (policy : Policy) (S : State) (file : ℕ) (wait : Pending) (T : State) (suspends : Suspends S file wait T) where
   longer : T.files file ≡ with_wait (S.files file) wait

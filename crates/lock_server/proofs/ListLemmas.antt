@@ -1,5 +1,6 @@
 -- Some element of a list: of one that was mapped, and of waits that block.
-use Rattle.std.proofs.Common.{◌≡◌, ◌⊎◌, inl, inr, sym, subst, refl, arith, zero, suc, List, [], ◌∷◌, ◌++◌, Any, length}
+use Rattle.std.proofs.Common.{rules, ◌≡◌, ◌⊎◌, inl, inr, sym, subst, refl, arith, zero, suc, List, [], ◌∷◌, ◌++◌, Any, length}
+use Rattle.std.proofs.lemmas.Grind.{common_steps}
 use Rattle.std.specs.Prelude.{◌↔◌, Bool, IsTrue, map}
 use Rattle.wait_core.specs.declared.Policy.{Policy}
 use Rattle.wait_core.specs.declared.Policy.TheVariants.{Held, Queue}
@@ -30,11 +31,7 @@ no_place (first ∷ before) wait after e = let h : [] ≡ first ∷ (before ++ w
 
 -- what holds of an element's image holds of an element of the image
 pub Any-map : {X Y : Type 0} (f : X → Y) (P : Y → Type 0) (xs : List X) → Any (λ x. P (f x)) xs → Any P (map f xs)
-Any-map f P [] any = absurd (Any-nil _ any)
-Any-map f P (x ∷ xs) any = elim (Any-cons _ x xs any) [
-  | inl here ↦ Any-here P (f x) (map f xs) here
-  | inr there ↦ Any-there P (f x) (map f xs) (Any-map f P xs there)
-]
+Any-map f P xs h = grind (arith, common_steps)
 
 -- and back
 pub Any-unmap : {X Y : Type 0} (f : X → Y) (P : Y → Type 0) (xs : List X) → Any P (map f xs) → Any (λ x. P (f x)) xs
@@ -49,22 +46,15 @@ Any-weaker P Q weaker xs (k, x, within, is, holds) = (k, x, within, is, weaker x
 
 -- one of these waits conflicts with the wait, as the server and as `wait_core` say it
 pub conflicts_there : (wait : Pending) (earlier : List Pending) → Any (λ v. PendingsConflict v wait) earlier → Any (λ v. WaitsConflict v (as_wait wait)) (as_waits earlier)
-conflicts_there wait earlier any =
-    Any-map as_wait (λ v. WaitsConflict v (as_wait wait)) earlier
-    (Any-weaker (λ v. PendingsConflict v wait) (λ v. WaitsConflict (as_wait v) (as_wait wait)) (λ v conflicts. conflicts.conflict) earlier any)
+conflicts_there wait earlier any = grind (arith, common_steps, Any-map, Any-weaker)
 
 pub conflicts_here : (wait : Pending) (earlier : List Pending) → Any (λ v. WaitsConflict v (as_wait wait)) (as_waits earlier) → Any (λ v. PendingsConflict v wait) earlier
-conflicts_here wait earlier any =
-    Any-weaker (λ v. WaitsConflict (as_wait v) (as_wait wait)) (λ v. PendingsConflict v wait) (λ v conflict. record { conflict = conflict }) earlier
-    (Any-unmap as_wait (λ v. WaitsConflict v (as_wait wait)) earlier any)
+conflicts_here wait earlier any = search (rules, Any-weaker, Any-unmap)
 
 -- blocked by an earlier wait, where no lock is in the way
 pub queued : (F : FileState) (earlier : List Pending) (wait : Pending) (any : Bool) → ¬ IsHeldBack F wait → IsTrue any ↔ Any (λ v. PendingsConflict v wait) earlier
     → IsTrue any ↔ IsWaitBlocked Queue F earlier wait
-queued F earlier wait any free says = (
-  λ yes. inr (conflicts_there wait earlier (says.0 yes)),
-  λ blocked. elim blocked [ inl held ↦ absurd (free held) | inr conflict ↦ says.1 (conflicts_here wait earlier conflict) ],
-)
+queued F earlier wait any free says = grind (arith, common_steps, conflicts_there, conflicts_here)
 
 -- blocked by a lock
 pub held_back : (policy : Policy) (F : FileState) (earlier : List Pending) (wait : Pending) → IsHeldBack F wait → IsWaitBlocked policy F earlier wait

@@ -1,5 +1,6 @@
 -- An owner that is forgotten on all files, one after another: for the openings' `forget_owner`.
-use Rattle.std.proofs.Common.{ℕ, ◌≡◌, ◌≢◌, ◌+◌, ◌<◌, ◌≤◌, ◌∙◌, inl, inr, sym, refl, subst, arith, Option, None}
+use Rattle.std.proofs.lemmas.Grind.{common_steps}
+use Rattle.std.proofs.Common.{ℕ, ◌≡◌, ◌≢◌, ◌+◌, ◌<◌, ◌≤◌, refl, arith, Option, None}
 use Rattle.std.proofs.lemmas.Bool.{cases_eq, cases_lt}
 use Rattle.lock_server.specs.Openings.{ForgetsOwner, SeesOn}
 
@@ -15,23 +16,8 @@ unseeing_none was owner = record { none = λ file before. absurd (omega (arith, 
 -- the next file on which an owner is known
 pub unseeing_more : (was : ℕ → ℕ → Option ℕ) (owner next : ℕ) (now : ℕ → ℕ → Option ℕ) (file : ℕ) (new : ℕ → ℕ → Option ℕ) → IsUnseeing was owner next now → next ≤ file
     → ((other : ℕ) → next ≤ other → other < file → now other owner ≡ None) → SeesOn now new file owner None → IsUnseeing was owner (file + 1) new
-unseeing_more was owner next now file new so_far from none sees = record {
-  none = λ other before. elim (cases_eq other file) [
-    | inl is ↦ subst (λ (f : ℕ). new f owner ≡ None) (sym is) sees.here
-    | inr differs ↦ sees.elsewhere other owner differs ∙ elim (cases_lt other next) [
-      | inl below ↦ so_far.none other below
-      | inr past ↦ none other past (omega arith)
-    ]
-  ];
-  others = λ other any distinct. elim (cases_eq other file) [
-    | inl is ↦ subst (λ (f : ℕ). new f any ≡ was f any) (sym is) (sees.others any distinct ∙ so_far.others file any distinct)
-    | inr differs ↦ sees.elsewhere other any differs ∙ so_far.others other any distinct
-  ];
-}
+unseeing_more was owner next now file new so_far from none sees = grind (arith, common_steps, cases_eq, cases_lt)
 
 -- from here on no owner is known
 pub all_unseen : (was : ℕ → ℕ → Option ℕ) (owner next : ℕ) (now : ℕ → ℕ → Option ℕ) → IsUnseeing was owner next now → ((file : ℕ) → next ≤ file → now file owner ≡ None) → ForgetsOwner was now owner
-all_unseen was owner next now so_far none = record {
-  none = λ file. elim (cases_lt file next) [ inl below ↦ so_far.none file below | inr past ↦ none file past ];
-  others = so_far.others;
-}
+all_unseen was owner next now so_far none = grind (arith, common_steps, cases_lt)

@@ -1,4 +1,5 @@
 -- The owners that are put behind those that were reached: for `add_going_on`, `add_steps` of a table, `would_cycle`.
+use Rattle.std.proofs.lemmas.Grind.{common_steps}
 use Rattle.std.proofs.Common.{ℕ, ◌≡◌, ◌≢◌, ◌==◌, ◌+◌, ◌<◌, ◌≤◌, ◌∙◌, inl, inr, sym, ap, refl, subst, arith, suc, cond, Bool, true, Option, Some, None, List, [], ◌∷◌, ◌++◌, Contains, length, get_or}
 use Rattle.std.specs.Prelude.{◌↔◌, ◌&&◌, IsTrue, MatchOption, slice_get}
 use Rattle.std.specs.Borrow.{Bor}
@@ -12,7 +13,6 @@ use Rattle.std.proofs.lemmas.Option.{none-some, same_Some, slice_get-get_or, sli
 use Rattle.wait_core.specs.declared.Family.{Family}
 use Rattle.wait_core.specs.declared.Family.TheVariants.{Bytes, Whole}
 use Rattle.wait_core.specs.declared.Policy.{Policy}
-use Rattle.wait_core.specs.declared.Policy.TheVariants.{Held, Queue}
 use Rattle.lock_book.specs.declared.Owner.TheVariants.{Description}
 use Rattle.lock_server.specs.declared.Pending.{Pending}
 use Rattle.lock_server.specs.declared.file.LockFile.{LockFile}
@@ -90,9 +90,7 @@ module _ (waiters : Waiters) (target : ℕ) (owners old : List ℕ) where
 
 -- an owner that a look through the list found
 pub found_among : (xs : List ℕ) (x : ℕ) (found : Bool) → IsAnyAnswer (λ y b. (y == x) ≡ b) xs found → found ≡ true → Contains xs x
-found_among xs x found says is =
-    let there : (k : ℕ) × (k < length xs) × HoldsAt (λ y. (y == x) ≡ true) xs k = rw is at says in
-    (there.0, there.1, eqb-true (get_or xs there.0 x) x (there.2 x))
+found_among xs x found says is = grind (arith, common_steps, eqb-true)
 
 -- what stands at a place of the list, and where its end is
 pub read_at : (xs : List ℕ) (i : ℕ) (lent : Option (Bor ℕ)) (x : ℕ) → MatchOption lent (length xs ≤ i) (λ y. (i < length xs) × HoldsAt (λ z. y.now ≡ z) xs i) → option_copied lent ≡ Some x → (i < length xs) × (x ≡ get_or xs i x)
@@ -105,13 +103,7 @@ read_past xs i (Some y) says is = absurd (none-some y.now (sym is))
 
 -- what was gathered from nothing
 pub gathered_from_none : (old new : List ℕ) (P : ℕ → Type 0) → old ≡ [] → AddsOwners old new P → (other : ℕ) → Contains new other ↔ P other
-gathered_from_none old new P empty adds other = (
-  λ among. elim (adds.only other among) [
-    | inl before ↦ absurd (let none = ap (λ (l : List ℕ). length l) empty in let within = before.1 in omega arith)
-    | inr holds ↦ holds
-  ],
-  λ holds. adds.added other holds,
-)
+gathered_from_none old new P empty adds other = grind (arith, common_steps)
 
 -- a file that counts stands somewhere
 pub times_place : (file : ℕ) (files : List ℕ) → times file files ≢ 0 → Contains files file
@@ -168,9 +160,7 @@ module _ (table : Table) where
 
 -- nobody waits on an untouched file
 pub no_step_there : (policy : Policy) (one other : ℕ) → ¬ WaitsForOn policy untouched one other
-no_step_there policy one other step =
-    let sum = length-append step.before (step.wait ∷ step.after) in
-    let none : 0 ≡ length (step.before ++ step.wait ∷ step.after) = ap (λ (waits : List Pending). length waits) step.place in omega arith
+no_step_there policy one other step = grind (arith, common_steps, length-append)
 
 blocks_in_another : (family : Family) (F : FileState) (wait : Pending) (other : ℕ) → BlocksIn family F wait other → other ≢ wait.owner
 blocks_in_another Bytes F wait other blocks same = blocks.blocks.another (ap (λ (n : ℕ). Description n) same)
@@ -178,11 +168,7 @@ blocks_in_another Whole F wait other blocks same = blocks.another same
 
 -- who blocks a wait is another owner
 pub another_blocks : (policy : Policy) (F : FileState) (earlier : List Pending) (wait : Pending) (other : ℕ) → IsBlockedByOwner policy F earlier wait other → other ≢ wait.owner
-another_blocks Held F earlier wait other blocked = blocks_in_another wait.family F wait other blocked
-another_blocks Queue F earlier wait other blocked = elim blocked [
-  | inl lock ↦ blocks_in_another wait.family F wait other lock
-  | inr way ↦ λ same. way.4.1.owners (ap (λ (n : ℕ). Description n) (way.4.0 ∙ same))
-]
+another_blocks policy F earlier wait other h = grind (arith, common_steps, blocks_in_another)
 
 -- some owner that was reached from those that block the wait leads to its own, just where the wait closes a cycle
 pub closes_cycle : (table : Table) (file : ℕ) (wanted : Pending) (blockers reached : List ℕ) (answer : Bool)

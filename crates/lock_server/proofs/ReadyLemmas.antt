@@ -1,4 +1,5 @@
 -- The first wait on a file that isn't blocked.
+use Rattle.std.proofs.lemmas.Grind.{common_steps}
 use Rattle.std.proofs.Common.{ℕ, ◌≡◌, ◌+◌, ◌<◌, ◌∙◌, inl, inr, sym, ap, subst, refl, arith, append_assoc, append-nil, Some, List, [], ◌∷◌, ◌++◌, length, suc, take, drop}
 use Rattle.std.specs.Prelude.{slice_get}
 use Rattle.std.proofs.lemmas.List.{take_more, length-take-le}
@@ -30,12 +31,7 @@ as_waits-append (x ∷ xs) ys = ap (λ rest. as_wait x ∷ rest) (as_waits-appen
 -- one more wait that is blocked, in the list as far as it was looked at
 pub blocked_so_far : (policy : Policy) (F : FileState) (i : ℕ) → i < length F.waits → AllBlocked policy (locks_on F) [] (as_waits (take i F.waits))
     → ((wait : Pending) → slice_get F.waits i ≡ Some wait → IsWaitBlocked policy F (take i F.waits) wait) → AllBlocked policy (locks_on F) [] (as_waits (take (i + 1) F.waits))
-blocked_so_far policy F i within all blocked = elim (slice_get_cases F.waits i).1 [
-  | inl (wait, inside, some, is) ↦
-      rw (take_more F.waits i wait within, is, as_waits-append (take i F.waits) (wait ∷ []))
-      (AllBlocked-push policy (locks_on F) [] (as_waits (take i F.waits)) (as_wait wait) all (blocked wait some))
-  | inr (past, none) ↦ absurd (omega arith)
-]
+blocked_so_far policy F i within all blocked = grind (arith, common_steps, slice_get_cases, take_more, as_waits-append, AllBlocked-push)
 
 -- the first wait that isn't blocked
 pub first_ready : (policy : Policy) (F : FileState) (i : ℕ) → i < length F.waits → AllBlocked policy (locks_on F) [] (as_waits (take i F.waits))

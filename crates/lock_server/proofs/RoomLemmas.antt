@@ -1,13 +1,14 @@
 -- The room of a file, and what keeps it.
-use Rattle.std.proofs.Common.{ℕ, ◌≡◌, ◌∙◌, ◌+◌, ◌≤◌, ◌<◌, sym, ap, inl, inr, refl, subst, arith, true, false, cond, Bool, Option, Result, Ok, Err, List, ◌∷◌, ◌++◌}
-use Rattle.std.specs.Prelude.{OnOk, OnErr, IsTrue, ◌||◌, ◌&&◌, ◌==◌, is_some}
+use Rattle.std.proofs.lemmas.Grind.{common_steps}
+use Rattle.std.proofs.Common.{ℕ, ◌≡◌, ◌+◌, ◌≤◌, ◌<◌, sym, refl, subst, arith, true, false, Bool, Option, Result, List, ◌∷◌, ◌++◌}
+use Rattle.std.specs.Prelude.{OnOk, OnErr, IsTrue, ◌||◌, ◌&&◌, ◌==◌}
 use Rattle.std.proofs.lemmas.Bool.{cases_eq, eq-eqb}
 use Rattle.range_core.specs.declared.Mode.{Mode}
 use Rattle.range_core.specs.declared.Span.{Span}
 use Rattle.lock_book.specs.declared.Owner.{Owner}
 use Rattle.lock_book.specs.declared.Owner.TheVariants.{Description}
 use Rattle.lock_book.specs.declared.book.Book.{Book}
-use Rattle.lock_book.specs.Books.{room_in, has_flock_place, ReservesFlock, SameBook, SameButRoom, SetsFlock, SetsOwnerMode}
+use Rattle.lock_book.specs.Books.{room_in, has_flock_place, ReservesFlock, SameBook, SetsFlock, SetsOwnerMode}
 use Rattle.wait_core.specs.declared.Family.{Family}
 use Rattle.wait_core.specs.declared.Family.TheVariants.{Bytes, Whole}
 use Rattle.lock_server.specs.declared.Pending.{Pending}
@@ -21,10 +22,7 @@ pub record KeepsRoom (old new : Book) : Type 0 where
   pub places : (owner : ℕ) → IsTrue (has_flock_place old owner) → IsTrue (has_flock_place new owner)
 
 pub HasRoom-kept : (old new : Book) (waits : List Pending) → KeepsRoom old new → HasRoom old waits → HasRoom new waits
-HasRoom-kept old new waits keeps room = record {
-  bytes = λ owner. (let had = room.bytes owner in let kept = keeps.rooms owner in omega arith);
-  places = λ owner waits_for. keeps.places owner (room.places owner waits_for);
-}
+HasRoom-kept old new waits keeps room = grind (arith, common_steps)
 
 -- the same room is as much
 room_from_same : (old new : Book) → ((owner : Owner) → room_in new owner ≡ room_in old owner) → (owner : ℕ) → room_in old (Description owner) ≤ room_in new (Description owner)
@@ -36,18 +34,11 @@ or_there false b there = there
 
 -- a place that is kept, or refused, keeps the room
 pub KeepsRoom-reserves : {T E : Type 0} (r : Result T E) (old new : Book) (owner : ℕ) → OnOk r (ReservesFlock old new owner) → OnErr r (SameBook old new) → KeepsRoom old new
-KeepsRoom-reserves (Ok x) old new owner ok err = record {
-  rooms = room_from_same old new ok.rooms;
-  places = λ other there. rw (ok.places other) (or_there (owner == other) (has_flock_place old other) there);
-}
-KeepsRoom-reserves (Err e) old new owner ok err = record { rooms = room_from_same old new err.rooms; places = λ other there. rw (err.places other) there }
+KeepsRoom-reserves r old new owner h h2 = grind (arith, common_steps, room_from_same, or_there)
 
 -- and so does a flock mode that is set in its place
 pub KeepsRoom-sets : (old new : Book) (owner : ℕ) (mode : Option Mode) → SetsFlock old new owner mode → KeepsRoom old new
-KeepsRoom-sets old new owner mode sets = record {
-  rooms = room_from_same old new sets.rooms;
-  places = λ other there. rw (sets.places other) (or_there (owner == other && is_some mode) (has_flock_place old other) there);
-}
+KeepsRoom-sets old new owner mode sets = grind (arith, common_steps, room_from_same, or_there)
 
 -- a wait that leaves leaves its room to the others
 pub HasRoom-left : (book : Book) (before after : List Pending) (wait : Pending) → HasRoom book (before ++ wait ∷ after) → HasRoom book (before ++ after)
@@ -68,12 +59,7 @@ one_room_left with_it without room had more = omega arith
 
 -- and, as long as it is not granted, holds one place more than they need
 pub byte_room_left : (book : Book) (before after : List Pending) (wait : Pending) → HasRoom book (before ++ wait ∷ after) → wait.family ≡ Bytes → byte_waits (before ++ after) wait.owner < room_in book (Description wait.owner)
-byte_room_left book before after wait room of_bytes =
-    let had : byte_waits (before ++ wait ∷ after) wait.owner ≤ room_in book (Description wait.owner) = room.bytes wait.owner in
-    let one : cond (is_byte_wait wait.owner wait) 1 0 ≡ 1 = ap (λ b. cond b 1 0) (byte_wait_passes wait.owner wait.family of_bytes) in
-    let more : byte_waits (before ++ wait ∷ after) wait.owner ≡ byte_waits (before ++ after) wait.owner + 1 =
-    counted_with (is_byte_wait wait.owner) before after wait ∙ ap (λ n. byte_waits (before ++ after) wait.owner + n) one in
-    one_room_left _ _ _ had more
+byte_room_left book before after wait room of_bytes = grind (arith, common_steps, byte_wait_passes, counted_with, one_room_left)
 
 pub flock_place_left : (book : Book) (before after : List Pending) (wait : Pending) → HasRoom book (before ++ wait ∷ after) → wait.family ≡ Whole → IsTrue (has_flock_place book wait.owner)
 flock_place_left book before after wait room of_whole =
@@ -83,12 +69,4 @@ flock_place_left book before after wait room of_whole =
 -- which its grant uses up
 pub HasRoom-granted : (old new : Book) (waits : List Pending) (owner : ℕ) (span : Span) (mode : Option Mode) → HasRoom old waits → byte_waits waits owner < room_in old (Description owner)
     → SetsOwnerMode old new (Description owner) span mode → room_in old (Description owner) ≤ room_in new (Description owner) + 1 → HasRoom new waits
-HasRoom-granted old new waits owner span mode room more sets used = record {
-  bytes = λ other. elim (cases_eq other owner) [
-    | inl same ↦ subst (λ n. byte_waits waits n ≤ room_in new (Description n)) (sym same) (omega arith)
-    | inr differs ↦
-        (let kept = sets.rooms (Description other) (λ e. differs (let one : other ≡ owner = cc in one)) in
-        let had = room.bytes other in omega arith)
-  ];
-  places = λ other waits_for. rw (sets.places other) (room.places other waits_for);
-}
+HasRoom-granted old new waits owner span mode room more sets used = grind (arith, common_steps, cases_eq)

@@ -1,5 +1,6 @@
 -- What holds between two calls holds after an owner is forgotten: for the server's `forget`.
-use Rattle.std.proofs.Common.{ℕ, inl, inr, sym, subst, List, [], ◌∷◌}
+use Rattle.std.proofs.Common.{arith, ℕ, inl, inr, sym, subst, List, [], ◌∷◌}
+use Rattle.std.proofs.lemmas.Grind.{common_steps}
 use Rattle.std.proofs.lemmas.Bool.{cases_eq}
 use Rattle.wait_core.specs.declared.Policy.{Policy}
 use Rattle.lock_server.specs.declared.Pending.{Pending}
@@ -46,7 +47,4 @@ rests_in policy (file ∷ files) S owner T rest (between, next, forgets, settles
 
 -- what holds between two calls holds after an owner is forgotten
 pub safe_forgotten : (policy : Policy) (S : State) (owner : ℕ) (T : State) → IsSafe policy S → Forgets policy S owner T → AreTicketsOnce T → IsSafe policy T
-safe_forgotten policy S owner T safe forgets once =
-    let before : IsAtRest policy S = record { compatible = safe.compatible; settled = safe.settled; free_of_cycles = safe.free_of_cycles } in
-    let after = rests_in policy forgets.files S owner T before forgets.forgets in
-    record { compatible = after.compatible; settled = after.settled; free_of_cycles = after.free_of_cycles; once = once }
+safe_forgotten policy S owner T safe forgets once = grind (arith, common_steps, rests_in)

@@ -1,11 +1,11 @@
 -- What holds between any two calls holds after each: for the server's fact `safe`.
-use Rattle.std.proofs.Common.{ℕ, ◌≡◌, ◌≢◌, ◌∙◌, ◌⊎◌, inl, inr, sym, subst, arith, Option, Some, None, List, [], ◌∷◌, ◌++◌, Any}
+use Rattle.std.proofs.Common.{rules, ℕ, ◌≡◌, ◌≢◌, ◌∙◌, ◌⊎◌, inl, inr, sym, subst, arith, Option, Some, None, List, [], ◌∷◌, ◌++◌, Any}
+use Rattle.std.proofs.lemmas.Grind.{common_steps}
 use Rattle.std.specs.Prelude.{Contains}
 use Rattle.std.proofs.lemmas.Bool.{cases_eq}
 use Rattle.std.proofs.lemmas.List.Elements.{Contains-append_left, Contains-append_right}
 use Rattle.range_core.specs.declared.Span.{Span}
 use Rattle.wait_core.specs.declared.Family.{Family}
-use Rattle.wait_core.specs.declared.Family.TheVariants.{Bytes}
 use Rattle.wait_core.specs.declared.Policy.{Policy}
 use Rattle.lock_server.specs.declared.Pending.{Pending}
 use Rattle.lock_server.specs.Pendings.{owners_of}
@@ -14,7 +14,7 @@ use Rattle.lock_server.specs.Settling.{IsHeldBack, IsSettled, Grants, Settles}
 use Rattle.lock_server.specs.States.{State, SameState, IsDetectedOf, HasDetected, Crosses, SettlesFile, opening}
 use Rattle.lock_server.specs.Deadlock.{WaitsFor, WaitsForOn, WaitsUncrossed, IsFreeOfCycles}
 use Rattle.lock_server.specs.Safety.{IsCompatible, IsSafe, AreTicketsOnce}
-use Rattle.lock_server.specs.Calls.{SetsOn, ReleasesOn, LeavesOn, FetchComesTo, ForgetsOn, is_other_wait}
+use Rattle.lock_server.specs.Calls.{SetsOn, ReleasesOn, LeavesOn, FetchComesTo, ForgetsOn}
 use Rattle.lock_server.proofs.ListLemmas.{Any-nil, no_place}
 use Rattle.lock_server.proofs.LeaveLemmas.{Any-at}
 use Rattle.lock_server.proofs.ChainLemmas.{chain_start, chain_weaker, free_on}
@@ -44,15 +44,7 @@ pub safe_but : (policy : Policy) (file : ℕ) (S : State) → IsSafe policy S �
 safe_but policy file S safe = record { compatible = safe.compatible; settled = λ other differs. safe.settled other; free_of_cycles = safe.free_of_cycles }
 
 pub safe_with : (policy : Policy) (file : ℕ) (S : State) → IsSafeBut policy file S → IsSettled policy (S.files file) → AreTicketsOnce S → IsSafe policy S
-safe_with policy file S safe settled once = record {
-  compatible = safe.compatible;
-  settled = λ other. elim (cases_eq other file) [
-    | inl is ↦ subst (λ (f : ℕ). IsSettled policy (S.files f)) (sym is) settled
-    | inr differs ↦ safe.settled other differs
-  ];
-  free_of_cycles = safe.free_of_cycles;
-  once = once;
-}
+safe_with policy file S safe settled once = grind (arith, common_steps, cases_eq)
 
 -- the same state is as safe
 pub safe_same : (policy : Policy) (S T : State) → SameState S T → IsSafe policy S → IsSafe policy T
@@ -109,10 +101,7 @@ only : (owner other : ℕ) → other ≡ owner → Contains (owner ∷ []) other
 only owner other same = (0, omega arith, sym same)
 
 more_given : (one other : ℕ → Type 0) → ((owner : ℕ) → one owner → other owner) → (F G : FileState) → LocksFrom one F G → LocksFrom other F G
-more_given one other more F G locks = record {
-  bytes = λ owner byte mode is. elim (locks.bytes owner byte mode is) [ inl was ↦ inl was | inr given ↦ inr (more owner given) ];
-  flocks = λ owner mode is. elim (locks.flocks owner mode is) [ inl was ↦ inl was | inr given ↦ inr (more owner given) ];
-}
+more_given one other more F G locks = grind (arith, common_steps)
 
 pub same_waits : (F G : FileState) → G.waits ≡ F.waits → IsWithin G.waits F.waits
 same_waits F G same = subst (λ (waits : List Pending). IsWithin waits F.waits) (sym same) (within_itself F.waits)
@@ -122,76 +111,32 @@ fewer_move given F G fewer waits = record { locks = from_fewer (Contains given) 
 
 -- the moves are: a set that nothing held back, an unlock, a release, a wait that leaves, an owner that is forgotten, and settling
 gets_move : (F : FileState) (wait : Pending) (G : FileState) → ¬ IsHeldBack F wait → GetsLock F wait G → IsWithin G.waits F.waits → MovesFile (wait.owner ∷ []) F G
-gets_move F wait G free gets waits = record {
-  locks = more_given (λ other. other ≡ wait.owner) (Contains (wait.owner ∷ [])) (only wait.owner) F G (from_set wait.family F wait.owner wait.span (Some wait.mode) G gets);
-  waits = waits;
-  compatible = λ before. compatible_gets F wait before G free gets;
-}
+gets_move F wait G free gets waits = grind (arith, common_steps, more_given, only, from_set, compatible_gets)
 
 pub moves_given : (S : State) (file : ℕ) (wait : Pending) (T : State) → ¬ IsHeldBack (S.files file) wait → SetsOn S file wait.family wait.owner wait.span (Some wait.mode) T → Moves (wait.owner ∷ []) S file T
-moves_given S file wait T free sets = record {
-  here = gets_move (S.files file) wait (T.files file) free sets.sets (same_waits (S.files file) (T.files file) sets.waits);
-  others = sets.changes.others;
-  crossed = sets.changes.crossed;
-}
+moves_given S file wait T free sets = search (rules, gets_move, same_waits)
 
 pub moves_unset : (S : State) (file : ℕ) (family : Family) (owner : ℕ) (span : Span) (T : State) → SetsOn S file family owner span None T → Moves [] S file T
-moves_unset S file family owner span T sets = record {
-  here = fewer_move [] (S.files file) (T.files file) (fewer_unset family (S.files file) owner span (T.files file) sets.sets) (same_waits (S.files file) (T.files file) sets.waits);
-  others = sets.changes.others;
-  crossed = sets.changes.crossed;
-}
+moves_unset S file family owner span T sets = grind (arith, common_steps, fewer_move, fewer_unset, same_waits)
 
 pub moves_released : (S : State) (file : ℕ) (family : Family) (owner : ℕ) (T : State) → ReleasesOn S file family owner T → Moves [] S file T
-moves_released S file family owner T releases = record {
-  here = fewer_move [] (S.files file) (T.files file) (fewer_unlocked family (S.files file) owner (T.files file) releases.unlocks) (same_waits (S.files file) (T.files file) releases.waits);
-  others = releases.changes.others;
-  crossed = releases.changes.crossed;
-}
+moves_released S file family owner T releases = grind (arith, common_steps, fewer_move, fewer_unlocked, same_waits)
 
 left_within : (F G : FileState) (before after : List Pending) (wait : Pending) → F.waits ≡ before ++ wait ∷ after → G.waits ≡ before ++ after → IsWithin G.waits F.waits
-left_within F G before after wait place left =
-    subst (λ (waits : List Pending). IsWithin G.waits waits) (sym place)
-    (subst (λ (waits : List Pending). IsWithin waits (before ++ wait ∷ after)) (sym left) (within_left before after wait))
+left_within F G before after wait place left = grind (arith, common_steps, within_left)
 
 pub moves_left : (S : State) (file ticket : ℕ) (T : State) → LeavesOn S file ticket T → Moves [] S file T
-moves_left S file ticket T leaves = record {
-  here = fewer_move [] (S.files file) (T.files file)
-      (record { bytes = λ owner byte mode is. sym (leaves.leaves.locks.bytes owner byte) ∙ is; flocks = λ owner mode is. sym (leaves.leaves.locks.flocks owner) ∙ is })
-      (left_within (S.files file) (T.files file) leaves.before leaves.after leaves.wait leaves.leaves.place leaves.leaves.waits);
-  others = leaves.changes.others;
-  crossed = leaves.changes.crossed;
-}
+moves_left S file ticket T leaves = grind (arith, common_steps, fewer_move, left_within)
 
 pub moves_forgotten : (S : State) (file owner : ℕ) (T : State) → ForgetsOn S file owner T → Moves [] S file T
-moves_forgotten S file owner T forgets = record {
-  here = fewer_move [] (S.files file) (T.files file) (fewer_unlocked Bytes (S.files file) owner (T.files file) forgets.unlocks)
-      (subst (λ (waits : List Pending). IsWithin waits (S.files file).waits) (sym forgets.waits) (filtered_within (is_other_wait owner) (S.files file).waits));
-  others = forgets.changes.others;
-  crossed = forgets.changes.crossed;
-}
+moves_forgotten S file owner T forgets = grind (arith, common_steps, fewer_move, fewer_unlocked, filtered_within)
 
 -- one move behind another
 then_moves : (one more : List ℕ) (F G H : FileState) → MovesFile one F G → MovesFile more G H → MovesFile (one ++ more) F H
-then_moves one more F G H first next = record {
-  locks = record {
-    bytes = λ owner byte mode is. elim (next.locks.bytes owner byte mode is) [
-      | inl was ↦ elim (first.locks.bytes owner byte mode was) [ inl long ↦ inl long | inr given ↦ inr (Contains-append_left one more owner given) ]
-      | inr given ↦ inr (Contains-append_right one more owner given)
-    ];
-    flocks = λ owner mode is. elim (next.locks.flocks owner mode is) [
-      | inl was ↦ elim (first.locks.flocks owner mode was) [ inl long ↦ inl long | inr given ↦ inr (Contains-append_left one more owner given) ]
-      | inr given ↦ inr (Contains-append_right one more owner given)
-    ];
-  };
-  waits = within_then H.waits G.waits F.waits next.waits first.waits;
-  compatible = λ before. next.compatible (first.compatible before);
-}
+then_moves one more F G H first next = search (rules, Contains-append_left, Contains-append_right, within_then)
 
 granted_move : (policy : Policy) (F : FileState) (wait : Pending) (G : FileState) → Grants policy F wait G → MovesFile (wait.owner ∷ []) F G
-granted_move policy F wait G grants =
-    gets_move F wait G (free_from_open policy F grants.before wait grants.is_next.is_next.ready) grants.gets
-    (left_within F G grants.before grants.after wait grants.is_next.place grants.waits)
+granted_move policy F wait G grants = search (rules, gets_move, free_from_open, left_within)
 
 settled_move : (policy : Policy) (F : FileState) (granted : List Pending) (G : FileState) → Settles policy F granted G → MovesFile (owners_of granted) F G
 settled_move policy F [] G settles =
@@ -201,11 +146,7 @@ settled_move policy F (wait ∷ granted) G (next, grants, settles) =
     then_moves (wait.owner ∷ []) (owners_of granted) F next G (granted_move policy F wait next grants) (settled_move policy next granted G settles)
 
 pub moves_settled : (policy : Policy) (S : State) (file : ℕ) (T : State) (settles : SettlesFile policy S file T) → Moves (owners_of settles.granted) S file T
-moves_settled policy S file T settles = record {
-  here = settled_move policy (S.files file) settles.granted (T.files file) settles.settles;
-  others = settles.others;
-  crossed = settles.crossed;
-}
+moves_settled policy S file T settles = grind (arith, common_steps, settled_move)
 
 -- a change of one file that is then settled and swept
 pub safe_settled : (policy : Policy) (given : List ℕ) (S B : State) (file : ℕ) (T : State) → IsSafeBut policy file S → Moves given S file B → SettlesFile policy B file T → IsSettled policy (T.files file) → AreTicketsOnce T → IsSafe policy T

@@ -1,5 +1,6 @@
 -- What the server's calls come to, by what the table's do.
-use Rattle.std.proofs.Common.{ℕ, ◌≡◌, ◌∙◌, inl, inr, sym, subst, refl, false, Option, Some, None, List}
+use Rattle.std.proofs.Common.{arith, ℕ, ◌≡◌, inr, sym, subst, refl, false, Option, Some, None, List}
+use Rattle.std.proofs.lemmas.Grind.{common_steps}
 use Rattle.std.proofs.Math.Logic.{∥∥₁_map}
 use Rattle.range_core.specs.declared.Mode.{Mode}
 use Rattle.range_core.specs.declared.Span.{Span}
@@ -7,7 +8,7 @@ use Rattle.wait_core.specs.declared.Family.{Family}
 use Rattle.wait_core.specs.declared.Family.TheVariants.{Bytes}
 use Rattle.wait_core.specs.declared.Policy.{Policy}
 use Rattle.lock_server.specs.declared.Pending.{Pending}
-use Rattle.lock_server.specs.declared.Answer.TheVariants.{Done, Blocked}
+use Rattle.lock_server.specs.declared.Answer.TheVariants.{Done}
 use Rattle.lock_server.specs.declared.table.Table.{Table}
 use Rattle.lock_server.specs.Settling.{IsSettled, IsWaitBlocked}
 use Rattle.lock_server.specs.States.{State, SameState, SettlesFile}
@@ -17,7 +18,7 @@ use Rattle.lock_server.specs.Calls.{FetchComesTo, SetsOn, Changes, Releases, Rel
 use Rattle.lock_server.proofs.JoinLemmas.{safe_joined}
 use Rattle.lock_server.proofs.SafeLemmas.{Moves, moves_given, moves_unset, safe_but, safe_fetched, safe_settled}
 use Rattle.lock_server.proofs.TakenLemmas.{tickets_once}
-use Rattle.lock_server.proofs.StateLemmas.{state_from_same, SameState-itself}
+use Rattle.lock_server.proofs.StateLemmas.{state_from_same}
 
 -- the file is settled, and comes to rest
 pub record ComesToRest (policy : Policy) (S : State) (file : ℕ) (T : State) : Type 0 where
@@ -27,10 +28,7 @@ pub record ComesToRest (policy : Policy) (S : State) (file : ℕ) (T : State) : 
 -- as the table settles it
 pub rests : (policy : Policy) (old new : Table) (file : ℕ) → table_policy old ≡ policy → table_policy new ≡ table_policy old
     → SettlesFile (table_policy old) (table_state old) file (table_state new) → IsSettled (table_policy new) ((table_state new).files file) → ComesToRest policy (table_state old) file (table_state new)
-rests policy old new file was same settles settled = record {
-  settles = subst (λ (p : Policy). SettlesFile p (table_state old) file (table_state new)) was settles;
-  settled = subst (λ (p : Policy). IsSettled p ((table_state new).files file)) (same ∙ was) settled;
-}
+rests policy old new file was same settles settled = grind (arith, common_steps)
 
 -- and then a sweep changes nothing
 pub swept : (policy : Policy) (S : State) (file : ℕ) (T U : State) → ComesToRest policy S file T → SameState T U → ComesToRest policy S file U

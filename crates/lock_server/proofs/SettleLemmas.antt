@@ -1,4 +1,5 @@
 -- The grants of a settling, one after another: for `settle`.
+use Rattle.std.proofs.lemmas.Grind.{common_steps}
 use Rattle.std.proofs.Common.{ℕ, ◌≡◌, ◌≢◌, ◌+◌, ◌∙◌, inl, inr, sym, ap, refl, subst, arith, List, [], ◌∷◌, ◌++◌, Any, length, length-append, append_assoc, append-nil}
 use Rattle.std.proofs.lemmas.List.Elements.{Contains-append_left, Contains-append_right, Contains-append_cases}
 use Rattle.std.proofs.lemmas.Bool.{cases_eq}
@@ -25,15 +26,7 @@ pub record HasLedOn (policy : Policy) (S : State) (file : ℕ) (T : State) : Typ
 
 -- no grant leads nowhere, where nobody is crossed newly
 pub leads_nowhere : (policy : Policy) (S : State) (file : ℕ) → Crosses S [] S → HasLedOn policy S file S
-leads_nowhere policy S file crossed = record {
-  granted = [];
-  leads = record {
-    leads = λ rest G settles. settles;
-    others = λ other differs. SameFile-itself (S.files other);
-    grants = sym (append-nil S.grants);
-    crossed = crossed;
-  };
-}
+leads_nowhere policy S file crossed = grind (arith, common_steps, SameFile-itself, append-nil)
 
 -- one behind the other is crossed by both
 pub crosses_then : (S M T : State) (one more : List ℕ) → ((owner : ℕ) → HasDetected T owner → HasDetected M owner) → Crosses S one M → Crosses M more T → Crosses S (one ++ more) T
@@ -109,7 +102,4 @@ settled_here policy S file T led settled = record {
 
 -- a grant leaves one wait less on the file
 pub fewer_waits : (policy : Policy) (S : State) (file : ℕ) (wait : Pending) (T : State) → GrantsOn policy S file wait T → length (T.files file).waits + 1 ≡ length (S.files file).waits
-fewer_waits policy S file wait T grants =
-    let was = ap length grants.grants_wait.is_next.place in
-    let now = ap length grants.grants_wait.waits in
-    omega (arith, was, now, length-append grants.grants_wait.before grants.grants_wait.after, length-append grants.grants_wait.before (wait ∷ grants.grants_wait.after))
+fewer_waits policy S file wait T grants = grind (arith, common_steps, length-append)

@@ -1,5 +1,6 @@
 -- States that are the same at each place are one state.
-use Rattle.std.proofs.Common.{◌≡◌, ◌∙◌, refl}
+use Rattle.std.proofs.Common.{arith, ◌≡◌, refl}
+use Rattle.std.proofs.lemmas.Grind.{common_steps}
 use Rattle.lock_server.specs.Files.{FileState, SameLocks, SameFile}
 use Rattle.lock_server.specs.States.{State, SameState}
 
@@ -25,13 +26,7 @@ pub SameFile-itself : (F : FileState) → SameFile F F
 SameFile-itself F = record { locks = SameLocks-itself F; waits = refl }
 
 pub SameFile-then : (F G H : FileState) → SameFile F G → SameFile G H → SameFile F H
-SameFile-then F G H one other = record {
-  locks = record {
-    bytes = λ owner byte. other.locks.bytes owner byte ∙ one.locks.bytes owner byte;
-    flocks = λ owner. other.locks.flocks owner ∙ one.locks.flocks owner;
-  };
-  waits = other.waits ∙ one.waits;
-}
+SameFile-then F G H one other = grind (arith, common_steps)
 
 pub SameState-itself : (S : State) → SameState S S
 SameState-itself S = record { files = λ file. SameFile-itself (S.files file); grants = refl; crossed = λ owner. refl }

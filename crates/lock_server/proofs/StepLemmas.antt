@@ -1,5 +1,6 @@
 -- Which steps between owners are there after a change: for freedom from cycles.
-use Rattle.std.proofs.Common.{ℕ, ◌≡◌, ◌∙◌, ◌⊎◌, inl, inr, sym, ap, subst, refl, true, false, cond, Bool, Option, Some, None, List, [], ◌∷◌, ◌++◌, Any}
+use Rattle.std.proofs.Common.{arith, ℕ, ◌≡◌, ◌∙◌, ◌⊎◌, inl, inr, sym, ap, subst, refl, true, false, cond, Bool, Option, Some, List, [], ◌∷◌, ◌++◌, Any}
+use Rattle.std.proofs.lemmas.Grind.{common_steps}
 use Rattle.std.specs.Prelude.{filter}
 use Rattle.range_core.specs.declared.Mode.{Mode}
 use Rattle.range_core.specs.Ranges.{HeldConflicts}
@@ -87,11 +88,7 @@ module _ (P : Pending → Type 0) where
 
 -- what is held and conflicts was held before, or is given
 conflict_from : (was now : Option Mode) (wanted : Mode) (Given : Type 0) → ((mode : Mode) → now ≡ Some mode → (was ≡ Some mode) ⊎ Given) → HeldConflicts now wanted → HeldConflicts was wanted ⊎ Given
-conflict_from was None wanted Given from conflicts = absurd conflicts
-conflict_from was (Some mode) wanted Given from conflicts = elim (from mode refl) [
-  | inl same ↦ inl (subst (λ (held : Option Mode). HeldConflicts held wanted) (sym same) conflicts)
-  | inr given ↦ inr given
-]
+conflict_from was now wanted Given h h2 = grind (arith, common_steps)
 
 module _ (Given : ℕ → Type 0) (F G : FileState) (locks : LocksFrom Given F G) where
   -- who blocks a wait by a lock did so before, or was given a lock

@@ -1,10 +1,9 @@
 -- The entries of files.
-use Rattle.std.proofs.Common.{ℕ, ◌≡◌, ◌∙◌, sym, ap, Option, Some, None}
+use Rattle.std.proofs.Common.{ℕ, ◌≡◌, ◌∙◌, sym, ap, Option, Some, None, inl, inr, []}
 use Rattle.std.specs.Ordering.{nat_cmp}
 use Rattle.std.specs.BTreeMap.{get}
 use Rattle.std.specs.Borrow.{Bor}
 use Rattle.std.specs.Option.{option_copied}
-use Rattle.std.proofs.Common.{inl, inr, []}
 use Rattle.wait_core.specs.declared.Family.{Family}
 use Rattle.wait_core.specs.declared.Family.TheVariants.{Bytes, Whole}
 use Rattle.wait_core.specs.declared.Policy.{Policy}
@@ -12,12 +11,11 @@ use Rattle.wait_core.specs.declared.Policy.TheVariants.{Held, Queue}
 use Rattle.wait_core.specs.Blocking.{IsBlockedIn}
 use Rattle.lock_server.specs.declared.Pending.{Pending}
 use Rattle.lock_server.specs.Pendings.{as_wait}
-use Rattle.lock_server.specs.Files.{locks_on}
+use Rattle.lock_server.specs.Files.{locks_on, untouched}
 use Rattle.lock_server.specs.Settling.{IsHeldBack, IsWaitBlocked}
 use Rattle.lock_server.proofs.ListLemmas.{Any-nil}
 use Rattle.lock_server.specs.declared.file.LockFile.{LockFile}
 use Rattle.lock_server.specs.declared.table.Table.{Table}
-use Rattle.lock_server.specs.Files.{untouched}
 use Rattle.lock_server.specs.FileView.{file_state, state_at}
 use Rattle.lock_server.specs.TableView.{table_state, entry_of}
 

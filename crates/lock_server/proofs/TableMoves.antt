@@ -1,5 +1,6 @@
 -- What is known of tickets and of owners, and the states of two tables, where the entry of one file changes.
-use Rattle.std.proofs.Common.{ℕ, ◌≡◌, ◌≢◌, ◌∙◌, sym, ap, subst, refl, true, false, Bool, Option, Some, None, List, [], ◌∷◌, ◌++◌}
+use Rattle.std.proofs.Common.{rules, arith, ℕ, ◌≡◌, ◌≢◌, ◌∙◌, sym, ap, refl, true, false, Bool, Option, Some, None, List, [], ◌∷◌, ◌++◌}
+use Rattle.std.proofs.lemmas.Grind.{common_steps}
 use Rattle.std.specs.BTreeMap.{BTreeMap, get}
 use Rattle.std.specs.Ordering.{nat_cmp}
 use Rattle.range_core.specs.declared.Mode.{Mode}
@@ -31,14 +32,7 @@ pub waiters_known : (files : BTreeMap ℕ LockFile) (tickets : Tickets) (waiters
 waiters_known files tickets waiters known = record { detected = known.detected; crossed = known.crossed }
 
 pub indexed : (files : BTreeMap ℕ LockFile) (tickets : Tickets) (waiters : Waiters) → TicketsKnown (waits_in files) tickets → WaitersKnown (waits_in files) waiters → IsIndexed files tickets waiters
-indexed files tickets waiters of_tickets of_waiters = record {
-  pending = of_tickets.pending;
-  granted = of_tickets.granted;
-  once_on_a_file = of_tickets.once_on_a_file;
-  granted_once = of_tickets.granted_once;
-  detected = of_waiters.detected;
-  crossed = of_waiters.crossed;
-}
+indexed files tickets waiters of_tickets of_waiters = search (rules)
 
 module _ (old new : BTreeMap ℕ LockFile) (file : ℕ) (after : LockFile) (puts : PutsEntry old new file (Some after)) where
   -- the file has the state of its new entry
@@ -91,6 +85,4 @@ changes_by old new tickets after was now file given others grants known crosses 
 -- what holds of two entries holds of the states of the file
 pub at_entries : (old new : BTreeMap ℕ LockFile) (file : ℕ) (before after : LockFile) (P : FileState → FileState → Type 0) → get nat_cmp old file ≡ Some before → PutsEntry old new file (Some after)
     → P (file_state before) (file_state after) → P (state_in old file) (state_in new file)
-at_entries old new file before after P was puts holds =
-    subst (λ (F : FileState). P F (state_in new file)) (sym (ap state_at was))
-    (subst (λ (G : FileState). P (file_state before) G) (sym (ap state_at puts.here)) holds)
+at_entries old new file before after P was puts holds = grind (arith, common_steps)

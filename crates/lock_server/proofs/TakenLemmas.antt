@@ -1,5 +1,6 @@
 -- Which tickets are taken, by what a table knows of them: for `is_taken`, `cancel` and the server's fact that each names one request.
-use Rattle.std.proofs.Common.{ℕ, ◌≡◌, ◌==◌, ◌∙◌, inl, inr, sym, refl, subst, true, Option, Some, None, List, [], ◌∷◌, Any, get_or}
+use Rattle.std.proofs.Common.{arith, ℕ, ◌≡◌, ◌==◌, ◌∙◌, inl, inr, sym, refl, subst, Option, Some, None, List, [], ◌∷◌, Any}
+use Rattle.std.proofs.lemmas.Grind.{common_steps}
 use Rattle.std.specs.Prelude.{◌↔◌, IsTrue, IfSome, IfNone, Contains}
 use Rattle.std.proofs.lemmas.Bool.{eqb-true, eq-eqb}
 use Rattle.std.proofs.lemmas.List.Folds.{Any-from_list_any, list_any-from_Any}
@@ -16,20 +17,13 @@ use Rattle.lock_server.proofs.ListLemmas.{Any-weaker}
 use Rattle.lock_server.proofs.TicketMoves.{TicketsKnown, IsIdle, ticket_of, itself, has_key, tickets_fetched}
 
 waits_from_test : (ticket : ℕ) (waits : List Pending) → IsTrue (has_key ticket_of ticket waits) → Any (λ wait. wait.ticket ≡ ticket) waits
-waits_from_test ticket waits test =
-    Any-weaker (λ wait. (wait.ticket == ticket) ≡ true) (λ wait. wait.ticket ≡ ticket) (λ wait same. eqb-true wait.ticket ticket same) waits
-    (Any-from_list_any (λ (wait : Pending). wait.ticket == ticket) waits test)
+waits_from_test ticket waits test = grind (arith, common_steps, Any-weaker, eqb-true, Any-from_list_any)
 
 test_from_waits : (ticket : ℕ) (waits : List Pending) → Any (λ wait. wait.ticket ≡ ticket) waits → IsTrue (has_key ticket_of ticket waits)
-test_from_waits ticket waits any =
-    list_any-from_Any (λ (wait : Pending). wait.ticket == ticket) waits
-    (Any-weaker (λ wait. wait.ticket ≡ ticket) (λ wait. (wait.ticket == ticket) ≡ true) (λ wait same. eq-eqb wait.ticket ticket same) waits any)
+test_from_waits ticket waits any = grind (arith, common_steps, list_any-from_Any, Any-weaker, eq-eqb)
 
 contains_from_test : (ticket : ℕ) (grants : List ℕ) → IsTrue (has_key itself ticket grants) → Contains grants ticket
-contains_from_test ticket grants test = found (Any-from_list_any (λ (grant : ℕ). grant == ticket) grants test)
-  where
-    found : Any (λ grant. (grant == ticket) ≡ true) grants → Contains grants ticket
-    found (k, grant, within, is, same) = (k, within, subst (λ (n : ℕ). get_or grants k n ≡ n) (eqb-true grant ticket same) is)
+contains_from_test ticket grants test = grind (arith, common_steps, Any-from_list_any, eqb-true)
 
 test_from_contains : (ticket : ℕ) (grants : List ℕ) → Contains grants ticket → IsTrue (has_key itself ticket grants)
 test_from_contains ticket grants (k, within, is) = list_any-from_Any (λ (grant : ℕ). grant == ticket) grants (k, ticket, within, is, eq-eqb ticket ticket refl)

@@ -1,6 +1,6 @@
 -- Maps by number, and how many grants may still come.
-use Rattle.std.proofs.Common.{ℕ, ◌≡◌, ◌≢◌, ◌+◌, ◌≤◌, arith, true, false, List, [], ◌∷◌, Option, Some, Result, Ok, Err, length}
-use Rattle.std.specs.Prelude.{is_ok, OnOk, OnErr}
+use Rattle.std.proofs.Common.{ℕ, ◌≡◌, ◌≢◌, ◌+◌, ◌≤◌, arith, false, List, [], ◌∷◌, Option, Some, Result, Ok, Err, length}
+use Rattle.std.specs.Prelude.{OnOk, OnErr}
 use Rattle.std.specs.Ordering.{nat_cmp}
 use Rattle.std.specs.BTreeMap.{is_at, insert_entry, UpdatesBy}
 use Rattle.std.specs.Map.{lookup, set_value, remove_entry, values_of, keys_of}
@@ -10,7 +10,6 @@ use Rattle.std.proofs.lemmas.Grind.{common_steps}
 use Rattle.std.proofs.lemmas.List.Sums.{sum_by-cons}
 use Rattle.std.proofs.lemmas.Map.Entries.{sum_by-set_value, sum_by-insert_entry, sum_by-remove_entry}
 use Rattle.lock_server.specs.declared.tickets.Place.{Place}
-use Rattle.lock_server.specs.declared.tickets.Place.TheVariants.{Reserved, Waits, Granted}
 use Rattle.lock_server.specs.declared.tickets.Tickets.{Tickets}
 use Rattle.lock_server.specs.Owed.{owed, owed_by}
 use Rattle.lock_server.specs.TicketsView.{place_at, SetsPlace}
@@ -20,9 +19,7 @@ pub is_at-other : (n other : ℕ) → other ≢ n → is_at (nat_cmp n) other �
 is_at-other n other differs = grind (arith, common_steps)
 
 owed_by-one : (place : Place) → owed_by place ≤ 1
-owed_by-one Reserved = omega arith
-owed_by-one (Waits file) = omega arith
-owed_by-one Granted = omega arith
+owed_by-one place = grind (arith, common_steps)
 
 -- no more grants come than there are tickets
 pub owed-few : (places : List (ℕ × Place)) → owed places ≤ length places

@@ -1,4 +1,5 @@
 -- What is known of tickets, where a wait joins, leaves or is granted: for the table's fact `indexed`.
+use Rattle.std.proofs.lemmas.Grind.{common_steps}
 use Rattle.std.proofs.Common.{ℕ, ◌≡◌, ◌≢◌, ◌==◌, ◌∙◌, inl, inr, sym, ap, refl, subst, arith, true, false, Bool, Option, Some, None, suc, List, [], ◌∷◌, ◌++◌, All, append-nil}
 use Rattle.std.specs.Prelude.{◌||◌, ◌↔◌, IsTrue, AllPairs}
 use Rattle.std.specs.List.{list_any}
@@ -212,18 +213,7 @@ module _ (waits now : ℕ → List Pending) (tickets after : Tickets) (file : �
 -- a ticket is noted or given back that neither waits nor was granted
 pub tickets_noted : (waits : ℕ → List Pending) (tickets after : Tickets) (ticket : ℕ) (place : Option Place) → TicketsKnown waits tickets → IsIdle (place_at tickets ticket) → IsIdle place → SetsPlace tickets after ticket place
     → grants_of after ≡ grants_of tickets → TicketsKnown waits after
-tickets_noted waits tickets after ticket place known was now sets grants = record {
-  pending = λ other file. elim (cases_eq other ticket) [
-    | inl is ↦ rw (is, sets.here) (λ e. absurd (now.waits file e), λ e. absurd (was.waits file ((known.pending ticket file).1 e)))
-    | inr differs ↦ rw (sets.others other differs) (known.pending other file)
-  ];
-  granted = λ other. elim (cases_eq other ticket) [
-    | inl is ↦ rw (is, sets.here, grants) (λ e. absurd (now.granted e), λ e. absurd (was.granted ((known.granted ticket).1 e)))
-    | inr differs ↦ rw (sets.others other differs, grants) (known.granted other)
-  ];
-  once_on_a_file = known.once_on_a_file;
-  granted_once = rw grants known.granted_once;
-}
+tickets_noted waits tickets after ticket place known was now sets grants = grind (arith, common_steps, cases_eq)
 
 -- a grant is fetched, and its ticket is free
 pub tickets_fetched : (waits : ℕ → List Pending) (tickets after : Tickets) (ticket : ℕ) → TicketsKnown waits tickets → grants_of tickets ≡ ticket ∷ grants_of after → SetsPlace tickets after ticket None → TicketsKnown waits after

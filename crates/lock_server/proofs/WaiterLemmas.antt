@@ -1,5 +1,6 @@
 -- The entries of owners with detected waits.
-use Rattle.std.proofs.Common.{ℕ, ◌≡◌, ◌≢◌, ◌==◌, ◌+◌, ◌<◌, ◌∙◌, sym, ap, subst, inl, inr, refl, arith, cond, suc, Option, Some, None, List, [], ◌∷◌, ◌++◌, All, length, get_or, take, drop, false}
+use Rattle.std.proofs.lemmas.Grind.{common_steps}
+use Rattle.std.proofs.Common.{ℕ, ◌≡◌, ◌≢◌, ◌==◌, ◌+◌, ◌<◌, ◌∙◌, sym, ap, subst, refl, arith, cond, suc, Option, Some, None, List, [], ◌∷◌, ◌++◌, All, length, get_or, take, drop, false}
 use Rattle.std.specs.Ordering.{nat_cmp}
 use Rattle.std.specs.BTreeMap.{UpdatesBy, WritesThrough}
 use Rattle.std.specs.Borrow.{MutBor}
@@ -28,10 +29,7 @@ PutsWaiter-updates old new owner waiter updates = record { here = updates.1; oth
 -- what the entries tell of every owner
 pub files-puts : (old new : Waiters) (owner : ℕ) (waiter : Option Waiter) → PutsWaiter old new owner waiter → files_of old owner ≡ files_in waiter → (other : ℕ) → files_of new other ≡ files_of old other
 unfolding files_of
-files-puts old new owner waiter puts same other = elim (cases_eq other owner) [
-  | inl is ↦ rw is (ap files_in puts.here ∙ sym same)
-  | inr differs ↦ ap files_in (puts.others other differs)
-]
+files-puts old new owner waiter puts same other = grind (arith, common_steps, cases_eq)
 
 pub nil_from : (xs : List ℕ) → ¬ (xs ≢ []) → xs ≡ []
 nil_from [] none = refl
@@ -40,15 +38,7 @@ nil_from (x ∷ xs) none = absurd (none (λ e. cc))
 -- a file counts once more with one of its places
 times_with : (files rest : List ℕ) (place there : ℕ) → place < length files → get_or files place there ≡ there → rest ≡ take place files ++ drop (suc place) files
     → (file : ℕ) → times file files ≡ times file rest + cond (there == file) 1 0
-times_with files rest place there within is left file =
-    let one = λ (other : ℕ). cond (other == file) 1 0 in
-    let front = take place files in let back = drop (suc place) files in
-    let split : times file files ≡ times file (front ++ there ∷ back) = ap (times file) (split_at files place there within is) in
-    let whole : times file (front ++ there ∷ back) ≡ times file front + times file (there ∷ back) = sum_by-append one front (there ∷ back) in
-    let head : times file (there ∷ back) ≡ cond (there == file) 1 0 + times file back = sum_by-cons one there back in
-    let others : times file rest ≡ times file (front ++ back) = ap (times file) left in
-    let sum : times file (front ++ back) ≡ times file front + times file back = sum_by-append one front back in
-    omega arith
+times_with files rest place there within is left file = grind (arith, common_steps, split_at, sum_by-append, sum_by-cons)
 
 -- and not at all where it stands nowhere
 times_none : (file : ℕ) (files : List ℕ) → All (λ other. (other == file) ≡ false) files → times file files ≡ 0
@@ -65,19 +55,7 @@ times_none file (other ∷ files) none =
 -- an entry from which one place of the file is removed
 pub LeavesFile-removes : (old new : Waiter) (file place there : ℕ) → position (λ other. other == file) old.files.items ≡ Some place → get_or old.files.items place there ≡ there
     → new.files.items ≡ take place old.files.items ++ drop (suc place) old.files.items → new.crossed ≡ old.crossed → LeavesFile old new file
-LeavesFile-removes old new file place there found is left crossed =
-    let stands = position-Some (λ other. other == file) old.files.items place there found in
-    let same : there ≡ file = sym is ∙ eqb-true (get_or old.files.items place there) file stands.1 in
-    let counted = times_with old.files.items new.files.items place there stands.0 is left in
-    record {
-      on_file = λ some. (let one : times file old.files.items ≡ times file new.files.items + 1 =
-          subst (λ b. times file old.files.items ≡ times file new.files.items + cond b 1 0) (eq-eqb there file same) (counted file) in omega arith);
-      elsewhere = λ other differs.
-          (let none : times other old.files.items ≡ times other new.files.items + 0 =
-          subst (λ b. times other old.files.items ≡ times other new.files.items + cond b 1 0) (ne_eqb there other (λ e. differs (sym e ∙ same)))
-          (counted other) in omega arith);
-      crossed = crossed;
-    }
+LeavesFile-removes old new file place there found is left crossed = grind (arith, common_steps, position-Some, eqb-true, times_with, eq-eqb, ne_eqb)
 
 -- and one where the file has no place
 pub LeavesFile-none : (entry : Waiter) (file : ℕ) → position (λ other. other == file) entry.files.items ≡ None → LeavesFile entry entry file
@@ -90,12 +68,7 @@ LeavesFile-none entry file none = record {
 -- an owner without a detected wait has no entry any more
 pub Sweeps-drops : (old new : Waiters) (owner : ℕ) → PutsWaiter old new owner None → files_of old owner ≡ [] → Sweeps old new owner
 unfolding files_of crossed_of
-Sweeps-drops old new owner puts none = record {
-  files = files-puts old new owner None puts none;
-  others = λ other differs. ap crossed_in (puts.others other differs);
-  still = λ some. absurd (some none);
-  none = λ nothing. ap crossed_in puts.here;
-}
+Sweeps-drops old new owner puts none = grind (arith, common_steps, files-puts)
 
 -- an owner whose entry lost one place of a file, and was then swept
 pub Ends-left : (old mid new : Waiters) (owner file : ℕ) (was now : Waiter) → waiter_of old owner ≡ Some was → PutsWaiter old mid owner (Some now) → LeavesFile was now file → Sweeps mid new owner → Ends old new owner file
@@ -119,6 +92,4 @@ Ends-left old mid new owner file was now is puts left swept =
 pub waiter_written : (old new : Waiters) (owner : ℕ) (lent : Option (MutBor Waiter)) (was : MutBor Waiter) (now : Waiter) → option_copied_mut lent ≡ waiter_of old owner → lent ≡ Some was
     → WritesThrough nat_cmp (nat_cmp owner) old.owners now new.owners → (waiter_of old owner ≡ Some was.now) × PutsWaiter old new owner (Some now)
 unfolding waiter_of
-waiter_written old new owner lent was now value is writes =
-    let had : waiter_of old owner ≡ Some was.now = sym value ∙ ap option_copied_mut is in
-    (had, PutsWaiter-updates old new owner (Some now) (writes.3 (rw had refl)))
+waiter_written old new owner lent was now value is writes = grind (arith, common_steps, PutsWaiter-updates)

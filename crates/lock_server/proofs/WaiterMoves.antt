@@ -1,4 +1,5 @@
 -- What is known of the owners with detected waits, where a wait joins or leaves: for the table's fact `indexed`.
+use Rattle.std.proofs.lemmas.Grind.{common_steps}
 use Rattle.std.proofs.Common.{ℕ, ◌≡◌, ◌≢◌, ◌==◌, ◌+◌, ◌∙◌, inl, inr, sym, ap, refl, arith, true, false, cond, Bool, List, [], ◌∷◌, ◌++◌, Any, length, append-nil}
 use Rattle.std.specs.Prelude.{filter}
 use Rattle.std.proofs.lemmas.Bool.{cases_Bool, cases_eq, eq-eqb, ne_eqb}
@@ -38,9 +39,7 @@ counts_other owner wait detected differs = rw (detected, ne_eqb wait.owner owner
 
 -- one where the file stands at the head
 head_time : (file : ℕ) (files : List ℕ) → times file (file ∷ files) ≢ 0
-head_time file files none =
-    let here = sum_by-cons (λ other. cond (other == file) 1 0) file files in
-    omega (arith, one_itself file)
+head_time file files none = grind (arith, common_steps, sum_by-cons, one_itself)
 
 -- an owner with a file has a detected wait
 pub detected_somewhere : (waits : ℕ → List Pending) (waiters : Waiters) → WaitersKnown waits waiters → (owner : ℕ) → files_of waiters owner ≢ [] → (file : ℕ) × Any (IsDetectedOf owner) (waits file)
@@ -198,18 +197,8 @@ module _ (waits now : ℕ → List Pending) (waiters after : Waiters) (file : �
 -- the same files, and nobody crossed without one
 pub waiters_kept : (waits : ℕ → List Pending) (waiters after : Waiters) → WaitersKnown waits waiters → ((owner : ℕ) → files_of after owner ≡ files_of waiters owner)
     → ((owner : ℕ) → files_of after owner ≡ [] → crossed_of after owner ≡ false) → WaitersKnown waits after
-waiters_kept waits waiters after known files crossed = record {
-  detected = λ owner file. ap (times file) (files owner) ∙ known.detected owner file;
-  crossed = crossed;
-}
+waiters_kept waits waiters after known files crossed = grind (arith, common_steps)
 
 -- a lock is given to an owner
 pub waiters_crossed : (waits : ℕ → List Pending) (waiters after : Waiters) (owner : ℕ) → WaitersKnown waits waiters → view.Crosses waiters after owner → WaitersKnown waits after
-waiters_crossed waits waiters after owner known crosses =
-    waiters_kept waits waiters after known crosses.files
-    (λ other none. elim (cases_eq other owner) [
-      | inl is ↦
-          (let empty : files_of waiters owner ≡ [] = sym (crosses.files owner) ∙ ap (files_of after) (sym is) ∙ none in
-          rw is (crosses.without empty ∙ known.crossed owner empty))
-      | inr differs ↦ crosses.others other differs ∙ known.crossed other (sym (crosses.files other) ∙ none)
-    ])
+waiters_crossed waits waiters after owner known crosses = grind (arith, common_steps, waiters_kept, cases_eq)

@@ -1,3 +1,4 @@
+use Rattle.std.proofs.lemmas.Grind.{common_steps}
 use Rattle.std.proofs.Common.{arith}
 use Rattle.lock_server.specs.FileView.{file_state, keeps_place}
 use Rattle.lock_server.proofs.GrantLemmas.{room_for_one, place_for_one}
@@ -21,20 +22,11 @@ returns-in-Whole-clause-gets c = rw c.in-Whole.is (record { bytes = c.flock_set_
 
 pub invariant_of-self : goal.invariant_of-self
 unfolding file_state
-invariant_of-self c =
-    let file = c.args.self.now in
-    let room = room_for_one file c.args.wait.now c.in-Bytes.is c.requires.room in record {
-      ranges = file.ranges;
-      room = HasRoom-granted file.book _ file.waits.items c.args.wait.now.owner c.args.wait.now.span _ file.room room c.set_reserved.ensures.sets c.set_reserved.ensures.room;
-    }
+invariant_of-self c = grind (arith, common_steps, room_for_one, HasRoom-granted)
 
 pub invariant_of-self-in-Whole : goal.invariant_of-self-in-Whole
 unfolding file_state
-invariant_of-self-in-Whole c =
-    let file = c.args.self.now in record {
-      ranges = file.ranges;
-      room = HasRoom-kept file.book _ file.waits.items (KeepsRoom-sets file.book _ c.args.wait.now.owner _ c.flock_set_reserved.ensures) file.room;
-    }
+invariant_of-self-in-Whole c = grind (arith, common_steps, HasRoom-kept, KeepsRoom-sets)
 
 pub returns-in-Bytes-clause-kept : goal.returns-in-Bytes-clause-kept
 unfolding keeps_place
@@ -42,7 +34,4 @@ returns-in-Bytes-clause-kept c = record { places = λ owner there. rw (c.set_res
 
 pub returns-in-Whole-clause-kept : goal.returns-in-Whole-clause-kept
 unfolding keeps_place
-returns-in-Whole-clause-kept c = record {
-  places = (KeepsRoom-sets c.args.self.now.book _ c.args.wait.now.owner _ c.flock_set_reserved.ensures).places;
-  list = λ room. room;
-}
+returns-in-Whole-clause-kept c = grind (arith, common_steps, KeepsRoom-sets)

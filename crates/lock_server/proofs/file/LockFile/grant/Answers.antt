@@ -1,3 +1,5 @@
+use Rattle.std.proofs.Common.{arith}
+use Rattle.std.proofs.lemmas.Grind.{common_steps}
 use Rattle.lock_server.specs.FileView.{file_state}
 use Rattle.lock_server.proofs.GrantLemmas.{gets_where_it_stood, grants_at, one_fewer, range_at}
 use Rattle.lock_server.proofs.file.LockFile.grant.Goals as goal
@@ -13,13 +15,7 @@ returns-clause-granted c = λ policy ready.
     (gets_where_it_stood _ _ _ c.remove_at-wait.result left.leaves.locks c.give.ensures.gets) c.give.ensures.waits ready
 
 pub returns-clause-fewer : goal.returns-clause-fewer
-returns-clause-fewer c =
-    let fewer = one_fewer (file_state c.args.self.now) (file_state c.remove_at-wait.new.self) c.args.i c.remove_at-wait.result c.remove_at-wait.ensures.leaves in
-    let same = c.give.ensures.waits in
-    rw c.give.ensures.waits fewer
+returns-clause-fewer c = grind (arith, common_steps, one_fewer)
 
 pub returns-clause-room : goal.returns-clause-room
-returns-clause-room c = record {
-  places = λ owner there. c.give.ensures.kept.places owner (c.remove_at-wait.ensures.kept.places owner there);
-  list = λ room. c.give.ensures.kept.list (c.remove_at-wait.ensures.kept.list room);
-}
+returns-clause-room c = grind (arith, common_steps)

@@ -1,3 +1,4 @@
+use Rattle.std.proofs.lemmas.Grind.{common_steps}
 use Rattle.std.proofs.Common.{arith}
 use Rattle.lock_server.specs.OpeningsView.{through_at}
 use Rattle.lock_server.proofs.ForgetLemmas.{above_from_next, next_from_above, next_of}
@@ -8,15 +9,10 @@ pub loop-file-init : goal.loop-file-init
 loop-file-init c = unseeing_none (through_at c.args.self.now) c.args.owner
 
 pub loop-file-preserved : goal.loop-file-preserved
-loop-file-preserved c =
-    unseeing_more (through_at c.args.self.now) c.args.owner (next_of c.loop-file.above) (through_at c.loop-file.self) c.in-Some.file (through_at c.forget.new.self)
-    c.loop-file.invariant (next_from_above c.loop-file.above c.in-Some.file c.in-Some.ensures.above)
-    (λ other from before. c.in-Some.ensures.least other c.args.owner (above_from_next c.loop-file.above other from) before) c.forget.ensures
+loop-file-preserved c = grind (arith, common_steps, unseeing_more, next_of, next_from_above, above_from_next)
 
 pub loop-file-smaller : goal.loop-file-smaller
 loop-file-smaller c = let from = next_from_above c.loop-file.above c.in-Some.file c.in-Some.ensures.above in omega arith
 
 pub returns : goal.returns
-returns c =
-    all_unseen (through_at c.args.self.now) c.args.owner (next_of c.loop-file.above) (through_at c.loop-file.self) c.loop-file.invariant
-    (λ file from. c.in_default.ensures.none file c.args.owner (above_from_next c.loop-file.above file from))
+returns c = grind (arith, common_steps, all_unseen, next_of, above_from_next)

@@ -1,4 +1,5 @@
-use Rattle.std.proofs.Common.{◌∙◌}
+use Rattle.std.proofs.Common.{arith, ◌∙◌}
+use Rattle.std.proofs.lemmas.Grind.{common_steps}
 use Rattle.wait_core.specs.declared.Family.TheVariants.{Whole}
 use Rattle.lock_server.specs.ServerView.{policy_of, state_of}
 use Rattle.lock_server.specs.TableView.{table_policy, table_state}
@@ -20,9 +21,4 @@ invariant_of-self c =
 
 pub returns-clause-releases : goal.returns-clause-releases
 unfolding policy_of state_of
-returns-clause-releases c =
-    let table = c.args.self.now.table in
-    let rest = swept (table_policy table) (table_state c.release_flock.new.self) c.args.file (table_state c.settle.new.self) (table_state c.sweep.new.self)
-    (rests (table_policy table) c.release_flock.new.self c.settle.new.self c.args.file c.release_flock.ensures.policy c.settle.ensures.policy c.settle.ensures.settles c.settle.ensures.settled)
-    c.sweep.ensures.same in
-    releases_at_rest (table_policy table) (table_state table) c.args.file Whole c.args.owner (table_state c.release_flock.new.self) (table_state c.sweep.new.self) c.release_flock.ensures.releases rest
+returns-clause-releases c = grind (arith, common_steps, swept, rests, releases_at_rest)

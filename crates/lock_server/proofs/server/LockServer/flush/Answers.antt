@@ -1,4 +1,5 @@
-use Rattle.std.proofs.Common.{◌∙◌}
+use Rattle.std.proofs.Common.{arith, ◌∙◌}
+use Rattle.std.proofs.lemmas.Grind.{common_steps}
 use Rattle.wait_core.specs.declared.Family.TheVariants.{Bytes}
 use Rattle.lock_server.specs.ServerView.{policy_of, state_of}
 use Rattle.lock_server.specs.TableView.{table_policy, table_state}
@@ -20,9 +21,4 @@ invariant_of-self c =
 
 pub returns-clause-flushes : goal.returns-clause-flushes
 unfolding policy_of state_of
-returns-clause-flushes c =
-    let table = c.args.self.now.table in
-    let rest = swept (table_policy table) (table_state c.release.new.self) c.args.file (table_state c.settle.new.self) (table_state c.sweep.new.self)
-    (rests (table_policy table) c.release.new.self c.settle.new.self c.args.file c.release.ensures.policy c.settle.ensures.policy c.settle.ensures.settles c.settle.ensures.settled)
-    c.sweep.ensures.same in
-    releases_at_rest (table_policy table) (table_state table) c.args.file Bytes c.args.owner (table_state c.release.new.self) (table_state c.sweep.new.self) c.release.ensures.releases rest
+returns-clause-flushes c = grind (arith, common_steps, swept, rests, releases_at_rest)

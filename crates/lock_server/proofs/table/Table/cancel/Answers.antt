@@ -1,4 +1,5 @@
-use Rattle.std.proofs.Common.{ℕ, ◌≡◌, ◌≢◌, ◌∙◌, inl, inr, refl, sym, ap, Some, None}
+use Rattle.std.proofs.Common.{arith, ℕ, ◌≡◌, ◌≢◌, ◌∙◌, inl, inr, refl, sym, ap, Some, None}
+use Rattle.std.proofs.lemmas.Grind.{common_steps}
 use Rattle.lock_server.specs.declared.tickets.Place.TheVariants.{Reserved, Waits, Granted}
 use Rattle.lock_server.specs.TableView.{entry_of, table_state}
 use Rattle.lock_server.specs.TicketsView.{place_at}
@@ -30,10 +31,7 @@ returns-in-Reserved c =
     }
 
 pub unwrap-locks-requires : goal.unwrap-locks-requires
-unwrap-locks-requires c =
-    let waits : place_at c.args.self.now.tickets c.args.ticket ≡ Some (Waits c.in-Waits.file) =
-    sym c.place.ensures ∙ c.in-Some.is ∙ ap Some c.in-Waits.is in
-    lent_of_wait c.args.self.now c.args.ticket c.in-Waits.file waits c.get_mut.result c.get_mut.ensures.value
+unwrap-locks-requires c = grind (arith, common_steps, lent_of_wait)
 
 pub unwrap-wait-requires : goal.unwrap-wait-requires
 unwrap-wait-requires c =

@@ -1,13 +1,11 @@
-use Rattle.std.proofs.Common.{◌∙◌}
+use Rattle.std.proofs.Common.{arith, ◌∙◌}
+use Rattle.std.proofs.lemmas.Grind.{common_steps}
 use Rattle.lock_server.specs.TableView.{table_state}
 use Rattle.lock_server.proofs.ForgetLemmas.{all_dismissed, dismissing_more, dismissing_none, fewer_after}
 use Rattle.lock_server.proofs.table.Table.dismiss.Goals as goal
 
 pub loop-init : goal.loop-init
-loop-init c = record {
-  dismissing = dismissing_none (table_state c.args.self.now) c.args.file c.args.owner (table_state c.release.new.self) c.release.ensures.releases;
-  policy = c.release.ensures.policy;
-}
+loop-init c = grind (arith, common_steps, dismissing_none)
 
 pub loop-preserved : goal.loop-preserved
 loop-preserved c = record {

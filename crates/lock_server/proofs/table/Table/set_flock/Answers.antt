@@ -1,3 +1,5 @@
+use Rattle.std.proofs.Common.{arith}
+use Rattle.std.proofs.lemmas.Grind.{common_steps}
 use Rattle.lock_book.specs.Changes.{whole_file}
 use Rattle.wait_core.specs.declared.Family.TheVariants.{Whole}
 use Rattle.lock_server.specs.TableView.{entry_of, table_state}
@@ -25,8 +27,4 @@ returns-clause-sets c =
 
 pub returns-clause-room : goal.returns-clause-room
 unfolding entry_of
-returns-clause-room c =
-    let table = c.args.self.now in
-    let after = c.set_flock.new.self in
-    let written = file_written table.files (c.get_mut.follows.lender after) c.args.file _ c.unwrap-locks.result after c.get_mut.ensures.value c.unwrap-locks.ensures (c.get_mut.follows.holds after) in
-    keeps_room_on table _ c.args.file c.unwrap-locks.result.now after written.0 written.1.here c.set_flock.ensures.room (λ ticket noted. noted)
+returns-clause-room c = grind (arith, common_steps, file_written, keeps_room_on)

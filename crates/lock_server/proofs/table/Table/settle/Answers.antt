@@ -1,3 +1,4 @@
+use Rattle.std.proofs.lemmas.Grind.{common_steps}
 use Rattle.std.proofs.Common.{◌∙◌, arith, refl, subst, sym}
 use Rattle.wait_core.specs.declared.Policy.{Policy}
 use Rattle.lock_server.specs.Settling.{IsSettled}
@@ -31,9 +32,7 @@ loop-preserved c =
     }
 
 pub loop-smaller : goal.loop-smaller
-loop-smaller c =
-    let granted = c.grant_next.ensures.granted c.loop-test.true in
-    omega (arith, fewer_waits (table_policy c.loop.self) (table_state c.loop.self) c.args.file granted.0 (table_state c.grant_next.new.self) granted.1)
+loop-smaller c = grind (arith, common_steps, fewer_waits)
 
 pub returns-clause-settles : goal.returns-clause-settles
 returns-clause-settles c =

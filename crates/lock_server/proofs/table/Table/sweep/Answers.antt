@@ -1,10 +1,9 @@
-use Rattle.std.proofs.Common.{◌≡◌, ◌∙◌, ap, sym, None, Some}
+use Rattle.std.proofs.Common.{◌≡◌, ◌∙◌, ap, sym, None, Some, Option}
 use Rattle.std.specs.BTreeMap.{get}
 use Rattle.std.specs.Option.{option_copied}
 use Rattle.std.specs.Ordering.{nat_cmp}
 use Rattle.lock_server.specs.declared.file.LockFile.{LockFile}
 use Rattle.lock_server.specs.FileView.{state_at}
-use Rattle.std.proofs.Common.{Option}
 use Rattle.lock_server.proofs.IndexLemmas.{PutsEntry-updates}
 use Rattle.lock_server.proofs.EntryMoves.{put_indexed}
 use Rattle.lock_server.proofs.table.Table.sweep.Goals as goal
