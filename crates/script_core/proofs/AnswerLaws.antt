@@ -1,11 +1,12 @@
 -- A line of a journal has one answer: one meaning, and one text of what is there in its place.
-use Rattle.std.proofs.Common.{◌≡◌, ℕ, zero, suc, ◌+◌, ◌≤◌, ◌==◌, List, [], ◌∷◌, ◌++◌, length, drop, inl, inr, codes, decimal, Some, IfSome, slice_get, refl, sym, ap, ◌∙◌, subst, arith, eq-eqb}
+use Rattle.std.proofs.lemmas.Grind.{common_steps}
+use Rattle.std.proofs.Common.{rules, ◌≡◌, ℕ, ◌+◌, ◌≤◌, ◌==◌, List, [], ◌∷◌, ◌++◌, length, drop, inl, inr, codes, decimal, Some, IfSome, slice_get, refl, sym, ap, ◌∙◌, subst, arith, eq-eqb}
 use Rattle.std.proofs.lemmas.List.{length-drop}
 use Rattle.std.proofs.lemmas.List.Elements.{filter-append}
 use Rattle.lock_book.specs.OneReport.{LocksHaveOneReport}
 use Rattle.lock_manager.specs.declared.request.Rules.{Rules}
 use Rattle.lock_manager.specs.declared.request.Note.{Note}
-use Rattle.lock_manager.specs.State.{State, opening_state}
+use Rattle.lock_manager.specs.State.{State}
 use Rattle.lock_manager.specs.OneOutcome.{StepHasOneOutcome}
 use Rattle.session_core.specs.declared.check.Expected.{Expected}
 use Rattle.session_core.specs.declared.check.Expected.TheVariants.{NoRequest, NumberAfter, Notes}
@@ -48,10 +49,7 @@ last_step rules processes S (first ∷ events) event T h =
 -- which is that state
 last_step_at : StepHasOneOutcome → (rules : Rules) (processes : ℕ) (events : List Event) (event : Event) (S T : State)
     → IsRun rules processes events S → IsRun rules processes (events ++ event ∷ []) T → (V : State) × IsStep rules processes S event V
-last_step_at one rules processes events event S T run more =
-    let last = last_step rules processes opening_state events event T more.leads in
-    let same : last.0 ≡ S = one_state one rules processes opening_state events last.0 S last.1 run.leads in
-    (last.2, subst (λ X. IsStep rules processes X event last.2) same last.3)
+last_step_at one rules processes events event S T run more = grind (arith, common_steps, last_step, one_state)
 
 at_end : {X : Type 0} (xs : List X) (x : X) → slice_get (xs ++ x ∷ []) (length xs) ≡ Some x
 at_end [] x = refl
@@ -95,9 +93,7 @@ expected_as one rules processes events event S (Notes notes) (Notes others) run 
 
 one_expected : StepHasOneOutcome → (rules : Rules) (processes : ℕ) (events : List Event) (event : Event) (a b : Expected)
     → IsIllegal rules processes events event a → IsIllegal rules processes events event b → expected_text event a ≡ expected_text event b
-one_expected one rules processes events event a b h k =
-    let same : k.state ≡ h.state = one_state one rules processes opening_state events k.state h.state k.run.leads h.run.leads in
-    expected_as one rules processes events event h.state a b h.run h.would_have (subst (λ S. WouldHave rules processes events S event b) same k.would_have)
+one_expected one rules processes events event a b h k = grind (arith, common_steps, one_state, expected_as)
 
 -- ---- which lines of a report are to come
 
@@ -106,14 +102,7 @@ fewer xs n = let less = length-drop n xs in omega (arith, less)
 
 -- last lines that are as many are the same
 as_many : {X : Type 0} (xs : List X) (a b : ℕ) → length (drop a xs) ≡ length (drop b xs) → drop a xs ≡ drop b xs
-as_many [] zero zero same = refl
-as_many [] zero (suc b) same = refl
-as_many [] (suc a) zero same = refl
-as_many [] (suc a) (suc b) same = refl
-as_many (x ∷ xs) zero zero same = refl
-as_many (x ∷ xs) zero (suc b) same = absurd (let less = fewer xs b in omega (arith, same, less))
-as_many (x ∷ xs) (suc a) zero same = absurd (let less = fewer xs a in omega (arith, same, less))
-as_many (x ∷ xs) (suc a) (suc b) same = as_many xs a b same
+as_many xs a b h = grind (arith, common_steps, fewer)
 
 -- lines have no more texts than there are of them
 no_more_texts : (left : List ReportLine) (texts : List (List ℕ)) → AreTextsOf left texts → length texts ≤ length left

@@ -1,5 +1,6 @@
 -- Commands and their arguments.
-use Rattle.std.proofs.Common.{◌≡◌, ℕ, zero, suc, ◌<◌, ◌≤◌, ◌^◌, List, [], ◌∷◌, ◌++◌, length, get_or, codes, decimal, ◌⊎◌, Bool, true, false, ℤ, pos, negsuc, FitsSigned, w64, Ok, Err, Bor, refl, sym, ap, subst, inl, inr, arith}
+use Rattle.std.proofs.lemmas.Grind.{common_steps}
+use Rattle.std.proofs.Common.{◌≡◌, ℕ, ◌<◌, ◌≤◌, ◌^◌, List, [], ◌∷◌, ◌++◌, length, get_or, codes, decimal, ◌⊎◌, Bool, true, false, ℤ, pos, FitsSigned, w64, Ok, Err, Bor, refl, sym, ap, subst, inl, inr, arith}
 use Rattle.std.specs.Fmt.{digits, signed_decimal}
 use Rattle.std.specs.Str.{bytes_eq}
 use Rattle.std.proofs.lemmas.Slice.Eq.{bytes_eq-Decides}
@@ -25,13 +26,7 @@ not_named name word differ = false_where_not (bytes_eq name word) (λ same. diff
 -- the texts of a list of this length, one by one
 pub five_texts : (xs : List (Bor (List ℕ))) (d : Bor (List ℕ)) → 5 ≤ length xs → length xs < 6
     → texts xs ≡ (get_or xs 0 d).now ∷ (get_or xs 1 d).now ∷ (get_or xs 2 d).now ∷ (get_or xs 3 d).now ∷ (get_or xs 4 d).now ∷ []
-five_texts [] d at_least below = absurd (omega (arith, at_least))
-five_texts (a ∷ []) d at_least below = absurd (omega (arith, at_least))
-five_texts (a ∷ b ∷ []) d at_least below = absurd (omega (arith, at_least))
-five_texts (a ∷ b ∷ e ∷ []) d at_least below = absurd (omega (arith, at_least))
-five_texts (a ∷ b ∷ e ∷ f ∷ []) d at_least below = absurd (omega (arith, at_least))
-five_texts (a ∷ b ∷ e ∷ f ∷ g ∷ []) d at_least below = refl
-five_texts (a ∷ b ∷ e ∷ f ∷ g ∷ h ∷ xs) d at_least below = absurd (omega (arith, below))
+five_texts xs d h h2 = grind (arith, common_steps)
 
 pub six_texts : (xs : List (Bor (List ℕ))) (d : Bor (List ℕ)) → 6 ≤ length xs → length xs < 7
     → texts xs ≡ (get_or xs 0 d).now ∷ (get_or xs 1 d).now ∷ (get_or xs 2 d).now ∷ (get_or xs 3 d).now ∷ (get_or xs 4 d).now ∷ (get_or xs 5 d).now ∷ []
@@ -62,9 +57,7 @@ bad_lock limits name fd kind whence start len pid cause bad =
 pub bad_pid : (limits : Limits) (name : List ℕ) (words : List (List ℕ)) (pid : List ℕ) (fd : ℕ) (lock : Lock) (cause : Cause) → words ≡ lock_words fd lock
     → fd < 2 ^ 32 → FitsSigned w64 lock.start → FitsSigned w64 lock.len → IsBad AnyNumber pid cause
     → CommandGives limits (name ∷ (words ++ pid ∷ [])) (lock_command name) (words ++ pid ∷ []) (Err cause)
-bad_pid limits name words pid fd lock cause spelled small start len bad =
-    subst (λ ws. CommandGives limits (name ∷ (ws ++ pid ∷ [])) (lock_command name) (ws ++ pid ∷ []) (Err cause)) (sym spelled)
-    (inl (cause, inl ((fd, small, refl), inl ((lock.kind, refl), inl ((lock.whence, refl), inl ((lock.start, start, refl), inl ((lock.len, len, refl), inr bad))))), refl))
+bad_pid limits name words pid fd lock cause spelled small start len bad = grind (arith, common_steps)
 
 zero_pid : decimal 0 ≡ codes "0"
 unfolding digits
@@ -72,9 +65,7 @@ zero_pid = refl
 
 -- a pid that is written is one that the text writes, or 0
 pub written_pid : (z : ℤ) → (z ≡ pos 0) ⊎ (signed_decimal z ∷ [] ≡ pid_words z)
-written_pid (pos zero) = inl refl
-written_pid (pos (suc n)) = inr refl
-written_pid (negsuc n) = inr refl
+written_pid z = grind (arith, common_steps)
 
 written_zero : (z : ℤ) → z ≡ pos 0 → signed_decimal z ∷ [] ≡ pid_words z ++ codes "0" ∷ []
 written_zero z e = subst (λ z. signed_decimal z ∷ [] ≡ pid_words z ++ codes "0" ∷ []) (sym e) (ap (λ word. word ∷ []) zero_pid)

@@ -1,50 +1,40 @@
 -- Which lines begin with `#` and which don't, and which texts go with the lines that do: for `explanations_are_comments`.
-use Rattle.std.proofs.Common.{ℕ, zero, suc, ◌≡◌, ◌+◌, ◌<◌, ◌==◌, ◌/◌, ◌%◌, Bool, true, false, not, ◌&&◌, cond, Option, Some, None, List, [], ◌∷◌, ◌++◌, filter, flat_map, codes, decimal, ℤ, pos, negsuc, refl, sym, ap, subst, ◌∙◌, arith, append_assoc, inl, inr}
+use Rattle.std.proofs.lemmas.Grind.{common_steps}
+use Rattle.std.proofs.Common.{rules, ℕ, zero, suc, ◌≡◌, ◌+◌, ◌==◌, ◌/◌, ◌%◌, Bool, true, false, not, ◌&&◌, cond, Option, Some, None, List, [], ◌∷◌, ◌++◌, flat_map, codes, decimal, ℤ, pos, negsuc, refl, sym, ap, subst, ◌∙◌, arith, append_assoc, inl, inr}
 use Rattle.std.specs.List.{list_all, list_any, slice_split, join_with_byte}
-use Rattle.std.specs.Fmt.{signed_decimal}
-use Rattle.std.specs.Fmt.{digits, digits_onto, digit_glyph}
+use Rattle.std.specs.Fmt.{signed_decimal, digits, digits_onto, digit_glyph}
 use Rattle.std.proofs.lemmas.Bool.{cases_Bool}
 use Rattle.std.proofs.lemmas.Bool.Decides.{nat_tests}
 use Rattle.std.proofs.lemmas.List.Folds.{list_all-append}
 use Rattle.range_core.specs.declared.Mode.{Mode}
 use Rattle.range_core.specs.declared.Mode.TheVariants as modes
 use Rattle.range_core.specs.declared.Kind.{Kind}
-use Rattle.range_core.specs.declared.Kind.TheVariants.{Read, Write, Unlock}
 use Rattle.range_core.specs.declared.Whence.{Whence}
-use Rattle.range_core.specs.declared.Whence.TheVariants.{Set, Cur, End}
 use Rattle.range_core.specs.declared.Span.{Span}
 use Rattle.lock_book.specs.declared.Owner.{Owner}
 use Rattle.lock_book.specs.declared.Owner.TheVariants as owners
 use Rattle.lock_book.specs.declared.Held.{Held}
 use Rattle.fd_table.specs.declared.Access.{Access}
-use Rattle.fd_table.specs.declared.Access.TheVariants.{R, W, Rw}
 use Rattle.wait_core.specs.declared.Family.{Family}
-use Rattle.wait_core.specs.declared.Family.TheVariants.{Bytes, Whole}
 use Rattle.wait_core.specs.declared.Wait.{Wait}
 use Rattle.lock_manager.specs.declared.request.Rules.{Rules}
 use Rattle.lock_manager.specs.declared.request.LkCmd.{LkCmd}
-use Rattle.lock_manager.specs.declared.request.LkCmd.TheVariants.{GetLk, SetLk, SetLkW, OGetLk, OSetLk, OSetLkW}
 use Rattle.lock_manager.specs.declared.request.FlockOp.{FlockOp}
-use Rattle.lock_manager.specs.declared.request.FlockOp.TheVariants.{Sh, Ex, Un}
 use Rattle.lock_manager.specs.declared.request.Errno.{Errno}
-use Rattle.lock_manager.specs.declared.request.Errno.TheVariants.{EBADF, EINVAL, EOVERFLOW, EAGAIN, EDEADLK, EINTR, EMFILE, ESRCH}
 use Rattle.lock_manager.specs.declared.request.Reply.{Reply}
-use Rattle.lock_manager.specs.declared.request.Reply.TheVariants as replies
 use Rattle.lock_manager.specs.declared.request.Note.{Note}
 use Rattle.lock_manager.specs.declared.request.Note.TheVariants.{Answer, Waits}
 use Rattle.lock_manager.specs.declared.request.InTheWay.{InTheWay}
 use Rattle.lock_manager.specs.declared.request.InTheWay.TheVariants as obstacles
 use Rattle.lock_manager.specs.declared.request.Request.{Request}
-use Rattle.lock_manager.specs.declared.request.Request.TheVariants.{OpenFile, Dup, DupTo, CloseFd, Seek, Resize, Lk, Flock, Fork, Exit, Signal, Kill}
 use Rattle.lock_manager.specs.declared.request.ProcState.{ProcState}
-use Rattle.lock_manager.specs.declared.request.ProcState.TheVariants as states
 use Rattle.lock_manager.specs.State.{State}
 use Rattle.session_core.specs.Event.{Event}
 use Rattle.script_core.specs.declared.text.ProcessLine.{ProcessLine}
 use Rattle.script_core.specs.Words.{lines_of, without_empty_end}
-use Rattle.script_core.specs.RequestText.{access_word, mode_word, kind_word, whence_word, op_word, lock_command_word, pid_words, nb_words, lock_words, request_words, request_text}
+use Rattle.script_core.specs.RequestText.{access_word, mode_word, kind_word, whence_word, op_word, lock_command_word, pid_words, nb_words, request_words, request_text}
 use Rattle.script_core.specs.EntryText.{error_name, reply_words, reply_text, tag, note_text, entry_text, entry_line}
-use Rattle.script_core.specs.ReportText.{owner_text, flock_word, byte_lock_text, flock_text, held_text, held_line, wanted_text, wait_line, state_word, counts_text, process_line, is_reported, reported_line, process_lines, line_of, IsReport}
+use Rattle.script_core.specs.ReportText.{owner_text, flock_word, byte_lock_text, flock_text, held_text, held_line, wanted_text, wait_line, state_word, counts_text, process_line, reported_line, process_lines, line_of, IsReport}
 use Rattle.script_core.specs.declared.deadlock.Link.{Link}
 use Rattle.script_core.specs.Deadlocks.{step_text, first_step_text, next_step_text}
 use Rattle.script_core.specs.Explaining.{comment, obstacle_line, deadlock_line, is_same_place, word_of_loss, loss_line, loss_lines, Explains, more_text, never_born_line, unborn_line, unborn_lines, is_comment_line, without_comments}
@@ -110,34 +100,16 @@ rest_behind : (line rest : List ℕ) → ended line ++ rest ≡ line ++ 10 ∷ r
 rest_behind line rest = append_assoc line (10 ∷ []) rest
 
 plain_line : (line : List ℕ) → InLine line → is_comment_line line ≡ false → IsPlain (ended line)
-plain_line line is plain rest =
-    ap without_comments (rest_behind line rest)
-    ∙ ap (λ (ls : List (List ℕ)). flat_map ended (filter (λ l. not (is_comment_line l)) ls)) (lines_first line rest is)
-    ∙ kept (is_comment_line line) plain
-  where
-    kept : (b : Bool) → b ≡ false
-        → flat_map ended (cond (not b) (line ∷ filter (λ l. not (is_comment_line l)) (lines_of rest)) (filter (λ l. not (is_comment_line l)) (lines_of rest))) ≡ ended line ++ without_comments rest
-    kept true e = absurd (cc)
-    kept false e = refl
+plain_line line is plain rest = grind (arith, common_steps, rest_behind, lines_first)
 
 pub comment_line : (line : List ℕ) → InLine line → is_comment_line line ≡ true → IsComment (ended line)
-comment_line line is begins rest =
-    ap without_comments (rest_behind line rest)
-    ∙ ap (λ (ls : List (List ℕ)). flat_map ended (filter (λ l. not (is_comment_line l)) ls)) (lines_first line rest is)
-    ∙ gone (is_comment_line line) begins
-  where
-    gone : (b : Bool) → b ≡ true
-        → flat_map ended (cond (not b) (line ∷ filter (λ l. not (is_comment_line l)) (lines_of rest)) (filter (λ l. not (is_comment_line l)) (lines_of rest))) ≡ without_comments rest
-    gone true e = refl
-    gone false e = absurd (cc)
+comment_line line is begins rest = grind (arith, common_steps, rest_behind, lines_first)
 
 plain_none : IsPlain []
 plain_none rest = refl
 
 plain_both : (one other : List ℕ) → IsPlain one → IsPlain other → IsPlain (one ++ other)
-plain_both one other h k rest =
-    ap without_comments (append_assoc one other rest) ∙ h (other ++ rest) ∙ ap (λ (l : List ℕ). one ++ l) (k rest)
-    ∙ sym (append_assoc one other (without_comments rest))
+plain_both one other h k rest = grind (arith, common_steps, append_assoc)
 
 pub comment_none : IsComment []
 comment_none rest = refl
@@ -155,10 +127,7 @@ comment_each f each (x ∷ xs) = comment_both (f x) (flat_map f xs) (each x) (co
 
 -- numbers
 glyph_on : (n : ℕ) → goes_on (digit_glyph false (n % 10)) ≡ true
-glyph_on n = let small : n % 10 < 10 = omega arith in glyph_small (n % 10) small
-  where
-    glyph_small : (d : ℕ) → d < 10 → goes_on (digit_glyph false d) ≡ true
-    glyph_small d small = grind (arith, nat_tests)
+glyph_on n = grind (arith, common_steps, nat_tests)
 
 digits_on : (k n : ℕ) (behind : List ℕ) → InLine behind → InLine (digits_onto k 10 false n behind)
 digits_on zero n behind is = is
@@ -183,10 +152,7 @@ abbrev Starts : List ℕ → Type 0
 Starts bytes = (byte : ℕ) × (rest : List ℕ) × (bytes ≡ byte ∷ rest) × ((byte == 35) ≡ false)
 
 starts_glyph : (n : ℕ) (behind : List ℕ) → Starts (digit_glyph false (n % 10) ∷ behind)
-starts_glyph n behind = let small : n % 10 < 10 = omega arith in (digit_glyph false (n % 10), behind, refl, glyph_small (n % 10) small)
-  where
-    glyph_small : (d : ℕ) → d < 10 → (digit_glyph false d == 35) ≡ false
-    glyph_small d small = grind (arith, nat_tests)
+starts_glyph n behind = grind (arith, common_steps, nat_tests)
 
 starts_digits : (k n : ℕ) (behind : List ℕ) → Starts behind → Starts (digits_onto k 10 false n behind)
 starts_digits zero n behind h = h
@@ -230,80 +196,39 @@ joined (word ∷ []) h = h.0
 joined (word ∷ next ∷ words) h = both word (32 ∷ join_with_byte 32 (next ∷ words)) h.0 (joined (next ∷ words) h.1)
 
 pub in_access : (access : Access) → InLine (access_word access)
-in_access R = refl
-in_access W = refl
-in_access Rw = refl
+in_access access = grind (arith, common_steps)
 
 in_mode : (mode : Mode) → InLine (mode_word mode)
 in_mode modes.Read = refl
 in_mode modes.Write = refl
 
 in_kind : (kind : Kind) → InLine (kind_word kind)
-in_kind Read = refl
-in_kind Write = refl
-in_kind Unlock = refl
+in_kind kind = grind (arith, common_steps)
 
 in_whence : (whence : Whence) → InLine (whence_word whence)
-in_whence Set = refl
-in_whence Cur = refl
-in_whence End = refl
+in_whence whence = grind (arith, common_steps)
 
 in_op : (op : FlockOp) → InLine (op_word op)
-in_op Sh = refl
-in_op Ex = refl
-in_op Un = refl
+in_op op = grind (arith, common_steps)
 
 in_command : (cmd : LkCmd) → InLine (lock_command_word cmd)
-in_command GetLk = refl
-in_command SetLk = refl
-in_command SetLkW = refl
-in_command OGetLk = refl
-in_command OSetLk = refl
-in_command OSetLkW = refl
+in_command cmd = grind (arith, common_steps)
 
 in_pid : (pid : ℤ) → InWords (pid_words pid)
-in_pid (pos zero) = tt
-in_pid (pos (suc n)) = (number (suc n), tt)
-in_pid (negsuc n) = (integer (negsuc n), tt)
+in_pid pid = grind (arith, common_steps, number, integer)
 
 in_nb : (nb : Bool) → InWords (nb_words nb)
 in_nb true = (refl, tt)
 in_nb false = tt
 
 in_request : (request : Request) → InWords (request_words request)
-in_request (OpenFile file access) = (refl, (number file, (in_access access, tt)))
-in_request (Dup fd) = (refl, (number fd, tt))
-in_request (DupTo fd to) = (refl, (number fd, (number to, tt)))
-in_request (CloseFd fd) = (refl, (number fd, tt))
-in_request (Seek fd offset) = (refl, (number fd, (integer offset, tt)))
-in_request (Resize fd size) = (refl, (number fd, (integer size, tt)))
-in_request (Lk fd cmd lock) = (
-  in_command cmd,
-  words_both (lock_words fd lock) (pid_words lock.pid)
-      (number fd, (in_kind lock.kind, (in_whence lock.whence, (integer lock.start, (integer lock.len, tt))))) (in_pid lock.pid),
-)
-in_request (Flock fd op nb) = (refl, (number fd, (in_op op, in_nb nb)))
-in_request (Fork child) = (refl, (number child, tt))
-in_request Exit = (refl, tt)
-in_request (Signal target) = (refl, (number target, tt))
-in_request (Kill target) = (refl, (number target, tt))
+in_request request = grind (arith, common_steps, number, in_access, integer, in_command, words_both, in_kind, in_whence, in_pid, in_op, in_nb)
 
 in_error : (error : Errno) → InLine (error_name error)
-in_error EBADF = refl
-in_error EINVAL = refl
-in_error EOVERFLOW = refl
-in_error EAGAIN = refl
-in_error EDEADLK = refl
-in_error EINTR = refl
-in_error EMFILE = refl
-in_error ESRCH = refl
+in_error error = grind (arith, common_steps)
 
 in_reply : (reply : Reply) → InWords (reply_words reply)
-in_reply replies.Ok = (refl, tt)
-in_reply (replies.Fd fd) = (refl, (number fd, tt))
-in_reply replies.Free = (refl, tt)
-in_reply (replies.Held mode start len pid) = (refl, (in_mode mode, (number start, (number len, (integer pid, tt)))))
-in_reply (replies.Err error) = (in_error error, tt)
+in_reply reply = grind (arith, common_steps, number, in_mode, integer, in_error)
 
 -- entries
 in_tag : (p n : ℕ) → InLine (tag p n)
@@ -318,10 +243,7 @@ in_notes [] = refl
 in_notes (note ∷ notes) = both (note_text note) (flat_map note_text notes) (in_note note) (in_notes notes)
 
 in_entry : (event : Event) → InLine (entry_text event)
-in_entry event =
-    let named = both (tag event.p event.n) (codes " ") (in_tag event.p event.n) refl in
-    let requested = both (tag event.p event.n ++ codes " ") (request_text event.request) named (joined (request_words event.request) (in_request event.request)) in
-    both (tag event.p event.n ++ codes " " ++ request_text event.request) (flat_map note_text event.notes) requested (in_notes event.notes)
+in_entry event = grind (arith, common_steps, both, in_tag, joined, in_request, in_notes)
 
 starts_entry : (event : Event) → Starts (entry_text event)
 starts_entry event =
@@ -374,9 +296,7 @@ plain_held held = plain_line (held_text held) (in_held held) (by_case held.whole
     by_case false = refl
 
 in_wanted : (family : Family) (wait : Wait) → InLine (wanted_text family wait)
-in_wanted Bytes wait = in_byte_lock wait.file wait.owner wait.mode wait.span
-in_wanted Whole wait =
-    both (decimal wait.file ++ codes " flock ") (flock_text wait.owner wait.mode) (both (decimal wait.file) (codes " flock ") (number wait.file) refl) (in_flock wait.owner wait.mode)
+in_wanted family wait = grind (arith, common_steps, in_byte_lock, both, number, in_flock)
 
 abbrev wait_text : Wait → List ℕ
 wait_text wait = codes "wait " ++ tag wait.p wait.n ++ codes " " ++ wanted_text wait.family wait
@@ -389,17 +309,10 @@ plain_wait : (wait : Wait) → IsPlain (wait_line wait)
 plain_wait wait = plain_line (wait_text wait) (in_wait wait) refl
 
 pub in_state : (state : ProcState) → InLine (state_word state)
-in_state states.Unborn = refl
-in_state states.Live = refl
-in_state states.Waiting = refl
-in_state states.Ended = refl
+in_state state = grind (arith, common_steps)
 
 in_counts : (line : ProcessLine) → InLine (counts_text line)
-in_counts line =
-    let one = decimal line.sent ++ codes " taken " in
-    let two = one ++ decimal line.taken in
-    both (two ++ codes " answered ") (decimal line.answered)
-    (both two (codes " answered ") (both one (decimal line.taken) (both (decimal line.sent) (codes " taken ") (number line.sent) refl) (number line.taken)) refl) (number line.answered)
+in_counts line = grind (arith, common_steps, both, number)
 
 plain_process : (line : ProcessLine) → IsPlain (process_line line)
 plain_process line =
@@ -411,11 +324,7 @@ plain_process line =
     refl
 
 plain_reported : (line : ProcessLine) → IsPlain (reported_line line)
-plain_reported line = by_case (is_reported line.state line.sent)
-  where
-    by_case : (reported : Bool) → IsPlain (cond reported (process_line line) [])
-    by_case true = plain_process line
-    by_case false = plain_none
+plain_reported line = grind (arith, common_steps, plain_process, plain_none)
 
 plain_processes : (states : ℕ → ProcState) (events : List Event) (sent : ℕ → ℕ) (p n : ℕ) → IsPlain (process_lines states events sent p n)
 unfolding process_lines
@@ -425,11 +334,7 @@ plain_processes states events sent p (suc n) =
     (plain_processes states events sent (p + 1) n)
 
 pub plain_report : (processes : ℕ) (S : State) (events : List Event) (sent : ℕ → ℕ) (text : List ℕ) → IsReport processes S events sent text → IsPlain text
-plain_report processes S events sent text report =
-    subst IsPlain (sym report.is)
-    (plain_both (flat_map held_line report.held ++ flat_map wait_line S.waits) (process_lines S.states events sent 1 processes)
-    (plain_both (flat_map held_line report.held) (flat_map wait_line S.waits) (plain_each held_line plain_held report.held) (plain_each wait_line plain_wait S.waits))
-    (plain_processes S.states events sent 1 processes))
+plain_report processes S events sent text report = grind (arith, common_steps, plain_both, plain_each, plain_held, plain_wait, plain_processes)
 
 -- what explains
 is_comment : (p n : ℕ) (line : List ℕ) → InLine line → IsComment (comment p n (ended line))
@@ -453,22 +358,11 @@ in_what (obstacles.Lock held) = in_held held
 in_what (obstacles.Wait wait) = in_wait wait
 
 in_first : (link : Link) → InLine (first_step_text link)
-in_first link =
-    let process = codes "would wait for " ++ decimal link.process in
-    both (process ++ codes " (" ++ step_text link.step) (codes ")")
-    (both (process ++ codes " (") (step_text link.step) (both process (codes " (") (both (codes "would wait for ") (decimal link.process) refl (number link.process)) refl) (in_what link.step)) refl
+in_first link = grind (arith, common_steps, both, number, in_what)
 
 in_next : (link : Link) → InLine (next_step_text link)
 unfolding next_step_text
-in_next link =
-    let process = codes ", which waits for " ++ decimal link.process in
-    let request = process ++ codes " (" ++ tag link.wait.p link.wait.n in
-    both (request ++ codes ", " ++ step_text link.step) (codes ")")
-    (both (request ++ codes ", ") (step_text link.step)
-    (both request (codes ", ")
-    (both (process ++ codes " (") (tag link.wait.p link.wait.n) (both process (codes " (") (both (codes ", which waits for ") (decimal link.process) refl (number link.process)) refl)
-    (in_tag link.wait.p link.wait.n)) refl)
-    (in_what link.step)) refl
+in_next link = grind (arith, common_steps, both, number, in_tag, in_what)
 
 in_nexts : (links : List Link) → InLine (flat_map next_step_text links)
 in_nexts [] = refl
@@ -491,28 +385,10 @@ losses_as : (event : Event) (word : List ℕ) (before after : List Held) → InL
 losses_as event word before after is = comment_each (loss_line event word after) (λ held. comment_loss event word after held is) before
 
 comment_losses : (event : Event) (request : Request) (before after : List Held) → IsComment (loss_lines event (word_of_loss request) before after)
-comment_losses event (OpenFile file access) before after = comment_none
-comment_losses event (Dup fd) before after = comment_none
-comment_losses event (DupTo fd to) before after = losses_as event (codes "released ") before after refl
-comment_losses event (CloseFd fd) before after = losses_as event (codes "released ") before after refl
-comment_losses event (Seek fd offset) before after = comment_none
-comment_losses event (Resize fd size) before after = comment_none
-comment_losses event (Lk fd cmd lock) before after = comment_none
-comment_losses event (Flock fd Sh nb) before after = losses_as event (codes "lost ") before after refl
-comment_losses event (Flock fd Ex nb) before after = losses_as event (codes "lost ") before after refl
-comment_losses event (Flock fd Un nb) before after = comment_none
-comment_losses event (Fork child) before after = comment_none
-comment_losses event Exit before after = losses_as event (codes "released ") before after refl
-comment_losses event (Signal target) before after = comment_none
-comment_losses event (Kill target) before after = losses_as event (codes "released ") before after refl
+comment_losses event request before after = grind (arith, common_steps, comment_none, losses_as)
 
 pub comment_own : (rules : Rules) (S : State) (event : Event) (T : State) (own : List ℕ) → Explains rules S event T own → IsComment own
-comment_own rules S event T own h =
-    subst IsComment (sym h.is)
-    (comment_both (loss_lines event (word_of_loss event.request) h.before h.after ++ obstacle_line event h.obstacle) (deadlock_line event h.links)
-    (comment_both (loss_lines event (word_of_loss event.request) h.before h.after) (obstacle_line event h.obstacle)
-    (comment_losses event event.request h.before h.after) (comment_obstacle event h.obstacle))
-    (comment_deadlock event h.links))
+comment_own rules S event T own h = grind (arith, common_steps, comment_both, comment_losses, comment_obstacle, comment_deadlock)
 
 in_more : (more : ℕ) → InLine (more_text more)
 in_more zero = refl
@@ -529,10 +405,7 @@ comment_never_born p (suc more) =
     refl
 
 comment_unborn : (state : ProcState) (p sent : ℕ) → IsComment (unborn_line state p sent)
-comment_unborn states.Unborn p sent = comment_never_born p sent
-comment_unborn states.Live p sent = comment_none
-comment_unborn states.Waiting p sent = comment_none
-comment_unborn states.Ended p sent = comment_none
+comment_unborn state p sent = grind (arith, common_steps, comment_never_born, comment_none)
 
 pub comment_all_unborn : (states : ℕ → ProcState) (sent : ℕ → ℕ) (p n : ℕ) → IsComment (unborn_lines states sent p n)
 unfolding unborn_lines

@@ -1,15 +1,13 @@
 -- The shortest cycle that a wait would close: for `cycle_of`.
-use Rattle.std.proofs.Common.{ℕ, zero, suc, ◌≡◌, ◌≢◌, ◌+◌, ◌-◌, ◌<◌, ◌≤◌, ◌⊎◌, inl, inr, Bool, true, false, not, cond, Option, Some, None, List, [], ◌∷◌, ◌++◌, All, Any, length, get_or, set, replicate, take, drop, refl, sym, ap, subst, ◌∙◌, arith}
+use Rattle.std.proofs.lemmas.Grind.{common_steps}
+use Rattle.std.proofs.Common.{ℕ, zero, suc, ◌≡◌, ◌+◌, ◌-◌, ◌<◌, ◌≤◌, ◌⊎◌, inl, inr, Bool, true, false, not, Option, Some, None, List, [], ◌∷◌, ◌++◌, All, Any, length, get_or, set, replicate, take, drop, refl, sym, ap, subst, ◌∙◌, arith}
 use Rattle.std.specs.Prelude.{is_some, IsFalse, IsTrue, MatchOption, count_by, slice_get}
-use Rattle.std.proofs.Math.Seq.{drop-cons}
-use Rattle.std.proofs.lemmas.List.{take-append-drop, get_or-take, length-take, get_or-set_other, get_or-set_same, get_or_past, get_or-replicate, length-replicate, length-set}
-use Rattle.std.proofs.lemmas.List.{get_or_append_left, length-append}
-use Rattle.std.proofs.Math.Seq.{get_or-append_seam}
+use Rattle.std.proofs.Math.Seq.{drop-cons, get_or-append_seam}
+use Rattle.std.proofs.lemmas.List.{take-append-drop, get_or-take, length-take, get_or-set_other, get_or-set_same, get_or_past, get_or-replicate, length-replicate, length-set, get_or_append_left, length-append}
 use Rattle.std.proofs.lemmas.List.Sums.{sum_by-set}
 use Rattle.std.proofs.lemmas.Bool.{cases_lt}
 use Rattle.std.proofs.lemmas.Option.{get_or_from_slice_get, slice_get-get_or, slice_get_within}
 use Rattle.lock_book.specs.declared.Held.{Held}
-use Rattle.lock_book.specs.declared.Owner.TheVariants.{Process}
 use Rattle.wait_core.specs.declared.Policy.{Policy}
 use Rattle.wait_core.specs.declared.Policy.TheVariants as policies
 use Rattle.wait_core.specs.declared.Wait.{Wait}
@@ -63,26 +61,11 @@ no_step report earlier wait q none free (inr by_wait) = none_any (IsWaitAgainst 
 -- a link tells a step
 pub link_leads : (policy : Policy) (report : List Held) (waits : List Wait) (start : Start) (link : Link) → IsLink policy report waits start link
     → LeadsInReport policy report waits start link.process
-link_leads policy report waits (Wanted wait) link h =
-    subst (λ (w : Wait). IsBlockedInReport policy report waits w link.process) h.0
-    (step_blocks policy report waits link.wait link.process link.step (subst (λ (w : Wait). IsStepTo policy report waits w link.process link.step) (sym h.0) h.1))
-link_leads policy report waits (Waiting p) link (place, h) = (
-  place,
-  record {
-    wait = link.wait;
-    at = h.wait;
-    of_p = h.of_p;
-    traditional = h.traditional;
-    blocked = step_blocks policy report (take place waits) link.wait link.process link.step h.step;
-  },
-)
+link_leads policy report waits start link h = grind (arith, common_steps, step_blocks)
 
 -- no traditional wait is blocked by its own process
 own_free : (policy : Policy) (report : List Held) (waits : List Wait) (wait : Wait) → IsTraditional wait → ¬ IsBlockedInReport policy report waits wait wait.p
-own_free policies.Held report waits wait own (k, held, within, is, holds) = holds.another (holds.owner ∙ sym own)
-own_free policies.Queue report waits wait own (inl (k, held, within, is, holds)) = holds.another (holds.owner ∙ sym own)
-own_free policies.Queue report waits wait own (inr (k, v, within, is, holds)) =
-    holds.2.owners (holds.1 ∙ ap (λ (n : ℕ). Process n) holds.0 ∙ sym own)
+own_free policy report waits wait h h2 = grind (arith, common_steps)
 
 -- more steps lead no fewer
 near_more : (R : ℕ → ℕ → Type 0) (a q d k : ℕ) → IsNear R a k q → IsNear R a (d + k) q
@@ -192,12 +175,7 @@ leads_last Leads R a (suc k) tight = tight.0
 pub never_none : (policy : Policy) (report : List Held) (waits : List Wait) (a k : ℕ) (start : Start) (layer : List Bool)
     → IsLayer (WaitsInReport policy report waits) a k layer → IsTight (LeadsInReport policy report waits start) (WaitsInReport policy report waits) a k
     → ¬ ((q : ℕ) → LeadsInReport policy report waits start q → IsFalse (get_or layer q false))
-never_none policy report waits a k start layer is tight none =
-    let near = leads_last (LeadsInReport policy report waits start) (WaitsInReport policy report waits) a k tight in
-    let is_in : get_or layer near.0 false ≡ true = (is near.0).1 near.2 in
-    let no : get_or layer near.0 false ≡ false = none near.0 near.1 in
-    let differ : true ≡ false = sym is_in ∙ no in
-    absurd (cc)
+never_none policy report waits a k start layer is tight none = grind (arith, common_steps, leads_last)
 
 next_tight : (policy : Policy) (report : List Held) (waits : List Wait) (a k : ℕ) (start : Start) (q : ℕ) → LeadsInReport policy report waits start q
     → IsTight (LeadsInReport policy report waits start) (WaitsInReport policy report waits) a (suc k) → IsNear (WaitsInReport policy report waits) a (suc k) q
@@ -208,11 +186,7 @@ next_tight policy report waits a (suc k) start q leads tight (inr next) = (next,
 
 next_of : (policy : Policy) (report : List Held) (waits : List Wait) (a k : ℕ) (start : Start) (layer : List Bool) (link : Link)
     → IsLayer (WaitsInReport policy report waits) a k layer → IsLeastLink policy report waits start layer link → IsNextLink policy report waits a k start link
-next_of policy report waits a k start layer link is least = record {
-  is_link = least.is_link;
-  near = (is link.process).0 least.member;
-  least = λ q leads near. least.least q leads ((is q).1 near);
-}
+next_of policy report waits a k start layer link is least = grind (arith, common_steps)
 
 -- the last of the sets
 last_at : (rest : List (List Bool)) (layer : List Bool) (layers : List (List Bool)) → layers ≡ rest ++ layer ∷ []
@@ -325,10 +299,7 @@ all_told policy report waits wait layers links start own h empty =
 
 -- one more place is false no longer
 pub fewer_left : (xs : List Bool) (i : ℕ) → i < length xs → get_or xs i false ≡ false → count_by not (set xs i true) < count_by not xs
-fewer_left xs i within none =
-    let moved = sum_by-set (λ (x : Bool). cond (not x) 1 0) xs i true false within in
-    let was : cond (not (get_or xs i false)) 1 0 ≡ 1 = ap {B = ℕ} (λ (x : Bool). cond (not x) 1 0) none in
-    omega (arith, moved, was)
+fewer_left xs i within none = grind (arith, common_steps, sum_by-set)
 
 some_one : {x y : Wait} → Some x ≡ Some y → x ≡ y
 some_one e = cc
@@ -351,78 +322,15 @@ pub grown_more : (policy : Policy) (report : List Held) (waits : List Wait) (lay
     → HasGrown policy report waits layer next index has_grown → slice_get waits index ≡ Some wait → wait.p < length next → get_or next wait.p false ≡ false
     → (q : ℕ) × WaitsInReport policy report waits wait.p q × IsTrue (get_or layer q false)
     → HasGrown policy report waits layer (set next wait.p true) (index + 1) true
-grown_more policy report waits layer next index has_grown wait h at within none leads = record {
-  sound = sound_more;
-  kept = λ p is_in. raised p (h.kept p is_in);
-  covered = covered_more;
-  same = λ no. absurd (cc);
-  fewer = λ is_in. let less = fewer_left next wait.p within none in let most = h.bounded in omega arith;
-  bounded = let less = fewer_left next wait.p within none in let most = h.bounded in omega arith;
-  long = length-set next wait.p true ∙ h.long;
-}
-  where
-    joined : (p : ℕ) → p ≡ wait.p → get_or (set next wait.p true) p false ≡ true
-    joined p same = ap (λ (n : ℕ). get_or (set next wait.p true) n false) same ∙ get_or-set_same next wait.p true false within
-
-    other : (p : ℕ) → p ≢ wait.p → get_or (set next wait.p true) p false ≡ get_or next p false
-    other p differs = get_or-set_other next wait.p p true false differs
-
-    raised : (p : ℕ) → get_or next p false ≡ true → get_or (set next wait.p true) p false ≡ true
-    raised p is_in = other p (λ same. let now = ap (λ (n : ℕ). get_or next n false) same in let differ : true ≡ false = sym is_in ∙ now ∙ none in cc) ∙ is_in
-
-    sound_more : (p : ℕ) → IsTrue (get_or (set next wait.p true) p false)
-        → IsTrue (get_or layer p false) ⊎ ((q : ℕ) × WaitsInReport policy report waits p q × IsTrue (get_or layer q false))
-    sound_more p is_in = elim (cases_lt p wait.p) [
-      | inl below ↦ let differs : p ≢ wait.p = omega arith in h.sound p (sym (other p differs) ∙ is_in)
-      | inr from ↦ elim (cases_lt wait.p p) [
-        | inl above ↦ let differs : p ≢ wait.p = omega arith in h.sound p (sym (other p differs) ∙ is_in)
-        | inr upto ↦
-            let same : wait.p ≡ p = omega arith in
-            inr (subst (λ (n : ℕ). (q : ℕ) × WaitsInReport policy report waits n q × IsTrue (get_or layer q false)) same leads)
-      ]
-    ]
-
-    covered_more : (place : ℕ) (one : Wait) → place < index + 1 → slice_get waits place ≡ Some one → (q : ℕ) → WaitsInReport policy report waits one.p q
-        → IsTrue (get_or layer q false) → IsTrue (get_or (set next wait.p true) one.p false)
-    covered_more place one below here q waits_for is_in = elim (cases_lt place index) [
-      | inl before ↦ raised one.p (h.covered place one before here q waits_for is_in)
-      | inr from ↦
-          let now : place ≡ index = omega arith in
-          let same : one ≡ wait = some_one (sym here ∙ ap (λ (n : ℕ). slice_get waits n) now ∙ at) in
-          joined one.p (ap (λ (w : Wait). w.p) same)
-    ]
+grown_more policy report waits layer next index has_grown wait h h2 h3 h4 h5 =
+    grind (arith, common_steps, fewer_left, length-set, get_or-set_same, get_or-set_other, cases_lt, some_one)
 
 -- where it doesn't: it is in it, or waits for none of the layer
 pub grown_same : (policy : Policy) (report : List Held) (waits : List Wait) (layer next : List Bool) (index : ℕ) (has_grown : Bool) (wait : Wait)
     → HasGrown policy report waits layer next index has_grown → slice_get waits index ≡ Some wait
     → (get_or next wait.p false ≡ true) ⊎ ((q : ℕ) → WaitsInReport policy report waits wait.p q → IsFalse (get_or layer q false))
     → HasGrown policy report waits layer next (index + 1) has_grown
-grown_same policy report waits layer next index has_grown wait h at why = record {
-  sound = h.sound;
-  kept = h.kept;
-  covered = covered_more;
-  same = h.same;
-  fewer = h.fewer;
-  bounded = h.bounded;
-  long = h.long;
-}
-  where
-    here : (q : ℕ) → WaitsInReport policy report waits wait.p q → IsTrue (get_or layer q false)
-        → (get_or next wait.p false ≡ true) ⊎ ((q : ℕ) → WaitsInReport policy report waits wait.p q → IsFalse (get_or layer q false))
-        → get_or next wait.p false ≡ true
-    here q waits_for is_in (inl is) = is
-    here q waits_for is_in (inr none) = absurd (let no = none q waits_for in let differ : true ≡ false = sym is_in ∙ no in cc)
-
-    covered_more : (place : ℕ) (one : Wait) → place < index + 1 → slice_get waits place ≡ Some one → (q : ℕ) → WaitsInReport policy report waits one.p q
-        → IsTrue (get_or layer q false) → IsTrue (get_or next one.p false)
-    covered_more place one below is q waits_for is_in = elim (cases_lt place index) [
-      | inl before ↦ h.covered place one before is q waits_for is_in
-      | inr from ↦
-          let now : place ≡ index = omega arith in
-          let same : wait ≡ one = some_one (sym at ∙ ap (λ (n : ℕ). slice_get waits n) (sym now) ∙ is) in
-          let put = λ (w : Wait). (WaitsInReport policy report waits w.p q → IsTrue (get_or next w.p false)) in
-          subst put same (λ leads. here q leads is_in why) waits_for
-    ]
+grown_same policy report waits layer next index has_grown wait h h2 h3 = grind (arith, common_steps, cases_lt, some_one)
 
 -- the next wait, whose process joins the set
 pub process_joins : (policy : Policy) (report : List Held) (waits : List Wait) (layer next after : List Bool) (index : ℕ)
@@ -432,12 +340,7 @@ pub process_joins : (policy : Policy) (report : List Held) (waits : List Wait) (
     → (q : ℕ) × WaitsInReport policy report waits (get_or waits index d).p q × IsTrue (get_or layer q false) → after ≡ set next p true → grown ≡ true
     → HasGrown policy report waits layer after (index + 1) grown
 process_joins policy report waits layer next after index has_grown grown d p h within few same none leads is grows =
-    let wait = get_or waits index d in
-    let place : wait.p < length next = let e = h.long in omega arith in
-    let missing : get_or next wait.p false ≡ false = ap (λ (n : ℕ). get_or next n false) (sym same) ∙ none in
-    let more = grown_more policy report waits layer next index has_grown wait h (slice_get-get_or waits index d within) place missing leads in
-    subst (λ (b : Bool). HasGrown policy report waits layer after (index + 1) b) (sym grows)
-    (subst (λ (l : List Bool). HasGrown policy report waits layer l (index + 1) true) (ap (λ (n : ℕ). set next n true) (sym same) ∙ sym is) more)
+    grind (arith, common_steps, grown_more, slice_get-get_or)
 
 -- the next wait, whose process doesn't
 pub process_stays : (policy : Policy) (report : List Held) (waits : List Wait) (layer next after : List Bool) (index : ℕ)
@@ -446,44 +349,18 @@ pub process_stays : (policy : Policy) (report : List Held) (waits : List Wait) (
     → (get_or next p false ≡ true) ⊎ ((q : ℕ) → WaitsInReport policy report waits (get_or waits index d).p q → IsFalse (get_or layer q false))
     → after ≡ next → grown ≡ has_grown → HasGrown policy report waits layer after (index + 1) grown
 process_stays policy report waits layer next after index has_grown grown d p h within same why is grows =
-    let wait = get_or waits index d in
-    let more = grown_same policy report waits layer next index has_grown wait h (slice_get-get_or waits index d within)
-    (elim why [ inl old ↦ inl (ap (λ (n : ℕ). get_or next n false) (sym same) ∙ old) | inr none ↦ inr none ]) in
-    subst (λ (b : Bool). HasGrown policy report waits layer after (index + 1) b) (sym grows)
-    (subst (λ (l : List Bool). HasGrown policy report waits layer l (index + 1) has_grown) (sym is) more)
+    grind (arith, common_steps, grown_same, slice_get-get_or)
 
 -- each process that waits for one of the layer is in the set
 pub all_covered : (policy : Policy) (report : List Held) (waits : List Wait) (layer next : List Bool) (index : ℕ) (has_grown : Bool)
     → HasGrown policy report waits layer next index has_grown → length waits ≤ index → (p q : ℕ) → WaitsInReport policy report waits p q
     → IsTrue (get_or layer q false) → IsTrue (get_or next p false)
-all_covered policy report waits layer next index has_grown h past p q (place, blocks) is_in =
-    let within = slice_get_within waits place blocks.wait blocks.at in
-    let before : place < index = omega arith in
-    subst (λ (n : ℕ). IsTrue (get_or next n false)) blocks.of_p
-    (h.covered place blocks.wait before blocks.at q (subst (λ (n : ℕ). WaitsInReport policy report waits n q) (sym blocks.of_p) (place, blocks)) is_in)
+all_covered policy report waits layer next index has_grown h h2 p q h3 h4 = grind (arith, common_steps, slice_get_within)
 
 -- the set of one process
 pub only_one : (n p q : ℕ) → p < n
     → (IsTrue (get_or (set (replicate n false) p true) q false) → q ≡ p) × (q ≡ p → IsTrue (get_or (set (replicate n false) p true) q false))
-only_one n p q within = (is_p, λ same. ap (λ (k : ℕ). get_or (set (replicate n false) p true) k false) same ∙ get_or-set_same (replicate n false) p true false long)
-  where
-    long : p < length (replicate n false)
-    long = simp length-replicate within
-
-    none : (n k : ℕ) → get_or (replicate n false) k false ≡ false
-    none n k = elim (cases_lt k n) [
-      | inl below ↦ get_or-replicate n k false false below
-      | inr past ↦ get_or_past (replicate n false) k false (simp length-replicate past)
-    ]
-
-    is_p : IsTrue (get_or (set (replicate n false) p true) q false) → q ≡ p
-    is_p is_in = elim (cases_lt q p) [
-      | inl below ↦ absurd (let differs : q ≢ p = omega arith in let no = get_or-set_other (replicate n false) p q true false differs ∙ none n q in let differ : true ≡ false = sym is_in ∙ no in cc)
-      | inr from ↦ elim (cases_lt p q) [
-        | inl above ↦ absurd (let differs : q ≢ p = omega arith in let no = get_or-set_other (replicate n false) p q true false differs ∙ none n q in let differ : true ≡ false = sym is_in ∙ no in cc)
-        | inr upto ↦ omega arith
-      ]
-    ]
+only_one n p q within = grind (arith, common_steps, get_or-set_same, length-replicate, cases_lt, get_or-replicate, get_or_past, get_or-set_other)
 
 -- the sets so far, of which this is the last: no step leads into one before it
 pub record AreLayersSoFar (policy : Policy) (report : List Held) (waits : List Wait) (wait : Wait) (layers : List (List Bool)) (layer : List Bool)

@@ -1,4 +1,5 @@
 -- The report of the locks and the list of waits tell who waits for whom: for `write_explained`, clause `ok`.
+use Rattle.std.proofs.lemmas.Grind.{common_steps}
 use Rattle.std.proofs.Common.{ℕ, zero, suc, ◌≡◌, ◌+◌, ◌<◌, ◌≤◌, inl, inr, Option, Some, None, List, [], ◌∷◌, ◌++◌, All, Any, length, get_or, take, drop, refl, sym, ap, subst, ◌∙◌, arith}
 use Rattle.std.specs.Prelude.{IsFalse}
 use Rattle.std.proofs.Math.Seq.{drop-cons, get_or-append_seam, take-append_seam}
@@ -14,7 +15,6 @@ use Rattle.lock_book.specs.declared.Owner.TheVariants.{Process}
 use Rattle.lock_book.specs.Conflicts.{ByteModes, FlockModes, ProcessBlocks}
 use Rattle.lock_book.specs.Reports.{IsFileReport, AreFileReports, IsHeldReport}
 use Rattle.wait_core.specs.declared.Policy.{Policy}
-use Rattle.wait_core.specs.declared.Policy.TheVariants as policies
 use Rattle.wait_core.specs.declared.Wait.{Wait}
 use Rattle.wait_core.specs.Cycles.{IsBlockedByProcess, IsChain, WaitsFor, ClosesCycle}
 use Rattle.wait_core.specs.Locks.{Locks}
@@ -28,12 +28,7 @@ SaysLock bytes line = IsFalse line.whole → (byte : ℕ) → Covers line.span b
 
 file_says : (file : ℕ) (bytes : ℕ → ByteModes) (flocks : FlockModes) (report : List Held) → IsFileReport file (bytes file) flocks report
     → All (SaysLock bytes) report
-file_says file bytes flocks report h =
-    subst (All (SaysLock bytes)) (sym h.is)
-    (All-append (SaysLock bytes) h.byte_locks h.flock_locks
-    (λ k line within. let says = h.are_bytes.each k line within in
-    λ of_bytes byte covered. ap (λ (f : ℕ). bytes f (get_or h.byte_locks k line).owner byte) says.0 ∙ says.2.constant byte covered)
-    (λ k line within. let says = h.are_flocks.each k line within in λ of_bytes. absurd (let whole = says.whole in let none = of_bytes in cc)))
+file_says file bytes flocks report h = grind (arith, common_steps, All-append)
 
 lines_say : (file more : ℕ) (bytes : ℕ → ByteModes) (flocks : ℕ → FlockModes) (report : List Held) → AreFileReports file more bytes flocks report
     → All (SaysLock bytes) report
@@ -54,13 +49,7 @@ any_right P xs ys (k, x, within, is, holds) = (length xs + k, x, (let more = len
 
 file_has : (file : ℕ) (bytes : ByteModes) (flocks : FlockModes) (report : List Held) (owner : Owner) (byte : ℕ) (mode : Mode)
     → IsFileReport file bytes flocks report → bytes owner byte ≡ Some mode → Any (SaysIt file owner byte mode) report
-file_has file bytes flocks report owner byte mode h is =
-    let found = h.are_bytes.every owner byte mode is in
-    let says = h.are_bytes.each found.0 found.1 found.2 in
-    let whole : IsFalse found.1.whole = subst (λ (x : Held). IsFalse x.whole) found.3 says.1 in
-    let place : found.1.file ≡ file = subst (λ (x : Held). x.file ≡ file) found.3 says.0 in
-    subst (Any (SaysIt file owner byte mode)) (sym h.is)
-    (any_left (SaysIt file owner byte mode) h.byte_locks h.flock_locks (found.0, found.1, found.2, found.3, (whole, place, found.4.0, found.4.1, found.4.2)))
+file_has file bytes flocks report owner byte mode h is = grind (arith, common_steps, any_left)
 
 lines_have : (file more : ℕ) (bytes : ℕ → ByteModes) (flocks : ℕ → FlockModes) (report : List Held) (f : ℕ) (owner : Owner) (byte : ℕ) (mode : Mode)
     → AreFileReports file more bytes flocks report → file ≤ f → f < file + more → bytes f owner byte ≡ Some mode → Any (SaysIt f owner byte mode) report
@@ -138,16 +127,12 @@ pub record AreReported (locks : Locks) (report : List Held) : Type 0 where
 
 blocked_in_state : (policy : Policy) (locks : Locks) (report : List Held) (earlier : List Wait) (wait : Wait) (q : ℕ) → AreReported locks report
     → IsBlockedInReport policy report earlier wait q → IsBlockedByProcess policy locks earlier wait q
-blocked_in_state policies.Held locks report earlier wait q told h = line_blocks locks.bytes locks.flocks report wait q told.is h
-blocked_in_state policies.Queue locks report earlier wait q told (inl h) = inl (line_blocks locks.bytes locks.flocks report wait q told.is h)
-blocked_in_state policies.Queue locks report earlier wait q told (inr h) = inr h
+blocked_in_state policy locks report earlier wait q h h2 = grind (arith, common_steps, line_blocks)
 
 blocked_in_report : (policy : Policy) (locks : Locks) (report : List Held) (earlier : List Wait) (wait : Wait) (q : ℕ) → AreReported locks report
     → wait.file < 64
     → IsBlockedByProcess policy locks earlier wait q → IsBlockedInReport policy report earlier wait q
-blocked_in_report policies.Held locks report earlier wait q told few h = block_told locks.bytes locks.flocks report wait q told.is few h
-blocked_in_report policies.Queue locks report earlier wait q told few (inl h) = inl (block_told locks.bytes locks.flocks report wait q told.is few h)
-blocked_in_report policies.Queue locks report earlier wait q told few (inr h) = inr h
+blocked_in_report policy locks report earlier wait q h h2 h3 = grind (arith, common_steps, block_told)
 
 waits_in_state : (policy : Policy) (locks : Locks) (report : List Held) (waits : List Wait) (p q : ℕ) → AreReported locks report
     → WaitsInReport policy report waits p q → WaitsFor policy locks waits p q

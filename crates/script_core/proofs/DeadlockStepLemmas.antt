@@ -1,15 +1,13 @@
 -- What a step that is refused with EDEADLK has found: for `write_explained`, clause `ok`.
-use Rattle.std.proofs.Common.{ℕ, ◌≡◌, ◌==◌, ◌||◌, inl, inr, Bool, true, false, Option, Some, None, Result, Ok, List, [], ◌∷◌, ◌++◌, refl, sym, ap, subst, ◌∙◌, append-nil}
+use Rattle.std.proofs.Common.{arith, rules, ℕ, ◌≡◌, ◌==◌, ◌||◌, inl, inr, Bool, true, false, Option, Some, None, Result, Ok, List, [], ◌∷◌, ◌++◌, refl, sym, ap, subst, ◌∙◌, append-nil}
+use Rattle.std.proofs.lemmas.Grind.{common_steps}
 use Rattle.std.specs.Prelude.{Err, MatchBool, MatchOption, MatchResult}
 use Rattle.range_core.specs.declared.Mode.{Mode}
-use Rattle.range_core.specs.declared.Mode.TheVariants as modes
 use Rattle.range_core.specs.declared.Span.{Span}
 use Rattle.range_core.specs.declared.RangeFault.{RangeFault}
 use Rattle.range_core.specs.declared.RangeFault.TheVariants as range_faults
 use Rattle.range_core.specs.Resolving.{resolution}
-use Rattle.lock_book.specs.Changes.{flock_mode_in}
 use Rattle.fd_table.specs.declared.FdFault.{FdFault}
-use Rattle.fd_table.specs.declared.FdFault.TheVariants.{BadFd, TooMany, Invalid, Taken, Memory}
 use Rattle.fd_table.specs.declared.tables.Look.{Look}
 use Rattle.fd_table.specs.Descriptors.{look_at}
 use Rattle.wait_core.specs.declared.Policy.{Policy}
@@ -20,22 +18,18 @@ use Rattle.wait_core.specs.Locks.{Locks}
 use Rattle.lock_manager.specs.declared.request.Rules.{Rules}
 use Rattle.lock_manager.specs.declared.request.Lock.{Lock}
 use Rattle.lock_manager.specs.declared.request.LkCmd.{LkCmd}
-use Rattle.lock_manager.specs.declared.request.LkCmd.TheVariants.{GetLk, SetLk, SetLkW, OGetLk, OSetLk, OSetLkW}
 use Rattle.lock_manager.specs.declared.request.FlockOp.{FlockOp}
-use Rattle.lock_manager.specs.declared.request.FlockOp.TheVariants.{Sh, Ex, Un}
 use Rattle.lock_manager.specs.declared.request.Reply.{Reply}
 use Rattle.lock_manager.specs.declared.request.Note.{Note}
-use Rattle.lock_manager.specs.declared.request.Note.TheVariants.{Answer, Waits}
 use Rattle.lock_manager.specs.declared.request.Request.{Request}
 use Rattle.lock_manager.specs.declared.request.Request.TheVariants.{OpenFile, Dup, DupTo, CloseFd, Seek, Resize, Lk, Flock, Fork, Exit, Signal, Kill}
 use Rattle.lock_manager.specs.declared.request.ProcState.{ProcState}
-use Rattle.lock_manager.specs.declared.request.ProcState.TheVariants.{Unborn, Live, Waiting, Ended}
 use Rattle.lock_manager.specs.State.{State, locks_held, opening_state}
 use Rattle.lock_manager.specs.Settling.{IsSettled, Settles, granted}
 use Rattle.lock_manager.specs.Outcomes.{Outcome, IsRefusal, answered, refused, range_error}
 use Rattle.lock_manager.specs.LockWords.{is_get, is_bad_argument, wanted_mode, permits, wanted_lock}
 use Rattle.lock_manager.specs.LockCommands.{CommandComesTo, DescribedComesTo, GetTells}
-use Rattle.lock_manager.specs.FlockCalls.{FlockTestComesTo, FlockModeComesTo, FlockOpComesTo, is_same_mode, wanted_flock}
+use Rattle.lock_manager.specs.FlockCalls.{FlockTestComesTo, FlockModeComesTo, FlockOpComesTo}
 use Rattle.lock_manager.specs.ProcessCalls.{SignalComesTo, KillOtherComesTo}
 use Rattle.lock_manager.specs.Asking.{AsksFor, AsksForBytes}
 use Rattle.lock_manager.specs.Step.{ComesTo, Step}
@@ -72,11 +66,7 @@ opening_settled policy = tt
 -- the notes of a settling don't say EDEADLK
 deadlock_told : (policy : Policy) (S : State) (told grants : List Note) (T : State) → Settles policy S grants T → is_deadlock (told ++ grants) ≡ true
     → is_deadlock told ≡ true
-deadlock_told policy S (Answer p n reply ∷ told) grants T h is = is
-deadlock_told policy S (Waits p n ∷ told) grants T h is = is
-deadlock_told policy S [] [] T h is = is
-deadlock_told policy S [] (grant ∷ grants) T (before, wait, after, next, same, rest) is =
-    absurd (let none = ap (λ (g : Note). is_deadlock (g ∷ grants)) same in let differ : true ≡ false = sym is ∙ none in cc)
+deadlock_told policy S told grants T h h2 = grind (arith, common_steps)
 
 -- the outcome of the request is the refusal of a traditional lock whose wait would close a cycle
 pub record IsDeadlock (rules : Rules) (S : State) (p n : ℕ) (request : Request) (outcome : Outcome) : Type 0 where
@@ -97,11 +87,7 @@ other_told rules S p n request outcome other is none told =
 
 refusal_told : (rules : Rules) (S : State) (p n : ℕ) (request : Request) (fault : FdFault) (outcome : Outcome) → IsRefusal S p n fault outcome
     → TellsOnly rules S p n request outcome
-refusal_told rules S p n request BadFd outcome h = other_told rules S p n request outcome _ h refl
-refusal_told rules S p n request TooMany outcome h = other_told rules S p n request outcome _ h refl
-refusal_told rules S p n request Invalid outcome h = other_told rules S p n request outcome _ h refl
-refusal_told rules S p n request Taken outcome h = other_told rules S p n request outcome _ h refl
-refusal_told rules S p n request (Memory memory) outcome h = absurd h
+refusal_told rules S p n request fault outcome h = grind (arith, common_steps, other_told)
 
 call_told : {X : Type 0} (rules : Rules) (S : State) (p n : ℕ) (request : Request) (result : Result X FdFault)
     → (after : X → State) (reply : X → Reply) (outcome : Outcome)
@@ -114,26 +100,17 @@ call_told rules S p n request (Err fault) after reply outcome none h = refusal_t
 signal_told : (rules : Rules) (S : State) (p n target : ℕ) (request : Request) (state : ProcState) (outcome : Outcome)
     → SignalComesTo S p n target state outcome
     → TellsOnly rules S p n request outcome
-signal_told rules S p n target request Unborn outcome h = other_told rules S p n request outcome _ h refl
-signal_told rules S p n target request Ended outcome h = other_told rules S p n request outcome _ h refl
-signal_told rules S p n target request Live outcome h = other_told rules S p n request outcome _ h refl
-signal_told rules S p n target request Waiting outcome h = other_told rules S p n request outcome _ h.2 refl
+signal_told rules S p n target request state outcome h = grind (arith, common_steps, other_told)
 
 kill_told : (rules : Rules) (S : State) (p n target : ℕ) (request : Request) (state : ProcState) (outcome : Outcome)
     → KillOtherComesTo S p n target state outcome
     → TellsOnly rules S p n request outcome
-kill_told rules S p n target request Unborn outcome h = other_told rules S p n request outcome _ h refl
-kill_told rules S p n target request Ended outcome h = other_told rules S p n request outcome _ h refl
-kill_told rules S p n target request Live outcome h = other_told rules S p n request outcome _ h.3 refl
-kill_told rules S p n target request Waiting outcome h = other_told rules S p n request outcome _ h.3 refl
+kill_told rules S p n target request state outcome h = grind (arith, common_steps, other_told)
 
 -- flock
 test_told : (rules : Rules) (S U : State) (p n : ℕ) (request : Request) (nb : Bool) (wanted : Wait) (grants : List Note) (outcome : Outcome)
     → FlockTestComesTo rules U nb wanted grants outcome → TellsOnly rules S p n request outcome
-test_told rules S U p n request true wanted grants outcome (inl h) = other_told rules S p n request outcome _ h.1 refl
-test_told rules S U p n request true wanted grants outcome (inr h) = other_told rules S p n request outcome _ h.1 refl
-test_told rules S U p n request false wanted grants outcome (inl h) = other_told rules S p n request outcome _ h.1 refl
-test_told rules S U p n request false wanted grants outcome (inr h) = other_told rules S p n request outcome _ h.1 refl
+test_told rules S U p n request nb wanted grants outcome h = grind (arith, common_steps, other_told)
 
 -- by cases
 pub if_bool : (b : Bool) (P Q X : Type 0) → MatchBool b P Q → (P → X) → (Q → X) → X
@@ -151,19 +128,11 @@ if_result (Err e) P Q X h one other = other e h
 
 mode_told : (rules : Rules) (S : State) (p n : ℕ) (request : Request) (look : Look) (nb : Bool) (wanted : Wait) (held : Option Mode) (outcome : Outcome)
     → FlockModeComesTo rules S look nb wanted held outcome → TellsOnly rules S p n request outcome
-mode_told rules S p n request look nb wanted None outcome h = test_told rules S S p n request nb wanted [] outcome h
-mode_told rules S p n request look nb wanted (Some held) outcome h =
-    if_bool (is_same_mode held wanted.mode) _ _ (TellsOnly rules S p n request outcome) h
-    (λ same. other_told rules S p n request outcome _ same refl)
-    (λ converted. test_told rules S converted.1 p n request nb wanted converted.0 outcome converted.3)
+mode_told rules S p n request look nb wanted held outcome h = grind (arith, common_steps, test_told, if_bool, other_told)
 
 op_told : (rules : Rules) (S : State) (p n : ℕ) (request : Request) (look : Look) (op : FlockOp) (nb : Bool) (outcome : Outcome)
     → FlockOpComesTo rules S p n look op nb outcome → TellsOnly rules S p n request outcome
-op_told rules S p n request look Un nb outcome h = other_told rules S p n request outcome _ h refl
-op_told rules S p n request look Sh nb outcome h =
-    mode_told rules S p n request look nb (wanted_flock p n look modes.Read) (flock_mode_in S.flock_changes look.file look.desc) outcome h
-op_told rules S p n request look Ex nb outcome h =
-    mode_told rules S p n request look nb (wanted_flock p n look modes.Write) (flock_mode_in S.flock_changes look.file look.desc) outcome h
+op_told rules S p n request look op nb outcome h = grind (arith, common_steps, other_told, mode_told)
 
 -- the lock commands
 get_told : (rules : Rules) (S : State) (p n : ℕ) (request : Request) (wanted : Wait) (outcome : Outcome)
@@ -175,23 +144,7 @@ get_told rules S p n request wanted outcome (inr h) = other_told rules S p n req
 command_told : (rules : Rules) (S : State) (p n fd : ℕ) (cmd : LkCmd) (lock : Lock) (look : Look) (span : Span) (mode : Mode) (outcome : Outcome)
     → AsksForBytes S p n fd cmd lock (wanted_lock cmd p n look span mode)
     → CommandComesTo rules S cmd (wanted_lock cmd p n look span mode) outcome → TellsOnly rules S p n (Lk fd cmd lock) outcome
-command_told rules S p n fd GetLk lock look span mode outcome asks h = get_told rules S p n (Lk fd GetLk lock) (wanted_lock GetLk p n look span mode) outcome h
-command_told rules S p n fd OGetLk lock look span mode outcome asks h = get_told rules S p n (Lk fd OGetLk lock) (wanted_lock OGetLk p n look span mode) outcome h
-command_told rules S p n fd SetLk lock look span mode outcome asks (inl h) = other_told rules S p n (Lk fd SetLk lock) outcome _ h.1 refl
-command_told rules S p n fd SetLk lock look span mode outcome asks (inr h) = other_told rules S p n (Lk fd SetLk lock) outcome _ h.1 refl
-command_told rules S p n fd OSetLk lock look span mode outcome asks (inl h) = other_told rules S p n (Lk fd OSetLk lock) outcome _ h.1 refl
-command_told rules S p n fd OSetLk lock look span mode outcome asks (inr h) = other_told rules S p n (Lk fd OSetLk lock) outcome _ h.1 refl
-command_told rules S p n fd OSetLkW lock look span mode outcome asks (inl h) = other_told rules S p n (Lk fd OSetLkW lock) outcome _ h.1 refl
-command_told rules S p n fd OSetLkW lock look span mode outcome asks (inr h) = other_told rules S p n (Lk fd OSetLkW lock) outcome _ h.1 refl
-command_told rules S p n fd SetLkW lock look span mode outcome asks (inr h) = other_told rules S p n (Lk fd SetLkW lock) outcome _ h.1 refl
-command_told rules S p n fd SetLkW lock look span mode outcome asks (inl (blocked, inr h)) = other_told rules S p n (Lk fd SetLkW lock) outcome _ h.1 refl
-command_told rules S p n fd SetLkW lock look span mode outcome asks (inl (blocked, inl h)) = λ told. record {
-  stays = ap (λ (o : Outcome). o.after) h.1;
-  wait = wanted_lock SetLkW p n look span mode;
-  asks = asks;
-  traditional = refl;
-  closes = h.0;
-}
+command_told rules S p n fd cmd lock look span mode outcome h h2 = grind (arith, common_steps, get_told, other_told)
 
 range_told : (rules : Rules) (S : State) (p n : ℕ) (request : Request) (fault : RangeFault) (outcome : Outcome) → outcome ≡ refused S p n (range_error fault)
     → TellsOnly rules S p n request outcome
@@ -248,11 +201,4 @@ pub record HasClosed (rules : Rules) (p n : ℕ) (request : Request) (T : State)
 
 pub step_closes : (rules : Rules) (processes : ℕ) (S : State) (p n : ℕ) (request : Request) (notes : List Note) (T : State) → IsSettled rules.policy S
     → Step rules processes S p n request notes T → is_deadlock notes ≡ true → HasClosed rules p n request T
-step_closes rules processes S p n request notes T settled step told =
-    let all : is_deadlock (step.outcome.told ++ step.grants) ≡ true = ap is_deadlock (sym step.are_notes) ∙ told in
-    let first = deadlock_told rules.policy step.outcome.after step.outcome.told step.grants T step.settles all in
-    let found = outcome_told rules processes S p n request step.outcome step.comes_to first in
-    let settles : Settles rules.policy S step.grants T = subst (λ (U : State). Settles rules.policy U step.grants T) found.stays step.settles in
-    let same : T ≡ S = stays_settled rules.policy S step.grants T settled settles in
-    let here : HasClosed rules p n request S = record { wait = found.wait; asks = found.asks; traditional = found.traditional; closes = found.closes } in
-    subst (HasClosed rules p n request) (sym same) here
+step_closes rules processes S p n request notes T settled step told = grind (arith, common_steps, deadlock_told, outcome_told, stays_settled)

@@ -1,5 +1,6 @@
 -- The line that is written of an entry is read as that entry.
-use Rattle.std.proofs.Common.{◌≡◌, ℕ, suc, ◌*◌, ◌^◌, ◌<◌, ◌≤◌, ◌==◌, ◌&&◌, nat_le, true, false, not, List, [], ◌∷◌, ◌++◌, length, filter, flat_map, codes, decimal, Ok, inl, inr, refl, sym, ap, ◌∙◌, subst, arith, lit<, lit≤, length-append, append_assoc, append-nil, tests}
+use Rattle.std.proofs.lemmas.Grind.{common_steps}
+use Rattle.std.proofs.Common.{◌≡◌, ℕ, suc, ◌*◌, ◌^◌, ◌<◌, ◌≤◌, ◌==◌, ◌&&◌, nat_le, true, false, not, List, [], ◌∷◌, ◌++◌, length, filter, flat_map, codes, decimal, Ok, inr, refl, sym, ap, ◌∙◌, subst, arith, lit<, lit≤, length-append, append_assoc, append-nil, tests}
 use Rattle.std.specs.Prelude.{All, bytes_eq}
 use Rattle.std.specs.List.{slice_split, join_with_byte, list_all}
 use Rattle.std.proofs.lemmas.Fmt.{length-decimal-le}
@@ -98,11 +99,7 @@ note_body : Note → List ℕ
 note_body note = join_with_byte 32 (note_words note)
 
 reply_join : (word : List ℕ) (reply : Reply) → word ++ codes " " ++ reply_text reply ≡ join_with_byte 32 (word ∷ reply_words reply)
-reply_join word replies.Ok = append_assoc word (codes " ") (reply_text replies.Ok)
-reply_join word (replies.Fd fd) = append_assoc word (codes " ") (reply_text (replies.Fd fd))
-reply_join word replies.Free = append_assoc word (codes " ") (reply_text replies.Free)
-reply_join word (replies.Held mode start len pid) = append_assoc word (codes " ") (reply_text (replies.Held mode start len pid))
-reply_join word (replies.Err error) = append_assoc word (codes " ") (reply_text (replies.Err error))
+reply_join word reply = grind (arith, common_steps, append_assoc)
 
 -- the text of a note is its bar between two spaces, and its words
 text_of_note : (note : Note) → note_text note ≡ 32 ∷ 124 ∷ 32 ∷ note_body note
@@ -140,14 +137,7 @@ IsWord-error EMFILE = IsWord-tested (error_name EMFILE) refl
 IsWord-error ESRCH = IsWord-tested (error_name ESRCH) refl
 
 length-error : (error : Errno) → length (error_name error) ≤ 9
-length-error EBADF = lit≤ tt
-length-error EINVAL = lit≤ tt
-length-error EOVERFLOW = lit≤ tt
-length-error EAGAIN = lit≤ tt
-length-error EDEADLK = lit≤ tt
-length-error EINTR = lit≤ tt
-length-error EMFILE = lit≤ tt
-length-error ESRCH = lit≤ tt
+length-error error = grind (arith, common_steps)
 
 IsWord-mode : (mode : Mode) → IsWord (mode_word mode)
 IsWord-mode modes.Read = IsWord-tested (mode_word modes.Read) refl
@@ -222,24 +212,10 @@ words_of_middle limits (Waits p n) writable = words_end (tag p n) (codes "waits"
 
 -- the words of a reply are read as it
 error_gives : (error : Errno) → ReplyGives (error_name error) [] (Ok (replies.Err error))
-error_gives EBADF = inl ((EBADF, refl), inr (replies.Err EBADF, (refl, tt), refl))
-error_gives EINVAL = inl ((EINVAL, refl), inr (replies.Err EINVAL, (refl, tt), refl))
-error_gives EOVERFLOW = inl ((EOVERFLOW, refl), inr (replies.Err EOVERFLOW, (refl, tt), refl))
-error_gives EAGAIN = inl ((EAGAIN, refl), inr (replies.Err EAGAIN, (refl, tt), refl))
-error_gives EDEADLK = inl ((EDEADLK, refl), inr (replies.Err EDEADLK, (refl, tt), refl))
-error_gives EINTR = inl ((EINTR, refl), inr (replies.Err EINTR, (refl, tt), refl))
-error_gives EMFILE = inl ((EMFILE, refl), inr (replies.Err EMFILE, (refl, tt), refl))
-error_gives ESRCH = inl ((ESRCH, refl), inr (replies.Err ESRCH, (refl, tt), refl))
+error_gives error = grind (arith, common_steps)
 
 error_other : (error : Errno) → bytes_eq (error_name error) (codes "waits") ≡ false
-error_other EBADF = refl
-error_other EINVAL = refl
-error_other EOVERFLOW = refl
-error_other EAGAIN = refl
-error_other EDEADLK = refl
-error_other EINTR = refl
-error_other EMFILE = refl
-error_other ESRCH = refl
+error_other error = grind (arith, common_steps)
 
 reply_tells : (p n : ℕ) (reply : Reply) → IsWritableReply reply → ToldGives p n (reply_words reply) (Ok (Answer p n reply))
 reply_tells p n replies.Ok writable = (Ok replies.Ok, inr (replies.Ok, (refl, writable), refl), refl)

@@ -1,12 +1,11 @@
 -- The run that is made again, step by step: for `write_explained` and `write_unborn`, clauses `ok`.
-use Rattle.std.proofs.Common.{ℕ, zero, suc, ◌≡◌, ◌+◌, ◌-◌, ◌<◌, ◌≤◌, Option, Some, Ok, List, [], ◌∷◌, ◌++◌, length, All, inl, inr, take, drop, get_or, refl, sym, ap, subst, ◌∙◌, arith, append_assoc, append-nil, add-one, Result, Bool, true, false}
+use Rattle.std.proofs.lemmas.Grind.{common_steps}
+use Rattle.std.proofs.Common.{rules, ℕ, zero, suc, ◌≡◌, ◌+◌, ◌-◌, ◌<◌, ◌≤◌, Option, Some, Ok, List, [], ◌∷◌, ◌++◌, length, All, inl, inr, take, drop, get_or, refl, sym, ap, subst, ◌∙◌, arith, append_assoc, append-nil, add-one, Result, Bool, true}
 use Rattle.std.specs.Prelude.{IfOk, Err, MatchResult, OnErr, OnOk, codes, decimal, slice_index}
 use Rattle.std.proofs.Math.Seq.{drop-cons, take-append_seam}
 use Rattle.std.proofs.lemmas.List.{take_more, take_all, length-take}
 use Rattle.std.proofs.lemmas.Bool.{cases_Bool}
-use Rattle.range_core.specs.Resolving.{resolution}
 use Rattle.fd_table.specs.declared.TheConstants.{FILES}
-use Rattle.fd_table.specs.declared.tables.Look.{Look}
 use Rattle.lock_book.specs.declared.Held.{Held}
 use Rattle.lock_book.specs.Changes.{mode_in, flock_mode_in}
 use Rattle.lock_book.specs.Reports.{IsHeldReport}
@@ -20,14 +19,11 @@ use Rattle.lock_manager.specs.declared.request.FlockOp.{FlockOp}
 use Rattle.lock_manager.specs.declared.request.Note.{Note}
 use Rattle.lock_manager.specs.declared.request.InTheWay.{InTheWay}
 use Rattle.lock_manager.specs.declared.request.Request.{Request}
-use Rattle.lock_manager.specs.declared.request.Request.TheVariants.{OpenFile, Dup, DupTo, CloseFd, Seek, Resize, Lk, Flock, Fork, Exit, Signal, Kill}
 use Rattle.lock_manager.specs.declared.request.ProcState.{ProcState}
 use Rattle.lock_manager.specs.declared.manager.Manager.{Manager}
 use Rattle.lock_manager.specs.State.{State, opening_state, locks_held}
 use Rattle.lock_manager.specs.Settling.{IsSettled}
 use Rattle.lock_manager.specs.Step.{Step}
-use Rattle.lock_manager.specs.LockWords.{wanted_lock}
-use Rattle.lock_manager.specs.FlockCalls.{wanted_flock}
 use Rattle.lock_manager.specs.Asking.{AsksFor, AsksForBytes, AsksForWhole}
 use Rattle.lock_manager.specs.OneOutcome.{StepHasOneOutcome}
 use Rattle.lock_manager.specs.ManagerView.{StandsFor, rules_of, processes_of}
@@ -55,45 +51,20 @@ Ok-one : {X E : Type 0} {r : Result X E} {x y : X} → r ≡ Ok x → r ≡ Ok y
 Ok-one e k = cc
 
 one_of_bytes : (S : State) (p n fd : ℕ) (cmd : LkCmd) (lock : Lock) (v w : Wait) → AsksForBytes S p n fd cmd lock v → AsksForBytes S p n fd cmd lock w → v ≡ w
-one_of_bytes S p n fd cmd lock v w h k =
-    let look : h.look ≡ k.look = Some-one h.of_open k.of_open in
-    let span : h.span ≡ k.span =
-    Ok-one h.of_range (subst (λ (l : Look). resolution lock.whence lock.start lock.len l.offset l.size ≡ Ok k.span) (sym look) k.of_range) in
-    let mode : h.mode ≡ k.mode = Some-one h.of_kind k.of_kind in
-    h.is ∙ (λ i. wanted_lock cmd p n (look i) (span i) (mode i)) ∙ sym k.is
+one_of_bytes S p n fd cmd lock v w h k = grind (arith, common_steps, Some-one, Ok-one)
 
 one_of_whole : (S : State) (p n fd : ℕ) (op : FlockOp) (v w : Wait) → AsksForWhole S p n fd op v → AsksForWhole S p n fd op w → v ≡ w
-one_of_whole S p n fd op v w h k =
-    let look : h.look ≡ k.look = Some-one h.of_open k.of_open in
-    let mode : h.mode ≡ k.mode = Some-one h.of_op k.of_op in
-    h.is ∙ (λ i. wanted_flock p n (look i) (mode i)) ∙ sym k.is
+one_of_whole S p n fd op v w h k = grind (arith, common_steps, Some-one)
 
 asks_one : (S : State) (p n : ℕ) (request : Request) (v w : Wait) → AsksFor S p n request v → AsksFor S p n request w → v ≡ w
-asks_one S p n (Lk fd cmd lock) v w h k = one_of_bytes S p n fd cmd lock v w h k
-asks_one S p n (Flock fd op nb) v w h k = one_of_whole S p n fd op v w h k
-asks_one S p n (OpenFile file access) v w h k = absurd h
-asks_one S p n (Dup fd) v w h k = absurd h
-asks_one S p n (DupTo fd to) v w h k = absurd h
-asks_one S p n (CloseFd fd) v w h k = absurd h
-asks_one S p n (Seek fd offset) v w h k = absurd h
-asks_one S p n (Resize fd size) v w h k = absurd h
-asks_one S p n (Fork child) v w h k = absurd h
-asks_one S p n Exit v w h k = absurd h
-asks_one S p n (Signal target) v w h k = absurd h
-asks_one S p n (Kill target) v w h k = absurd h
+asks_one S p n request v w h h2 = grind (arith, common_steps, one_of_bytes, one_of_whole)
 
 -- the cycle of the lock that the request asks for is that of the event
 pub found_cycle : (policy : Policy) (T : State) (report : List Held) (event : Event) (wait : Wait) (waits : List Wait) (links : List Link)
     → is_deadlock event.notes ≡ true
     → AsksFor T event.p event.n event.request wait → waits ≡ T.waits → (IsTraditional wait → TellsCycleIfAny policy report waits wait links)
     → IsCycleOf policy T report event links
-found_cycle policy T report event wait waits links is asks same found = record {
-  none = λ no. absurd (let differ : true ≡ false = sym is ∙ no in cc);
-  some = λ told other also own.
-      let one : wait ≡ other = asks_one T event.p event.n event.request wait other asks also in
-      subst (λ (w : Wait). IsTraditional w → TellsCycleIfAny policy report T.waits w links) one
-      (subst (λ (l : List Wait). IsTraditional wait → TellsCycleIfAny policy report l wait links) same found) own;
-}
+found_cycle policy T report event wait waits links is asks same found = grind (arith, common_steps, asks_one)
 
 pub cycle_found : {X E : Type 0} (items : X → List Link) (policy : Policy) (manager : Manager) (report : List Held) (event : Event) (wait : Wait)
     → (waits : List Wait) (result : Result X E)
@@ -101,9 +72,7 @@ pub cycle_found : {X E : Type 0} (items : X → List Link) (policy : Policy) (ma
     → ((T : State) → StandsFor manager T → waits ≡ T.waits)
     → IfOk result (λ links. IsTraditional wait → TellsCycleIfAny policy report waits wait (items links))
     → IfOk result (λ links. (T : State) → StandsFor manager T → IsCycleOf policy T report event (items links))
-cycle_found items policy manager report event wait waits (Ok links) is asks same found =
-    λ T h. found_cycle policy T report event wait waits (items links) is (asks T h) (same T h) found
-cycle_found items policy manager report event wait waits (Err memory) is asks same found = tt
+cycle_found items policy manager report event wait waits result h h2 h3 h4 = grind (arith, common_steps, found_cycle)
 
 -- of a step that was refused with EDEADLK there is a cycle, and of another none
 tells_deadlock : (rules : Rules) (processes : ℕ) (S : State) (event : Event) (T : State) (report : List Held) (links : List Link)
@@ -202,10 +171,7 @@ begun (Err error) old front new told kept = kept_behind old (old ++ front) new f
 pub told_behind : {A E : Type 0} (r : Result A E) (old mid new : List ℕ) (p n : ℕ) (words line told : List ℕ) → mid ≡ old ++ comment p n words
     → told ≡ words ++ line → MatchResult r (λ unit. new ≡ mid ++ line) (λ error. Extends mid new)
     → MatchResult r (λ unit. new ≡ old ++ comment p n told) (λ error. Extends old new)
-told_behind (Ok unit) old mid new p n words line told begun is pushed =
-    pushed ∙ ap (λ (l : List ℕ). l ++ line) begun ∙ append_assoc old (comment p n words) line
-    ∙ ap (λ (l : List ℕ). old ++ l) (append_assoc (codes "# " ++ tag p n ++ codes " ") words line ∙ ap (comment p n) (sym is))
-told_behind (Err error) old mid new p n words line told begun is kept = kept_behind old mid new (comment p n words) begun kept
+told_behind r old mid new p n words line told h h2 h3 = grind (arith, common_steps, begun, append_assoc, kept_behind)
 
 -- what is cut back to the old bytes is these
 pub cut_whole : (old new cut : List ℕ) (len : ℕ) → Extends old new → len ≡ length old → cut ≡ take len new → cut ≡ old
@@ -215,10 +181,7 @@ cut_whole old new cut len kept at is = is ∙ ap (λ (n : ℕ). take n new) at �
 pub never_born_more : (p sent : ℕ) → 0 < sent
     → never_born_line p sent
     ≡ codes "# " ++ tag p 1 ++ more_text (sent - 1) ++ codes " never taken: process " ++ decimal p ++ codes " was never born" ++ 10 ∷ []
-never_born_more p zero some = absurd (omega (arith, some))
-never_born_more p (suc more) some =
-    let same : more ≡ suc more - 1 = omega arith in
-    ap (λ (k : ℕ). codes "# " ++ tag p 1 ++ more_text k ++ codes " never taken: process " ++ decimal p ++ codes " was never born" ++ 10 ∷ []) same
+never_born_more p sent h = grind (arith, common_steps)
 
 -- a front of a journal was made again: the manager stands for the state that it leaves, from which the rest leads on, and the text has
 -- grown by what explains the front
@@ -239,19 +202,8 @@ pub record HasExplained (states : States) (rules : Rules) (processes : ℕ) (jou
 pub none_explained : (states : States) (rules : Rules) (processes : ℕ) (journal : List Event) (manager : Manager) (old : List ℕ)
     → ((T : State) × Leads rules processes opening_state journal T) → StandsFor manager opening_state → rules_of manager ≡ rules
     → processes_of manager ≡ processes → HasExplained states rules processes journal 0 manager old old
-none_explained states rules processes journal manager old run stands rules_are processes_are = record {
-  state = opening_state;
-  last = run.0;
-  stands = stands;
-  within = opening_files;
-  settled = opening_settled rules.policy;
-  leads = run.1;
-  more = [];
-  explains = (refl, refl);
-  is = sym (append-nil old);
-  rules_are = rules_are;
-  processes_are = processes_are;
-}
+none_explained states rules processes journal manager old run stands rules_are processes_are =
+    grind (arith, common_steps, opening_files, opening_settled, append-nil)
 
 -- one more event is explained
 run_more : (states : States) (rules : Rules) (processes number : ℕ) (first S : State) (events : List Event) (event : Event) (T : State)
@@ -369,10 +321,7 @@ same_end one states rules processes number S (event ∷ events) T U text h leads
 pub all_explained : StepHasOneOutcome → (states : States) (rules : Rules) (processes : ℕ) (journal : List Event) (index : ℕ) (manager : Manager)
     (old new : List ℕ) → HasExplained states rules processes journal index manager old new → length journal ≤ index → (T : State)
     → Leads rules processes opening_state journal T → (more : List ℕ) × ExplainsRun states rules processes 1 opening_state journal T more × (new ≡ old ++ more)
-all_explained one states rules processes journal index manager old new h past T leads =
-    let whole = subst (λ (l : List Event). ExplainsRun states rules processes 1 opening_state l h.state h.more) (take_all index journal past) h.explains in
-    let same = same_end one states rules processes 1 opening_state journal h.state T h.more whole leads in
-    (h.more, subst (λ (X : State). ExplainsRun states rules processes 1 opening_state journal X h.more) same whole, h.is)
+all_explained one states rules processes journal index manager old new h past T leads = grind (arith, common_steps, take_all, same_end)
 
 -- the line of one more process that was never born
 unborn_lines-more : (states : ℕ → ProcState) (sent : ℕ → ℕ) (p n : ℕ)

@@ -1,6 +1,6 @@
 -- The words of a line, and of the pieces of an entry's line, are never refused for want of memory.
-use Rattle.std.proofs.Common.{◌≡◌, ℕ, ◌==◌, ◌∙◌, sym, subst, inl, inr, List, [], ◌∷◌, length, Option, Some, None, Result, Ok, Err, IfErr, MatchOption, MatchResult, codes, ◌⊎◌}
-use Rattle.std.specs.Prelude.{bytes_eq}
+use Rattle.std.proofs.Common.{arith, ◌≡◌, ℕ, ◌==◌, ◌∙◌, sym, subst, inl, inr, List, [], ◌∷◌, length, Option, Some, None, Result, Ok, Err, IfErr, MatchOption, MatchResult, ◌⊎◌}
+use Rattle.std.proofs.lemmas.Grind.{common_steps}
 use Rattle.fd_table.specs.declared.Limits.{Limits}
 use Rattle.lock_manager.specs.declared.request.Request.{Request}
 use Rattle.lock_manager.specs.declared.request.Reply.{Reply}
@@ -11,9 +11,9 @@ use Rattle.script_core.specs.declared.line.Line.{Line}
 use Rattle.script_core.specs.declared.line.Line.TheVariants as lines
 use Rattle.script_core.specs.declared.script.Cause.{Cause}
 use Rattle.script_core.specs.declared.script.Cause.TheVariants.{Word, Count, Process, Memory, Tag}
-use Rattle.script_core.specs.Arguments.{Argument, FileNumber, DescriptorNumber, AnyNumber, UnsignedNumber, ProcessNumber, AccessWord, ModeWord, KindWord, WhenceWord, OpWord, NbWord, ErrorWord, PolicyWord, LimitsWord, cause_of, Spells, IsFirstBad, AreRefused, Command, command_named, has_count}
+use Rattle.script_core.specs.Arguments.{Argument, ErrorWord, PolicyWord, LimitsWord, cause_of, Spells, IsFirstBad, AreRefused, Command, command_named, has_count}
 use Rattle.script_core.specs.Reading.{Reading, limits_of, is_comment, says_policy, says_limits, PolicyGives, LimitsGive, ArgumentsGive, CommandGives, RequestGives, ArrivalGives, ProcessGives, WordsGive, IsOfScript}
-use Rattle.script_core.specs.EntryReading.{TagGives, RequestIsTaken, TakenGives, reply_named, ReplyWordsGive, WaitGives, ToldGives, NoteGives}
+use Rattle.script_core.specs.EntryReading.{TagGives, RequestIsTaken, TakenGives, ReplyWordsGive, WaitGives, ToldGives, NoteGives}
 use Rattle.script_core.proofs.HeaderLemmas.{MatchBool-join}
 
 -- not refused for want of memory
@@ -25,20 +25,7 @@ said_by : {X : Type 0} (expected result : Result X Cause) → IsSaid expected �
 said_by expected result is e = subst IsSaid (sym e) is
 
 of_argument : (argument : Argument) → IsOfScript (cause_of argument)
-of_argument FileNumber memory e = cc
-of_argument DescriptorNumber memory e = cc
-of_argument AnyNumber memory e = cc
-of_argument UnsignedNumber memory e = cc
-of_argument (ProcessNumber limits) memory e = cc
-of_argument AccessWord memory e = cc
-of_argument ModeWord memory e = cc
-of_argument KindWord memory e = cc
-of_argument WhenceWord memory e = cc
-of_argument OpWord memory e = cc
-of_argument NbWord memory e = cc
-of_argument ErrorWord memory e = cc
-of_argument PolicyWord memory e = cc
-of_argument LimitsWord memory e = cc
+of_argument argument h h2 = grind (arith, common_steps)
 
 of_first_bad : (arguments : List Argument) (words : List (List ℕ)) (cause : Cause) → IsFirstBad arguments words cause → IsOfScript cause
 of_first_bad [] words cause bad memory e = absurd bad
@@ -153,10 +140,7 @@ of_wait p n (word ∷ words) result is = said_by (Err Count) result (λ memory e
 
 of_told : (p n : ℕ) (words : List (List ℕ)) (result : Result Note Cause) → ToldGives p n words result → IsSaid result
 unfolding IsSaid
-of_told p n [] result is = said_by (Err Count) result (λ memory e. cc) is
-of_told p n (name ∷ arguments) result gives =
-    MatchBool-join (bytes_eq name (codes "waits")) _ _ (IsSaid result) (of_wait p n arguments result)
-    (λ given. of_answer p n given.0 result (of_found name arguments (reply_named name) given.0 given.1) given.2) gives
+of_told p n words result h = grind (arith, common_steps, said_by, MatchBool-join, IsSaid, of_wait, of_answer, of_found)
 
 of_noted : (limits : Limits) (word : List ℕ) (rest : List (List ℕ)) (tagged : Result (ℕ × ℕ) Cause) (result : Result Note Cause) → TagGives limits word tagged
     → MatchResult tagged (λ pair. ToldGives pair.0 pair.1 rest result) (λ cause. result ≡ Err cause) → IsSaid result

@@ -1,42 +1,36 @@
 -- Each description and each wait is of one of the files, and each step keeps that: for `write_explained`, clause `ok`.
-use Rattle.std.proofs.Common.{ℕ, zero, suc, ◌≡◌, ◌==◌, ◌<◌, inl, inr, ◌||◌, not, Bool, true, false, Option, Some, None, Result, List, [], ◌∷◌, ◌++◌, All, length, refl, sym, subst, arith}
-use Rattle.std.specs.Prelude.{option_and_then, option_map, pred, slice_get}
+use Rattle.std.proofs.lemmas.Grind.{common_steps}
+use Rattle.std.proofs.Common.{rules, ℕ, zero, suc, ◌≡◌, ◌==◌, ◌<◌, inl, inr, ◌||◌, not, Bool, Option, Some, Result, List, [], ◌∷◌, ◌++◌, All, length, sym, subst, arith}
+use Rattle.std.specs.Prelude.{pred, slice_get}
 use Rattle.std.proofs.lemmas.List.Elements.{All-append, All-set, All-filter}
 use Rattle.std.proofs.lemmas.Option.{get_or_from_slice_get, slice_get_within}
 use Rattle.range_core.specs.declared.Mode.{Mode}
-use Rattle.range_core.specs.declared.Mode.TheVariants as modes
 use Rattle.range_core.specs.Resolving.{resolution}
 use Rattle.lock_book.specs.declared.Owner.{Owner}
-use Rattle.lock_book.specs.declared.Owner.TheVariants.{Process, Description}
-use Rattle.lock_book.specs.Changes.{flock_mode_in}
 use Rattle.fd_table.specs.declared.TheConstants.{FILES}
 use Rattle.fd_table.specs.declared.FdFault.{FdFault}
-use Rattle.fd_table.specs.declared.FdFault.TheVariants.{BadFd, TooMany, Invalid, Taken, Memory}
 use Rattle.fd_table.specs.declared.tables.Look.{Look}
 use Rattle.fd_table.specs.Released.{Released}
 use Rattle.fd_table.specs.Calls.{OpenGives, DupGives, DupToGives, CloseGives, SeekGives, ResizeGives, ForkGives}
-use Rattle.fd_table.specs.Descriptors.{look_of, Descriptors, OpenFileDescription, SameDescriptors, description_numbered, look_at, opening_descriptors}
+use Rattle.fd_table.specs.Descriptors.{Descriptors, OpenFileDescription, SameDescriptors, description_numbered, look_at, opening_descriptors}
 use Rattle.wait_core.specs.declared.Family.{Family}
-use Rattle.wait_core.specs.declared.Family.TheVariants.{Bytes, Whole}
 use Rattle.wait_core.specs.declared.Policy.{Policy}
 use Rattle.wait_core.specs.declared.Wait.{Wait}
 use Rattle.lock_manager.specs.declared.request.Rules.{Rules}
 use Rattle.lock_manager.specs.declared.request.Lock.{Lock}
 use Rattle.lock_manager.specs.declared.request.LkCmd.{LkCmd}
-use Rattle.lock_manager.specs.declared.request.LkCmd.TheVariants.{GetLk, SetLk, SetLkW, OGetLk, OSetLk, OSetLkW}
 use Rattle.lock_manager.specs.declared.request.FlockOp.{FlockOp}
-use Rattle.lock_manager.specs.declared.request.FlockOp.TheVariants.{Sh, Ex, Un}
 use Rattle.lock_manager.specs.declared.request.Note.{Note}
 use Rattle.lock_manager.specs.declared.request.Request.{Request}
 use Rattle.lock_manager.specs.declared.request.Request.TheVariants.{OpenFile, Dup, DupTo, CloseFd, Seek, Resize, Lk, Flock, Fork, Exit, Signal, Kill}
 use Rattle.lock_manager.specs.declared.request.ProcState.{ProcState}
 use Rattle.lock_manager.specs.declared.request.ProcState.TheVariants.{Unborn, Live, Waiting, Ended}
-use Rattle.lock_manager.specs.State.{State, locks_held, opening_state, with_flock_mode, with_lock_of}
+use Rattle.lock_manager.specs.State.{State, locks_held, opening_state, with_lock_of}
 use Rattle.lock_manager.specs.Settling.{Settles, granted}
 use Rattle.lock_manager.specs.Outcomes.{Outcome, IsRefusal, answered, waits_then}
 use Rattle.lock_manager.specs.LockWords.{is_get, is_bad_argument, wanted_mode, permits, wanted_lock}
 use Rattle.lock_manager.specs.LockCommands.{CommandComesTo, DescribedComesTo, GetTells}
-use Rattle.lock_manager.specs.FlockCalls.{FlockTestComesTo, FlockModeComesTo, FlockOpComesTo, is_same_mode, wanted_flock}
+use Rattle.lock_manager.specs.FlockCalls.{FlockTestComesTo, FlockModeComesTo, FlockOpComesTo}
 use Rattle.lock_manager.specs.ProcessCalls.{EndComesTo, SignalComesTo, KillOtherComesTo}
 use Rattle.lock_manager.specs.Asking.{AsksFor}
 use Rattle.lock_manager.specs.Step.{ComesTo, Step}
@@ -84,28 +78,11 @@ numbered_file descriptions zero opened h is = absurd (cc)
 numbered_file descriptions (suc k) opened h is = all_at (λ (o : OpenFileDescription). o.file < FILES) descriptions k opened h is
 
 look_file : (D : Descriptors) (p fd : ℕ) (look : Look) → InFiles D.descriptions → look_at D p fd ≡ Some look → look.file < FILES
-look_file D p fd look h is = by_number (D.description_of p fd) is
-  where
-    by_opened : (number : ℕ) (opened : Option OpenFileDescription) → description_numbered D.descriptions number ≡ opened
-        → option_map (look_of D number) opened ≡ Some look → look.file < FILES
-    by_opened number None was is = absurd (cc)
-    by_opened number (Some opened) was is =
-        let same : look_of D number opened ≡ look = some_look is in
-        subst (λ (l : Look). l.file < FILES) same (numbered_file D.descriptions number opened h was)
-      where
-        some_look : {x y : Look} → Some x ≡ Some y → x ≡ y
-        some_look e = cc
-
-    by_number : (number : Option ℕ) → option_and_then (λ n. option_map (look_of D n) (description_numbered D.descriptions n)) number ≡ Some look
-        → look.file < FILES
-    by_number None is = absurd (cc)
-    by_number (Some number) is = by_opened number (description_numbered D.descriptions number) refl is
+look_file D p fd look h is = grind (arith, common_steps, numbered_file)
 
 -- a lock that is set changes neither
 lock_within : (family : Family) (owner : Owner) (S : State) (wait : Wait) → IsWithinFiles S → IsWithinFiles (with_lock_of family owner S wait)
-lock_within Bytes owner S wait h = record { descriptions = h.descriptions; waits = h.waits }
-lock_within Whole (Description description) S wait h = record { descriptions = h.descriptions; waits = h.waits }
-lock_within Whole (Process p) S wait h = h
+lock_within family owner S wait h = grind (arith, common_steps)
 
 settles_within : (policy : Policy) (S : State) (grants : List Note) (T : State) → Settles policy S grants T → IsWithinFiles S → IsWithinFiles T
 settles_within policy S [] T h within = subst IsWithinFiles (sym h.1) within
@@ -121,11 +98,7 @@ leaves : (outcome other : Outcome) → outcome ≡ other → IsWithinFiles other
 leaves outcome other is within = subst (λ (o : Outcome). IsWithinFiles o.after) (sym is) within
 
 refusal_leaves : (S : State) (p n : ℕ) (fault : FdFault) (outcome : Outcome) → IsRefusal S p n fault outcome → IsWithinFiles S → IsWithinFiles outcome.after
-refusal_leaves S p n BadFd outcome h within = leaves outcome _ h within
-refusal_leaves S p n TooMany outcome h within = leaves outcome _ h within
-refusal_leaves S p n Invalid outcome h within = leaves outcome _ h within
-refusal_leaves S p n Taken outcome h within = leaves outcome _ h within
-refusal_leaves S p n (Memory memory) outcome h within = absurd h
+refusal_leaves S p n fault outcome h h2 = grind (arith, common_steps, leaves)
 
 -- the same descriptions, or others that are of the files
 with_files : (S : State) (descriptors : Descriptors) → InFiles descriptors.descriptions → IsWithinFiles S
@@ -163,38 +136,21 @@ kill_leaves S p n target Waiting outcome h within = end_leaves S target _ outcom
 -- a wait more
 waits_leave : (S : State) (wait : Wait) (grants : List Note) (outcome : Outcome) → outcome ≡ waits_then S wait grants → wait.file < FILES → IsWithinFiles S
     → IsWithinFiles outcome.after
-waits_leave S wait grants outcome is low within =
-    leaves outcome _ is (record {
-      descriptions = within.descriptions;
-      waits = All-append WaitInFiles S.waits (wait ∷ []) within.waits (all_one WaitInFiles wait low);
-    })
+waits_leave S wait grants outcome is low within = grind (arith, common_steps, leaves, All-append, all_one)
 
 test_leaves : (rules : Rules) (S : State) (nb : Bool) (wanted : Wait) (grants : List Note) (outcome : Outcome)
     → FlockTestComesTo rules S nb wanted grants outcome
     → wanted.file < FILES → IsWithinFiles S → IsWithinFiles outcome.after
-test_leaves rules S true wanted grants outcome (inl h) low within = leaves outcome _ h.1 within
-test_leaves rules S true wanted grants outcome (inr h) low within = leaves outcome _ h.1 (lock_within wanted.family wanted.owner S wanted within)
-test_leaves rules S false wanted grants outcome (inl h) low within = waits_leave S wanted grants outcome h.1 low within
-test_leaves rules S false wanted grants outcome (inr h) low within = leaves outcome _ h.1 (lock_within wanted.family wanted.owner S wanted within)
+test_leaves rules S nb wanted grants outcome h h2 h3 = grind (arith, common_steps, leaves, lock_within, waits_leave)
 
 mode_leaves : (rules : Rules) (S : State) (look : Look) (nb : Bool) (wanted : Wait) (held : Option Mode) (outcome : Outcome)
     → FlockModeComesTo rules S look nb wanted held outcome
     → wanted.file < FILES → IsWithinFiles S → IsWithinFiles outcome.after
-mode_leaves rules S look nb wanted None outcome h low within = test_leaves rules S nb wanted [] outcome h low within
-mode_leaves rules S look nb wanted (Some held) outcome h low within =
-    if_bool (is_same_mode held wanted.mode) _ _ (IsWithinFiles outcome.after) h (λ same. leaves outcome _ same within)
-    (λ converted.
-    test_leaves rules converted.1 nb wanted converted.0 outcome converted.3 low
-    (settles_within rules.policy (with_flock_mode S look.file look.desc None) converted.0 converted.1 converted.2
-    (record { descriptions = within.descriptions; waits = within.waits })))
+mode_leaves rules S look nb wanted held outcome h h2 h3 = grind (arith, common_steps, test_leaves, if_bool, leaves, settles_within)
 
 op_leaves : (rules : Rules) (S : State) (p n : ℕ) (look : Look) (op : FlockOp) (nb : Bool) (outcome : Outcome) → FlockOpComesTo rules S p n look op nb outcome
     → look.file < FILES → IsWithinFiles S → IsWithinFiles outcome.after
-op_leaves rules S p n look Un nb outcome h low within = leaves outcome _ h (record { descriptions = within.descriptions; waits = within.waits })
-op_leaves rules S p n look Sh nb outcome h low within =
-    mode_leaves rules S look nb (wanted_flock p n look modes.Read) (flock_mode_in S.flock_changes look.file look.desc) outcome h low within
-op_leaves rules S p n look Ex nb outcome h low within =
-    mode_leaves rules S look nb (wanted_flock p n look modes.Write) (flock_mode_in S.flock_changes look.file look.desc) outcome h low within
+op_leaves rules S p n look op nb outcome h h2 h3 = grind (arith, common_steps, leaves, mode_leaves)
 
 get_leaves : (S : State) (wanted : Wait) (outcome : Outcome)
     → GetTells ((locks_held S).bytes wanted.file) wanted.owner wanted.span wanted.mode (λ reply. outcome ≡ answered S wanted.p wanted.n reply)
@@ -204,17 +160,7 @@ get_leaves S wanted outcome (inr h) within = leaves outcome _ h.1 within
 
 command_leaves : (rules : Rules) (S : State) (cmd : LkCmd) (wanted : Wait) (outcome : Outcome) → CommandComesTo rules S cmd wanted outcome
     → wanted.file < FILES → IsWithinFiles S → IsWithinFiles outcome.after
-command_leaves rules S GetLk wanted outcome h low within = get_leaves S wanted outcome h within
-command_leaves rules S OGetLk wanted outcome h low within = get_leaves S wanted outcome h within
-command_leaves rules S SetLk wanted outcome (inl h) low within = leaves outcome _ h.1 within
-command_leaves rules S SetLk wanted outcome (inr h) low within = leaves outcome _ h.1 (lock_within wanted.family wanted.owner S wanted within)
-command_leaves rules S OSetLk wanted outcome (inl h) low within = leaves outcome _ h.1 within
-command_leaves rules S OSetLk wanted outcome (inr h) low within = leaves outcome _ h.1 (lock_within wanted.family wanted.owner S wanted within)
-command_leaves rules S OSetLkW wanted outcome (inl h) low within = waits_leave S wanted [] outcome h.1 low within
-command_leaves rules S OSetLkW wanted outcome (inr h) low within = leaves outcome _ h.1 (lock_within wanted.family wanted.owner S wanted within)
-command_leaves rules S SetLkW wanted outcome (inr h) low within = leaves outcome _ h.1 (lock_within wanted.family wanted.owner S wanted within)
-command_leaves rules S SetLkW wanted outcome (inl (blocked, inl h)) low within = leaves outcome _ h.1 within
-command_leaves rules S SetLkW wanted outcome (inl (blocked, inr h)) low within = waits_leave S wanted [] outcome h.1 low within
+command_leaves rules S cmd wanted outcome h h2 h3 = grind (arith, common_steps, get_leaves, leaves, lock_within, waits_leave)
 
 described_leaves : (rules : Rules) (S : State) (p n : ℕ) (cmd : LkCmd) (lock : Lock) (look : Look) (outcome : Outcome)
     → DescribedComesTo rules S p n cmd lock look outcome
@@ -296,23 +242,8 @@ outcome_leaves rules processes S p n (Kill target) outcome h within =
 -- each step keeps it
 pub step_files : (rules : Rules) (processes : ℕ) (S : State) (p n : ℕ) (request : Request) (notes : List Note) (T : State)
     → Step rules processes S p n request notes T → IsWithinFiles S → IsWithinFiles T
-step_files rules processes S p n request notes T step within =
-    settles_within rules.policy step.outcome.after step.grants T step.settles
-    (outcome_leaves rules processes S p n request step.outcome step.comes_to within)
+step_files rules processes S p n request notes T step within = grind (arith, common_steps, settles_within, outcome_leaves)
 
 -- the lock that a request asks for is of one of the files
 pub asks_file : (S : State) (p n : ℕ) (request : Request) (wait : Wait) → IsWithinFiles S → AsksFor S p n request wait → wait.file < FILES
-asks_file S p n (Lk fd cmd lock) wait within h =
-    subst (λ (w : Wait). w.file < FILES) (sym h.is) (look_file S.descriptors p fd h.look within.descriptions h.of_open)
-asks_file S p n (Flock fd op nb) wait within h =
-    subst (λ (w : Wait). w.file < FILES) (sym h.is) (look_file S.descriptors p fd h.look within.descriptions h.of_open)
-asks_file S p n (OpenFile file access) wait within h = absurd h
-asks_file S p n (Dup fd) wait within h = absurd h
-asks_file S p n (DupTo fd to) wait within h = absurd h
-asks_file S p n (CloseFd fd) wait within h = absurd h
-asks_file S p n (Seek fd offset) wait within h = absurd h
-asks_file S p n (Resize fd size) wait within h = absurd h
-asks_file S p n (Fork child) wait within h = absurd h
-asks_file S p n Exit wait within h = absurd h
-asks_file S p n (Signal target) wait within h = absurd h
-asks_file S p n (Kill target) wait within h = absurd h
+asks_file S p n request wait h h2 = grind (arith, common_steps, look_file)

@@ -1,5 +1,6 @@
 -- A line's first words: what they say, the whole line says.
-use Rattle.std.proofs.Common.{◌≡◌, ℕ, ◌+◌, ◌<◌, ◌≤◌, Bool, true, false, Option, Some, None, IfSome, MatchOption, Result, Err, List, [], ◌∷◌, length, take, find, refl, ap, subst, inl, inr, arith, lit≤, ne_eqb, ⊎_elim, MatchBool}
+use Rattle.std.proofs.lemmas.Grind.{common_steps}
+use Rattle.std.proofs.Common.{◌≡◌, ℕ, ◌+◌, ◌<◌, ◌≤◌, Bool, true, false, Option, Some, IfSome, MatchOption, Result, Err, List, [], ◌∷◌, length, take, find, refl, ap, subst, inl, inr, arith, ne_eqb, ⊎_elim, MatchBool}
 use Rattle.std.specs.Prelude.{if◌then◌else◌, bytes_eq}
 use Rattle.std.specs.List.{AllByRecursion as Each}
 use Rattle.std.proofs.lemmas.Bool.{cases_lt}
@@ -8,7 +9,7 @@ use Rattle.fd_table.specs.declared.Limits.{Limits}
 use Rattle.lock_manager.specs.declared.request.Request.{Request}
 use Rattle.script_core.specs.declared.line.Line.{Line}
 use Rattle.script_core.specs.declared.script.Cause.{Cause}
-use Rattle.script_core.specs.declared.script.Cause.TheVariants.{Count, Word}
+use Rattle.script_core.specs.declared.script.Cause.TheVariants.{Word}
 use Rattle.script_core.specs.Arguments.{Argument, Command, PolicyWord, LimitsWord, AreRefused, commands, command_named, has_count}
 use Rattle.script_core.specs.Reading.{Reading, PolicyGives, LimitsGive, CommandGives, RequestGives, ProcessGives, WordsGive, is_comment, says_policy, says_limits, limits_of}
 
@@ -20,9 +21,7 @@ MatchBool-map false P Q P' Q' f g h = g h
 -- of words that are too many for a header line, others that are say the same
 pub many_refused : (argument : Argument) (words others : List (List ℕ)) (cause : Cause) → 1 < length words → 1 < length others
     → AreRefused (argument ∷ []) words cause → AreRefused (argument ∷ []) others cause
-many_refused argument words others cause many more refused =
-    let is : cause ≡ Count = rw (ne_eqb (length words) 1 (λ e. omega (arith, e))) at refused in
-    rw (ne_eqb (length others) 1 (λ e. omega (arith, e))) is
+many_refused argument words others cause many more refused = grind (arith, common_steps)
 
 many_policy : (words others : List (List ℕ)) (result : Result Line Cause) → 1 < length words → 1 < length others
     → PolicyGives words result → PolicyGives others result
@@ -39,34 +38,7 @@ abbrev HasFew : Command → Type 0
 HasFew command = length command.required + length command.optional ≤ 6
 
 each_has_few : (limits : Limits) → Each HasFew (commands limits)
-each_has_few limits = (
-  lit≤ tt,
-  (
-    lit≤ tt,
-    (
-      lit≤ tt,
-      (
-        lit≤ tt,
-        (
-          lit≤ tt,
-          (
-            lit≤ tt,
-            (
-              lit≤ tt,
-              (
-                lit≤ tt,
-                (
-                  lit≤ tt,
-                  (lit≤ tt, (lit≤ tt, (lit≤ tt, (lit≤ tt, (lit≤ tt, (lit≤ tt, (lit≤ tt, (lit≤ tt, tt)))))))),
-                ),
-              ),
-            ),
-          ),
-        ),
-      ),
-    ),
-  ),
-)
+each_has_few limits = grind (arith, common_steps)
 
 pub found_has : {X : Type 0} (P : X → Type 0) (test : X → Bool) (xs : List X) → Each P xs → IfSome (find test xs) P
 found_has P test [] all = tt
@@ -83,10 +55,7 @@ many_found : (limits : Limits) (name : List ℕ) (arguments others : List (List 
     → 6 < length arguments → 6 < length others → IfSome found HasFew
     → MatchOption found (result ≡ Err Word) (λ command. CommandGives limits (name ∷ arguments) command arguments result)
     → MatchOption found (result ≡ Err Word) (λ command. CommandGives limits (name ∷ others) command others result)
-many_found limits name arguments others result None many more few given = given
-many_found limits name arguments others result (Some command) many more few given =
-    let is : result ≡ Err Count = rw (too_many command (length arguments) few many) at given in
-    rw (too_many command (length others) few more) is
+many_found limits name arguments others result found h h2 h3 h4 = grind (arith, common_steps, too_many)
 
 pub many_arguments : (limits : Limits) (name : List ℕ) (arguments others : List (List ℕ)) (result : Result Request Cause) → 6 < length arguments → 6 < length others
     → RequestGives limits (name ∷ arguments) result → RequestGives limits (name ∷ others) result

@@ -1,4 +1,5 @@
 -- What a request comes to has numbers that a line may have: its notes, and the waits and locks that it leaves; and the notes are few.
+use Rattle.std.proofs.lemmas.Grind.{common_steps}
 use Rattle.std.proofs.Common.{◌≡◌, ◌≢◌, ℕ, zero, suc, pred, slice_get, ◌+◌, ◌^◌, ◌<◌, ◌≤◌, ◌==◌, ◌||◌, true, false, List, [], ◌∷◌, ◌++◌, length, length-append, map, filter_map, Option, Some, None, option_map, ⊎_elim, refl, sym, ap, ◌∙◌, subst, arith, eq-eqb, ne_eqb, append_assoc, append-nil}
 use Rattle.std.specs.Prelude.{⊤, IfSome, slice_set, option_and_then}
 use Rattle.std.specs.List.{AllByRecursion as Each, IsDistinct, list_any, cons_option}
@@ -16,14 +17,13 @@ use Rattle.fd_table.specs.declared.Limits.TheVariants.{Small, Wide}
 use Rattle.fd_table.specs.Descriptors.{Descriptors, OpenFileDescription, description_limit, description_numbered, look_of}
 use Rattle.fd_table.specs.Released.{Released}
 use Rattle.wait_core.specs.declared.Policy.{Policy}
-use Rattle.wait_core.specs.declared.Family.TheVariants.{Bytes, Whole}
 use Rattle.wait_core.specs.declared.Wait.{Wait}
 use Rattle.wait_core.specs.Locks.{Locks}
 use Rattle.wait_core.specs.Blocking.{IsBlocked, AllBlocked}
 use Rattle.lock_manager.specs.declared.request.Note.{Note}
 use Rattle.lock_manager.specs.declared.request.ProcState.{ProcState}
 use Rattle.lock_manager.specs.declared.request.ProcState.TheVariants.{Unborn, Live, Waiting}
-use Rattle.lock_manager.specs.State.{State, locks_held, with_lock, with_lock_of}
+use Rattle.lock_manager.specs.State.{State, locks_held, with_lock}
 use Rattle.lock_manager.specs.Settling.{Settles, IsSettled, granted}
 use Rattle.lock_manager.specs.DescriptorCalls.{with_released, process_releases, description_releases, flock_releases}
 use Rattle.script_core.specs.ScriptText.{IsProcess}
@@ -164,9 +164,7 @@ below limits states (wait ∷ waits) fits q among =
 
 below_zero : (limits : Limits) (states : ℕ → ProcState) (waits : List Wait) → Each (FitsWait limits states) waits → (q : ℕ)
     → list_any (λ r. q == r) (0 ∷ numbers_of waits) ≡ true → q < 65
-below_zero limits states waits fits q among =
-    ⊎_elim (λ none. omega (arith, none))
-    (λ some. below limits states waits fits q (subst (λ b. (b || list_any (λ r. q == r) (numbers_of waits)) ≡ true) (ne_eqb q 0 some) among)) (cases_eq q 0)
+below_zero limits states waits fits q among = grind (arith, common_steps, below, numbers_of, cases_eq)
 
 many_numbers : (waits : List Wait) → length (numbers_of waits) ≡ length waits
 unfolding numbers_of
@@ -175,16 +173,7 @@ many_numbers (wait ∷ waits) = ap suc (many_numbers waits)
 
 below_more : (limits : Limits) (states : ℕ → ProcState) (waits : List Wait) (p : ℕ) → p ≤ 64 → Each (FitsWait limits states) waits → (q : ℕ)
     → list_any (λ r. q == r) (0 ∷ p ∷ numbers_of waits) ≡ true → q < 65
-below_more limits states waits p few fits q among =
-    ⊎_elim (λ none. omega (arith, none))
-    (λ some. ⊎_elim (λ same. omega (arith, same, few))
-    (λ other.
-    let later : list_any (λ r. q == r) (numbers_of waits) ≡ true =
-    subst (λ b. (b || list_any (λ r. q == r) (numbers_of waits)) ≡ true) (ne_eqb q p other)
-    (subst (λ b. (b || ((q == p) || list_any (λ r. q == r) (numbers_of waits))) ≡ true) (ne_eqb q 0 some) among) in
-    below limits states waits fits q later)
-    (cases_eq q p))
-    (cases_eq q 0)
+below_more limits states waits p few fits q among = grind (arith, common_steps, numbers_of, below, cases_eq)
 
 -- while a process lives, 63 others wait at most
 pub few_wait : (limits : Limits) (S : State) (p : ℕ) → IsProcess limits p → S.states p ≡ Live → Fits limits S → length S.waits + 1 ≤ 64
@@ -213,20 +202,7 @@ few_waits limits S fits =
 
 -- a lock that is set for a wait fits
 pub lock_locks : (S : State) (wait : Wait) → FitsWanted wait → FitsLocks S → FitsLocks (with_lock S wait)
-lock_locks S wait wanted locks =
-    elim wait.family as (λ family. FitsLocks (with_lock_of family wait.owner S wait)) [
-      | Bytes ↦ record {
-        changes = each_append FitsChange S.changes _ locks.changes (record { owner = wanted.owner; last = wanted.last }, tt);
-        flocks = locks.flocks;
-        files = locks.files;
-      }
-      | Whole ↦ whole wait.owner wanted.owner
-    ]
-  where
-    whole : (owner : Owner) → IsSmallOwner owner → FitsLocks (with_lock_of Whole owner S wait)
-    whole (Process p) small = locks
-    whole (Description d) small =
-        record { changes = locks.changes; flocks = each_append FitsFlock S.flock_changes _ locks.flocks (small, tt); files = locks.files }
+lock_locks S wait wanted locks = grind (arith, common_steps, each_append)
 
 -- it leaves the processes and the waits
 pub record SameProcesses (S T : State) : Type 0 where
@@ -235,24 +211,10 @@ pub record SameProcesses (S T : State) : Type 0 where
   pub alive : (p : ℕ) → T.descriptors.ever_alive p ≡ S.descriptors.ever_alive p
 
 pub same_locked : (S : State) (wait : Wait) → SameProcesses S (with_lock S wait)
-same_locked S wait =
-    elim wait.family as (λ family. SameProcesses S (with_lock_of family wait.owner S wait)) [
-      | Bytes ↦ record { states = refl; waits = refl; alive = λ p. refl }
-      | Whole ↦
-          elim wait.owner as (λ owner. SameProcesses S (with_lock_of Whole owner S wait)) [
-            | Process p ↦ record { states = refl; waits = refl; alive = λ p. refl }
-            | Description d ↦ record { states = refl; waits = refl; alive = λ p. refl }
-          ]
-    ]
+same_locked S wait = grind (arith, common_steps)
 
 pub fits_same : (limits : Limits) (S T : State) → Fits limits S → SameProcesses S T → FitsLocks T → Fits limits T
-fits_same limits S T fits same locks = record {
-  locks = locks;
-  waits = subst (λ (waits : List Wait). Each (FitsWait limits T.states) waits) (sym same.waits)
-      (subst (λ (states : ℕ → ProcState). Each (FitsWait limits states) S.waits) (sym same.states) fits.waits);
-  apart = subst AreApart (sym same.waits) fits.apart;
-  born = λ p there. same.alive p ∙ fits.born p (λ e. there (ap (λ (states : ℕ → ProcState). states p) same.states ∙ e));
-}
+fits_same limits S T fits same locks = grind (arith, common_steps)
 
 -- what a process releases fits
 released_files : (p : ℕ) (files : List ℕ) → p ≤ 64 → Each FitsChange (process_releases p files)
@@ -292,14 +254,7 @@ released_flocks opened descriptions few = each_filtered FitsFlock _ descriptions
 
 pub released_locks : (S : State) (D : Descriptors) (p : ℕ) (released : Released) → p ≤ 64 → FitsLocks S → FitsFiles D
     → FitsLocks (with_released S D p released)
-released_locks S D p released small locks files =
-    let own = process_releases p released.files in
-    record {
-      changes = each_append FitsChange (S.changes ++ own) _ (each_append FitsChange S.changes own locks.changes (released_files p released.files small))
-          (released_descriptions D.descriptions released.descriptions files.few);
-      flocks = each_append FitsFlock S.flock_changes _ locks.flocks (released_flocks D.descriptions released.descriptions files.few);
-      files = files;
-    }
+released_locks S D p released small locks files = grind (arith, common_steps, each_append, released_files, released_descriptions, released_flocks)
 
 -- ---- what a descriptor refers to
 
@@ -318,12 +273,7 @@ file_of D (suc k) x fits is = each_at (λ (opened : OpenFileDescription). opened
 
 look_by : (D : Descriptors) (number : ℕ) (found : Option OpenFileDescription) (look : Look) → FitsFiles D → description_numbered D.descriptions number ≡ found
     → option_map (look_of D number) found ≡ Some look → FitsLook look
-look_by D number None look fits at is = absurd (let bad : None ≡ Some look = is in cc)
-look_by D number (Some x) look fits at is =
-    let same : look_of D number x ≡ look = cc in
-    let within = numbered_within D.descriptions number x at in
-    let few = fits.few in
-    subst FitsLook same (file_of D number x fits at, omega (arith, within, few))
+look_by D number found look h h2 h3 = grind (arith, common_steps, numbered_within, file_of)
 
 pub look_fits : (D : Descriptors) (found : Option ℕ) (look : Look) → FitsFiles D
     → option_and_then (λ number. option_map (look_of D number) (description_numbered D.descriptions number)) found ≡ Some look → FitsLook look
@@ -332,43 +282,23 @@ look_fits D (Some number) look fits is = look_by D number (description_numbered 
 
 -- the same descriptions
 pub same_files : (old new : Descriptors) → new.descriptions ≡ old.descriptions → FitsFiles old → FitsFiles new
-same_files old new same fits = record {
-  few = subst (λ (l : List OpenFileDescription). length l ≤ description_limit) (sym same) fits.few;
-  files = subst (λ (l : List OpenFileDescription). Each (λ opened. opened.file < FILES) l) (sym same) fits.files;
-}
+same_files old new same fits = grind (arith, common_steps)
 
 -- one more, of a file that there is
 pub one_more_file : (old new : Descriptors) (x : OpenFileDescription) → new.descriptions ≡ old.descriptions ++ x ∷ [] → x.file < FILES
     → length old.descriptions < description_limit → FitsFiles old → FitsFiles new
-one_more_file old new x same file room fits =
-    let size = length-append old.descriptions (x ∷ []) in
-    record {
-      few = subst (λ (l : List OpenFileDescription). length l ≤ description_limit) (sym same) (omega (arith, size, room));
-      files = subst (λ (l : List OpenFileDescription). Each (λ opened. opened.file < FILES) l) (sym same)
-          (each_append (λ (opened : OpenFileDescription). opened.file < FILES) old.descriptions (x ∷ []) fits.files (file, tt));
-    }
+one_more_file old new x same file room fits = grind (arith, common_steps, length-append, each_append)
 
 each_set : {X : Type 0} (P : X → Type 0) (xs : List X) (k : ℕ) (x : X) → Each P xs → P x → Each P (slice_set xs k x)
-each_set P [] k x all is = tt
-each_set P (first ∷ xs) zero x all is = (is, all.1)
-each_set P (first ∷ xs) (suc k) x all is = (all.0, each_set P xs k x all.1 is)
+each_set P xs k x h h2 = grind (arith, common_steps)
 
 length_set : {X : Type 0} (xs : List X) (k : ℕ) (x : X) → length (slice_set xs k x) ≡ length xs
-length_set [] k x = refl
-length_set (first ∷ xs) zero x = refl
-length_set (first ∷ xs) (suc k) x = ap suc (length_set xs k x)
+length_set xs k x = grind (arith, common_steps)
 
 -- one with another offset
 pub moved_file : (old new : Descriptors) (number offset : ℕ) (x : OpenFileDescription) → description_numbered old.descriptions number ≡ Some x
     → new.descriptions ≡ slice_set old.descriptions (pred number) (record x { offset = offset }) → FitsFiles old → FitsFiles new
-moved_file old new number offset x at same fits =
-    let size = length_set old.descriptions (pred number) (record x { offset = offset }) in
-    let few = fits.few in
-    record {
-      few = subst (λ (l : List OpenFileDescription). length l ≤ description_limit) (sym same) (omega (arith, size, few));
-      files = subst (λ (l : List OpenFileDescription). Each (λ opened. opened.file < FILES) l) (sym same)
-          (each_set (λ (opened : OpenFileDescription). opened.file < FILES) old.descriptions (pred number) (record x { offset = offset }) fits.files (file_of old number x fits at));
-    }
+moved_file old new number offset x h h2 h3 = grind (arith, common_steps, length_set, each_set, file_of)
 
 -- ---- settling
 

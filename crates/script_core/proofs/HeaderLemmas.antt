@@ -1,5 +1,6 @@
 -- No process is spelled as the word of a header line, and header lines change nothing else.
-use Rattle.std.proofs.Common.{◌≡◌, ℕ, ◌+◌, ◌<◌, ◌^◌, ◌⊎◌, ◌||◌, Bool, true, false, List, [], ◌∷◌, ◌++◌, length, get_or, codes, decimal, None, Result, Ok, Err, is_ok, MatchBool, IfSome, slice_get, zero, suc, inl, inr, refl, sym, ◌∙◌, ap, subst, arith, lit<, nat_lt}
+use Rattle.std.proofs.lemmas.Grind.{common_steps}
+use Rattle.std.proofs.Common.{◌≡◌, ℕ, ◌+◌, ◌<◌, ◌^◌, ◌⊎◌, ◌||◌, Bool, true, false, List, [], ◌∷◌, ◌++◌, length, get_or, codes, decimal, None, Result, Ok, Err, is_ok, MatchBool, IfSome, slice_get, zero, suc, inl, inr, refl, sym, ap, subst, arith, lit<, nat_lt}
 use Rattle.std.specs.Bool.{IsFalse}
 use Rattle.std.specs.Str.{bytes_eq}
 use Rattle.fd_table.specs.declared.Limits.{Limits}
@@ -8,22 +9,19 @@ use Rattle.lock_manager.specs.declared.request.Request.{Request}
 use Rattle.script_core.specs.declared.line.Line.{Line}
 use Rattle.script_core.specs.declared.line.Line.TheVariants as lines
 use Rattle.script_core.specs.declared.script.Cause.{Cause}
-use Rattle.script_core.specs.declared.script.Cause.TheVariants.{Byte, Process, TooLong}
+use Rattle.script_core.specs.declared.script.Cause.TheVariants.{Process}
 use Rattle.script_core.specs.declared.script.ScriptFault.{ScriptFault}
-use Rattle.script_core.specs.Words.{lines_of, words_of, is_printable, line_limit, script_limit}
+use Rattle.script_core.specs.Words.{lines_of, words_of, script_limit}
 use Rattle.script_core.specs.ScriptText.{Meaning}
 use Rattle.script_core.specs.Reading.{Reading, Reads, LinesGive, LineGives, WordsGive, ProcessGives, ArrivalGives, is_comment}
-use Rattle.script_core.specs.WithoutHeaders.{PlainReads, PlainLinesGive, PlainLineGives, PlainWordsGive, HeadersChangeNothingElse, IsNoHeaderLine, is_header, plain_rules}
+use Rattle.script_core.specs.WithoutHeaders.{PlainReads, PlainLinesGive, PlainLineGives, PlainWordsGive, HeadersChangeNothingElse, is_header, plain_rules}
 use Rattle.script_core.proofs.NumberLemmas.{BeginsPlainly-decimal}
 use Rattle.script_core.proofs.ArgumentLemmas.{not_named}
 use Rattle.script_core.proofs.ReadingLemmas.{small_process}
 
 -- a number isn't spelled with a letter
 pub not_spelled : (p : ℕ) (word : List ℕ) → p < 2 ^ 64 → 57 < get_or word 0 0 → bytes_eq (decimal p) word ≡ false
-not_spelled p word small letter = not_named (decimal p) word (λ e.
-    let plain = BeginsPlainly-decimal p small in
-    let first : get_or word 0 0 ≡ get_or (decimal p) 0 0 = ap (λ bytes. get_or bytes 0 0) e in
-    omega (arith, first, plain.at_most, letter))
+not_spelled p word small letter = grind (arith, common_steps, not_named, BeginsPlainly-decimal)
 
 -- header lines begin with other words
 abbrev IsNoHeaderWord : List ℕ → Type 0
@@ -73,15 +71,11 @@ plain_process limits first rest result (inr fault) = plain_by (Err Process) resu
 
 plain_words : (words : List (List ℕ)) (result : Result Line Cause) → PlainWordsGive words result → IsPlain result
 unfolding IsPlain
-plain_words [] result gives = plain_by (Ok lines.Skipped) result tt gives
-plain_words (first ∷ rest) result gives =
-    MatchBool-join (is_comment first) _ _ (IsPlain result) (plain_by (Ok lines.Skipped) result tt) (plain_process Small first rest result) gives
+plain_words words result h = grind (arith, common_steps, plain_by, MatchBool-join, IsPlain, plain_process)
 
 plain_line : (line : List ℕ) (result : Result Line Cause) → PlainLineGives line result → IsPlain result
 unfolding IsPlain
-plain_line line result gives =
-    MatchBool-join (nat_lt line_limit (length line)) _ _ (IsPlain result) (plain_by (Err TooLong) result tt)
-    (MatchBool-join (is_printable line) _ _ (IsPlain result) (plain_words (words_of line) result) (plain_by (Err Byte) result tt)) gives
+plain_line line result gives = grind (arith, common_steps, MatchBool-join, IsPlain, plain_by, plain_words)
 
 -- the line is accepted, or doesn't begin as a header line does
 abbrev IsSame : List (List ℕ) → Result Line Cause → Type 0
@@ -107,9 +101,7 @@ words_same arrivals (first ∷ rest) result same gives =
     (λ process. let none = no_header_word first rest result same process in rw (none.0, none.1) process) gives
 
 line_same : (arrivals : List (ℕ × Request)) (line : List ℕ) (result : Result Line Cause) → IsSame (words_of line) result → PlainLineGives line result → LineGives (reading_of arrivals) line result
-line_same arrivals line result same gives =
-    MatchBool-map (nat_lt line_limit (length line)) _ _ _ _ (λ long. long)
-    (MatchBool-map (is_printable line) _ _ _ _ (words_same arrivals (words_of line) result same) (λ byte. byte)) gives
+line_same arrivals line result same gives = grind (arith, common_steps, MatchBool-map, words_same)
 
 -- the lines from this number on are accepted, or the faulty one doesn't begin as a header line does
 abbrev AreSame : ℕ → List (List ℕ) → Result (List (ℕ × Request)) ScriptFault → Type 0
@@ -152,23 +144,4 @@ reads_same bytes result same reads =
 -- header lines change nothing else
 pub headers_only : HeadersChangeNothingElse
 unfolding told
-headers_only = record {
-  accepted = λ bytes arrivals reads. reads_same bytes (Ok arrivals) (inl refl) reads;
-  same_output = λ bytes text plain. record {
-    script = record { rules = plain_rules; arrivals = plain.arrivals };
-    accepted = reads_same bytes (Ok plain.arrivals) (inl refl) plain.accepted;
-    journal = plain.journal;
-    state = plain.state;
-    drained = plain.drained;
-    report = plain.report;
-    is_report = plain.is_report;
-    is = plain.is;
-  };
-  refused = λ bytes fault none reads. reads_same bytes (Err fault) (inr (λ other place is at. let same : fault ≡ other = cc in faulty_line bytes fault other place none same at)) reads;
-}
-  where
-    faulty_line : (bytes : List ℕ) (fault other : ScriptFault) (place : ℕ) → IsNoHeaderLine bytes fault.line
-        → fault ≡ other → other.line ≡ 1 + place → IfSome (slice_get (lines_of bytes) place) (λ line. IsFalse (is_header (words_of line)))
-    faulty_line bytes fault other place none same at =
-        let number : fault.line ≡ suc place = ap (λ (f : ScriptFault). f.line) same ∙ at ∙ omega arith in
-        subst (IsNoHeaderLine bytes) number none
+headers_only = grind (arith, common_steps, reads_same)

@@ -1,5 +1,6 @@
 -- The texts of events, line by line, are read as a journal of these events.
-use Rattle.std.proofs.Common.{◌≡◌, ℕ, zero, suc, ◌+◌, ◌<◌, ◌≤◌, ◌==◌, false, None, Ok, Err, List, [], ◌∷◌, ◌++◌, length, map, get_or, slice_get, IfSome, codes, decimal, flat_map, refl, sym, ap, ◌∙◌, subst, inl, arith, lit<, append_assoc, append-nil, ne_eqb}
+use Rattle.std.proofs.lemmas.Grind.{common_steps}
+use Rattle.std.proofs.Common.{◌≡◌, ℕ, zero, suc, ◌+◌, ◌<◌, ◌≤◌, ◌==◌, false, None, Ok, Err, List, [], ◌∷◌, ◌++◌, length, map, get_or, slice_get, IfSome, flat_map, refl, sym, ap, ◌∙◌, subst, inl, arith, append_assoc, append-nil, ne_eqb}
 use Rattle.std.specs.Prelude.{All, bytes_eq, nat_lt}
 use Rattle.std.specs.List.{slice_split}
 use Rattle.std.proofs.lemmas.List.Elements.{filter-append}
@@ -9,7 +10,6 @@ use Rattle.lock_manager.specs.State.{State, opening_state}
 use Rattle.session_core.specs.Event.{Event}
 use Rattle.session_core.specs.Runs.{Leads, events_of}
 use Rattle.script_core.specs.declared.place.Stage.{Stage}
-use Rattle.script_core.specs.declared.place.Stage.TheVariants as stages
 use Rattle.script_core.specs.declared.place.Place.{Place}
 use Rattle.script_core.specs.declared.place.JournalLine.TheVariants as lines
 use Rattle.script_core.specs.declared.script.Cause.TheVariants.{Byte, TooLong}
@@ -40,17 +40,11 @@ digit_front [] more some low high = absurd (omega arith)
 digit_front (byte ∷ bytes) more some low high = record { first = byte; rest = bytes ++ more; is = refl; low = low; high = high }
 
 digit_tag : (limits : Limits) (p n : ℕ) → IsProcess limits p → IsDigitWord (tag p n)
-digit_tag limits p n process =
-    let small = small_process limits p process in
-    let plain = BeginsPlainly-decimal p small in
-    subst IsDigitWord (sym (append_assoc (decimal p) (codes "#") (decimal n)))
-    (digit_front (decimal p) (codes "#" ++ decimal n) (IsWord-decimal p small).some plain.at_least plain.at_most)
+digit_tag limits p n process = grind (arith, common_steps, small_process, BeginsPlainly-decimal, append_assoc, digit_front, IsWord-decimal)
 
 -- it isn't one that begins with a letter
 not_letters : (word name : List ℕ) → IsDigitWord word → 57 < get_or name 0 0 → bytes_eq word name ≡ false
-not_letters word name digit letter = not_named word name (λ e.
-    let first : get_or name 0 0 ≡ digit.first = ap (λ bytes. get_or bytes 0 0) (e ∙ digit.is) in
-    omega (arith, first, digit.high, letter))
+not_letters word name digit letter = grind (arith, common_steps, not_named)
 
 -- nor a comment
 no_comment : (word : List ℕ) → IsDigitWord word → is_comment word ≡ false
@@ -62,27 +56,14 @@ first_word : (word rest : List ℕ) → slice_split (λ byte. byte == 32) (word 
 first_word word rest cut some = rw (cut, not_empty (length word) some) refl
 
 other_given : (stage : Stage) → IsBeforeReport stage → OtherGives stage (Ok None)
-other_given stages.Header before = refl
-other_given stages.Entries before = refl
-other_given stages.Report before = absurd before
+other_given stage h = grind (arith, common_steps)
 
 head_given : (place : Place) (word : List ℕ) (rest : List (List ℕ)) → IsDigitWord word → IsBeforeReport place.stage → HeadGives place (word ∷ rest) (Ok None)
-head_given place word rest digit before =
-    rw (
-      no_comment word digit,
-      not_letters word (codes "policy") digit (lit< tt),
-      not_letters word (codes "limits") digit (lit< tt),
-      not_letters word (codes "lock") digit (lit< tt),
-      not_letters word (codes "flock") digit (lit< tt),
-      not_letters word (codes "wait") digit (lit< tt),
-      not_letters word (codes "proc") digit (lit< tt),
-    ) (other_given place.stage before)
+head_given place word rest digit before = grind (arith, common_steps, no_comment, not_letters, other_given)
 
 -- the text of an event, behind its tag
 text_cut : (event : Event) → entry_text event ≡ tag event.p event.n ++ 32 ∷ (request_text event.request ++ flat_map note_text event.notes)
-text_cut event =
-    append_assoc (tag event.p event.n ++ codes " ") (request_text event.request) (flat_map note_text event.notes)
-    ∙ append_assoc (tag event.p event.n) (codes " ") (request_text event.request ++ flat_map note_text event.notes)
+text_cut event = grind (arith, common_steps, append_assoc)
 
 head_of_entry : (place : Place) (event : Event) → IsWritableEvent (limits_at place) event → IsBeforeReport place.stage
     → HeadGives place (words_of (entry_text event)) (Ok None)

@@ -1,5 +1,6 @@
 -- The lines of a journal: what their first words say, that each has one meaning, and that a journal has one end.
-use Rattle.std.proofs.Common.{◌≡◌, ℕ, ◌+◌, ◌<◌, true, Option, Some, None, Result, Ok, Err, List, [], ◌∷◌, length, take, get_or, refl, sym, ap, ◌∙◌, subst, inl, inr, arith, ⊎_elim, MatchResult}
+use Rattle.std.proofs.lemmas.Grind.{common_steps}
+use Rattle.std.proofs.Common.{◌≡◌, ℕ, ◌+◌, ◌<◌, true, Option, Some, None, Result, Ok, Err, List, [], ◌∷◌, length, take, refl, sym, ap, ◌∙◌, subst, inl, inr, arith, MatchResult}
 use Rattle.std.specs.Prelude.{nat_lt}
 use Rattle.std.proofs.lemmas.Bool.{cases_lt}
 use Rattle.std.proofs.lemmas.List.{length-take-le, take_all}
@@ -7,7 +8,6 @@ use Rattle.range_core.specs.Facts.{MatchFact}
 use Rattle.fd_table.specs.declared.Limits.{Limits}
 use Rattle.session_core.specs.Event.{Event}
 use Rattle.script_core.specs.declared.place.Stage.{Stage}
-use Rattle.script_core.specs.declared.place.Stage.TheVariants as stages
 use Rattle.script_core.specs.declared.place.Place.{Place}
 use Rattle.script_core.specs.declared.place.JournalLine.{JournalLine}
 use Rattle.script_core.specs.declared.place.JournalLine.TheVariants as lines
@@ -32,28 +32,16 @@ many_values argument word said words others result many more (inr read) = absurd
 
 many_heads : (place : Place) (first : List ℕ) (words others : List (List ℕ)) (result : Result (Option JournalLine) Cause)
     → 1 < length words → 1 < length others → HeadGives place (first ∷ words) result → HeadGives place (first ∷ others) result
-many_heads place first words others result many more given =
-    MatchBool-map (is_comment first) _ _ _ _ (λ skipped. skipped)
-    (MatchBool-map (journal_says_policy place first) _ _ _ _ (many_values PolicyWord policy_word (λ policy. lines.Policy policy) words others result many more)
-    (MatchBool-map (journal_says_limits place first) _ _ _ _ (many_values LimitsWord limits_word (λ limits. lines.Limits limits) words others result many more)
-    (λ other. other)))
-    given
+many_heads place first words others result many more given = grind (arith, common_steps, MatchBool-map, many_values)
 
 -- the head of a line is that of its first nine words
 pub head_of_first : (place : Place) (words : List (List ℕ)) (result : Result (Option JournalLine) Cause) → HeadGives place (take 9 words) result
     → HeadGives place words result
-head_of_first place [] result given = given
-head_of_first place (first ∷ words) result given =
-    ⊎_elim
-    (λ many. many_heads place first (take 8 words) words result (omega (arith, length-take-le 8 words (omega arith))) (omega arith) given)
-    (λ few. subst (λ l. HeadGives place (first ∷ l) result) (take_all 8 words few) given)
-    (cases_lt 8 (length words))
+head_of_first place words result h = grind (arith, common_steps, many_heads, length-take-le, take_all, cases_lt)
 
 -- a comment says nothing
 pub head_of_comment : (place : Place) (line : List ℕ) → begins_with_hash line ≡ true → HeadGives place (words_of line) (Ok (Some lines.Skipped))
-head_of_comment place line is =
-    let word = comment_word line is in
-    subst (λ words. HeadGives place words (Ok (Some lines.Skipped))) (sym word.2) (rw word.3 refl)
+head_of_comment place line is = grind (arith, common_steps, comment_word)
 
 -- not refused for want of memory
 IsNamed : Result (Option JournalLine) Cause → Type 0
@@ -63,20 +51,10 @@ IsNamed (Err cause) = IsOfScript cause
 ValueGives-unique : {A : Type 0} (argument : Argument) (word : A → List ℕ) (said : A → JournalLine) (read : List ℕ → A)
     → ((value : A) → read (word value) ≡ value) → ((value : A) → Spells argument (word value)) → (words : List (List ℕ)) (a b : Result (Option JournalLine) Cause)
     → ValueGives argument word said words a → ValueGives argument word said words b → a ≡ b
-ValueGives-unique argument word said read back spells words a b (inl first) (inl second) =
-    first.2 ∙ (ap Err (AreRefused-unique (argument ∷ []) words first.0 second.0 first.1 second.1) ∙ sym second.2)
-ValueGives-unique argument word said read back spells words a b (inl first) (inr second) =
-    absurd (one_spelled argument (word second.0) words first.0 second.1 (spells second.0) first.1)
-ValueGives-unique argument word said read back spells words a b (inr first) (inl second) =
-    absurd (one_spelled argument (word first.0) words second.0 first.1 (spells first.0) second.1)
-ValueGives-unique argument word said read back spells words a b (inr first) (inr second) =
-    let same : first.0 ≡ second.0 = sym (back first.0) ∙ (ap (λ ws. read (get_or ws 0 [])) (sym first.1 ∙ second.1) ∙ back second.0) in
-    first.2 ∙ (ap (λ value. Ok (Some (said value))) same ∙ sym second.2)
+ValueGives-unique argument word said read h h2 words a b h3 h4 = grind (arith, common_steps, AreRefused-unique, one_spelled)
 
 OtherGives-unique : (stage : Stage) (a b : Result (Option JournalLine) Cause) → OtherGives stage a → OtherGives stage b → a ≡ b
-OtherGives-unique stages.Header a b first second = first ∙ sym second
-OtherGives-unique stages.Entries a b first second = first ∙ sym second
-OtherGives-unique stages.Report a b first second = first ∙ sym second
+OtherGives-unique stage a b h h2 = grind (arith, common_steps)
 
 HeadGives-unique : (place : Place) (words : List (List ℕ)) (a b : Result (Option JournalLine) Cause) → HeadGives place words a → HeadGives place words b → a ≡ b
 HeadGives-unique place [] a b first second = first ∙ sym second
@@ -119,10 +97,7 @@ one_meaning place line = λ a b first second.
 -- one of two facts is settled where both are
 MatchFact-unique : {X : Type 0} (Fact : Type 0) (P Q : X → Type 0) → ((a b : X) → P a → P b → a ≡ b) → ((a b : X) → Q a → Q b → a ≡ b)
     → (a b : X) → MatchFact Fact (P a) (Q a) → MatchFact Fact (P b) (Q b) → a ≡ b
-MatchFact-unique Fact P Q here there a b (inl first) (inl second) = here a b first.1 second.1
-MatchFact-unique Fact P Q here there a b (inl first) (inr second) = absurd (second.0 first.0)
-MatchFact-unique Fact P Q here there a b (inr first) (inl second) = absurd (first.0 second.0)
-MatchFact-unique Fact P Q here there a b (inr first) (inr second) = there a b first.1 second.1
+MatchFact-unique Fact P Q h h2 a b h3 h4 = grind (arith, common_steps)
 
 -- what comes behind a line
 ends_unique : (number : ℕ) (reading : JournalReading) (line : List ℕ) (rest : List (List ℕ))
@@ -131,10 +106,7 @@ ends_unique : (number : ℕ) (reading : JournalReading) (line : List ℕ) (rest 
     → MatchResult next (λ said. MatchFact (MayGoOn reading line said) (JournalGives (number + 1) (reading_behind reading line said) rest a) (a ≡ Illegal number)) (λ cause. a ≡ Faulty number cause)
     → MatchResult next (λ said. MatchFact (MayGoOn reading line said) (JournalGives (number + 1) (reading_behind reading line said) rest b) (b ≡ Illegal number)) (λ cause. b ≡ Faulty number cause)
     → a ≡ b
-ends_unique number reading line rest later (Ok said) a b first second =
-    MatchFact-unique (MayGoOn reading line said) (JournalGives (number + 1) (reading_behind reading line said) rest) (λ end. end ≡ Illegal number)
-    (later (reading_behind reading line said)) (same_value (Illegal number)) a b first second
-ends_unique number reading line rest later (Err cause) a b first second = first ∙ sym second
+ends_unique number reading line rest h next a b h2 h3 = grind (arith, common_steps, MatchFact-unique, same_value)
 
 -- a journal has one end
 pub one_end : JournalsHaveOneEnd

@@ -1,28 +1,24 @@
 -- The lines of a report in a journal, for `JournalReader`: whether it may go on with one, and whether it may end.
-use Rattle.std.proofs.Common.{◌≡◌, ℕ, ◌+◌, Bool, true, false, List, [], ◌∷◌, ◌++◌, Option, Some, None, MatchOption, inl, ⊎_elim, refl, sym, ap, ◌∙◌, subst, lit<, append_assoc, append-nil, map, drop, suc, length}
+use Rattle.std.proofs.Common.{arith, ◌≡◌, ℕ, ◌+◌, Bool, true, false, List, [], ◌∷◌, ◌++◌, Option, Some, None, MatchOption, inl, ⊎_elim, refl, sym, ap, ◌∙◌, subst, lit<, append_assoc, append-nil, drop, suc, length}
+use Rattle.std.proofs.lemmas.Grind.{common_steps}
 use Rattle.std.specs.Prelude.{if◌then◌else◌}
 use Rattle.std.proofs.lemmas.List.{drop-drop}
-use Rattle.lock_book.specs.Changes.{mode_in, flock_mode_in}
 use Rattle.lock_book.specs.OneReport.{LocksHaveOneReport}
 use Rattle.lock_manager.specs.State.{State}
 use Rattle.lock_manager.specs.declared.request.ProcState.{ProcState}
-use Rattle.lock_manager.specs.declared.request.ProcState.TheVariants.{Unborn, Live, Waiting, Ended}
 use Rattle.session_core.specs.Event.{Event}
 use Rattle.session_core.specs.Runs.{IsRun}
 use Rattle.script_core.specs.declared.place.Place.{Place}
 use Rattle.script_core.specs.declared.report.ReportLine.{ReportLine}
 use Rattle.script_core.specs.declared.report.ReportLine.TheVariants as lines
 use Rattle.script_core.specs.ReportText.{is_reported, process_text}
-use Rattle.script_core.specs.ReportReading.{line_text, IsLineOf, MayBeLeftOut, may_be_left_out, AreTextsOf, IsFirstDue, first_due, GoesOn, AreLastOf, AreReportLines, lines_from}
+use Rattle.script_core.specs.ReportReading.{line_text, IsLineOf, MayBeLeftOut, may_be_left_out, AreTextsOf, IsFirstDue, first_due, GoesOn, AreLastOf, AreReportLines}
 use Rattle.script_core.specs.JournalReading.{rules_at, processes_at, AreLegal, IsReportFront, IsWholeReport}
 use Rattle.script_core.specs.JournalView.{AreLeft}
 
 -- each line has a text
 reported_once : (state : ProcState) → is_reported state 1 ≡ true
-reported_once Unborn = refl
-reported_once Live = refl
-reported_once Waiting = refl
-reported_once Ended = refl
+reported_once state = grind (arith, common_steps)
 
 some_text : (line : ReportLine) → (text : List ℕ) × IsLineOf line text
 some_text (lines.Held held) = (line_text (lines.Held held), refl)
@@ -46,11 +42,7 @@ all_texts (line ∷ more) = ap suc (all_texts more)
 -- a state after these events has one list of lines
 pub one_report : LocksHaveOneReport → (processes : ℕ) (S : State) (events : List Event) (a b : List ReportLine) → AreReportLines processes S events a
     → AreReportLines processes S events b → a ≡ b
-one_report one processes S events a b h k =
-    h.is
-    ∙ ap (λ held. map lines.Held held ++ map lines.Waits S.waits ++ lines_from S.states events 1 processes)
-    (one (mode_in S.changes) (flock_mode_in S.flock_changes) h.held k.held h.is_held k.is_held)
-    ∙ sym k.is
+one_report one processes S events a b h k = grind (arith, common_steps)
 
 -- before the first line all are left
 pub AreLeft-first : (place : Place) (entries : List Event) (reported : List ReportLine) → AreLegal place entries
@@ -93,23 +85,11 @@ front_more place entries texts left T run are =
 -- it doesn't go on with a line with which what is left doesn't
 pub no_front : LocksHaveOneReport → (place : Place) (entries : List Event) (texts : List (List ℕ)) (left : List ReportLine) (text : List ℕ)
     → AreLeft place entries texts left → ((more : List (List ℕ)) → AreTextsOf left (text ∷ more) → ⊥) → IsReportFront place entries (texts ++ text ∷ []) → ⊥
-no_front one place entries texts left text are none front =
-    let at = front.1 in
-    let same = one_report one (processes_at place) at.state entries front.0 are.reported at.lines (are.lines at.state at.run) in
-    let texts_are = subst (λ l. AreTextsOf l (texts ++ text ∷ [] ++ front.2)) same front.3 in
-    none front.2 ((are.goes_on (text ∷ front.2)).0 (behind are.reported texts text front.2 texts_are))
+no_front one place entries texts left text are none front = grind (arith, common_steps, one_report, behind)
 
 -- where a line is due something is left, and where none is nothing has to come
 out_as_told : (line : ReportLine) → (may_be_left_out line ≡ true → MayBeLeftOut line) × (MayBeLeftOut line → may_be_left_out line ≡ true)
-out_as_told (lines.Held held) = ((λ e. let bad : false ≡ true = e in absurd cc), (λ no. absurd no))
-out_as_told (lines.Waits wait) = ((λ e. let bad : false ≡ true = e in absurd cc), (λ no. absurd no))
-out_as_told (lines.Process told) = unborn told.state
-  where
-    unborn : (state : ProcState) → (may_be_left_out (lines.Process (record told { state = state })) ≡ true → state ≡ Unborn) × (state ≡ Unborn → may_be_left_out (lines.Process (record told { state = state })) ≡ true)
-    unborn Unborn = ((λ e. refl), (λ e. refl))
-    unborn Live = ((λ e. let bad : false ≡ true = e in absurd cc), (λ e. let bad : Live ≡ Unborn = e in absurd cc))
-    unborn Waiting = ((λ e. let bad : false ≡ true = e in absurd cc), (λ e. let bad : Waiting ≡ Unborn = e in absurd cc))
-    unborn Ended = ((λ e. let bad : false ≡ true = e in absurd cc), (λ e. let bad : Ended ≡ Unborn = e in absurd cc))
+out_as_told line = grind (arith, common_steps)
 
 pub first_due-none : (left : List ReportLine) → AreTextsOf left [] → first_due left ≡ None
 first_due-none [] are = refl
@@ -133,11 +113,7 @@ due_is left (Some line) is = sym (first_due-some left line is)
 -- a whole report has nothing due, and where nothing is due it is whole
 pub whole_ends : LocksHaveOneReport → (place : Place) (entries : List Event) (texts : List (List ℕ)) (left : List ReportLine) → AreLeft place entries texts left
     → IsWholeReport place entries texts → AreTextsOf left []
-whole_ends one place entries texts left are whole =
-    let at = whole.1 in
-    let same = one_report one (processes_at place) at.state entries whole.0 are.reported at.lines (are.lines at.state at.run) in
-    let all : AreTextsOf are.reported (texts ++ []) = subst (λ l. AreTextsOf are.reported l) (sym (append-nil texts)) (subst (λ l. AreTextsOf l texts) same whole.2) in
-    (are.goes_on []).0 all
+whole_ends one place entries texts left are whole = grind (arith, common_steps, one_report, append-nil)
 
 pub ends_whole : (place : Place) (entries : List Event) (texts : List (List ℕ)) (left : List ReportLine) (T : State)
     → IsRun (rules_at place) (processes_at place) entries T → AreLeft place entries texts left → AreTextsOf left [] → IsWholeReport place entries texts
@@ -147,10 +123,7 @@ ends_whole place entries texts left T run are end =
 -- where nothing is due, all that is left may be left out
 nothing_due_first : (line : ReportLine) (more : List ReportLine) (out : Bool) → may_be_left_out line ≡ out → (first_due more ≡ None → AreTextsOf more [])
     → first_due (line ∷ more) ≡ None → MayBeLeftOut line × AreTextsOf more []
-nothing_due_first line more true out rest none =
-    ((out_as_told line).0 out, rest (sym (ap (λ b. if b then first_due more else Some line) out) ∙ none))
-nothing_due_first line more false due rest none =
-    let bad : Some line ≡ None = sym (ap (λ b. if b then first_due more else Some line) due) ∙ none in absurd cc
+nothing_due_first line more out h h2 h3 = grind (arith, common_steps, out_as_told)
 
 pub nothing_due : (left : List ReportLine) → first_due left ≡ None → AreTextsOf left []
 nothing_due [] none = refl

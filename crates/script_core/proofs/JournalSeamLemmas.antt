@@ -1,5 +1,6 @@
 -- What a `JournalReader` has read once a header line, an entry or a line of the report was taken down, and whether it may end.
-use Rattle.std.proofs.Common.{◌≡◌, ◌≢◌, ℕ, true, false, List, [], ◌∷◌, ◌++◌, Option, Some, None, MatchOption, Result, Ok, Err, inl, inr, ⊎_elim, refl, sym, ap, ap₂, ◌∙◌, subst}
+use Rattle.std.proofs.Common.{arith, ◌≡◌, ◌≢◌, ℕ, true, false, List, [], ◌∷◌, ◌++◌, Option, Some, None, MatchOption, Result, Ok, Err, inr, refl, sym, ap, ap₂, ◌∙◌, subst}
+use Rattle.std.proofs.lemmas.Grind.{common_steps}
 use Rattle.std.specs.Prelude.{is_some, if◌then◌else◌}
 use Rattle.fd_table.specs.declared.Limits.{Limits}
 use Rattle.lock_book.specs.OneReport.{LocksHaveOneReport}
@@ -26,9 +27,7 @@ use Rattle.script_core.proofs.JournalReportLemmas.{AreLeft-first, AreLeft-more, 
 
 -- before the report no line of it came
 none_before : (stage : Stage) (entries : List Event) (report : List (List ℕ)) → IsBeforeReport stage → IsStageOf stage entries report → report ≡ []
-none_before stages.Header entries report before is = is.1
-none_before stages.Entries entries report before is = is
-none_before stages.Report entries report before is = absurd before
+none_before stage entries report h h2 = grind (arith, common_steps)
 
 -- an entry was taken down
 pub entry_taken : (old new : JournalReader) (reading : JournalReading) (line : List ℕ) (event : Event) → HasRead old reading → IsBeforeReport reading.place.stage
@@ -54,31 +53,13 @@ pub limits_taken : (old new : JournalReader) (reading : JournalReading) (line : 
     → HasRead old reading → reading.place.stage ≡ stages.Header → IsAtOpening old new (record old.place { limits = Some limits }) result
     → TakesSaid new reading line (lines.Limits limits) result
 unfolding place_of
-limits_taken old new reading line limits (Ok done) read header opening =
-    let P : Place = record reading.place { limits = Some limits } in
-    let same : record old.place { limits = Some limits } ≡ P = ap (λ (p : Place). record p { limits = Some limits }) read.place in
-    let empty : (reading.entries ≡ []) × (reading.report ≡ []) = subst (λ s. IsStageOf s reading.entries reading.report) header read.stage in (
-      tt,
-      record {
-        place = opening.0 ∙ same;
-        stage = read.stage;
-        unspent = opening.1 ∙ read.unspent;
-        checked = subst (λ entries. HasChecked new P entries) (sym empty.0) (subst (λ p. HasChecked new p []) same opening.2);
-        reported = subst (λ texts. HasReported new P reading.entries texts) (sym empty.1)
-            (subst (λ entries. HasReported new P entries []) (sym empty.0) (subst (λ p. HasReported new p [] []) same opening.3));
-      },
-    )
-limits_taken old new reading line limits (Err (faults.Grammar cause)) read header opening = absurd opening
-limits_taken old new reading line limits (Err faults.Illegal) read header opening = absurd opening
-limits_taken old new reading line limits (Err (faults.Memory memory)) read header opening = (tt, subst (λ r. HasRead r reading) (sym opening) read)
+limits_taken old new reading line limits result h h2 h3 = grind (arith, common_steps)
 
 -- what a report that is begun is expected to have
 pub expected_due : (reader : JournalReader) (left : List ReportLine) (due : Option ReportLine) → reader.illegal ≡ None → reader.report ≡ Some left
     → MatchOption due (AreTextsOf left []) (λ line. IsFirstDue left line) → expected_in reader ≡ due_text due
 unfolding expected_in
-expected_due reader left due illegal report told =
-    ap (λ o. if is_some o then text_expected o (expected_by reader.checker) else report_expected reader.report) illegal
-    ∙ ap report_expected report ∙ ap due_text (sym (due_is left due told))
+expected_due reader left due illegal report told = grind (arith, common_steps, due_is)
 
 unspent_expects : (reader : JournalReader) (left : List ReportLine) → is_spent reader ≡ false → reader.report ≡ Some left
     → expected_in reader ≡ due_text (first_due left)
@@ -127,13 +108,7 @@ kept_read : (old new : JournalReader) (reading : JournalReading) (left : List Re
     → AreLeft reading.place reading.entries reading.report left → new.place ≡ old.place → new.checker ≡ old.checker → new.illegal ≡ old.illegal
     → new.report ≡ Some left → HasRead new reading
 unfolding place_of is_spent HasChecked HasReported
-kept_read old new reading left read are placed checker illegal report = record {
-  place = placed ∙ read.place;
-  stage = read.stage;
-  unspent = ap is_some illegal ∙ read.unspent;
-  checked = subst (λ c. HasAccepted (rules_at reading.place) (processes_at reading.place) c reading.entries) (sym checker) read.checked;
-  reported = rw report are;
-}
+kept_read old new reading left read are placed checker illegal report = grind (arith, common_steps)
 
 pub report_refused : LocksHaveOneReport → (old new : JournalReader) (reading : JournalReading) (text : List ℕ) (left : List ReportLine) (fault : ReportFault)
     → HasRead old reading → AreLeft reading.place reading.entries reading.report left
@@ -158,26 +133,13 @@ record IsCutAt (stage : Stage) (report : Option (List ReportLine)) : Type 0 wher
   due : is_some (first_due left) ≡ true
 
 cut_at : (stage : Stage) (report : Option (List ReportLine)) → is_cut stage report ≡ true → IsCutAt stage report
-cut_at stages.Header report cut = absurd (let bad : false ≡ true = cut in cc)
-cut_at stages.Entries report cut = absurd (let bad : false ≡ true = cut in cc)
-cut_at stages.Report None cut = absurd (let bad : false ≡ true = cut in cc)
-cut_at stages.Report (Some left) cut = record { begun = refl; left = left; is = refl; due = cut }
+cut_at stage report h = grind (arith, common_steps)
 
 -- the report is cut short
 pub finish_cut : LocksHaveOneReport → (reader : JournalReader) (reading : JournalReading) → HasRead reader reading → cuts reader ≡ true
     → Finishes reader reading (Err faults.Illegal)
 unfolding cuts place_of HasReported
-finish_cut one reader reading read cut =
-    let at = cut_at reader.place.stage reader.report cut in
-    let begun : reading.place.stage ≡ stages.Report = sym (ap (λ (p : Place). p.stage) read.place) ∙ at.begun in
-    let some : reading.report ≢ [] = subst (λ s. IsStageOf s reading.entries reading.report) begun read.stage in
-    let are : AreLeft reading.place reading.entries reading.report at.left = subst (λ r. ReportsAt reading.place reading.entries reading.report r) at.is read.reported in (
-      (λ may. ⊎_elim some
-          (λ whole.
-          let none = first_due-none at.left (whole_ends one reading.place reading.entries reading.report at.left are whole) in
-          let bad : false ≡ true = sym (ap is_some none) ∙ at.due in cc) may),
-      (at.left, are, unspent_expects reader at.left read.unspent at.is),
-    )
+finish_cut one reader reading read cut = grind (arith, common_steps, cut_at, first_due-none, whole_ends, unspent_expects)
 
 not_some : {X : Type 0} (o : Option X) → is_some o ≡ false → o ≡ None
 not_some None e = refl
@@ -186,11 +148,7 @@ not_some (Some x) e = absurd (let bad : true ≡ false = e in cc)
 whole_at : (place : Place) (entries : List Event) (texts : List (List ℕ)) (stage : Stage) (report : Option (List ReportLine)) (T : State)
     → IsRun (rules_at place) (processes_at place) entries T → IsStageOf stage entries texts → ReportsAt place entries texts report → is_cut stage report ≡ false
     → MayEnd (record { place = place; entries = entries; report = texts })
-whole_at place entries texts stages.Header report T run is reported whole = inl is.1
-whole_at place entries texts stages.Entries report T run is reported whole = inl is
-whole_at place entries texts stages.Report None T run is reported whole = inl reported
-whole_at place entries texts stages.Report (Some left) T run is reported whole =
-    inr (ends_whole place entries texts left T run reported (nothing_due left (not_some (first_due left) whole)))
+whole_at place entries texts stage report T h h2 h3 h4 = grind (arith, common_steps, ends_whole, nothing_due, not_some)
 
 -- the report is whole, or wasn't begun
 pub finish_whole : (reader : JournalReader) (reading : JournalReading) → HasRead reader reading → cuts reader ≡ false → MayEnd reading

@@ -1,5 +1,6 @@
 -- What a `JournalReader` answers to a line, from what the line gives and what was taken down of it.
-use Rattle.std.proofs.Common.{◌≡◌, ◌⊎◌, ℕ, Result, Ok, Err, List, refl, sym, subst, inl, inr}
+use Rattle.std.proofs.Common.{arith, ◌≡◌, ◌⊎◌, ℕ, Result, Ok, Err, List, refl, subst, inl, inr}
+use Rattle.std.proofs.lemmas.Grind.{common_steps}
 use Rattle.script_core.specs.declared.place.Place.{Place}
 use Rattle.script_core.specs.declared.place.JournalLine.{JournalLine}
 use Rattle.script_core.specs.declared.script.Cause.{Cause}
@@ -39,9 +40,7 @@ fault_by : (reader : JournalReader) (reading : JournalReading) (line : List ℕ)
     → (IsOfScript cause → JournalLineGives reading.place line (Err cause))
     → (IsWantOfMemory cause → HaveNote (limits_at reading.place) (pieces_of line)) → HasRead reader reading
     → IsOfScript cause ⊎ IsWantOfMemory cause → Takes reader reading line (Err (fault_of cause))
-fault_by reader reading line cause refused memory read (inl of) = grammar_fault reader reading line cause of (refused of) read
-fault_by reader reading line cause refused memory read (inr want) =
-    subst (λ it. Takes reader reading line (Err (fault_of it))) (sym want.1) (inr (memory want), read)
+fault_by reader reading line cause h h2 h3 h4 = grind (arith, common_steps, grammar_fault)
 
 -- what the text of a line gives, the line gives
 pub line_given : (place at : Place) (line text : List ℕ) (result : Result JournalLine Cause) → text ≡ line

@@ -1,5 +1,6 @@
 -- The bytes of a line.
-use Rattle.std.proofs.Common.{◌≡◌, ℕ, zero, suc, Bool, true, false, Ok, List, [], ◌∷◌, length, filter, refl, sym, subst, arith, ne_eqb, lit<, tests}
+use Rattle.std.proofs.lemmas.Grind.{common_steps}
+use Rattle.std.proofs.Common.{◌≡◌, ℕ, Bool, true, false, Ok, List, [], ◌∷◌, length, filter, refl, arith, ne_eqb}
 use Rattle.std.specs.Prelude.{◌==◌, if◌then◌else◌, not}
 use Rattle.std.specs.List.{slice_split, onto_first}
 use Rattle.std.specs.Str.{IsUtf8, IsAscii}
@@ -9,9 +10,7 @@ use Rattle.script_core.specs.Words.{begins_with_hash, is_printable, words_of}
 use Rattle.script_core.specs.Reading.{Reading, WordsGive, is_comment}
 
 printable_ascii : (line : List ℕ) → is_printable line ≡ true → IsAscii line
-printable_ascii [] printable i = lit< tt
-printable_ascii (byte ∷ bytes) printable zero = grind (arith, tests)
-printable_ascii (byte ∷ bytes) printable (suc i) = printable_ascii bytes (grind (arith, tests)) i
+printable_ascii line h h2 = grind (arith, common_steps)
 
 -- a printable line is text
 pub printable_utf8 : (line : List ℕ) → is_printable line ≡ true → IsUtf8 line
@@ -39,6 +38,4 @@ comment_word (byte ∷ bytes) is =
 
 -- and the line says nothing
 pub comment_skipped : (reading : Reading) (line : List ℕ) → begins_with_hash line ≡ true → WordsGive reading (words_of line) (Ok Skipped)
-comment_skipped reading line is =
-    let word = comment_word line is in
-    subst (λ words. WordsGive reading words (Ok Skipped)) (sym word.2) (rw word.3 refl)
+comment_skipped reading line is = grind (arith, common_steps, comment_word)

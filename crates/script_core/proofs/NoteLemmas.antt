@@ -1,16 +1,16 @@
 -- A piece's first words: what they say, the whole piece says.
-use Rattle.std.proofs.Common.{◌≡◌, ℕ, ◌<◌, ◌≤◌, Option, Some, None, IfSome, MatchOption, MatchResult, Result, Ok, Err, List, [], ◌∷◌, length, take, codes, ap, subst, inl, inr, arith, lit≤, ne_eqb, ⊎_elim, take_all, ◌⊎◌}
+use Rattle.std.proofs.lemmas.Grind.{common_steps}
+use Rattle.std.proofs.Common.{◌≡◌, ℕ, ◌<◌, ◌≤◌, Option, IfSome, MatchOption, MatchResult, Result, Ok, Err, List, [], ◌∷◌, length, take, subst, arith, lit≤, ⊎_elim, take_all, ◌⊎◌}
 use Rattle.std.specs.Prelude.{bytes_eq}
 use Rattle.std.specs.List.{AllByRecursion as Each}
 use Rattle.std.proofs.lemmas.Bool.{cases_lt}
 use Rattle.std.proofs.lemmas.List.{length-take-le}
 use Rattle.fd_table.specs.declared.Limits.{Limits}
 use Rattle.lock_manager.specs.declared.request.Reply.{Reply}
-use Rattle.lock_manager.specs.declared.request.Reply.TheVariants as replies
 use Rattle.lock_manager.specs.declared.request.Note.{Note}
 use Rattle.script_core.specs.declared.entry.Taken.{Taken}
 use Rattle.script_core.specs.declared.script.Cause.{Cause}
-use Rattle.script_core.specs.declared.script.Cause.TheVariants.{Count, Word}
+use Rattle.script_core.specs.declared.script.Cause.TheVariants.{Word}
 use Rattle.script_core.specs.EntryText.{reply_words}
 use Rattle.script_core.specs.Arguments.{Argument, ErrorWord, Spells, AreRefused, Command}
 use Rattle.script_core.specs.EntryReading.{RequestIsTaken, TakenGives, reply_forms, reply_named, ReplyWordsGive, ReplyGives, WaitGives, ToldGives, NoteGives}
@@ -20,23 +20,14 @@ use Rattle.script_core.proofs.FirstWordsLemmas.{MatchBool-map, found_has, many_a
 -- of words that are more than the arguments expected, others that are say the same
 refused_so : (expected : List Argument) (words others : List (List ℕ)) (cause : Cause) → length expected < length words → length expected < length others
     → AreRefused expected words cause → AreRefused expected others cause
-refused_so expected words others cause many more refused =
-    let is : cause ≡ Count = rw (ne_eqb (length words) (length expected) (λ e. omega (arith, e))) at refused in
-    rw (ne_eqb (length others) (length expected) (λ e. omega (arith, e))) is
+refused_so expected words others cause many more refused = grind (arith, common_steps)
 
 length-reply_words : (reply : Reply) → length (reply_words reply) ≤ 5
-length-reply_words replies.Ok = lit≤ tt
-length-reply_words (replies.Fd fd) = lit≤ tt
-length-reply_words replies.Free = lit≤ tt
-length-reply_words (replies.Held mode start len pid) = lit≤ tt
-length-reply_words (replies.Err error) = lit≤ tt
+length-reply_words reply = grind (arith, common_steps)
 
 many_reply_words : (expected : List Argument) (name : List ℕ) (arguments others : List (List ℕ)) (result : Result Reply Cause) → length expected ≤ 4
     → 6 < length arguments → 6 < length others → ReplyWordsGive expected name arguments result → ReplyWordsGive expected name others result
-many_reply_words expected name arguments others result few many more (inl given) =
-    inl (given.0, refused_so expected arguments others given.0 (omega (arith, few, many)) (omega (arith, few, more)) given.1, given.2)
-many_reply_words expected name arguments others result few many more (inr given) =
-    absurd (let same = ap length given.1.0 in omega (arith, same, many, length-reply_words given.0))
+many_reply_words expected name arguments others result h h2 h3 h4 = grind (arith, common_steps, refused_so, length-reply_words)
 
 -- the reply has four arguments at most
 abbrev HasFour : Command → Type 0
@@ -51,10 +42,7 @@ many_found : (name : List ℕ) (arguments others : List (List ℕ)) (result : Re
     (λ form. ReplyWordsGive form.required name arguments result)
     → MatchOption found ((Spells ErrorWord name × ReplyWordsGive [] name others result) ⊎ ((¬ (Spells ErrorWord name)) × (result ≡ Err Word)))
     (λ form. ReplyWordsGive form.required name others result)
-many_found name arguments others result None many more few (inl given) =
-    inl (given.0, many_reply_words [] name arguments others result (lit≤ tt) many more given.1)
-many_found name arguments others result None many more few (inr given) = inr given
-many_found name arguments others result (Some form) many more few given = many_reply_words form.required name arguments others result few many more given
+many_found name arguments others result found h h2 h3 h4 = grind (arith, common_steps, many_reply_words)
 
 many_reply : (name : List ℕ) (arguments others : List (List ℕ)) (result : Result Reply Cause) → 6 < length arguments → 6 < length others
     → ReplyGives name arguments result → ReplyGives name others result
@@ -63,15 +51,11 @@ many_reply name arguments others result many more given =
 
 many_wait : (p n : ℕ) (words others : List (List ℕ)) (result : Result Note Cause) → 6 < length words → 6 < length others
     → WaitGives p n words result → WaitGives p n others result
-many_wait p n [] others result many more given = absurd (omega (arith, many))
-many_wait p n (word ∷ words) [] result many more given = absurd (omega (arith, more))
-many_wait p n (word ∷ words) (other ∷ others) result many more given = given
+many_wait p n words others result h h2 h3 = grind (arith, common_steps)
 
 many_told : (p n : ℕ) (name : List ℕ) (arguments others : List (List ℕ)) (result : Result Note Cause) → 6 < length arguments → 6 < length others
     → ToldGives p n (name ∷ arguments) result → ToldGives p n (name ∷ others) result
-many_told p n name arguments others result many more given =
-    MatchBool-map (bytes_eq name (codes "waits")) _ _ _ _ (many_wait p n arguments others result many more)
-    (λ given. (given.0, many_reply name arguments others given.0 many more given.1, given.2)) given
+many_told p n name arguments others result many more given = grind (arith, common_steps, MatchBool-map, many_wait, many_reply)
 
 many_tagged : (tagged : Result (ℕ × ℕ) Cause) (name : List ℕ) (arguments others : List (List ℕ)) (result : Result Note Cause) → 6 < length arguments → 6 < length others
     → MatchResult tagged (λ pair. ToldGives pair.0 pair.1 (name ∷ arguments) result) (λ cause. result ≡ Err cause)

@@ -1,9 +1,10 @@
 -- Words that spell numbers.
-use Rattle.std.proofs.Common.{◌≡◌, ◌≢◌, ◌∙◌, ℕ, ◌<◌, ◌≤◌, ◌^◌, zero, suc, ◌==◌, false, cond, List, [], ◌∷◌, length, drop, get_or, codes, decimal, Option, Some, None, Result, Ok, Err, MatchOption, ℤ, pos, negsuc, ◌-ℤ◌, neg_ℤ, FitsSigned, refl, sym, ap, subst, arith, lit<}
+use Rattle.std.proofs.lemmas.Grind.{common_steps}
+use Rattle.std.proofs.Common.{◌≡◌, ◌≢◌, ◌∙◌, ℕ, ◌<◌, ◌≤◌, ◌^◌, zero, suc, ◌==◌, false, cond, List, [], ◌∷◌, length, get_or, codes, decimal, Option, None, Result, Ok, Err, MatchOption, ℤ, pos, negsuc, ◌-ℤ◌, neg_ℤ, FitsSigned, refl, sym, ap, arith}
 use Rattle.std.specs.Fmt.{digits, signed_decimal}
 use Rattle.std.specs.Option.{SomeIff}
 use Rattle.std.specs.Result.{OkIff, result_ok}
-use Rattle.std.specs.Int.{IsInRange, w64}
+use Rattle.std.specs.Int.{w64}
 use Rattle.std.specs.Str.Parse.{AllDigits, digits_value, ParsesUnsigned}
 use Rattle.std.proofs.lemmas.Str.Parse.{IsNumeralModel, numerals_by_value, tells_digits, digit_at, parse_plain}
 use Rattle.std.proofs.lemmas.Int.{ints}
@@ -23,10 +24,7 @@ first_of_decimal zero small h = first_of_zero h
 first_of_decimal (suc n) small h = first_decimal (suc n) (omega arith) small
 
 pub BeginsPlainly-decimal : (n : ℕ) → n < 2 ^ 64 → BeginsPlainly (decimal n)
-BeginsPlainly-decimal n small =
-    let numeral = decimal_is_IsNumeral n small in
-    let digit : IsInRange 48 57 (get_or (decimal n) 0 0) = digit_at (decimal n) 0 numeral.0.1 numeral.0.0 in
-    record { at_least = omega arith; at_most = omega arith; no_leading_zero = first_of_decimal n small }
+BeginsPlainly-decimal n small = grind (arith, common_steps, decimal_is_IsNumeral, digit_at, first_of_decimal)
 
 plain_zero : (bs : List ℕ) → BeginsPlainly bs → 0 < length bs → get_or bs 0 0 ≡ 48 → length bs ≡ 1
 plain_zero bs plain some e = grind (arith, plain.no_leading_zero)
@@ -55,44 +53,20 @@ unsigned_none word sign none (pos n) fits = none n (omega (arith, fits.sfits))
 unsigned_none word sign none (negsuc n) fits = sign (decimal (suc n))
 
 pub unsigned_some : {E : Type 0} (word : List ℕ) (n : ℕ) (r : Result ℤ E) → ((rest : List ℕ) → word ≢ 45 ∷ rest) → n < 2 ^ 64 → word ≡ decimal n → OkIff r (FitsSigned w64 (pos n)) (pos n) → IsIntegerOf word (result_ok r)
-unsigned_some word n (Ok x) sign small spelled given = spelled ∙ ap signed_decimal (sym given.1)
-unsigned_some word n (Err e) sign small spelled given = elim_fits
-  where
-    elim_fits : IsIntegerOf word None
-    elim_fits (pos m) fits is =
-        let same = decimal_injective n m small (omega (arith, fits.sfits)) (sym spelled ∙ is) in
-        given (subst (λ k. FitsSigned w64 (pos k)) (sym same) fits)
-    elim_fits (negsuc m) fits is = sign (decimal (suc m)) is
+unsigned_some word n r h h2 h3 h4 = grind (arith, common_steps, decimal_injective)
 
 pub signed_none : (word digits : List ℕ) → word ≡ 45 ∷ digits → ((n : ℕ) → n < 2 ^ 64 → digits ≢ decimal n) → IsIntegerOf word None
 signed_none word digits split none (pos n) fits is = no_minus n digits (omega (arith, fits.sfits)) (sym split ∙ is)
 signed_none word digits split none (negsuc n) fits is = none (suc n) (omega (arith, fits.sfits)) (let same = sym split ∙ is in cc)
 
 pub signed_zero : (word digits : List ℕ) → word ≡ 45 ∷ digits → digits ≡ decimal 0 → IsIntegerOf word None
-signed_zero word digits split spelled (pos n) fits is = no_minus n digits (omega (arith, fits.sfits)) (sym split ∙ is)
-signed_zero word digits split spelled (negsuc n) fits is =
-    let joined = sym split ∙ is in
-    let same : decimal 0 ≡ decimal (suc n) = cc in
-    let numbers = decimal_injective 0 (suc n) (lit< tt) (omega (arith, fits.sfits)) same in
-    omega (arith, numbers)
+signed_zero word digits h h2 h3 h4 h5 = grind (arith, common_steps, no_minus, decimal_injective)
 
 negated : (n : ℕ) → pos 0 -ℤ pos (suc n) ≡ negsuc n
 negated n = omega (arith, ints)
 
 pub signed_some : (word digits : List ℕ) (n : ℕ) (r : Option ℤ) → word ≡ 45 ∷ digits → n < 2 ^ 64 → (n ≡ 0 → ⊥) → digits ≡ decimal n → SomeIff r (FitsSigned w64 (pos 0 -ℤ pos n)) (pos 0 -ℤ pos n) → IsIntegerOf word r
-signed_some word digits zero r split small some spelled given = absurd (some refl)
-signed_some word digits (suc n) (Some x) split small some spelled given =
-    split ∙ (ap (λ ds. 45 ∷ ds) spelled ∙ ap signed_decimal (sym (given.1 ∙ negated n)))
-signed_some word digits (suc n) None split small some spelled given = none
-  where
-    none : IsIntegerOf word None
-    none (pos m) fits is = no_minus m digits (omega (arith, fits.sfits)) (sym split ∙ is)
-    none (negsuc m) fits is =
-        let joined = sym split ∙ is in
-        let shown : decimal (suc n) ≡ decimal (suc m) = sym spelled ∙ ap (λ word. drop 1 word) joined in
-        let same : suc n ≡ suc m = decimal_injective (suc n) (suc m) small (omega (arith, fits.sfits)) shown in
-        let equal : n ≡ m = omega arith in
-        given (subst (λ z. FitsSigned w64 z) (sym (negated n)) (subst (λ k. FitsSigned w64 (negsuc k)) (sym equal) fits))
+signed_some word digits n r h h2 h3 h4 h5 = grind (arith, common_steps, negated, no_minus, decimal_injective)
 
 -- a word spells one natural number
 pub one_number : (word : List ℕ) (m n : ℕ) → word ≡ decimal m → word ≡ decimal n → m < 2 ^ 64 → n < 2 ^ 64 → m ≡ n

@@ -1,6 +1,7 @@
 -- Whatever a request comes to fits, one case for each request: the notes can be written, and there is no more than one for each process.
-use Rattle.std.proofs.Common.{◌≡◌, ◌≢◌, ℕ, zero, suc, ◌+◌, ◌-◌, ◌^◌, ◌<◌, ◌≤◌, ◌==◌, ◌&&◌, ◌||◌, ◌⊎◌, Bool, true, false, not, nat_le, List, [], ◌∷◌, length, Option, Some, None, Result, Ok, Err, MatchBool, MatchOption, MatchResult, inl, inr, ⊎_elim, refl, sym, ap, ◌∙◌, subst, arith, lit<, eq-eqb, ne_eqb, ℤ, pos, negsuc}
-use Rattle.std.specs.Prelude.{if◌then◌else◌, FitsSigned, int_lt, ◌+ℤ◌, nat_abs}
+use Rattle.std.proofs.lemmas.Grind.{common_steps}
+use Rattle.std.proofs.Common.{rules, ◌≡◌, ◌≢◌, ℕ, ◌+◌, ◌-◌, ◌^◌, ◌<◌, ◌≤◌, ◌==◌, ◌&&◌, ◌⊎◌, Bool, true, false, not, nat_le, List, [], ◌∷◌, length, Option, Some, None, Result, Ok, Err, MatchBool, MatchOption, MatchResult, inl, ⊎_elim, refl, sym, ap, ◌∙◌, subst, arith, lit<, eq-eqb, ne_eqb, ℤ, pos, negsuc}
+use Rattle.std.specs.Prelude.{if◌then◌else◌, FitsSigned, int_lt, nat_abs}
 use Rattle.std.specs.Int.{w64}
 use Rattle.std.specs.List.{AllByRecursion as Each}
 use Rattle.std.proofs.lemmas.Int.{ints}
@@ -11,9 +12,8 @@ use Rattle.range_core.specs.declared.Mode.{Mode}
 use Rattle.range_core.specs.declared.Mode.TheVariants as modes
 use Rattle.range_core.specs.declared.Span.{Span}
 use Rattle.range_core.specs.declared.RangeFault.{RangeFault}
-use Rattle.range_core.specs.declared.RangeFault.TheVariants.{Invalid, Overflow}
 use Rattle.range_core.specs.Changes.{is_covered}
-use Rattle.range_core.specs.Resolving.{resolution, range_between, first_byte, last_byte, base_of}
+use Rattle.range_core.specs.Resolving.{resolution, range_between, first_byte, last_byte}
 use Rattle.lock_book.specs.declared.Owner.{Owner}
 use Rattle.lock_book.specs.declared.Owner.TheVariants.{Process, Description}
 use Rattle.lock_book.specs.declared.Blocker.{Blocker}
@@ -22,7 +22,6 @@ use Rattle.lock_book.specs.Changes.{Change, mode_from, sets_byte, flock_mode_in}
 use Rattle.lock_book.specs.Conflicts.{IsFirstBlocker}
 use Rattle.fd_table.specs.declared.Access.{Access}
 use Rattle.fd_table.specs.declared.FdFault.{FdFault}
-use Rattle.fd_table.specs.declared.FdFault.TheVariants as faults
 use Rattle.fd_table.specs.declared.Limits.{Limits}
 use Rattle.fd_table.specs.declared.Limits.TheVariants.{Small, Wide}
 use Rattle.fd_table.specs.declared.tables.Look.{Look}
@@ -52,7 +51,7 @@ use Rattle.lock_manager.specs.State.{State, locks_held, with_lock, with_byte_mod
 use Rattle.lock_manager.specs.Settling.{IsSettled}
 use Rattle.lock_manager.specs.Outcomes.{Outcome, answered, answered_then, refused, waits_then, range_error, IsRefusal}
 use Rattle.lock_manager.specs.DescriptorCalls.{with_released, OpenComesTo, DupComesTo, DupToComesTo, CloseComesTo, SeekComesTo, ResizeComesTo}
-use Rattle.lock_manager.specs.LockWords.{is_get, is_bad_argument, is_ofd, wanted_mode, permits, held_reply, reported_pid, lock_owner, wanted_lock}
+use Rattle.lock_manager.specs.LockWords.{is_bad_argument, is_ofd, wanted_mode, held_reply, reported_pid, lock_owner}
 use Rattle.lock_manager.specs.LockCommands.{DescribedComesTo, RangeComesTo, ModeComesTo, CommandComesTo, GetComesTo, SetComesTo, SetOrWaitComesTo, WaitOrDeadlockComesTo}
 use Rattle.lock_manager.specs.FlockCalls.{FlockOpComesTo, FlockModeComesTo, FlockTestComesTo, ConversionComesTo, is_same_mode, wanted_flock}
 use Rattle.lock_manager.specs.ProcessCalls.{ForkComesTo, EndComesTo, SignalComesTo, KillOtherComesTo, without_wait}
@@ -99,11 +98,7 @@ refused_fits rules S p n error outcome h is = answers_fit rules S S p n (replies
 
 refusal_fits : (rules : Rules) (S : State) (p n : ℕ) (fault : FdFault) (outcome : Outcome) → IsAtHand rules S p n → IsRefusal S p n fault outcome
     → OutcomeFits rules outcome
-refusal_fits rules S p n faults.BadFd outcome h is = refused_fits rules S p n _ outcome h is
-refusal_fits rules S p n faults.TooMany outcome h is = refused_fits rules S p n _ outcome h is
-refusal_fits rules S p n faults.Invalid outcome h is = refused_fits rules S p n _ outcome h is
-refusal_fits rules S p n faults.Taken outcome h is = refused_fits rules S p n _ outcome h is
-refusal_fits rules S p n (faults.Memory memory) outcome h is = absurd is
+refusal_fits rules S p n fault outcome h h2 = grind (arith, common_steps, refused_fits)
 
 -- ---- descriptors
 
@@ -120,18 +115,11 @@ with_files S D locks files = record { changes = locks.changes; flocks = locks.fl
 
 open_fits : (rules : Rules) (S : State) (p n file : ℕ) (access : Access) (outcome : Outcome) → IsAtHand rules S p n
     → OpenComesTo rules S p n file access outcome → OutcomeFits rules outcome
-open_fits rules S p n file access outcome h (Ok fd, D, gives, is) =
-    answers_fit rules S (record S { descriptors = D }) p n (replies.Fd fd) outcome h (same_but S D gives.3.ever_alive)
-    (with_files S D h.fits.locks (one_more_file S.descriptors D _ gives.3.descriptions gives.0 gives.1 h.fits.locks.files))
-    (small_descriptor rules.limits fd gives.2.within) is
-open_fits rules S p n file access outcome h (Err fault, D, gives, is) = refusal_fits rules S p n fault outcome h is
+open_fits rules S p n file access outcome h h2 = grind (arith, common_steps, answers_fit, same_but, with_files, one_more_file, small_descriptor, refusal_fits)
 
 dup_fits : (rules : Rules) (S : State) (p n fd : ℕ) (outcome : Outcome) → IsAtHand rules S p n → DupComesTo rules S p n fd outcome
     → OutcomeFits rules outcome
-dup_fits rules S p n fd outcome h (Ok free, D, gives, is) =
-    answers_fit rules S (record S { descriptors = D }) p n (replies.Fd free) outcome h (same_but S D gives.3.ever_alive)
-    (with_files S D h.fits.locks (same_files S.descriptors D gives.3.descriptions h.fits.locks.files)) (small_descriptor rules.limits free gives.2.within) is
-dup_fits rules S p n fd outcome h (Err fault, D, gives, is) = refusal_fits rules S p n fault outcome h is
+dup_fits rules S p n fd outcome h h2 = grind (arith, common_steps, answers_fit, same_but, with_files, same_files, small_descriptor, refusal_fits)
 
 -- what is released leaves the processes
 same_released : (S : State) (D : Descriptors) (p : ℕ) (released : Released) → ((q : ℕ) → D.ever_alive q ≡ S.descriptors.ever_alive q)
@@ -172,18 +160,11 @@ close_fits rules S p n fd outcome h (Err fault, D, gives, is) = refusal_fits rul
 
 seek_fits : (rules : Rules) (S : State) (p n fd : ℕ) (offset : ℤ) (outcome : Outcome) → IsAtHand rules S p n → SeekComesTo S p n fd offset outcome
     → OutcomeFits rules outcome
-seek_fits rules S p n fd offset outcome h (Ok done, D, gives, is) =
-    answers_fit rules S (record S { descriptors = D }) p n replies.Ok outcome h (same_but S D gives.4.ever_alive)
-    (with_files S D h.fits.locks
-    (moved_file S.descriptors D gives.1.number gives.2 gives.0 gives.1.numbered gives.4.descriptions h.fits.locks.files)) tt is
-seek_fits rules S p n fd offset outcome h (Err fault, D, gives, is) = refusal_fits rules S p n fault outcome h is
+seek_fits rules S p n fd offset outcome h h2 = grind (arith, common_steps, answers_fit, same_but, with_files, moved_file, refusal_fits)
 
 resize_fits : (rules : Rules) (S : State) (p n fd : ℕ) (size : ℤ) (outcome : Outcome) → IsAtHand rules S p n → ResizeComesTo S p n fd size outcome
     → OutcomeFits rules outcome
-resize_fits rules S p n fd size outcome h (Ok done, D, gives, is) =
-    answers_fit rules S (record S { descriptors = D }) p n replies.Ok outcome h (same_but S D gives.4.ever_alive)
-    (with_files S D h.fits.locks (same_files S.descriptors D gives.4.descriptions h.fits.locks.files)) tt is
-resize_fits rules S p n fd size outcome h (Err fault, D, gives, is) = refusal_fits rules S p n fault outcome h is
+resize_fits rules S p n fd size outcome h h2 = grind (arith, common_steps, answers_fit, same_but, with_files, same_files, refusal_fits)
 
 -- ---- waits
 
@@ -193,41 +174,14 @@ waits_fit : (rules : Rules) (S U : State) (wait : Wait) (grants : List Note) (ou
     → FitsWanted wait → IsBlocked rules.policy (locks_held U) U.waits wait → outcome ≡ waits_then U wait grants
     → OutcomeFits rules outcome
 waits_fit rules S U wait grants outcome h fits settled live told few fit blocked is =
-    let idle : U.states wait.p ≢ Waiting = λ e. let bad : Live ≡ Waiting = sym live ∙ e in cc in
-    let others = others_wait rules.limits U wait.p idle fits in
-    let T = (waits_then U wait grants).after in
-    subst (OutcomeFits rules) (sym is)
-    (record {
-      after = record {
-        locks = record { changes = fits.locks.changes; flocks = fits.locks.flocks; files = fits.locks.files };
-        waits = each_append (FitsWait rules.limits T.states) U.waits (wait ∷ [])
-            (each_both (λ (other : Wait). other.p ≢ wait.p) (FitsWait rules.limits U.states) (FitsWait rules.limits T.states) U.waits
-            (λ other differs at. still_waits rules.limits U.states T.states other at (rw (ne_eqb other.p wait.p differs) at.waiting)) others fits.waits)
-            (record { process = h.process; number = h.number; wanted = fit; waiting = rw (eq-eqb wait.p wait.p refl) refl }, tt);
-        apart = apart_push U.waits wait fits.apart others;
-        born = λ q there. ⊎_elim
-            (λ same. fits.born q (λ e. let bad : Live ≡ Unborn = sym live ∙ ap U.states (sym same) ∙ e in cc))
-            (λ differs. fits.born q (λ e. there (rw (ne_eqb q wait.p differs) e)))
-            (cases_eq q wait.p);
-      };
-      told = ((h.process, h.number), told);
-      few = inr (omega (arith, few), blocked_more rules.policy (locks_held U) [] U.waits wait settled blocked);
-    })
+    grind (arith, common_steps, others_wait, each_append, each_both, still_waits, eq-eqb, apart_push, cases_eq, blocked_more)
 
 -- the caller's lock is set, behind these grants
 locked_fits : (rules : Rules) (S U : State) (wait : Wait) (grants : List Note) (outcome : Outcome) → IsAtHand rules S wait.p wait.n
     → Fits rules.limits U → Each (IsWritableNote rules.limits) grants → length grants + length U.waits ≤ 63
     → FitsWanted wait → outcome ≡ answered_then (with_lock U wait) wait.p wait.n replies.Ok grants
     → OutcomeFits rules outcome
-locked_fits rules S U wait grants outcome h fits told few fit is =
-    let same = same_locked U wait in
-    let waits = ap length same.waits in
-    subst (OutcomeFits rules) (sym is)
-    (record {
-      after = fits_same rules.limits U (with_lock U wait) fits same (lock_locks U wait fit fits.locks);
-      told = ((h.process, h.number, tt), told);
-      few = inl (omega (arith, few, waits));
-    })
+locked_fits rules S U wait grants outcome h fits told few fit is = grind (arith, common_steps, same_locked, fits_same, lock_locks)
 
 -- ---- lock commands
 
@@ -237,15 +191,10 @@ IsWithin span = (span.first ≤ OFFMAX) × (span.last ≤ OFFMAX)
 
 -- a mode that is held was set by a change, whose owner and bytes fit
 same_owner : (one other : Owner) → is_same_owner one other ≡ true → IsSmallOwner one → IsSmallOwner other
-same_owner (Process p) (Process q) is small = let same = eqb-true p q is in omega (arith, same, small)
-same_owner (Process p) (Description e) is small = absurd (let bad : false ≡ true = is in cc)
-same_owner (Description d) (Process q) is small = absurd (let bad : false ≡ true = is in cc)
-same_owner (Description d) (Description e) is small = let same = eqb-true d e is in omega (arith, same, small)
+same_owner one other h h2 = grind (arith, common_steps, eqb-true)
 
 pub both_true : (a b : Bool) → a && b ≡ true → (a ≡ true) × (b ≡ true)
-both_true true true is = (refl, refl)
-both_true true false is = absurd (let bad : false ≡ true = is in cc)
-both_true false b is = absurd (let bad : false ≡ true = is in cc)
+both_true a b h = grind (arith, common_steps)
 
 pub mode_fits : (changes : List Change) (before : Option Mode) (file : ℕ) (owner : Owner) (byte : ℕ) (mode : Mode) → Each FitsChange changes
     → mode_from before changes file owner byte ≡ Some mode → (before ≡ Some mode → IsSmallOwner owner × (byte ≤ OFFMAX))
@@ -277,15 +226,7 @@ length_fits span last false = omega (arith, last)
 
 held_fits : (S : State) (wanted : Wait) (blocker : Blocker) → Each FitsChange S.changes
     → IsFirstBlocker ((locks_held S).bytes wanted.file) wanted.owner wanted.span wanted.mode blocker → IsWritableReply (held_reply blocker)
-held_fits S wanted blocker changes is =
-    let span = blocker.span in
-    let covered = is.run.covered in
-    let at_first = is.run.constant span.first (omega arith, omega (arith, covered.0, covered.1)) in
-    let at_last = is.run.constant span.last (omega (arith, covered.0, covered.1), omega arith) in
-    let first = mode_fits S.changes None wanted.file blocker.owner span.first blocker.mode changes at_first (λ e. absurd cc) in
-    let last = mode_fits S.changes None wanted.file blocker.owner span.last blocker.mode changes at_last (λ e. absurd cc) in
-    let low = first.1 in
-    (omega (arith, low), length_fits span last.1 (span.last == OFFMAX), pid_fits blocker.owner first.0)
+held_fits S wanted blocker changes is = grind (arith, common_steps, mode_fits, length_fits, pid_fits)
 
 get_fits : (rules : Rules) (S : State) (wanted : Wait) (outcome : Outcome) → IsAtHand rules S wanted.p wanted.n → GetComesTo S wanted outcome
     → OutcomeFits rules outcome
@@ -340,10 +281,7 @@ by_bool false is hit miss = miss is
 mode_comes_fit : (rules : Rules) (S : State) (p n : ℕ) (cmd : LkCmd) (look : Look) (span : Span) (mode : Mode) (outcome : Outcome) → IsAtHand rules S p n
     → FitsLook look → IsWithin span → ModeComesTo rules S p n cmd look span mode outcome → OutcomeFits rules outcome
 mode_comes_fit rules S p n cmd look span mode outcome h fit within is =
-    by_bool (is_get cmd || permits look.access mode) is
-    (λ yes. command_fits rules S cmd (wanted_lock cmd p n look span mode) outcome h
-    (record { owner = owner_fits cmd p look (few_processes rules.limits p h.process) fit; first = within.0; last = within.1; file = fit.0 }) yes)
-    (λ no. refused_fits rules S p n _ outcome h no)
+    grind (arith, common_steps, by_bool, command_fits, owner_fits, few_processes, refused_fits)
 
 range_fits : (rules : Rules) (S : State) (p n : ℕ) (cmd : LkCmd) (kind : Kind) (look : Look) (span : Span) (wanted : Option Mode) (outcome : Outcome)
     → IsAtHand rules S p n → FitsLook look → IsWithin span
@@ -370,43 +308,20 @@ within_file n is = ltb-false OFFMAX n is
 
 -- where the first byte of a description isn't before the file, the last is none before it
 last_not_negative : (start len : ℤ) → int_lt (first_byte start len) (pos 0) ≡ false → (n : ℕ) × (last_byte start len ≡ pos n)
-last_not_negative start (pos zero) low = (OFFMAX, refl)
-last_not_negative start (pos (suc n)) low =
-    let at = not_negative start low in (at.0 + n, ap (λ (z : ℤ). z +ℤ pos n) at.1)
-last_not_negative start (negsuc n) low =
-    let at = not_negative (start +ℤ negsuc n) low in
-    let from : start +ℤ negsuc n ≡ pos at.0 = at.1 in (at.0 + n, omega (arith, ints, from))
+last_not_negative start len h = grind (arith, common_steps, not_negative, ints)
 
 -- what the range of two such bytes is
 is_range : (first last : ℤ) (span : Span) → ((n : ℕ) × (first ≡ pos n)) → ((n : ℕ) × (last ≡ pos n)) → int_lt (pos OFFMAX) first ≡ false
     → int_lt (pos OFFMAX) last ≡ false
     → ◌≡◌ {A = Result Span RangeFault} (Ok (record { first = nat_abs first; last = nat_abs last })) (Ok span) → IsWithin span
-is_range first last span at to low high is =
-    let begins = within_file at.0 (subst (λ (z : ℤ). int_lt (pos OFFMAX) z ≡ false) at.1 low) in
-    let ends = within_file to.0 (subst (λ (z : ℤ). int_lt (pos OFFMAX) z ≡ false) to.1 high) in
-    let first_is : span.first ≡ at.0 = ap (λ r. (span_of r).first) (sym is) ∙ ap nat_abs at.1 in
-    let last_is : span.last ≡ to.0 = ap (λ r. (span_of r).last) (sym is) ∙ ap nat_abs to.1 in
-    (omega (arith, first_is, begins), omega (arith, last_is, ends))
-  where
-    span_of : Result Span RangeFault → Span
-    span_of (Ok s) = s
-    span_of (Err fault) = span
+is_range first last span h h2 h3 h4 h5 = grind (arith, common_steps, within_file)
 
 between : (first last : ℤ) (span : Span) (low high far : Bool) → int_lt first (pos 0) ≡ low → int_lt (pos OFFMAX) first ≡ high → int_lt (pos OFFMAX) last ≡ far
     → (int_lt first (pos 0) ≡ false → (n : ℕ) × (last ≡ pos n)) → range_between first last ≡ Ok span → IsWithin span
-between first last span true high far is_low is_high is_far some is =
-    absurd (let bad : ◌≡◌ {A = Result Span RangeFault} (Err Invalid) (Ok span) = rw is_low at is in cc)
-between first last span false true far is_low is_high is_far some is =
-    absurd (let bad : ◌≡◌ {A = Result Span RangeFault} (Err Overflow) (Ok span) = rw (is_low, is_high) at is in cc)
-between first last span false false true is_low is_high is_far some is =
-    absurd (let bad : ◌≡◌ {A = Result Span RangeFault} (Err Overflow) (Ok span) = rw (is_low, is_high, is_far) at is in cc)
-between first last span false false false is_low is_high is_far some is =
-    is_range first last span (not_negative first is_low) (some is_low) is_high is_far (rw (is_low, is_high, is_far) at is)
+between first last span low high far h h2 h3 h4 h5 = grind (arith, common_steps, is_range, not_negative)
 
 resolved_within : (lock : Lock) (look : Look) (span : Span) → resolution lock.whence lock.start lock.len look.offset look.size ≡ Ok span → IsWithin span
-resolved_within lock look span is =
-    let from = pos (base_of lock.whence look.offset look.size) +ℤ lock.start in
-    between (first_byte from lock.len) (last_byte from lock.len) span _ _ _ refl refl refl (last_not_negative from lock.len) is
+resolved_within lock look span is = grind (arith, common_steps, between, last_not_negative)
 
 described_fits : (rules : Rules) (S : State) (p n : ℕ) (cmd : LkCmd) (lock : Lock) (look : Look) (outcome : Outcome) → IsAtHand rules S p n
     → FitsLook look → DescribedComesTo rules S p n cmd lock look outcome → OutcomeFits rules outcome
@@ -494,38 +409,14 @@ flock_op_fits rules S p n look Ex nb outcome h fit is =
 flock_fits : (rules : Rules) (S : State) (p n fd : ℕ) (op : FlockOp) (nb : Bool) (look : Option Look) (outcome : Outcome) → IsAtHand rules S p n
     → look_at S.descriptors p fd ≡ look
     → MatchOption look (outcome ≡ refused S p n EBADF) (λ look. FlockOpComesTo rules S p n look op nb outcome) → OutcomeFits rules outcome
-flock_fits rules S p n fd op nb None outcome h at is = refused_fits rules S p n EBADF outcome h is
-flock_fits rules S p n fd op nb (Some look) outcome h at is =
-    flock_op_fits rules S p n look op nb outcome h (look_fits S.descriptors (S.descriptors.description_of p fd) look h.fits.locks.files at) is
+flock_fits rules S p n fd op nb look outcome h h2 h3 = grind (arith, common_steps, refused_fits, flock_op_fits, look_fits)
 
 -- ---- processes
 
 -- a process that is born lives, and no wait was of it
 fork_fits : (rules : Rules) (processes : ℕ) (S : State) (p n child : ℕ) (outcome : Outcome) → IsAtHand rules S p n
     → ForkComesTo processes S p n child outcome → OutcomeFits rules outcome
-fork_fits rules processes S p n child outcome h (Ok done, D, gives, is) =
-    let unborn : S.descriptors.ever_alive child ≡ false = gives.0.2 in
-    let idle : S.states child ≢ Waiting = λ e.
-    let born = h.fits.born child (λ k. let bad : Waiting ≡ Unborn = sym e ∙ k in cc) in let bad : true ≡ false = sym born ∙ unborn in cc in
-    let others = others_wait rules.limits S child idle h.fits in
-    let few = few_wait rules.limits S p h.process h.live h.fits in
-    let T = with_process (record S { descriptors = D }) child Live in
-    subst (OutcomeFits rules) (sym is)
-    (record {
-      after = record {
-        locks = record { changes = h.fits.locks.changes; flocks = h.fits.locks.flocks; files = same_files S.descriptors D gives.1.descriptions h.fits.locks.files };
-        waits = each_both (λ (other : Wait). other.p ≢ child) (FitsWait rules.limits S.states) (FitsWait rules.limits T.states) S.waits
-            (λ other differs at. still_waits rules.limits S.states T.states other at (rw (ne_eqb other.p child differs) at.waiting)) others h.fits.waits;
-        apart = h.fits.apart;
-        born = λ q there. ⊎_elim (λ same. gives.1.ever_alive q ∙ rw (eq-eqb q child same) refl)
-            (λ differs. gives.1.ever_alive q
-            ∙ rw (ne_eqb q child differs) (h.fits.born q (λ e. there (rw (ne_eqb q child differs) e))))
-            (cases_eq q child);
-      };
-      told = ((h.process, h.number, tt), tt);
-      few = inl (omega (arith, few));
-    })
-fork_fits rules processes S p n child outcome h (Err fault, D, gives, is) = refusal_fits rules S p n fault outcome h is
+fork_fits rules processes S p n child outcome h h2 = grind (arith, common_steps, others_wait, few_wait, same_files, each_both, still_waits, eq-eqb, cases_eq, refusal_fits)
 
 -- the waits of all others
 each_other : (P : Wait → Type 0) (waits : List Wait) (p : ℕ) → Each P waits → Each P (without_wait_of waits p)
@@ -589,20 +480,7 @@ left_fits : (limits : Limits) (S T : State) (p : ℕ) (state : ProcState) → Fi
     → T.states ≡ (λ q. if q == p then state else S.states q) → T.waits ≡ without_wait_of S.waits p
     → ((q : ℕ) → T.descriptors.ever_alive q ≡ S.descriptors.ever_alive q) → FitsLocks T → Fits limits T
 left_fits limits S T p state fits there states waits alive locks =
-    let left = without_wait_of S.waits p in
-    let now = λ (q : ℕ). if q == p then state else S.states q in
-    record {
-      locks = locks;
-      waits = subst (λ (l : List Wait). Each (FitsWait limits T.states) l) (sym waits)
-          (subst (λ (f : ℕ → ProcState). Each (FitsWait limits f) left) (sym states)
-          (each_both (λ (other : Wait). other.p ≢ p) (FitsWait limits S.states) (FitsWait limits now) left
-          (λ other differs at. still_waits limits S.states now other at (rw (ne_eqb other.p p differs) at.waiting)) (others_left S.waits p) (each_other (FitsWait limits S.states) S.waits p fits.waits)));
-      apart = subst AreApart (sym waits) (apart_left S.waits p fits.apart);
-      born = λ q stands. alive q ∙ ⊎_elim
-          (λ same. fits.born q (λ e. there (ap S.states (sym same) ∙ e)))
-          (λ differs. fits.born q (λ e. stands (ap (λ (f : ℕ → ProcState). f q) states ∙ rw (ne_eqb q p differs) e)))
-          (cases_eq q p);
-    }
+    grind (arith, common_steps, each_both, still_waits, others_left, each_other, apart_left, cases_eq)
 
 -- a process ends, and this was told: of that and of the others' waits there are 64 at most
 end_fits : (rules : Rules) (S : State) (p : ℕ) (told : List Note) (outcome : Outcome) → Fits rules.limits S → S.states p ≢ Unborn → p ≤ 64

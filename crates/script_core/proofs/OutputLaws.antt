@@ -1,5 +1,6 @@
 -- A script has one output.
-use Rattle.std.proofs.Common.{◌≡◌, ℕ, List, ◌++◌, length, flat_map, Result, Ok, sym, ◌∙◌, subst}
+use Rattle.std.proofs.Common.{arith, ◌≡◌, ℕ, List, ◌++◌, length, flat_map, Result, Ok, sym, ◌∙◌, subst}
+use Rattle.std.proofs.lemmas.Grind.{common_steps}
 use Rattle.lock_book.specs.OneReport.{LocksHaveOneReport}
 use Rattle.lock_manager.specs.State.{State}
 use Rattle.session_core.specs.Event.{Event}
@@ -25,9 +26,7 @@ one_meaning bytes meaning other h k =
 -- the reports of equal states are equal
 one_report : LocksHaveOneReport → (processes : ℕ) (S T : State) (events journal : List Event) (sent : ℕ → ℕ) (text other : List ℕ)
     → S ≡ T → events ≡ journal → IsReport processes S events sent text → IsReport processes T journal sent other → text ≡ other
-one_report one processes S T events journal sent text other same_state same_events h k =
-    IsReport-unique one processes T journal sent text other
-    (subst (λ l. IsReport processes T l sent text) same_events (subst (λ X. IsReport processes X events sent text) same_state h)) k
+one_report one processes S T events journal sent text other same_state same_events h k = grind (arith, common_steps, IsReport-unique)
 
 pub IsOutput-unique : LocksHaveOneReport → ArrivalsHaveOneDrain → ScriptsHaveOneOutput
 IsOutput-unique report drain bytes text other h k =

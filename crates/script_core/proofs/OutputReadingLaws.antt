@@ -1,4 +1,5 @@
 -- Outputs are legal journals.
+use Rattle.std.proofs.lemmas.Grind.{common_steps}
 use Rattle.std.proofs.Common.{◌≡◌, ℕ, ◌+◌, ◌≤◌, ◌&&◌, Bool, true, false, nat_le, nat_lt, List, [], ◌∷◌, ◌++◌, map, flat_map, length, All, MatchBool, Result, Ok, Err, inl, inr, refl, sym, ap, ◌∙◌, subst, arith, lit≤, append_assoc, append-nil}
 use Rattle.std.specs.Prelude.{unwrap_or}
 use Rattle.std.specs.List.{AllByRecursion as Each}
@@ -52,9 +53,7 @@ lines_joined (text ∷ texts) all =
     ap lines_of (append_assoc text (10 ∷ []) (joined texts)) ∙ lines_first text (joined texts) all.0 ∙ ap (λ (l : List (List ℕ)). text ∷ l) (lines_joined texts all.1)
 
 joined_both : (texts more : List (List ℕ)) → joined (texts ++ more) ≡ joined texts ++ joined more
-joined_both [] more = refl
-joined_both (text ∷ texts) more =
-    ap (λ l. (text ++ 10 ∷ []) ++ l) (joined_both texts more) ∙ sym (append_assoc (text ++ 10 ∷ []) (joined texts) (joined more))
+joined_both texts more = grind (arith, common_steps, append_assoc)
 
 entry_lines : (events : List Event) → flat_map entry_line events ≡ joined (map entry_text events)
 entry_lines [] = refl

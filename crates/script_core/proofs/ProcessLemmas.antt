@@ -1,19 +1,19 @@
 -- The arrivals of a script: each is of one of its processes, and is said by the words of its line.
-use Rattle.std.proofs.Common.{ℕ, ◌≡◌, ap, refl, sym, subst, Bool, true, false, List, [], ◌∷◌, inl, inr, Option, Some, None, MatchOption, Result, Ok, Err, All}
+use Rattle.std.proofs.Common.{arith, ℕ, ◌≡◌, refl, sym, subst, Bool, true, false, List, [], ◌∷◌, inl, inr, Option, MatchOption, Result, Ok, Err, All}
+use Rattle.std.proofs.lemmas.Grind.{common_steps}
 use Rattle.std.proofs.lemmas.List.Elements.{All-push, All-nil, All-weaker}
 use Rattle.fd_table.specs.declared.Limits.{Limits}
-use Rattle.fd_table.specs.declared.Limits.TheVariants.{Small}
 use Rattle.lock_manager.specs.declared.request.Request.{Request}
 use Rattle.script_core.specs.declared.line.Line.{Line}
 use Rattle.script_core.specs.declared.line.Line.TheVariants as lines
 use Rattle.script_core.specs.declared.script.Cause.{Cause}
-use Rattle.script_core.specs.declared.script.Cause.TheVariants.{Byte, Process, TooLong, Word}
+use Rattle.script_core.specs.declared.script.Cause.TheVariants.{Word}
 use Rattle.script_core.specs.declared.script.ScriptFault.{ScriptFault}
 use Rattle.script_core.specs.ScriptText.{Meaning, IsProcess, IsWritable, IsRequest}
-use Rattle.script_core.specs.Reading.{Reading, start, limits_of, meaning_of, reading_after, is_comment, is_empty, says_policy, says_limits, ArgumentsGive, CommandGives, RequestGives, ArrivalGives, PolicyGives, LimitsGive, ProcessGives, WordsGive, LineGives, LinesGive, Reads}
-use Rattle.script_core.specs.Arguments.{Command, command_named, has_count}
-use Rattle.script_core.specs.Words.{words_of, is_printable, lines_of, line_limit, script_limit}
-use Rattle.std.specs.Prelude.{nat_lt, length, MatchBool, ◌+◌, ◌&&◌, codes, decimal, bytes_eq, is_none}
+use Rattle.script_core.specs.Reading.{Reading, limits_of, meaning_of, reading_after, is_comment, is_empty, says_policy, says_limits, ArgumentsGive, CommandGives, RequestGives, ArrivalGives, PolicyGives, LimitsGive, ProcessGives, WordsGive, LineGives, LinesGive, Reads}
+use Rattle.script_core.specs.Arguments.{Command, command_named}
+use Rattle.script_core.specs.Words.{words_of}
+use Rattle.std.specs.Prelude.{MatchBool, ◌+◌, ◌&&◌, codes, decimal, bytes_eq, is_none}
 
 -- the arrival is of a process that the limits have, and its request is one that they have
 abbrev pub IsArrivalOf : Limits → ℕ × Request → Type 0
@@ -54,17 +54,12 @@ join_by false P Q R f g h = g h
 -- words that are read as a request are one of the limits
 of_arguments : (limits : Limits) (words : List (List ℕ)) (command : Command) (arguments : List (List ℕ)) (request : Request)
     → ArgumentsGive limits words command arguments (Ok request) → IsRequest limits words request
-of_arguments limits words command arguments request (inl fault) = absurd (cc)
-of_arguments limits words command arguments request (inr given) =
-    let same : given.0 ≡ request = cc in subst (IsRequest limits words) same given.1
+of_arguments limits words command arguments request h = grind (arith, common_steps)
 
 of_command : (limits : Limits) (words : List (List ℕ)) (arguments : List (List ℕ)) (request : Request) (command : Option Command)
     → MatchOption command (read_as request ≡ Err Word) (λ command. CommandGives limits words command arguments (Ok request))
     → IsRequest limits words request
-of_command limits words arguments request None gives = absurd (cc)
-of_command limits words arguments request (Some command) gives =
-    join_by (has_count command (length arguments)) _ _ (IsRequest limits words request) (λ e. of_arguments limits words command arguments request)
-    (λ bad. absurd (cc)) gives
+of_command limits words arguments request command h = grind (arith, common_steps, join_by, of_arguments)
 
 of_request : (limits : Limits) (words : List (List ℕ)) (request : Request) → RequestGives limits words (Ok request) → IsRequest limits words request
 of_request limits [] request gives = absurd (cc)
@@ -74,21 +69,12 @@ keeps_arrival : (reading : Reading) (p : ℕ) (first : List ℕ) (rest : List (L
     → IsProcess (limits_of reading) p → first ≡ decimal p → RequestGives (limits_of reading) rest next → ArrivalGives p next result
     → Keeps reading (first ∷ rest) result
 unfolding Keeps
-keeps_arrival reading p first rest (Ok request) result process is gives said =
-    keeps_by reading (first ∷ rest) (Ok (lines.Arrival p request)) result (record {
-      process = process;
-      rest = rest;
-      are = ap (λ (word : List ℕ). word ∷ rest) is;
-      is_request = of_request (limits_of reading) rest request gives;
-    }) said
-keeps_arrival reading p first rest (Err cause) result process is gives said = keeps_by reading (first ∷ rest) (Err cause) result tt said
+keeps_arrival reading p first rest next result h h2 h3 h4 = grind (arith, common_steps, keeps_by, of_request)
 
 keeps_process : (reading : Reading) (first : List ℕ) (rest : List (List ℕ)) (result : Result Line Cause) → ProcessGives (limits_of reading) first rest result
     → Keeps reading (first ∷ rest) result
 unfolding Keeps
-keeps_process reading first rest result (inl arrival) =
-    keeps_arrival reading arrival.0 first rest arrival.3 result arrival.1 arrival.2 arrival.4 arrival.5
-keeps_process reading first rest result (inr fault) = keeps_by reading (first ∷ rest) (Err Process) result tt fault.1
+keeps_process reading first rest result h = grind (arith, common_steps, keeps_arrival, keeps_by)
 
 keeps_policy : (reading : Reading) (words rest : List (List ℕ)) (result : Result Line Cause) → PolicyGives rest result → Keeps reading words result
 unfolding Keeps
@@ -106,9 +92,7 @@ empty_is [] e = refl
 empty_is (arrival ∷ arrivals) e = absurd (cc)
 
 last_of_three : (a b c : Bool) → (a && (b && c)) ≡ true → c ≡ true
-last_of_three true true c e = e
-last_of_three true false c e = absurd (cc)
-last_of_three false b c e = absurd (cc)
+last_of_three a b c h = grind (arith, common_steps)
 
 before_arrivals : (reading : Reading) (first : List ℕ) → says_limits reading first ≡ true → reading.arrivals ≡ []
 before_arrivals reading first says =
@@ -127,10 +111,7 @@ keeps_words reading (first ∷ rest) result gives =
 
 keeps_line : (reading : Reading) (line : List ℕ) (result : Result Line Cause) → LineGives reading line result → Keeps reading (words_of line) result
 unfolding Keeps
-keeps_line reading line result gives =
-    join_by (nat_lt line_limit (length line)) _ _ (Keeps reading (words_of line) result) (λ e. keeps_by reading (words_of line) (Err TooLong) result tt)
-    (join_by (is_printable line) _ _ (Keeps reading (words_of line) result) (λ e. keeps_words reading (words_of line) result)
-    (keeps_by reading (words_of line) (Err Byte) result tt)) gives
+keeps_line reading line result gives = grind (arith, common_steps, join_by, Keeps, keeps_by, keeps_words)
 
 -- the words of a line that is an arrival say it
 pub arrival_said : (reading : Reading) (line : List ℕ) (p : ℕ) (request : Request) → LineGives reading line (Ok (lines.Arrival p request))
@@ -169,9 +150,7 @@ of_lines number reading (line ∷ rest) meaning before (Err cause, gives, refuse
 
 -- the arrivals of an accepted script are of its limits
 pub arrivals_read : (bytes : List ℕ) (meaning : Meaning) → Reads bytes (Ok meaning) → All (IsArrivalOf meaning.rules.limits) meaning.arrivals
-arrivals_read bytes meaning reads =
-    join_by (nat_lt script_limit (length bytes)) _ _ (All (IsArrivalOf meaning.rules.limits) meaning.arrivals)
-    (λ e long. absurd (cc)) (of_lines 1 start (lines_of bytes) meaning (All-nil (IsArrivalOf Small))) reads
+arrivals_read bytes meaning reads = grind (arith, common_steps, join_by, of_lines, All-nil)
 
 pub processes_read : (bytes : List ℕ) (meaning : Meaning) → Reads bytes (Ok meaning) → All (λ arrival. IsProcess meaning.rules.limits arrival.0) meaning.arrivals
 processes_read bytes meaning reads =

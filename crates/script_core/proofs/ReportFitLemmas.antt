@@ -1,4 +1,5 @@
 -- The report of an output: its numbers are such as its lines may have, and each line is read as one of the report.
+use Rattle.std.proofs.lemmas.Grind.{common_steps}
 use Rattle.std.proofs.Common.{◌≡◌, ◌≢◌, ℕ, zero, suc, ◌+◌, ◌*◌, ◌^◌, ◌<◌, ◌≤◌, ◌==◌, ◌&&◌, Bool, true, false, not, nat_le, List, [], ◌∷◌, ◌++◌, length, length-append, map, filter, Option, Some, None, Ok, IfSome, slice_get, inl, inr, ⊎_elim, refl, sym, ap, ◌∙◌, subst, arith, lit<, lit≤, eq-eqb, ne_eqb, codes, decimal}
 use Rattle.std.specs.Prelude.{if◌then◌else◌, IsFalse}
 use Rattle.std.specs.List.{AllByRecursion as Each, list_all}
@@ -25,7 +26,6 @@ use Rattle.lock_manager.specs.declared.request.Request.{Request}
 use Rattle.lock_manager.specs.declared.request.Note.{Note}
 use Rattle.lock_manager.specs.declared.request.Note.TheVariants as notes
 use Rattle.lock_manager.specs.declared.request.ProcState.{ProcState}
-use Rattle.lock_manager.specs.declared.request.ProcState.TheVariants.{Unborn, Live, Waiting, Ended}
 use Rattle.lock_manager.specs.State.{State}
 use Rattle.session_core.specs.Event.{Event}
 use Rattle.session_core.specs.Runs.{AreNumbered}
@@ -77,25 +77,10 @@ flock_fits (change ∷ changes) before file description mode fits is start =
 
 byte_lock_fits : (S : State) (file : ℕ) → file < 64 → FitsLocks S → (x : Held) → (x.file ≡ file) × IsFalse x.whole × IsRun (mode_in S.changes file x.owner) x.span.first x.mode x.span
     → FitsHeld x
-byte_lock_fits S file few locks x is =
-    let run = is.2 in
-    let covered = run.covered in
-    let first = mode_fits S.changes None file x.owner x.span.first x.mode locks.changes (run.constant x.span.first covered) (λ e. absurd cc) in
-    let last = mode_fits S.changes None file x.owner x.span.last x.mode locks.changes
-    (run.constant x.span.last (omega (arith, covered.0, covered.1), omega arith)) (λ e. absurd cc) in
-    let same = is.0 in
-    record { file = omega (arith, same, few); owner = first.0; first = first.1; last = last.1 }
+byte_lock_fits S file few locks x is = grind (arith, common_steps, mode_fits)
 
 flock_line_fits : (S : State) (file : ℕ) → file < 64 → FitsLocks S → (x : Held) → IsFlockLine file (flock_mode_in S.flock_changes file) x → FitsHeld x
-flock_line_fits S file few locks x is =
-    let same = is.same_file in
-    let small = flock_fits S.flock_changes None file is.description x.mode locks.flocks is.mode (λ e. absurd cc) in
-    record {
-      file = omega (arith, same, few);
-      owner = subst IsSmallOwner (sym is.owner) small;
-      first = (let at = ap (λ (s : Span). s.first) is.span in omega (arith, at));
-      last = (let at = ap (λ (s : Span). s.last) is.span in omega (arith, at));
-    }
+flock_line_fits S file few locks x is = grind (arith, common_steps, flock_fits)
 
 file_fits : (S : State) (file : ℕ) (report : List Held) → file < 64 → FitsLocks S
     → IsFileReport file (mode_in S.changes file) (flock_mode_in S.flock_changes file) report → Each FitsHeld report
@@ -250,11 +235,7 @@ pub record Said (k : ℕ) (text : List ℕ) : Type 0 where
   pub short : length text ≤ k
 
 both : {a b : ℕ} (x y : List ℕ) → Said a x → Said b y → Said (a + b) (x ++ y)
-both x y h k =
-    let size = length-append x y in
-    let first = h.short in
-    let second = k.short in
-    record { spoken = AreSpoken-append x y h.spoken k.spoken; short = omega (arith, size, first, second) }
+both x y h k = grind (arith, common_steps, length-append, AreSpoken-append)
 
 given : (k : ℕ) (text : List ℕ) → list_all (λ byte. nat_le 32 byte && nat_le byte 122) text ≡ true → length text ≤ k → Said k text
 given k text tested short = record { spoken = AreSpoken-tested text tested; short = short }
@@ -280,10 +261,7 @@ said_owner (Description d) small =
     let is = both (codes "description ") (decimal d) (given 12 (codes "description ") refl (lit≤ tt)) (number d (omega (arith, small))) in is
 
 said_state : (state : ProcState) → Said 7 (state_word state)
-said_state Unborn = given 7 (codes "unborn") refl (lit≤ tt)
-said_state Live = given 7 (codes "live") refl (lit≤ tt)
-said_state Waiting = given 7 (codes "waiting") refl (lit≤ tt)
-said_state Ended = given 7 (codes "ended") refl (lit≤ tt)
+said_state state = grind (arith, common_steps, given)
 
 said_byte_lock : (file : ℕ) (owner : Owner) (mode : Mode) (span : Span) → file < 64 → IsSmallOwner owner → span.first ≤ OFFMAX → span.last ≤ OFFMAX
     → Said 97 (byte_lock_text file owner mode span)
@@ -444,11 +422,7 @@ each_of P line (x ∷ xs) f all = (f x all.0, each_of P line xs f all.1)
 -- the counts of each process are such numbers, whatever it sent
 pub process_fits : (limits : Limits) (states : ℕ → ProcState) (events : List Event) (sent : ℕ → ℕ) (p : ℕ) → p ≤ 64 → Each (IsWritableEvent limits) events
     → ((q : ℕ) → length (events_of q events) ≤ script_limit + 1) → FitsProcessLine (line_of states events sent p)
-process_fits limits states events sent p few writable counts =
-    let taken = counts p in
-    let answered = few_answers limits p 1 events writable in
-    let all = few_events limits events writable counts in
-    record { p = omega (arith, few); taken = omega (arith, taken); answered = omega (arith, answered, all) }
+process_fits limits states events sent p few writable counts = grind (arith, common_steps, few_answers, few_events)
 
 processes_fit : (limits : Limits) (states : ℕ → ProcState) (events : List Event) (p more : ℕ) → p + more ≤ 65 → Each (IsWritableEvent limits) events
     → ((q : ℕ) → length (events_of q events) ≤ script_limit + 1) → Each FitsLine (lines_from states events p more)
@@ -460,10 +434,7 @@ processes_fit limits states events p (suc more) few writable counts = (
 )
 
 pub wait_line_fits : (limits : Limits) (states : ℕ → ProcState) (wait : Wait) → FitsWait limits states wait → FitsWaitLine wait
-wait_line_fits limits states wait is =
-    let few = few_processes limits wait.p is.process in
-    let wanted = is.wanted in
-    record { p = omega (arith, few); n = is.number; file = wanted.file; owner = wanted.owner; first = wanted.first; last = wanted.last }
+wait_line_fits limits states wait is = grind (arith, common_steps, few_processes, number)
 
 -- the texts of the report of what these events leave are read as lines of it
 pub report_reads : (limits : Limits) (processes : ℕ) (S : State) (events : List Event) (reported : List ReportLine) (texts : List (List ℕ)) → processes ≤ 64
@@ -471,10 +442,4 @@ pub report_reads : (limits : Limits) (processes : ℕ) (S : State) (events : Lis
     → AreReportLines processes S events reported → AreTextsOf reported texts → Each IsReportText texts
 unfolding FitsLine
 report_reads limits processes S events reported texts few fits writable numbers numbered are told =
-    texts_read reported texts
-    (subst (Each FitsLine) (sym are.is)
-    (each_append FitsLine (map report_lines.Held are.held ++ map report_lines.Waits S.waits) (lines_from S.states events 1 processes)
-    (each_append FitsLine (map report_lines.Held are.held) (map report_lines.Waits S.waits)
-    (each_of FitsHeld report_lines.Held are.held (λ held is. is) (held_fit S are.held fits.locks are.is_held))
-    (each_of (FitsWait limits S.states) report_lines.Waits S.waits (wait_line_fits limits S.states) fits.waits))
-    (processes_fit limits S.states events 1 processes (omega (arith, few)) writable (λ p. taken_few events p numbered numbers)))) told
+    grind (arith, common_steps, texts_read, FitsLine, each_append, each_of, held_fit, wait_line_fits, processes_fit, taken_few)

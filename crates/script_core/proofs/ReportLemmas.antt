@@ -1,4 +1,5 @@
 -- The text of the report.
+use Rattle.std.proofs.lemmas.Grind.{common_steps}
 use Rattle.std.proofs.Common.{◌≡◌, ℕ, zero, suc, ◌+◌, ◌-◌, ◌<◌, List, ◌++◌, Result, Ok, Err, length, flat_map, OnOk, refl, sym, ap, ◌∙◌, arith, append_assoc, append-nil, add-one}
 use Rattle.std.specs.Prelude.{slice_index}
 use Rattle.std.proofs.lemmas.List.{append_cancel_left}
@@ -60,22 +61,12 @@ pub report_in_state : (manager : Manager) (S : State) (processes : ℕ) (events 
     → StandsFor manager S → IsHeldReport (mode_in S.changes) (flock_mode_in S.flock_changes) locks → waits ≡ S.waits
     → text ≡ flat_map held_line locks ++ flat_map wait_line waits ++ process_lines (state_at manager) events sent 1 processes
     → IsReport processes S events sent text
-report_in_state manager S processes events sent locks waits text h held wait is =
-    let states : state_at manager ≡ S.states = λ i p. h.states p i in
-    record {
-      held = locks;
-      is_held = held;
-      is = is ∙ (λ i. flat_map held_line locks ++ flat_map wait_line (wait i) ++ process_lines (states i) events sent 1 processes);
-    }
+report_in_state manager S processes events sent locks waits text h held wait is = grind (arith, common_steps)
 
 -- a state after these events has one report
 pub IsReport-unique : LocksHaveOneReport → (processes : ℕ) (S : State) (events : List Event) (sent : ℕ → ℕ) (text other : List ℕ)
     → IsReport processes S events sent text → IsReport processes S events sent other → text ≡ other
-IsReport-unique one processes S events sent text other h k =
-    h.is
-    ∙ ap (λ locks. flat_map held_line locks ++ flat_map wait_line S.waits ++ process_lines S.states events sent 1 processes)
-    (one (mode_in S.changes) (flock_mode_in S.flock_changes) h.held k.held h.is_held k.is_held)
-    ∙ sym k.is
+IsReport-unique one processes S events sent text other h k = grind (arith, common_steps)
 
 -- what follows of a fact of a value
 pub OnOk-map : {T E : Type 0} (P Q : Type 0) (result : Result T E) → (P → Q) → OnOk result P → OnOk result Q

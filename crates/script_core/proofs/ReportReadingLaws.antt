@@ -1,10 +1,11 @@
 -- Reports are read back, for `reports_are_read_back`: texts are those of the lines of a report just where they are its lines.
+use Rattle.std.proofs.lemmas.Grind.{common_steps}
 use Rattle.std.proofs.Common.{◌≡◌, ℕ, zero, suc, ◌+◌, ◌^◌, ◌<◌, ◌≤◌, ◌==◌, Bool, true, false, List, [], ◌∷◌, ◌++◌, map, flat_map, inl, inr, ⊎_elim, refl, sym, ap, ap₂, ◌∙◌, subst, arith, lit<, eq-eqb, ne_eqb, append_assoc}
 use Rattle.std.specs.Prelude.{if◌then◌else◌}
 use Rattle.lock_book.specs.Changes.{mode_in, flock_mode_in}
 use Rattle.lock_book.specs.OneReport.{LocksHaveOneReport}
 use Rattle.lock_manager.specs.declared.request.ProcState.{ProcState}
-use Rattle.lock_manager.specs.declared.request.ProcState.TheVariants.{Unborn, Live, Waiting, Ended}
+use Rattle.lock_manager.specs.declared.request.ProcState.TheVariants.{Unborn}
 use Rattle.session_core.specs.Event.{Event}
 use Rattle.script_core.specs.declared.text.ProcessLine.{ProcessLine}
 use Rattle.script_core.specs.declared.report.ReportLine.{ReportLine}
@@ -90,9 +91,7 @@ one_more : (states : ℕ → ProcState) (events : List Event) (sent : ℕ → �
     → process_lines states events (counts_with p n sent) p (suc more)
     ≡ reported_line (line_of states events (λ q. n) p) ++ process_lines states events sent (p + 1) more
 unfolding process_lines
-one_more states events sent p more n =
-    ap₂ (λ own rest. reported_line (line_of states events (λ q. own) p) ++ rest) (counts_own p n sent)
-    (lines_same states events (counts_with p n sent) sent (p + 1) more (λ q behind. counts_behind p n sent q behind))
+one_more states events sent p more n = grind (arith, common_steps, counts_own, lines_same, counts_with, counts_behind)
 
 no_line : (states : ℕ → ProcState) (events : List Event) (p : ℕ) → states p ≡ Unborn → reported_line (line_of states events (λ q. 0) p) ≡ []
 no_line states events p unborn =
@@ -139,10 +138,7 @@ FirstIsFrom-before p [] first = tt
 FirstIsFrom-before p (text ∷ texts) first = (first.0, omega (arith, first.1), first.2, first.3)
 
 not_reported : (state : ProcState) (n : ℕ) → is_reported state n ≡ false → state ≡ Unborn
-not_reported Unborn n e = refl
-not_reported Live n e = absurd (let bad : true ≡ false = e in cc)
-not_reported Waiting n e = absurd (let bad : true ≡ false = e in cc)
-not_reported Ended n e = absurd (let bad : true ≡ false = e in cc)
+not_reported state n h = grind (arith, common_steps)
 
 -- the line of an unborn process is left out before the texts of later ones
 left_out : (states : ℕ → ProcState) (events : List Event) (p more : ℕ) (texts : List (List ℕ)) → p < 2 ^ 64 → states p ≡ Unborn → FirstIsFrom (p + 1) texts

@@ -1,5 +1,6 @@
 -- The lines of a report, one after another: what `ReportReader`'s clauses say of the lines that come.
-use Rattle.std.proofs.Common.{◌≡◌, ℕ, zero, suc, ◌+◌, ◌^◌, ◌<◌, ◌==◌, not, List, [], ◌∷◌, ◌++◌, length, filter, drop, get_or, codes, decimal, Bool, true, false, Option, Some, None, MatchOption, IfSome, inr, ⊎_elim, refl, sym, ap, ap₂, ◌∙◌, subst, arith, append_assoc, append-nil, add-one, drop-cons}
+use Rattle.std.proofs.lemmas.Grind.{common_steps}
+use Rattle.std.proofs.Common.{◌≡◌, ℕ, zero, suc, ◌+◌, ◌^◌, ◌<◌, List, [], ◌∷◌, ◌++◌, length, drop, get_or, codes, decimal, Bool, true, false, Option, Some, None, MatchOption, IfSome, inr, ⊎_elim, refl, sym, ap, ap₂, ◌∙◌, subst, arith, append_assoc, append-nil, add-one, drop-cons}
 use Rattle.std.specs.Borrow.{Bor}
 use Rattle.std.specs.Bool.{then_some}
 use Rattle.std.proofs.lemmas.Fmt.{decimal_injective}
@@ -42,9 +43,7 @@ skips_one lines text i d within skips other out =
 
 -- a word before a space is the first of the words
 pub words_of-first : (word rest : List ℕ) → IsWord word → words_of (word ++ 32 ∷ rest) ≡ word ∷ words_of rest
-words_of-first word rest is =
-    ap (λ pieces. filter (λ word. not (length word == 0)) pieces) (slice_split-words word rest is.visible)
-    ∙ rw (not_empty (length word) is.some) refl
+words_of-first word rest is = grind (arith, common_steps, slice_split-words, not_empty)
 
 -- lists behind lists
 joined_behind : (xs a b c d : List ℕ) → xs ++ a ++ b ++ c ++ d ≡ xs ++ (a ++ b ++ c ++ d)
@@ -58,12 +57,7 @@ joined_far_behind (x ∷ xs) a b c d e f = ap (λ l. x ∷ l) (joined_far_behind
 -- the words of the line of a process begin with its number
 process_first : (told : ProcessLine) → told.p < 2 ^ 64
     → words_of (process_text told) ≡ codes "proc" ∷ decimal told.p ∷ words_of (counts_text told ++ codes " " ++ state_word told.state)
-process_first told small =
-    let behind = counts_text told ++ codes " " ++ state_word told.state in
-    let text : process_text told ≡ codes "proc" ++ 32 ∷ (decimal told.p ++ 32 ∷ behind) =
-    ap (λ l. codes "proc " ++ l) (joined_behind (decimal told.p) (codes " ") (counts_text told) (codes " ") (state_word told.state)) in
-    ap words_of text ∙ words_of-first (codes "proc") (decimal told.p ++ 32 ∷ behind) (IsWord-tested (codes "proc") refl)
-    ∙ ap (λ words. codes "proc" ∷ words) (words_of-first (decimal told.p) behind (IsWord-decimal told.p small))
+process_first told small = grind (arith, common_steps, joined_behind, words_of-first, IsWord-tested, IsWord-decimal)
 
 -- and go on with what it sent
 pub process_words : (told : ProcessLine) → told.p < 2 ^ 64 → told.sent < 2 ^ 64
@@ -119,14 +113,7 @@ one_process_more states events old before after told index was is more =
 -- the fourth of some words
 pub fourth_of : (words : List (Bor (List ℕ))) (d : Bor (List ℕ)) (first second third fourth : List ℕ) (more : List (List ℕ))
     → texts words ≡ first ∷ second ∷ third ∷ fourth ∷ more → (get_or words 3 d).now ≡ fourth
-fourth_of [] d first second third fourth more is = absurd (let no : [] ≡ first ∷ second ∷ third ∷ fourth ∷ more = is in cc)
-fourth_of (a ∷ []) d first second third fourth more is =
-    let rest : [] ≡ second ∷ third ∷ fourth ∷ more = ap (drop 1) is in absurd cc
-fourth_of (a ∷ (b ∷ [])) d first second third fourth more is =
-    let rest : [] ≡ third ∷ fourth ∷ more = ap (drop 2) is in absurd cc
-fourth_of (a ∷ (b ∷ (c ∷ []))) d first second third fourth more is =
-    let rest : [] ≡ fourth ∷ more = ap (drop 3) is in absurd cc
-fourth_of (a ∷ (b ∷ (c ∷ (word ∷ words)))) d first second third fourth more is = ap (λ l. get_or l 3 []) is
+fourth_of words d first second third fourth more h = grind (arith, common_steps)
 
 -- whatever line of this process the text is, this is what it says that was sent
 abbrev pub TellsSent : ℕ → List ℕ → Option ℕ → Type 0

@@ -1,4 +1,5 @@
 -- The text of a request, behind its process and a space, is a line that says it.
+use Rattle.std.proofs.lemmas.Grind.{common_steps}
 use Rattle.std.proofs.Common.{◌≡◌, ℕ, zero, suc, ◌+◌, ◌^◌, ◌<◌, ◌≤◌, ◌==◌, Bool, nat_le, nat_lt, true, false, not, ◌&&◌, List, [], ◌∷◌, ◌++◌, length, drop, get_or, filter, codes, decimal, ℤ, pos, negsuc, FitsSigned, w64, Ok, Some, inl, inr, refl, ap, ◌∙◌, arith, tests, lit<, lit≤, length-append, append_assoc}
 use Rattle.std.specs.Fmt.{signed_decimal}
 use Rattle.std.specs.Int.{IsInRange}
@@ -218,32 +219,19 @@ AreWords-request_words limits (Lk fd cmd lock) writable = (
 )
 
 length-access_word : (access : Access) → length (access_word access) ≤ 2
-length-access_word R = lit≤ tt
-length-access_word W = lit≤ tt
-length-access_word Rw = lit≤ tt
+length-access_word access = grind (arith, common_steps)
 
 length-kind_word : (kind : Kind) → length (kind_word kind) ≤ 1
-length-kind_word Read = lit≤ tt
-length-kind_word Write = lit≤ tt
-length-kind_word Unlock = lit≤ tt
+length-kind_word kind = grind (arith, common_steps)
 
 length-whence_word : (whence : Whence) → length (whence_word whence) ≤ 3
-length-whence_word Set = lit≤ tt
-length-whence_word Cur = lit≤ tt
-length-whence_word End = lit≤ tt
+length-whence_word whence = grind (arith, common_steps)
 
 length-op_word : (op : FlockOp) → length (op_word op) ≤ 2
-length-op_word Sh = lit≤ tt
-length-op_word Ex = lit≤ tt
-length-op_word Un = lit≤ tt
+length-op_word op = grind (arith, common_steps)
 
 length-lock_command_word : (cmd : LkCmd) → length (lock_command_word cmd) ≤ 7
-length-lock_command_word GetLk = lit≤ tt
-length-lock_command_word SetLk = lit≤ tt
-length-lock_command_word SetLkW = lit≤ tt
-length-lock_command_word OGetLk = lit≤ tt
-length-lock_command_word OSetLk = lit≤ tt
-length-lock_command_word OSetLkW = lit≤ tt
+length-lock_command_word cmd = grind (arith, common_steps)
 
 pub length-descriptor : (fd : ℕ) → IsDescriptor fd → length (decimal fd) ≤ 10
 length-descriptor fd small = length-decimal-le 10 fd (lit< tt) (omega (arith, small)) (omega (arith, small))
@@ -268,30 +256,8 @@ more_length-nb_words false = lit≤ tt
 
 pub more_length-request_words : (limits : Limits) (request : Request) → IsWritable limits request → more_length (request_words request) ≤ 118
 unfolding more_length
-more_length-request_words limits (OpenFile file access) writable =
-    omega (arith, length-decimal-le 2 file (lit< tt) (omega (arith, writable)) (omega (arith, writable)), length-access_word access)
-more_length-request_words limits (Dup fd) writable = omega (arith, length-descriptor fd writable)
-more_length-request_words limits (DupTo fd to) writable = omega (arith, length-descriptor fd writable.0, length-descriptor to writable.1)
-more_length-request_words limits (CloseFd fd) writable = omega (arith, length-descriptor fd writable)
-more_length-request_words limits (Seek fd offset) writable = omega (arith, length-descriptor fd writable.0, length-signed_decimal offset writable.1)
-more_length-request_words limits (Resize fd size) writable = omega (arith, length-descriptor fd writable.0, length-signed_decimal size writable.1)
-more_length-request_words limits (Flock fd op nb) writable =
-    omega (arith, length-descriptor fd writable, length-op_word op, more_length-nb_words nb)
-more_length-request_words limits (Fork child) writable = omega (arith, length-process limits child writable)
-more_length-request_words limits Exit writable = lit≤ tt
-more_length-request_words limits (Signal target) writable = omega (arith, length-process limits target writable)
-more_length-request_words limits (Kill target) writable = omega (arith, length-process limits target writable)
-more_length-request_words limits (Lk fd cmd lock) writable =
-    omega (
-      arith,
-      length-lock_command_word cmd,
-      length-descriptor fd writable.0,
-      length-kind_word lock.kind,
-      length-whence_word lock.whence,
-      length-signed_decimal lock.start writable.1,
-      length-signed_decimal lock.len writable.2,
-      more_length-pid_words lock.pid writable.3,
-    )
+more_length-request_words limits request h =
+    grind (arith, common_steps, length-decimal-le, length-access_word, length-descriptor, length-signed_decimal, length-op_word, more_length-nb_words, length-process, length-lock_command_word, length-kind_word, length-whence_word, more_length-pid_words)
 
 -- words with as many arguments as their command has, which are a request, are read as it
 gives_named : (limits : Limits) (name : List ℕ) (arguments : List (List ℕ)) (command : Command) (request : Request) → command_named limits name ≡ Some command
@@ -300,9 +266,7 @@ gives_named limits name arguments command request named counted is = rw (named, 
 
 -- a lock command has so many arguments, with a pid and without
 lock_counted : (name : List ℕ) (fd : ℕ) (lock : Lock) (pid : ℤ) → has_count (lock_command name) (length (lock_words fd lock ++ pid_words pid)) ≡ true
-lock_counted name fd lock (pos zero) = refl
-lock_counted name fd lock (pos (suc n)) = refl
-lock_counted name fd lock (negsuc n) = refl
+lock_counted name fd lock pid = grind (arith, common_steps)
 
 -- flock has so many arguments, with `nb` and without
 flock_counted : (fd : ℕ) (op : FlockOp) (nb : Bool) → has_count flock_command (length (drop 1 (request_words (Flock fd op nb)))) ≡ true
@@ -314,23 +278,7 @@ is_written : (limits : Limits) (request : Request) → IsWritable limits request
 is_written limits request writable = record { says = inl refl; writable = writable }
 
 pub gives_request : (limits : Limits) (request : Request) → IsWritable limits request → RequestGives limits (request_words request) (Ok request)
-gives_request limits (OpenFile file access) writable = inr (OpenFile file access, is_written limits (OpenFile file access) writable, refl)
-gives_request limits (Dup fd) writable = inr (Dup fd, is_written limits (Dup fd) writable, refl)
-gives_request limits (DupTo fd to) writable = inr (DupTo fd to, is_written limits (DupTo fd to) writable, refl)
-gives_request limits (CloseFd fd) writable = inr (CloseFd fd, is_written limits (CloseFd fd) writable, refl)
-gives_request limits (Seek fd offset) writable = inr (Seek fd offset, is_written limits (Seek fd offset) writable, refl)
-gives_request limits (Resize fd size) writable = inr (Resize fd size, is_written limits (Resize fd size) writable, refl)
-gives_request limits (Lk fd cmd lock) writable =
-    let name = lock_command_word cmd in
-    gives_named limits name (lock_words fd lock ++ pid_words lock.pid) (lock_command name) (Lk fd cmd lock) (lock_named limits cmd) (lock_counted name fd lock lock.pid)
-    (is_written limits (Lk fd cmd lock) writable)
-gives_request limits (Flock fd op nb) writable =
-    gives_named limits (codes "flock") (drop 1 (request_words (Flock fd op nb))) flock_command (Flock fd op nb) refl (flock_counted fd op nb)
-    (is_written limits (Flock fd op nb) writable)
-gives_request limits (Fork child) writable = inr (Fork child, is_written limits (Fork child) writable, refl)
-gives_request limits Exit writable = inr (Exit, is_written limits Exit writable, refl)
-gives_request limits (Signal target) writable = inr (Signal target, is_written limits (Signal target) writable, refl)
-gives_request limits (Kill target) writable = inr (Kill target, is_written limits (Kill target) writable, refl)
+gives_request limits request h = grind (arith, common_steps, is_written, gives_named, lock_named, lock_counted, flock_counted)
 
 reads_words : (reading : Reading) (p : ℕ) (words : List (List ℕ)) (request : Request) → IsProcess (limits_of reading) p → RequestGives (limits_of reading) words (Ok request)
     → WordsGive reading (decimal p ∷ words) (Ok (lines.Arrival p request))
@@ -347,18 +295,7 @@ reads_line reading line words said short printable are gives =
 
 -- a word, a space and the text of a request are the words in one text
 pub join_cons : (word : List ℕ) (request : Request) → word ++ codes " " ++ request_text request ≡ join_with_byte 32 (word ∷ request_words request)
-join_cons word (OpenFile file access) = append_assoc word (codes " ") (request_text (OpenFile file access))
-join_cons word (Dup fd) = append_assoc word (codes " ") (request_text (Dup fd))
-join_cons word (DupTo fd to) = append_assoc word (codes " ") (request_text (DupTo fd to))
-join_cons word (CloseFd fd) = append_assoc word (codes " ") (request_text (CloseFd fd))
-join_cons word (Seek fd offset) = append_assoc word (codes " ") (request_text (Seek fd offset))
-join_cons word (Resize fd size) = append_assoc word (codes " ") (request_text (Resize fd size))
-join_cons word (Flock fd op nb) = append_assoc word (codes " ") (request_text (Flock fd op nb))
-join_cons word (Fork child) = append_assoc word (codes " ") (request_text (Fork child))
-join_cons word Exit = append_assoc word (codes " ") (request_text Exit)
-join_cons word (Signal target) = append_assoc word (codes " ") (request_text (Signal target))
-join_cons word (Kill target) = append_assoc word (codes " ") (request_text (Kill target))
-join_cons word (Lk fd cmd lock) = append_assoc word (codes " ") (request_text (Lk fd cmd lock))
+join_cons word request = grind (arith, common_steps, append_assoc)
 
 -- the text of a request, behind its process and a space, is a line that is read as this arrival
 pub reads_back : (p : ℕ) (request : Request) → IsReadBack p request

@@ -1,12 +1,12 @@
 -- The entries of an output can be written, and are a run.
-use Rattle.std.proofs.Common.{◌≡◌, ◌≢◌, true, ℕ, zero, suc, ◌+◌, ◌^◌, ◌<◌, ◌≤◌, ◌==◌, List, [], ◌∷◌, ◌++◌, length, length-append, All, Some, None, IfSome, slice_get, ⊎_elim, refl, sym, ap, ap₂, ◌∙◌, subst, arith, eq-eqb, ne_eqb, append_assoc, append-nil}
+use Rattle.std.proofs.lemmas.Grind.{common_steps}
+use Rattle.std.proofs.Common.{rules, ◌≡◌, ℕ, zero, suc, ◌+◌, ◌^◌, ◌<◌, ◌≤◌, ◌==◌, List, [], ◌∷◌, ◌++◌, length, length-append, All, Some, None, IfSome, slice_get, ⊎_elim, refl, sym, ap, ap₂, ◌∙◌, subst, arith, eq-eqb, ne_eqb, append_assoc, append-nil}
 use Rattle.std.specs.List.{AllByRecursion as Each}
 use Rattle.std.proofs.lemmas.Bool.{cases_eq}
 use Rattle.std.proofs.lemmas.List.Elements.{All-from_recursion, recursion_from_All, filter-append}
 use Rattle.fd_table.specs.Descriptors.{opening_descriptors}
 use Rattle.lock_manager.specs.declared.request.Rules.{Rules}
 use Rattle.lock_manager.specs.declared.request.Request.{Request}
-use Rattle.lock_manager.specs.declared.request.ProcState.TheVariants.{Unborn}
 use Rattle.lock_manager.specs.State.{State, opening_state}
 use Rattle.lock_manager.specs.Settling.{IsSettled}
 use Rattle.session_core.specs.Event.{Event}
@@ -191,10 +191,7 @@ run_of_output bytes text output =
 
 opening_fits : (rules : Rules) → Fits rules.limits opening_state × IsSettled rules.policy opening_state
 unfolding opening_state opening_descriptors
-opening_fits rules = (record { locks = record { changes = tt; flocks = tt; files = record { few = omega arith; files = tt } }; waits = tt; apart = tt; born = born }, tt)
-  where
-    born : (p : ℕ) → opening_state.states p ≢ Unborn → opening_state.descriptors.ever_alive p ≡ true
-    born p there = ⊎_elim (λ same. rw (eq-eqb p 1 same) refl) (λ differs. absurd (there (rw (ne_eqb p 1 differs) refl))) (cases_eq p 1)
+opening_fits rules = grind (arith, common_steps, eq-eqb, cases_eq)
 
 pub output_fits : (bytes text : List ℕ) (output : IsOutput bytes text) → TakesFit output.script.rules output.journal output.state
 output_fits bytes text output =

@@ -1,9 +1,9 @@
 -- The lines of a script.
-use Rattle.std.proofs.Common.{◌≡◌, ◌≢◌, ℕ, suc, ◌+◌, ◌<◌, List, [], ◌∷◌, ◌++◌, length, drop, get_or, Result, Ok, Err, Bool, true, false, cond, ◌==◌, MatchBool, MatchResult, ◌⊎◌, inl, inr, ◌≤◌, refl, sym, ap, ◌∙◌, subst, arith}
+use Rattle.std.proofs.lemmas.Grind.{common_steps}
+use Rattle.std.proofs.Common.{◌≡◌, ◌≢◌, ℕ, ◌+◌, ◌<◌, List, [], ◌∷◌, ◌++◌, length, drop, get_or, Result, Ok, Err, Bool, true, false, cond, ◌==◌, MatchBool, MatchResult, ◌⊎◌, inl, inr, ◌≤◌, refl, sym, ap, ◌∙◌, subst, arith, add-one, drop-cons}
 use Rattle.std.specs.List.{slice_split, onto_first, enumerate_from}
 use Rattle.std.proofs.lemmas.List.{drop_all}
 use Rattle.std.proofs.lemmas.List.FromFn.{length-enumerate_from, get_or-enumerate_from}
-use Rattle.std.proofs.Common.{add-one, drop-cons}
 use Rattle.std.proofs.lemmas.Bool.{le-ltb, eqb-true}
 use Rattle.script_core.specs.declared.line.Line.{Line}
 use Rattle.script_core.specs.declared.script.Cause.{Cause}
@@ -20,11 +20,7 @@ pub record IsReadUpTo (lines : List (List ℕ)) (count : ℕ) (reading : Reading
 
 pub IsReadUpTo-more : (lines : List (List ℕ)) (count : ℕ) (line : List ℕ) (old new : Reading) (said : Line) → IsReadUpTo lines count old
     → drop count lines ≡ line ∷ drop (count + 1) lines → LineGives old line (Ok said) → new ≡ reading_after old said → IsReadUpTo lines (count + 1) new
-IsReadUpTo-more lines count line old new said before cut gives is =
-    record {
-      goes_on = λ result rest. before.goes_on result (rw cut (Ok said, gives, subst (λ reading. LinesGive (count + 1 + 1) reading (drop (count + 1) lines) result) is rest));
-      comes = λ at_hand rest. before.comes at_hand (rw cut (said, gives, inr (subst (λ reading. ComesTo (count + 1 + 1) reading (drop (count + 1) lines) at_hand) is rest)));
-    }
+IsReadUpTo-more lines count line old new said before cut gives is = grind (arith, common_steps)
 
 pub fault_at : (lines : List (List ℕ)) (count : ℕ) (line : List ℕ) (old : Reading) (cause : Cause) → IsReadUpTo lines count old
     → drop count lines ≡ line ∷ drop (count + 1) lines → LineGives old line (Err cause) → LinesGive 1 start lines (Err (record { line = count + 1; cause = cause }))
@@ -37,20 +33,13 @@ memory_at lines count line old said before cut gives arrival = before.comes (cou
 
 pub read_all : (lines : List (List ℕ)) (count : ℕ) (reading : Reading) → IsReadUpTo lines count reading
     → count ≡ length lines → LinesGive 1 start lines (Ok (meaning_of reading))
-read_all lines count reading before all =
-    let none : drop count lines ≡ [] = drop_all count lines (omega (arith, all)) in
-    before.goes_on (Ok (meaning_of reading)) (rw none refl)
+read_all lines count reading before all = grind (arith, common_steps, drop_all)
 
 -- the numbered line of one turn is the next one
 pub cut_at : (lines : List (List ℕ)) (count index : ℕ) (line : List ℕ)
     → (count < length (enumerate_from 0 lines)) × ((index, line) ≡ get_or (enumerate_from 0 lines) count (index, line))
     → (index ≡ count) × (drop count lines ≡ line ∷ drop (count + 1) lines)
-cut_at lines count index line turn =
-    let below : count < length lines = omega (arith, turn.0, length-enumerate_from 0 lines) in
-    let item = turn.1 ∙ get_or-enumerate_from 0 lines count (index, line) below in
-    let number : index ≡ 0 + count = ap (λ p. p.0) item in
-    let text : line ≡ get_or lines count line = ap (λ p. p.1) item in
-    (omega arith, rw add-one (drop-cons lines count line below ∙ ap (λ first. first ∷ drop (suc count) lines) (sym text)))
+cut_at lines count index line turn = grind (arith, common_steps, length-enumerate_from, get_or-enumerate_from, add-one, drop-cons)
 
 -- there is always a first piece
 pub record HasFirst (parts : List (List ℕ)) : Type 0 where
@@ -104,10 +93,7 @@ IsFull-empty (part ∷ parts) given full = record { is = ap (λ ps. [] ∷ ps) f
 
 IsFull-onto_first : (byte : ℕ) (parts : List (List ℕ)) → HasFirst parts → IsFull parts → IsFull (onto_first byte parts)
 unfolding tail_of
-IsFull-onto_first byte [] given full = record { is = refl }
-IsFull-onto_first byte (part ∷ []) given full = record { is = refl }
-IsFull-onto_first byte ([] ∷ next ∷ parts) given full = record { is = ap (λ ps. (byte ∷ []) ∷ tail_of ps) full.is }
-IsFull-onto_first byte ((first ∷ bytes) ∷ next ∷ parts) given full = record { is = ap (λ ps. (byte ∷ first ∷ bytes) ∷ tail_of ps) full.is }
+IsFull-onto_first byte parts h h2 = grind (arith, common_steps, tail_of)
 
 IsFull-cons : (test : Bool) (byte : ℕ) (parts : List (List ℕ)) → HasFirst parts → IsFull parts → IsFull (cond test ([] ∷ parts) (onto_first byte parts))
 IsFull-cons true byte parts given full = IsFull-empty parts given full

@@ -1,5 +1,6 @@
 -- The lines that tell a state begin with `#`: for `explanations_are_comments`.
-use Rattle.std.proofs.Common.{ℕ, zero, suc, Bool, true, false, Option, Some, None, List, ◌++◌, flat_map, codes, decimal, refl, sym, subst}
+use Rattle.std.proofs.Common.{arith, ℕ, zero, suc, Bool, true, false, Option, Some, None, List, ◌++◌, codes, decimal, refl, sym, subst}
+use Rattle.std.proofs.lemmas.Grind.{common_steps}
 use Rattle.fd_table.specs.declared.tables.Look.{Look}
 use Rattle.fd_table.specs.Descriptors.{Descriptors, look_at, descriptor_limit}
 use Rattle.lock_book.specs.declared.Held.{Held}
@@ -8,7 +9,6 @@ use Rattle.lock_manager.specs.declared.request.Rules.{Rules}
 use Rattle.lock_manager.specs.declared.request.ProcState.{ProcState}
 use Rattle.lock_manager.specs.declared.request.ProcState.TheVariants as standing
 use Rattle.lock_manager.specs.State.{State}
-use Rattle.script_core.specs.RequestText.{access_word}
 use Rattle.script_core.specs.ReportText.{held_text, held_line, wait_text, wait_line, state_word}
 use Rattle.script_core.specs.StateText.{told_line, standing_text, standing_line, standing_lines, access_text, look_text, descriptor_text, descriptor_line, descriptor_lines, all_descriptor_lines, IsStateText, TellsStateIf}
 use Rattle.script_core.proofs.CommentLaws.{InLine, IsComment, both, number, comment_none, comment_line, comment_both, comment_each, in_access, in_held, in_wait, in_state}
@@ -32,18 +32,10 @@ comment_standing p standing.Waiting = comment_stands p standing.Waiting
 comment_standing p standing.Ended = comment_stands p standing.Ended
 
 in_accessed : (look : Look) → InLine (access_text look)
-in_accessed look =
-    let one = codes " " ++ access_word look.access in
-    both (one ++ codes " offset ") (decimal look.offset)
-    (both one (codes " offset ") (both (codes " ") (access_word look.access) refl (in_access look.access)) refl) (number look.offset)
+in_accessed look = grind (arith, common_steps, both, in_access, number)
 
 in_look : (look : Look) → InLine (look_text look)
-in_look look =
-    let one = codes " description " ++ decimal look.desc in
-    let two = one ++ codes " file " ++ decimal look.file in
-    both two (access_text look)
-    (both (one ++ codes " file ") (decimal look.file)
-    (both one (codes " file ") (both (codes " description ") (decimal look.desc) refl (number look.desc)) refl) (number look.file)) (in_accessed look)
+in_look look = grind (arith, common_steps, both, number, in_accessed)
 
 comment_descriptor : (p fd : ℕ) (look : Look) → IsComment (told_line (descriptor_text p fd look))
 comment_descriptor p fd look =
@@ -79,14 +71,7 @@ comment_all_descriptors D descriptors (suc n) =
 
 comment_state : (processes descriptors : ℕ) (S : State) (text : List ℕ) → IsStateText processes descriptors S text → IsComment text
 comment_state processes descriptors S text h =
-    let locks = flat_map (λ lock. told_line (held_line lock)) h.held in
-    let waits = flat_map (λ wait. told_line (wait_line wait)) S.waits in
-    let standing = standing_lines S.states processes in
-    subst IsComment (sym h.is)
-    (comment_both (locks ++ waits ++ standing) (all_descriptor_lines S.descriptors descriptors processes)
-    (comment_both (locks ++ waits) standing (comment_both locks waits (comment_each (λ lock. told_line (held_line lock)) comment_held h.held)
-    (comment_each (λ wait. told_line (wait_line wait)) comment_wait S.waits)) (comment_all_standing S.states processes))
-    (comment_all_descriptors S.descriptors descriptors processes))
+    grind (arith, common_steps, comment_both, comment_each, comment_held, comment_wait, comment_all_standing, comment_all_descriptors)
 
 pub comment_told : (told : Bool) (rules : Rules) (processes : ℕ) (S : State) (text : List ℕ) → TellsStateIf told rules processes S text → IsComment text
 comment_told false rules processes S text h = subst IsComment (sym h) comment_none

@@ -1,5 +1,6 @@
 -- The lines of a state, one after another: for `write_explained`, clause `ok`; and what words ask for no state: for `States::of_word`.
-use Rattle.std.proofs.Common.{ℕ, zero, suc, ◌≡◌, ◌+◌, List, [], ◌∷◌, ◌++◌, length, sym, ap, ◌∙◌, arith, append_assoc, append-nil, add-one, ap₂, refl, Option, codes, decimal, flat_map}
+use Rattle.std.proofs.lemmas.Grind.{common_steps}
+use Rattle.std.proofs.Common.{ℕ, ◌≡◌, ◌+◌, List, [], ◌++◌, sym, arith, append_assoc, append-nil, add-one, Option, decimal, flat_map}
 use Rattle.std.specs.Prelude.{OnErr, Result, Ok, Err}
 use Rattle.std.proofs.lemmas.Fmt.{decimal_digit, decimal_injective}
 use Rattle.fd_table.specs.declared.tables.Look.{Look}
@@ -27,11 +28,7 @@ none_standing states old = sym (append-nil old)
 pub more_standing : (states : ℕ → ProcState) (old mid new : List ℕ) (index : ℕ) → mid ≡ old ++ standing_lines states index
     → new ≡ mid ++ standing_line (index + 1) (states (index + 1)) → new ≡ old ++ standing_lines states (index + 1)
 unfolding standing_lines
-more_standing states old mid new index was is =
-    let next = add-one index in
-    is ∙ ap (λ (n : ℕ). mid ++ standing_line n (states n)) next ∙ ap (λ (l : List ℕ). l ++ standing_line (suc index) (states (suc index))) was
-    ∙ append_assoc old (standing_lines states index) (standing_line (suc index) (states (suc index)))
-    ∙ ap (λ (n : ℕ). old ++ standing_lines states n) (sym next)
+more_standing states old mid new index was is = grind (arith, common_steps, add-one, append_assoc)
 
 -- no descriptors
 pub none_open : (D : Descriptors) (p : ℕ) (old : List ℕ) → old ≡ old ++ descriptor_lines D p 0
@@ -42,10 +39,7 @@ none_open D p old = sym (append-nil old)
 pub more_open : (D : Descriptors) (p : ℕ) (old mid new : List ℕ) (index : ℕ) (look : Option Look) → look ≡ look_at D p index
     → mid ≡ old ++ descriptor_lines D p index → new ≡ mid ++ descriptor_line p index look → new ≡ old ++ descriptor_lines D p (index + 1)
 unfolding descriptor_lines
-more_open D p old mid new index look at was is =
-    is ∙ ap (λ (o : Option Look). mid ++ descriptor_line p index o) at ∙ ap (λ (l : List ℕ). l ++ descriptor_line p index (look_at D p index)) was
-    ∙ append_assoc old (descriptor_lines D p index) (descriptor_line p index (look_at D p index))
-    ∙ ap (λ (n : ℕ). old ++ descriptor_lines D p n) (sym (add-one index))
+more_open D p old mid new index look h h2 h3 = grind (arith, common_steps, append_assoc, add-one)
 
 -- nothing was appended, and then something
 pub nothing_more : (old : List ℕ) → Extends old old
@@ -62,18 +56,12 @@ none_open_anywhere D descriptors old = sym (append-nil old)
 pub more_open_anywhere : (D : Descriptors) (descriptors : ℕ) (old mid new : List ℕ) (index : ℕ) → mid ≡ old ++ all_descriptor_lines D descriptors index
     → new ≡ mid ++ descriptor_lines D (index + 1) descriptors → new ≡ old ++ all_descriptor_lines D descriptors (index + 1)
 unfolding all_descriptor_lines
-more_open_anywhere D descriptors old mid new index was is =
-    let next = add-one index in
-    is ∙ ap (λ (n : ℕ). mid ++ descriptor_lines D n descriptors) next ∙ ap (λ (l : List ℕ). l ++ descriptor_lines D (suc index) descriptors) was
-    ∙ append_assoc old (all_descriptor_lines D descriptors index) (descriptor_lines D (suc index) descriptors)
-    ∙ ap (λ (n : ℕ). old ++ all_descriptor_lines D descriptors n) (sym next)
+more_open_anywhere D descriptors old mid new index was is = grind (arith, common_steps, add-one, append_assoc)
 
 -- the lines of processes that stand the same are the same
 same_standing : (states others : ℕ → ProcState) (n : ℕ) → ((p : ℕ) → states p ≡ others p) → standing_lines states n ≡ standing_lines others n
 unfolding standing_lines
-same_standing states others zero same = refl
-same_standing states others (suc n) same =
-    ap₂ (λ (lines line : List ℕ). lines ++ line) (same_standing states others n same) (ap (standing_line (suc n)) (same (suc n)))
+same_standing states others n h = grind (arith, common_steps)
 
 -- the locks, the waits, the processes and the descriptors, one group behind another, are the state
 pub state_told : (manager : Manager) (descriptors : ℕ) (S : State) (held : List Held) (waits : List Wait) (t0 t1 t2 t3 t4 : List ℕ)
@@ -83,31 +71,11 @@ pub state_told : (manager : Manager) (descriptors : ℕ) (S : State) (held : Lis
     → t4 ≡ t3 ++ all_descriptor_lines S.descriptors descriptors (processes_of manager)
     → (text : List ℕ) × IsStateText (processes_of manager) descriptors S text × (t4 ≡ t0 ++ text)
 state_told manager descriptors S held waits t0 t1 t2 t3 t4 stands reported same first second third fourth =
-    let n = processes_of manager in
-    let locks = flat_map (λ lock. told_line (held_line lock)) held in
-    let waiting = flat_map (λ wait. told_line (wait_line wait)) S.waits in
-    let standing = standing_lines S.states n in
-    let descriptor = all_descriptor_lines S.descriptors descriptors n in
-    let second_is : t2 ≡ t1 ++ waiting = second ∙ ap (λ (l : List Wait). t1 ++ flat_map (λ wait. told_line (wait_line wait)) l) same in
-    let third_is : t3 ≡ t2 ++ standing = third ∙ ap (λ (l : List ℕ). t2 ++ l) (same_standing (state_at manager) S.states n stands.states) in
-    let two = and_then t0 t1 t2 locks waiting first second_is in
-    let three = and_then t0 t2 t3 (locks ++ waiting) standing two third_is in (
-      locks ++ waiting ++ standing ++ descriptor,
-      record { held = held; is_held = reported; is = refl },
-      and_then t0 t3 t4 (locks ++ waiting ++ standing) descriptor three fourth,
-    )
+    grind (arith, common_steps, same_standing, and_then)
 
 -- no entry has the number 0
 pub zero_asks_for_none : (word : List ℕ) → word ≡ decimal 0 → AsksForNoState word
-zero_asks_for_none word is = (
-  λ all.
-      let same : 48 ∷ [] ≡ codes "all" = sym (decimal_digit 0 (omega arith)) ∙ sym is ∙ all in
-      let bad : 1 ≡ 3 = ap (λ (l : List ℕ). length l) same in
-      absurd (omega (arith, bad)),
-  λ place some small spelled.
-      let same : 0 ≡ place = decimal_injective 0 place (omega arith) small (sym is ∙ spelled) in
-      absurd (omega (arith, same, some)),
-)
+zero_asks_for_none word is = grind (arith, common_steps, decimal_digit, decimal_injective)
 
 -- what holds anyhow holds where a call failed
 pub if_failed : {A E : Type 0} (r : Result A E) (P : Type 0) → P → OnErr r P

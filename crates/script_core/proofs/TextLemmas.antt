@@ -1,5 +1,6 @@
 -- Texts in pieces.
-use Rattle.std.proofs.Common.{◌≡◌, ◌∙◌, ℕ, ◌+◌, ◌-◌, ◌≤◌, List, [], ◌∷◌, ◌++◌, length, take, drop, set, flat_map, Result, Ok, Err, MatchResult, refl, sym, ap, arith, append_assoc, append-nil, length-drop, take_all}
+use Rattle.std.proofs.lemmas.Grind.{common_steps}
+use Rattle.std.proofs.Common.{◌≡◌, ◌∙◌, ℕ, ◌+◌, ◌-◌, ◌≤◌, List, [], ◌∷◌, ◌++◌, length, take, drop, set, flat_map, Result, Ok, Err, MatchResult, sym, ap, arith, append_assoc, append-nil, length-drop}
 use Rattle.std.specs.List.{join_with_byte}
 use Rattle.std.proofs.lemmas.List.{drop-set}
 use Rattle.std.proofs.Math.Seq.{take-append_seam}
@@ -24,17 +25,9 @@ then_pushed (Err error) old mid new front piece is kept = kept_behind old mid ne
 
 -- what is cut back to the old bytes has no more of the text
 pub cut_back : (old new cut text : List ℕ) (len : ℕ) → Extends old new → len ≡ length old → cut ≡ take len new → AppendsPartOf old cut text
-cut_back old new cut text len kept at is = record {
-  front = [];
-  rest = text;
-  is = refl;
-  appended = is ∙ ap (λ n. take n new) at ∙ ap (take (length old)) kept.is ∙ take-append_seam old kept.more ∙ sym (append-nil old);
-}
+cut_back old new cut text len h h2 h3 = grind (arith, common_steps, take-append_seam, append-nil)
 
 -- a byte before the digits that end a buffer
 pub number_piece : (buffer digits : List ℕ) (size start at byte : ℕ) → length buffer ≡ size → start ≤ size → start ≡ at + 1 → drop start buffer ≡ digits
     → take (size - at) (drop at (set buffer at byte)) ≡ byte ∷ digits
-number_piece buffer digits size start at byte long within next spelled =
-    let cut : drop at (set buffer at byte) ≡ byte ∷ digits =
-    drop-set buffer at byte (omega arith) ∙ ap (λ n. byte ∷ drop n buffer) (sym next) ∙ ap (λ l. byte ∷ l) spelled in
-    ap (take (size - at)) cut ∙ take_all (size - at) (byte ∷ digits) (omega (arith, ap length spelled, length-drop start buffer))
+number_piece buffer digits size start at byte long within next spelled = grind (arith, common_steps, drop-set, length-drop)

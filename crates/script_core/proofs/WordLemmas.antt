@@ -1,5 +1,6 @@
 -- The words of a line, space by space.
-use Rattle.std.proofs.Common.{◌≡◌, ◌≢◌, ◌∙◌, ℕ, suc, ◌+◌, ◌-◌, ◌<◌, ◌≤◌, false, List, [], ◌∷◌, ◌++◌, length, take, drop, refl, sym, subst, ap, arith, lit<, ne_eqb, append_assoc, append-nil, ⊎_elim}
+use Rattle.std.proofs.lemmas.Grind.{common_steps}
+use Rattle.std.proofs.Common.{◌≡◌, ◌≢◌, ◌∙◌, ℕ, suc, ◌+◌, ◌-◌, ◌<◌, ◌≤◌, false, List, [], ◌∷◌, ◌++◌, length, take, drop, sym, subst, ap, arith, lit<, ne_eqb, append_assoc, append-nil}
 use Rattle.std.specs.Prelude.{◌==◌, if◌then◌else◌, All}
 use Rattle.std.specs.Str.{IsUtf8, IsCharBoundary}
 use Rattle.std.proofs.Math.ListN.{get_or}
@@ -21,17 +22,12 @@ IsPlain piece = All (λ byte. (byte == 32) ≡ false) piece
 
 -- the words before a piece that ends the line, and its own
 last_piece : (before : List (List ℕ)) (piece : List ℕ) → IsPlain piece → before ++ words_of piece ≡ with_piece before piece
-last_piece before [] plain = append-nil before
-last_piece before (byte ∷ bytes) plain =
-    rw (slice_split_none (λ b. b == 32) (byte ∷ bytes) plain, ne_eqb (length (byte ∷ bytes)) 0 (λ e. omega (arith, e))) refl
+last_piece before piece h = grind (arith, common_steps, append-nil, slice_split_none)
 
 -- the same where a space ends the piece
 next_piece : (before : List (List ℕ)) (piece rest : List ℕ) → IsPlain piece
     → before ++ words_of (piece ++ 32 ∷ rest) ≡ with_piece before piece ++ words_of rest
-next_piece before [] rest plain = refl
-next_piece before (byte ∷ bytes) rest plain =
-    rw (slice_split_at (λ b. b == 32) (byte ∷ bytes) 32 rest plain refl, ne_eqb (length (byte ∷ bytes)) 0 (λ e. omega (arith, e)))
-    (sym (append_assoc before ((byte ∷ bytes) ∷ []) (words_of rest)))
+next_piece before piece rest h = grind (arith, common_steps, slice_split_at, append_assoc)
 
 -- the words before one place of the line are read, of which no more than nine are kept, and from there to the other place no space stands
 pub record Reached (line : List ℕ) (words : List (List ℕ)) (start at : ℕ) : Type 0 where
@@ -52,14 +48,7 @@ plain_piece line words start at reached =
 
 -- a byte that is no space is read
 pub reached_byte : (line : List ℕ) (words : List (List ℕ)) (start at : ℕ) → get_or line at 0 ≢ 32 → Reached line words start at → Reached line words start (at + 1)
-reached_byte line words start at other reached = record {
-  before = reached.before;
-  taken = reached.taken;
-  whole = reached.whole;
-  ordered = omega (arith, reached.ordered);
-  plain = λ k from to. ⊎_elim (λ less. reached.plain k from less) (λ more. let is : k ≡ at = omega (arith, more, to) in rw is other) (cases_lt k at);
-  cut = reached.cut;
-}
+reached_byte line words start at other reached = grind (arith, common_steps, cases_lt)
 
 -- a space is read, and the piece before it is pushed
 pub reached_space : (line : List ℕ) (words more : List (List ℕ)) (start at : ℕ) → IsUtf8 line → at < length line → get_or line at 0 ≡ 32

@@ -1,22 +1,20 @@
 -- The arrivals of a script: their lines take no more bytes than it has, and each has seven with its line feed: for `outputs_are_short`.
-use Rattle.std.proofs.Common.{◌≡◌, ℕ, ◌+◌, ◌*◌, ◌≤◌, ◌==◌, Bool, true, false, not, List, [], ◌∷◌, ◌++◌, length, filter, codes, MatchBool, Ok, Err, inl, inr, refl, ap, arith, lit≤}
-use Rattle.std.specs.Prelude.{if◌then◌else◌, nat_lt}
+use Rattle.std.proofs.lemmas.Grind.{common_steps}
+use Rattle.std.proofs.Common.{◌≡◌, ℕ, ◌+◌, ◌*◌, ◌≤◌, Bool, true, false, List, [], ◌∷◌, ◌++◌, length, filter, Ok, Err, ap, arith}
+use Rattle.std.specs.Prelude.{if◌then◌else◌}
 use Rattle.std.specs.List.{AllByRecursion as Each, slice_split, onto_first}
 use Rattle.std.proofs.lemmas.Bool.{ltb-false}
 use Rattle.std.proofs.lemmas.List.Elements.{recursion_from_All}
 use Rattle.std.proofs.lemmas.List.Splits.{length-slice_split}
 use Rattle.fd_table.specs.declared.Limits.{Limits}
 use Rattle.lock_manager.specs.declared.request.LkCmd.{LkCmd}
-use Rattle.lock_manager.specs.declared.request.LkCmd.TheVariants.{GetLk, SetLk, SetLkW, OGetLk, OSetLk, OSetLkW}
 use Rattle.lock_manager.specs.declared.request.Request.{Request}
-use Rattle.lock_manager.specs.declared.request.Request.TheVariants.{OpenFile, Dup, DupTo, CloseFd, Seek, Resize, Lk, Flock, Fork, Exit, Signal, Kill}
 use Rattle.script_core.specs.declared.line.Line.{Line}
 use Rattle.script_core.specs.declared.line.Line.TheVariants as lines
-use Rattle.script_core.specs.declared.script.Cause.TheVariants.{TooLong}
 use Rattle.script_core.specs.RequestText.{lock_command_word, request_words}
 use Rattle.script_core.specs.ScriptText.{Meaning, IsWritable, Says}
 use Rattle.script_core.specs.Words.{without_empty_end, lines_of, words_of, script_limit}
-use Rattle.script_core.specs.Reading.{Reading, LineGives, LinesGive, Reads, limits_of, meaning_of, reading_after, start}
+use Rattle.script_core.specs.Reading.{Reading, LineGives, LinesGive, Reads, limits_of, meaning_of, reading_after}
 use Rattle.script_core.proofs.RoundTripLemmas.{more_length, IsWord-process, IsWord-descriptor}
 use Rattle.script_core.proofs.ProcessLemmas.{IsArrivalOf, accepted, success, arrival_said, arrivals_read}
 
@@ -69,17 +67,11 @@ both_length (word ∷ words) more = let rest = both_length words more in omega (
 
 -- the words of a line, each with a byte more, have one more than it at most
 words_length : (line : List ℕ) → more_length (words_of line) ≤ length line + 1
-words_length line =
-    let pieces = split_length (λ byte. byte == 32) line in
-    let kept = filter_length (λ word. not (length word == 0)) (slice_split (λ byte. byte == 32) line) in
-    omega (arith, pieces, kept)
+words_length line = grind (arith, common_steps, split_length, filter_length)
 
 -- so have the lines of all bytes
 lines_length : (bytes : List ℕ) → more_length (lines_of bytes) ≤ length bytes + 1
-lines_length bytes =
-    let pieces = split_length (λ byte. byte == 10) bytes in
-    let kept = without_end_length (slice_split (λ byte. byte == 10) bytes) in
-    omega (arith, pieces, kept)
+lines_length bytes = grind (arith, common_steps, split_length, without_end_length)
 
 -- ---- a request
 
@@ -89,36 +81,16 @@ request_length request = 2 + more_length (request_words request)
 
 -- the word of a lock command has five bytes or more
 command_length : (cmd : LkCmd) → 5 ≤ length (lock_command_word cmd)
-command_length GetLk = lit≤ tt
-command_length SetLk = lit≤ tt
-command_length SetLkW = lit≤ tt
-command_length OGetLk = lit≤ tt
-command_length OSetLk = lit≤ tt
-command_length OSetLkW = lit≤ tt
+command_length cmd = grind (arith, common_steps)
 
 -- it has seven: none is shorter than that of `1 exit`
 pub seven_bytes : (limits : Limits) (request : Request) → IsWritable limits request → 7 ≤ request_length request
 unfolding more_length
-seven_bytes limits (OpenFile file access) writable = omega arith
-seven_bytes limits (Dup fd) writable = let some = (IsWord-descriptor fd writable).some in omega (arith, some)
-seven_bytes limits (DupTo fd to) writable = omega arith
-seven_bytes limits (CloseFd fd) writable = omega arith
-seven_bytes limits (Seek fd offset) writable = omega arith
-seven_bytes limits (Resize fd size) writable = omega arith
-seven_bytes limits (Lk fd cmd lock) writable = let name = command_length cmd in omega (arith, name)
-seven_bytes limits (Flock fd op nb) writable = omega arith
-seven_bytes limits (Fork child) writable = omega arith
-seven_bytes limits Exit writable = omega arith
-seven_bytes limits (Signal target) writable = omega arith
-seven_bytes limits (Kill target) writable = omega arith
+seven_bytes limits request h = grind (arith, common_steps, IsWord-descriptor, command_length)
 
 -- words that say it are no shorter than its own
 said_length : (words : List (List ℕ)) (request : Request) → Says words request → more_length (request_words request) ≤ more_length words
-said_length words request (inl are) = let size = ap more_length are in omega (arith, size)
-said_length words request (inr (zero_pid, are)) =
-    let size = ap more_length are in
-    let all = both_length (request_words request) (codes "0" ∷ []) in
-    omega (arith, size, all)
+said_length words request h = grind (arith, common_steps, more_length, both_length)
 
 -- the line of an arrival is no shorter than that of its request
 arrival_length : (reading : Reading) (line : List ℕ) (p : ℕ) (request : Request) → LineGives reading line (Ok (lines.Arrival p request))
@@ -149,13 +121,7 @@ one_more_length (arrival ∷ arrivals) p request = let rest = one_more_length ar
 -- a line adds no more than its bytes and its line feed
 grows : (reading : Reading) (line : List ℕ) (said : Line) → LineGives reading line (Ok said)
     → arrivals_length (reading_after reading said).arrivals ≤ arrivals_length reading.arrivals + (length line + 1)
-grows reading line lines.Skipped gives = omega arith
-grows reading line (lines.Policy policy) gives = omega arith
-grows reading line (lines.Limits limits) gives = omega arith
-grows reading line (lines.Arrival p request) gives =
-    let more = one_more_length reading.arrivals p request in
-    let short = arrival_length reading line p request gives in
-    omega (arith, more, short)
+grows reading line said h = grind (arith, common_steps, one_more_length, arrival_length)
 
 -- so do all lines
 in_lines : (number : ℕ) (reading : Reading) (lines : List (List ℕ)) (meaning : Meaning) → LinesGive number reading lines (Ok meaning)
@@ -172,17 +138,7 @@ in_lines number reading (line ∷ rest) meaning (Err cause, gives, refused) = ab
 -- the requests of an accepted script take no more bytes than it may have, and a line feed
 pub read_length : (bytes : List ℕ) (meaning : Meaning) → Reads bytes (Ok meaning) → arrivals_length meaning.arrivals ≤ script_limit + 1
 unfolding arrivals_length
-read_length bytes meaning reads = by_length (nat_lt script_limit (length bytes)) refl reads
-  where
-    by_length : (long : Bool) → nat_lt script_limit (length bytes) ≡ long
-        → MatchBool long (accepted meaning ≡ Err (record { line = 0; cause = TooLong })) (LinesGive 1 start (lines_of bytes) (Ok meaning))
-        → arrivals_length meaning.arrivals ≤ script_limit + 1
-    by_length true is refused = absurd (cc)
-    by_length false is given =
-        let short : length bytes ≤ script_limit = ltb-false script_limit (length bytes) is in
-        let all = in_lines 1 start (lines_of bytes) meaning given in
-        let lines = lines_length bytes in
-        omega (arith, short, all, lines)
+read_length bytes meaning reads = grind (arith, common_steps, accepted, ltb-false, in_lines, lines_length)
 
 -- each arrival takes seven
 seventh : (limits : Limits) (arrivals : List (ℕ × Request)) → Each (IsArrivalOf limits) arrivals → 7 * length arrivals ≤ arrivals_length arrivals

@@ -1,4 +1,5 @@
 -- The locks of a report are no more than the starts of the changes, since no two begin at one start: for `outputs_are_short`.
+use Rattle.std.proofs.lemmas.Grind.{common_steps}
 use Rattle.std.proofs.Common.{◌≡◌, ◌≢◌, ℕ, zero, suc, ◌+◌, ◌<◌, ◌≤◌, ◌⊎◌, Bool, true, false, List, [], ◌∷◌, ◌++◌, length, flat_map, AllPairs, None, inl, inr, ⊎_elim, refl, sym, ap, ◌∙◌, subst, arith, suc-le-suc}
 use Rattle.std.specs.Prelude.{⊤, IsFalse}
 use Rattle.std.specs.List.{AllByRecursion as Each}
@@ -74,11 +75,7 @@ apart_append First Second (x ∷ xs) ys differ firsts seconds apart later = (
 
 begun_append : (starts : List Start) (First Second Is : Held → Type 0) (xs ys : List Held) → ((x y : Held) → First x → Second y → start_of y ≢ start_of x)
     → ((x : Held) → First x → Is x) → ((y : Held) → Second y → Is y) → AreBegun starts First xs → AreBegun starts Second ys → AreBegun starts Is (xs ++ ys)
-begun_append starts First Second Is xs ys differ of_first of_second first second = record {
-  apart = apart_append First Second xs ys differ first.each second.each first.apart second.apart;
-  among = each_append (λ (line : Held). IsOneOf (start_of line) starts) xs ys first.among second.among;
-  each = each_append Is xs ys (each_map First Is xs of_first first.each) (each_map Second Is ys of_second second.each);
-}
+begun_append starts First Second Is xs ys differ of_first of_second first second = grind (arith, common_steps, apart_append, each_append, each_map)
 
 -- lines in such an order begin apart
 ordered_apart : (Is : Held → Type 0) (Ordered : Held → Held → Type 0) (lines : List Held) → ((x y : Held) → Is x → Ordered x y → start_of y ≢ start_of x)

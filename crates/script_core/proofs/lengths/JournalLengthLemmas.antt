@@ -1,5 +1,6 @@
 -- The requests of a journal take no more bytes than its arrivals, since of each process just the first that it sent are taken: for
 -- `outputs_are_short`.
+use Rattle.std.proofs.lemmas.Grind.{common_steps}
 use Rattle.std.proofs.Common.{◌≡◌, ◌≢◌, ℕ, ◌+◌, ◌*◌, ◌≤◌, ◌==◌, List, [], ◌∷◌, ◌++◌, length, map, filter, Some, None, slice_get, ⊎_elim, refl, sym, ap, ◌∙◌, subst, arith, eq-eqb, ne_eqb, append_assoc, append-nil}
 use Rattle.std.specs.List.{AllByRecursion as Each}
 use Rattle.std.proofs.lemmas.Bool.{cases_eq}
@@ -46,17 +47,11 @@ front_more (y ∷ xs) rest x is = let later = front_more xs rest x is in (later.
 
 -- an event of the process itself is one more of what was taken
 taken_own : (events : List Event) (event : Event) → requests_taken event.p (events ++ event ∷ []) ≡ requests_taken event.p events ++ event.request ∷ []
-taken_own events event =
-    let own : events_of event.p (events ++ event ∷ []) ≡ events_of event.p events ++ event ∷ [] =
-    filter-append (λ (other : Event). other.p == event.p) events (event ∷ []) ∙ rw (eq-eqb event.p event.p refl) refl in
-    ap (map (λ (e : Event). e.request)) own ∙ map-append (λ (e : Event). e.request) (events_of event.p events) (event ∷ [])
+taken_own events event = grind (arith, common_steps, filter-append, eq-eqb, map-append)
 
 -- and one of another process changes nothing
 taken_other : (events : List Event) (event : Event) (p : ℕ) → event.p ≢ p → requests_taken p (events ++ event ∷ []) ≡ requests_taken p events
-taken_other events event p differs =
-    let others : events_of p (events ++ event ∷ []) ≡ events_of p events =
-    filter-append (λ (other : Event). other.p == p) events (event ∷ []) ∙ rw (ne_eqb event.p p differs) (append-nil (events_of p events)) in
-    ap (map (λ (e : Event). e.request)) others
+taken_other events event p differs = grind (arith, common_steps, filter-append, append-nil)
 
 -- so it stays where the next request is taken
 fronts_next : (sent : ℕ → List Request) (events : List Event) (event : Event) → AreFronts sent events → next_untaken sent events event.p ≡ Some event.request
@@ -127,9 +122,7 @@ sent_later p q first arrivals differs = rw (ne_eqb q p differs) refl
 -- the same arrival before both
 sent_both : (p q : ℕ) (first : Request) (left arrivals : List (ℕ × Request)) → requests_sent p left ≡ requests_sent p arrivals
     → requests_sent p ((q, first) ∷ left) ≡ requests_sent p ((q, first) ∷ arrivals)
-sent_both p q first left arrivals same =
-    ⊎_elim (λ own. sent_first p q first left own ∙ ap (λ l. first ∷ l) same ∙ sym (sent_first p q first arrivals own))
-    (λ differs. sent_later p q first left differs ∙ same ∙ sym (sent_later p q first arrivals differs)) (cases_eq q p)
+sent_both p q first left arrivals same = grind (arith, common_steps, sent_first, sent_later, cases_eq)
 
 -- where a process sent something, there are arrivals without the first one of it
 without : (p : ℕ) (request : Request) (rest : List Request) (arrivals : List (ℕ × Request)) → requests_sent p arrivals ≡ request ∷ rest

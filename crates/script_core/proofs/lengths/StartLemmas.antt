@@ -1,11 +1,11 @@
 -- Where held locks begin: each one at a start that some change made, and a change makes two at most: for `outputs_are_short`.
-use Rattle.std.proofs.Common.{◌≡◌, ◌≢◌, ℕ, zero, suc, ◌+◌, ◌<◌, ◌≤◌, ◌==◌, ◌&&◌, ◌⊎◌, Bool, true, false, nat_le, List, [], ◌∷◌, ◌++◌, length, length-append, flat_map, Option, Some, None, inl, inr, ⊎_elim, refl, sym, ap, ◌∙◌, subst, arith, eq-eqb, ne_eqb, eqb-true, leb-true, le-leb, eq-or-lt_of_le}
+use Rattle.std.proofs.lemmas.Grind.{common_steps}
+use Rattle.std.proofs.Common.{◌≡◌, ◌≢◌, ℕ, zero, suc, ◌+◌, ◌<◌, ◌≤◌, ◌==◌, ◌&&◌, ◌⊎◌, Bool, true, false, List, [], ◌∷◌, ◌++◌, length, length-append, flat_map, Option, Some, None, inl, inr, ⊎_elim, refl, sym, ◌∙◌, subst, arith, eq-eqb, eqb-true, leb-true, le-leb, eq-or-lt_of_le}
 use Rattle.std.specs.Prelude.{if◌then◌else◌}
 use Rattle.range_core.specs.declared.TheConstants.{OFFMAX}
 use Rattle.range_core.specs.declared.Mode.{Mode}
 use Rattle.range_core.specs.declared.Span.{Span}
 use Rattle.range_core.specs.Ranges.{Covers, IsRun}
-use Rattle.range_core.specs.Changes.{is_covered}
 use Rattle.lock_book.specs.declared.Owner.{Owner}
 use Rattle.lock_book.specs.declared.Owner.TheVariants.{Process, Description}
 use Rattle.lock_book.specs.Owners.{is_same_owner}
@@ -52,16 +52,7 @@ starts_in changes flocks = flat_map starts_of changes ++ flat_map flock_starts_o
 
 -- a change makes two starts at most
 pub two_starts : (change : Change) → length (starts_of change) ≤ 2
-two_starts change =
-    let first = one (byte_start change.file change.owner change.span.first) change.mode in
-    let last : length (behind change) ≤ 1 = elim (change.span.last == OFFMAX) as
-    (λ b. length (if b then [] else byte_start change.file change.owner (change.span.last + 1) ∷ []) ≤ 1) [ true ↦ omega arith | false ↦ omega arith ] in
-    let size = length-append (set_at change.mode (byte_start change.file change.owner change.span.first)) (behind change) in
-    omega (arith, first, last, size)
-  where
-    one : (start : Start) (mode : Option Mode) → length (set_at mode start) ≤ 1
-    one start None = omega arith
-    one start (Some mode) = omega arith
+two_starts change = grind (arith, common_steps, length-append)
 
 -- ---- one of a list
 
@@ -88,10 +79,7 @@ go_on f x xs a (inr first) here = ⊎_elim (λ now. inl (in_front a (f x) (flat_
 -- ---- byte locks
 
 one_owner : (one other : Owner) → is_same_owner one other ≡ true → one ≡ other
-one_owner (Process p) (Process q) is = ap Process (eqb-true p q is)
-one_owner (Process p) (Description e) is = absurd (let bad : false ≡ true = is in cc)
-one_owner (Description d) (Process q) is = absurd (let bad : false ≡ true = is in cc)
-one_owner (Description d) (Description e) is = ap Description (eqb-true d e is)
+one_owner one other h = grind (arith, common_steps, eqb-true)
 
 owner_itself : (owner : Owner) → is_same_owner owner owner ≡ true
 owner_itself (Process p) = eq-eqb p p refl
@@ -105,41 +93,20 @@ record IsOn (change : Change) (file : ℕ) (owner : Owner) (byte : ℕ) : Type 0
 
 -- the change is on the byte just where it sets it
 set_on : (change : Change) (file : ℕ) (owner : Owner) (byte : ℕ) → sets_byte change file owner byte ≡ true → IsOn change file owner byte
-set_on change file owner byte sets =
-    let first = both_true ((change.file == file) && is_same_owner change.owner owner) (is_covered change.span byte) sets in
-    let second = both_true (change.file == file) (is_same_owner change.owner owner) first.0 in
-    let third = both_true (nat_le change.span.first byte) (nat_le byte change.span.last) first.1 in
-    record {
-      same_file = eqb-true change.file file second.0;
-      same_owner = one_owner change.owner owner second.1;
-      covers = (leb-true change.span.first byte third.0, leb-true byte change.span.last third.1);
-    }
+set_on change file owner byte sets = grind (arith, common_steps, both_true, eqb-true, one_owner, leb-true)
 
 on_set : (change : Change) (file : ℕ) (owner : Owner) (byte : ℕ) → IsOn change file owner byte → sets_byte change file owner byte ≡ true
-on_set change file owner byte on =
-    let first = le-leb change.span.first byte on.covers.0 in
-    let last = le-leb byte change.span.last on.covers.1 in
-    rw (eq-eqb change.file file on.same_file, on.same_owner, owner_itself owner, first, last) refl
+on_set change file owner byte on = grind (arith, common_steps, le-leb, eq-eqb, owner_itself)
 
 -- a change that sets a mode has a start at its first byte
 first_here : (change : Change) (file : ℕ) (owner : Owner) (byte : ℕ) (mode : Mode) → IsOn change file owner byte → change.span.first ≡ byte
     → change.mode ≡ Some mode → IsOneOf (byte_start file owner byte) (starts_of change)
-first_here change file owner byte mode on at sets =
-    let start = byte_start change.file change.owner change.span.first in
-    let same : start ≡ byte_start file owner byte = rw (on.same_file, on.same_owner, at) refl in
-    in_front (byte_start file owner byte) (set_at change.mode start) (behind change)
-    (subst (λ (m : Option Mode). IsOneOf (byte_start file owner byte) (set_at m start)) (sym sets) (inl same))
+first_here change file owner byte mode h h2 h3 = grind (arith, common_steps, in_front)
 
 -- a change has a start behind its last byte, where the file goes on there
 begins_behind : (change : Change) (file : ℕ) (owner : Owner) (byte : ℕ) → IsOn change file owner byte → byte ≡ change.span.last → byte < OFFMAX
     → IsOneOf (byte_start file owner (suc byte)) (starts_of change)
-begins_behind change file owner byte on at within =
-    let start = byte_start file owner (suc byte) in
-    let next : change.span.last + 1 ≡ suc byte = omega (arith, at) in
-    let same : byte_start change.file change.owner (change.span.last + 1) ≡ start = rw (on.same_file, on.same_owner, next) refl in
-    let ends : change.span.last ≢ OFFMAX = λ e. omega (arith, e, at, within) in
-    let here : IsOneOf start (behind change) = rw (ne_eqb change.span.last OFFMAX ends) (inl same) in
-    in_back start (set_at change.mode (byte_start change.file change.owner change.span.first)) (behind change) here
+begins_behind change file owner byte h h2 h3 = grind (arith, common_steps, in_back)
 
 -- the byte behind this one has a start, or had the mode when this one hadn't
 abbrev Begins : List Change → ℕ → Owner → ℕ → Mode → Option Mode → Option Mode → Type 0

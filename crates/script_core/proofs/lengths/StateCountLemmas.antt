@@ -1,5 +1,6 @@
 -- Of so many events there are twice as many notes at most, and no more locks and waits together: for `outputs_are_short`.
-use Rattle.std.proofs.Common.{ℕ, ◌+◌, ◌*◌, ◌≤◌, List, [], ◌∷◌, length, length-append, flat_map, sym, subst, arith}
+use Rattle.std.proofs.lemmas.Grind.{common_steps}
+use Rattle.std.proofs.Common.{rules, ℕ, ◌+◌, ◌*◌, ◌≤◌, List, [], ◌∷◌, length, length-append, flat_map, sym, subst, arith}
 use Rattle.std.specs.List.{AllByRecursion as Each}
 use Rattle.lock_book.specs.declared.Held.{Held}
 use Rattle.lock_book.specs.Changes.{mode_in, flock_mode_in}
@@ -38,10 +39,7 @@ pub few_locks_and_waits : (rules : Rules) (processes : ℕ) (events : List Event
     → length held + length T.waits ≤ 2 * length events
 unfolding opening_state
 few_locks_and_waits rules processes events T leads fits held is =
-    let locks = (leads_grow rules processes opening_state events T leads).locks in
-    let few = no_more_than_starts T.changes T.flock_changes held fits is in
-    let size = length-append (flat_map starts_of T.changes) (flat_map flock_starts_of T.flock_changes) in
-    omega (arith, locks, few, size)
+    grind (arith, common_steps, leads_grow, no_more_than_starts, length-append, starts_of, flock_starts_of)
 
 -- ---- an output
 

@@ -1,24 +1,20 @@
 -- What an event adds: two at most to the starts with twice the waits, and two to the notes with the waits: for `outputs_are_short`.
-use Rattle.std.proofs.Common.{◌≡◌, ℕ, suc, ◌+◌, ◌*◌, ◌≤◌, ◌==◌, ◌||◌, not, Bool, true, false, List, [], ◌∷◌, ◌++◌, length, length-append, filter_map, flat_map, Option, Some, None, option_map, Result, Ok, Err, MatchOption, MatchResult, ⊎_elim, refl, sym, ap, ◌∙◌, subst, arith}
+use Rattle.std.proofs.lemmas.Grind.{common_steps, flat_map-append}
+use Rattle.std.proofs.Common.{rules, ◌≡◌, ℕ, suc, ◌+◌, ◌*◌, ◌≤◌, ◌==◌, Bool, List, [], ◌∷◌, ◌++◌, length, length-append, filter_map, flat_map, Option, Some, None, option_map, Result, Ok, Err, MatchOption, MatchResult, ⊎_elim, refl, sym, ap, ◌∙◌, subst, arith}
 use Rattle.std.specs.List.{cons_option}
-use Rattle.std.proofs.lemmas.Grind.{flat_map-append}
 use Rattle.std.proofs.lemmas.List.Sums.{length-filter, count_by-le-length}
 use Rattle.range_core.specs.declared.Mode.{Mode}
-use Rattle.range_core.specs.declared.Mode.TheVariants as modes
 use Rattle.range_core.specs.declared.Span.{Span}
 use Rattle.range_core.specs.declared.RangeFault.{RangeFault}
-use Rattle.range_core.specs.Resolving.{resolution}
 use Rattle.lock_book.specs.declared.Owner.{Owner}
-use Rattle.lock_book.specs.declared.Owner.TheVariants.{Process, Description}
-use Rattle.lock_book.specs.Changes.{Change, FlockChange, whole_file, flock_mode_in}
+use Rattle.lock_book.specs.declared.Owner.TheVariants.{Description}
+use Rattle.lock_book.specs.Changes.{whole_file}
 use Rattle.fd_table.specs.declared.Access.{Access}
 use Rattle.fd_table.specs.declared.FdFault.{FdFault}
-use Rattle.fd_table.specs.declared.FdFault.TheVariants as faults
 use Rattle.fd_table.specs.declared.tables.Look.{Look}
 use Rattle.fd_table.specs.Released.{Released}
 use Rattle.fd_table.specs.Descriptors.{Descriptors, OpenFileDescription, description_numbered, look_at}
 use Rattle.wait_core.specs.declared.Policy.{Policy}
-use Rattle.wait_core.specs.declared.Family.TheVariants.{Bytes, Whole}
 use Rattle.wait_core.specs.declared.Wait.{Wait}
 use Rattle.wait_core.specs.WaitsView.{without_wait_of}
 use Rattle.lock_manager.specs.declared.request.Rules.{Rules}
@@ -26,9 +22,7 @@ use Rattle.lock_manager.specs.declared.request.Errno.{Errno}
 use Rattle.lock_manager.specs.declared.request.Errno.TheVariants.{EBADF}
 use Rattle.lock_manager.specs.declared.request.Lock.{Lock}
 use Rattle.lock_manager.specs.declared.request.LkCmd.{LkCmd}
-use Rattle.lock_manager.specs.declared.request.LkCmd.TheVariants.{GetLk, SetLk, SetLkW, OGetLk, OSetLk, OSetLkW}
 use Rattle.lock_manager.specs.declared.request.FlockOp.{FlockOp}
-use Rattle.lock_manager.specs.declared.request.FlockOp.TheVariants.{Sh, Ex, Un}
 use Rattle.lock_manager.specs.declared.request.Request.{Request}
 use Rattle.lock_manager.specs.declared.request.Request.TheVariants.{OpenFile, Dup, DupTo, CloseFd, Seek, Resize, Lk, Flock, Fork, Exit, Signal, Kill}
 use Rattle.lock_manager.specs.declared.request.Note.{Note}
@@ -36,14 +30,14 @@ use Rattle.lock_manager.specs.declared.request.Reply.{Reply}
 use Rattle.lock_manager.specs.declared.request.Reply.TheVariants as replies
 use Rattle.lock_manager.specs.declared.request.ProcState.{ProcState}
 use Rattle.lock_manager.specs.declared.request.ProcState.TheVariants.{Unborn, Live, Waiting, Ended}
-use Rattle.lock_manager.specs.State.{State, with_lock, with_lock_of, with_byte_mode, with_flock_mode, with_process}
+use Rattle.lock_manager.specs.State.{State, with_lock, with_byte_mode, with_flock_mode}
 use Rattle.lock_manager.specs.Settling.{Settles, granted}
 use Rattle.lock_manager.specs.Outcomes.{Outcome, answered, refused, waits_then, range_error, IsRefusal}
 use Rattle.lock_manager.specs.DescriptorCalls.{with_released, process_releases, description_releases, flock_releases, OpenComesTo, DupComesTo, DupToComesTo, CloseComesTo, DoneComesTo}
-use Rattle.lock_manager.specs.LockWords.{is_get, is_bad_argument, wanted_mode, permits, lock_owner, wanted_lock}
+use Rattle.lock_manager.specs.LockWords.{wanted_mode, lock_owner}
 use Rattle.lock_manager.specs.LockCommands.{DescribedComesTo, RangeComesTo, ModeComesTo, CommandComesTo, GetComesTo, SetComesTo, IsLocked}
-use Rattle.lock_manager.specs.FlockCalls.{FlockOpComesTo, FlockModeComesTo, FlockTestComesTo, is_same_mode, wanted_flock}
-use Rattle.lock_manager.specs.ProcessCalls.{ForkComesTo, EndComesTo, SignalComesTo, KillOtherComesTo, without_wait}
+use Rattle.lock_manager.specs.FlockCalls.{FlockOpComesTo, FlockModeComesTo, FlockTestComesTo}
+use Rattle.lock_manager.specs.ProcessCalls.{ForkComesTo, EndComesTo, SignalComesTo, KillOtherComesTo}
 use Rattle.lock_manager.specs.Step.{ComesTo, Step}
 use Rattle.script_core.proofs.FitLemmas.{same_locked}
 use Rattle.script_core.proofs.OutcomeFitLemmas.{by_bool}
@@ -60,33 +54,16 @@ length_flat f xs ys = ap length (flat_map-append f xs ys) ∙ length-append (fla
 
 -- a change of byte locks adds two at most
 starts_set : (S : State) (file : ℕ) (owner : Owner) (span : Span) (mode : Option Mode) → starts (with_byte_mode S file owner span mode) ≤ starts S + 2
-starts_set S file owner span mode =
-    let change : Change = record { file = file; owner = owner; span = span; mode = mode } in
-    let size = length_flat starts_of S.changes (change ∷ []) in
-    let last = length-append (starts_of change) [] in
-    let two = two_starts change in
-    omega (arith, size, last, two)
+starts_set S file owner span mode = grind (arith, common_steps, length_flat, starts_of, length-append, two_starts)
 
 -- a change of flock locks adds one where it sets a mode, and else none
 starts_flock : (S : State) (file description : ℕ) (mode : Option Mode)
     → starts (with_flock_mode S file description mode) ≡ starts S + length (set_at mode (flock_start file description))
-starts_flock S file description mode =
-    let change : FlockChange = record { file = file; description = description; mode = mode } in
-    let size = length_flat flock_starts_of S.flock_changes (change ∷ []) in
-    let last = length-append (flock_starts_of change) [] in
-    omega (arith, size, last)
+starts_flock S file description mode = grind (arith, common_steps, length_flat, flock_starts_of, length-append)
 
 -- a lock that is set for a wait adds two at most
 starts_locked : (S : State) (wait : Wait) → starts (with_lock S wait) ≤ starts S + 2
-starts_locked S wait =
-    elim wait.family as (λ family. starts (with_lock_of family wait.owner S wait) ≤ starts S + 2) [
-      | Bytes ↦ starts_set S wait.file wait.owner wait.span (Some wait.mode)
-      | Whole ↦
-          elim wait.owner as (λ owner. starts (with_lock_of Whole owner S wait) ≤ starts S + 2) [
-            | Process p ↦ omega arith
-            | Description d ↦ let one = starts_flock S wait.file d (Some wait.mode) in omega (arith, one)
-          ]
-    ]
+starts_locked S wait = grind (arith, common_steps, starts_set, starts_flock)
 
 -- what is released adds none
 none_made : {X Y A : Type 0} (f : Y → List A) (make : ℕ → X → Y) (found : ℕ → Option X) (numbers : List ℕ)
@@ -133,18 +110,11 @@ grows_not S = record { locks = omega arith; notes = omega arith }
 
 pub grows_then : {told more later after all both : ℕ} (S U T : State) → Grows S told U more → Grows U later T after → all ≤ told + later
     → more + after ≤ both → Grows S all T both
-grows_then S U T first second few most =
-    let locks = first.locks in
-    let then_locks = second.locks in
-    let notes = first.notes in
-    let then_notes = second.notes in
-    record { locks = omega (arith, locks, then_locks, most); notes = omega (arith, notes, then_notes, few, most) }
+grows_then S U T first second few most = grind (arith, common_steps)
 
 -- the same waits, two more starts at most, and a note
 answers : (S T : State) → starts T ≤ starts S + 2 → T.waits ≡ S.waits → Grows S 1 T 2
-answers S T few waits =
-    let same = ap length waits in
-    record { locks = omega (arith, few, same); notes = omega (arith, same) }
+answers S T few waits = grind (arith, common_steps)
 
 -- each grant takes a wait, and adds two starts at most
 settles_grow : (policy : Policy) (S : State) (grants : List Note) (T : State) → Settles policy S grants T → Grows S (length grants) T 0
@@ -189,20 +159,14 @@ refused_grows : (S : State) (p n : ℕ) (error : Errno) (outcome : Outcome) → 
 refused_grows S p n error outcome is = answer_grows S S p n (replies.Err error) outcome refl refl is
 
 refusal_grows : (S : State) (p n : ℕ) (fault : FdFault) (outcome : Outcome) → IsRefusal S p n fault outcome → OutcomeGrows S outcome
-refusal_grows S p n faults.BadFd outcome is = refused_grows S p n _ outcome is
-refusal_grows S p n faults.TooMany outcome is = refused_grows S p n _ outcome is
-refusal_grows S p n faults.Invalid outcome is = refused_grows S p n _ outcome is
-refusal_grows S p n faults.Taken outcome is = refused_grows S p n _ outcome is
-refusal_grows S p n (faults.Memory memory) outcome is = absurd is
+refusal_grows S p n fault outcome h = grind (arith, common_steps, refused_grows)
 
 -- the caller's lock is set, or it waits
 lock_grows : (S : State) (wait : Wait) → Grows S 1 (with_lock S wait) 2
 lock_grows S wait = answers S (with_lock S wait) (starts_locked S wait) (same_locked S wait).waits
 
 wait_grows : (S : State) (wait : Wait) (grants : List Note) → Grows S 1 (waits_then S wait grants).after 2
-wait_grows S wait grants =
-    let size = length-append S.waits (wait ∷ []) in
-    record { locks = omega (arith, size); notes = omega (arith, size) }
+wait_grows S wait grants = grind (arith, common_steps, length-append)
 
 -- ---- calls on descriptors
 
@@ -216,14 +180,10 @@ dup_grows rules S p n fd outcome (Ok free, D, gives, is) = answer_grows S (recor
 dup_grows rules S p n fd outcome (Err fault, D, gives, is) = refusal_grows S p n fault outcome is
 
 dup_to_grows : (rules : Rules) (S : State) (p n fd to : ℕ) (outcome : Outcome) → DupToComesTo rules S p n fd to outcome → OutcomeGrows S outcome
-dup_to_grows rules S p n fd to outcome (Ok answer, D, gives, is) =
-    answer_grows S (with_released S D p answer.1) p n _ outcome (starts_released S D p answer.1) refl is
-dup_to_grows rules S p n fd to outcome (Err fault, D, gives, is) = refusal_grows S p n fault outcome is
+dup_to_grows rules S p n fd to outcome h = grind (arith, common_steps, answer_grows, starts_released, refusal_grows)
 
 close_grows : (S : State) (p n fd : ℕ) (outcome : Outcome) → CloseComesTo S p n fd outcome → OutcomeGrows S outcome
-close_grows S p n fd outcome (Ok released, D, gives, is) =
-    answer_grows S (with_released S D p released) p n _ outcome (starts_released S D p released) refl is
-close_grows S p n fd outcome (Err fault, D, gives, is) = refusal_grows S p n fault outcome is
+close_grows S p n fd outcome h = grind (arith, common_steps, answer_grows, starts_released, refusal_grows)
 
 done_grows : (S : State) (p n : ℕ) (result : Result (Unit {0}) FdFault) (D : Descriptors) (outcome : Outcome) → DoneComesTo S p n result D outcome
     → OutcomeGrows S outcome
@@ -233,9 +193,7 @@ done_grows S p n (Err fault) D outcome is = refusal_grows S p n fault outcome is
 -- ---- lock commands
 
 get_grows : (S : State) (wanted : Wait) (outcome : Outcome) → GetComesTo S wanted outcome → OutcomeGrows S outcome
-get_grows S wanted outcome is =
-    ⊎_elim (λ held. answer_grows S S wanted.p wanted.n _ outcome refl refl held.1.2)
-    (λ free. answer_grows S S wanted.p wanted.n _ outcome refl refl free.1) is
+get_grows S wanted outcome is = grind (arith, common_steps, answer_grows)
 
 locked_grows : (S : State) (wanted : Wait) (outcome : Outcome) → IsLocked S wanted outcome → OutcomeGrows S outcome
 locked_grows S wanted outcome is = told_now S (with_lock S wanted) _ outcome (lock_grows S wanted) is
@@ -249,26 +207,12 @@ set_grows S wanted outcome is =
 
 command_grows : (rules : Rules) (S : State) (cmd : LkCmd) (wanted : Wait) (outcome : Outcome) → CommandComesTo rules S cmd wanted outcome
     → OutcomeGrows S outcome
-command_grows rules S GetLk wanted outcome is = get_grows S wanted outcome is
-command_grows rules S OGetLk wanted outcome is = get_grows S wanted outcome is
-command_grows rules S SetLk wanted outcome is = set_grows S wanted outcome is
-command_grows rules S OSetLk wanted outcome is = set_grows S wanted outcome is
-command_grows rules S SetLkW wanted outcome is =
-    ⊎_elim
-    (λ blocked. ⊎_elim (λ no. refused_grows S wanted.p wanted.n _ outcome no.1) (λ waits. joins_grow S wanted outcome waits.1) blocked.1)
-    (λ yes. locked_grows S wanted outcome yes.1) is
-command_grows rules S OSetLkW wanted outcome is =
-    ⊎_elim (λ waits. joins_grow S wanted outcome waits.1) (λ yes. locked_grows S wanted outcome yes.1) is
+command_grows rules S cmd wanted outcome h = grind (arith, common_steps, get_grows, set_grows, refused_grows, joins_grow, locked_grows)
 
 range_grows : (rules : Rules) (S : State) (p n : ℕ) (cmd : LkCmd) (look : Look) (span : Span) (wanted : Option Mode) (outcome : Outcome)
     → MatchOption wanted (outcome ≡ answered (with_byte_mode S look.file (lock_owner cmd p look) span None) p n replies.Ok)
     (λ mode. ModeComesTo rules S p n cmd look span mode outcome) → OutcomeGrows S outcome
-range_grows rules S p n cmd look span None outcome is =
-    let T = with_byte_mode S look.file (lock_owner cmd p look) span None in
-    told_now S T _ outcome (answers S T (starts_set S look.file (lock_owner cmd p look) span None) refl) is
-range_grows rules S p n cmd look span (Some mode) outcome is =
-    by_bool (is_get cmd || permits look.access mode) is (λ yes. command_grows rules S cmd (wanted_lock cmd p n look span mode) outcome yes)
-    (λ no. refused_grows S p n _ outcome no)
+range_grows rules S p n cmd look span wanted outcome h = grind (arith, common_steps, told_now, answers, starts_set, by_bool, command_grows, refused_grows)
 
 described_grows : (rules : Rules) (S : State) (p n : ℕ) (cmd : LkCmd) (lock : Lock) (look : Look) (range : Result Span RangeFault) (outcome : Outcome)
     → MatchResult range (λ span. RangeComesTo rules S p n cmd lock.kind look span outcome) (λ fault. outcome ≡ refused S p n (range_error fault))
@@ -278,76 +222,37 @@ described_grows rules S p n cmd lock look (Err fault) outcome is = refused_grows
 
 lock_comes_grows : (rules : Rules) (S : State) (p n : ℕ) (cmd : LkCmd) (lock : Lock) (look : Option Look) (outcome : Outcome)
     → MatchOption look (outcome ≡ refused S p n EBADF) (λ look. DescribedComesTo rules S p n cmd lock look outcome) → OutcomeGrows S outcome
-lock_comes_grows rules S p n cmd lock None outcome is = refused_grows S p n _ outcome is
-lock_comes_grows rules S p n cmd lock (Some look) outcome is =
-    by_bool (is_bad_argument cmd lock) is (λ bad. refused_grows S p n _ outcome bad)
-    (λ good. described_grows rules S p n cmd lock look (resolution lock.whence lock.start lock.len look.offset look.size) outcome good)
+lock_comes_grows rules S p n cmd lock look outcome h = grind (arith, common_steps, refused_grows, by_bool, described_grows)
 
 -- ---- flock
 
 -- the test of a request, behind grants that were made before
 test_grows : (rules : Rules) (S U : State) (nb : Bool) (wanted : Wait) (grants : List Note) (outcome : Outcome) → Grows S (length grants) U 0
     → FlockTestComesTo rules U nb wanted grants outcome → OutcomeGrows S outcome
-test_grows rules S U true wanted grants outcome before is =
-    ⊎_elim (λ no. told_then S U U _ grants outcome before (stays U U refl refl) no.1)
-    (λ yes. told_then S U (with_lock U wanted) _ grants outcome before (lock_grows U wanted) yes.1) is
-test_grows rules S U false wanted grants outcome before is =
-    ⊎_elim (λ waits. told_then S U _ _ grants outcome before (wait_grows U wanted grants) waits.1)
-    (λ yes. told_then S U (with_lock U wanted) _ grants outcome before (lock_grows U wanted) yes.1) is
+test_grows rules S U nb wanted grants outcome h h2 = grind (arith, common_steps, told_then, stays, lock_grows, wait_grows)
 
 flock_mode_grows : (rules : Rules) (S : State) (look : Look) (nb : Bool) (wanted : Wait) (held : Option Mode) (outcome : Outcome)
     → FlockModeComesTo rules S look nb wanted held outcome → OutcomeGrows S outcome
-flock_mode_grows rules S look nb wanted None outcome is = test_grows rules S S nb wanted [] outcome (grows_not S) is
-flock_mode_grows rules S look nb wanted (Some held) outcome is =
-    by_bool (is_same_mode held wanted.mode) is (λ same. answer_grows S S wanted.p wanted.n _ outcome refl refl same)
-    (λ other. test_grows rules S other.1 nb wanted other.0 outcome (converted other.0 other.1 other.2) other.3)
-  where
-    converted : (grants : List Note) (settled : State) → Settles rules.policy (with_flock_mode S look.file look.desc None) grants settled
-        → Grows S (length grants) settled 0
-    converted grants settled removes =
-        let U = with_flock_mode S look.file look.desc None in
-        let none = starts_flock S look.file look.desc None in
-        let own : Grows S 0 U 0 = record { locks = omega (arith, none); notes = omega arith } in
-        grows_then S U settled own (settles_grow rules.policy U grants settled removes) (omega arith) (omega arith)
+flock_mode_grows rules S look nb wanted held outcome h = grind (arith, common_steps, test_grows, grows_not, by_bool, answer_grows, starts_flock, grows_then, settles_grow)
 
 flock_grows : (rules : Rules) (S : State) (p n : ℕ) (op : FlockOp) (nb : Bool) (look : Option Look) (outcome : Outcome)
     → MatchOption look (outcome ≡ refused S p n EBADF) (λ look. FlockOpComesTo rules S p n look op nb outcome) → OutcomeGrows S outcome
-flock_grows rules S p n op nb None outcome is = refused_grows S p n _ outcome is
-flock_grows rules S p n Un nb (Some look) outcome is =
-    let none = starts_flock S look.file look.desc None in
-    answer_grows S (with_flock_mode S look.file look.desc None) p n _ outcome (omega (arith, none)) refl is
-flock_grows rules S p n Sh nb (Some look) outcome is =
-    flock_mode_grows rules S look nb (wanted_flock p n look modes.Read) (flock_mode_in S.flock_changes look.file look.desc) outcome is
-flock_grows rules S p n Ex nb (Some look) outcome is =
-    flock_mode_grows rules S look nb (wanted_flock p n look modes.Write) (flock_mode_in S.flock_changes look.file look.desc) outcome is
+flock_grows rules S p n op nb look outcome h = grind (arith, common_steps, refused_grows, starts_flock, answer_grows, flock_mode_grows)
 
 -- ---- processes
 
 fork_grows : (processes : ℕ) (S : State) (p n child : ℕ) (outcome : Outcome) → ForkComesTo processes S p n child outcome → OutcomeGrows S outcome
-fork_grows processes S p n child outcome (Ok done, D, gives, is) =
-    answer_grows S (with_process (record S { descriptors = D }) child Live) p n _ outcome refl refl is
-fork_grows processes S p n child outcome (Err fault, D, gives, is) = refusal_grows S p n fault outcome is
+fork_grows processes S p n child outcome h = grind (arith, common_steps, answer_grows, refusal_grows)
 
 -- of the waits of all others there are no more
 others_few : (waits : List Wait) (p : ℕ) → length (without_wait_of waits p) ≤ length waits
-others_few waits p =
-    let size = length-filter (λ (wait : Wait). not (wait.p == p)) waits in
-    let few = count_by-le-length (λ (wait : Wait). not (wait.p == p)) waits in
-    omega (arith, size, few)
+others_few waits p = grind (arith, common_steps, length-filter, count_by-le-length)
 
 end_grows : (S : State) (p : ℕ) (told : List Note) (outcome : Outcome) → length told ≤ 2 → EndComesTo S p told outcome → OutcomeGrows S outcome
-end_grows S p told outcome few (released, D, gives, is) =
-    let none = starts_released (without_wait S p) D p released in
-    let waits = others_few S.waits p in
-    subst (OutcomeGrows S) (sym is) (record { locks = omega (arith, none, waits); notes = omega (arith, waits, few) })
+end_grows S p told outcome h h2 = grind (arith, common_steps, starts_released, others_few)
 
 signal_grows : (S : State) (p n target : ℕ) (state : ProcState) (outcome : Outcome) → SignalComesTo S p n target state outcome → OutcomeGrows S outcome
-signal_grows S p n target Unborn outcome is = refused_grows S p n _ outcome is
-signal_grows S p n target Ended outcome is = refused_grows S p n _ outcome is
-signal_grows S p n target Live outcome is = answer_grows S S p n _ outcome refl refl is
-signal_grows S p n target Waiting outcome (wait, found, is) =
-    let waits = others_few S.waits target in
-    subst (OutcomeGrows S) (sym is) (record { locks = omega (arith, waits); notes = omega (arith, waits) })
+signal_grows S p n target state outcome h = grind (arith, common_steps, refused_grows, answer_grows, others_few)
 
 kill_grows : (S : State) (p n target : ℕ) (state : ProcState) (outcome : Outcome) → KillOtherComesTo S p n target state outcome → OutcomeGrows S outcome
 kill_grows S p n target Unborn outcome is = refused_grows S p n _ outcome is
@@ -377,7 +282,4 @@ request_grows rules processes S p n (Kill target) outcome is =
 -- an event adds two at most
 pub step_grows : (rules : Rules) (processes : ℕ) (S : State) (p n : ℕ) (request : Request) (notes : List Note) (T : State)
     → Step rules processes S p n request notes T → Grows S (length notes) T 2
-step_grows rules processes S p n request notes T step =
-    let size : length notes ≡ length step.outcome.told + length step.grants = ap length step.are_notes ∙ length-append step.outcome.told step.grants in
-    grows_then S step.outcome.after T (request_grows rules processes S p n request step.outcome step.comes_to)
-    (settles_grow rules.policy step.outcome.after step.grants T step.settles) (omega (arith, size)) (omega arith)
+step_grows rules processes S p n request notes T step = grind (arith, common_steps, length-append, grows_then, request_grows, settles_grow)
