@@ -10,7 +10,7 @@ use Rattle.fd_table.specs.declared.Limits.{Limits}
 use Rattle.fd_table.specs.declared.TheConstants.{FILES}
 use Rattle.fd_table.specs.declared.tables.Opened.{Opened}
 use Rattle.fd_table.specs.Descriptors.{Descriptors}
-use Rattle.fd_table.specs.Closing.{without_one, ClosesOne}
+use Rattle.fd_table.specs.Releases.{without_one, ClosesOne}
 use Rattle.fd_table.specs.Rows.{Keys, row_at, key_at, with_key, is_place, users_of}
 use Rattle.fd_table.specs.Soundness.{AreRows, AreEntries}
 use Rattle.fd_table.specs.TablesView.{View, Numbered, numbered, ViewStandsFor, seen_in}

@@ -8,6 +8,6 @@ pub mod CallLemmas
 pub mod ChangeLemmas
 pub mod ReleasedLemmas
 pub mod ForkLemmas
-pub mod GatherLemmas
+pub mod EndProcessLemmas
 pub mod TablesLaws
 pub mod ConstantLaws

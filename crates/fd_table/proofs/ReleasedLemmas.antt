@@ -6,11 +6,9 @@ use Rattle.std.specs.List.Sorted.{IsStrictlyIncreasing}
 use Rattle.std.proofs.lemmas.Bool.{cases_eq, eq-eqb, ne_eqb, eqb-true}
 use Rattle.std.proofs.lemmas.Option.{same_Some, none-some}
 use Rattle.fd_table.specs.declared.releases.Closed.{Closed}
-use Rattle.fd_table.specs.Released.{Released}
+use Rattle.fd_table.specs.Releases.{Released, AreExactly, ClosesFile, ClosesDescription, AreReleased, without_one, TellsLastClose, ClosesOne, IsClosing, released_by, nothing}
 use Rattle.fd_table.specs.Descriptors.{Descriptors, IsOpen, SameDescriptors, description_numbered, with_descriptor}
-use Rattle.fd_table.specs.Releasing.{AreExactly, ClosesFile, ClosesDescription, AreReleased}
-use Rattle.fd_table.specs.Calls.{nothing, MovesTo}
-use Rattle.fd_table.specs.Closing.{without_one, TellsLastClose, ClosesOne, IsClosing, released_by}
+use Rattle.fd_table.specs.Calls.{MovesTo}
 use Rattle.fd_table.proofs.RowsLemmas.{place_cases}
 use Rattle.fd_table.proofs.CallLemmas.{same as same_descriptors}
 

@@ -9,7 +9,7 @@ use Rattle.std.proofs.lemmas.Option.{same_Some, none-some}
 use Rattle.fd_table.specs.declared.Access.{Access}
 use Rattle.fd_table.specs.Descriptors.{Descriptors, OpenFileDescription, SameDescriptors, description_numbered, with_description, with_descriptor, with_child, with_offset, with_size}
 use Rattle.fd_table.specs.Rows.{is_place}
-use Rattle.fd_table.specs.Closing.{without_one}
+use Rattle.fd_table.specs.Releases.{without_one}
 use Rattle.fd_table.specs.TablesView.{View, Numbered, IsSeen, ViewStandsFor}
 use Rattle.fd_table.proofs.RowsLemmas.{place_cases}
 

@@ -1,8 +1,6 @@
-pub mod Released
 pub mod Descriptors
-pub mod Releasing
+pub mod Releases
 pub mod Calls
 pub mod Rows
 pub mod Soundness
-pub mod Closing
 pub mod TablesView

@@ -24,7 +24,7 @@ pub struct Releases {
 impl Model for Releases {
     ghost use Rattle.std.specs.Prelude.{◌<◌, All};
     ghost use Rattle.fd_table.specs.declared.TheConstants.{FILES};
-    ghost use Rattle.fd_table.specs.Released.{Released};
+    ghost use Rattle.fd_table.specs.Releases.{Released};
 
     ghost Value = { Released };
 
@@ -37,9 +37,7 @@ impl Releases {
     ghost use Rattle.std.specs.Prelude.{◌≡◌, ◌<◌, ◌↔◌, ℕ, length, ◌++◌, ◌∷◌, [], All, Contains, IfSome, nat_eq};
     ghost use Rattle.std.specs.List.{IsDistinct};
     ghost use Rattle.std.specs.List.Sorted.{IsStrictlyIncreasing};
-    ghost use Rattle.fd_table.specs.Releasing.{AreExactly};
-    ghost use Rattle.fd_table.specs.Closing.{released_by, IsMarked};
-    ghost use Rattle.fd_table.specs.Calls.{nothing};
+    ghost use Rattle.fd_table.specs.Releases.{AreExactly, released_by, IsMarked, nothing};
 
     /// Nothing is released.
     pub(crate) fn none() -> Releases

@@ -59,9 +59,9 @@ pub struct Tables {
 #[tactic(auto, unfolding(crate::specs::TablesView::view_of, crate::specs::TablesView::processes_of, crate::specs::TablesView::limits_of))]
 impl Tables {
     ghost use Rattle.std.specs.Prelude.{◌==◌, ◌||◌, OnOk, ◌≢◌, IsSome, IsTrue, IfOk, OnErr, Ok, Err, None};
-    ghost use Rattle.fd_table.specs.Descriptors.{Descriptors, AreOpening, opening_descriptors, process_limit, look_at, with_descriptor};
+    ghost use Rattle.fd_table.specs.Descriptors.{Descriptors, opening_descriptors, process_limit, look_at, with_descriptor};
     ghost use Rattle.fd_table.specs.Calls.{OpenGives, HadMemory, LackedMemory, OnlyLacksMemory, IsFreeProcess, DupGives, DupToGives, CloseGives, EndGives, ForkGives, SeekGives, ResizeGives};
-    ghost use Rattle.fd_table.specs.Closing.{IsClosing, without_one};
+    ghost use Rattle.fd_table.specs.Releases.{IsClosing, without_one};
     ghost use Rattle.fd_table.specs.Rows.{row_at, key_at, IsLowestClosed, AreAllOpen, WithKey};
     ghost use Rattle.fd_table.specs.TablesView.{SameLimits, StandFor, processes_of, limits_of, ever_alive, SameProcesses, IsInRange, opened_in};
 

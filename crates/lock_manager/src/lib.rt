@@ -1,9 +1,9 @@
 //! The lock manager of one machine: descriptors, locks and processes, one request at a time.
 #![tactic(auto)]
 
-mod answers;
-mod commands;
 mod laws;
+mod lock_releases;
+mod lock_words;
 // The proofs of the machine see through what it shows, and those of the manager through what it stands for, which is opaque to the
 // crates above.
 #[tactic(auto, unfolding(crate::specs::MachineView::machine_rules, crate::specs::MachineView::machine_processes, crate::specs::MachineView::machine_state, crate::specs::MachineView::machine_locks, crate::specs::MachineView::machine_waits))]
@@ -11,7 +11,7 @@ mod machine;
 #[tactic(auto, unfolding(crate::specs::ManagerView::rules_of, crate::specs::ManagerView::processes_of, crate::specs::ManagerView::state_at, crate::specs::ManagerView::locks_in_books, crate::specs::ManagerView::waits_of))]
 mod manager;
 mod opening;
-mod releasing;
+mod replies;
 mod request;
 
 pub use laws::{step_has_one_outcome, step_has_some_outcome};

@@ -6,14 +6,14 @@ ghost use Rattle.wait_core.specs.WaitsView.{waits_of, policy_of, processes_of};
 ghost use Rattle.lock_manager.specs.WaitsKept.{AreKept, AreStanding};
 
 mod asking;
-mod descriptors;
-mod flocks;
-mod locks;
-mod processes;
+mod descriptor_calls;
+mod flock_calls;
+mod lock_commands;
+mod process_calls;
 mod settling;
 
-use crate::answers::tell;
 use crate::opening::{empty_books, opening_states};
+use crate::replies::tell;
 use crate::{Note, ProcState, Request, Rules};
 use fd_table::{FILES, Tables};
 use lock_book::{Book, Held};

@@ -22,7 +22,7 @@ use Rattle.lock_server.specs.Blockers.{AddsOwners, HeldBlocks}
 use Rattle.lock_server.specs.Deadlock.{BlocksByBytes, BlocksByFlock, BlocksIn, IsBlockedByOwner, WaitsForOn}
 use Rattle.lock_server.specs.Files.{FileState}
 use Rattle.lock_server.specs.Pendings.{as_wait, is_of_whole}
-use Rattle.lock_server.proofs.GatherLemmas.{Any-from_place, Any-place, IsGivenBefore, gathered_all}
+use Rattle.lock_server.proofs.GatheredOwnerLemmas.{Any-from_place, Any-place, IsGivenBefore, gathered_all}
 use Rattle.lock_server.proofs.LeaveLemmas.{split_at}
 
 -- the earlier wait, of this owner, conflicts with the wait

@@ -8,7 +8,7 @@ pub mod IndexLemmas
 pub mod ChainLemmas
 pub mod TableLemmas
 pub mod WaiterLemmas
-pub mod GatherLemmas
+pub mod GatheredOwnerLemmas
 pub mod SearchLemmas
 pub mod BlockerLemmas
 pub mod ReachedLemmas

@@ -27,7 +27,7 @@ use Rattle.std.specs.BTreeMap.{BTreeMap}
 use Rattle.lock_server.specs.Blockers.{AddsGoingOn, AddsOwners, IsGoingOn, SomeLeadsTo}
 use Rattle.lock_server.specs.WaitersView.{files_of, times}
 use Rattle.lock_server.proofs.ChainLemmas.{first_step}
-use Rattle.lock_server.proofs.GatherLemmas.{IsGivenBefore, gathered_all}
+use Rattle.lock_server.proofs.GatheredOwnerLemmas.{IsGivenBefore, gathered_all}
 use Rattle.lock_server.proofs.LeaveLemmas.{counted_with}
 
 -- of the first so many owners those that go on were added

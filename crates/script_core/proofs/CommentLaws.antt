@@ -30,7 +30,7 @@ use Rattle.lock_manager.specs.declared.request.Request.{Request}
 use Rattle.lock_manager.specs.declared.request.ProcState.{ProcState}
 use Rattle.lock_manager.specs.State.{State}
 use Rattle.session_core.specs.Event.{Event}
-use Rattle.script_core.specs.declared.text.ProcessLine.{ProcessLine}
+use Rattle.script_core.specs.declared.report_text.ProcessLine.{ProcessLine}
 use Rattle.script_core.specs.Words.{lines_of, without_empty_end}
 use Rattle.script_core.specs.RequestText.{access_word, mode_word, kind_word, whence_word, op_word, lock_command_word, pid_words, nb_words, request_words, request_text}
 use Rattle.script_core.specs.EntryText.{error_name, reply_words, reply_text, tag, note_text, entry_text, entry_line}

@@ -10,7 +10,7 @@ use Rattle.lock_book.specs.declared.Owner.{Owner}
 use Rattle.fd_table.specs.declared.TheConstants.{FILES}
 use Rattle.fd_table.specs.declared.FdFault.{FdFault}
 use Rattle.fd_table.specs.declared.tables.Look.{Look}
-use Rattle.fd_table.specs.Released.{Released}
+use Rattle.fd_table.specs.Releases.{Released}
 use Rattle.fd_table.specs.Calls.{OpenGives, DupGives, DupToGives, CloseGives, SeekGives, ResizeGives, ForkGives}
 use Rattle.fd_table.specs.Descriptors.{Descriptors, OpenFileDescription, SameDescriptors, description_numbered, look_at, opening_descriptors}
 use Rattle.wait_core.specs.declared.Family.{Family}

@@ -25,10 +25,8 @@ use Rattle.fd_table.specs.declared.FdFault.{FdFault}
 use Rattle.fd_table.specs.declared.Limits.{Limits}
 use Rattle.fd_table.specs.declared.Limits.TheVariants.{Small, Wide}
 use Rattle.fd_table.specs.declared.tables.Look.{Look}
-use Rattle.fd_table.specs.Released.{Released}
+use Rattle.fd_table.specs.Releases.{Released, AreReleased, nothing}
 use Rattle.fd_table.specs.Descriptors.{Descriptors, SameDescriptors, descriptor_limit, look_at, with_descriptor, description_limit}
-use Rattle.fd_table.specs.Releasing.{AreReleased}
-use Rattle.fd_table.specs.Calls.{nothing}
 use Rattle.wait_core.specs.declared.Wait.{Wait}
 use Rattle.wait_core.specs.Blocking.{IsBlocked}
 use Rattle.wait_core.specs.WaitsView.{wait_of, without_wait_of}

@@ -32,7 +32,7 @@ use Rattle.session_core.specs.Runs.{AreNumbered}
 use Rattle.session_core.specs.Mail.{events_of, answers_in, answers_from, requests_sent}
 use Rattle.script_core.specs.declared.place.Place.{Place}
 use Rattle.script_core.specs.declared.place.JournalLine.TheVariants as lines
-use Rattle.script_core.specs.declared.text.ProcessLine.{ProcessLine}
+use Rattle.script_core.specs.declared.report_text.ProcessLine.{ProcessLine}
 use Rattle.script_core.specs.declared.report.ReportLine.{ReportLine}
 use Rattle.script_core.specs.declared.report.ReportLine.TheVariants as report_lines
 use Rattle.script_core.specs.Words.{words_of, is_printable, script_limit}

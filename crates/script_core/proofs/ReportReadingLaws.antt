@@ -7,7 +7,7 @@ use Rattle.lock_book.specs.OneReport.{LocksHaveOneReport}
 use Rattle.lock_manager.specs.declared.request.ProcState.{ProcState}
 use Rattle.lock_manager.specs.declared.request.ProcState.TheVariants.{Unborn}
 use Rattle.session_core.specs.Event.{Event}
-use Rattle.script_core.specs.declared.text.ProcessLine.{ProcessLine}
+use Rattle.script_core.specs.declared.report_text.ProcessLine.{ProcessLine}
 use Rattle.script_core.specs.declared.report.ReportLine.{ReportLine}
 use Rattle.script_core.specs.declared.report.ReportLine.TheVariants as lines
 use Rattle.script_core.specs.ReportText.{held_text, held_line, wait_text, wait_line, process_text, process_line, line_of, is_reported, reported_line, process_lines}

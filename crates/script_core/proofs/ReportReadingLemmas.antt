@@ -6,7 +6,7 @@ use Rattle.std.specs.Bool.{then_some}
 use Rattle.std.proofs.lemmas.Fmt.{decimal_injective}
 use Rattle.lock_manager.specs.declared.request.ProcState.{ProcState}
 use Rattle.session_core.specs.Event.{Event}
-use Rattle.script_core.specs.declared.text.ProcessLine.{ProcessLine}
+use Rattle.script_core.specs.declared.report_text.ProcessLine.{ProcessLine}
 use Rattle.script_core.specs.declared.report.ReportLine.{ReportLine}
 use Rattle.script_core.specs.declared.report.ReportLine.TheVariants as lines
 use Rattle.script_core.specs.Words.{texts, words_of}

@@ -9,7 +9,7 @@ use Rattle.lock_manager.specs.declared.request.ProcState.TheVariants.{Unborn, Li
 use Rattle.lock_manager.specs.State.{State}
 use Rattle.session_core.specs.Event.{Event}
 use Rattle.session_core.specs.Mail.{events_of}
-use Rattle.script_core.specs.declared.text.ProcessLine.{ProcessLine}
+use Rattle.script_core.specs.declared.report_text.ProcessLine.{ProcessLine}
 use Rattle.script_core.specs.declared.report.ReportLine.{ReportLine}
 use Rattle.script_core.specs.declared.report.ReportLine.TheVariants as lines
 use Rattle.script_core.specs.ReportText.{held_text, wait_text, process_text, line_of, is_reported, IsReport}

@@ -19,7 +19,7 @@ use Rattle.session_core.specs.declared.session.Session.{Session}
 use Rattle.session_core.specs.Event.{Event}
 use Rattle.session_core.specs.Mail.{events_of, answers_to}
 use Rattle.session_core.specs.SessionView.{manager_of, events_in}
-use Rattle.script_core.specs.declared.text.ProcessLine.{ProcessLine}
+use Rattle.script_core.specs.declared.report_text.ProcessLine.{ProcessLine}
 use Rattle.script_core.specs.RequestText.{mode_word}
 use Rattle.script_core.specs.EntryText.{tag}
 

@@ -1,17 +1,13 @@
 //! The arguments of a command, each as its type.
 ghost use Rattle.std.specs.Prelude.{◌≡◌, ◌<◌, ◌^◌, MatchResult, codes, decimal};
 ghost use Rattle.std.specs.Fmt.{signed_decimal};
-ghost use Rattle.script_core.specs.Arguments.{FileNumber, DescriptorNumber, AnyNumber, UnsignedNumber, ProcessNumber, AccessWord, ModeWord, KindWord, WhenceWord, OpWord, NbWord, ErrorWord, PolicyWord, LimitsWord, IsBad};
-ghost use Rattle.script_core.specs.EntryText.{error_name};
+ghost use Rattle.script_core.specs.Arguments.{FileNumber, DescriptorNumber, AnyNumber, UnsignedNumber, ProcessNumber, NbWord, PolicyWord, LimitsWord, IsBad};
 ghost use Rattle.script_core.specs.HeaderText.{policy_word, limits_word};
-ghost use Rattle.script_core.specs.RequestText.{access_word, mode_word, kind_word, whence_word, op_word};
 ghost use Rattle.script_core.specs.ScriptText.{IsProcess};
 
 use crate::Cause;
 use crate::numbers::{integer_of, natural_of};
-use fd_table::{Access, FILES, Limits};
-use lock_manager::{Errno, FlockOp};
-use range_core::{Kind, Mode, Whence};
+use fd_table::{FILES, Limits};
 use wait_core::Policy;
 
 /// The number of a process, of which there are as many as the limits say.
@@ -61,88 +57,12 @@ pub fn read_unsigned(word: &str) -> Result<u64, Cause>
     natural_of(word).ok_or(Cause::Number)
 }
 
-/// An access mode.
-pub fn read_access(word: &str) -> Result<Access, Cause>
-    ensures { MatchResult result (λ access. word.now ≡ access_word access) (IsBad AccessWord word.now) }
-{
-    match word {
-        "r" => Ok(Access::R),
-        "w" => Ok(Access::W),
-        "rw" => Ok(Access::Rw),
-        _ => Err(Cause::Word),
-    }
-}
-
-/// The mode of a byte lock.
-pub fn read_mode(word: &str) -> Result<Mode, Cause>
-    ensures { MatchResult result (λ mode. word.now ≡ mode_word mode) (IsBad ModeWord word.now) }
-{
-    match word {
-        "r" => Ok(Mode::Read),
-        "w" => Ok(Mode::Write),
-        _ => Err(Cause::Word),
-    }
-}
-
-/// What a lock description asks for.
-pub fn read_kind(word: &str) -> Result<Kind, Cause>
-    ensures { MatchResult result (λ kind. word.now ≡ kind_word kind) (IsBad KindWord word.now) }
-{
-    match word {
-        "r" => Ok(Kind::Read),
-        "w" => Ok(Kind::Write),
-        "u" => Ok(Kind::Unlock),
-        _ => Err(Cause::Word),
-    }
-}
-
-/// What the start of a range is counted from.
-pub fn read_whence(word: &str) -> Result<Whence, Cause>
-    ensures { MatchResult result (λ whence. word.now ≡ whence_word whence) (IsBad WhenceWord word.now) }
-{
-    match word {
-        "set" => Ok(Whence::Set),
-        "cur" => Ok(Whence::Cur),
-        "end" => Ok(Whence::End),
-        _ => Err(Cause::Word),
-    }
-}
-
-/// An operation of flock.
-pub fn read_op(word: &str) -> Result<FlockOp, Cause>
-    ensures { MatchResult result (λ op. word.now ≡ op_word op) (IsBad OpWord word.now) }
-{
-    match word {
-        "sh" => Ok(FlockOp::Sh),
-        "ex" => Ok(FlockOp::Ex),
-        "un" => Ok(FlockOp::Un),
-        _ => Err(Cause::Word),
-    }
-}
-
 /// The word of `LOCK_NB`.
 pub fn read_nb(word: &str) -> Result<(), Cause>
     ensures { MatchResult result (λ unit. word.now ≡ codes "nb") (IsBad NbWord word.now) }
 {
     match word {
         "nb" => Ok(()),
-        _ => Err(Cause::Word),
-    }
-}
-
-/// The error of this name in `<errno.h>`.
-pub fn read_error(word: &str) -> Result<Errno, Cause>
-    ensures { MatchResult result (λ error. word.now ≡ error_name error) (IsBad ErrorWord word.now) }
-{
-    match word {
-        "EBADF" => Ok(Errno::EBADF),
-        "EINVAL" => Ok(Errno::EINVAL),
-        "EOVERFLOW" => Ok(Errno::EOVERFLOW),
-        "EAGAIN" => Ok(Errno::EAGAIN),
-        "EDEADLK" => Ok(Errno::EDEADLK),
-        "EINTR" => Ok(Errno::EINTR),
-        "EMFILE" => Ok(Errno::EMFILE),
-        "ESRCH" => Ok(Errno::ESRCH),
         _ => Err(Cause::Word),
     }
 }

@@ -1,24 +1,22 @@
 //! The words of a request, command by command.
-ghost use Rattle.std.specs.Prelude.{◌≡◌, pos, [], ◌∷◌, None, MatchOption, MatchResult, codes, decimal};
+ghost use Rattle.std.specs.Prelude.{◌≡◌, pos, [], ◌∷◌, MatchResult, codes, decimal};
 ghost use Rattle.std.specs.Fmt.{signed_decimal};
 ghost use Rattle.fd_table.specs.declared.Limits.{Limits};
 ghost use Rattle.script_core.specs.Words.{texts};
 ghost use Rattle.script_core.specs.RequestText.{command_word, lock_command_word, lock_words};
-ghost use Rattle.script_core.specs.Arguments.{DescriptorNumber, AnyNumber, ProcessNumber, IsFirstBad, AreRefused, open_command, command_named, dup_to_command, exit_command, flock_command, lock_arguments, lock_command};
+ghost use Rattle.script_core.specs.Arguments.{DescriptorNumber, AnyNumber, ProcessNumber, IsFirstBad, AreRefused, open_command, dup_to_command, exit_command, flock_command, lock_arguments, lock_command};
 ghost use Rattle.script_core.specs.ScriptText.{IsProcess};
 ghost use Rattle.script_core.specs.Reading.{CommandGives, RequestGives};
 
 use crate::Cause;
-use crate::arguments::{
-    read_access, read_descriptor, read_file, read_kind, read_nb, read_number, read_op,
-    read_process, read_whence,
-};
+use crate::arguments::{read_descriptor, read_file, read_nb, read_number, read_process};
+use crate::word_tables::{command_name, read_access, read_kind, read_op, read_whence};
 use fd_table::Limits;
 use lock_manager::{LkCmd, Lock, Request};
 
 /// The name of a command.
 #[derive(Clone, Copy)]
-enum CommandName {
+pub enum CommandName {
     Lock(LkCmd),
     Flock,
     Open,
@@ -40,33 +38,6 @@ pub fn read_command(limits: Limits, name: &str, arguments: &[&str]) -> Result<Re
     match command_name(name) {
         Some(command) => read_named(limits, command, arguments),
         None => Err(Cause::Word),
-    }
-}
-
-/// The command of this name.
-fn command_name(word: &str) -> Option<CommandName>
-    ensures { MatchOption result ((limits : Limits) → command_named limits word.now ≡ None) (λ command. word.now ≡ command_word command) }
-{
-    // Most requests are for locks, and the words are compared in turn.
-    match word {
-        "getlk" => Some(CommandName::Lock(LkCmd::GetLk)),
-        "setlk" => Some(CommandName::Lock(LkCmd::SetLk)),
-        "setlkw" => Some(CommandName::Lock(LkCmd::SetLkW)),
-        "ogetlk" => Some(CommandName::Lock(LkCmd::OGetLk)),
-        "osetlk" => Some(CommandName::Lock(LkCmd::OSetLk)),
-        "osetlkw" => Some(CommandName::Lock(LkCmd::OSetLkW)),
-        "flock" => Some(CommandName::Flock),
-        "open" => Some(CommandName::Open),
-        "dup" => Some(CommandName::Dup),
-        "dup2" => Some(CommandName::DupTo),
-        "close" => Some(CommandName::Close),
-        "seek" => Some(CommandName::Seek),
-        "resize" => Some(CommandName::Resize),
-        "fork" => Some(CommandName::Fork),
-        "signal" => Some(CommandName::Signal),
-        "kill" => Some(CommandName::Kill),
-        "exit" => Some(CommandName::Exit),
-        _ => None,
     }
 }
 

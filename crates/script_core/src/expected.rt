@@ -2,12 +2,13 @@
 ghost use Rattle.std.specs.Prelude.{◌≡◌, ◌+◌, ◌++◌, MatchResult, codes, decimal};
 ghost use Rattle.script_core.specs.EntryText.{tag};
 ghost use Rattle.script_core.specs.ExpectedText.{expected_text, due_text};
-ghost use Rattle.script_core.specs.ReportText as report_spec;
+ghost use Rattle.script_core.specs.ReportText as spec;
 ghost use Rattle.script_core.specs.Output.{Extends};
 
+use crate::entry_text::push_event;
 use crate::pieces::{push_first_number, push_str, push_word};
 use crate::report::ReportLine;
-use crate::text::{push_event, state_word};
+use crate::report_text::state_word;
 use itoa::Buffer;
 use lock_manager::ProcState;
 use range_core::Memory;
@@ -33,7 +34,7 @@ pub fn push_expected(text: &mut Vec<u8>, entry: &Entry, expected: &Expected) -> 
 
 /// Appends how a process stands.
 fn push_standing(text: &mut Vec<u8>, p: u8, state: ProcState) -> Result<(), Memory>
-    ensures { MatchResult result (λ unit. text.new.items ≡ text.old.items ++ (codes "process " ++ decimal p ++ codes " is " ++ report_spec.state_word state))
+    ensures { MatchResult result (λ unit. text.new.items ≡ text.old.items ++ (codes "process " ++ decimal p ++ codes " is " ++ spec.state_word state))
         (λ error. Extends text.old.items text.new.items) }
 {
     push_str(text, "process ")?;

@@ -19,9 +19,10 @@ ghost use Rattle.script_core.specs.Explaining.{Explains, ExplainsRun, StandsInTh
 ghost use Rattle.script_core.specs.Explaining as spec;
 
 use crate::deadlock::{Link, cycle_of};
+use crate::entry_text::push_entry;
 use crate::pieces::{push_first_number, push_number, push_str};
+use crate::report_text::{push_held, push_held_text, push_wait, push_wait_text};
 use crate::states::{States, push_state_if};
-use crate::text::{push_entry, push_held, push_held_text, push_wait, push_wait_text};
 use lock_book::{Held, Owner};
 use lock_manager::{
     Errno, FlockOp, InTheWay, Manager, Note, ProcState, Reply, Request, Rules, step_has_one_outcome,

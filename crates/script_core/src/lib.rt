@@ -5,6 +5,7 @@ mod arguments;
 mod commands;
 mod deadlock;
 mod entry;
+mod entry_text;
 mod expected;
 mod explain;
 mod journal;
@@ -16,9 +17,11 @@ mod pieces;
 mod place;
 mod reader;
 mod report;
+mod report_text;
+mod request_text;
 mod script;
 mod states;
-mod text;
+mod word_tables;
 mod words;
 mod write;
 
@@ -31,9 +34,9 @@ pub use laws::{
     reports_are_read_back, scripts_have_one_output,
 };
 pub use report::{ReportFault, ReportLine, ReportReader};
+pub use report_text::ProcessLine;
 pub use script::{Cause, Script, ScriptFault, parse};
 pub use states::States;
-pub use text::ProcessLine;
 pub use write::{write_entry, write_report};
 
 /// The most bytes that a line may have, without its line feed (this project's choice).

@@ -5,9 +5,10 @@ ghost use Rattle.script_core.specs.Arguments.{AreRefused};
 ghost use Rattle.script_core.specs.EntryReading.{IsTag, TagGives, ReplyGives, ToldGives, NoteGives};
 
 use crate::Cause;
-use crate::arguments::{read_error, read_mode, read_number, read_process, read_unsigned};
+use crate::arguments::{read_number, read_process, read_unsigned};
 use crate::commands::read_descriptor_alone;
 use crate::numbers::natural_of;
+use crate::word_tables::{read_error, read_mode};
 use crate::words::first_words;
 use fd_table::Limits;
 use lock_manager::{Note, Reply};

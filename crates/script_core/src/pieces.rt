@@ -52,6 +52,14 @@ pub fn push_number(text: &mut Vec<u8>, before: u8, n: u64) -> Result<(), Memory>
     push_bytes(text, &number[start..])
 }
 
+/// Appends a piece, and a natural number behind a space.
+pub fn push_numbered(text: &mut Vec<u8>, piece: &str, n: u64) -> Result<(), Memory>
+    ensures { MatchResult result (λ unit. text.new.items ≡ text.old.items ++ (piece.now ++ 32 ∷ decimal n)) (λ error. Extends text.old.items text.new.items) }
+{
+    push_str(text, piece)?;
+    push_number(text, b' ', n)
+}
+
 /// Appends a space and an integer.
 pub fn push_integer(text: &mut Vec<u8>, z: i64) -> Result<(), Memory>
     ensures { MatchResult result (λ unit. text.new.items ≡ text.old.items ++ 32 ∷ signed_decimal z) (λ error. Extends text.old.items text.new.items) }

@@ -14,7 +14,7 @@ ghost use Rattle.script_core.specs.declared.report.ReportLine.TheVariants as rep
 ghost use Rattle.script_core.specs.Output.{Extends};
 
 use crate::numbers::natural_of;
-use crate::text::{ProcessLine, push_held_text, push_process_text, push_wait_text};
+use crate::report_text::{ProcessLine, push_held_text, push_process_text, push_wait_text};
 use crate::words::first_words;
 use crate::write::is_reported;
 use lock_book::Held;

@@ -11,7 +11,8 @@ ghost use Rattle.script_core.specs.StateText as spec;
 
 use crate::numbers::natural_of;
 use crate::pieces::{push_number, push_str, push_word};
-use crate::text::{access_word, push_held, push_wait, state_word};
+use crate::report_text::{push_held, push_wait, state_word};
+use crate::word_tables::access_word;
 use fd_table::{Limits, Look};
 use lock_book::Held;
 use lock_manager::{Manager, ProcState, Rules};

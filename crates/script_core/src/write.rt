@@ -10,7 +10,8 @@ ghost use Rattle.script_core.specs.ReportText.{held_line, wait_line, reported_li
 ghost use Rattle.script_core.specs.ReportText as spec;
 ghost use Rattle.script_core.specs.Output.{AppendsPartOf, Extends};
 
-use crate::text::{ProcessLine, push_entry, push_held, push_process, push_wait};
+use crate::entry_text::push_entry;
+use crate::report_text::{ProcessLine, push_held, push_process, push_wait};
 use lock_book::Held;
 use lock_manager::ProcState;
 use range_core::Memory;

@@ -1,6 +1,6 @@
 //! An entry of the journal: an event and what it told.
 ghost use Rattle.std.specs.Prelude.{◌≡◌};
-ghost use Rattle.session_core.specs.Mail.{answers_in, reply_of as reply_of_lem, reply_among};
+ghost use Rattle.session_core.specs.Mail.{answers_in, reply_of, reply_among};
 
 use lock_manager::{Note, Reply, Request};
 use std::marker::Model;
@@ -88,7 +88,7 @@ pub fn find_reply(notes: &[Note], p: u8, n: u64) -> Option<Reply>
     ensures { result ≡ reply_among n (answers_in p 0 notes.now) }
 {
     for note in notes {
-        if let Some(reply) = reply_of(note, p, n) {
+        if let Some(reply) = reply_in(note, p, n) {
             return Some(reply);
         }
     }
@@ -96,8 +96,8 @@ pub fn find_reply(notes: &[Note], p: u8, n: u64) -> Option<Reply>
 }
 
 /// The answer to request number `n` of the process, if the note is that.
-fn reply_of(note: &Note, p: u8, n: u64) -> Option<Reply>
-    ensures { result ≡ reply_of_lem p n note.now }
+fn reply_in(note: &Note, p: u8, n: u64) -> Option<Reply>
+    ensures { result ≡ reply_of p n note.now }
 {
     match note {
         Note::Answer {

@@ -6,7 +6,7 @@ use Rattle.std.specs.Prelude.{◌&&◌, ◌||◌, if◌then◌else◌}
 use Rattle.range_core.specs.declared.Mode.{Mode}
 use Rattle.lock_book.specs.declared.Owner.TheVariants.{Description}
 use Rattle.fd_table.specs.declared.tables.Tables.{Tables}
-use Rattle.fd_table.specs.Released.{Released}
+use Rattle.fd_table.specs.Releases.{Released}
 use Rattle.fd_table.specs.Descriptors.{Descriptors, IsOpen}
 use Rattle.fd_table.specs.Calls.{CloseGives, DupToGives, EndGives}
 use Rattle.fd_table.specs.TablesView.{StandFor, limits_of, ever_alive}

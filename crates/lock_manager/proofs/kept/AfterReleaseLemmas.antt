@@ -14,7 +14,7 @@ use Rattle.lock_book.specs.declared.Owner.TheVariants.{Process, Description}
 use Rattle.lock_book.specs.Owners.{is_same_owner}
 use Rattle.lock_book.specs.Changes.{Change, FlockChange, whole_file, sets_byte, mode_from, mode_in, flock_mode_from, flock_mode_in}
 use Rattle.fd_table.specs.Descriptors.{Descriptors, OpenFileDescription, description_numbered}
-use Rattle.fd_table.specs.Released.{Released}
+use Rattle.fd_table.specs.Releases.{Released}
 use Rattle.wait_core.specs.Locks.{Locks}
 use Rattle.lock_manager.specs.State.{State}
 use Rattle.lock_manager.specs.DescriptorCalls.{process_releases, description_releases, flock_releases, with_released}

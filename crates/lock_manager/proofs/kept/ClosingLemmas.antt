@@ -4,11 +4,10 @@ use Rattle.std.proofs.Common.{ℕ, ◌≡◌, ◌==◌, refl, sym, ◌∙◌, ap
 use Rattle.std.proofs.lemmas.Bool.{eqb-true}
 use Rattle.std.proofs.lemmas.List.Folds.{Any-from_list_any, list_any_at}
 use Rattle.std.specs.Prelude.{◌&&◌}
-use Rattle.fd_table.specs.Released.{Released}
+use Rattle.fd_table.specs.Releases.{Released, ClosesFile, AreReleased, nothing}
 use Rattle.fd_table.specs.declared.Limits.{Limits}
 use Rattle.fd_table.specs.Descriptors.{Descriptors, IsOpen, SameDescriptors, without_descriptors}
-use Rattle.fd_table.specs.Releasing.{ClosesFile, AreReleased}
-use Rattle.fd_table.specs.Calls.{CloseGives, DupToGives, EndGives, nothing}
+use Rattle.fd_table.specs.Calls.{CloseGives, DupToGives, EndGives}
 use Rattle.lock_manager.specs.DescriptionLocks.{IsOpenOn}
 use Rattle.lock_manager.specs.LockReleases.{is_one_of}
 use Rattle.lock_manager.proofs.kept.SafetyLemmas.{both}

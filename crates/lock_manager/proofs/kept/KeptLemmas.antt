@@ -18,7 +18,7 @@ use Rattle.lock_book.specs.Books.{SetsOwnerMode, SameBook, room_in}
 use Rattle.range_core.specs.Changes.{is_covered}
 use Rattle.lock_book.specs.Conflicts.{ByteConflict}
 use Rattle.fd_table.specs.declared.tables.Tables.{Tables}
-use Rattle.fd_table.specs.Released.{Released}
+use Rattle.fd_table.specs.Releases.{Released}
 use Rattle.fd_table.specs.Descriptors.{Descriptors}
 use Rattle.fd_table.specs.TablesView.{StandFor}
 use Rattle.wait_core.specs.declared.Policy.{Policy}

@@ -12,7 +12,7 @@ use Rattle.lock_book.specs.declared.book.Book.{Book}
 use Rattle.lock_book.specs.Owners.{is_same_owner}
 use Rattle.lock_book.specs.Conflicts.{ByteModes}
 use Rattle.fd_table.specs.declared.tables.Tables.{Tables}
-use Rattle.fd_table.specs.Released.{Released}
+use Rattle.fd_table.specs.Releases.{Released}
 use Rattle.fd_table.specs.Descriptors.{Descriptors}
 use Rattle.fd_table.specs.TablesView.{StandFor}
 use Rattle.wait_core.specs.declared.Policy.{Policy}

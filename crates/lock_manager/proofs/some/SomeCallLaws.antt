@@ -9,8 +9,8 @@ use Rattle.fd_table.specs.declared.Limits.{Limits}
 use Rattle.fd_table.specs.declared.FdFault.{FdFault}
 use Rattle.fd_table.specs.declared.FdFault.TheVariants.{BadFd, TooMany, Invalid, Taken}
 use Rattle.fd_table.specs.Descriptors.{Descriptors, OpenFileDescription, IsFull, IsLowestFree, SameDescriptors, description_limit, descriptor_limit, description_numbered, with_description, with_descriptor, without_descriptors, with_child, with_offset, with_size}
-use Rattle.fd_table.specs.Releasing.{AreExactly, AreReleased, ClosesFile, ClosesDescription}
-use Rattle.fd_table.specs.Calls.{OpenGives, DupGives, DupToGives, CloseGives, EndGives, IsFreeProcess, ForkGives, Refers, SeekGives, ResizeGives, nothing}
+use Rattle.fd_table.specs.Releases.{AreExactly, AreReleased, ClosesFile, ClosesDescription, nothing}
+use Rattle.fd_table.specs.Calls.{OpenGives, DupGives, DupToGives, CloseGives, EndGives, IsFreeProcess, ForkGives, Refers, SeekGives, ResizeGives}
 use Rattle.lock_manager.specs.SomeOutcome.{AreMade}
 use Rattle.lock_manager.proofs.some.AtLeastOneLemmas.{AtLeastOne, SomePair, by_cases}
 

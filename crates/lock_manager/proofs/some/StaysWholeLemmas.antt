@@ -11,9 +11,8 @@ use Rattle.range_core.specs.Resolving.{resolution}
 use Rattle.fd_table.specs.declared.Access.{Access}
 use Rattle.fd_table.specs.declared.FdFault.{FdFault}
 use Rattle.fd_table.specs.declared.tables.Look.{Look}
-use Rattle.fd_table.specs.Released.{Released}
+use Rattle.fd_table.specs.Releases.{Released, nothing}
 use Rattle.fd_table.specs.Descriptors.{Descriptors, OpenFileDescription, SameDescriptors, opening_descriptors, description_numbered, look_at, with_description, with_descriptor, without_descriptors, with_child, with_offset}
-use Rattle.fd_table.specs.Calls.{nothing}
 use Rattle.wait_core.specs.declared.Policy.{Policy}
 use Rattle.wait_core.specs.declared.Wait.{Wait}
 use Rattle.wait_core.specs.WaitsView.{wait_of, without_wait_of}

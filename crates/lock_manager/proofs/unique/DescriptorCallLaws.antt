@@ -6,10 +6,9 @@ use Rattle.std.proofs.lemmas.Option.{same_Some}
 use Rattle.fd_table.specs.declared.Limits.{Limits}
 use Rattle.fd_table.specs.declared.FdFault.{FdFault}
 use Rattle.fd_table.specs.declared.FdFault.TheVariants.{BadFd, TooMany, Invalid, Taken, Memory}
-use Rattle.fd_table.specs.Released.{Released}
+use Rattle.fd_table.specs.Releases.{Released, AreReleased, nothing}
 use Rattle.fd_table.specs.Descriptors.{Descriptors, OpenFileDescription, SameDescriptors, descriptor_limit, with_descriptor, without_descriptors}
-use Rattle.fd_table.specs.Releasing.{AreReleased}
-use Rattle.fd_table.specs.Calls.{DupGives, DupToGives, CloseGives, EndGives, ForkGives, Refers, SeekGives, ResizeGives, nothing}
+use Rattle.fd_table.specs.Calls.{DupGives, DupToGives, CloseGives, EndGives, ForkGives, Refers, SeekGives, ResizeGives}
 use Rattle.lock_manager.proofs.unique.OpenCallLaws.{same_everywhere, both_same, open_not_free, IsLowestFree-unique, IsFull-none}
 use Rattle.lock_manager.proofs.unique.ReleaseLaws.{closing-unique}
 

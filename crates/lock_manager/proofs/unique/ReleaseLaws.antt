@@ -2,9 +2,8 @@
 use Rattle.std.proofs.lemmas.Grind.{common_steps}
 use Rattle.std.proofs.Common.{◌≡◌, ℕ, zero, suc, ◌<◌, List, [], ◌∷◌, Contains, AllPairs, refl, sym, subst, ◌⊎◌, inl, inr, ⊎_elim, Bool, arith}
 use Rattle.std.proofs.lemmas.List.Kept.{AllPairs-from_increasing}
-use Rattle.fd_table.specs.Released.{Released}
+use Rattle.fd_table.specs.Releases.{Released, AreExactly, ClosesFile, ClosesDescription, AreReleased}
 use Rattle.fd_table.specs.Descriptors.{Descriptors, SameDescriptors}
-use Rattle.fd_table.specs.Releasing.{AreExactly, ClosesFile, ClosesDescription, AreReleased}
 use Rattle.lock_manager.proofs.unique.OpenCallLaws.{both_same}
 
 -- each number is below all later ones

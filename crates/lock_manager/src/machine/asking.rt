@@ -10,8 +10,8 @@ ghost use Rattle.lock_manager.specs.State.{State, locks_held};
 ghost use Rattle.lock_manager.specs.MachineView.{Shows, machine_rules, machine_waits, machine_locks};
 
 use super::Machine;
-use super::flocks::wanted_flock;
-use crate::answers::wanted_mode;
+use super::flock_calls::wanted_flock;
+use crate::lock_words::wanted_mode;
 use crate::{FlockOp, InTheWay, LkCmd, Lock, Request};
 use lock_book::{Blocker, Book, Held};
 use range_core::{Memory, resolve};

@@ -9,7 +9,7 @@ ghost use Rattle.lock_manager.specs.State.{State};
 ghost use Rattle.lock_manager.specs.MachineView.{Shows, SameRules, StayLive, KeepPlaces, machine_rules, machine_processes, machine_waits, machine_locks};
 
 use super::Machine;
-use crate::answers::answered;
+use crate::replies::answered;
 use crate::{Note, Reply};
 use lock_book::Owner;
 use wait_core::{Family, Wait, stay_free_of_cycles};

@@ -12,7 +12,7 @@ use Rattle.lock_book.specs.Changes.{whole_file}
 use Rattle.fd_table.specs.declared.Access.{Access}
 use Rattle.fd_table.specs.declared.FdFault.{FdFault}
 use Rattle.fd_table.specs.declared.tables.Look.{Look}
-use Rattle.fd_table.specs.Released.{Released}
+use Rattle.fd_table.specs.Releases.{Released}
 use Rattle.fd_table.specs.Descriptors.{Descriptors, OpenFileDescription, description_numbered, look_at}
 use Rattle.wait_core.specs.declared.Policy.{Policy}
 use Rattle.wait_core.specs.declared.Wait.{Wait}

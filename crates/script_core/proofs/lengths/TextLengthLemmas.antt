@@ -12,7 +12,7 @@ use Rattle.lock_manager.specs.State.{State}
 use Rattle.session_core.specs.Event.{Event}
 use Rattle.session_core.specs.Runs.{AreNumbered}
 use Rattle.session_core.specs.Mail.{events_of}
-use Rattle.script_core.specs.declared.text.ProcessLine.{ProcessLine}
+use Rattle.script_core.specs.declared.report_text.ProcessLine.{ProcessLine}
 use Rattle.script_core.specs.Words.{script_limit}
 use Rattle.script_core.specs.RequestText.{request_words}
 use Rattle.script_core.specs.EntryText.{tag, note_text, entry_text, entry_line}

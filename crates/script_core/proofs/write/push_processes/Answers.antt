@@ -2,7 +2,7 @@ use Rattle.std.proofs.Common.{◌≡◌, ℕ, ◌+◌, ◌-◌, ◌<◌, ◌++�
 use Rattle.std.specs.Prelude.{slice_index}
 use Rattle.lock_manager.specs.ManagerView.{state_at, processes_of}
 use Rattle.session_core.specs.SessionView.{manager_of, events_in}
-use Rattle.script_core.specs.declared.text.ProcessLine.{ProcessLine}
+use Rattle.script_core.specs.declared.report_text.ProcessLine.{ProcessLine}
 use Rattle.script_core.specs.ReportText.{reported_line, line_of, process_lines}
 use Rattle.std.proofs.lemmas.Result.{err_from_is_err_and}
 use Rattle.script_core.proofs.TextLemmas.{kept_behind}

@@ -1,6 +1,5 @@
 use Rattle.std.proofs.Common.{◌≡◌, ◌<◌, ◌≤◌, length}
-use Rattle.fd_table.specs.Closing.{IsMarked}
-use Rattle.fd_table.specs.Releasing.{AreExactly}
+use Rattle.fd_table.specs.Releases.{IsMarked, AreExactly}
 use Rattle.fd_table.proofs.releases.Releases.list_files.Given as goal
 
 -- the files so far are the marked ones below this number

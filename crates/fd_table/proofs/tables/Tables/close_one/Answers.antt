@@ -3,7 +3,7 @@ use Rattle.std.proofs.lemmas.Grind.{common_steps}
 use Rattle.std.proofs.lemmas.Option.{same_Some}
 use Rattle.slab.proofs.SlabLemmas.{Updates-with_value}
 use Rattle.fd_table.specs.declared.tables.Opened.{Opened}
-use Rattle.fd_table.specs.Closing.{ClosesOne}
+use Rattle.fd_table.specs.Releases.{ClosesOne}
 use Rattle.fd_table.specs.TablesView.{view_of}
 use Rattle.fd_table.proofs.RowsLemmas.{AreRows-with_key, WithKey-with_key, key_within, has_row-with_key}
 use Rattle.fd_table.proofs.ViewLemmas.{closed_one}

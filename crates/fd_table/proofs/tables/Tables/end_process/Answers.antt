@@ -1,14 +1,13 @@
 use Rattle.std.proofs.Common.{◌≡◌, ◌<◌, ◌≤◌, ◌+◌, ◌∷◌, ◌++◌, [], ℕ, Bool, List, true, length, refl, sym, ap, subst, ◌∙◌, arith}
 use Rattle.std.proofs.lemmas.List.{length_push, length-set}
 use Rattle.fd_table.specs.declared.TheConstants.{FILES}
-use Rattle.fd_table.specs.Released.{Released}
+use Rattle.fd_table.specs.Releases.{Released, without_one}
 use Rattle.fd_table.specs.Descriptors.{Descriptors, without_descriptors, descriptor_limit}
-use Rattle.fd_table.specs.Closing.{without_one}
 use Rattle.fd_table.specs.TablesView.{StandFor, SameProcesses, view_of}
 use Rattle.fd_table.proofs.RowsLemmas.{key_past}
 use Rattle.fd_table.proofs.ViewLemmas.{stands_for_same}
 use Rattle.fd_table.proofs.CallLemmas.{key_of_open}
-use Rattle.fd_table.proofs.GatherLemmas.{IsGathered, below, closed_below, first_closed, next_closed, same_closing, gathered_none, gathered_skip, gathered_shared, gathered_last, gathered_all, all_below}
+use Rattle.fd_table.proofs.EndProcessLemmas.{IsGathered, below, closed_below, first_closed, next_closed, same_closing, gathered_none, gathered_skip, gathered_shared, gathered_last, gathered_all, all_below}
 use Rattle.fd_table.proofs.tables.Tables.end_process.Goals as goal
 use Rattle.fd_table.proofs.tables.Tables.end_process.Goals.{in-Some+in-Some-last, in-Some+in_default-last, in_default}
 

@@ -2,7 +2,7 @@ use Rattle.std.proofs.Common.{◌≡◌, ◌≤◌, [], length}
 use Rattle.fd_table.specs.declared.TheConstants.{FILES}
 use Rattle.fd_table.specs.Descriptors.{Descriptors, without_descriptors}
 use Rattle.fd_table.specs.TablesView.{StandFor, SameProcesses}
-use Rattle.fd_table.proofs.GatherLemmas.{IsGathered, below}
+use Rattle.fd_table.proofs.EndProcessLemmas.{IsGathered, below}
 use Rattle.fd_table.proofs.tables.Tables.end_process.Given as goal
 
 -- the descriptors below this number are closed, and what that releases is gathered

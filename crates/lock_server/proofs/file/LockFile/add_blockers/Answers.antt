@@ -4,7 +4,7 @@ use Rattle.wait_core.specs.declared.Policy.{Policy}
 use Rattle.lock_server.specs.Blockers.{AddsOwners}
 use Rattle.lock_server.specs.Deadlock.{IsBlockedByOwner}
 use Rattle.lock_server.specs.FileView.{file_state}
-use Rattle.lock_server.proofs.GatherLemmas.{AddsOwners-both}
+use Rattle.lock_server.proofs.GatheredOwnerLemmas.{AddsOwners-both}
 use Rattle.lock_server.proofs.file.LockFile.add_blockers.Goals as goal
 
 pub returns-in-Queue : goal.returns-in-Queue

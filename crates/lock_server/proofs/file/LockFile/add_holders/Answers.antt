@@ -4,7 +4,7 @@ use Rattle.lock_book.specs.declared.Held.{Held}
 use Rattle.lock_server.specs.Blockers.{HeldBlocks}
 use Rattle.lock_server.specs.FileView.{file_state}
 use Rattle.lock_server.proofs.BlockerLemmas.{all_lines}
-use Rattle.lock_server.proofs.GatherLemmas.{AddsOwners-push, gathered_more, gathered_skip}
+use Rattle.lock_server.proofs.GatheredOwnerLemmas.{AddsOwners-push, gathered_more, gathered_skip}
 use Rattle.lock_server.proofs.file.LockFile.add_holders.Goals as goal
 use Rattle.lock_server.proofs.file.LockFile.add_holders.Goals.{in-Some+in_ok-push, in_default}
 

@@ -1,5 +1,5 @@
 use Rattle.lock_server.specs.Blockers.{AddsOwners, HeldBlocks}
-use Rattle.lock_server.proofs.GatherLemmas.{IsGivenBefore}
+use Rattle.lock_server.proofs.GatheredOwnerLemmas.{IsGivenBefore}
 use Rattle.lock_server.proofs.file.LockFile.add_holders.Given as goal
 
 abbrev pub invariant-loop-held : goal.invariant-loop-held

@@ -8,7 +8,7 @@ use Rattle.lock_server.specs.Blockers.{AddsOwners}
 use Rattle.lock_server.specs.Deadlock.{IsBlockedByOwner}
 use Rattle.lock_server.specs.FileView.{file_state}
 use Rattle.lock_server.proofs.BlockerLemmas.{IsStepAt, all_steps}
-use Rattle.lock_server.proofs.GatherLemmas.{AddsOwners-as, gathered_more, gathered_skip}
+use Rattle.lock_server.proofs.GatheredOwnerLemmas.{AddsOwners-as, gathered_more, gathered_skip}
 use Rattle.lock_server.proofs.file.LockFile.add_steps.Goals as goal
 use Rattle.lock_server.proofs.file.LockFile.add_steps.Goals.{then-wait+then-wait-owner+in_ok-add_blockers, else-wait, else-wait-via-then-wait+else-wait-owner, else-wait-via-else-wait}
 

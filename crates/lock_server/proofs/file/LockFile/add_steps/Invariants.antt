@@ -1,7 +1,7 @@
 use Rattle.lock_server.specs.Blockers.{AddsOwners}
 use Rattle.lock_server.specs.FileView.{file_state}
 use Rattle.lock_server.proofs.BlockerLemmas.{IsStepAt}
-use Rattle.lock_server.proofs.GatherLemmas.{IsGivenBefore}
+use Rattle.lock_server.proofs.GatheredOwnerLemmas.{IsGivenBefore}
 use Rattle.lock_server.proofs.file.LockFile.add_steps.Given as goal
 
 abbrev pub invariant-loop-i : goal.invariant-loop-i

@@ -2,7 +2,7 @@ use Rattle.std.proofs.Common.{ℕ, ◌≡◌, refl, sym, true, false}
 use Rattle.std.proofs.lemmas.Option.{slice_get-get_or}
 use Rattle.lock_server.specs.declared.Pending.{Pending}
 use Rattle.lock_server.proofs.BlockerLemmas.{IsInTheWay, all_in_the_way}
-use Rattle.lock_server.proofs.GatherLemmas.{AddsOwners-push, gathered_more, gathered_skip}
+use Rattle.lock_server.proofs.GatheredOwnerLemmas.{AddsOwners-push, gathered_more, gathered_skip}
 use Rattle.lock_server.proofs.file.blockers.add_conflicting.Goals as goal
 use Rattle.lock_server.proofs.file.blockers.add_conflicting.Goals.{then-conflicts_with+in_ok-push, else-conflicts_with}
 

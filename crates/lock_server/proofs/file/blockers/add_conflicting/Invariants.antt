@@ -1,6 +1,6 @@
 use Rattle.lock_server.specs.Blockers.{AddsOwners}
 use Rattle.lock_server.proofs.BlockerLemmas.{IsInTheWay}
-use Rattle.lock_server.proofs.GatherLemmas.{IsGivenBefore}
+use Rattle.lock_server.proofs.GatheredOwnerLemmas.{IsGivenBefore}
 use Rattle.lock_server.proofs.file.blockers.add_conflicting.Given as goal
 
 abbrev pub invariant-loop-other : goal.invariant-loop-other

@@ -5,7 +5,7 @@ use Rattle.lock_server.specs.Deadlock.{WaitsForOn}
 use Rattle.lock_server.specs.Files.{FileState}
 use Rattle.lock_server.specs.Index.{state_in}
 use Rattle.lock_server.specs.TableView.{entry_of, table_state}
-use Rattle.lock_server.proofs.GatherLemmas.{gathered_more, gathered_skip}
+use Rattle.lock_server.proofs.GatheredOwnerLemmas.{gathered_more, gathered_skip}
 use Rattle.lock_server.proofs.ReachedLemmas.{all_files, no_step_there}
 use Rattle.lock_server.proofs.TableLemmas.{found_state, not_found_state}
 use Rattle.lock_server.proofs.table.Table.add_steps.Goals as goal

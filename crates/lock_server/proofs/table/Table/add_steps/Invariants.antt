@@ -1,7 +1,7 @@
 use Rattle.lock_server.specs.Blockers.{AddsOwners}
 use Rattle.lock_server.specs.Deadlock.{WaitsForOn}
 use Rattle.lock_server.specs.Index.{state_in}
-use Rattle.lock_server.proofs.GatherLemmas.{IsGivenBefore}
+use Rattle.lock_server.proofs.GatheredOwnerLemmas.{IsGivenBefore}
 use Rattle.lock_server.proofs.table.Table.add_steps.Given as goal
 
 abbrev pub invariant-loop-file : goal.invariant-loop-file

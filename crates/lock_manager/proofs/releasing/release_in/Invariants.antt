@@ -1,6 +1,0 @@
-use Rattle.std.proofs.Common.{take}
-use Rattle.lock_manager.specs.LockReleases.{ReleasesInBook}
-use Rattle.lock_manager.proofs.releasing.release_in.Given as goal
-
-abbrev pub invariant-loop-description : goal.invariant-loop-description
-invariant-loop-description l = ReleasesInBook l.fn.book l.book l.p (take l.description-index l.descriptions)

@@ -1,6 +1,0 @@
-use Rattle.std.proofs.Common.{rules, append_assoc}
-use Rattle.script_core.proofs.TextLemmas.{join_words}
-use Rattle.script_core.proofs.text.push_lock.Goals as goal
-
-pub returns : goal.returns
-returns c = search (rules, append_assoc, join_words)
