@@ -20,11 +20,13 @@ pub same : (D : Descriptors) → SameDescriptors D D
 same D = record { description_of = λ p fd. refl; descriptions = refl; sizes = λ file. refl; ever_alive = λ p. refl }
 
 -- what is seen of a descriptor is the entry of its key
-pub seen_at_key : (rows : List Keys) (opened : Slab Opened) (p fd key : ℕ) (entry : Opened) → key_at rows p fd ≡ Some key → get opened key ≡ Some entry → seen_in rows opened p fd ≡ Some (numbered entry)
+pub seen_at_key : (rows : List Keys) (opened : Slab Opened) (p fd key : ℕ) (entry : Opened) → key_at rows p fd ≡ Some key
+    → get opened key ≡ Some entry → seen_in rows opened p fd ≡ Some (numbered entry)
 seen_at_key rows opened p fd key entry is was = ap (seen_by opened) is ∙ ap (option_map numbered) was
 
 -- a key of a descriptor has an entry, which is what is seen
-pub key_seen : (rows : List Keys) (opened : Slab Opened) (made p fd key : ℕ) → AreEntries rows opened made → key_at rows p fd ≡ Some key → (entry : Opened) × (get opened key ≡ Some entry) × (seen_in rows opened p fd ≡ Some (numbered entry))
+pub key_seen : (rows : List Keys) (opened : Slab Opened) (made p fd key : ℕ) → AreEntries rows opened made → key_at rows p fd ≡ Some key
+    → (entry : Opened) × (get opened key ≡ Some entry) × (seen_in rows opened p fd ≡ Some (numbered entry))
 key_seen rows opened made p fd key h is =
     let there = value_of_some (get opened key) (h.occupied p fd key is) in
     (there.0, there.1, seen_at_key rows opened p fd key there.0 is there.1)
@@ -39,7 +41,8 @@ refers_to v D p fd s h is = let at = seen_some v D p fd s h is in record { numbe
 
 -- a seek that is done
 pub seek_done : (v w : View) (D : Descriptors) (p fd n : ℕ) (offset : ℤ) (s : Numbered) → ViewStandsFor v D → v.seen p fd ≡ Some s → offset ≡ pos n
-    → ((q k : ℕ) → w.seen q k ≡ option_map (moved s.number n) (v.seen q k)) → SameRest v w → (E : Descriptors) × SeekGives D p fd offset (Ok tt) E × ViewStandsFor w E
+    → ((q k : ℕ) → w.seen q k ≡ option_map (moved s.number n) (v.seen q k)) → SameRest v w
+    → (E : Descriptors) × SeekGives D p fd offset (Ok tt) E × ViewStandsFor w E
 unfolding refers_to
 seek_done v w D p fd n offset s h is whole seen rest = (
   with_offset D s.number s.description n,
@@ -49,7 +52,8 @@ seek_done v w D p fd n offset s h is whole seen rest = (
 
 -- a resize that is done
 pub resize_done : (v w : View) (D : Descriptors) (p fd n : ℕ) (size : ℤ) (s : Numbered) → ViewStandsFor v D → v.seen p fd ≡ Some s → size ≡ pos n
-    → ((q k : ℕ) → w.seen q k ≡ v.seen q k) → w.made ≡ v.made → ((x : ℕ) → w.sizes x ≡ cond (eqb x s.description.file) n (v.sizes x)) → ((q : ℕ) → w.born q ≡ v.born q)
+    → ((q k : ℕ) → w.seen q k ≡ v.seen q k) → w.made ≡ v.made → ((x : ℕ) → w.sizes x ≡ cond (eqb x s.description.file) n (v.sizes x))
+    → ((q : ℕ) → w.born q ≡ v.born q)
     → (E : Descriptors) × ResizeGives D p fd size (Ok tt) E × ViewStandsFor w E
 resize_done v w D p fd n size s h is whole seen made sizes born = (
   with_size D s.description.file n,
@@ -58,20 +62,24 @@ resize_done v w D p fd n size s h is whole seen made sizes born = (
 )
 
 -- the sizes after one was written
-pub size-set : (sizes : List ℕ) (file place n : ℕ) → place ≡ file → place < length sizes → (x : ℕ) → get_or (set sizes place n) x 0 ≡ cond (eqb x file) n (get_or sizes x 0)
+pub size-set : (sizes : List ℕ) (file place n : ℕ) → place ≡ file → place < length sizes → (x : ℕ)
+    → get_or (set sizes place n) x 0 ≡ cond (eqb x file) n (get_or sizes x 0)
 size-set sizes file place n is within x = grind (arith, common_steps, cases_eq, get_or-set_same, eq-eqb, get_or-set_other, ne_eqb)
 
 -- a descriptor with a key is open
-pub open_at_key : (rows : List Keys) (opened : Slab Opened) (made p fd : ℕ) (v : View) (D : Descriptors) → AreEntries rows opened made → ((q k : ℕ) → v.seen q k ≡ seen_in rows opened q k)
+pub open_at_key : (rows : List Keys) (opened : Slab Opened) (made p fd : ℕ) (v : View) (D : Descriptors) → AreEntries rows opened made
+    → ((q k : ℕ) → v.seen q k ≡ seen_in rows opened q k)
     → ViewStandsFor v D → IsSome (key_at rows p fd) → IsSome (D.description_of p fd)
 open_at_key rows opened made p fd v D entered shown h there = grind (arith, common_steps, value_of_some, key_seen, is_open)
 
 -- a descriptor that is open has a key
-pub key_of_open : (rows : List Keys) (opened : Slab Opened) (p fd : ℕ) (v : View) (D : Descriptors) → ((q k : ℕ) → v.seen q k ≡ seen_in rows opened q k) → ViewStandsFor v D → key_at rows p fd ≡ None → D.description_of p fd ≡ None
+pub key_of_open : (rows : List Keys) (opened : Slab Opened) (p fd : ℕ) (v : View) (D : Descriptors)
+    → ((q k : ℕ) → v.seen q k ≡ seen_in rows opened q k) → ViewStandsFor v D → key_at rows p fd ≡ None → D.description_of p fd ≡ None
 key_of_open rows opened p fd v D shown h closed = seen_none v D p fd h (shown p fd ∙ ap (seen_by opened) closed)
 
 -- a lowest closed descriptor is the lowest free one
-pub lowest_free : (processes : ℕ) (limits : Limits) (rows : List Keys) (opened : Slab Opened) (made p fd : ℕ) (v : View) (D : Descriptors) → AreRows processes limits rows → AreEntries rows opened made → ((q k : ℕ) → v.seen q k ≡ seen_in rows opened q k)
+pub lowest_free : (processes : ℕ) (limits : Limits) (rows : List Keys) (opened : Slab Opened) (made p fd : ℕ) (v : View) (D : Descriptors)
+    → AreRows processes limits rows → AreEntries rows opened made → ((q k : ℕ) → v.seen q k ≡ seen_in rows opened q k)
     → ViewStandsFor v D → IsLowestClosed (row_at rows p) fd → IsLowestFree limits D p fd
 lowest_free processes limits rows opened made p fd v D rowed entered shown h least =
     record {
@@ -81,7 +89,8 @@ lowest_free processes limits rows opened made p fd v D rowed entered shown h lea
     }
 
 -- a row in which each descriptor is open is full
-pub row_full : (processes : ℕ) (limits : Limits) (rows : List Keys) (opened : Slab Opened) (made p : ℕ) (v : View) (D : Descriptors) → AreRows processes limits rows → AreEntries rows opened made → ((q k : ℕ) → v.seen q k ≡ seen_in rows opened q k)
+pub row_full : (processes : ℕ) (limits : Limits) (rows : List Keys) (opened : Slab Opened) (made p : ℕ) (v : View) (D : Descriptors)
+    → AreRows processes limits rows → AreEntries rows opened made → ((q k : ℕ) → v.seen q k ≡ seen_in rows opened q k)
     → ViewStandsFor v D → has_row rows p ≡ true → AreAllOpen (row_at rows p) → IsFull limits D p
 row_full processes limits rows opened made p v D rowed entered shown h alive full fd within =
     open_at_key rows opened made p fd v D entered shown h (full fd (omega (arith, within, rowed.each p alive)))

@@ -28,7 +28,8 @@ one_for-other x key differs = ap {B = ℕ} (λ b. cond b 1 0) (ne_eqb key x (λ 
 
 -- a closed descriptor that gets a key is one user more of this key alone
 pub users_of-opened : (rows : List Keys) (p fd key : ℕ) → p < length rows → fd < length (row_at rows p) → key_at rows p fd ≡ None
-    → (users_of (with_key rows p fd (Some key)) key ≡ users_of rows key + 1) × ((x : ℕ) → x ≢ key → users_of (with_key rows p fd (Some key)) x ≡ users_of rows x)
+    → (users_of (with_key rows p fd (Some key)) key ≡ users_of rows key + 1) × ((x : ℕ) → x ≢ key
+    → users_of (with_key rows p fd (Some key)) x ≡ users_of rows x)
 users_of-opened rows p fd key inside within closed = grind (arith, common_steps, users_of-with_key, one_for, one_for-same, one_for-other)
 
 -- a descriptor that is closed is one user less of its key alone
@@ -37,7 +38,8 @@ pub users_of-closed : (rows : List Keys) (p fd key : ℕ) → key_at rows p fd �
 users_of-closed rows p fd key is = grind (arith, common_steps, key_within, users_of-with_key, one_for, one_for-same, one_for-other)
 
 -- no entry has more users than there are descriptors
-pub few_users : (processes : ℕ) (limits : Limits) (rows : List Keys) (opened : Slab Opened) (made key : ℕ) (entry : Opened) → AreRows processes limits rows → AreEntries rows opened made → get opened key ≡ Some entry → entry.users ≤ 65536
+pub few_users : (processes : ℕ) (limits : Limits) (rows : List Keys) (opened : Slab Opened) (made key : ℕ) (entry : Opened)
+    → AreRows processes limits rows → AreEntries rows opened made → get opened key ≡ Some entry → entry.users ≤ 65536
 few_users processes limits rows opened made key entry rowed entered is =
     let most = users_of-le rows key 256 (λ p inside. row-short processes limits rows rowed p) in
     omega (arith, most, entered.counted key entry is, rowed.count, rowed.few)
@@ -51,14 +53,16 @@ abbrev pub one_less : Opened → Opened
 one_less entry = record entry { users = entry.users - 1 }
 
 -- the entries where a closed descriptor gets a key
-pub entries_shared : (rows : List Keys) (old new : Slab Opened) (made p fd key : ℕ) (entry : Opened) → AreEntries rows old made → p < length rows → fd < length (row_at rows p) → key_at rows p fd ≡ None
+pub entries_shared : (rows : List Keys) (old new : Slab Opened) (made p fd key : ℕ) (entry : Opened) → AreEntries rows old made → p < length rows
+    → fd < length (row_at rows p) → key_at rows p fd ≡ None
     → get old key ≡ Some entry → Updates old new key (Some (one_more entry)) → AreEntries (with_key rows p fd (Some key)) new made
 entries_shared rows old new made p fd key entry h inside within closed was updates =
     search (rules, users_of-opened, entries_rewritten, key_at_written, some_is, same_Some)
 
 -- what is seen where a closed descriptor gets a key
 pub seen_shared : (rows : List Keys) (old new : Slab Opened) (p fd from key : ℕ) (entry : Opened) → fd < length (row_at rows p) → key_at rows p from ≡ Some key
-    → get old key ≡ Some entry → Updates old new key (Some (one_more entry)) → (q k : ℕ) → seen_in (with_key rows p fd (Some key)) new q k ≡ cond (is_place p fd q k) (seen_in rows old p from) (seen_in rows old q k)
+    → get old key ≡ Some entry → Updates old new key (Some (one_more entry)) → (q k : ℕ)
+    → seen_in (with_key rows p fd (Some key)) new q k ≡ cond (is_place p fd q k) (seen_in rows old p from) (seen_in rows old q k)
 seen_shared rows old new p fd from key entry within is was updates q k = search (rules, seen_by_same, rewritten_shows, seen-with_key, seen_by)
 
 -- the entries where a descriptor is closed, and others use its description
@@ -69,11 +73,13 @@ entries_unshared rows old new made p fd key entry h is was more updates =
 
 -- what is seen where a descriptor is closed, and others use its description
 pub seen_unshared : (rows : List Keys) (old new : Slab Opened) (p fd key : ℕ) (entry : Opened) → key_at rows p fd ≡ Some key
-    → get old key ≡ Some entry → Updates old new key (Some (one_less entry)) → (q k : ℕ) → seen_in (with_key rows p fd None) new q k ≡ cond (is_place p fd q k) None (seen_in rows old q k)
+    → get old key ≡ Some entry → Updates old new key (Some (one_less entry)) → (q k : ℕ)
+    → seen_in (with_key rows p fd None) new q k ≡ cond (is_place p fd q k) None (seen_in rows old q k)
 seen_unshared rows old new p fd key entry is was updates q k = search (rules, seen_by_same, rewritten_shows, seen-with_key, key_within)
 
 -- no other descriptor has the key of an entry with one user
-unused_after : (rows : List Keys) (opened : Slab Opened) (made p fd key : ℕ) (entry : Opened) → AreEntries rows opened made → key_at rows p fd ≡ Some key → get opened key ≡ Some entry → entry.users ≡ 1
+unused_after : (rows : List Keys) (opened : Slab Opened) (made p fd key : ℕ) (entry : Opened) → AreEntries rows opened made
+    → key_at rows p fd ≡ Some key → get opened key ≡ Some entry → entry.users ≡ 1
     → (q k x : ℕ) → key_at (with_key rows p fd None) q k ≡ Some x → x ≢ key
 unused_after rows opened made p fd key entry h is was one q k x held same =
     let used = key_is_used (with_key rows p fd None) q k key (held ∙ ap Some same) in
@@ -92,21 +98,25 @@ entries_dropped rows old new made p fd key entry h is was one updates =
       ],
     ))
 
-seen_by_kept : (old new : Slab Opened) (key : ℕ) (slot : Option Opened) (held : Option ℕ) → Updates old new key slot → ((x : ℕ) → held ≡ Some x → x ≢ key) → seen_by new held ≡ seen_by old held
+seen_by_kept : (old new : Slab Opened) (key : ℕ) (slot : Option Opened) (held : Option ℕ) → Updates old new key slot
+    → ((x : ℕ) → held ≡ Some x → x ≢ key) → seen_by new held ≡ seen_by old held
 seen_by_kept old new key slot None updates apart = refl
 seen_by_kept old new key slot (Some x) updates apart = ap (option_map numbered) (updates.others x (apart x refl))
 
 -- what is seen where the last descriptor of a description is closed
 pub seen_dropped : (rows : List Keys) (old new : Slab Opened) (made p fd key : ℕ) (entry : Opened) → AreEntries rows old made → key_at rows p fd ≡ Some key
-    → get old key ≡ Some entry → entry.users ≡ 1 → Updates old new key None → (q k : ℕ) → seen_in (with_key rows p fd None) new q k ≡ cond (is_place p fd q k) None (seen_in rows old q k)
+    → get old key ≡ Some entry → entry.users ≡ 1 → Updates old new key None → (q k : ℕ)
+    → seen_in (with_key rows p fd None) new q k ≡ cond (is_place p fd q k) None (seen_in rows old q k)
 seen_dropped rows old new made p fd key entry h is was one updates q k = search (rules, seen_by_kept, unused_after, seen-with_key, key_within)
 
 -- an entry behind what is seen
-pub entry_seen : (opened : Slab Opened) (held : Option ℕ) (s : Numbered) → seen_by opened held ≡ Some s → (x : ℕ) × (entry : Opened) × (held ≡ Some x) × (get opened x ≡ Some entry) × (numbered entry ≡ s)
+pub entry_seen : (opened : Slab Opened) (held : Option ℕ) (s : Numbered) → seen_by opened held ≡ Some s
+    → (x : ℕ) × (entry : Opened) × (held ≡ Some x) × (get opened x ≡ Some entry) × (numbered entry ≡ s)
 entry_seen opened held s h = search (rules, none-some, same_Some)
 
 -- what an open descriptor of the definition is seen as
-pub seen_from : (v : View) (D : Descriptors) (p fd number : ℕ) → ViewStandsFor v D → D.description_of p fd ≡ Some number → (s : Numbered) × (v.seen p fd ≡ Some s) × (s.number ≡ number)
+pub seen_from : (v : View) (D : Descriptors) (p fd number : ℕ) → ViewStandsFor v D → D.description_of p fd ≡ Some number
+    → (s : Numbered) × (v.seen p fd ≡ Some s) × (s.number ≡ number)
 seen_from v D p fd number h is = through (v.seen p fd) refl
   where
     through : (o : Option Numbered) → v.seen p fd ≡ o → (s : Numbered) × (v.seen p fd ≡ Some s) × (s.number ≡ number)
@@ -114,7 +124,8 @@ seen_from v D p fd number h is = through (v.seen p fd) refl
     through (Some s) at = (s, at, same_Some s.number number (sym (seen_some v D p fd s h at).0 ∙ is))
 
 -- a closing that was the last of its description
-pub closes_last : (rows : List Keys) (old new : Slab Opened) (made p fd key : ℕ) (entry : Opened) (v w : View) (D : Descriptors) → ((q k : ℕ) → v.seen q k ≡ seen_in rows old q k) → ((q k : ℕ) → w.seen q k ≡ seen_in (with_key rows p fd None) new q k)
+pub closes_last : (rows : List Keys) (old new : Slab Opened) (made p fd key : ℕ) (entry : Opened) (v w : View) (D : Descriptors)
+    → ((q k : ℕ) → v.seen q k ≡ seen_in rows old q k) → ((q k : ℕ) → w.seen q k ≡ seen_in (with_key rows p fd None) new q k)
     → AreEntries rows old made → key_at rows p fd ≡ Some key → get old key ≡ Some entry → entry.users ≡ 1 → Updates old new key None
     → ViewStandsFor v D → ViewStandsFor w (without_one D p fd) → ClosesOne D p fd (record { file = entry.file; last = Some entry.number })
 closes_last rows old new made p fd key entry v w D shown left h is was one updates stands after =
@@ -134,7 +145,8 @@ closes_last rows old new made p fd key entry v w D shown left h is was one updat
     }
 
 -- a closing that left other users of its description
-pub closes_shared : (rows : List Keys) (old new : Slab Opened) (made p fd key : ℕ) (entry : Opened) (v w : View) (D : Descriptors) → ((q k : ℕ) → v.seen q k ≡ seen_in rows old q k) → ((q k : ℕ) → w.seen q k ≡ seen_in (with_key rows p fd None) new q k)
+pub closes_shared : (rows : List Keys) (old new : Slab Opened) (made p fd key : ℕ) (entry : Opened) (v w : View) (D : Descriptors)
+    → ((q k : ℕ) → v.seen q k ≡ seen_in rows old q k) → ((q k : ℕ) → w.seen q k ≡ seen_in (with_key rows p fd None) new q k)
     → AreEntries rows old made → key_at rows p fd ≡ Some key → get old key ≡ Some entry → entry.users ≢ 1 → Updates old new key (Some (one_less entry))
     → ViewStandsFor v D → ViewStandsFor w (without_one D p fd) → ClosesOne D p fd (record { file = entry.file; last = None })
 closes_shared rows old new made p fd key entry v w D shown left h is was more updates stands after =
@@ -157,8 +169,10 @@ abbrev pub new_entry : ℕ → ℕ → Access → Opened
 new_entry number file access = record { number = number; file = file; access = access; offset = 0; users = 1 }
 
 -- the entries where a closed descriptor gets a new description
-pub entries_opened : (rows : List Keys) (old new : Slab Opened) (made p fd key file : ℕ) (access : Access) → AreEntries rows old made → p < length rows → fd < length (row_at rows p) → key_at rows p fd ≡ None
-    → file < FILES → get old key ≡ None → Updates old new key (Some (new_entry (made + 1) file access)) → AreEntries (with_key rows p fd (Some key)) new (made + 1)
+pub entries_opened : (rows : List Keys) (old new : Slab Opened) (made p fd key file : ℕ) (access : Access) → AreEntries rows old made
+    → p < length rows → fd < length (row_at rows p) → key_at rows p fd ≡ None
+    → file < FILES → get old key ≡ None → Updates old new key (Some (new_entry (made + 1) file access))
+    → AreEntries (with_key rows p fd (Some key)) new (made + 1)
 entries_opened rows old new made p fd key file access h inside within closed small vacant updates =
     let users = users_of-opened rows p fd key inside within closed in
     let unused : users_of rows key ≡ 0 =
@@ -180,7 +194,8 @@ entries_opened rows old new made p fd key file access h inside within closed sma
 
 -- what is seen where a closed descriptor gets a new description
 pub seen_opened : (rows : List Keys) (old new : Slab Opened) (made p fd key : ℕ) (entry : Opened) → AreEntries rows old made → fd < length (row_at rows p)
-    → get old key ≡ None → Updates old new key (Some entry) → (q k : ℕ) → seen_in (with_key rows p fd (Some key)) new q k ≡ cond (is_place p fd q k) (Some (numbered entry)) (seen_in rows old q k)
+    → get old key ≡ None → Updates old new key (Some entry) → (q k : ℕ)
+    → seen_in (with_key rows p fd (Some key)) new q k ≡ cond (is_place p fd q k) (Some (numbered entry)) (seen_in rows old q k)
 seen_opened rows old new made p fd key entry h within vacant updates q k =
     seen-with_key rows new p fd (Some key) within q k
     ∙ ap (λ o. cond (is_place p fd q k) (option_map numbered o) (seen_in rows new q k)) updates.changed

@@ -32,7 +32,8 @@ pub record IsGathered (D : Descriptors) (p n : ℕ) (marks : List Bool) (numbers
   pub distinct : IsDistinct eqb numbers
 
 -- a descriptor that isn't closed refers to what it referred to
-kept : (D : Descriptors) (p : ℕ) (closed : ℕ → Bool) (q k : ℕ) → ((q ≡ p) → closed k ≡ false) → (without_descriptors D p closed).description_of q k ≡ D.description_of q k
+kept : (D : Descriptors) (p : ℕ) (closed : ℕ → Bool) (q k : ℕ) → ((q ≡ p) → closed k ≡ false)
+    → (without_descriptors D p closed).description_of q k ≡ D.description_of q k
 kept D p closed q k apart = grind (arith, common_steps, cases_eq, eq-eqb, and_left, ne_eqb)
 
 -- a descriptor that is closed refers to nothing
@@ -40,7 +41,8 @@ gone : (D : Descriptors) (p : ℕ) (closed : ℕ → Bool) (q k : ℕ) → q ≡
 gone D p closed q k same is = ap (λ b. cond b None (D.description_of q k)) (ap (λ b. b && closed k) (eq-eqb q p same) ∙ is)
 
 -- where two tests agree on each open descriptor, the same descriptors are left
-pub same_closing : (D : Descriptors) (p : ℕ) (f g : ℕ → Bool) → ((k : ℕ) → (f k ≡ g k) ⊎ (D.description_of p k ≡ None)) → SameDescriptors (without_descriptors D p f) (without_descriptors D p g)
+pub same_closing : (D : Descriptors) (p : ℕ) (f g : ℕ → Bool) → ((k : ℕ) → (f k ≡ g k) ⊎ (D.description_of p k ≡ None))
+    → SameDescriptors (without_descriptors D p f) (without_descriptors D p g)
 same_closing D p f g agree = grind (arith, common_steps, cases_eq, kept)
 
 -- what agrees agrees both ways
@@ -80,11 +82,13 @@ closes_more D p n file h =
 
 -- what is closed below the next number is closed below this one, or is this one
 closes_cases : (D : Descriptors) (p n file : ℕ) → ClosesFile D p (below (n + 1)) file
-    → ClosesFile D p (below n) file ⊎ ((d : ℕ) × (D.description_of p n ≡ Some d) × (option_map (λ o. o.file) (description_numbered D.descriptions d) ≡ Some file))
+    → ClosesFile D p (below n) file
+    ⊎ ((d : ℕ) × (D.description_of p n ≡ Some d) × (option_map (λ o. o.file) (description_numbered D.descriptions d) ≡ Some file))
 closes_cases D p n file h = grind (arith, common_steps, cases_eq, below_more)
 
 -- a descriptor that wasn't open releases nothing more
-pub gathered_skip : (D : Descriptors) (p n : ℕ) (marks : List Bool) (numbers : List ℕ) → IsClosing (closed_below D p n) p n None → IsGathered D p n marks numbers → IsGathered D p (n + 1) marks numbers
+pub gathered_skip : (D : Descriptors) (p n : ℕ) (marks : List Bool) (numbers : List ℕ) → IsClosing (closed_below D p n) p n None
+    → IsGathered D p n marks numbers → IsGathered D p (n + 1) marks numbers
 gathered_skip D p n marks numbers closed h =
     let was : D.description_of p n ≡ None = sym (next_open D p n) ∙ closed in
     let same = same_closing D p (below (n + 1)) (below n) (λ k. agree k was) in
@@ -111,13 +115,15 @@ gathered_skip D p n marks numbers closed h =
     flipped k was = grind (arith, common_steps)
 
 -- the marks after one more
-marks_more : (D : Descriptors) (p n : ℕ) (marks : List Bool) (place file d : ℕ) → place ≡ file → place < length marks → D.description_of p n ≡ Some d → option_map (λ o. o.file) (description_numbered D.descriptions d) ≡ Some file
+marks_more : (D : Descriptors) (p n : ℕ) (marks : List Bool) (place file d : ℕ) → place ≡ file → place < length marks → D.description_of p n ≡ Some d
+    → option_map (λ o. o.file) (description_numbered D.descriptions d) ≡ Some file
     → ((x : ℕ) → IsMarked marks x ↔ ClosesFile D p (below n) x) → (x : ℕ) → IsMarked (set marks place true) x ↔ ClosesFile D p (below (n + 1)) x
 marks_more D p n marks place file d is inside refers of_file h x =
     search (rules, cases_eq, lt-ltb, get_or-set_same, closes_more, get_or-set_other, closes_cases, same_Some)
 
 -- one more descriptor is closed, and others refer to its description
-pub gathered_shared : (D : Descriptors) (p n : ℕ) (marks : List Bool) (numbers : List ℕ) (place : ℕ) (closed : Closed) → place ≡ closed.file → place < length marks → ClosesOne (closed_below D p n) p n closed → closed.last ≡ None
+pub gathered_shared : (D : Descriptors) (p n : ℕ) (marks : List Bool) (numbers : List ℕ) (place : ℕ) (closed : Closed) → place ≡ closed.file
+    → place < length marks → ClosesOne (closed_below D p n) p n closed → closed.last ≡ None
     → IsGathered D p n marks numbers → IsGathered D p (n + 1) (set marks place true) numbers
 gathered_shared D p n marks numbers place closed is inside one last h =
     let before = closed_below D p n in
@@ -141,7 +147,8 @@ gathered_shared D p n marks numbers place closed is inside one last h =
     }
 
 -- one more descriptor is closed, the last of its description
-pub gathered_last : (D : Descriptors) (p n : ℕ) (marks : List Bool) (numbers : List ℕ) (place number : ℕ) (closed : Closed) → place ≡ closed.file → place < length marks → ClosesOne (closed_below D p n) p n closed → closed.last ≡ Some number
+pub gathered_last : (D : Descriptors) (p n : ℕ) (marks : List Bool) (numbers : List ℕ) (place number : ℕ) (closed : Closed) → place ≡ closed.file
+    → place < length marks → ClosesOne (closed_below D p n) p n closed → closed.last ≡ Some number
     → IsGathered D p n marks numbers → IsGathered D p (n + 1) (set marks place true) (numbers ++ number ∷ [])
 gathered_last D p n marks numbers place number closed is inside one last h =
     let before = closed_below D p n in
@@ -175,12 +182,15 @@ gathered_last D p n marks numbers place number closed is inside one last h =
     }
 
 -- each open descriptor is below the limit
-pub all_below : (D : Descriptors) (p limit : ℕ) → ((k : ℕ) → limit ≤ k → D.description_of p k ≡ None) → (k : ℕ) → (true ≡ below limit k) ⊎ (D.description_of p k ≡ None)
+pub all_below : (D : Descriptors) (p limit : ℕ) → ((k : ℕ) → limit ≤ k → D.description_of p k ≡ None) → (k : ℕ)
+    → (true ≡ below limit k) ⊎ (D.description_of p k ≡ None)
 all_below D p limit none k = grind (arith, common_steps, cases_lt, lt-ltb)
 
 -- the end of a process, where all its descriptors lie below the limit
-pub gathered_all : (D : Descriptors) (p limit : ℕ) (marks : List Bool) (numbers : List ℕ) (released : Released) → ((k : ℕ) → limit ≤ k → D.description_of p k ≡ None) → IsGathered D p limit marks numbers
-    → AreExactly released.files (IsMarked marks) → (IsDistinct eqb numbers → IsStrictlyIncreasing released.descriptions) → ((x : ℕ) → Contains released.descriptions x ↔ Contains numbers x)
+pub gathered_all : (D : Descriptors) (p limit : ℕ) (marks : List Bool) (numbers : List ℕ) (released : Released)
+    → ((k : ℕ) → limit ≤ k → D.description_of p k ≡ None) → IsGathered D p limit marks numbers
+    → AreExactly released.files (IsMarked marks) → (IsDistinct eqb numbers → IsStrictlyIncreasing released.descriptions)
+    → ((x : ℕ) → Contains released.descriptions x ↔ Contains numbers x)
     → EndGives D p released (without_descriptors D p (λ k. true))
 gathered_all D p limit marks numbers released none h files rising same =
     let all = without_descriptors D p (λ k. true) in (

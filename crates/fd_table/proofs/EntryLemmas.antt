@@ -28,11 +28,13 @@ pub updated_cases : (old new : Slab Opened) (key : ℕ) (slot : Option Opened) �
 updated_cases old new key slot updates x entry is = grind (arith, common_steps, cases_eq)
 
 -- a key that was occupied stays so, where a value is written
-pub stays_occupied : (old new : Slab Opened) (key : ℕ) (written : Opened) → Updates old new key (Some written) → (x : ℕ) → IsSome (get old x) → IsSome (get new x)
+pub stays_occupied : (old new : Slab Opened) (key : ℕ) (written : Opened) → Updates old new key (Some written) → (x : ℕ) → IsSome (get old x)
+    → IsSome (get new x)
 stays_occupied old new key written updates x was = grind (arith, common_steps, cases_eq, some_is)
 
 -- an entry is written again with the same number, where the rows may change too
-pub entries_rewritten : (rows after : List Keys) (old new : Slab Opened) (made key : ℕ) (entry written : Opened) → AreEntries rows old made → get old key ≡ Some entry
+pub entries_rewritten : (rows after : List Keys) (old new : Slab Opened) (made key : ℕ) (entry written : Opened) → AreEntries rows old made
+    → get old key ≡ Some entry
     → Updates old new key (Some written) → written.number ≡ entry.number → IsEntry made written → written.users ≡ users_of after key
     → ((x : ℕ) → x ≢ key → users_of after x ≡ users_of rows x) → ((p fd x : ℕ) → key_at after p fd ≡ Some x → IsSome (get old x)) → AreEntries after new made
 entries_rewritten rows after old new made key entry written h was updates number is_entry counted others occupied =
@@ -40,13 +42,15 @@ entries_rewritten rows after old new made key entry written h was updates number
 
 -- an entry that nobody uses any more is removed
 pub entries_removed : (rows after : List Keys) (old new : Slab Opened) (made key : ℕ) → AreEntries rows old made → Updates old new key None
-    → ((x : ℕ) → x ≢ key → users_of after x ≡ users_of rows x) → ((p fd x : ℕ) → key_at after p fd ≡ Some x → (x ≢ key) × IsSome (get old x)) → AreEntries after new made
+    → ((x : ℕ) → x ≢ key → users_of after x ≡ users_of rows x) → ((p fd x : ℕ) → key_at after p fd ≡ Some x → (x ≢ key) × IsSome (get old x))
+    → AreEntries after new made
 entries_removed rows after old new made key h updates others occupied = search (rules, updated_cases, none-some)
 
 -- an entry with the next number is added at a vacant key
 pub entries_added : (rows after : List Keys) (old new : Slab Opened) (made key : ℕ) (added : Opened) → AreEntries rows old made → get old key ≡ None
     → Updates old new key (Some added) → added.number ≡ made + 1 → IsEntry (made + 1) added → added.users ≡ users_of after key
-    → ((x : ℕ) → x ≢ key → users_of after x ≡ users_of rows x) → ((p fd x : ℕ) → key_at after p fd ≡ Some x → (x ≡ key) ⊎ IsSome (get old x)) → AreEntries after new (made + 1)
+    → ((x : ℕ) → x ≢ key → users_of after x ≡ users_of rows x) → ((p fd x : ℕ) → key_at after p fd ≡ Some x → (x ≡ key) ⊎ IsSome (get old x))
+    → AreEntries after new (made + 1)
 entries_added rows after old new made key added h vacant updates number is_entry counted others occupied =
     search (rules, some_is, stays_occupied, updated_cases, same_Some)
 
@@ -55,12 +59,14 @@ abbrev pub seen_by : Slab Opened → Option ℕ → Option Numbered
 seen_by opened key = option_map numbered (option_and_then (get opened) key)
 
 -- slabs whose entries show the same show the same by each key
-pub seen_by_same : (old new : Slab Opened) → ((x : ℕ) → option_map numbered (get new x) ≡ option_map numbered (get old x)) → (key : Option ℕ) → seen_by new key ≡ seen_by old key
+pub seen_by_same : (old new : Slab Opened) → ((x : ℕ) → option_map numbered (get new x) ≡ option_map numbered (get old x)) → (key : Option ℕ)
+    → seen_by new key ≡ seen_by old key
 seen_by_same old new same None = refl
 seen_by_same old new same (Some x) = same x
 
 -- an entry that is written again with what it showed shows the same
-pub rewritten_shows : (old new : Slab Opened) (key : ℕ) (entry written : Opened) → get old key ≡ Some entry → Updates old new key (Some written) → numbered written ≡ numbered entry
+pub rewritten_shows : (old new : Slab Opened) (key : ℕ) (entry written : Opened) → get old key ≡ Some entry → Updates old new key (Some written)
+    → numbered written ≡ numbered entry
     → (x : ℕ) → option_map numbered (get new x) ≡ option_map numbered (get old x)
 rewritten_shows old new key entry written was updates same x = search (rules, cases_eq)
 
@@ -81,7 +87,8 @@ pub key_at_written : (rows : List Keys) (p fd : ℕ) (key : Option ℕ) → fd <
 key_at_written rows p fd key within q k x is = grind (arith, common_steps, place_cases, key_at-with_key_same, key_at-with_key_other)
 
 -- an entry gets another offset: its rows stay
-pub entries_moved : (rows : List Keys) (old new : Slab Opened) (made key offset : ℕ) (entry : Opened) → AreEntries rows old made → get old key ≡ Some entry → offset ≤ OFFMAX
+pub entries_moved : (rows : List Keys) (old new : Slab Opened) (made key offset : ℕ) (entry : Opened) → AreEntries rows old made
+    → get old key ≡ Some entry → offset ≤ OFFMAX
     → Updates old new key (Some (record entry { offset = offset })) → AreEntries rows new made
 entries_moved rows old new made key offset entry h was small updates = search (rules, entries_rewritten)
 
@@ -92,11 +99,13 @@ moved_entry number offset entry is = sym (ap (λ b. cond b (numbered (record ent
 unmoved_entry : (number offset : ℕ) (entry : Opened) → entry.number ≢ number → numbered entry ≡ moved number offset (numbered entry)
 unmoved_entry number offset entry differs = sym (ap (λ b. cond b (numbered (record entry { offset = offset })) (numbered entry)) (ne_eqb entry.number number differs))
 
-moved_slot : (number offset : ℕ) (o : Option Opened) → ((e : Opened) → o ≡ Some e → e.number ≢ number) → option_map numbered o ≡ option_map (moved number offset) (option_map numbered o)
+moved_slot : (number offset : ℕ) (o : Option Opened) → ((e : Opened) → o ≡ Some e → e.number ≢ number)
+    → option_map numbered o ≡ option_map (moved number offset) (option_map numbered o)
 moved_slot number offset None differs = refl
 moved_slot number offset (Some e) differs = ap Some (unmoved_entry number offset e (differs e refl))
 
 -- each key shows what it showed, but for the offset of this number
 pub moved_shows : (rows : List Keys) (old new : Slab Opened) (made key offset : ℕ) (entry : Opened) → AreEntries rows old made → get old key ≡ Some entry
-    → Updates old new key (Some (record entry { offset = offset })) → (held : Option ℕ) → seen_by new held ≡ option_map (moved entry.number offset) (seen_by old held)
+    → Updates old new key (Some (record entry { offset = offset })) → (held : Option ℕ)
+    → seen_by new held ≡ option_map (moved entry.number offset) (seen_by old held)
 moved_shows rows old new made key offset entry h h2 h3 held = search (rules, cases_eq, moved_entry, moved, moved_slot)

@@ -30,7 +30,8 @@ mapped_none f (Some x) is = absurd (none-some (f x) (sym is))
 abbrev pub AreCounted : Slab Opened → Slab Opened → Keys → Type 0
 AreCounted old new row = (key : ℕ) → get new key ≡ option_map (with_users (users_in row key)) (get old key)
 
-users_more : (row : Keys) (fd x : ℕ) (held : Option ℕ) → fd < length row → get_or row fd None ≡ held → users_in (take (fd + 1) row) x ≡ users_in (take fd row) x + one_for x held
+users_more : (row : Keys) (fd x : ℕ) (held : Option ℕ) → fd < length row → get_or row fd None ≡ held
+    → users_in (take (fd + 1) row) x ≡ users_in (take fd row) x + one_for x held
 users_more row fd x held within is =
     sum_by_more (λ place. cond (is_key x place) 1 0) row fd None within ∙ ap (λ o. users_in (take fd row) x + one_for x o) is
 
@@ -38,48 +39,59 @@ users_more row fd x held within is =
 abbrev users_set : Opened → ℕ → Opened
 users_set entry n = record entry { users = n }
 
-same_count : (old now : Slab Opened) (row : Keys) (fd x : ℕ) (held : Option ℕ) → fd < length row → get_or row fd None ≡ held → one_for x held ≡ 0 → AreCounted old now (take fd row) → get now x ≡ option_map (with_users (users_in (take (fd + 1) row) x)) (get old x)
+same_count : (old now : Slab Opened) (row : Keys) (fd x : ℕ) (held : Option ℕ) → fd < length row → get_or row fd None ≡ held → one_for x held ≡ 0
+    → AreCounted old now (take fd row) → get now x ≡ option_map (with_users (users_in (take (fd + 1) row) x)) (get old x)
 same_count old now row fd x held within is none counted =
     counted x ∙ ap (λ n. option_map (with_users n) (get old x)) (sym (omega (arith, users_more row fd x held within is, none)))
 
 -- a place with no key counts for nothing
-pub counted_closed : (old now : Slab Opened) (row : Keys) (fd : ℕ) → fd < length row → get_or row fd None ≡ None → AreCounted old now (take fd row) → AreCounted old now (take (fd + 1) row)
+pub counted_closed : (old now : Slab Opened) (row : Keys) (fd : ℕ) → fd < length row → get_or row fd None ≡ None → AreCounted old now (take fd row)
+    → AreCounted old now (take (fd + 1) row)
 counted_closed old now row fd within is counted x = same_count old now row fd x None within is refl counted
 
 -- a place whose key has no entry changes none
-pub counted_vacant : (old now : Slab Opened) (row : Keys) (fd key : ℕ) → fd < length row → get_or row fd None ≡ Some key → get now key ≡ None → AreCounted old now (take fd row) → AreCounted old now (take (fd + 1) row)
+pub counted_vacant : (old now : Slab Opened) (row : Keys) (fd key : ℕ) → fd < length row → get_or row fd None ≡ Some key → get now key ≡ None
+    → AreCounted old now (take fd row) → AreCounted old now (take (fd + 1) row)
 counted_vacant old now row fd key within is vacant counted x = grind (arith, common_steps, cases_eq, mapped_none, same_count, one_for-other)
 
 -- a place with the key of an entry counts for it
-pub counted_more : (old now new : Slab Opened) (row : Keys) (fd key : ℕ) (entry : Opened) → fd < length row → get_or row fd None ≡ Some key → get now key ≡ Some entry → Updates now new key (Some (one_more entry)) → AreCounted old now (take fd row) → AreCounted old new (take (fd + 1) row)
+pub counted_more : (old now new : Slab Opened) (row : Keys) (fd key : ℕ) (entry : Opened) → fd < length row → get_or row fd None ≡ Some key
+    → get now key ≡ Some entry → Updates now new key (Some (one_more entry)) → AreCounted old now (take fd row) → AreCounted old new (take (fd + 1) row)
 counted_more old now new row fd key entry within is was updates counted x =
     grind (arith, common_steps, cases_eq, mapped_from, one_more, users_more, one_for-same, same_count, one_for-other)
 
 -- the child has the row of its parent
-pub key_at-forked : (rows : List Keys) (p child : ℕ) → child < length rows → (q k : ℕ) → key_at (set rows child (row_at rows p)) q k ≡ cond (eqb q child) (key_at rows p k) (key_at rows q k)
+pub key_at-forked : (rows : List Keys) (p child : ℕ) → child < length rows → (q k : ℕ)
+    → key_at (set rows child (row_at rows p)) q k ≡ cond (eqb q child) (key_at rows p k) (key_at rows q k)
 key_at-forked rows p child inside q k = grind (arith, common_steps, cases_eq, get_or-set_same, eq-eqb, get_or-set_other, ne_eqb)
 
-length-forked : (rows : List Keys) (p child : ℕ) → child < length rows → (q : ℕ) → length (row_at (set rows child (row_at rows p)) q) ≡ cond (eqb q child) (length (row_at rows p)) (length (row_at rows q))
+length-forked : (rows : List Keys) (p child : ℕ) → child < length rows → (q : ℕ)
+    → length (row_at (set rows child (row_at rows p)) q) ≡ cond (eqb q child) (length (row_at rows p)) (length (row_at rows q))
 length-forked rows p child inside q = grind (arith, common_steps, cases_eq, get_or-set_same, eq-eqb, get_or-set_other, ne_eqb)
 
 -- the child has a row, where its parent has one
-pub has_row-forked : (rows : List Keys) (p child : ℕ) → child < length rows → has_row rows p ≡ true → (q : ℕ) → has_row (set rows child (row_at rows p)) q ≡ (eqb q child || has_row rows q)
+pub has_row-forked : (rows : List Keys) (p child : ℕ) → child < length rows → has_row rows p ≡ true → (q : ℕ)
+    → has_row (set rows child (row_at rows p)) q ≡ (eqb q child || has_row rows q)
 has_row-forked rows p child inside alive q = grind (arith, common_steps, length-forked, cases_eq, eq-eqb, ne_eqb)
 
 -- the rows stay rows
-pub AreRows-forked : (processes : ℕ) (limits : Limits) (rows : List Keys) (p child : ℕ) → child < length rows → 0 < child → has_row rows p ≡ true → AreRows processes limits rows → AreRows processes limits (set rows child (row_at rows p))
+pub AreRows-forked : (processes : ℕ) (limits : Limits) (rows : List Keys) (p child : ℕ) → child < length rows → 0 < child → has_row rows p ≡ true
+    → AreRows processes limits rows → AreRows processes limits (set rows child (row_at rows p))
 AreRows-forked processes limits rows p child inside positive alive h =
     grind (arith, common_steps, length-set, get_or-set_other, cases_eq, length-forked, eq-eqb, ne_eqb, has_row-forked)
 
-users_of-forked : (rows : List Keys) (p child key : ℕ) → child < length rows → row_at rows child ≡ [] → users_of (set rows child (row_at rows p)) key ≡ users_of rows key + users_in (row_at rows p) key
+users_of-forked : (rows : List Keys) (p child key : ℕ) → child < length rows → row_at rows child ≡ []
+    → users_of (set rows child (row_at rows p)) key ≡ users_of rows key + users_in (row_at rows p) key
 users_of-forked rows p child key inside unborn = grind (arith, common_steps, sum_by-set)
 
 -- the entries after a fork
-pub entries_forked : (rows : List Keys) (old new : Slab Opened) (made p child : ℕ) → child < length rows → row_at rows child ≡ [] → AreCounted old new (row_at rows p) → AreEntries rows old made → AreEntries (set rows child (row_at rows p)) new made
+pub entries_forked : (rows : List Keys) (old new : Slab Opened) (made p child : ℕ) → child < length rows → row_at rows child ≡ []
+    → AreCounted old new (row_at rows p) → AreEntries rows old made → AreEntries (set rows child (row_at rows p)) new made
 entries_forked rows old new made p child inside unborn counted h =
     search (rules, value_of_some, some_is, mapped_from, users_of-forked, cases_eq, eq-eqb, key_at-forked, ne_eqb)
 
-counted_shows : (old new : Slab Opened) (row : Keys) → AreCounted old new row → (key : ℕ) → option_map numbered (get new key) ≡ option_map numbered (get old key)
+counted_shows : (old new : Slab Opened) (row : Keys) → AreCounted old new row → (key : ℕ)
+    → option_map numbered (get new key) ≡ option_map numbered (get old key)
 counted_shows old new row counted key = grind (arith, common_steps)
 
 -- what is seen after a fork
@@ -96,7 +108,8 @@ pub row_of_unborn : (rows : List Keys) (p : ℕ) → has_row rows p ≡ false �
 row_of_unborn rows p unborn = nil_from_length (row_at rows p) (omega (arith, ltb-false 0 (length (row_at rows p)) unborn))
 
 -- what is read of a row among the rows
-pub row_read : (rows : List Keys) (place p : ℕ) (row read : Keys) → place ≡ p → p < length rows → read ≡ get_or rows place read → row ≡ read → row ≡ row_at rows p
+pub row_read : (rows : List Keys) (place p : ℕ) (row read : Keys) → place ≡ p → p < length rows → read ≡ get_or rows place read → row ≡ read
+    → row ≡ row_at rows p
 row_read rows place p row read is inside at same = same ∙ get_or_read rows place read (omega (arith, is, inside)) at [] ∙ ap (row_at rows) is
 
 -- the users that a place of the row adds fit

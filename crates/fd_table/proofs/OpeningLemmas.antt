@@ -39,12 +39,14 @@ opening_length : (limits : Limits) (p : ℕ) → length (opening_row (descriptor
 opening_length limits p = grind (arith, common_steps, cases_eq, eq-eqb, length-replicate, ne_eqb)
 
 -- at the opening process 1 alone has a row
-pub opening_born : (rows : List Keys) (processes : ℕ) (limits : Limits) → 1 ≤ processes → AreOpeningRows rows processes (descriptor_limit limits) → (p : ℕ) → has_row rows p ≡ eqb p 1
+pub opening_born : (rows : List Keys) (processes : ℕ) (limits : Limits) → 1 ≤ processes → AreOpeningRows rows processes (descriptor_limit limits)
+    → (p : ℕ) → has_row rows p ≡ eqb p 1
 opening_born rows processes limits some h p =
     grind (arith, common_steps, opening_row_at, opening_length, cases_eq, eq-eqb, lt-ltb, descriptor_limit-positive, ne_eqb)
 
 -- the rows of the opening are rows
-pub opening_are_rows : (rows : List Keys) (processes : ℕ) (limits : Limits) → processes < 256 → 1 ≤ processes → AreOpeningRows rows processes (descriptor_limit limits) → AreRows processes limits rows
+pub opening_are_rows : (rows : List Keys) (processes : ℕ) (limits : Limits) → processes < 256 → 1 ≤ processes
+    → AreOpeningRows rows processes (descriptor_limit limits) → AreRows processes limits rows
 opening_are_rows rows processes limits few some h = grind (arith, common_steps, cases_eq, opening_row_at, opening_length, eq-eqb, opening_born, ne_eqb)
 
 empty_slab : (opened : Slab Opened) (key : ℕ) → opened.slots ≡ [] → get opened key ≡ None
@@ -64,7 +66,9 @@ opening_size sizes file is =
     ]
 
 -- the view of new tables stands for the descriptors at the opening
-pub opening_stands : (rows : List Keys) (opened : Slab Opened) (sizes : List ℕ) (view : View) → view ≡ record { seen = seen_in rows opened; made = 0; sizes = λ file. get_or sizes file 0; born = has_row rows }
-    → ((p fd : ℕ) → key_at rows p fd ≡ None) → ((p : ℕ) → has_row rows p ≡ eqb p 1) → ((file : ℕ) → get_or sizes file 0 ≡ 0) → ViewStandsFor view opening_descriptors
+pub opening_stands : (rows : List Keys) (opened : Slab Opened) (sizes : List ℕ) (view : View)
+    → view ≡ record { seen = seen_in rows opened; made = 0; sizes = λ file. get_or sizes file 0; born = has_row rows }
+    → ((p fd : ℕ) → key_at rows p fd ≡ None) → ((p : ℕ) → has_row rows p ≡ eqb p 1) → ((file : ℕ) → get_or sizes file 0 ≡ 0)
+    → ViewStandsFor view opening_descriptors
 unfolding opening_descriptors
 opening_stands rows opened sizes view is closed born empty = grind (arith, common_steps)

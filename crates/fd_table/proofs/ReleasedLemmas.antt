@@ -40,19 +40,23 @@ pub open_after : (D : Descriptors) (p fd d x : ℕ) → D.description_of p fd �
 open_after D p fd d x refers differs h = grind (arith, common_steps, place_cases, same_Some)
 
 -- what is closed for good is told as the last
-last_told : (D E : Descriptors) (d : ℕ) (last : Option ℕ) → IsOpen D d → ((x : ℕ) → x ≢ d → IsOpen D x → IsOpen E x) → TellsLastClose E d last → AreExactly (option_to_list last) (ClosesDescription D E)
+last_told : (D E : Descriptors) (d : ℕ) (last : Option ℕ) → IsOpen D d → ((x : ℕ) → x ≢ d → IsOpen D x → IsOpen E x) → TellsLastClose E d last
+    → AreExactly (option_to_list last) (ClosesDescription D E)
 last_told D E d last h h2 h3 = grind (arith, common_steps, rising_short, contains_none, cases_eq, contains_one, one_contains)
 
 -- the file of one closed descriptor
-file_told : (D : Descriptors) (p fd d file : ℕ) → D.description_of p fd ≡ Some d → option_map (λ o. o.file) (description_numbered D.descriptions d) ≡ Some file → AreExactly (file ∷ []) (ClosesFile D p (λ k. eqb k fd))
+file_told : (D : Descriptors) (p fd d file : ℕ) → D.description_of p fd ≡ Some d
+    → option_map (λ o. o.file) (description_numbered D.descriptions d) ≡ Some file → AreExactly (file ∷ []) (ClosesFile D p (λ k. eqb k fd))
 file_told D p fd d file refers is = grind (arith, common_steps, rising_short, eq-eqb, contains_one, eqb-true, same_Some, one_contains)
 
 -- what the closing of one descriptor releases, where afterwards as many descriptions are open
-pub released_one : (D E : Descriptors) (p fd : ℕ) (closed : Closed) → ClosesOne D p fd closed → ((x : ℕ) → IsOpen (without_one D p fd) x ↔ IsOpen E x) → AreReleased D E p (λ k. eqb k fd) (released_by (Some closed))
+pub released_one : (D E : Descriptors) (p fd : ℕ) (closed : Closed) → ClosesOne D p fd closed
+    → ((x : ℕ) → IsOpen (without_one D p fd) x ↔ IsOpen E x) → AreReleased D E p (λ k. eqb k fd) (released_by (Some closed))
 released_one D E p fd closed h same = search (rules, file_told, last_told, open_after)
 
 -- a closed descriptor releases nothing
-pub released_none : (D E : Descriptors) (p fd : ℕ) → D.description_of p fd ≡ None → ((x : ℕ) → IsOpen D x → IsOpen E x) → AreReleased D E p (λ k. eqb k fd) nothing
+pub released_none : (D E : Descriptors) (p fd : ℕ) → D.description_of p fd ≡ None → ((x : ℕ) → IsOpen D x → IsOpen E x)
+    → AreReleased D E p (λ k. eqb k fd) nothing
 released_none D E p fd closed kept = grind (arith, common_steps, rising_short, contains_none, none-some, eqb-true)
 
 -- another descriptor of the process stays as it is
@@ -60,7 +64,8 @@ pub without_one-other : (D : Descriptors) (p fd from : ℕ) → from ≢ fd → 
 without_one-other D p fd from apart = grind (arith, common_steps, place_cases)
 
 -- a descriptor that gets a description that is open leaves as many open
-pub open_with : (D : Descriptors) (p fd from d : ℕ) → D.description_of p from ≡ Some d → from ≢ fd → (x : ℕ) → IsOpen (without_one D p fd) x ↔ IsOpen (with_descriptor D p fd d) x
+pub open_with : (D : Descriptors) (p fd from d : ℕ) → D.description_of p from ≡ Some d → from ≢ fd → (x : ℕ)
+    → IsOpen (without_one D p fd) x ↔ IsOpen (with_descriptor D p fd d) x
 open_with D p fd from d refers apart x = (
   λ h.
       elim (place_cases p fd h.process h.fd) [
@@ -85,7 +90,8 @@ pub open_without_closed : (D : Descriptors) (p fd x : ℕ) → D.description_of 
 open_without_closed D p fd x closed h = grind (arith, common_steps, place_cases, none-some)
 
 -- what dup2 releases: the closing of the number, whose place is then taken by an open description
-pub released_moving : (D : Descriptors) (p fd from d : ℕ) (closed : Option Closed) → D.description_of p from ≡ Some d → from ≢ fd → IsClosing D p fd closed → AreReleased D (with_descriptor D p fd d) p (λ k. eqb k fd) (released_by closed)
+pub released_moving : (D : Descriptors) (p fd from d : ℕ) (closed : Option Closed) → D.description_of p from ≡ Some d → from ≢ fd
+    → IsClosing D p fd closed → AreReleased D (with_descriptor D p fd d) p (λ k. eqb k fd) (released_by closed)
 released_moving D p fd from d None refers apart h =
     released_none D (with_descriptor D p fd d) p fd h (λ x was. (open_with D p fd from d refers apart x).0 (open_without_closed D p fd x h was))
 released_moving D p fd from d (Some closed) refers apart h =
@@ -100,5 +106,6 @@ pub moves_onto_itself : (D : Descriptors) (p fd to d : ℕ) (released : Released
 moves_onto_itself D p fd to d released same none = grind (arith, common_steps, eq-eqb, same_descriptors)
 
 -- dup2 of a descriptor to another number
-pub moves_elsewhere : (D : Descriptors) (p fd to d : ℕ) (closed : Option Closed) (released : Released) → D.description_of p fd ≡ Some d → fd ≢ to → IsClosing D p to closed → released ≡ released_by closed → MovesTo D p fd to d released (with_descriptor D p to d)
+pub moves_elsewhere : (D : Descriptors) (p fd to d : ℕ) (closed : Option Closed) (released : Released) → D.description_of p fd ≡ Some d → fd ≢ to
+    → IsClosing D p to closed → released ≡ released_by closed → MovesTo D p fd to d released (with_descriptor D p to d)
 moves_elsewhere D p fd to d closed released refers apart closing is = grind (arith, common_steps, ne_eqb, same_descriptors, released_moving)

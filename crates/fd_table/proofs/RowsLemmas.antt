@@ -20,11 +20,13 @@ pub key_at-with_key_same : (rows : List Keys) (p fd : ℕ) (key : Option ℕ) �
 key_at-with_key_same rows p fd key within = grind (arith, common_steps, cases_lt, get_or-set_same, get_or_past)
 
 -- every other descriptor keeps its key
-pub key_at-with_key_other : (rows : List Keys) (p fd : ℕ) (key : Option ℕ) (q k : ℕ) → ((q ≡ p) → (k ≡ fd) → ⊥) → key_at (with_key rows p fd key) q k ≡ key_at rows q k
+pub key_at-with_key_other : (rows : List Keys) (p fd : ℕ) (key : Option ℕ) (q k : ℕ) → ((q ≡ p) → (k ≡ fd) → ⊥)
+    → key_at (with_key rows p fd key) q k ≡ key_at rows q k
 key_at-with_key_other rows p fd key q k apart = grind (arith, common_steps, cases_eq, cases_lt, get_or-set_same, get_or-set_other, get_or_past, length-set)
 
 -- a write of one key, place by place
-pub key_at-with_key : (rows : List Keys) (p fd : ℕ) (key : Option ℕ) → fd < length (row_at rows p) → (q k : ℕ) → key_at (with_key rows p fd key) q k ≡ cond (is_place p fd q k) key (key_at rows q k)
+pub key_at-with_key : (rows : List Keys) (p fd : ℕ) (key : Option ℕ) → fd < length (row_at rows p) → (q k : ℕ)
+    → key_at (with_key rows p fd key) q k ≡ cond (is_place p fd q k) key (key_at rows q k)
 key_at-with_key rows p fd key within q k = grind (arith, common_steps, place_cases, key_at-with_key_same, key_at-with_key_other)
 
 -- a descriptor with a key lies in the row of its process, and that among the rows
@@ -89,11 +91,13 @@ WithKey-with_key rows p fd key within =
     record { keys = key_at-with_key rows p fd key within; lengths = length-with_key rows p fd key }
 
 -- rows stay rows where their lengths stay
-pub AreRows-kept : (processes : ℕ) (limits : Limits) (old new : List Keys) → length new ≡ length old → ((q : ℕ) → length (row_at new q) ≡ length (row_at old q)) → AreRows processes limits old → AreRows processes limits new
+pub AreRows-kept : (processes : ℕ) (limits : Limits) (old new : List Keys) → length new ≡ length old
+    → ((q : ℕ) → length (row_at new q) ≡ length (row_at old q)) → AreRows processes limits old → AreRows processes limits new
 AreRows-kept processes limits old new count lengths h = grind (arith, common_steps, nil_from_length)
 
 -- rows stay rows where a key is written
-pub AreRows-with_key : (processes : ℕ) (limits : Limits) (rows : List Keys) (p fd : ℕ) (key : Option ℕ) → AreRows processes limits rows → AreRows processes limits (with_key rows p fd key)
+pub AreRows-with_key : (processes : ℕ) (limits : Limits) (rows : List Keys) (p fd : ℕ) (key : Option ℕ) → AreRows processes limits rows
+    → AreRows processes limits (with_key rows p fd key)
 AreRows-with_key processes limits rows p fd key h =
     AreRows-kept processes limits rows (with_key rows p fd key) (length-set rows p (set (row_at rows p) fd key)) (length-with_key rows p fd key) h
 
@@ -110,5 +114,6 @@ pub row_inside : (rows : List Keys) (p fd : ℕ) → fd < length (row_at rows p)
 row_inside rows p fd within = grind (arith, common_steps, cases_lt, get_or_past)
 
 -- no descriptor past the limit has a key
-pub key_past : (processes : ℕ) (limits : Limits) (rows : List Keys) → AreRows processes limits rows → (p k : ℕ) → descriptor_limit limits ≤ k → key_at rows p k ≡ None
+pub key_past : (processes : ℕ) (limits : Limits) (rows : List Keys) → AreRows processes limits rows → (p k : ℕ) → descriptor_limit limits ≤ k
+    → key_at rows p k ≡ None
 key_past processes limits rows h p k past = grind (arith, common_steps, get_or_past, cases_lt, lt-ltb)

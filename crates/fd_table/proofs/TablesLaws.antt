@@ -29,7 +29,8 @@ later_apart slot slots apart key other entry another is at same =
     omega (arith, apart (suc key) (suc other) entry another is at same)
 
 -- each entry is the one that is found by its number
-found_entry : (slots : List (Option Opened)) (key : ℕ) (entry : Opened) → AreApart slots → get_or slots key None ≡ Some entry → found slots entry.number ≡ (numbered entry).description
+found_entry : (slots : List (Option Opened)) (key : ℕ) (entry : Opened) → AreApart slots → get_or slots key None ≡ Some entry
+    → found slots entry.number ≡ (numbered entry).description
 unfolding found
 found_entry [] key entry apart is = absurd (none-some entry is)
 found_entry (None ∷ slots) zero entry apart is = absurd (none-some entry is)
@@ -52,7 +53,8 @@ length-given_out slots zero = refl
 length-given_out slots (suc made) =
     omega (arith, length-append (given_out slots made) (found slots (suc made) ∷ []), length-given_out slots made)
 
-numbered-given_out : (slots : List (Option Opened)) (made number : ℕ) → 0 < number → number ≤ made → description_numbered (given_out slots made) number ≡ Some (found slots number)
+numbered-given_out : (slots : List (Option Opened)) (made number : ℕ) → 0 < number → number ≤ made
+    → description_numbered (given_out slots made) number ≡ Some (found slots number)
 unfolding given_out
 numbered-given_out slots zero number positive within = absurd (omega arith)
 numbered-given_out slots (suc made) number positive within =

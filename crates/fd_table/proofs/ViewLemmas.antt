@@ -14,7 +14,8 @@ use Rattle.fd_table.specs.TablesView.{View, Numbered, IsSeen, ViewStandsFor}
 use Rattle.fd_table.proofs.RowsLemmas.{place_cases}
 
 -- an open descriptor refers to the description that is shown
-pub seen_some : (v : View) (D : Descriptors) (p fd : ℕ) (s : Numbered) → ViewStandsFor v D → v.seen p fd ≡ Some s → (D.description_of p fd ≡ Some s.number) × (description_numbered D.descriptions s.number ≡ Some s.description)
+pub seen_some : (v : View) (D : Descriptors) (p fd : ℕ) (s : Numbered) → ViewStandsFor v D → v.seen p fd ≡ Some s
+    → (D.description_of p fd ≡ Some s.number) × (description_numbered D.descriptions s.number ≡ Some s.description)
 seen_some v D p fd s h is = subst (λ o. IsSeen o D p fd) is (h.seen p fd)
 
 -- a descriptor that isn't shown is closed
@@ -43,7 +44,8 @@ pub stands_for_view : (v w : View) (D : Descriptors) → ((p fd : ℕ) → w.see
 stands_for_view v w D seen rest h = grind (arith, common_steps)
 
 -- a descriptor refers to what another one of its process refers to
-pub shared : (v w : View) (D : Descriptors) (p from to description : ℕ) → ((q k : ℕ) → w.seen q k ≡ cond (is_place p to q k) (v.seen p from) (v.seen q k)) → SameRest v w
+pub shared : (v w : View) (D : Descriptors) (p from to description : ℕ)
+    → ((q k : ℕ) → w.seen q k ≡ cond (is_place p to q k) (v.seen p from) (v.seen q k)) → SameRest v w
     → D.description_of p from ≡ Some description → ViewStandsFor v D → ViewStandsFor w (with_descriptor D p to description)
 shared v w D p from to description seen rest refers h = grind (arith, common_steps, place_cases, seen_again)
 
@@ -61,7 +63,8 @@ slice_get_push : (xs : List OpenFileDescription) (x : OpenFileDescription) → s
 slice_get_push [] x = refl
 slice_get_push (y ∷ xs) x = slice_get_push xs x
 
-pub numbered_kept : (xs ys : List OpenFileDescription) (n : ℕ) (x : OpenFileDescription) → description_numbered xs n ≡ Some x → description_numbered (xs ++ ys) n ≡ Some x
+pub numbered_kept : (xs ys : List OpenFileDescription) (n : ℕ) (x : OpenFileDescription) → description_numbered xs n ≡ Some x
+    → description_numbered (xs ++ ys) n ≡ Some x
 numbered_kept xs ys zero x is = absurd (none-some x is)
 numbered_kept xs ys (suc i) x is = slice_get_kept xs ys i x is
 
@@ -73,7 +76,9 @@ abbrev pub after_open : Descriptors → ℕ → ℕ → ℕ → Access → Descr
 after_open D p fd file access = with_descriptor (with_description D file access) p fd (length D.descriptions + 1)
 
 -- a file is opened: a new description, to which the descriptor refers
-pub opened_new : (v w : View) (D : Descriptors) (p fd file : ℕ) (access : Access) → ((q k : ℕ) → w.seen q k ≡ cond (is_place p fd q k) (Some (record { number = v.made + 1; description = record { file = file; access = access; offset = 0 } })) (v.seen q k))
+pub opened_new : (v w : View) (D : Descriptors) (p fd file : ℕ) (access : Access)
+    → ((q k : ℕ) → w.seen q k
+    ≡ cond (is_place p fd q k) (Some (record { number = v.made + 1; description = record { file = file; access = access; offset = 0 } })) (v.seen q k))
     → w.made ≡ v.made + 1 → ((x : ℕ) → w.sizes x ≡ v.sizes x) → ((q : ℕ) → w.born q ≡ v.born q)
     → ViewStandsFor v D → ViewStandsFor w (after_open D p fd file access)
 opened_new v w D p fd file access seen made sizes born h = grind (arith, common_steps, place_cases, numbered_push, seen_again, numbered_kept, length-append)
@@ -96,11 +101,13 @@ slice_get-set_other (z ∷ xs) zero (suc j) x differs = refl
 slice_get-set_other (z ∷ xs) (suc i) zero x differs = refl
 slice_get-set_other (z ∷ xs) (suc i) (suc j) x differs = slice_get-set_other xs i j x (λ same. differs (ap suc same))
 
-numbered_set_same : (xs : List OpenFileDescription) (n : ℕ) (x y : OpenFileDescription) → description_numbered xs n ≡ Some y → description_numbered (set xs (pred n) x) n ≡ Some x
+numbered_set_same : (xs : List OpenFileDescription) (n : ℕ) (x y : OpenFileDescription) → description_numbered xs n ≡ Some y
+    → description_numbered (set xs (pred n) x) n ≡ Some x
 numbered_set_same xs zero x y is = absurd (none-some y is)
 numbered_set_same xs (suc i) x y is = slice_get-set_same xs i x y is
 
-numbered_set_other : (xs : List OpenFileDescription) (n m : ℕ) (x y z : OpenFileDescription) → m ≢ n → description_numbered xs n ≡ Some y → description_numbered xs m ≡ Some z → description_numbered (set xs (pred n) x) m ≡ Some z
+numbered_set_other : (xs : List OpenFileDescription) (n m : ℕ) (x y z : OpenFileDescription) → m ≢ n → description_numbered xs n ≡ Some y
+    → description_numbered xs m ≡ Some z → description_numbered (set xs (pred n) x) m ≡ Some z
 numbered_set_other xs n m x y z h h2 h3 = grind (arith, common_steps, none-some, slice_get-set_other)
 
 -- the description at this offset
@@ -111,15 +118,19 @@ offset_at x offset = record x { offset = offset }
 abbrev pub moved : ℕ → ℕ → Numbered → Numbered
 moved number offset s = cond (eqb s.number number) (record s { description = record s.description { offset = offset } }) s
 
-seen_moved : (o : Option Numbered) (D : Descriptors) (number offset q k : ℕ) (opened : OpenFileDescription) → description_numbered D.descriptions number ≡ Some opened → IsSeen o D q k → IsSeen (option_map (moved number offset) o) (with_offset D number opened offset) q k
+seen_moved : (o : Option Numbered) (D : Descriptors) (number offset q k : ℕ) (opened : OpenFileDescription)
+    → description_numbered D.descriptions number ≡ Some opened → IsSeen o D q k
+    → IsSeen (option_map (moved number offset) o) (with_offset D number opened offset) q k
 seen_moved o D number offset q k opened h h2 = grind (arith, common_steps, cases_eq, same_Some, eq-eqb, numbered_set_same, ne_eqb, numbered_set_other)
 
 -- a description gets another offset
-pub moved_offset : (v w : View) (D : Descriptors) (number offset : ℕ) (opened : OpenFileDescription) → ((q k : ℕ) → w.seen q k ≡ option_map (moved number offset) (v.seen q k)) → SameRest v w
+pub moved_offset : (v w : View) (D : Descriptors) (number offset : ℕ) (opened : OpenFileDescription)
+    → ((q k : ℕ) → w.seen q k ≡ option_map (moved number offset) (v.seen q k)) → SameRest v w
     → description_numbered D.descriptions number ≡ Some opened → ViewStandsFor v D → ViewStandsFor w (with_offset D number opened offset)
 moved_offset v w D number offset opened seen rest is h = grind (arith, common_steps, seen_moved, length-set)
 
 -- a file gets another size
-pub resized : (v w : View) (D : Descriptors) (file size : ℕ) → ((q k : ℕ) → w.seen q k ≡ v.seen q k) → w.made ≡ v.made → ((x : ℕ) → w.sizes x ≡ cond (eqb x file) size (v.sizes x)) → ((q : ℕ) → w.born q ≡ v.born q)
+pub resized : (v w : View) (D : Descriptors) (file size : ℕ) → ((q k : ℕ) → w.seen q k ≡ v.seen q k) → w.made ≡ v.made
+    → ((x : ℕ) → w.sizes x ≡ cond (eqb x file) size (v.sizes x)) → ((q : ℕ) → w.born q ≡ v.born q)
     → ViewStandsFor v D → ViewStandsFor w (with_size D file size)
 resized v w D file size seen made sizes born h = grind (arith, common_steps, seen_again)

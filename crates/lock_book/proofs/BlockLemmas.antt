@@ -28,11 +28,15 @@ use Rattle.lock_book.proofs.LoopLemmas.{next_in_loop, earlier_in_loop, later_in_
 use Rattle.lock_book.proofs.OwnerLemmas.{owner_cmp, same_owner, IsBefore-asymmetric, IsBefore-from_less}
 
 -- a process other than the owner blocks where its list has a hit
-pub ProcessBlocks-hit : (modes : ByteModes) (process : ℕ) (owner : Owner) (span : Span) (wanted : Mode) (hit : Option ℕ) → Process process ≢ owner → IfSome hit (IsFirstHit (modes (Process process)) span wanted) → IfNone hit ((byte : ℕ) → Covers span byte → ¬ HeldConflicts (modes (Process process) byte) wanted) → IsTrue (is_some hit) ↔ ProcessBlocks modes process owner span wanted
+pub ProcessBlocks-hit : (modes : ByteModes) (process : ℕ) (owner : Owner) (span : Span) (wanted : Mode) (hit : Option ℕ) → Process process ≢ owner
+    → IfSome hit (IsFirstHit (modes (Process process)) span wanted)
+    → IfNone hit ((byte : ℕ) → Covers span byte → ¬ HeldConflicts (modes (Process process) byte) wanted)
+    → IsTrue (is_some hit) ↔ ProcessBlocks modes process owner span wanted
 ProcessBlocks-hit modes process owner span wanted hit h h2 h3 = grind (arith, common_steps)
 
 -- one without a mode on any byte doesn't
-pub ProcessBlocks-none : (modes : ByteModes) (process : ℕ) (owner : Owner) (span : Span) (wanted : Mode) → modes (Process process) ≡ (λ byte. None) → ¬ ProcessBlocks modes process owner span wanted
+pub ProcessBlocks-none : (modes : ByteModes) (process : ℕ) (owner : Owner) (span : Span) (wanted : Mode) → modes (Process process) ≡ (λ byte. None)
+    → ¬ ProcessBlocks modes process owner span wanted
 ProcessBlocks-none modes process owner span wanted none conflict = rw none at conflict.blocks.conflicts
 
 -- an entry of a map of owners, as a loop over it gives it
@@ -63,12 +67,14 @@ module _ (modes : ByteModes) (owner : Owner) (span : Span) (wanted : Mode) where
   pub never_itself : (other : Owner) → other ≡ owner → NeverBlocks other
   never_itself other same byte covered blocks = blocks.another same
 
-  pub never_without_hit : (other : Owner) (hit : Option ℕ) → is_some hit ≡ false → IfNone hit ((byte : ℕ) → Covers span byte → ¬ HeldConflicts (modes other byte) wanted) → NeverBlocks other
+  pub never_without_hit : (other : Owner) (hit : Option ℕ) → is_some hit ≡ false
+      → IfNone hit ((byte : ℕ) → Covers span byte → ¬ HeldConflicts (modes other byte) wanted) → NeverBlocks other
   never_without_hit other None without none = never_from_none other none
   never_without_hit other (Some byte) without none = absurd (let h : true ≡ false = without in cc)
 
   -- another owner whose list has a hit is in the way
-  pub conflict_from_hit : (other : Owner) (hit : Option ℕ) → other ≢ owner → is_some hit ≡ true → IfSome hit (IsFirstHit (modes other) span wanted) → ByteConflict modes owner span wanted
+  pub conflict_from_hit : (other : Owner) (hit : Option ℕ) → other ≢ owner → is_some hit ≡ true → IfSome hit (IsFirstHit (modes other) span wanted)
+      → ByteConflict modes owner span wanted
   conflict_from_hit other None different has some = absurd (let h : false ≡ true = has in cc)
   conflict_from_hit other (Some byte) different has some = record {
     byte = byte;
@@ -78,7 +84,8 @@ module _ (modes : ByteModes) (owner : Owner) (span : Span) (wanted : Mode) where
   }
 
   -- one more entry that blocks nothing
-  pub least_skip : (items : List Item) (found : Option (ℕ × Owner)) (x : Item) → IsLeastSoFar items found → NeverBlocks x.0.now → IsLeastSoFar (items ++ x ∷ []) found
+  pub least_skip : (items : List Item) (found : Option (ℕ × Owner)) (x : Item) → IsLeastSoFar items found → NeverBlocks x.0.now
+      → IsLeastSoFar (items ++ x ∷ []) found
   least_skip items None x least never = All-push (λ y. NeverBlocks y.0.now) items x least never
   least_skip items (Some hit) x least never = record {
     covered = least.covered;
@@ -94,7 +101,8 @@ module _ (modes : ByteModes) (owner : Owner) (span : Span) (wanted : Mode) where
   before_in byte before covered from below = (from, let h = covered.1 in omega arith)
 
   -- the first entry that blocks
-  pub least_first : (items : List Item) (x : Item) (byte : ℕ) → IsLeastSoFar items None → x.0.now ≢ owner → IsFirstHit (modes x.0.now) span wanted byte → IsLeast (items ++ x ∷ []) byte x.0.now
+  pub least_first : (items : List Item) (x : Item) (byte : ℕ) → IsLeastSoFar items None → x.0.now ≢ owner
+      → IsFirstHit (modes x.0.now) span wanted byte → IsLeast (items ++ x ∷ []) byte x.0.now
   least_first items x byte never different hit = record {
     covered = hit.covered;
     blocks = record { another = different; conflicts = hit.hit };
@@ -110,7 +118,8 @@ module _ (modes : ByteModes) (owner : Owner) (span : Span) (wanted : Mode) where
   }
 
   -- one that blocks a lower byte
-  pub least_lower : (items : List Item) (found : ℕ × Owner) (x : Item) (byte : ℕ) → IsLeast items found.0 found.1 → x.0.now ≢ owner → IsFirstHit (modes x.0.now) span wanted byte → byte < found.0 → IsLeast (items ++ x ∷ []) byte x.0.now
+  pub least_lower : (items : List Item) (found : ℕ × Owner) (x : Item) (byte : ℕ) → IsLeast items found.0 found.1 → x.0.now ≢ owner
+      → IsFirstHit (modes x.0.now) span wanted byte → byte < found.0 → IsLeast (items ++ x ∷ []) byte x.0.now
   least_lower items found x byte least different hit lower = record {
     covered = hit.covered;
     blocks = record { another = different; conflicts = hit.hit };
@@ -126,7 +135,8 @@ module _ (modes : ByteModes) (owner : Owner) (span : Span) (wanted : Mode) where
   }
 
   -- one that blocks no lower byte, of a later owner
-  pub least_not_lower : (items : List Item) (found : ℕ × Owner) (x : Item) (byte : ℕ) → IsLeast items found.0 found.1 → IsFirstHit (modes x.0.now) span wanted byte → found.0 ≤ byte → All (λ y. IsBefore y.0.now x.0.now) items → IsLeast (items ++ x ∷ []) found.0 found.1
+  pub least_not_lower : (items : List Item) (found : ℕ × Owner) (x : Item) (byte : ℕ) → IsLeast items found.0 found.1
+      → IsFirstHit (modes x.0.now) span wanted byte → found.0 ≤ byte → All (λ y. IsBefore y.0.now x.0.now) items → IsLeast (items ++ x ∷ []) found.0 found.1
   least_not_lower items found x byte least hit not_lower earlier = record {
     covered = least.covered;
     blocks = least.blocks;
@@ -143,36 +153,45 @@ module _ (modes : ByteModes) (owner : Owner) (span : Span) (wanted : Mode) where
   }
 
   -- one that blocks before what is found so far, if anything is
-  pub least_replaces : (items : List Item) (found : Option (ℕ × Owner)) (x : Item) (byte : ℕ) → IsLeastSoFar items found → x.0.now ≢ owner → IsFirstHit (modes x.0.now) span wanted byte → MatchOption found (IsTrue true) (λ hit. true ≡ nat_lt byte hit.0) → IsLeast (items ++ x ∷ []) byte x.0.now
+  pub least_replaces : (items : List Item) (found : Option (ℕ × Owner)) (x : Item) (byte : ℕ) → IsLeastSoFar items found → x.0.now ≢ owner
+      → IsFirstHit (modes x.0.now) span wanted byte → MatchOption found (IsTrue true) (λ hit. true ≡ nat_lt byte hit.0) → IsLeast (items ++ x ∷ []) byte x.0.now
   least_replaces items None x byte least different hit lower = least_first items x byte least different hit
   least_replaces items (Some found) x byte least different hit lower =
       least_lower items found x byte least different hit (ltb-true byte found.0 (sym lower))
 
   -- one that doesn't
-  pub least_stays : (items : List Item) (found : Option (ℕ × Owner)) (x : Item) (byte : ℕ) → IsLeastSoFar items found → IsFirstHit (modes x.0.now) span wanted byte → All (λ y. IsBefore y.0.now x.0.now) items → MatchOption found (IsTrue false) (λ hit. false ≡ nat_lt byte hit.0) → IsLeastSoFar (items ++ x ∷ []) found
+  pub least_stays : (items : List Item) (found : Option (ℕ × Owner)) (x : Item) (byte : ℕ) → IsLeastSoFar items found
+      → IsFirstHit (modes x.0.now) span wanted byte → All (λ y. IsBefore y.0.now x.0.now) items
+      → MatchOption found (IsTrue false) (λ hit. false ≡ nat_lt byte hit.0) → IsLeastSoFar (items ++ x ∷ []) found
   least_stays items None x byte least hit earlier lower = absurd (let h : false ≡ true = lower in cc)
   least_stays items (Some found) x byte least hit earlier lower =
       least_not_lower items found x byte least hit (ltb-false byte found.0 (sym lower)) earlier
 
 -- the next entry of a loop has its owner's modes
-pub modes_in_loop : (book : Book) (items : List Item) (s t u : List (Owner × RangeList)) (r : Option Item) (x : Item) → s ≡ book.owners.entries → Yields (TakesFirst deref_pair) s items t → r ≡ Some x → TakesFirst deref_pair t r u → All (λ e. get owner_cmp book.owners e.0 ≡ Some e.1) book.owners.entries → byte_modes_of book x.0.now ≡ modes_of x.1.now
+pub modes_in_loop : (book : Book) (items : List Item) (s t u : List (Owner × RangeList)) (r : Option Item) (x : Item) → s ≡ book.owners.entries
+    → Yields (TakesFirst deref_pair) s items t → r ≡ Some x → TakesFirst deref_pair t r u
+    → All (λ e. get owner_cmp book.owners e.0 ≡ Some e.1) book.owners.entries → byte_modes_of book x.0.now ≡ modes_of x.1.now
 modes_in_loop book items s t u r x start yields is step all =
     byte_modes_of-list book x.0.now (Some x.1.now)
     (list_of-get book x.0.now ∙ next_in_loop (λ e. get owner_cmp book.owners e.0 ≡ Some e.1) book.owners.entries items s t u r x start yields is step all)
 
 -- and comes after the entries so far
-pub before_in_loop : (book : Book) (items : List Item) (s t u : List (Owner × RangeList)) (r : Option Item) (x : Item) → s ≡ book.owners.entries → Yields (TakesFirst deref_pair) s items t → r ≡ Some x → TakesFirst deref_pair t r u → IsOrdered owner_cmp book.owners → All (λ y. IsBefore y.0.now x.0.now) items
+pub before_in_loop : (book : Book) (items : List Item) (s t u : List (Owner × RangeList)) (r : Option Item) (x : Item) → s ≡ book.owners.entries
+    → Yields (TakesFirst deref_pair) s items t → r ≡ Some x → TakesFirst deref_pair t r u → IsOrdered owner_cmp book.owners
+    → All (λ y. IsBefore y.0.now x.0.now) items
 before_in_loop book items s t u r x start yields is step ordered = search (rules, All-weaker, owner_cmp, IsBefore-from_less, earlier_in_loop)
 
 -- what holds of each entry's owner holds of each owner with a list
-pub owner_in : (book : Book) (items : List Item) (P : Owner → Type 0) → map deref_pair items ≡ book.owners.entries → All (λ x. P x.0.now) items → (other : Owner) (list : RangeList) → list_of book other ≡ Some list → P other
+pub owner_in : (book : Book) (items : List Item) (P : Owner → Type 0) → map deref_pair items ≡ book.owners.entries → All (λ x. P x.0.now) items
+    → (other : Owner) (list : RangeList) → list_of book other ≡ Some list → P other
 unfolding list_of
 owner_in book items P whole all other list found =
     let entry = found_in_loop (λ e. P e.0) book.owners.entries items whole all (is_same_owner other) list found in
     subst P (sym (same_owner other entry.0 entry.1)) entry.2
 
 -- and no owner has a mode where no entry's has
-pub no_modes : (book : Book) (items : List Item) → map deref_pair items ≡ book.owners.entries → All (λ x. (byte : ℕ) → byte_modes_of book x.0.now byte ≡ None) items → (owner : Owner) (byte : ℕ) → byte_modes_of book owner byte ≡ None
+pub no_modes : (book : Book) (items : List Item) → map deref_pair items ≡ book.owners.entries
+    → All (λ x. (byte : ℕ) → byte_modes_of book x.0.now byte ≡ None) items → (owner : Owner) (byte : ℕ) → byte_modes_of book owner byte ≡ None
 no_modes book items whole none owner byte = elim (list_of book owner) as (λ l. list_of book owner ≡ l → byte_modes_of book owner byte ≡ None) [
   | None ↦ λ is. ap (λ (modes : ℕ → Option Mode). modes byte) (byte_modes_of-list book owner None is)
   | Some list ↦ λ is. owner_in book items (λ o. (b : ℕ) → byte_modes_of book o b ≡ None) whole none owner list is byte
@@ -183,20 +202,24 @@ pub list_in : (list : Option RangeList) (byte : ℕ) (wanted : Mode) → HeldCon
 list_in None byte wanted conflicts = absurd conflicts
 list_in (Some list) byte wanted conflicts = (list, refl)
 
-pub blocked_in : (book : Book) (items : List Item) (P : Owner → Type 0) → map deref_pair items ≡ book.owners.entries → All (λ x. P x.0.now) items → (owner other : Owner) (wanted : Mode) (byte : ℕ) → Blocks (byte_modes_of book) owner wanted byte other → P other
+pub blocked_in : (book : Book) (items : List Item) (P : Owner → Type 0) → map deref_pair items ≡ book.owners.entries → All (λ x. P x.0.now) items
+    → (owner other : Owner) (wanted : Mode) (byte : ℕ) → Blocks (byte_modes_of book) owner wanted byte other → P other
 unfolding byte_modes_of
 blocked_in book items P whole all owner other wanted byte b =
     let list = list_in (list_of book other) byte wanted b.conflicts in
     owner_in book items P whole all other list.0 list.1
 
 -- where no entry blocks nothing does
-pub least_none : (book : Book) (items : List Item) (owner : Owner) (span : Span) (wanted : Mode) → map deref_pair items ≡ book.owners.entries → IsLeastSoFar (byte_modes_of book) owner span wanted items None → ¬ ByteConflict (byte_modes_of book) owner span wanted
+pub least_none : (book : Book) (items : List Item) (owner : Owner) (span : Span) (wanted : Mode) → map deref_pair items ≡ book.owners.entries
+    → IsLeastSoFar (byte_modes_of book) owner span wanted items None → ¬ ByteConflict (byte_modes_of book) owner span wanted
 least_none book items owner span wanted whole never conflict =
     blocked_in book items (NeverBlocks (byte_modes_of book) owner span wanted) whole never owner conflict.other wanted conflict.byte conflict.blocks
     conflict.byte conflict.covered conflict.blocks
 
 -- the least of all entries is the first
-least_some : (book : Book) (items : List Item) (owner : Owner) (span : Span) (wanted : Mode) (byte : ℕ) (other : Owner) → map deref_pair items ≡ book.owners.entries → IsLeast (byte_modes_of book) owner span wanted items byte other → IsFirstBlocked (byte_modes_of book) owner span wanted byte other
+least_some : (book : Book) (items : List Item) (owner : Owner) (span : Span) (wanted : Mode) (byte : ℕ) (other : Owner)
+    → map deref_pair items ≡ book.owners.entries → IsLeast (byte_modes_of book) owner span wanted items byte other
+    → IsFirstBlocked (byte_modes_of book) owner span wanted byte other
 least_some book items owner span wanted byte other whole least = record {
   covered = least.covered;
   blocks = least.blocks;
@@ -209,16 +232,23 @@ least_some book items owner span wanted byte other whole least = record {
 }
 
 -- what was found among all entries
-pub none_from_least : (book : Book) (items : List Item) (owner : Owner) (span : Span) (wanted : Mode) (found : Option (ℕ × Owner)) → map deref_pair items ≡ book.owners.entries → IsLeastSoFar (byte_modes_of book) owner span wanted items found → IfNone found (¬ ByteConflict (byte_modes_of book) owner span wanted)
+pub none_from_least : (book : Book) (items : List Item) (owner : Owner) (span : Span) (wanted : Mode) (found : Option (ℕ × Owner))
+    → map deref_pair items ≡ book.owners.entries → IsLeastSoFar (byte_modes_of book) owner span wanted items found
+    → IfNone found (¬ ByteConflict (byte_modes_of book) owner span wanted)
 none_from_least book items owner span wanted None whole least = least_none book items owner span wanted whole least
 none_from_least book items owner span wanted (Some hit) whole least = tt
 
-pub first_from_least : (book : Book) (items : List Item) (owner : Owner) (span : Span) (wanted : Mode) (found : Option (ℕ × Owner)) → map deref_pair items ≡ book.owners.entries → IsLeastSoFar (byte_modes_of book) owner span wanted items found → IfSome found (λ hit. IsFirstBlocked (byte_modes_of book) owner span wanted hit.0 hit.1)
+pub first_from_least : (book : Book) (items : List Item) (owner : Owner) (span : Span) (wanted : Mode) (found : Option (ℕ × Owner))
+    → map deref_pair items ≡ book.owners.entries → IsLeastSoFar (byte_modes_of book) owner span wanted items found
+    → IfSome found (λ hit. IsFirstBlocked (byte_modes_of book) owner span wanted hit.0 hit.1)
 first_from_least book items owner span wanted None whole least = tt
 first_from_least book items owner span wanted (Some hit) whole least = least_some book items owner span wanted hit.0 hit.1 whole least
 
 -- the least of the entries so far at the first byte of the range is the first, since those that are left come later
-pub first_at_start : (book : Book) (items : List Item) (s t u : List (Owner × RangeList)) (r : Option Item) (x : Item) → s ≡ book.owners.entries → Yields (TakesFirst deref_pair) s items t → r ≡ Some x → TakesFirst deref_pair t r u → IsOrdered owner_cmp book.owners → (owner : Owner) (span : Span) (wanted : Mode) (byte : ℕ) → byte ≡ span.first → IsLeast (byte_modes_of book) owner span wanted (items ++ x ∷ []) byte x.0.now → IsFirstBlocked (byte_modes_of book) owner span wanted byte x.0.now
+pub first_at_start : (book : Book) (items : List Item) (s t u : List (Owner × RangeList)) (r : Option Item) (x : Item) → s ≡ book.owners.entries
+    → Yields (TakesFirst deref_pair) s items t → r ≡ Some x → TakesFirst deref_pair t r u → IsOrdered owner_cmp book.owners
+    → (owner : Owner) (span : Span) (wanted : Mode) (byte : ℕ) → byte ≡ span.first
+    → IsLeast (byte_modes_of book) owner span wanted (items ++ x ∷ []) byte x.0.now → IsFirstBlocked (byte_modes_of book) owner span wanted byte x.0.now
 unfolding byte_modes_of list_of
 first_at_start book items s t u r x start yields is step ordered owner span wanted byte at_start least = record {
   covered = least.covered;

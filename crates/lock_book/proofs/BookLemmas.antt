@@ -75,30 +75,37 @@ abbrev pub PutsAt : Book → BTreeMap Owner RangeList → Owner → Option Range
 PutsAt old owners owner list = (other : Owner) → lookup (is_same_owner other) owners.entries ≡ (if is_same_owner owner other then list else list_of old other)
 
 -- as an update of a book's owners makes them
-pub PutsAt-updates : (old : Book) (owners : BTreeMap Owner RangeList) (owner : Owner) (list : Option RangeList) → UpdatesBy owner_cmp (owner_cmp owner) old.owners owners list → PutsAt old owners owner list
+pub PutsAt-updates : (old : Book) (owners : BTreeMap Owner RangeList) (owner : Owner) (list : Option RangeList)
+    → UpdatesBy owner_cmp (owner_cmp owner) old.owners owners list → PutsAt old owners owner list
 PutsAt-updates old owners owner list updates other = grind (arith, common_steps, lookup-owner_cmp, owner_cmp, is_eq-owner_cmp, list_of-get)
 
 -- also of the owners that are left where they lent nothing
-pub PutsAt-adds : (old : Book) (was owners : BTreeMap Owner RangeList) (owner : Owner) (list : Option RangeList) → was ≡ old.owners → UpdatesBy owner_cmp (owner_cmp owner) was owners list → PutsAt old owners owner list
+pub PutsAt-adds : (old : Book) (was owners : BTreeMap Owner RangeList) (owner : Owner) (list : Option RangeList) → was ≡ old.owners
+    → UpdatesBy owner_cmp (owner_cmp owner) was owners list → PutsAt old owners owner list
 PutsAt-adds old was owners owner list same updates =
     PutsAt-updates old owners owner list (subst (λ (m : BTreeMap Owner RangeList). UpdatesBy owner_cmp (owner_cmp owner) m owners list) same updates)
 
 -- in a book with these owners
-pub PutsList-puts : (old new : Book) (owner : Owner) (list : Option RangeList) → new.flocks ≡ old.flocks → PutsAt old new.owners owner list → PutsList old new owner list
+pub PutsList-puts : (old new : Book) (owner : Owner) (list : Option RangeList) → new.flocks ≡ old.flocks → PutsAt old new.owners owner list
+    → PutsList old new owner list
 unfolding list_of place_of
 PutsList-puts old new owner list same puts = grind (arith, common_steps)
 
 -- the list that a map lends is the owner's
-pub list_of-lent : (book : Book) (owner : Owner) (lent : Option (MutBor RangeList)) (list : MutBor RangeList) → option_copied_mut lent ≡ get owner_cmp book.owners owner → lent ≡ Some list → list_of book owner ≡ Some list.now
+pub list_of-lent : (book : Book) (owner : Owner) (lent : Option (MutBor RangeList)) (list : MutBor RangeList)
+    → option_copied_mut lent ≡ get owner_cmp book.owners owner → lent ≡ Some list → list_of book owner ≡ Some list.now
 list_of-lent book owner lent list value is = list_of-get book owner ∙ sym value ∙ ap option_copied_mut is
 
-pub list_of-not_lent : (book : Book) (owner : Owner) (lent : Option (MutBor RangeList)) → option_copied_mut lent ≡ get owner_cmp book.owners owner → lent ≡ None → list_of book owner ≡ None
+pub list_of-not_lent : (book : Book) (owner : Owner) (lent : Option (MutBor RangeList)) → option_copied_mut lent ≡ get owner_cmp book.owners owner
+    → lent ≡ None → list_of book owner ≡ None
 list_of-not_lent book owner lent value is = list_of-get book owner ∙ sym value ∙ ap option_copied_mut is
 
-pub list_of-found : (book : Book) (owner : Owner) (found : Option (Bor RangeList)) (list : Bor RangeList) → option_copied found ≡ get owner_cmp book.owners owner → found ≡ Some list → list_of book owner ≡ Some list.now
+pub list_of-found : (book : Book) (owner : Owner) (found : Option (Bor RangeList)) (list : Bor RangeList)
+    → option_copied found ≡ get owner_cmp book.owners owner → found ≡ Some list → list_of book owner ≡ Some list.now
 list_of-found book owner found list value is = list_of-get book owner ∙ sym value ∙ ap option_copied is
 
-pub list_of-not_found : (book : Book) (owner : Owner) (found : Option (Bor RangeList)) → option_copied found ≡ get owner_cmp book.owners owner → found ≡ None → list_of book owner ≡ None
+pub list_of-not_found : (book : Book) (owner : Owner) (found : Option (Bor RangeList)) → option_copied found ≡ get owner_cmp book.owners owner
+    → found ≡ None → list_of book owner ≡ None
 list_of-not_found book owner found value is = list_of-get book owner ∙ sym value ∙ ap option_copied is
 
 -- the owner's modes are those of its list
@@ -107,11 +114,14 @@ unfolding byte_modes_of
 byte_modes_of-list book owner list is = ap modes_in_list is
 
 -- and a write through it puts a list in its place
-pub PutsAt-writes : (old : Book) (owners : BTreeMap Owner RangeList) (owner : Owner) (before list : RangeList) → WritesThrough owner_cmp (owner_cmp owner) old.owners list owners → list_of old owner ≡ Some before → PutsAt old owners owner (Some list)
+pub PutsAt-writes : (old : Book) (owners : BTreeMap Owner RangeList) (owner : Owner) (before list : RangeList)
+    → WritesThrough owner_cmp (owner_cmp owner) old.owners list owners → list_of old owner ≡ Some before → PutsAt old owners owner (Some list)
 PutsAt-writes old owners owner before list writes was = grind (arith, common_steps, owner_cmp, list_of-get, PutsAt-updates)
 
 -- so it is where the owners lent the list
-pub list_written : (book : Book) (owners : BTreeMap Owner RangeList) (owner : Owner) (lent : Option (MutBor RangeList)) (list : MutBor RangeList) (after : RangeList) → option_copied_mut lent ≡ get owner_cmp book.owners owner → lent ≡ Some list → WritesThrough owner_cmp (owner_cmp owner) book.owners after owners → (list_of book owner ≡ Some list.now) × PutsAt book owners owner (Some after)
+pub list_written : (book : Book) (owners : BTreeMap Owner RangeList) (owner : Owner) (lent : Option (MutBor RangeList)) (list : MutBor RangeList)
+    (after : RangeList) → option_copied_mut lent ≡ get owner_cmp book.owners owner → lent ≡ Some list
+    → WritesThrough owner_cmp (owner_cmp owner) book.owners after owners → (list_of book owner ≡ Some list.now) × PutsAt book owners owner (Some after)
 list_written book owners owner lent list after value is writes =
     let was = list_of-lent book owner lent list value is in (was, PutsAt-writes book owners owner list.now after writes was)
 
@@ -120,7 +130,8 @@ update_removed : (same : Bool) (list rest : Option RangeList) → cond same None
 update_removed true list rest = refl
 update_removed false list rest = refl
 
-pub PutsAt-removes : (old : Book) (owners removed : BTreeMap Owner RangeList) (owner : Owner) (list : Option RangeList) → PutsAt old owners owner list → UpdatesBy owner_cmp (owner_cmp owner) owners removed None → PutsAt old removed owner None
+pub PutsAt-removes : (old : Book) (owners removed : BTreeMap Owner RangeList) (owner : Owner) (list : Option RangeList)
+    → PutsAt old owners owner list → UpdatesBy owner_cmp (owner_cmp owner) owners removed None → PutsAt old removed owner None
 PutsAt-removes old owners removed owner list puts updates other =
     sym (lookup-owner_cmp other removed.entries) ∙ updates.0 other
     ∙ ap (λ b. cond b None (get owner_cmp owners other)) (is_eq-owner_cmp owner other)
@@ -128,7 +139,8 @@ PutsAt-removes old owners removed owner list puts updates other =
     ∙ update_removed (is_same_owner owner other) list (list_of old other)
 
 -- what holds of each list still does, where it holds of the one that was put
-pub EachList-puts : (P : RangeList → Type 0) (old : Book) (owners : BTreeMap Owner RangeList) (owner : Owner) (after : Option RangeList) → EachList P old.owners.entries → PutsAt old owners owner after → ((list : RangeList) → after ≡ Some list → P list) → EachList P owners.entries
+pub EachList-puts : (P : RangeList → Type 0) (old : Book) (owners : BTreeMap Owner RangeList) (owner : Owner) (after : Option RangeList)
+    → EachList P old.owners.entries → PutsAt old owners owner after → ((list : RangeList) → after ≡ Some list → P list) → EachList P owners.entries
 unfolding list_of
 EachList-puts P old owners owner after each puts holds other list found = elim (cases_Bool (is_same_owner owner other)) [
   | inl same ↦
@@ -142,10 +154,12 @@ EachList-puts P old owners owner after each puts holds other list found = elim (
 same_list : (one other : RangeList) → Some one ≡ Some other → one ≡ other
 same_list one other e = cc
 
-pub EachList-list : (P : RangeList → Type 0) (old : Book) (owners : BTreeMap Owner RangeList) (owner : Owner) (list : RangeList) → EachList P old.owners.entries → PutsAt old owners owner (Some list) → P list → EachList P owners.entries
+pub EachList-list : (P : RangeList → Type 0) (old : Book) (owners : BTreeMap Owner RangeList) (owner : Owner) (list : RangeList)
+    → EachList P old.owners.entries → PutsAt old owners owner (Some list) → P list → EachList P owners.entries
 EachList-list P old owners owner list each puts holds = EachList-puts P old owners owner (Some list) each puts (λ other e. subst P (same_list list other e) holds)
 
-pub EachList-removed : (P : RangeList → Type 0) (old : Book) (owners : BTreeMap Owner RangeList) (owner : Owner) → EachList P old.owners.entries → PutsAt old owners owner None → EachList P owners.entries
+pub EachList-removed : (P : RangeList → Type 0) (old : Book) (owners : BTreeMap Owner RangeList) (owner : Owner) → EachList P old.owners.entries
+    → PutsAt old owners owner None → EachList P owners.entries
 EachList-removed P old owners owner each puts = EachList-puts P old owners owner None each puts (λ list e. absurd (let h : None ≡ Some list = e in cc))
 
 -- owners that lent nothing are the same
@@ -153,14 +167,18 @@ pub EachList-left : (P : RangeList → Type 0) (was owners : BTreeMap Owner Rang
 EachList-left P was owners same each = subst (λ (m : BTreeMap Owner RangeList). EachList P m.entries) (sym same) each
 
 -- also where an insertion may have been refused
-pub EachList-insert : {T E : Type 0} (P : RangeList → Type 0) (old : Book) (was owners : BTreeMap Owner RangeList) (owner : Owner) (list : RangeList) (r : Result T E) → EachList P old.owners.entries → was ≡ old.owners → OnOk r (UpdatesBy owner_cmp (owner_cmp owner) was owners (Some list)) → OnErr r (owners.entries ≡ was.entries) → P list → EachList P owners.entries
+pub EachList-insert : {T E : Type 0} (P : RangeList
+    → Type 0) (old : Book) (was owners : BTreeMap Owner RangeList) (owner : Owner) (list : RangeList) (r : Result T E)
+    → EachList P old.owners.entries → was ≡ old.owners → OnOk r (UpdatesBy owner_cmp (owner_cmp owner) was owners (Some list))
+    → OnErr r (owners.entries ≡ was.entries) → P list → EachList P owners.entries
 EachList-insert P old was owners owner list (Ok x) each same updates kept holds = EachList-list P old owners owner list each (PutsAt-adds old was owners owner (Some list) same updates) holds
 EachList-insert P old was owners owner list (Err e) each same updates kept holds =
     let entries : owners.entries ≡ old.owners.entries = kept ∙ ap (λ (m : BTreeMap Owner RangeList). m.entries) same in
     λ other there found. each other there (ap (λ (es : List (Owner × RangeList)). lookup (is_same_owner other) es) (sym entries) ∙ found)
 
 -- a list of a book is in use, and so is one with no fewer modes and no less room
-pub still_in_use : (book : Book) (owner : Owner) (before list : RangeList) → list_of book owner ≡ Some before → ((byte : ℕ) → modes_of list byte ≡ modes_of before byte) → room_of before ≤ room_of list → ¬ IsIdle list
+pub still_in_use : (book : Book) (owner : Owner) (before list : RangeList) → list_of book owner ≡ Some before
+    → ((byte : ℕ) → modes_of list byte ≡ modes_of before byte) → room_of before ≤ room_of list → ¬ IsIdle list
 unfolding list_of
 still_in_use book owner before list was modes room idle = grind (arith, common_steps)
 
@@ -172,7 +190,8 @@ covers_first span range = grind (arith, nat_tests)
 pub in_use_by_room : (list : RangeList) → 1 ≤ room_of list → ¬ IsIdle list
 in_use_by_room list room idle = let empty = idle.no_room in omega arith
 
-pub in_use_by_mode : (old : Modes) (list : RangeList) (span : Span) (mode : Option Mode) → IsByteRange span → is_some mode ≡ true → SetsMode old (modes_of list) span mode → ¬ IsIdle list
+pub in_use_by_mode : (old : Modes) (list : RangeList) (span : Span) (mode : Option Mode) → IsByteRange span → is_some mode ≡ true
+    → SetsMode old (modes_of list) span mode → ¬ IsIdle list
 in_use_by_mode old list span None range some sets idle = let h : false ≡ true = some in cc
 in_use_by_mode old list span (Some mode) range some sets idle =
     let covered : is_covered span span.first ≡ true = covers_first span range in
@@ -181,12 +200,14 @@ in_use_by_mode old list span (Some mode) range some sets idle =
     cc
 
 -- so is an update of the places of flock locks
-pub PutsPlace-puts : (old new : Book) (description : ℕ) (place : Option (Option Mode)) → new.owners ≡ old.owners → PutsAmong old.flocks.places.entries new.flocks.places.entries description place → PutsPlace old new description place
+pub PutsPlace-puts : (old new : Book) (description : ℕ) (place : Option (Option Mode)) → new.owners ≡ old.owners
+    → PutsAmong old.flocks.places.entries new.flocks.places.entries description place → PutsPlace old new description place
 unfolding list_of place_of
 PutsPlace-puts old new description place same puts = grind (arith, common_steps)
 
 -- every other owner's list stays
-list_apart : (old new : Book) (owner other : Owner) (list : Option RangeList) → PutsList old new owner list → other ≢ owner → list_of new other ≡ list_of old other
+list_apart : (old new : Book) (owner other : Owner) (list : Option RangeList) → PutsList old new owner list → other ≢ owner
+    → list_of new other ≡ list_of old other
 list_apart old new owner other list puts different =
     puts.lists other ∙ ap (λ b. cond b list (list_of old other)) (different_owner owner other different)
 
@@ -201,31 +222,38 @@ unfolding room_in
 room_in-list book owner list is = ap room_in_list is
 
 -- the room that is left where a list was put
-pub room_left : (old new : Book) (owner : Owner) (before after : Option RangeList) (used : ℕ) → PutsList old new owner after → list_of old owner ≡ before → room_in_list before ≤ room_in_list after + used → room_in old owner ≤ room_in new owner + used
+pub room_left : (old new : Book) (owner : Owner) (before after : Option RangeList) (used : ℕ) → PutsList old new owner after
+    → list_of old owner ≡ before → room_in_list before ≤ room_in_list after + used → room_in old owner ≤ room_in new owner + used
 room_left old new owner before after used puts was room = grind (arith, common_steps, room_in-puts, room_in-list)
 
 -- a list put for the owner that has the mode on just the range sets it in the book
-pub SetsOwnerMode-puts : (old new : Book) (owner : Owner) (before after : Option RangeList) (span : Span) (mode : Option Mode) → PutsList old new owner after → list_of old owner ≡ before → SetsMode (modes_in_list before) (modes_in_list after) span mode → SetsOwnerMode old new owner span mode
+pub SetsOwnerMode-puts : (old new : Book) (owner : Owner) (before after : Option RangeList) (span : Span) (mode : Option Mode)
+    → PutsList old new owner after → list_of old owner ≡ before → SetsMode (modes_in_list before) (modes_in_list after) span mode
+    → SetsOwnerMode old new owner span mode
 unfolding byte_modes_of room_in flock_modes_of has_flock_place
 SetsOwnerMode-puts old new owner before after span mode puts was sets = grind (arith, common_steps, cases_Bool, same_owner, list_apart)
 
 -- without a list there is nothing to unlock
-sets_nothing : (book : Book) (owner : Owner) (span : Span) (mode : Option Mode) → list_of book owner ≡ None → mode ≡ None → SetsOwnerMode book book owner span mode
+sets_nothing : (book : Book) (owner : Owner) (span : Span) (mode : Option Mode) → list_of book owner ≡ None → mode ≡ None
+    → SetsOwnerMode book book owner span mode
 unfolding byte_modes_of
 sets_nothing book owner span mode none unlock = grind (arith, common_steps, cases_Bool, same_owner)
 
 -- a book with the same parts is the same for each definition
-pub SetsOwnerMode-nothing : (old new : Book) (owner : Owner) (span : Span) (mode : Option Mode) → new.owners ≡ old.owners → new.flocks ≡ old.flocks → list_of old owner ≡ None → mode ≡ None → SetsOwnerMode old new owner span mode
+pub SetsOwnerMode-nothing : (old new : Book) (owner : Owner) (span : Span) (mode : Option Mode) → new.owners ≡ old.owners → new.flocks ≡ old.flocks
+    → list_of old owner ≡ None → mode ≡ None → SetsOwnerMode old new owner span mode
 unfolding byte_modes_of room_in flock_modes_of has_flock_place list_of place_of
 SetsOwnerMode-nothing old new owner span mode owners flocks none unlock = grind (arith, common_steps, sets_nothing)
 
 -- one with the same modes changes the owner's room alone
-pub SameButRoom-puts : (old new : Book) (owner : Owner) (before : Option RangeList) (list : RangeList) → PutsList old new owner (Some list) → list_of old owner ≡ before → ((byte : ℕ) → modes_of list byte ≡ modes_in_list before byte) → SameButRoom old new owner
+pub SameButRoom-puts : (old new : Book) (owner : Owner) (before : Option RangeList) (list : RangeList) → PutsList old new owner (Some list)
+    → list_of old owner ≡ before → ((byte : ℕ) → modes_of list byte ≡ modes_in_list before byte) → SameButRoom old new owner
 unfolding byte_modes_of room_in flock_modes_of has_flock_place
 SameButRoom-puts old new owner before list puts was same_modes = grind (arith, common_steps, cases_Bool, same_owner, list_apart)
 
 -- and one with the same room too changes nothing
-pub SameBook-puts : (old new : Book) (owner : Owner) (before list : RangeList) → PutsList old new owner (Some list) → list_of old owner ≡ Some before → ((byte : ℕ) → modes_of list byte ≡ modes_of before byte) → room_of list ≡ room_of before → SameBook old new
+pub SameBook-puts : (old new : Book) (owner : Owner) (before list : RangeList) → PutsList old new owner (Some list) → list_of old owner ≡ Some before
+    → ((byte : ℕ) → modes_of list byte ≡ modes_of before byte) → room_of list ≡ room_of before → SameBook old new
 unfolding room_in
 SameBook-puts old new owner before list puts was same_modes same_room = grind (arith, common_steps, SameButRoom-puts, cases_Bool, same_owner)
 
@@ -235,12 +263,14 @@ unfolding byte_modes_of room_in flock_modes_of has_flock_place
 ReleasesOwner-puts old new owner puts = grind (arith, common_steps, cases_Bool)
 
 -- a place put for the description with a mode sets it in the book, where there is a mode or the place was there
-pub SetsFlock-puts : (old new : Book) (description : ℕ) (mode : Option Mode) → (is_some mode || has_flock_place old description) ≡ true → PutsPlace old new description (Some mode) → SetsFlock old new description mode
+pub SetsFlock-puts : (old new : Book) (description : ℕ) (mode : Option Mode) → (is_some mode || has_flock_place old description) ≡ true
+    → PutsPlace old new description (Some mode) → SetsFlock old new description mode
 unfolding byte_modes_of room_in flock_modes_of has_flock_place
 SetsFlock-puts old new description mode asked puts = grind (arith, common_steps, cases_Bool, eqb-true)
 
 -- an empty place put for a description without one reserves it
-pub ReservesFlock-puts : (old new : Book) (description : ℕ) → PutsPlace old new description (Some None) → place_of old description ≡ None → ReservesFlock old new description
+pub ReservesFlock-puts : (old new : Book) (description : ℕ) → PutsPlace old new description (Some None) → place_of old description ≡ None
+    → ReservesFlock old new description
 unfolding byte_modes_of room_in flock_modes_of has_flock_place
 ReservesFlock-puts old new description puts was = grind (arith, common_steps, cases_Bool, eqb-true)
 
@@ -250,19 +280,23 @@ unfolding byte_modes_of room_in flock_modes_of has_flock_place
 ReleasesFlock-puts old new description puts = grind (arith, common_steps, cases_Bool)
 
 -- what a map's removal leaves
-pub owner_released : (old new : Book) (owner : Owner) → new.flocks ≡ old.flocks → UpdatesBy owner_cmp (owner_cmp owner) old.owners new.owners None → ReleasesOwner old new owner
+pub owner_released : (old new : Book) (owner : Owner) → new.flocks ≡ old.flocks → UpdatesBy owner_cmp (owner_cmp owner) old.owners new.owners None
+    → ReleasesOwner old new owner
 owner_released old new owner same updates = ReleasesOwner-puts _ _ _ (PutsList-puts old new owner None same (PutsAt-updates old new.owners owner None updates))
 
-pub flock_released : (old new : Book) (description : ℕ) → new.owners ≡ old.owners → PutsAmong old.flocks.places.entries new.flocks.places.entries description None → ReleasesFlock old new description
+pub flock_released : (old new : Book) (description : ℕ) → new.owners ≡ old.owners
+    → PutsAmong old.flocks.places.entries new.flocks.places.entries description None → ReleasesFlock old new description
 flock_released old new description same puts = ReleasesFlock-puts _ _ _ (PutsPlace-puts old new description None same puts)
 
 -- a list without a mode, with the room that there was, put for the owner clears it
-pub ClearsOwner-puts : (old new : Book) (owner : Owner) (before after : Option RangeList) → PutsList old new owner after → list_of old owner ≡ before → ((byte : ℕ) → modes_in_list after byte ≡ None) → room_in_list after ≡ room_in_list before → ClearsOwner old new owner
+pub ClearsOwner-puts : (old new : Book) (owner : Owner) (before after : Option RangeList) → PutsList old new owner after → list_of old owner ≡ before
+    → ((byte : ℕ) → modes_in_list after byte ≡ None) → room_in_list after ≡ room_in_list before → ClearsOwner old new owner
 unfolding byte_modes_of room_in flock_modes_of has_flock_place
 ClearsOwner-puts old new owner before after puts was free room = grind (arith, common_steps, cases_Bool, same_owner)
 
 -- an owner without a list is clear
-pub ClearsOwner-nothing : (old new : Book) (owner : Owner) → new.owners ≡ old.owners → new.flocks ≡ old.flocks → list_of old owner ≡ None → ClearsOwner old new owner
+pub ClearsOwner-nothing : (old new : Book) (owner : Owner) → new.owners ≡ old.owners → new.flocks ≡ old.flocks → list_of old owner ≡ None
+    → ClearsOwner old new owner
 unfolding list_of place_of
 ClearsOwner-nothing old new owner owners flocks none =
     ClearsOwner-puts old new owner None None

@@ -28,7 +28,8 @@ held_or_not : (held : Option Mode) (wanted : Mode) → HeldConflicts held wanted
 held_or_not held wanted = grind (arith, common_steps)
 
 -- whether another owner's lock on a byte stands in the way
-blocks_or_not : (modes : ByteModes) (owner : Owner) (wanted : Mode) (byte : ℕ) (other : Owner) → Blocks modes owner wanted byte other ⊎ ¬ Blocks modes owner wanted byte other
+blocks_or_not : (modes : ByteModes) (owner : Owner) (wanted : Mode) (byte : ℕ) (other : Owner)
+    → Blocks modes owner wanted byte other ⊎ ¬ Blocks modes owner wanted byte other
 blocks_or_not modes owner wanted byte other = grind (arith, common_steps, same_or_other, held_or_not)
 
 -- a number of which something holds, among so many from the first on
@@ -38,7 +39,8 @@ record Among (P : ℕ → Type 0) (first count : ℕ) : Type 0 where
   below : number < first + count
   holds : P number
 
-one_more : (P : ℕ → Type 0) (first count : ℕ) → P (first + count) ⊎ ¬ P (first + count) → ¬ Among P first count → Among P first (suc count) ⊎ ¬ Among P first (suc count)
+one_more : (P : ℕ → Type 0) (first count : ℕ) → P (first + count) ⊎ ¬ P (first + count) → ¬ Among P first count
+    → Among P first (suc count) ⊎ ¬ Among P first (suc count)
 one_more P first count h h2 = grind (arith, common_steps, cases_eq)
 
 among_or_not : (P : ℕ → Type 0) → ((n : ℕ) → P n ⊎ ¬ P n) → (first count : ℕ) → Among P first count ⊎ ¬ Among P first count
@@ -55,7 +57,8 @@ record BlocksIn (modes : ByteModes) (owner : Owner) (span : Span) (wanted : Mode
   blocks : Blocks modes owner wanted byte other
 
 -- whether it does, by a search of the bytes of the range
-blocks_in_or_not : (modes : ByteModes) (owner : Owner) (span : Span) (wanted : Mode) (other : Owner) → BlocksIn modes owner span wanted other ⊎ ¬ BlocksIn modes owner span wanted other
+blocks_in_or_not : (modes : ByteModes) (owner : Owner) (span : Span) (wanted : Mode) (other : Owner)
+    → BlocksIn modes owner span wanted other ⊎ ¬ BlocksIn modes owner span wanted other
 blocks_in_or_not modes owner span wanted other =
     elim (among_or_not (λ byte. Blocks modes owner wanted byte other) (λ byte. blocks_or_not modes owner wanted byte other)
     span.first (suc span.last - span.first)) [
@@ -114,7 +117,8 @@ record HolderBlocks (book : Book) (owner : Owner) (wanted : Mode) (description :
   another : Description description ≢ owner
   conflicts : HeldConflicts (flock_modes_of book description) wanted
 
-holder_blocks_or_not : (book : Book) (owner : Owner) (wanted : Mode) (description : ℕ) → HolderBlocks book owner wanted description ⊎ ¬ HolderBlocks book owner wanted description
+holder_blocks_or_not : (book : Book) (owner : Owner) (wanted : Mode) (description : ℕ)
+    → HolderBlocks book owner wanted description ⊎ ¬ HolderBlocks book owner wanted description
 holder_blocks_or_not book owner wanted description = grind (arith, common_steps, same_or_other, held_or_not)
 
 -- a description with a flock lock has a place

@@ -45,7 +45,9 @@ pub record AreLocksOf (file : ℕ) (modes : ByteModes) (items : List Item) (lock
   pub every : All (λ y. (byte : ℕ) (mode : Mode) → modes y.0.now byte ≡ Some mode → Shows locks y.0.now byte mode) items
 
 -- with the locks of one owner more, which comes after the others, they are those of one entry more
-pub locks_of_more : (file : ℕ) (modes : ByteModes) (items : List Item) (x : Item) (old new : List Held) → AreLocksOf file modes items old → modes x.0.now ≡ modes_of x.1.now → All (λ y. IsBefore y.0.now x.0.now) items → AddsOwnerLocks file x.0.now (modes_of x.1.now) old new → AreLocksOf file modes (items ++ x ∷ []) new
+pub locks_of_more : (file : ℕ) (modes : ByteModes) (items : List Item) (x : Item) (old new : List Held) → AreLocksOf file modes items old
+    → modes x.0.now ≡ modes_of x.1.now → All (λ y. IsBefore y.0.now x.0.now) items → AddsOwnerLocks file x.0.now (modes_of x.1.now) old new
+    → AreLocksOf file modes (items ++ x ∷ []) new
 locks_of_more file modes items x old new locks same before adds =
     let runs = adds.added in
     subst (λ (l : List Held). AreLocksOf file modes (items ++ x ∷ []) l) (sym adds.is) (record {
@@ -86,7 +88,8 @@ list_with None byte mode has = absurd (let h : None ≡ Some mode = has in cc)
 list_with (Some list) byte mode has = (list, refl)
 
 -- the locks of all entries are the byte locks
-pub all_byte_locks : (book : Book) (file : ℕ) (items : List Item) (locks : List Held) → map deref_pair items ≡ book.owners.entries → AreLocksOf file (byte_modes_of book) items locks → AreByteLocks file (byte_modes_of book) locks
+pub all_byte_locks : (book : Book) (file : ℕ) (items : List Item) (locks : List Held) → map deref_pair items ≡ book.owners.entries
+    → AreLocksOf file (byte_modes_of book) items locks → AreByteLocks file (byte_modes_of book) locks
 unfolding byte_modes_of
 all_byte_locks book file items locks whole are = record {
   in_order = are.in_order;
@@ -108,7 +111,8 @@ pub record AreFlocksOf (file : ℕ) (modes : FlockModes) (items : List Place) (l
   pub every : All (λ y. (mode : Mode) → y.1.now ≡ Some mode → ShowsFlock locks y.0.now mode) items
 
 -- one empty place more
-pub flocks_of_empty : (file : ℕ) (modes : FlockModes) (items : List Place) (x : Place) (locks : List Held) → AreFlocksOf file modes items locks → x.1.now ≡ None → AreFlocksOf file modes (items ++ x ∷ []) locks
+pub flocks_of_empty : (file : ℕ) (modes : FlockModes) (items : List Place) (x : Place) (locks : List Held) → AreFlocksOf file modes items locks
+    → x.1.now ≡ None → AreFlocksOf file modes (items ++ x ∷ []) locks
 flocks_of_empty file modes items x locks are empty = record {
   in_order = are.in_order;
   each = are.each;
@@ -119,7 +123,10 @@ flocks_of_empty file modes items x locks are empty = record {
 }
 
 -- one place with a mode more, of a later description, and its line
-pub flocks_of_more : (file : ℕ) (modes : FlockModes) (items : List Place) (x : Place) (mode : Mode) (locks : List Held) (line : Held) → AreFlocksOf file modes items locks → modes x.0.now ≡ x.1.now → x.1.now ≡ Some mode → All (λ y. y.0.now < x.0.now) items → line ≡ record { file = file; whole = true; owner = Description x.0.now; mode = mode; span = whole_file } → AreFlocksOf file modes (items ++ x ∷ []) (locks ++ line ∷ [])
+pub flocks_of_more : (file : ℕ) (modes : FlockModes) (items : List Place) (x : Place) (mode : Mode) (locks : List Held) (line : Held)
+    → AreFlocksOf file modes items locks → modes x.0.now ≡ x.1.now → x.1.now ≡ Some mode → All (λ y. y.0.now < x.0.now) items
+    → line ≡ record { file = file; whole = true; owner = Description x.0.now; mode = mode; span = whole_file }
+    → AreFlocksOf file modes (items ++ x ∷ []) (locks ++ line ∷ [])
 flocks_of_more file modes items x mode locks line are same has earlier is =
     let owner : line.owner ≡ Description x.0.now = ap (λ (l : Held). l.owner) is in
     let line_mode : line.mode ≡ mode = ap (λ (l : Held). l.mode) is in
@@ -151,7 +158,8 @@ flocks_of_more file modes items x mode locks line are same has earlier is =
     }
 
 -- the lines of all places are the flock locks
-pub all_flock_locks : (book : Book) (file : ℕ) (items : List Place) (locks : List Held) → map deref_pair items ≡ book.flocks.places.entries → AreFlocksOf file (flock_modes_of book) items locks → AreFlockLocks file (flock_modes_of book) locks
+pub all_flock_locks : (book : Book) (file : ℕ) (items : List Place) (locks : List Held) → map deref_pair items ≡ book.flocks.places.entries
+    → AreFlocksOf file (flock_modes_of book) items locks → AreFlockLocks file (flock_modes_of book) locks
 all_flock_locks book file items locks whole are = record {
   in_order = are.in_order;
   each = are.each;

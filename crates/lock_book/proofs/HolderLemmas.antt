@@ -47,39 +47,51 @@ locks_in_place : (mode : Mode) (place : Option (Option Mode)) → unwrap_or (opt
 locks_in_place mode None = refl
 locks_in_place mode (Some lock) = refl
 
-own_locks : (mode : Mode) (description : ℕ) (places : Places) → unwrap_or (option_map (locks_in mode) (lookup (is_at (nat_cmp description)) places)) 0 ≡ locks_in mode (flock_modes_among places description)
+own_locks : (mode : Mode) (description : ℕ) (places : Places)
+    → unwrap_or (option_map (locks_in mode) (lookup (is_at (nat_cmp description)) places)) 0 ≡ locks_in mode (flock_modes_among places description)
 own_locks mode description places = grind (arith, common_steps, lookup-nat_cmp, locks_in_place)
 
 -- the locks are a description's own and the others
-pub count_apart : (mode : Mode) (description : ℕ) (places : Places) → locks_among mode (others description places) + locks_in mode (flock_modes_among places description) ≡ locks_among mode places
+pub count_apart : (mode : Mode) (description : ℕ) (places : Places)
+    → locks_among mode (others description places) + locks_in mode (flock_modes_among places description) ≡ locks_among mode places
 count_apart mode description places = grind (arith, common_steps, own_locks, sum_by-remove_entry)
 
 -- with what is put into its place in the place of what stood there
-pub count_put : (mode : Mode) (description : ℕ) (lock : Option Mode) (places : Places) → IsStrictlySortedBy nat_cmp (keys_of places) → locks_among mode (insert_entry nat_cmp places description lock) + locks_in mode (flock_modes_among places description) ≡ locks_among mode places + locks_in mode lock
+pub count_put : (mode : Mode) (description : ℕ) (lock : Option Mode) (places : Places) → IsStrictlySortedBy nat_cmp (keys_of places)
+    → locks_among mode (insert_entry nat_cmp places description lock) + locks_in mode (flock_modes_among places description)
+    ≡ locks_among mode places + locks_in mode lock
 count_put mode description lock places sorted = grind (arith, common_steps, own_locks, sum_by-insert_entry)
 
 -- of a count of all that may take off what stands there
-pub own_counted : (mode : Mode) (description : ℕ) (own : Option Mode) (places : Places) (all : ℕ) → own ≡ flock_modes_among places description → all ≡ locks_among mode places → locks_in mode own ≤ all
+pub own_counted : (mode : Mode) (description : ℕ) (own : Option Mode) (places : Places) (all : ℕ) → own ≡ flock_modes_among places description
+    → all ≡ locks_among mode places → locks_in mode own ≤ all
 own_counted mode description own places all is counted = grind (arith, common_steps, count_apart)
 
 -- what is left is the count of the others
-pub counted_others : (mode : Mode) (description : ℕ) (own : Option Mode) (places : Places) (all rest : ℕ) → own ≡ flock_modes_among places description → all ≡ locks_among mode places → rest + locks_in mode own ≡ all → rest ≡ locks_among mode (others description places)
+pub counted_others : (mode : Mode) (description : ℕ) (own : Option Mode) (places : Places) (all rest : ℕ)
+    → own ≡ flock_modes_among places description → all ≡ locks_among mode places → rest + locks_in mode own ≡ all
+    → rest ≡ locks_among mode (others description places)
 counted_others mode description own places all rest is counted left = grind (arith, common_steps, count_apart)
 
 -- and with what is put there that of the new places
-pub counted_put : (mode : Mode) (description : ℕ) (own lock : Option Mode) (old new : Places) (all rest : ℕ) → IsStrictlySortedBy nat_cmp (keys_of old) → new ≡ insert_entry nat_cmp old description lock → own ≡ flock_modes_among old description → all ≡ locks_among mode old → rest + locks_in mode own ≡ all → rest + locks_in mode lock ≡ locks_among mode new
+pub counted_put : (mode : Mode) (description : ℕ) (own lock : Option Mode) (old new : Places) (all rest : ℕ)
+    → IsStrictlySortedBy nat_cmp (keys_of old) → new ≡ insert_entry nat_cmp old description lock → own ≡ flock_modes_among old description
+    → all ≡ locks_among mode old → rest + locks_in mode own ≡ all → rest + locks_in mode lock ≡ locks_among mode new
 counted_put mode description own lock old new all rest sorted put is counted left = grind (arith, common_steps, count_put)
 
 -- which is at most their number
-pub counted_fits : (mode : Mode) (count : ℕ) (places : Places) (number : ℕ) → count ≡ locks_among mode places → number ≡ length places → number < 2 ^ 63 → count < 2 ^ 64
+pub counted_fits : (mode : Mode) (count : ℕ) (places : Places) (number : ℕ) → count ≡ locks_among mode places → number ≡ length places
+    → number < 2 ^ 63 → count < 2 ^ 64
 counted_fits mode count places number is numbered few = let most = locks_among-le mode places in omega arith
 
 -- the place that a map has is the one that is looked up
-pub own_lock : (description : ℕ) (places : Places) (place : Option (Option Mode)) (lock : Option Mode) → place ≡ lookup (is_at (nat_cmp description)) places → lock ≡ mode_in_place place → lock ≡ flock_modes_among places description
+pub own_lock : (description : ℕ) (places : Places) (place : Option (Option Mode)) (lock : Option Mode)
+    → place ≡ lookup (is_at (nat_cmp description)) places → lock ≡ mode_in_place place → lock ≡ flock_modes_among places description
 own_lock description places place lock looked is = is ∙ ap mode_in_place (looked ∙ lookup-nat_cmp description places)
 
 -- an update of a map puts a place
-pub PutsAmong-updates : (old new : BTreeMap ℕ (Option Mode)) (description : ℕ) (place : Option (Option Mode)) → UpdatesBy nat_cmp (nat_cmp description) old new place → PutsAmong old.entries new.entries description place
+pub PutsAmong-updates : (old new : BTreeMap ℕ (Option Mode)) (description : ℕ) (place : Option (Option Mode))
+    → UpdatesBy nat_cmp (nat_cmp description) old new place → PutsAmong old.entries new.entries description place
 PutsAmong-updates old new description place updates other = grind (arith, common_steps, lookup-nat_cmp, is_eq-nat_cmp)
 
 -- a lock that is counted stands in some place
@@ -104,7 +116,8 @@ others_all P description (e ∷ places) all = elim (cases_Bool (is_at (nat_cmp d
 ]
 
 -- and these are of other descriptions
-later_apart : (description first : ℕ) (places : Places) → first ≡ description → AllByRecursion (λ y. nat_cmp first y ≡ Less) (keys_of places) → All (λ e. e.0 ≢ description) places
+later_apart : (description first : ℕ) (places : Places) → first ≡ description → AllByRecursion (λ y. nat_cmp first y ≡ Less) (keys_of places)
+    → All (λ e. e.0 ≢ description) places
 later_apart description first [] same later = All-nil (λ e. e.0 ≢ description)
 later_apart description first (e ∷ places) same later =
     All-cons (λ x. x.0 ≢ description) e places
@@ -142,7 +155,8 @@ locks_in-itself Read = refl
 locks_in-itself Write = refl
 
 -- and another description's lock is counted there
-lock_counted : (mode : Mode) (description other : ℕ) (places : Places) → IsStrictlySortedBy nat_cmp (keys_of places) → other ≢ description → flock_modes_among places other ≡ Some mode → 0 < locks_among mode (others description places)
+lock_counted : (mode : Mode) (description other : ℕ) (places : Places) → IsStrictlySortedBy nat_cmp (keys_of places) → other ≢ description
+    → flock_modes_among places other ≡ Some mode → 0 < locks_among mode (others description places)
 lock_counted mode description other places sorted different held =
     let distinct = IsDistinct-from_sorted nat_cmp (keys_of places) sorted in
     let apart : is_at (nat_cmp description) other ≡ false = is_eq-nat_cmp description other ∙ ne_eqb description other (λ e. different (sym e)) in
@@ -240,7 +254,8 @@ none_counted count places sorted shared exclusive = (
   λ all. none_of_others all,
 )
   where
-    no_lock : (description : ℕ) → conflicting count Write ≡ 0 → (own : Option Mode) → own ≡ flock_modes_among places description → flock_modes_among places description ≡ None
+    no_lock : (description : ℕ) → conflicting count Write ≡ 0 → (own : Option Mode) → own ≡ flock_modes_among places description
+        → flock_modes_among places description ≡ None
     no_lock description none None is = sym is
     no_lock description none (Some Read) is = absurd (let some = own_counted Read description (Some Read) places count.shared is shared in omega (arith, some))
     no_lock description none (Some Write) is = absurd (let some = own_counted Write description (Some Write) places count.exclusive is exclusive in omega (arith, some))

@@ -21,7 +21,8 @@ pub All-at_Any : {X : Type 0} (P Q : X → Type 0) (xs : List X) → All P xs �
 All-at_Any P Q xs all (k, x, within, is, holds) = (x, subst P is (all k x within), holds)
 
 -- two lists in order, each element of the one before each of the other
-pub AllPairs-append : {X : Type 0} (R : X → X → Type 0) (xs ys : List X) → AllPairs R xs → AllPairs R ys → All (λ x. All (λ y. R x y) ys) xs → AllPairs R (xs ++ ys)
+pub AllPairs-append : {X : Type 0} (R : X → X → Type 0) (xs ys : List X) → AllPairs R xs → AllPairs R ys → All (λ x. All (λ y. R x y) ys) xs
+    → AllPairs R (xs ++ ys)
 AllPairs-append R xs ys first second across i j d before within =
     grind (arith, common_steps, cases_lt, get_or_append_left, length-append, get_or-append_right)
 

@@ -45,14 +45,16 @@ module _ (modes : ByteModes) (owner : Owner) (span : Span) (wanted : Mode) where
       | inr other ↦ only process few (sym (get_or-set_other marks k process blocks false other) ∙ marked)
     ]
 
-    marked_after : (process : ℕ) → (process ≢ k → IsMarked marks process) → ProcessBlocks modes process owner span wanted → IsMarked (set marks k blocks) process
+    marked_after : (process : ℕ) → (process ≢ k → IsMarked marks process) → ProcessBlocks modes process owner span wanted
+        → IsMarked (set marks k blocks) process
     marked_after process before conflict = elim (cases_eq process k) [
       | inl same ↦ ap (λ (n : ℕ). get_or (set marks k blocks) n false) same ∙ get_or-set_same marks k blocks false within
           ∙ is.1 (subst (λ (n : ℕ). ProcessBlocks modes n owner span wanted) same conflict)
       | inr other ↦ get_or-set_other marks k process blocks false other ∙ before other
     ]
 
-    pub all_after_mark : (items : List Item) (x : Item) → x.0.now ≡ Process k → All (λ y. IsMarkedIfBlocking marks y.0.now) items → All (λ y. IsMarkedIfBlocking (set marks k blocks) y.0.now) (items ++ x ∷ [])
+    pub all_after_mark : (items : List Item) (x : Item) → x.0.now ≡ Process k → All (λ y. IsMarkedIfBlocking marks y.0.now) items
+        → All (λ y. IsMarkedIfBlocking (set marks k blocks) y.0.now) (items ++ x ∷ [])
     all_after_mark items x here all =
         All-push (λ y. IsMarkedIfBlocking (set marks k blocks) y.0.now) items x
         (All-weaker (λ y. IsMarkedIfBlocking marks y.0.now) (λ y. IsMarkedIfBlocking (set marks k blocks) y.0.now)
@@ -61,7 +63,9 @@ module _ (modes : ByteModes) (owner : Owner) (span : Span) (wanted : Mode) where
         (λ other. absurd (other (let twice : Process process ≡ Process k = sym at ∙ here in cc))) conflict)
 
   -- of another owner its list tells whether it blocks
-  pub blocks_by_list : (k : ℕ) (other : Owner) (hit : Option ℕ) → other ≡ Process k → other ≢ owner → IfSome hit (IsFirstHit (modes other) span wanted) → IfNone hit ((byte : ℕ) → Covers span byte → ¬ HeldConflicts (modes other byte) wanted) → IsTrue (is_some hit) ↔ ProcessBlocks modes k owner span wanted
+  pub blocks_by_list : (k : ℕ) (other : Owner) (hit : Option ℕ) → other ≡ Process k → other ≢ owner
+      → IfSome hit (IsFirstHit (modes other) span wanted) → IfNone hit ((byte : ℕ) → Covers span byte → ¬ HeldConflicts (modes other byte) wanted)
+      → IsTrue (is_some hit) ↔ ProcessBlocks modes k owner span wanted
   blocks_by_list k other hit at =
       subst (λ (o : Owner). o ≢ owner → IfSome hit (IsFirstHit (modes o) span wanted) → IfNone hit ((byte : ℕ) → Covers span byte → ¬ HeldConflicts (modes o byte) wanted) → IsTrue (is_some hit) ↔ ProcessBlocks modes k owner span wanted)
       (sym at) (ProcessBlocks-hit modes k owner span wanted hit)
@@ -74,7 +78,10 @@ module _ (modes : ByteModes) (owner : Owner) (span : Span) (wanted : Mode) where
   )
 
 -- where all owners were looked at, just the processes that block are marked
-pub marked_at_end : (book : Book) (items : List Item) (marks : List Bool) (owner : Owner) (span : Span) (wanted : Mode) → map deref_pair items ≡ book.owners.entries → OnlyBlocking (byte_modes_of book) owner span wanted marks → All (λ x. IsMarkedIfBlocking (byte_modes_of book) owner span wanted marks x.0.now) items → (process : ℕ) → process < 256 → IsMarked marks process ↔ ProcessBlocks (byte_modes_of book) process owner span wanted
+pub marked_at_end : (book : Book) (items : List Item) (marks : List Bool) (owner : Owner) (span : Span) (wanted : Mode)
+    → map deref_pair items ≡ book.owners.entries → OnlyBlocking (byte_modes_of book) owner span wanted marks
+    → All (λ x. IsMarkedIfBlocking (byte_modes_of book) owner span wanted marks x.0.now) items → (process : ℕ) → process < 256
+    → IsMarked marks process ↔ ProcessBlocks (byte_modes_of book) process owner span wanted
 marked_at_end book items marks owner span wanted whole only all process few = (
   only process few,
   λ conflict. blocked_in book items (IsMarkedIfBlocking (byte_modes_of book) owner span wanted marks) whole all owner (Process process) wanted conflict.byte conflict.blocks
@@ -82,7 +89,12 @@ marked_at_end book items marks owner span wanted whole only all process few = (
 )
 
 -- also where the first description was come to, since all processes come before it
-pub marked_at_description : (book : Book) (items : List Item) (s t u : List (Owner × RangeList)) (r : Option Item) (x : Item) → s ≡ book.owners.entries → Yields (TakesFirst deref_pair) s items t → r ≡ Some x → TakesFirst deref_pair t r u → IsOrdered owner_cmp book.owners → (marks : List Bool) (owner : Owner) (span : Span) (wanted : Mode) (description : ℕ) → x.0.now ≡ Description description → OnlyBlocking (byte_modes_of book) owner span wanted marks → All (λ y. IsMarkedIfBlocking (byte_modes_of book) owner span wanted marks y.0.now) items → (process : ℕ) → process < 256 → IsMarked marks process ↔ ProcessBlocks (byte_modes_of book) process owner span wanted
+pub marked_at_description : (book : Book) (items : List Item) (s t u : List (Owner × RangeList)) (r : Option Item) (x : Item)
+    → s ≡ book.owners.entries → Yields (TakesFirst deref_pair) s items t → r ≡ Some x → TakesFirst deref_pair t r u → IsOrdered owner_cmp book.owners
+    → (marks : List Bool) (owner : Owner) (span : Span) (wanted : Mode) (description : ℕ) → x.0.now ≡ Description description
+    → OnlyBlocking (byte_modes_of book) owner span wanted marks
+    → All (λ y. IsMarkedIfBlocking (byte_modes_of book) owner span wanted marks y.0.now) items → (process : ℕ) → process < 256
+    → IsMarked marks process ↔ ProcessBlocks (byte_modes_of book) process owner span wanted
 unfolding byte_modes_of list_of
 marked_at_description book items s t u r x start yields is step ordered marks owner span wanted description at only all process few = (
   only process few,

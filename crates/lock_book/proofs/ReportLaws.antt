@@ -32,7 +32,8 @@ pairs_tail : {X : Type 0} (R : X → X → Type 0) (y : X) (ys : List X) → All
 pairs_tail R y ys pairs i j d before within = pairs (suc i) (suc j) d (omega arith) (omega arith)
 
 -- two lists in one order with the same elements are one
-sorted_unique : {X : Type 0} (R : X → X → Type 0) → ((x y : X) → R x y → R y x → ⊥) → (xs ys : List X) → AllPairs R xs → AllPairs R ys → ((x : X) → Contains xs x → Contains ys x) → ((x : X) → Contains ys x → Contains xs x) → xs ≡ ys
+sorted_unique : {X : Type 0} (R : X → X → Type 0) → ((x y : X) → R x y → R y x → ⊥) → (xs ys : List X) → AllPairs R xs → AllPairs R ys
+    → ((x : X) → Contains xs x → Contains ys x) → ((x : X) → Contains ys x → Contains xs x) → xs ≡ ys
 sorted_unique R asymmetric [] [] first second into back = refl
 sorted_unique R asymmetric [] (y ∷ ys) first second into back = absurd (contains_none y (back y (contains_head y ys)))
 sorted_unique R asymmetric (x ∷ xs) [] first second into back = absurd (contains_none x (into x (contains_head x xs)))
@@ -70,14 +71,17 @@ same_line x z file whole owner mode span =
     let e : line_of z.file z.whole z.owner z.mode z.span ≡ line_of x.file x.whole x.owner x.mode x.span = cc in e
 
 -- two runs of one mode that share a first byte are one
-same_run : (modes : Modes) (mode : Mode) (one other : Span) → Covers other one.first → IsRun modes one.first mode one → IsRun modes other.first mode other → other ≡ one
+same_run : (modes : Modes) (mode : Mode) (one other : Span) → Covers other one.first → IsRun modes one.first mode one
+    → IsRun modes other.first mode other → other ≡ one
 same_run modes mode one other shared one_run other_run = grind (arith, common_steps)
 
-same_byte_line : (file : ℕ) (modes : ByteModes) (x z : Held) → IsRunLine file modes x → IsRunLine file modes z → z.owner ≡ x.owner → z.mode ≡ x.mode → Covers z.span x.span.first → z ≡ x
+same_byte_line : (file : ℕ) (modes : ByteModes) (x z : Held) → IsRunLine file modes x → IsRunLine file modes z → z.owner ≡ x.owner → z.mode ≡ x.mode
+    → Covers z.span x.span.first → z ≡ x
 same_byte_line file modes x z x_line z_line owner mode shared = grind (arith, common_steps, same_line, same_run)
 
 -- each byte lock of one report is one of the other
-byte_lock_in : (file : ℕ) (modes : ByteModes) (xs ys : List Held) → AreByteLocks file modes xs → AreByteLocks file modes ys → (x : Held) → Contains xs x → Contains ys x
+byte_lock_in : (file : ℕ) (modes : ByteModes) (xs ys : List Held) → AreByteLocks file modes xs → AreByteLocks file modes ys → (x : Held)
+    → Contains xs x → Contains ys x
 byte_lock_in file modes xs ys first second x there =
     let line = All-contains (IsRunLine file modes) xs x first.each there in
     let shown = second.every x.owner x.span.first x.mode (line.2.constant x.span.first line.2.covered) in
@@ -103,7 +107,8 @@ AreByteLocks-unique file modes xs ys first second =
     (byte_lock_in file modes xs ys first second) (byte_lock_in file modes ys xs second first)
 
 -- each flock lock of one report is one of the other
-flock_lock_in : (file : ℕ) (modes : FlockModes) (xs ys : List Held) → AreFlockLocks file modes xs → AreFlockLocks file modes ys → (x : Held) → Contains xs x → Contains ys x
+flock_lock_in : (file : ℕ) (modes : FlockModes) (xs ys : List Held) → AreFlockLocks file modes xs → AreFlockLocks file modes ys → (x : Held)
+    → Contains xs x → Contains ys x
 flock_lock_in file modes xs ys first second x there = grind (arith, common_steps, All-contains, same_line)
 
 AreFlockLocks-unique : (file : ℕ) (modes : FlockModes) (xs ys : List Held) → AreFlockLocks file modes xs → AreFlockLocks file modes ys → xs ≡ ys

@@ -25,7 +25,8 @@ run_has_byte : (modes : Modes) (run : Mode × Span) (runs : List (Mode × Span))
 run_has_byte modes run runs are = let first = are.each 0 run (omega arith) in first.constant run.1.first first.covered
 
 -- a list without room is idle where it has no runs
-pub idle_without_runs : (list : RangeList) (runs : List (Mode × Span)) → AreRuns (modes_of list) runs → (room : ℕ) → room ≡ room_of list → room ≡ 0 → (empty : Bool) → empty ≡ (length runs == 0) → IsTrue empty ↔ IsIdle list
+pub idle_without_runs : (list : RangeList) (runs : List (Mode × Span)) → AreRuns (modes_of list) runs → (room : ℕ) → room ≡ room_of list → room ≡ 0
+    → (empty : Bool) → empty ≡ (length runs == 0) → IsTrue empty ↔ IsIdle list
 idle_without_runs list [] are room told none empty test = (
   λ yes. record { free = free_without_runs (modes_of list) are; no_room = sym told ∙ none },
   λ idle. test,
@@ -36,7 +37,8 @@ idle_without_runs list (run ∷ runs) are room told none empty test = (
 )
 
 -- a list has no mode on any byte where it has no runs
-pub free_by_runs : (modes : Modes) (runs : List (Mode × Span)) → AreRuns modes runs → (empty : Bool) → empty ≡ (length runs == 0) → IsTrue empty ↔ ((byte : ℕ) → modes byte ≡ None)
+pub free_by_runs : (modes : Modes) (runs : List (Mode × Span)) → AreRuns modes runs → (empty : Bool) → empty ≡ (length runs == 0)
+    → IsTrue empty ↔ ((byte : ℕ) → modes byte ≡ None)
 free_by_runs modes [] are empty test = (λ yes. free_without_runs modes are, λ free. test)
 free_by_runs modes (run ∷ runs) are empty test = (
   λ yes. absurd (let none_left : length (run ∷ runs) ≡ 0 = eqb-true (length (run ∷ runs)) 0 (sym test ∙ yes) in omega arith),
@@ -49,7 +51,8 @@ module _ (file : ℕ) (owner : Owner) where
   run_line run = record { file = file; whole = false; owner = owner; mode = run.0; span = run.1 }
 
   -- the lines of all runs are an owner's locks
-  pub lines_of_runs : (modes : Modes) (runs : List (Mode × Span)) → AreRuns modes runs → All (λ run. IsByteRange run.1) runs → AreOwnerLocks file owner modes (map run_line runs)
+  pub lines_of_runs : (modes : Modes) (runs : List (Mode × Span)) → AreRuns modes runs → All (λ run. IsByteRange run.1) runs
+      → AreOwnerLocks file owner modes (map run_line runs)
   lines_of_runs modes runs are ranges = record {
     rising = λ i j d before within.
         let e : Mode × Span = (d.mode, d.span) in

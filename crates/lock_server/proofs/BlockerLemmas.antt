@@ -37,7 +37,8 @@ pub record IsStepAt (policy : Policy) (F : FileState) (one place : ℕ) (wait : 
   pub blocked : IsBlockedByOwner policy F (take place F.waits) wait other
 
 -- all earlier waits gave their owners
-pub all_in_the_way : (wait : Pending) (earlier : List Pending) (old new : List ℕ) (i : ℕ) → length earlier ≤ i → AddsOwners old new (IsGivenBefore (λ place v owner. IsInTheWay wait v owner) earlier i)
+pub all_in_the_way : (wait : Pending) (earlier : List Pending) (old new : List ℕ) (i : ℕ) → length earlier ≤ i
+    → AddsOwners old new (IsGivenBefore (λ place v owner. IsInTheWay wait v owner) earlier i)
     → AddsOwners old new (λ owner. Any (λ v. (v.owner ≡ owner) × WaitsConflict (as_wait v) (as_wait wait)) earlier)
 all_in_the_way wait earlier old new i past adds =
     gathered_all (λ place v owner. IsInTheWay wait v owner) earlier old new i (λ owner. Any (λ v. (v.owner ≡ owner) × WaitsConflict (as_wait v) (as_wait wait)) earlier) past
@@ -48,7 +49,8 @@ all_in_the_way wait earlier old new i past adds =
     adds
 
 -- a step at a place of the list is one of the file
-step_from_place : (policy : Policy) (F : FileState) (one other place : ℕ) (wait : Pending) → slice_get F.waits place ≡ Some wait → IsStepAt policy F one place wait other → WaitsForOn policy F one other
+step_from_place : (policy : Policy) (F : FileState) (one other place : ℕ) (wait : Pending) → slice_get F.waits place ≡ Some wait
+    → IsStepAt policy F one place wait other → WaitsForOn policy F one other
 step_from_place policy F one other place wait at step = record {
   before = take place F.waits;
   wait = wait;
@@ -60,7 +62,8 @@ step_from_place policy F one other place wait at step = record {
 }
 
 -- and has one
-place_of_step : (policy : Policy) (F : FileState) (one other : ℕ) → WaitsForOn policy F one other → (place : ℕ) × (wait : Pending) × (slice_get F.waits place ≡ Some wait) × IsStepAt policy F one place wait other
+place_of_step : (policy : Policy) (F : FileState) (one other : ℕ) → WaitsForOn policy F one other
+    → (place : ℕ) × (wait : Pending) × (slice_get F.waits place ≡ Some wait) × IsStepAt policy F one place wait other
 place_of_step policy F one other step =
     let n = length step.before in
     let sum = length-append step.before (step.wait ∷ step.after) in
@@ -79,7 +82,8 @@ place_of_step policy F one other step =
     )
 
 -- all waits on the file gave those for which the owner waits
-pub all_steps : (policy : Policy) (F : FileState) (one : ℕ) (old new : List ℕ) (i : ℕ) → length F.waits ≤ i → AddsOwners old new (IsGivenBefore (IsStepAt policy F one) F.waits i) → AddsOwners old new (WaitsForOn policy F one)
+pub all_steps : (policy : Policy) (F : FileState) (one : ℕ) (old new : List ℕ) (i : ℕ) → length F.waits ≤ i
+    → AddsOwners old new (IsGivenBefore (IsStepAt policy F one) F.waits i) → AddsOwners old new (WaitsForOn policy F one)
 all_steps policy F one old new i past adds =
     gathered_all (IsStepAt policy F one) F.waits old new i (WaitsForOn policy F one) past
     (λ other place wait at step. step_from_place policy F one other place wait at step) (λ other step. place_of_step policy F one other step) adds
@@ -90,7 +94,8 @@ held_mode None wanted conflict = absurd conflict
 held_mode (Some mode) wanted conflict = (mode, refl, conflict)
 
 -- two ranges that meet have a byte in common
-common_byte : (one other : Span) → one.first ≤ one.last → other.first ≤ other.last → one.first ≤ other.last → other.first ≤ one.last → (byte : ℕ) × Covers one byte × Covers other byte
+common_byte : (one other : Span) → one.first ≤ one.last → other.first ≤ other.last → one.first ≤ other.last → other.first ≤ one.last
+    → (byte : ℕ) × Covers one byte × Covers other byte
 common_byte one other some any early late = elim (cases_lt one.first other.first) [
   | inl before ↦ (other.first, (omega arith, omega arith), (omega arith, omega arith))
   | inr after ↦ (one.first, (omega arith, omega arith), (omega arith, omega arith))
@@ -112,7 +117,8 @@ abbrev IsByteLine : FileState → Held → Type 0
 IsByteLine F held = (held.file ≡ 0) × IsFalse held.whole × IsRun (F.bytes held.owner) held.span.first held.mode held.span
 
 -- a line of the report of the byte locks is a lock of them
-byte_line : (F : FileState) (bytes : List Held) (wait : Pending) (other : ℕ) → IsByteRange wait.span → AreByteLocks 0 F.bytes bytes → (held : Held) → Contains bytes held → wait.family ≡ Bytes → HeldBlocks held wait other → BlocksByBytes F wait other
+byte_line : (F : FileState) (bytes : List Held) (wait : Pending) (other : ℕ) → IsByteRange wait.span → AreByteLocks 0 F.bytes bytes → (held : Held)
+    → Contains bytes held → wait.family ≡ Bytes → HeldBlocks held wait other → BlocksByBytes F wait other
 byte_line F bytes wait other range are held among family blocks =
     let line = All-contains (IsByteLine F) bytes held are.each among in
     let meets : Meet Bytes held.span wait.span = subst (λ (f : Family). Meet f held.span wait.span) family blocks.meets in
@@ -129,12 +135,14 @@ byte_line F bytes wait other range are held among family blocks =
     }
 
 -- a line of the report of the flock locks is a lock of them
-flock_line : (F : FileState) (flocks : List Held) (wait : Pending) (other : ℕ) → AreFlockLocks 0 F.flocks flocks → (held : Held) → Contains flocks held → HeldBlocks held wait other → BlocksByFlock F wait other
+flock_line : (F : FileState) (flocks : List Held) (wait : Pending) (other : ℕ) → AreFlockLocks 0 F.flocks flocks → (held : Held)
+    → Contains flocks held → HeldBlocks held wait other → BlocksByFlock F wait other
 flock_line F flocks wait other are held among blocks = grind (arith, common_steps, All-contains)
 
 module _ (F : FileState) (report : List Held) (wait : Pending) (range : IsByteRange wait.span) (says : IsFileReport 0 F.bytes F.flocks report) where
   -- a line that blocks the wait is a lock that does
-  line_blocks : (other : ℕ) (held : Held) → Contains report held → HeldBlocks held wait other → (family : Family) → wait.family ≡ family → BlocksIn family F wait other
+  line_blocks : (other : ℕ) (held : Held) → Contains report held → HeldBlocks held wait other → (family : Family) → wait.family ≡ family
+      → BlocksIn family F wait other
   line_blocks other held among blocks Bytes family =
       elim (Contains-append_cases says.byte_locks says.flock_locks held (subst (λ (r : List Held). Contains r held) says.is among)) [
         | inl byte ↦ byte_line F says.byte_locks wait other range says.are_bytes held byte family blocks
@@ -154,7 +162,8 @@ module _ (F : FileState) (report : List Held) (wait : Pending) (range : IsByteRa
       ]
 
   -- a lock that blocks the wait has a line
-  byte_lock_line : (other : ℕ) → wait.family ≡ Bytes → BlocksByBytes F wait other → (place : ℕ) × (held : Held) × (slice_get report place ≡ Some held) × HeldBlocks held wait other
+  byte_lock_line : (other : ℕ) → wait.family ≡ Bytes → BlocksByBytes F wait other
+      → (place : ℕ) × (held : Held) × (slice_get report place ≡ Some held) × HeldBlocks held wait other
   byte_lock_line other family blocks =
       let mode = held_mode (F.bytes (Description other) blocks.byte) wait.mode blocks.blocks.conflicts in
       let line = placed_left (λ (x : Held). (x.owner ≡ Description other) × (x.mode ≡ mode.0) × Covers x.span blocks.byte) says.byte_locks says.flock_locks
@@ -175,7 +184,8 @@ module _ (F : FileState) (report : List Held) (wait : Pending) (range : IsByteRa
         },
       )
 
-  flock_lock_line : (other : ℕ) → wait.family ≡ Whole → BlocksByFlock F wait other → (place : ℕ) × (held : Held) × (slice_get report place ≡ Some held) × HeldBlocks held wait other
+  flock_lock_line : (other : ℕ) → wait.family ≡ Whole → BlocksByFlock F wait other
+      → (place : ℕ) × (held : Held) × (slice_get report place ≡ Some held) × HeldBlocks held wait other
   flock_lock_line other family blocks =
       let mode = held_mode (F.flocks other) wait.mode blocks.conflicts in
       let line = placed_right (λ (x : Held). (x.owner ≡ Description other) × (x.mode ≡ mode.0)) says.byte_locks says.flock_locks
@@ -194,12 +204,14 @@ module _ (F : FileState) (report : List Held) (wait : Pending) (range : IsByteRa
         },
       )
 
-  lock_line : (other : ℕ) (family : Family) → wait.family ≡ family → BlocksIn family F wait other → (place : ℕ) × (held : Held) × (slice_get report place ≡ Some held) × HeldBlocks held wait other
+  lock_line : (other : ℕ) (family : Family) → wait.family ≡ family → BlocksIn family F wait other
+      → (place : ℕ) × (held : Held) × (slice_get report place ≡ Some held) × HeldBlocks held wait other
   lock_line other Bytes is blocks = byte_lock_line other is blocks
   lock_line other Whole is blocks = flock_lock_line other is blocks
 
   -- all lines gave the owners that block the wait
-  pub all_lines : (old new : List ℕ) (i : ℕ) → length report ≤ i → AddsOwners old new (IsGivenBefore (λ place held other. HeldBlocks held wait other) report i) → AddsOwners old new (BlocksIn wait.family F wait)
+  pub all_lines : (old new : List ℕ) (i : ℕ) → length report ≤ i
+      → AddsOwners old new (IsGivenBefore (λ place held other. HeldBlocks held wait other) report i) → AddsOwners old new (BlocksIn wait.family F wait)
   all_lines old new i past adds =
       gathered_all (λ place held other. HeldBlocks held wait other) report old new i (BlocksIn wait.family F wait) past
       (λ other place held at blocks.

@@ -3,7 +3,8 @@ use Rattle.std.proofs.Common.{ℕ, ◌≡◌, ◌⊎◌, inl, inr, sym, subst, r
 use Rattle.wait_core.specs.Cycles.{IsChain}
 
 -- two chains, one behind the other
-pub chain_append : (R : ℕ → ℕ → Type 0) (p : ℕ) (through : List ℕ) (q : ℕ) (more : List ℕ) (r : ℕ) → IsChain R p through q → IsChain R q more r → IsChain R p (through ++ q ∷ more) r
+pub chain_append : (R : ℕ → ℕ → Type 0) (p : ℕ) (through : List ℕ) (q : ℕ) (more : List ℕ) (r : ℕ) → IsChain R p through q → IsChain R q more r
+    → IsChain R p (through ++ q ∷ more) r
 chain_append R p [] q more r chain rest = (chain, rest)
 chain_append R p (next ∷ through) q more r chain rest = (chain.0, chain_append R next through q more r chain.1 rest)
 
@@ -67,7 +68,8 @@ module _ (R S : ℕ → ℕ → Type 0) (from : ℕ) (Added : ℕ → Type 0) (c
   join_led p q r (inr (through, chain)) (inr (more, rest)) = inr (through ++ q ∷ more, chain_append R p through q more r chain rest)
 
   -- without a cycle of old steps, and no way from an end of a new step to its beginning, there is no cycle
-  free_with_added : ((p : ℕ) → ¬ ((through : List ℕ) × IsChain R p through p)) → ((next : ℕ) → Added next → ¬ AtOrLed R next from) → (p : ℕ) → ¬ ((through : List ℕ) × IsChain S p through p)
+  free_with_added : ((p : ℕ) → ¬ ((through : List ℕ) × IsChain R p through p)) → ((next : ℕ) → Added next → ¬ AtOrLed R next from) → (p : ℕ)
+      → ¬ ((through : List ℕ) × IsChain S p through p)
   free_with_added free closes p (through, chain) = elim (last_added p through p chain) [
     | inl old ↦ free p old
     | inr uses ↦ closes uses.next uses.added (join_led uses.next p from uses.goes uses.comes)

@@ -30,18 +30,21 @@ pub closes_flock : (S : State) (file owner : ℕ) (T : State) → ReleasesOn S f
 closes_flock S file owner T releases = grind (arith, common_steps)
 
 -- the same owners, by another test
-pub closes_for : (S : State) (file : ℕ) (gone same : Owner → Bool) (flock_owner : Option ℕ) (T : State) → ((owner : Owner) → same owner ≡ gone owner) → ClosesOn S file gone flock_owner T → ClosesOn S file same flock_owner T
+pub closes_for : (S : State) (file : ℕ) (gone same : Owner → Bool) (flock_owner : Option ℕ) (T : State) → ((owner : Owner) → same owner ≡ gone owner)
+    → ClosesOn S file gone flock_owner T → ClosesOn S file same flock_owner T
 closes_for S file gone same flock_owner T is closes = subst (λ (test : Owner → Bool). ClosesOn S file test flock_owner T) (λ i owner. sym (is owner) i) closes
 
 either_gone : (one more : Bool) (held : Option Mode) → (if more then None else (if one then None else held)) ≡ (if one || more then None else held)
 either_gone one more held = grind (arith, common_steps)
 
 -- who has a detected wait after a close had it before
-detected_still : (M : State) (file : ℕ) (gone : Owner → Bool) (flock_owner : Option ℕ) (T : State) → ClosesOn M file gone flock_owner T → (owner : ℕ) → HasDetected T owner → HasDetected M owner
+detected_still : (M : State) (file : ℕ) (gone : Owner → Bool) (flock_owner : Option ℕ) (T : State) → ClosesOn M file gone flock_owner T → (owner : ℕ)
+    → HasDetected T owner → HasDetected M owner
 detected_still M file gone flock_owner T closes owner has = search (rules, cases_eq)
 
 -- one close behind another
-pub closes_then : (S : State) (file : ℕ) (one more : Owner → Bool) (flock_owner : Option ℕ) (M T : State) → ClosesOn S file one flock_owner M → ClosesOn M file more None T
+pub closes_then : (S : State) (file : ℕ) (one more : Owner → Bool) (flock_owner : Option ℕ) (M T : State) → ClosesOn S file one flock_owner M
+    → ClosesOn M file more None T
     → ClosesOn S file (λ other. one other || more other) flock_owner T
 closes_then S file one more flock_owner M T first next = grind (arith, common_steps, either_gone, SameFile-then, crosses_then, detected_still)
 
@@ -91,9 +94,11 @@ abbrev pub closed_one : ℕ → Bool → Owner → Bool
 closed_one owner came other = is_same_owner (Description owner) other && came
 
 -- the next owner that is known
-pub closing_more : (S : State) (was : ℕ → ℕ → Option ℕ) (file open_file next : ℕ) (M : State) (now : ℕ → ℕ → Option ℕ) (owner : ℕ) (T : State) (new : ℕ → ℕ → Option ℕ)
+pub closing_more : (S : State) (was : ℕ → ℕ → Option ℕ) (file open_file next : ℕ) (M : State) (now : ℕ → ℕ
+    → Option ℕ) (owner : ℕ) (T : State) (new : ℕ → ℕ → Option ℕ)
     → IsClosing S was file open_file next M now → next ≤ owner → ((other : ℕ) → next ≤ other → other < owner → now file other ≡ None)
-    → ClosesOn M file (closed_one owner (is_number open_file (now file owner))) None T → SeesOn now new file owner (left_of open_file (now file owner)) → IsClosing S was file open_file (owner + 1) T new
+    → ClosesOn M file (closed_one owner (is_number open_file (now file owner))) None T
+    → SeesOn now new file owner (left_of open_file (now file owner)) → IsClosing S was file open_file (owner + 1) T new
 closing_more S was file open_file next M now owner T new so_far from none closes sees = record {
   gone = λ other. so_far.gone other || closed_one owner came other;
   closes = closes_then S file so_far.gone (closed_one owner came) None M T so_far.closes closes;
@@ -135,7 +140,8 @@ pub all_closed : (S : State) (was : ℕ → ℕ → Option ℕ) (file open_file 
     → ((owner : ℕ) → next ≤ owner → now file owner ≡ None) → ClosesOn S file (is_through (was file) open_file) None T
 all_closed S was file open_file next T now so_far none = grind (arith, common_steps, closes_for, cases_lt)
 
-pub all_forgotten_through : (S : State) (was : ℕ → ℕ → Option ℕ) (file open_file next : ℕ) (T : State) (now : ℕ → ℕ → Option ℕ) → IsClosing S was file open_file next T now
+pub all_forgotten_through : (S : State) (was : ℕ → ℕ → Option ℕ) (file open_file next : ℕ) (T : State) (now : ℕ → ℕ → Option ℕ)
+    → IsClosing S was file open_file next T now
     → ((owner : ℕ) → next ≤ owner → now file owner ≡ None) → ForgetsThrough was now file open_file
 all_forgotten_through S was file open_file next T now so_far none = grind (arith, common_steps, cases_lt)
 
@@ -148,7 +154,8 @@ and_right_false true b isnt = isnt
 and_right_false false b isnt = refl
 
 -- an owner that came through the open file is released
-pub closed_owner : (S : State) (file owner : ℕ) (came : Bool) (T : State) → came ≡ true → ReleasesOn S file Bytes owner T → ClosesOn S file (closed_one owner came) None T
+pub closed_owner : (S : State) (file owner : ℕ) (came : Bool) (T : State) → came ≡ true → ReleasesOn S file Bytes owner T
+    → ClosesOn S file (closed_one owner came) None T
 closed_owner S file owner came T is releases =
     closes_for S file (is_same_owner (Description owner)) (closed_one owner came) None T (λ other. and_right_true (is_same_owner (Description owner) other) came is) (closes_one S file owner T releases)
 

@@ -44,7 +44,8 @@ hit owner span other byte e = grind (arith, common_steps, both, same_owner, leb-
 module _ (F : FileState) (wait : Pending) (before : IsCompatible F) where
   -- of two owners with conflicting modes after a set, the one that was given its mode was blocked
   no_conflict : ¬ IsBlockedIn Bytes (locks_on F) (as_wait wait) → (one other : Owner) (byte : ℕ) (m k : Mode) (a b : Bool) → one ≢ other
-      → (is_same_owner (Description wait.owner) one && is_covered wait.span byte) ≡ a → (is_same_owner (Description wait.owner) other && is_covered wait.span byte) ≡ b
+      → (is_same_owner (Description wait.owner) one && is_covered wait.span byte) ≡ a
+      → (is_same_owner (Description wait.owner) other && is_covered wait.span byte) ≡ b
       → (if a then Some wait.mode else F.bytes one byte) ≡ Some m → (if b then Some wait.mode else F.bytes other byte) ≡ Some k → ¬ Conflict m k
   no_conflict free one other byte m k true true distinct a_is b_is m_is k_is conflict =
       distinct (sym (hit (Description wait.owner) wait.span one byte a_is).is ∙ (hit (Description wait.owner) wait.span other byte b_is).is)
@@ -101,7 +102,8 @@ module _ (F : FileState) (wait : Pending) (before : IsCompatible F) where
       })
   no_flock_conflict free one other m k false false distinct a_is b_is m_is k_is conflict = before.flocks one other m k distinct m_is k_is conflict
 
-  gets_compatible : (family : Family) (G : FileState) → ¬ IsBlockedIn family (locks_on F) (as_wait wait) → SetsLock family F wait.owner wait.span (Some wait.mode) G → IsCompatible G
+  gets_compatible : (family : Family) (G : FileState) → ¬ IsBlockedIn family (locks_on F) (as_wait wait)
+      → SetsLock family F wait.owner wait.span (Some wait.mode) G → IsCompatible G
   gets_compatible Bytes G free sets = record {
     bytes = λ one other byte m k distinct m_is k_is.
         no_conflict free one other byte m k _ _ distinct refl refl (sym (sets.bytes one byte) ∙ m_is) (sym (sets.bytes other byte) ∙ k_is);
@@ -140,11 +142,13 @@ pub fewer_unset : (family : Family) (F : FileState) (owner : ℕ) (span : Span) 
 fewer_unset family F owner span G h = grind (arith, common_steps, still_held, fewer_unlocked)
 
 -- what is there after a set was there, or is the owner's
-from_either : (a : Bool) (new held : Option Mode) (mode : Mode) (Given : Type 0) → (a ≡ true → Given) → (if a then new else held) ≡ Some mode → (held ≡ Some mode) ⊎ Given
+from_either : (a : Bool) (new held : Option Mode) (mode : Mode) (Given : Type 0) → (a ≡ true → Given) → (if a then new else held) ≡ Some mode
+    → (held ≡ Some mode) ⊎ Given
 from_either true new held mode Given given is = inr (given refl)
 from_either false new held mode Given given is = inl is
 
-pub from_set : (family : Family) (F : FileState) (owner : ℕ) (span : Span) (mode : Option Mode) (G : FileState) → SetsLock family F owner span mode G → LocksFrom (λ other. other ≡ owner) F G
+pub from_set : (family : Family) (F : FileState) (owner : ℕ) (span : Span) (mode : Option Mode) (G : FileState) → SetsLock family F owner span mode G
+    → LocksFrom (λ other. other ≡ owner) F G
 from_set family F owner span mode G h = grind (arith, common_steps, from_either, hit, eqb-true)
 
 -- a wait that isn't blocked isn't held back by a lock

@@ -96,11 +96,13 @@ module _ (waits : ℕ → List Pending) (was : Waiters) (known : WaitersKnown wa
   CrossesBy-begun now one file true begins = CrossesBy-begins now one file begins
 
 -- first nobody is given a lock, and then some are
-pub CrossesBy-then : (was between now : Waiters) (given : List ℕ) → CrossesBy was [] between → CrossesBy between given now → ((owner : ℕ) → files_of now owner ≡ files_of between owner) → CrossesBy was given now
+pub CrossesBy-then : (was between now : Waiters) (given : List ℕ) → CrossesBy was [] between → CrossesBy between given now
+    → ((owner : ℕ) → files_of now owner ≡ files_of between owner) → CrossesBy was given now
 CrossesBy-then was between now given first next files owner = grind (arith, common_steps, contains_none)
 
 -- who is crossed among the waiters is crossed in the state
-pub Crosses-by : (S T : State) (was now : Waiters) (given : List ℕ) → ((owner : ℕ) → S.crossed owner ≡ crossed_of was owner) → ((owner : ℕ) → T.crossed owner ≡ crossed_of now owner)
+pub Crosses-by : (S T : State) (was now : Waiters) (given : List ℕ) → ((owner : ℕ) → S.crossed owner ≡ crossed_of was owner)
+    → ((owner : ℕ) → T.crossed owner ≡ crossed_of now owner)
     → WaitersKnown (λ file. (T.files file).waits) now → CrossesBy was given now → Crosses S given T
 Crosses-by S T was now given before after known crosses owner = (
   λ is_crossed. (let h = (crosses owner).0 (sym (after owner) ∙ is_crossed) in

@@ -44,7 +44,8 @@ SameWaiters-itself waiters = record { files = λ owner. refl; crossed = λ owner
 pub untouched_unlocked : (family : Family) (owner : ℕ) → Unlocks family untouched owner untouched
 untouched_unlocked family owner = grind (arith, common_steps, cases_Bool)
 
-pub releases_nothing : (files : BTreeMap ℕ LockFile) (tickets : Tickets) (waiters : Waiters) (file : ℕ) (family : Family) (owner : ℕ) → IsIndexed files tickets waiters → get nat_cmp files file ≡ None
+pub releases_nothing : (files : BTreeMap ℕ LockFile) (tickets : Tickets) (waiters : Waiters) (file : ℕ) (family : Family) (owner : ℕ)
+    → IsIndexed files tickets waiters → get nat_cmp files file ≡ None
     → ReleasesOn (state_by files tickets waiters) file family owner (state_by files tickets waiters)
 releases_nothing files tickets waiters file family owner known none = record {
   unlocks = subst (λ (F : FileState). Unlocks family F owner F) (sym (ap state_at none)) (untouched_unlocked family owner);
@@ -56,7 +57,8 @@ releases_nothing files tickets waiters file family owner known none = record {
 untouched_unset : (owner : ℕ) (span : Span) → SetsBytes untouched owner span None untouched
 untouched_unset owner span = grind (arith, common_steps, cases_Bool)
 
-pub unlocks_nothing : (files : BTreeMap ℕ LockFile) (tickets : Tickets) (waiters : Waiters) (file owner : ℕ) (span : Span) → IsIndexed files tickets waiters → get nat_cmp files file ≡ None
+pub unlocks_nothing : (files : BTreeMap ℕ LockFile) (tickets : Tickets) (waiters : Waiters) (file owner : ℕ) (span : Span)
+    → IsIndexed files tickets waiters → get nat_cmp files file ≡ None
     → SetsOn (state_by files tickets waiters) file Bytes owner span None (state_by files tickets waiters)
 unlocks_nothing files tickets waiters file owner span known none = record {
   sets = subst (λ (F : FileState). SetsBytes F owner span None F) (sym (ap state_at none)) (untouched_unset owner span);
@@ -71,7 +73,8 @@ module _ (old new : BTreeMap ℕ LockFile) (tickets : Tickets) (was : Waiters) (
     kept_indexed = IsIndexed-same old new tickets was (waits_kept old new file before after puts is waits) known
 
     -- the owner loses its locks of the family
-    pub releases_by : (family : Family) (owner : ℕ) → Unlocks family (file_state before) owner (file_state after) → ReleasesOn (state_by old tickets was) file family owner (state_by new tickets was)
+    pub releases_by : (family : Family) (owner : ℕ) → Unlocks family (file_state before) owner (file_state after)
+        → ReleasesOn (state_by old tickets was) file family owner (state_by new tickets was)
     releases_by family owner unlocks = record {
       unlocks = at_entries old new file before after (λ F G. Unlocks family F owner G) is puts unlocks;
       waits = at_entries old new file before after (λ F G. G.waits ≡ F.waits) is puts waits;
@@ -84,7 +87,8 @@ module _ (old new : BTreeMap ℕ LockFile) (tickets : Tickets) (was : Waiters) (
       pub given_indexed : IsIndexed new tickets now
       given_indexed = indexed new tickets now (tickets_known new tickets was kept_indexed) (WaitersKnown-given (waits_in new) was now owner mode crosses (waiters_known new tickets was kept_indexed))
 
-      pub sets_by : (family : Family) (span : Span) → SetsLock family (file_state before) owner span mode (file_state after) → SetsOn (state_by old tickets was) file family owner span mode (state_by new tickets now)
+      pub sets_by : (family : Family) (span : Span) → SetsLock family (file_state before) owner span mode (file_state after)
+          → SetsOn (state_by old tickets was) file family owner span mode (state_by new tickets now)
       sets_by family span sets = record {
         sets = at_entries old new file before after (λ F G. SetsLock family F owner span mode G) is puts sets;
         waits = at_entries old new file before after (λ F G. G.waits ≡ F.waits) is puts waits;
@@ -137,7 +141,8 @@ module _ (old new : BTreeMap ℕ LockFile) (tickets : Tickets) (was : Waiters) (
           (CrossesBy-begun (waits_in old) was (waiters_known old tickets was known) now wait.owner file wait.detect begins)
 
 -- the entry of one file is put, or goes, and its waits stay
-pub put_indexed : (old new : BTreeMap ℕ LockFile) (tickets : Tickets) (waiters : Waiters) (file : ℕ) (entry : Option LockFile) → PutsEntry old new file entry → (state_at entry).waits ≡ (state_in old file).waits
+pub put_indexed : (old new : BTreeMap ℕ LockFile) (tickets : Tickets) (waiters : Waiters) (file : ℕ) (entry : Option LockFile)
+    → PutsEntry old new file entry → (state_at entry).waits ≡ (state_in old file).waits
     → IsIndexed old tickets waiters → IsIndexed new tickets waiters
 put_indexed old new tickets waiters file entry puts same known =
     IsIndexed-same old new tickets waiters
@@ -149,8 +154,10 @@ put_indexed old new tickets waiters file entry puts same known =
     ]) known
 
 -- an entry is made, or refused, where there was none
-pub opened_indexed : {E : Type 0} (r : Result (Option LockFile) E) (old new : BTreeMap ℕ LockFile) (tickets : Tickets) (waiters : Waiters) (file : ℕ) (entry : LockFile) → get nat_cmp old file ≡ None → (file_state entry).waits ≡ []
-    → OnOk r (UpdatesBy nat_cmp (nat_cmp file) old new (Some entry)) → OnErr r (new.entries ≡ old.entries) → IsIndexed old tickets waiters → IsIndexed new tickets waiters
+pub opened_indexed : {E : Type 0} (r : Result (Option LockFile) E) (old new : BTreeMap ℕ LockFile) (tickets : Tickets) (waiters : Waiters) (file : ℕ)
+    (entry : LockFile) → get nat_cmp old file ≡ None → (file_state entry).waits ≡ []
+    → OnOk r (UpdatesBy nat_cmp (nat_cmp file) old new (Some entry)) → OnErr r (new.entries ≡ old.entries) → IsIndexed old tickets waiters
+    → IsIndexed new tickets waiters
 opened_indexed (Ok x) old new tickets waiters file entry none empty ok err known =
     put_indexed old new tickets waiters file (Some entry) (PutsEntry-updates old new file (Some entry) ok) (empty ∙ sym (ap (λ (e : Option LockFile). (state_at e).waits) none)) known
 opened_indexed (Err e) old new tickets waiters file entry none empty ok err known =
@@ -196,13 +203,16 @@ pub not_pending : (table : Table) (ticket : ℕ) → ((file : ℕ) → place_at 
 not_pending table ticket none pending = none pending.file (place_waits table ticket pending.file pending.waits)
 
 -- waiters that stand for the same are known as well
-pub same_indexed : (files : BTreeMap ℕ LockFile) (tickets : Tickets) (was now : Waiters) → SameWaiters was now → IsIndexed files tickets was → IsIndexed files tickets now
+pub same_indexed : (files : BTreeMap ℕ LockFile) (tickets : Tickets) (was now : Waiters) → SameWaiters was now → IsIndexed files tickets was
+    → IsIndexed files tickets now
 same_indexed files tickets was now same known =
     indexed files tickets now (tickets_known files tickets was known) (WaitersKnown-same (waits_in files) was now same (waiters_known files tickets was known))
 
 -- a request is noted, or refused
-pub noted_indexed : {X E : Type 0} (r : Result X E) (files : BTreeMap ℕ LockFile) (tickets after : Tickets) (waiters : Waiters) (ticket : ℕ) → IsIndexed files tickets waiters → IsIdle (place_at tickets ticket)
-    → OnOk r (SetsPlace tickets after ticket (Some Reserved)) → grants_of after ≡ grants_of tickets → OnErr r (SameTickets tickets after) → IsIndexed files after waiters
+pub noted_indexed : {X E : Type 0} (r : Result X E) (files : BTreeMap ℕ LockFile) (tickets after : Tickets) (waiters : Waiters) (ticket : ℕ)
+    → IsIndexed files tickets waiters → IsIdle (place_at tickets ticket)
+    → OnOk r (SetsPlace tickets after ticket (Some Reserved)) → grants_of after ≡ grants_of tickets → OnErr r (SameTickets tickets after)
+    → IsIndexed files after waiters
 noted_indexed r files tickets after waiters ticket h h2 h3 h4 h5 =
     grind (arith, common_steps, indexed, tickets_noted, waits_in, tickets_known, idle_reserved, waiters_known, has_key, ticket_of, itself)
 
@@ -211,12 +221,14 @@ pub some_unless : {A P : Type 0} (found : Option A) → IfNone found P → ¬ P 
 some_unless None holds none = absurd (none holds)
 some_unless (Some x) holds none = refl
 
-flock_room : (before after : LockFile) → KeepsFlockRoom before after → (wait : Pending) → wait.family ≡ Whole → IsReservedIn wait.family before wait → IsReservedIn wait.family after wait
+flock_room : (before after : LockFile) → KeepsFlockRoom before after → (wait : Pending) → wait.family ≡ Whole → IsReservedIn wait.family before wait
+    → IsReservedIn wait.family after wait
 unfolding keeps_place
 flock_room before after keeps wait of_whole room = grind (arith, common_steps)
 
 -- an entry that keeps its room for flock requests keeps it in the table
-pub keeps_room_on : (old new : Table) (file : ℕ) (before after : LockFile) → entry_of old file ≡ Some before → entry_of new file ≡ Some after → KeepsFlockRoom before after
+pub keeps_room_on : (old new : Table) (file : ℕ) (before after : LockFile) → entry_of old file ≡ Some before → entry_of new file ≡ Some after
+    → KeepsFlockRoom before after
     → ((ticket : ℕ) → place_at old.tickets ticket ≡ Some Reserved → place_at new.tickets ticket ≡ Some Reserved) → KeepsRoomOn old new file
 keeps_room_on old new file before after was now keeps tickets = record {
   places = λ owner had. record {

@@ -39,7 +39,8 @@ module _ (waits left : List Pending) (place : ℕ) (wait : Pending) (within : pl
     leaves = record { place = before ∙ stood; locks = locks; waits = after ∙ rest };
   }
 
-  pub reserved_left : (file : LockFile) (family : Family) → wait.family ≡ family → HasRoom file.book waits → file.waits.items ≡ left → IsReservedIn family file wait
+  pub reserved_left : (file : LockFile) (family : Family) → wait.family ≡ family → HasRoom file.book waits → file.waits.items ≡ left
+      → IsReservedIn family file wait
   reserved_left file Bytes of_bytes room now =
       rw (now, rest) (byte_room_left file.book (take place waits) (drop (suc place) waits) wait (room_before file.book room) of_bytes)
   reserved_left file Whole of_whole room now =

@@ -23,7 +23,8 @@ use Rattle.lock_server.specs.Waiting.{IsReservedIn}
 use Rattle.lock_server.proofs.StateLemmas.{SameState-itself, state_from_same}
 
 -- a set of a flock lock, as the request asks for it
-pub set_as_asked : (S : State) (file : ℕ) (wanted : Pending) (T : State) → wanted.family ≡ Whole → SetsOn S file Whole wanted.owner whole_file (Some wanted.mode) T → SetsOn S file wanted.family wanted.owner wanted.span (Some wanted.mode) T
+pub set_as_asked : (S : State) (file : ℕ) (wanted : Pending) (T : State) → wanted.family ≡ Whole
+    → SetsOn S file Whole wanted.owner whole_file (Some wanted.mode) T → SetsOn S file wanted.family wanted.owner wanted.span (Some wanted.mode) T
 set_as_asked S file wanted T family sets = grind (arith, common_steps)
 
 pub KeepsRoomOn-itself : (table : Table) (file : ℕ) → KeepsRoomOn table table file
@@ -66,23 +67,29 @@ module _ (policy : Policy) (S : State) (file : ℕ) (wanted : Pending) where
   flock_wait_held held same = subst (λ (h : Option Mode). FlockWaitComesTo policy S file wanted h told.Done S) (sym same) (inl (refl, (refl, SameState-itself S)))
 
   -- another one: the first half, and then the second
-  pub flock_converts : (held : Option Mode) (M : State) (answer : Answer) (T : State) → held ≢ Some wanted.mode → ConvertsFrom policy S file wanted.owner held M → TestComesTo policy M file wanted answer T → FlockComesTo policy S file wanted held answer T
+  pub flock_converts : (held : Option Mode) (M : State) (answer : Answer) (T : State) → held ≢ Some wanted.mode
+      → ConvertsFrom policy S file wanted.owner held M → TestComesTo policy M file wanted answer T → FlockComesTo policy S file wanted held answer T
   flock_converts None M answer T differs converts comes = subst (λ (U : State). TestComesTo policy U file wanted answer T) (state_from_same S M converts) comes
   flock_converts (Some held) M answer T differs converts comes = inr (λ same. differs (ap (λ (m : Mode). Some m) same), (M, converts, comes))
 
-  pub flock_wait_converts : (held : Option Mode) (M : State) (answer : WaitAnswer) (T : State) → held ≢ Some wanted.mode → ConvertsFrom policy S file wanted.owner held M → WaitComesTo policy M file wanted answer T → FlockWaitComesTo policy S file wanted held answer T
+  pub flock_wait_converts : (held : Option Mode) (M : State) (answer : WaitAnswer) (T : State) → held ≢ Some wanted.mode
+      → ConvertsFrom policy S file wanted.owner held M → WaitComesTo policy M file wanted answer T → FlockWaitComesTo policy S file wanted held answer T
   flock_wait_converts None M answer T differs converts comes = subst (λ (U : State). WaitComesTo policy U file wanted answer T) (state_from_same S M converts) comes
   flock_wait_converts (Some held) M answer T differs converts comes = inr (λ same. differs (ap (λ (m : Mode). Some m) same), (M, converts, comes))
 
 -- the same, where a place was kept before
-pub flocks_by_halves : (policy : Policy) (S P M T : State) (file : ℕ) (wanted : Pending) (held : Option Mode) (answer : Answer) → held ≡ (S.files file).flocks wanted.owner → held ≢ Some wanted.mode → SameState S P
-    → ConvertsFrom policy P file wanted.owner held M → TestComesTo policy M file wanted answer T → FlockComesTo policy S file wanted ((S.files file).flocks wanted.owner) answer T
+pub flocks_by_halves : (policy : Policy) (S P M T : State) (file : ℕ) (wanted : Pending) (held : Option Mode) (answer : Answer)
+    → held ≡ (S.files file).flocks wanted.owner → held ≢ Some wanted.mode → SameState S P
+    → ConvertsFrom policy P file wanted.owner held M → TestComesTo policy M file wanted answer T
+    → FlockComesTo policy S file wanted ((S.files file).flocks wanted.owner) answer T
 flocks_by_halves policy S P M T file wanted held answer is differs same converts comes =
     subst (λ (h : Option Mode). FlockComesTo policy S file wanted h answer T) is
     (flock_converts policy S file wanted held M answer T differs (subst (λ (U : State). ConvertsFrom policy U file wanted.owner held M) (state_from_same S P same) converts) comes)
 
-pub flock_waits_by_halves : (policy : Policy) (S P M T : State) (file : ℕ) (wanted : Pending) (held : Option Mode) (answer : WaitAnswer) → held ≡ (S.files file).flocks wanted.owner → held ≢ Some wanted.mode → SameState S P
-    → ConvertsFrom policy P file wanted.owner held M → WaitComesTo policy M file wanted answer T → FlockWaitComesTo policy S file wanted ((S.files file).flocks wanted.owner) answer T
+pub flock_waits_by_halves : (policy : Policy) (S P M T : State) (file : ℕ) (wanted : Pending) (held : Option Mode) (answer : WaitAnswer)
+    → held ≡ (S.files file).flocks wanted.owner → held ≢ Some wanted.mode → SameState S P
+    → ConvertsFrom policy P file wanted.owner held M → WaitComesTo policy M file wanted answer T
+    → FlockWaitComesTo policy S file wanted ((S.files file).flocks wanted.owner) answer T
 flock_waits_by_halves policy S P M T file wanted held answer is differs same converts comes =
     subst (λ (h : Option Mode). FlockWaitComesTo policy S file wanted h answer T) is
     (flock_wait_converts policy S file wanted held M answer T differs (subst (λ (U : State). ConvertsFrom policy U file wanted.owner held M) (state_from_same S P same) converts) comes)

@@ -25,7 +25,8 @@ pub dismissing_none : (S : State) (file owner : ℕ) (T : State) → ReleasesOn 
 dismissing_none S file owner T releases = grind (arith, common_steps)
 
 -- what a filter drops doesn't count
-filter_without : (p : Pending → Bool) (before after : List Pending) (wait : Pending) → p wait ≡ false → filter p (before ++ wait ∷ after) ≡ filter p (before ++ after)
+filter_without : (p : Pending → Bool) (before after : List Pending) (wait : Pending) → p wait ≡ false
+    → filter p (before ++ wait ∷ after) ≡ filter p (before ++ after)
 filter_without p before after wait drops = grind (arith, common_steps, filter-append)
 
 -- a filter that all pass drops nothing
@@ -41,7 +42,8 @@ pub dismissing_more : (S : State) (file owner : ℕ) (M T : State) → IsDismiss
 dismissing_more S file owner M T so_far one = grind (arith, common_steps, filter_without, SameFile-then, crosses_then, detected_before)
 
 -- none of its waits is left
-pub all_dismissed : (S : State) (file owner : ℕ) (M T : State) → IsDismissing S file owner M → All (λ wait. IsTrue (is_other_wait owner wait)) (M.files file).waits → SameState M T → ForgetsOn S file owner T
+pub all_dismissed : (S : State) (file owner : ℕ) (M T : State) → IsDismissing S file owner M
+    → All (λ wait. IsTrue (is_other_wait owner wait)) (M.files file).waits → SameState M T → ForgetsOn S file owner T
 all_dismissed S file owner M T so_far all same = search (rules, state_from_same, filter_all)
 
 -- one wait that is dismissed is one wait less
@@ -84,7 +86,8 @@ stranger_still F G owner same none = stranger F owner (SameFile-then untouched G
 pub forgetting_none : (policy : Policy) (S : State) (owner : ℕ) → IsForgetting policy S owner 0 S
 forgetting_none policy S owner = grind (arith, common_steps, All-nil, SameFile-itself)
 
-forgets_more : (policy : Policy) (files : List ℕ) (S : State) (owner file : ℕ) (M between after T : State) → ForgetsIn policy files S owner M → ForgetsOn M file owner between → SettlesFile policy between file after
+forgets_more : (policy : Policy) (files : List ℕ) (S : State) (owner file : ℕ) (M between after T : State) → ForgetsIn policy files S owner M
+    → ForgetsOn M file owner between → SettlesFile policy between file after
     → SameState after T → ForgetsIn policy (files ++ file ∷ []) S owner T
 forgets_more policy [] S owner file M between after T same forgets settles still =
     (between, after, subst (λ (U : State). ForgetsOn U file owner between) (state_from_same S M same) forgets, settles, still)
@@ -92,8 +95,10 @@ forgets_more policy (first ∷ files) S owner file M between after T (b, n, here
     (b, n, here, settled, forgets_more policy files n owner file M between after T rest forgets settles still)
 
 -- the next file that is not untouched
-pub forgetting_more : (policy : Policy) (S : State) (owner next : ℕ) (M : State) (file : ℕ) (between after T : State) → IsForgetting policy S owner next M → next ≤ file
-    → ((other : ℕ) → next ≤ other → other < file → SameFile untouched (M.files other)) → ForgetsOn M file owner between → SettlesFile policy between file after → SameState after T
+pub forgetting_more : (policy : Policy) (S : State) (owner next : ℕ) (M : State) (file : ℕ) (between after T : State)
+    → IsForgetting policy S owner next M → next ≤ file
+    → ((other : ℕ) → next ≤ other → other < file → SameFile untouched (M.files other)) → ForgetsOn M file owner between
+    → SettlesFile policy between file after → SameState after T
     → IsForgetting policy S owner (file + 1) T
 forgetting_more policy S owner next M file between after T so_far from least forgets settles still = record {
   done = so_far.done ++ file ∷ [];
@@ -115,7 +120,8 @@ forgetting_more policy S owner next M file between after T so_far from least for
 }
 
 -- from here on all files are untouched
-pub all_forgotten : (policy : Policy) (S : State) (owner next : ℕ) (T : State) → IsForgetting policy S owner next T → ((file : ℕ) → next ≤ file → SameFile untouched (T.files file)) → Forgets policy S owner T
+pub all_forgotten : (policy : Policy) (S : State) (owner next : ℕ) (T : State) → IsForgetting policy S owner next T
+    → ((file : ℕ) → next ≤ file → SameFile untouched (T.files file)) → Forgets policy S owner T
 all_forgotten policy S owner next T so_far none = record {
   files = so_far.done;
   rising = so_far.rising;

@@ -12,7 +12,8 @@ pub AddsOwners-same : (old : List ℕ) (Added : ℕ → Type 0) → ((other : �
 AddsOwners-same old Added none = record { kept = λ other h. h; added = λ other h. absurd (none other h); only = λ other h. inl h }
 
 -- one owner, the only one of which it holds
-pub AddsOwners-push : (old new : List ℕ) (owner : ℕ) (Added : ℕ → Type 0) → new ≡ old ++ owner ∷ [] → Added owner → ((other : ℕ) → Added other → other ≡ owner) → AddsOwners old new Added
+pub AddsOwners-push : (old new : List ℕ) (owner : ℕ) (Added : ℕ → Type 0) → new ≡ old ++ owner ∷ [] → Added owner
+    → ((other : ℕ) → Added other → other ≡ owner) → AddsOwners old new Added
 AddsOwners-push old new owner Added items holds alone = grind (arith, common_steps, Contains-append_left, Contains-push, Contains-push_cases)
 
 -- the same owners, said otherwise
@@ -47,7 +48,8 @@ module _ {X : Type 0} (Gives : ℕ → X → ℕ → Type 0) (xs : List X) where
   ]
 
   -- an element that adds what it gives
-  pub gathered_more : (old mid new : List ℕ) (i : ℕ) (x : X) → slice_get xs i ≡ Some x → AddsOwners old mid (IsGivenBefore Gives xs i) → AddsOwners mid new (Gives i x) → AddsOwners old new (IsGivenBefore Gives xs (i + 1))
+  pub gathered_more : (old mid new : List ℕ) (i : ℕ) (x : X) → slice_get xs i ≡ Some x → AddsOwners old mid (IsGivenBefore Gives xs i)
+      → AddsOwners mid new (Gives i x) → AddsOwners old new (IsGivenBefore Gives xs (i + 1))
   gathered_more old mid new i x at before here =
       AddsOwners-as old new (λ other. IsGivenBefore Gives xs i other ⊎ Gives i x other) (IsGivenBefore Gives xs (i + 1))
       (λ other. (
@@ -60,12 +62,15 @@ module _ {X : Type 0} (Gives : ℕ → X → ℕ → Type 0) (xs : List X) where
       (AddsOwners-both old mid new (IsGivenBefore Gives xs i) (Gives i x) before here)
 
   -- an element that gives nothing
-  pub gathered_skip : (old new : List ℕ) (i : ℕ) (x : X) → slice_get xs i ≡ Some x → AddsOwners old new (IsGivenBefore Gives xs i) → ((other : ℕ) → ¬ Gives i x other) → AddsOwners old new (IsGivenBefore Gives xs (i + 1))
+  pub gathered_skip : (old new : List ℕ) (i : ℕ) (x : X) → slice_get xs i ≡ Some x → AddsOwners old new (IsGivenBefore Gives xs i)
+      → ((other : ℕ) → ¬ Gives i x other) → AddsOwners old new (IsGivenBefore Gives xs (i + 1))
   gathered_skip old new i x at before none = gathered_more old new new i x at before (AddsOwners-same new (Gives i x) none)
 
   -- after the last one it is all
-  pub gathered_all : (old new : List ℕ) (i : ℕ) (P : ℕ → Type 0) → length xs ≤ i → ((other place : ℕ) (x : X) → slice_get xs place ≡ Some x → Gives place x other → P other)
-      → ((other : ℕ) → P other → (place : ℕ) × (x : X) × (slice_get xs place ≡ Some x) × Gives place x other) → AddsOwners old new (IsGivenBefore Gives xs i) → AddsOwners old new P
+  pub gathered_all : (old new : List ℕ) (i : ℕ) (P : ℕ → Type 0) → length xs ≤ i
+      → ((other place : ℕ) (x : X) → slice_get xs place ≡ Some x → Gives place x other → P other)
+      → ((other : ℕ) → P other → (place : ℕ) × (x : X) × (slice_get xs place ≡ Some x) × Gives place x other)
+      → AddsOwners old new (IsGivenBefore Gives xs i) → AddsOwners old new P
   gathered_all old new i P past only every =
       AddsOwners-as old new (IsGivenBefore Gives xs i) P
       (λ other. (

@@ -37,7 +37,8 @@ same_parts {X} (a ∷ xs) (b ∷ ys) x y us vs long same =
     let front = parts.before in record { before = (cc); here = parts.here; after = parts.after }
 
 -- a lock that is given after the wait left is given where it stood
-gets_in : (family : Family) (F M G : FileState) (wait : Pending) → SameLocks F M → SetsLock family M wait.owner wait.span (Some wait.mode) G → SetsLock family F wait.owner wait.span (Some wait.mode) G
+gets_in : (family : Family) (F M G : FileState) (wait : Pending) → SameLocks F M → SetsLock family M wait.owner wait.span (Some wait.mode) G
+    → SetsLock family F wait.owner wait.span (Some wait.mode) G
 gets_in family F M G wait h h2 = grind (arith, common_steps)
 
 pub gets_where_it_stood : (F M G : FileState) (wait : Pending) → SameLocks F M → GetsLock M wait G → GetsLock F wait G
@@ -48,7 +49,8 @@ pub one_fewer : (F M : FileState) (place : ℕ) (wait : Pending) → LeavesAt F 
 one_fewer F M place wait left = grind (arith, common_steps, length-append)
 
 -- the wait at the place that is ready is granted
-pub grants_at : (policy : Policy) (F M G : FileState) (place : ℕ) (wait : Pending) → LeavesAt F place wait M → GetsLock F wait G → G.waits ≡ M.waits → IsReadyAt policy F place → Grants policy F wait G
+pub grants_at : (policy : Policy) (F M G : FileState) (place : ℕ) (wait : Pending) → LeavesAt F place wait M → GetsLock F wait G → G.waits ≡ M.waits
+    → IsReadyAt policy F place → Grants policy F wait G
 grants_at policy F M G place wait left gets waits ready = grind (arith, common_steps, same_parts)
 
 -- what is found passes the test
@@ -67,12 +69,15 @@ pub found_within : {X : Type 0} (p : X → Bool) (xs : List X) (place : ℕ) →
 found_within p xs place found = grind (arith, common_steps, cases_lt, lt-ltb, le-ltb)
 
 -- the wait at a place has a range that all have
-pub range_at : (waits : List Pending) (place : ℕ) (wait : Pending) → All (λ other. IsByteRange other.span) waits → slice_get waits place ≡ Some wait → IsByteRange wait.span
+pub range_at : (waits : List Pending) (place : ℕ) (wait : Pending) → All (λ other. IsByteRange other.span) waits → slice_get waits place ≡ Some wait
+    → IsByteRange wait.span
 range_at waits place wait all is = grind (arith, common_steps, slice_get_cases, slice_get-get_or)
 
 -- the room that is held for a wait of each family
-pub room_for_one : (file : LockFile) (wait : Pending) → wait.family ≡ Bytes → IsReservedIn wait.family file wait → byte_waits file.waits.items wait.owner < room_in file.book (Description wait.owner)
+pub room_for_one : (file : LockFile) (wait : Pending) → wait.family ≡ Bytes → IsReservedIn wait.family file wait
+    → byte_waits file.waits.items wait.owner < room_in file.book (Description wait.owner)
 room_for_one file wait is held = subst (λ (family : Family). IsReservedIn family file wait) is held
 
-pub place_for_one : (file : LockFile) (wait : Pending) → wait.family ≡ Whole → IsReservedIn wait.family file wait → IsTrue (has_flock_place file.book wait.owner)
+pub place_for_one : (file : LockFile) (wait : Pending) → wait.family ≡ Whole → IsReservedIn wait.family file wait
+    → IsTrue (has_flock_place file.book wait.owner)
 place_for_one file wait is held = subst (λ (family : Family). IsReservedIn family file wait) is held

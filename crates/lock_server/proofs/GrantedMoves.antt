@@ -34,7 +34,8 @@ use Rattle.lock_server.proofs.TicketMoves.{PutsWaits, tickets_granted, waited}
 use Rattle.lock_server.proofs.WaiterMoves.{WaitersKnown, waiters_crossed}
 
 -- where a wait is ready the file has an entry, which the map lends
-pub lent_of_ready : (policy : Policy) (files : BTreeMap ℕ LockFile) (file place : ℕ) → IsReadyAt policy (state_in files file) place → (lent : Option (MutBor LockFile)) → option_copied_mut lent ≡ get nat_cmp files file → IsSome lent
+pub lent_of_ready : (policy : Policy) (files : BTreeMap ℕ LockFile) (file place : ℕ) → IsReadyAt policy (state_in files file) place
+    → (lent : Option (MutBor LockFile)) → option_copied_mut lent ≡ get nat_cmp files file → IsSome lent
 lent_of_ready policy files file place h lent h2 = grind (arith, common_steps, no_place)
 
 module _ (old new : BTreeMap ℕ LockFile) (tickets free : Tickets) (was between now : Waiters) (file : ℕ) (before after : LockFile) (is : get nat_cmp old file ≡ Some before) (puts : PutsEntry old new file (Some after)) (known : IsIndexed old tickets was) (policy : Policy) (wait : Pending) (grants : Grants policy (file_state before) wait (file_state after)) where
@@ -49,7 +50,8 @@ module _ (old new : BTreeMap ℕ LockFile) (tickets free : Tickets) (was between
   granted_waited = waited (waits_in old) (waits_in new) tickets free file wait (tickets_known old tickets was known) grants.before grants.after stood gone
 
   -- so a ticket that is only reserved stays so
-  pub reserved_stays : SetsPlace tickets free wait.ticket (Some Granted) → (ticket : ℕ) → place_at tickets ticket ≡ Some Reserved → place_at free ticket ≡ Some Reserved
+  pub reserved_stays : SetsPlace tickets free wait.ticket (Some Granted) → (ticket : ℕ) → place_at tickets ticket ≡ Some Reserved
+      → place_at free ticket ≡ Some Reserved
   reserved_stays sets ticket noted = elim (cases_eq ticket wait.ticket) [
     | inl same ↦
         absurd (let h : Some (Waits file) ≡ Some Reserved = sym granted_waited ∙ ap (place_at tickets) (sym same) ∙ noted in cc)

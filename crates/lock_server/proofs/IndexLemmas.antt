@@ -23,11 +23,13 @@ pub record PutsEntry (old new : BTreeMap ℕ LockFile) (file : ℕ) (entry : Opt
   pub here : get nat_cmp new file ≡ entry
   pub others : (other : ℕ) → other ≢ file → get nat_cmp new other ≡ get nat_cmp old other
 
-pub PutsEntry-updates : (old new : BTreeMap ℕ LockFile) (file : ℕ) (entry : Option LockFile) → UpdatesBy nat_cmp (nat_cmp file) old new entry → PutsEntry old new file entry
+pub PutsEntry-updates : (old new : BTreeMap ℕ LockFile) (file : ℕ) (entry : Option LockFile) → UpdatesBy nat_cmp (nat_cmp file) old new entry
+    → PutsEntry old new file entry
 PutsEntry-updates old new file entry updates = record { here = updates.1; others = λ other differs. updates.2 other (is_at-other file other differs) }
 
 -- the entry that a map lent, and what a write through it puts there
-pub file_written : (old new : BTreeMap ℕ LockFile) (file : ℕ) (lent : Option (MutBor LockFile)) (locks : MutBor LockFile) (after : LockFile) → option_copied_mut lent ≡ get nat_cmp old file → lent ≡ Some locks
+pub file_written : (old new : BTreeMap ℕ LockFile) (file : ℕ) (lent : Option (MutBor LockFile)) (locks : MutBor LockFile) (after : LockFile)
+    → option_copied_mut lent ≡ get nat_cmp old file → lent ≡ Some locks
     → WritesThrough nat_cmp (nat_cmp file) old after new → (get nat_cmp old file ≡ Some locks.now) × PutsEntry old new file (Some after)
 file_written old new file lent locks after value is writes = grind (arith, common_steps, PutsEntry-updates)
 
@@ -41,7 +43,8 @@ pub same_from_eq : (F G : FileState) → G ≡ F → SameFile F G
 same_from_eq F G e = grind (arith, common_steps)
 
 -- what is known holds where each file has the waits that it had
-pub IsIndexed-same : (old new : BTreeMap ℕ LockFile) (tickets : Tickets) (waiters : Waiters) → ((file : ℕ) → (state_in new file).waits ≡ (state_in old file).waits)
+pub IsIndexed-same : (old new : BTreeMap ℕ LockFile) (tickets : Tickets) (waiters : Waiters)
+    → ((file : ℕ) → (state_in new file).waits ≡ (state_in old file).waits)
     → IsIndexed old tickets waiters → IsIndexed new tickets waiters
 IsIndexed-same old new tickets waiters same known = record {
   pending = λ ticket file. rw (same file) (known.pending ticket file);

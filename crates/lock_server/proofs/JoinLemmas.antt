@@ -31,14 +31,16 @@ joined_is F wait G joins i = record {
 }
 
 -- a blocked wait joins blocked ones
-joined_settled : (policy : Policy) (F : FileState) (wait : Pending) → IsSettled policy F → IsWaitBlocked policy F F.waits wait → IsSettled policy (with_wait F wait)
+joined_settled : (policy : Policy) (F : FileState) (wait : Pending) → IsSettled policy F → IsWaitBlocked policy F F.waits wait
+    → IsSettled policy (with_wait F wait)
 joined_settled policy F wait settled blocked = grind (arith, common_steps, as_waits-append, AllBlocked-push)
 
 -- a place in the longer list is one in the list, or the last
 record IsFrom (waits before : List Pending) (one wait : Pending) : Type 0 where
   from : ((after : List Pending) × (waits ≡ before ++ one ∷ after)) ⊎ ((before ≡ waits) × (one ≡ wait))
 
-stands_in_longer : (waits before : List Pending) (one : Pending) (after : List Pending) (wait : Pending) → waits ++ wait ∷ [] ≡ before ++ one ∷ after → IsFrom waits before one wait
+stands_in_longer : (waits before : List Pending) (one : Pending) (after : List Pending) (wait : Pending) → waits ++ wait ∷ [] ≡ before ++ one ∷ after
+    → IsFrom waits before one wait
 stands_in_longer [] [] one after wait place =
     let e : wait ∷ [] ≡ one ∷ after = place in
     let here : one ≡ wait = cc in record { from = inr (refl, here) }
@@ -64,14 +66,16 @@ BlocksNew : Policy → FileState → Pending → ℕ → Type 0
 BlocksNew policy F wait other = IsTrue wait.detect × IsBlockedByOwner policy F F.waits wait other
 
 -- the locks of the longer list block the same
-blocked_before : (policy : Policy) (F : FileState) (wait : Pending) (before : List Pending) (one : Pending) (other : ℕ) → IsBlockedByOwner policy (with_wait F wait) before one other → IsBlockedByOwner policy F before one other
+blocked_before : (policy : Policy) (F : FileState) (wait : Pending) (before : List Pending) (one : Pending) (other : ℕ)
+    → IsBlockedByOwner policy (with_wait F wait) before one other → IsBlockedByOwner policy F before one other
 blocked_before policy F wait before one other blocked = grind (arith, common_steps, still_blocked)
 
 module _ (policy : Policy) (S : State) (file : ℕ) (wait : Pending) (T : State) (suspends : Suspends S file wait T) where
   longer : T.files file ≡ with_wait (S.files file) wait
   longer = joined_is (S.files file) wait (T.files file) suspends.joins
 
-  on_longer : (one other : ℕ) → WaitsForOn policy (with_wait (S.files file) wait) one other → WaitsFor policy S one other ⊎ ((one ≡ wait.owner) × BlocksNew policy (S.files file) wait other)
+  on_longer : (one other : ℕ) → WaitsForOn policy (with_wait (S.files file) wait) one other
+      → WaitsFor policy S one other ⊎ ((one ≡ wait.owner) × BlocksNew policy (S.files file) wait other)
   unfolding BlocksNew
   on_longer one other step =
       let blocked = blocked_before policy (S.files file) wait step.before step.wait other step.blocked in
@@ -131,7 +135,8 @@ module _ (policy : Policy) (S : State) (file : ℕ) (wait : Pending) (T : State)
   ]
 
   -- a blocked wait that closes no cycle joins
-  pub safe_joined : IsSafe policy S → IsWaitBlocked policy (S.files file) (S.files file).waits wait → ¬ IsRefused policy S file wait → AreTicketsOnce T → IsSafe policy T
+  pub safe_joined : IsSafe policy S → IsWaitBlocked policy (S.files file) (S.files file).waits wait → ¬ IsRefused policy S file wait
+      → AreTicketsOnce T → IsSafe policy T
   safe_joined safe blocked open_still once = record {
     compatible = at_each_file IsCompatible safe.compatible (let was = safe.compatible file in record { bytes = was.bytes; flocks = was.flocks });
     settled = at_each_file (IsSettled policy) safe.settled (joined_settled policy (S.files file) wait (safe.settled file) blocked);

@@ -13,7 +13,8 @@ split_at {X} xs k x within is =
 
 module _ {X : Type 0} where
   -- where an element stands among others, as many pass as without it, and one more if it does
-  pub counted_with : (p : X → Bool) (before after : List X) (x : X) → length (filter p (before ++ x ∷ after)) ≡ length (filter p (before ++ after)) + cond (p x) 1 0
+  pub counted_with : (p : X → Bool) (before after : List X) (x : X)
+      → length (filter p (before ++ x ∷ after)) ≡ length (filter p (before ++ after)) + cond (p x) 1 0
   counted_with p [] after x = elim (p x) as (λ b. length (cond b (x ∷ filter p after) (filter p after)) ≡ length (filter p after) + cond b 1 0) [
     | true ↦ omega arith
     | false ↦ omega arith

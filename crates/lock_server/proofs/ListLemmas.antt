@@ -45,14 +45,17 @@ pub Any-weaker : {X : Type 0} (P Q : X → Type 0) → ((x : X) → P x → Q x)
 Any-weaker P Q weaker xs (k, x, within, is, holds) = (k, x, within, is, weaker x holds)
 
 -- one of these waits conflicts with the wait, as the server and as `wait_core` say it
-pub conflicts_there : (wait : Pending) (earlier : List Pending) → Any (λ v. PendingsConflict v wait) earlier → Any (λ v. WaitsConflict v (as_wait wait)) (as_waits earlier)
+pub conflicts_there : (wait : Pending) (earlier : List Pending) → Any (λ v. PendingsConflict v wait) earlier
+    → Any (λ v. WaitsConflict v (as_wait wait)) (as_waits earlier)
 conflicts_there wait earlier any = grind (arith, common_steps, Any-map, Any-weaker)
 
-pub conflicts_here : (wait : Pending) (earlier : List Pending) → Any (λ v. WaitsConflict v (as_wait wait)) (as_waits earlier) → Any (λ v. PendingsConflict v wait) earlier
+pub conflicts_here : (wait : Pending) (earlier : List Pending) → Any (λ v. WaitsConflict v (as_wait wait)) (as_waits earlier)
+    → Any (λ v. PendingsConflict v wait) earlier
 conflicts_here wait earlier any = search (rules, Any-weaker, Any-unmap)
 
 -- blocked by an earlier wait, where no lock is in the way
-pub queued : (F : FileState) (earlier : List Pending) (wait : Pending) (any : Bool) → ¬ IsHeldBack F wait → IsTrue any ↔ Any (λ v. PendingsConflict v wait) earlier
+pub queued : (F : FileState) (earlier : List Pending) (wait : Pending) (any : Bool) → ¬ IsHeldBack F wait
+    → IsTrue any ↔ Any (λ v. PendingsConflict v wait) earlier
     → IsTrue any ↔ IsWaitBlocked Queue F earlier wait
 queued F earlier wait any free says = grind (arith, common_steps, conflicts_there, conflicts_here)
 

@@ -47,7 +47,8 @@ module _ (waiters : Waiters) (target : ℕ) (owners old : List ℕ) where
   }
 
   -- this one is there, or doesn't go on
-  pub added_skip : (new : List ℕ) (i owner : ℕ) → slice_get owners i ≡ Some owner → IsAddedBefore waiters target owners old new i → (IsGoingOn waiters target owner → Contains new owner)
+  pub added_skip : (new : List ℕ) (i owner : ℕ) → slice_get owners i ≡ Some owner → IsAddedBefore waiters target owners old new i
+      → (IsGoingOn waiters target owner → Contains new owner)
       → IsAddedBefore waiters target owners old new (i + 1)
   added_skip new i owner at before there = record {
     more = before.more;
@@ -63,7 +64,8 @@ module _ (waiters : Waiters) (target : ℕ) (owners old : List ℕ) where
   }
 
   -- this one is put behind
-  pub added_push : (new after : List ℕ) (i owner : ℕ) → slice_get owners i ≡ Some owner → after ≡ new ++ owner ∷ [] → IsAddedBefore waiters target owners old new i → IsAddedBefore waiters target owners old after (i + 1)
+  pub added_push : (new after : List ℕ) (i owner : ℕ) → slice_get owners i ≡ Some owner → after ≡ new ++ owner ∷ []
+      → IsAddedBefore waiters target owners old new i → IsAddedBefore waiters target owners old after (i + 1)
   added_push new after i owner at items before =
       let among : Contains owners owner = (i, slice_get_within owners i owner at, get_or_from_slice_get owners i owner owner at) in
       added_skip after i owner at
@@ -93,11 +95,14 @@ pub found_among : (xs : List ℕ) (x : ℕ) (found : Bool) → IsAnyAnswer (λ y
 found_among xs x found says is = grind (arith, common_steps, eqb-true)
 
 -- what stands at a place of the list, and where its end is
-pub read_at : (xs : List ℕ) (i : ℕ) (lent : Option (Bor ℕ)) (x : ℕ) → MatchOption lent (length xs ≤ i) (λ y. (i < length xs) × HoldsAt (λ z. y.now ≡ z) xs i) → option_copied lent ≡ Some x → (i < length xs) × (x ≡ get_or xs i x)
+pub read_at : (xs : List ℕ) (i : ℕ) (lent : Option (Bor ℕ)) (x : ℕ)
+    → MatchOption lent (length xs ≤ i) (λ y. (i < length xs) × HoldsAt (λ z. y.now ≡ z) xs i) → option_copied lent ≡ Some x
+    → (i < length xs) × (x ≡ get_or xs i x)
 read_at xs i None x says is = absurd (none-some x is)
 read_at xs i (Some y) x says is = (says.0, sym (same_Some y.now x is) ∙ says.1 x)
 
-pub read_past : (xs : List ℕ) (i : ℕ) (lent : Option (Bor ℕ)) → MatchOption lent (length xs ≤ i) (λ y. (i < length xs) × HoldsAt (λ z. y.now ≡ z) xs i) → option_copied lent ≡ None → length xs ≤ i
+pub read_past : (xs : List ℕ) (i : ℕ) (lent : Option (Bor ℕ))
+    → MatchOption lent (length xs ≤ i) (λ y. (i < length xs) × HoldsAt (λ z. y.now ≡ z) xs i) → option_copied lent ≡ None → length xs ≤ i
 read_past xs i None says is = says
 read_past xs i (Some y) says is = absurd (none-some y.now (sym is))
 
@@ -119,7 +124,8 @@ times_place file (other ∷ files) some = elim (cases_eq other file) [
 ]
 
 -- an owner that waits on the file has it among its files
-file_of_step : (policy : Policy) (files : BTreeMap ℕ LockFile) (tickets : Tickets) (waiters : Waiters) → IsIndexed files tickets waiters → (owner file other : ℕ)
+file_of_step : (policy : Policy) (files : BTreeMap ℕ LockFile) (tickets : Tickets) (waiters : Waiters) → IsIndexed files tickets waiters
+    → (owner file other : ℕ)
     → WaitsForOn policy (state_in files file) owner other → Contains (files_of waiters owner) file
 file_of_step policy files tickets waiters known owner file other step =
     let test = λ (wait : Pending). wait.detect && (wait.owner == owner) in
@@ -132,7 +138,8 @@ file_of_step policy files tickets waiters known owner file other step =
     times_place file (files_of waiters owner) (λ none. omega arith)
 
 -- an owner that waits goes on
-pub waits_goes_on : (policy : Policy) (files : BTreeMap ℕ LockFile) (tickets : Tickets) (waiters : Waiters) → IsIndexed files tickets waiters → (target owner file other : ℕ)
+pub waits_goes_on : (policy : Policy) (files : BTreeMap ℕ LockFile) (tickets : Tickets) (waiters : Waiters) → IsIndexed files tickets waiters
+    → (target owner file other : ℕ)
     → WaitsForOn policy (state_in files file) owner other → IsGoingOn waiters target owner
 waits_goes_on policy files tickets waiters known target owner file other step =
     let among = file_of_step policy files tickets waiters known owner file other step in
@@ -141,7 +148,8 @@ waits_goes_on policy files tickets waiters known target owner file other step =
 module _ (table : Table) where
   -- the files of an owner gave all for which it waits
   pub all_files : (owner : ℕ) (old new : List ℕ) (i : ℕ) → length (files_of table.waiters owner) ≤ i
-      → AddsOwners old new (IsGivenBefore (λ place file other. WaitsForOn table.policy (state_in table.files file) owner other) (files_of table.waiters owner) i)
+      → AddsOwners old new (IsGivenBefore
+      (λ place file other. WaitsForOn table.policy (state_in table.files file) owner other) (files_of table.waiters owner) i)
       → AddsOwners old new (WaitsFor (table_policy table) (table_state table) owner)
   unfolding table_policy table_state entry_of
   all_files owner old new i past adds =
@@ -167,13 +175,16 @@ blocks_in_another Bytes F wait other blocks same = blocks.blocks.another (ap (λ
 blocks_in_another Whole F wait other blocks same = blocks.another same
 
 -- who blocks a wait is another owner
-pub another_blocks : (policy : Policy) (F : FileState) (earlier : List Pending) (wait : Pending) (other : ℕ) → IsBlockedByOwner policy F earlier wait other → other ≢ wait.owner
+pub another_blocks : (policy : Policy) (F : FileState) (earlier : List Pending) (wait : Pending) (other : ℕ)
+    → IsBlockedByOwner policy F earlier wait other → other ≢ wait.owner
 another_blocks policy F earlier wait other h = grind (arith, common_steps, blocks_in_another)
 
 -- some owner that was reached from those that block the wait leads to its own, just where the wait closes a cycle
 pub closes_cycle : (table : Table) (file : ℕ) (wanted : Pending) (blockers reached : List ℕ) (answer : Bool)
-    → AddsOwners [] blockers (IsBlockedByOwner (table_policy table) ((table_state table).files file) ((table_state table).files file).waits wanted) → AddsGoingOn table.waiters wanted.owner blockers [] reached
-    → IsTrue answer ↔ SomeLeadsTo (table_policy table) (table_state table) reached wanted.owner → IsTrue answer ↔ ClosesCycle (table_policy table) (table_state table) file wanted
+    → AddsOwners [] blockers (IsBlockedByOwner (table_policy table) ((table_state table).files file) ((table_state table).files file).waits wanted)
+    → AddsGoingOn table.waiters wanted.owner blockers [] reached
+    → IsTrue answer ↔ SomeLeadsTo (table_policy table) (table_state table) reached wanted.owner
+    → IsTrue answer ↔ ClosesCycle (table_policy table) (table_state table) file wanted
 closes_cycle table file wanted blockers reached answer adds going says = (
   λ yes. to_cycle (says.0 yes),
   λ cycle. says.1 (record { owner = cycle.blocker; among = in_reached cycle; leads = inr cycle.led }),

@@ -16,7 +16,8 @@ use Rattle.lock_server.specs.Waiting.{IsReadyAt}
 use Rattle.lock_server.proofs.LeaveLemmas.{split_at}
 
 -- one more wait that is blocked
-pub AllBlocked-push : (policy : Policy) (locks : Locks) (earlier waits : List Wait) (wait : Wait) → AllBlocked policy locks earlier waits → IsBlocked policy locks (earlier ++ waits) wait → AllBlocked policy locks earlier (waits ++ wait ∷ [])
+pub AllBlocked-push : (policy : Policy) (locks : Locks) (earlier waits : List Wait) (wait : Wait) → AllBlocked policy locks earlier waits
+    → IsBlocked policy locks (earlier ++ waits) wait → AllBlocked policy locks earlier (waits ++ wait ∷ [])
 AllBlocked-push policy locks earlier [] wait all blocked = (subst (λ (es : List Wait). IsBlocked policy locks es wait) (append-nil earlier) blocked, tt)
 AllBlocked-push policy locks earlier (v ∷ waits) wait all blocked = (
   all.0,
@@ -30,7 +31,8 @@ as_waits-append (x ∷ xs) ys = ap (λ rest. as_wait x ∷ rest) (as_waits-appen
 
 -- one more wait that is blocked, in the list as far as it was looked at
 pub blocked_so_far : (policy : Policy) (F : FileState) (i : ℕ) → i < length F.waits → AllBlocked policy (locks_on F) [] (as_waits (take i F.waits))
-    → ((wait : Pending) → slice_get F.waits i ≡ Some wait → IsWaitBlocked policy F (take i F.waits) wait) → AllBlocked policy (locks_on F) [] (as_waits (take (i + 1) F.waits))
+    → ((wait : Pending) → slice_get F.waits i ≡ Some wait → IsWaitBlocked policy F (take i F.waits) wait)
+    → AllBlocked policy (locks_on F) [] (as_waits (take (i + 1) F.waits))
 blocked_so_far policy F i within all blocked = grind (arith, common_steps, slice_get_cases, take_more, as_waits-append, AllBlocked-push)
 
 -- the first wait that isn't blocked

@@ -25,7 +25,8 @@ pub HasRoom-kept : (old new : Book) (waits : List Pending) → KeepsRoom old new
 HasRoom-kept old new waits keeps room = grind (arith, common_steps)
 
 -- the same room is as much
-room_from_same : (old new : Book) → ((owner : Owner) → room_in new owner ≡ room_in old owner) → (owner : ℕ) → room_in old (Description owner) ≤ room_in new (Description owner)
+room_from_same : (old new : Book) → ((owner : Owner) → room_in new owner ≡ room_in old owner) → (owner : ℕ)
+    → room_in old (Description owner) ≤ room_in new (Description owner)
 room_from_same old new same owner = let e = same (Description owner) in omega arith
 
 or_there : (a b : Bool) → IsTrue b → IsTrue (a || b)
@@ -33,7 +34,8 @@ or_there true b there = refl
 or_there false b there = there
 
 -- a place that is kept, or refused, keeps the room
-pub KeepsRoom-reserves : {T E : Type 0} (r : Result T E) (old new : Book) (owner : ℕ) → OnOk r (ReservesFlock old new owner) → OnErr r (SameBook old new) → KeepsRoom old new
+pub KeepsRoom-reserves : {T E : Type 0} (r : Result T E) (old new : Book) (owner : ℕ) → OnOk r (ReservesFlock old new owner)
+    → OnErr r (SameBook old new) → KeepsRoom old new
 KeepsRoom-reserves r old new owner h h2 = grind (arith, common_steps, room_from_same, or_there)
 
 -- and so does a flock mode that is set in its place
@@ -58,15 +60,18 @@ one_room_left : (with_it without room : ℕ) → with_it ≤ room → with_it �
 one_room_left with_it without room had more = omega arith
 
 -- and, as long as it is not granted, holds one place more than they need
-pub byte_room_left : (book : Book) (before after : List Pending) (wait : Pending) → HasRoom book (before ++ wait ∷ after) → wait.family ≡ Bytes → byte_waits (before ++ after) wait.owner < room_in book (Description wait.owner)
+pub byte_room_left : (book : Book) (before after : List Pending) (wait : Pending) → HasRoom book (before ++ wait ∷ after) → wait.family ≡ Bytes
+    → byte_waits (before ++ after) wait.owner < room_in book (Description wait.owner)
 byte_room_left book before after wait room of_bytes = grind (arith, common_steps, byte_wait_passes, counted_with, one_room_left)
 
-pub flock_place_left : (book : Book) (before after : List Pending) (wait : Pending) → HasRoom book (before ++ wait ∷ after) → wait.family ≡ Whole → IsTrue (has_flock_place book wait.owner)
+pub flock_place_left : (book : Book) (before after : List Pending) (wait : Pending) → HasRoom book (before ++ wait ∷ after) → wait.family ≡ Whole
+    → IsTrue (has_flock_place book wait.owner)
 flock_place_left book before after wait room of_whole =
     let passes : is_flock_wait wait.owner wait ≡ true = flock_wait_passes wait.owner wait.family of_whole in
     room.places wait.owner (Any-at (λ other. IsTrue (is_flock_wait wait.owner other)) before after wait passes)
 
 -- which its grant uses up
-pub HasRoom-granted : (old new : Book) (waits : List Pending) (owner : ℕ) (span : Span) (mode : Option Mode) → HasRoom old waits → byte_waits waits owner < room_in old (Description owner)
+pub HasRoom-granted : (old new : Book) (waits : List Pending) (owner : ℕ) (span : Span) (mode : Option Mode) → HasRoom old waits
+    → byte_waits waits owner < room_in old (Description owner)
     → SetsOwnerMode old new (Description owner) span mode → room_in old (Description owner) ≤ room_in new (Description owner) + 1 → HasRoom new waits
 HasRoom-granted old new waits owner span mode room more sets used = grind (arith, common_steps, cases_eq)

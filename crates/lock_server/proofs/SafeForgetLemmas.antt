@@ -26,7 +26,8 @@ settled_end policy F [] G settles = subst (λ (H : FileState). IsSettled policy 
 settled_end policy F (wait ∷ granted) G settles = settled_end policy settles.0 granted G settles.2
 
 -- an owner is forgotten on a file, which is then settled
-rests_on : (policy : Policy) (S : State) (file owner : ℕ) (between T : State) → IsAtRest policy S → ForgetsOn S file owner between → SettlesFile policy between file T → IsAtRest policy T
+rests_on : (policy : Policy) (S : State) (file owner : ℕ) (between T : State) → IsAtRest policy S → ForgetsOn S file owner between
+    → SettlesFile policy between file T → IsAtRest policy T
 rests_on policy S file owner between T rest forgets settles =
     let but : IsSafeBut policy file S = record { compatible = rest.compatible; settled = λ other differs. rest.settled other; free_of_cycles = rest.free_of_cycles } in
     let moved = safe_moved policy (owners_of settles.granted) between file T (moves_settled policy between file T settles)

@@ -52,7 +52,8 @@ safe_same policy S T same safe = subst (λ (U : State). IsSafe policy U) (sym (s
 
 -- what holds of each other file and of this one holds of all
 at_each : (P : FileState → FileState → Type 0) (S : State) (file : ℕ) (T : State) → ((F : FileState) → P F F)
-    → ((other : ℕ) → other ≢ file → SameFile (S.files other) (T.files other)) → P (S.files file) (T.files file) → (other : ℕ) → P (S.files other) (T.files other)
+    → ((other : ℕ) → other ≢ file → SameFile (S.files other) (T.files other)) → P (S.files file) (T.files file) → (other : ℕ)
+    → P (S.files other) (T.files other)
 at_each P S file T itself others here other = elim (cases_eq other file) [
   | inl is ↦ subst (λ (f : ℕ). P (S.files f) (T.files f)) (sym is) here
   | inr differs ↦ subst (λ (G : FileState). P (S.files other) G) (sym (file_from_same (S.files other) (T.files other) (others other differs))) (itself (S.files other))
@@ -70,7 +71,8 @@ waiter_detected policy T one other step = record {
 }
 
 -- a step was there before, or leads to an owner that is given a lock
-steps_from : (policy : Policy) (given : List ℕ) (S : State) (file : ℕ) (T : State) → Moves given S file T → (one other : ℕ) → WaitsFor policy T one other → WaitsFor policy S one other ⊎ Contains given other
+steps_from : (policy : Policy) (given : List ℕ) (S : State) (file : ℕ) (T : State) → Moves given S file T → (one other : ℕ)
+    → WaitsFor policy T one other → WaitsFor policy S one other ⊎ Contains given other
 steps_from policy given S file T moves one other step =
     let locks = at_each (λ F G. LocksFrom (Contains given) F G) S file T (locks_itself (Contains given)) moves.others moves.here.locks step.file in
     let waits = at_each (λ F G. IsWithin G.waits F.waits) S file T (λ F. within_itself F.waits) moves.others moves.here.waits step.file in
@@ -90,7 +92,8 @@ moves_free policy given S file T moves free owner through chain =
     (λ p led. free p led.0 led.1) owner (through, chain)
 
 -- a change of one file keeps what holds but for its waits
-pub safe_moved : (policy : Policy) (given : List ℕ) (S : State) (file : ℕ) (T : State) → Moves given S file T → IsSafeBut policy file S → IsSafeBut policy file T
+pub safe_moved : (policy : Policy) (given : List ℕ) (S : State) (file : ℕ) (T : State) → Moves given S file T → IsSafeBut policy file S
+    → IsSafeBut policy file T
 safe_moved policy given S file T moves safe = record {
   compatible = λ other. at_each (λ F G. IsCompatible F → IsCompatible G) S file T (λ F h. h) moves.others moves.here.compatible other (safe.compatible other);
   settled = λ other differs. subst (λ (G : FileState). IsSettled policy G) (sym (file_from_same (S.files other) (T.files other) (moves.others other differs))) (safe.settled other differs);
@@ -110,10 +113,12 @@ pub fewer_move : (given : List ℕ) (F G : FileState) → FewerLocks F G → IsW
 fewer_move given F G fewer waits = record { locks = from_fewer (Contains given) F G fewer; waits = waits; compatible = compatible_fewer F G fewer }
 
 -- the moves are: a set that nothing held back, an unlock, a release, a wait that leaves, an owner that is forgotten, and settling
-gets_move : (F : FileState) (wait : Pending) (G : FileState) → ¬ IsHeldBack F wait → GetsLock F wait G → IsWithin G.waits F.waits → MovesFile (wait.owner ∷ []) F G
+gets_move : (F : FileState) (wait : Pending) (G : FileState) → ¬ IsHeldBack F wait → GetsLock F wait G → IsWithin G.waits F.waits
+    → MovesFile (wait.owner ∷ []) F G
 gets_move F wait G free gets waits = grind (arith, common_steps, more_given, only, from_set, compatible_gets)
 
-pub moves_given : (S : State) (file : ℕ) (wait : Pending) (T : State) → ¬ IsHeldBack (S.files file) wait → SetsOn S file wait.family wait.owner wait.span (Some wait.mode) T → Moves (wait.owner ∷ []) S file T
+pub moves_given : (S : State) (file : ℕ) (wait : Pending) (T : State) → ¬ IsHeldBack (S.files file) wait
+    → SetsOn S file wait.family wait.owner wait.span (Some wait.mode) T → Moves (wait.owner ∷ []) S file T
 moves_given S file wait T free sets = search (rules, gets_move, same_waits)
 
 pub moves_unset : (S : State) (file : ℕ) (family : Family) (owner : ℕ) (span : Span) (T : State) → SetsOn S file family owner span None T → Moves [] S file T
@@ -122,7 +127,8 @@ moves_unset S file family owner span T sets = grind (arith, common_steps, fewer_
 pub moves_released : (S : State) (file : ℕ) (family : Family) (owner : ℕ) (T : State) → ReleasesOn S file family owner T → Moves [] S file T
 moves_released S file family owner T releases = grind (arith, common_steps, fewer_move, fewer_unlocked, same_waits)
 
-left_within : (F G : FileState) (before after : List Pending) (wait : Pending) → F.waits ≡ before ++ wait ∷ after → G.waits ≡ before ++ after → IsWithin G.waits F.waits
+left_within : (F G : FileState) (before after : List Pending) (wait : Pending) → F.waits ≡ before ++ wait ∷ after → G.waits ≡ before ++ after
+    → IsWithin G.waits F.waits
 left_within F G before after wait place left = grind (arith, common_steps, within_left)
 
 pub moves_left : (S : State) (file ticket : ℕ) (T : State) → LeavesOn S file ticket T → Moves [] S file T
@@ -149,7 +155,8 @@ pub moves_settled : (policy : Policy) (S : State) (file : ℕ) (T : State) (sett
 moves_settled policy S file T settles = grind (arith, common_steps, settled_move)
 
 -- a change of one file that is then settled and swept
-pub safe_settled : (policy : Policy) (given : List ℕ) (S B : State) (file : ℕ) (T : State) → IsSafeBut policy file S → Moves given S file B → SettlesFile policy B file T → IsSettled policy (T.files file) → AreTicketsOnce T → IsSafe policy T
+pub safe_settled : (policy : Policy) (given : List ℕ) (S B : State) (file : ℕ) (T : State) → IsSafeBut policy file S → Moves given S file B
+    → SettlesFile policy B file T → IsSettled policy (T.files file) → AreTicketsOnce T → IsSafe policy T
 safe_settled policy given S B file T safe moves settles settled once =
     safe_with policy file T (safe_moved policy (owners_of settles.granted) B file T (moves_settled policy B file T settles) (safe_moved policy given S file B moves safe)) settled once
 
@@ -177,7 +184,8 @@ safe_opening policy T same =
     })
 
 -- a grant that is fetched leaves all else
-pub safe_fetched : (policy : Policy) (S : State) (result : Option ℕ) (T : State) → FetchComesTo S result T → IsSafe policy S → AreTicketsOnce T → IsSafe policy T
+pub safe_fetched : (policy : Policy) (S : State) (result : Option ℕ) (T : State) → FetchComesTo S result T → IsSafe policy S → AreTicketsOnce T
+    → IsSafe policy T
 safe_fetched policy S None T fetched safe once = safe_same policy S T fetched.1 safe
 safe_fetched policy S (Some ticket) T fetched safe once = record {
   compatible = λ file. subst (λ (F : FileState). IsCompatible F) (sym (stays file)) (safe.compatible file);

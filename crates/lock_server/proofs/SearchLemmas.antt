@@ -35,7 +35,8 @@ module _ (R : ℕ → ℕ → Type 0) (GoesOn : ℕ → Type 0) (target : ℕ) (
   }
 
   -- the next one is looked at: it isn't the target, and those to which it leads are put behind
-  pub searched_more : (reached next more : List ℕ) (looked_at owner : ℕ) → IsSearched reached looked_at → looked_at < length reached → owner ≡ get_or reached looked_at owner → owner ≢ target
+  pub searched_more : (reached next more : List ℕ) (looked_at owner : ℕ) → IsSearched reached looked_at → looked_at < length reached
+      → owner ≡ get_or reached looked_at owner → owner ≢ target
       → ((other : ℕ) → Contains next other → R owner other) → ((other : ℕ) → R owner other → Contains next other)
       → ((other : ℕ) → Contains more other → Contains next other) → ((other : ℕ) → Contains next other → GoesOn other → Contains (reached ++ more) other)
       → IsSearched (reached ++ more) (looked_at + 1)
@@ -70,11 +71,13 @@ module _ (R : ℕ → ℕ → Type 0) (GoesOn : ℕ → Type 0) (target : ℕ) (
       }
 
   -- the target was reached
-  pub searched_found : (reached : List ℕ) (looked_at : ℕ) → IsSearched reached looked_at → Contains reached target → (first : ℕ) × Contains start first × IsOrLed R first target
+  pub searched_found : (reached : List ℕ) (looked_at : ℕ) → IsSearched reached looked_at → Contains reached target
+      → (first : ℕ) × Contains start first × IsOrLed R first target
   searched_found reached looked_at so_far among = so_far.led target among
 
   -- all were looked at: nothing leads to the target
-  pub searched_all : (reached : List ℕ) (looked_at : ℕ) → GoesOn target → ((p q : ℕ) → R p q → GoesOn p) → IsSearched reached looked_at → length reached ≤ looked_at
+  pub searched_all : (reached : List ℕ) (looked_at : ℕ) → GoesOn target → ((p q : ℕ) → R p q → GoesOn p) → IsSearched reached looked_at
+      → length reached ≤ looked_at
       → (first : ℕ) → Contains start first → ¬ IsOrLed R first target
   searched_all reached looked_at target_goes starts so_far past first among leads = elim leads [
     | inl same ↦ no_target (subst (λ (n : ℕ). Contains reached n) same (so_far.kept first among))

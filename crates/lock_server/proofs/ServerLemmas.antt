@@ -27,7 +27,8 @@ pub record ComesToRest (policy : Policy) (S : State) (file : ℕ) (T : State) : 
 
 -- as the table settles it
 pub rests : (policy : Policy) (old new : Table) (file : ℕ) → table_policy old ≡ policy → table_policy new ≡ table_policy old
-    → SettlesFile (table_policy old) (table_state old) file (table_state new) → IsSettled (table_policy new) ((table_state new).files file) → ComesToRest policy (table_state old) file (table_state new)
+    → SettlesFile (table_policy old) (table_state old) file (table_state new) → IsSettled (table_policy new) ((table_state new).files file)
+    → ComesToRest policy (table_state old) file (table_state new)
 rests policy old new file was same settles settled = grind (arith, common_steps)
 
 -- and then a sweep changes nothing
@@ -35,40 +36,50 @@ pub swept : (policy : Policy) (S : State) (file : ℕ) (T U : State) → ComesTo
 swept policy S file T U rest same = subst (λ (V : State). ComesToRest policy S file V) (sym (state_from_same T U same)) rest
 
 -- what the server holds to after a change of one file that came to rest
-pub safe_at_rest : (policy : Policy) (given : List ℕ) (S B : State) (file : ℕ) (T : State) → IsSafe policy S → Moves given S file B → ComesToRest policy B file T → AreTicketsOnce T → IsSafe policy T
+pub safe_at_rest : (policy : Policy) (given : List ℕ) (S B : State) (file : ℕ) (T : State) → IsSafe policy S → Moves given S file B
+    → ComesToRest policy B file T → AreTicketsOnce T → IsSafe policy T
 safe_at_rest policy given S B file T safe moves rest once = safe_settled policy given S B file T (safe_but policy file S safe) moves rest.settles rest.settled once
 
-pub safe_at : (policy : Policy) (table : Table) → table_policy table ≡ policy → IsSafe policy (table_state table) → IsSafe (table_policy table) (table_state table)
+pub safe_at : (policy : Policy) (table : Table) → table_policy table ≡ policy → IsSafe policy (table_state table)
+    → IsSafe (table_policy table) (table_state table)
 safe_at policy table same safe = subst (λ (p : Policy). IsSafe p (table_state table)) (sym same) safe
 
 -- a set, and then rest
-pub changes_at_rest : (policy : Policy) (S : State) (file : ℕ) (family : Family) (owner : ℕ) (span : Span) (mode : Option Mode) (B T : State) → SetsOn S file family owner span mode B → ComesToRest policy B file T → Changes policy S file family owner span mode T
+pub changes_at_rest : (policy : Policy) (S : State) (file : ℕ) (family : Family) (owner : ℕ) (span : Span) (mode : Option Mode) (B T : State)
+    → SetsOn S file family owner span mode B → ComesToRest policy B file T → Changes policy S file family owner span mode T
 changes_at_rest policy S file family owner span mode B T sets rest = record { between = B; sets = sets; settles = rest.settles }
 
-pub releases_at_rest : (policy : Policy) (S : State) (file : ℕ) (family : Family) (owner : ℕ) (B T : State) → ReleasesOn S file family owner B → ComesToRest policy B file T → Releases policy S file family owner T
+pub releases_at_rest : (policy : Policy) (S : State) (file : ℕ) (family : Family) (owner : ℕ) (B T : State) → ReleasesOn S file family owner B
+    → ComesToRest policy B file T → Releases policy S file family owner T
 releases_at_rest policy S file family owner B T releases rest = record { between = B; releases = releases; settles = rest.settles }
 
 -- a set that nothing held back, or an unlock
-pub set_done : (policy : Policy) (S : State) (file owner : ℕ) (span : Span) (mode : Option Mode) (T : State) → ¬ IsSetHeldBack (S.files file) owner span mode → Changes policy S file Bytes owner span mode T → SetComesTo policy S file owner span mode Done T
+pub set_done : (policy : Policy) (S : State) (file owner : ℕ) (span : Span) (mode : Option Mode) (T : State)
+    → ¬ IsSetHeldBack (S.files file) owner span mode → Changes policy S file Bytes owner span mode T → SetComesTo policy S file owner span mode Done T
 set_done policy S file owner span None T free changes = (refl, changes)
 set_done policy S file owner span (Some mode) T free changes = inr (free, (refl, changes))
 
-pub moves_set : (S : State) (file owner : ℕ) (span : Span) (mode : Option Mode) (B : State) → ¬ IsSetHeldBack (S.files file) owner span mode → SetsOn S file Bytes owner span mode B → Moves (given_by owner mode) S file B
+pub moves_set : (S : State) (file owner : ℕ) (span : Span) (mode : Option Mode) (B : State) → ¬ IsSetHeldBack (S.files file) owner span mode
+    → SetsOn S file Bytes owner span mode B → Moves (given_by owner mode) S file B
 moves_set S file owner span None B free sets = moves_unset S file Bytes owner span B sets
 moves_set S file owner span (Some mode) B free sets = moves_given S file (byte_request no_ticket owner span mode false) B free sets
 
 -- the server's fact after a change of one file that came to rest
-pub safe_rested : (old new : Table) (given : List ℕ) (B : State) (file : ℕ) → ∥ IsSafe (table_policy old) (table_state old) ∥₁ → table_policy new ≡ table_policy old → Moves given (table_state old) file B
+pub safe_rested : (old new : Table) (given : List ℕ) (B : State) (file : ℕ) → ∥ IsSafe (table_policy old) (table_state old) ∥₁
+    → table_policy new ≡ table_policy old → Moves given (table_state old) file B
     → ComesToRest (table_policy old) B file (table_state new) → ∥ IsSafe (table_policy new) (table_state new) ∥₁
 safe_rested old new given B file holds policy moves rest =
     ∥∥₁_map holds (λ safe. safe_at (table_policy old) new policy (safe_at_rest (table_policy old) given (table_state old) B file (table_state new) safe moves rest (tickets_once new)))
 
-pub safe_after_fetch : (old new : Table) (result : Option ℕ) → ∥ IsSafe (table_policy old) (table_state old) ∥₁ → table_policy new ≡ table_policy old → FetchComesTo (table_state old) result (table_state new) → ∥ IsSafe (table_policy new) (table_state new) ∥₁
+pub safe_after_fetch : (old new : Table) (result : Option ℕ) → ∥ IsSafe (table_policy old) (table_state old) ∥₁ → table_policy new ≡ table_policy old
+    → FetchComesTo (table_state old) result (table_state new) → ∥ IsSafe (table_policy new) (table_state new) ∥₁
 safe_after_fetch old new result holds policy fetched =
     ∥∥₁_map holds (λ safe. safe_at (table_policy old) new policy (safe_fetched (table_policy old) (table_state old) result (table_state new) fetched safe (tickets_once new)))
 
 -- and after a blocked wait joined that closes no cycle
-pub safe_after_join : (old new : Table) (file : ℕ) (wait : Pending) → ∥ IsSafe (table_policy old) (table_state old) ∥₁ → table_policy new ≡ table_policy old → Suspends (table_state old) file wait (table_state new)
-    → IsWaitBlocked (table_policy old) ((table_state old).files file) ((table_state old).files file).waits wait → ¬ IsRefused (table_policy old) (table_state old) file wait → ∥ IsSafe (table_policy new) (table_state new) ∥₁
+pub safe_after_join : (old new : Table) (file : ℕ) (wait : Pending) → ∥ IsSafe (table_policy old) (table_state old) ∥₁
+    → table_policy new ≡ table_policy old → Suspends (table_state old) file wait (table_state new)
+    → IsWaitBlocked (table_policy old) ((table_state old).files file) ((table_state old).files file).waits wait
+    → ¬ IsRefused (table_policy old) (table_state old) file wait → ∥ IsSafe (table_policy new) (table_state new) ∥₁
 safe_after_join old new file wait holds policy suspends blocked passed =
     ∥∥₁_map holds (λ safe. safe_at (table_policy old) new policy (safe_joined (table_policy old) (table_state old) file wait (table_state new) suspends safe blocked passed (tickets_once new)))

@@ -29,7 +29,8 @@ pub leads_nowhere : (policy : Policy) (S : State) (file : ℕ) → Crosses S [] 
 leads_nowhere policy S file crossed = grind (arith, common_steps, SameFile-itself, append-nil)
 
 -- one behind the other is crossed by both
-pub crosses_then : (S M T : State) (one more : List ℕ) → ((owner : ℕ) → HasDetected T owner → HasDetected M owner) → Crosses S one M → Crosses M more T → Crosses S (one ++ more) T
+pub crosses_then : (S M T : State) (one more : List ℕ) → ((owner : ℕ) → HasDetected T owner → HasDetected M owner) → Crosses S one M
+    → Crosses M more T → Crosses S (one ++ more) T
 crosses_then S M T one more still first next owner = (
   λ crossed. (let h = (next owner).0 crossed in (
     h.0,
@@ -51,7 +52,8 @@ crosses_then S M T one more still first next owner = (
 )
 
 -- who has a detected wait after a wait left had one before
-pub detected_before : (M : State) (file : ℕ) (T : State) (before after : List Pending) (wait : Pending) → ((other : ℕ) → other ≢ file → SameFile (M.files other) (T.files other))
+pub detected_before : (M : State) (file : ℕ) (T : State) (before after : List Pending) (wait : Pending)
+    → ((other : ℕ) → other ≢ file → SameFile (M.files other) (T.files other))
     → (M.files file).waits ≡ before ++ wait ∷ after → (T.files file).waits ≡ before ++ after → (owner : ℕ) → HasDetected T owner → HasDetected M owner
 detected_before M file T before after wait others stood left owner has = elim (cases_eq has.file file) [
   | inl here ↦ record {
@@ -72,7 +74,8 @@ as_owners-append [] wait = refl
 as_owners-append (x ∷ xs) wait = ap (λ (l : List ℕ). x.owner ∷ l) (as_owners-append xs wait)
 
 -- one grant more
-leads_with : (policy : Policy) (S : State) (file : ℕ) (granted : List Pending) (M : State) (wait : Pending) (T : State) → LeadsOn policy S file granted M → GrantsOn policy M file wait T → LeadsOn policy S file (granted ++ wait ∷ []) T
+leads_with : (policy : Policy) (S : State) (file : ℕ) (granted : List Pending) (M : State) (wait : Pending) (T : State)
+    → LeadsOn policy S file granted M → GrantsOn policy M file wait T → LeadsOn policy S file (granted ++ wait ∷ []) T
 leads_with policy S file granted M wait T led grants = record {
   leads = λ rest G settles.
       subst (λ (l : List Pending). Settles policy (S.files file) l G) (sym (append_assoc granted (wait ∷ []) rest))
@@ -86,11 +89,13 @@ leads_with policy S file granted M wait T led grants = record {
       led.crossed grants.crossed);
 }
 
-pub leads_more : (policy : Policy) (S : State) (file : ℕ) (M : State) (wait : Pending) (T : State) → HasLedOn policy S file M → GrantsOn policy M file wait T → HasLedOn policy S file T
+pub leads_more : (policy : Policy) (S : State) (file : ℕ) (M : State) (wait : Pending) (T : State) → HasLedOn policy S file M
+    → GrantsOn policy M file wait T → HasLedOn policy S file T
 leads_more policy S file M wait T led grants = record { granted = led.granted ++ wait ∷ []; leads = leads_with policy S file led.granted M wait T led.leads grants }
 
 -- where each wait is blocked the settling has come to its end
-pub settled_here : (policy : Policy) (S : State) (file : ℕ) (T : State) → HasLedOn policy S file T → IsSettled policy (T.files file) → SettlesFile policy S file T
+pub settled_here : (policy : Policy) (S : State) (file : ℕ) (T : State) → HasLedOn policy S file T → IsSettled policy (T.files file)
+    → SettlesFile policy S file T
 settled_here policy S file T led settled = record {
   granted = led.granted;
   settles = subst (λ (l : List Pending). Settles policy (S.files file) l (T.files file)) (append-nil led.granted)
@@ -101,5 +106,6 @@ settled_here policy S file T led settled = record {
 }
 
 -- a grant leaves one wait less on the file
-pub fewer_waits : (policy : Policy) (S : State) (file : ℕ) (wait : Pending) (T : State) → GrantsOn policy S file wait T → length (T.files file).waits + 1 ≡ length (S.files file).waits
+pub fewer_waits : (policy : Policy) (S : State) (file : ℕ) (wait : Pending) (T : State) → GrantsOn policy S file wait T
+    → length (T.files file).waits + 1 ≡ length (S.files file).waits
 fewer_waits policy S file wait T grants = grind (arith, common_steps, length-append)

@@ -87,7 +87,8 @@ module _ (P : Pending → Type 0) where
       }
 
 -- what is held and conflicts was held before, or is given
-conflict_from : (was now : Option Mode) (wanted : Mode) (Given : Type 0) → ((mode : Mode) → now ≡ Some mode → (was ≡ Some mode) ⊎ Given) → HeldConflicts now wanted → HeldConflicts was wanted ⊎ Given
+conflict_from : (was now : Option Mode) (wanted : Mode) (Given : Type 0) → ((mode : Mode) → now ≡ Some mode → (was ≡ Some mode) ⊎ Given)
+    → HeldConflicts now wanted → HeldConflicts was wanted ⊎ Given
 conflict_from was now wanted Given h h2 = grind (arith, common_steps)
 
 module _ (Given : ℕ → Type 0) (F G : FileState) (locks : LocksFrom Given F G) where
@@ -104,7 +105,8 @@ module _ (Given : ℕ → Type 0) (F G : FileState) (locks : LocksFrom Given F G
 
   -- and so does who blocks it at all, where the wait is behind at least the same ones
   pub still_blocked : (policy : Policy) (before ahead : List Pending) (wait : Pending) (other : ℕ)
-      → (Any (λ v. (v.owner ≡ other) × WaitsConflict (as_wait v) (as_wait wait)) before → Any (λ v. (v.owner ≡ other) × WaitsConflict (as_wait v) (as_wait wait)) ahead)
+      → (Any (λ v. (v.owner ≡ other) × WaitsConflict (as_wait v) (as_wait wait)) before
+      → Any (λ v. (v.owner ≡ other) × WaitsConflict (as_wait v) (as_wait wait)) ahead)
       → IsBlockedByOwner policy G before wait other → IsBlockedByOwner policy F ahead wait other ⊎ Given other
   still_blocked Held before ahead wait other among blocked = blocked_from wait.family wait other blocked
   still_blocked Queue before ahead wait other among (inl by_lock) = elim (blocked_from wait.family wait other by_lock) [

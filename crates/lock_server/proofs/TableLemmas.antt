@@ -20,7 +20,8 @@ use Rattle.lock_server.specs.FileView.{file_state, state_at}
 use Rattle.lock_server.specs.TableView.{table_state, entry_of}
 
 -- a file with an entry has its state
-pub found_state : (table : Table) (file : ℕ) (found : Option (Bor LockFile)) (locks : Bor LockFile) → option_copied found ≡ get nat_cmp table.files file → found ≡ Some locks
+pub found_state : (table : Table) (file : ℕ) (found : Option (Bor LockFile)) (locks : Bor LockFile)
+    → option_copied found ≡ get nat_cmp table.files file → found ≡ Some locks
     → (table_state table).files file ≡ file_state locks.now
 unfolding table_state entry_of
 found_state table file found locks value is = ap state_at (sym value ∙ ap option_copied is)

@@ -24,14 +24,17 @@ abbrev pub waits_in : BTreeMap ℕ LockFile → ℕ → List Pending
 waits_in files file = (state_in files file).waits
 
 -- what is known in all is what is known of tickets and what is known of owners
-pub tickets_known : (files : BTreeMap ℕ LockFile) (tickets : Tickets) (waiters : Waiters) → IsIndexed files tickets waiters → TicketsKnown (waits_in files) tickets
+pub tickets_known : (files : BTreeMap ℕ LockFile) (tickets : Tickets) (waiters : Waiters) → IsIndexed files tickets waiters
+    → TicketsKnown (waits_in files) tickets
 tickets_known files tickets waiters known =
     record { pending = known.pending; granted = known.granted; once_on_a_file = known.once_on_a_file; granted_once = known.granted_once }
 
-pub waiters_known : (files : BTreeMap ℕ LockFile) (tickets : Tickets) (waiters : Waiters) → IsIndexed files tickets waiters → WaitersKnown (waits_in files) waiters
+pub waiters_known : (files : BTreeMap ℕ LockFile) (tickets : Tickets) (waiters : Waiters) → IsIndexed files tickets waiters
+    → WaitersKnown (waits_in files) waiters
 waiters_known files tickets waiters known = record { detected = known.detected; crossed = known.crossed }
 
-pub indexed : (files : BTreeMap ℕ LockFile) (tickets : Tickets) (waiters : Waiters) → TicketsKnown (waits_in files) tickets → WaitersKnown (waits_in files) waiters → IsIndexed files tickets waiters
+pub indexed : (files : BTreeMap ℕ LockFile) (tickets : Tickets) (waiters : Waiters) → TicketsKnown (waits_in files) tickets
+    → WaitersKnown (waits_in files) waiters → IsIndexed files tickets waiters
 indexed files tickets waiters of_tickets of_waiters = search (rules)
 
 module _ (old new : BTreeMap ℕ LockFile) (file : ℕ) (after : LockFile) (puts : PutsEntry old new file (Some after)) where
@@ -52,20 +55,23 @@ WaitersKnown-same waits was now same known =
     waiters_kept waits was now known same.files (λ owner none. same.crossed owner ∙ known.crossed owner (sym (same.files owner) ∙ none))
 
 -- and where an owner is given a lock of this mode, or none
-pub WaitersKnown-given : (waits : ℕ → List Pending) (was now : Waiters) (owner : ℕ) (mode : Option Mode) → CrossesIf mode was now owner → WaitersKnown waits was → WaitersKnown waits now
+pub WaitersKnown-given : (waits : ℕ → List Pending) (was now : Waiters) (owner : ℕ) (mode : Option Mode) → CrossesIf mode was now owner
+    → WaitersKnown waits was → WaitersKnown waits now
 WaitersKnown-given waits was now owner None same known = WaitersKnown-same waits was now same known
 WaitersKnown-given waits was now owner (Some mode) crosses known = waiters_crossed waits was now owner known crosses
 
 module _ (waits rest : ℕ → List Pending) (was now : Waiters) (file : ℕ) (wait : Pending) where
   -- and where a wait leaves
-  pub WaitersKnown-ended : (before later : List Pending) → waits file ≡ before ++ wait ∷ later → PutsWaits waits rest file (before ++ later) → (detect : Bool) → wait.detect ≡ detect
+  pub WaitersKnown-ended : (before later : List Pending) → waits file ≡ before ++ wait ∷ later → PutsWaits waits rest file (before ++ later)
+      → (detect : Bool) → wait.detect ≡ detect
       → EndsIf detect was now wait.owner file → WaitersKnown waits was → WaitersKnown rest now
   WaitersKnown-ended before later stood puts false is same known =
       WaitersKnown-same rest was now same (waiters_unmoved waits rest was now file wait known before later stood puts is)
   WaitersKnown-ended before later stood puts true is ends known = waiters_left waits rest was now file wait known before later stood puts is ends
 
   -- and where one joins
-  pub WaitersKnown-begun : PutsWaits waits rest file (waits file ++ wait ∷ []) → (detect : Bool) → wait.detect ≡ detect → BeginsIf detect was now wait.owner file → WaitersKnown waits was → WaitersKnown rest now
+  pub WaitersKnown-begun : PutsWaits waits rest file (waits file ++ wait ∷ []) → (detect : Bool) → wait.detect ≡ detect
+      → BeginsIf detect was now wait.owner file → WaitersKnown waits was → WaitersKnown rest now
   WaitersKnown-begun puts false is same known = WaitersKnown-same rest was now same (waiters_passed waits rest was now file wait known is puts)
   WaitersKnown-begun puts true is begins known = waiters_joined waits rest was now file wait known is puts begins
 
@@ -74,8 +80,10 @@ abbrev pub state_by : BTreeMap ℕ LockFile → Tickets → Waiters → State
 state_by files tickets waiters = record { files = state_in files; grants = grants_of tickets; crossed = crossed_of waiters }
 
 -- one file changes, and these owners are given locks
-pub changes_by : (old new : BTreeMap ℕ LockFile) (tickets after : Tickets) (was now : Waiters) (file : ℕ) (given : List ℕ) → ((other : ℕ) → other ≢ file → get nat_cmp new other ≡ get nat_cmp old other)
-    → grants_of after ≡ grants_of tickets → WaitersKnown (waits_in new) now → CrossesBy was given now → ChangesFile (state_by old tickets was) file given (state_by new after now)
+pub changes_by : (old new : BTreeMap ℕ LockFile) (tickets after : Tickets) (was now : Waiters) (file : ℕ) (given : List ℕ)
+    → ((other : ℕ) → other ≢ file → get nat_cmp new other ≡ get nat_cmp old other)
+    → grants_of after ≡ grants_of tickets → WaitersKnown (waits_in new) now → CrossesBy was given now
+    → ChangesFile (state_by old tickets was) file given (state_by new after now)
 changes_by old new tickets after was now file given others grants known crosses = record {
   others = λ other differs. same_from_eq (state_in old other) (state_in new other) (ap state_at (others other differs));
   grants = grants;
@@ -83,6 +91,7 @@ changes_by old new tickets after was now file given others grants known crosses 
 }
 
 -- what holds of two entries holds of the states of the file
-pub at_entries : (old new : BTreeMap ℕ LockFile) (file : ℕ) (before after : LockFile) (P : FileState → FileState → Type 0) → get nat_cmp old file ≡ Some before → PutsEntry old new file (Some after)
+pub at_entries : (old new : BTreeMap ℕ LockFile) (file : ℕ) (before after : LockFile) (P : FileState → FileState → Type 0)
+    → get nat_cmp old file ≡ Some before → PutsEntry old new file (Some after)
     → P (file_state before) (file_state after) → P (state_in old file) (state_in new file)
 at_entries old new file before after P was puts holds = grind (arith, common_steps)

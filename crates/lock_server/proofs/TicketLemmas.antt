@@ -27,7 +27,8 @@ owed-few [] = omega arith
 owed-few (entry ∷ places) = omega (arith, owed-few places, owed_by-one entry.1, sum_by-cons owed_by entry.1 (values_of places))
 
 -- a new ticket brings one at most
-pub owed-insert : (places : List (ℕ × Place)) (ticket : ℕ) (place : Place) → IsStrictlySortedBy nat_cmp (keys_of places) → owed (insert_entry nat_cmp places ticket place) ≤ owed places + 1
+pub owed-insert : (places : List (ℕ × Place)) (ticket : ℕ) (place : Place) → IsStrictlySortedBy nat_cmp (keys_of places)
+    → owed (insert_entry nat_cmp places ticket place) ≤ owed places + 1
 owed-insert places ticket place sorted = omega (arith, sum_by-insert_entry owed_by nat_cmp_total places ticket place sorted, owed_by-one place)
 
 -- without one ticket there are no more
@@ -40,7 +41,8 @@ pub owed-set : (places : List (ℕ × Place)) (ticket : ℕ) (old new : Place) �
 owed-set places ticket old new there = sum_by-set_value owed_by (is_at (nat_cmp ticket)) places old new there
 
 -- an update of the map sets the place
-pub SetsPlace-updates : (old new : Tickets) (ticket : ℕ) (place : Option Place) → UpdatesBy nat_cmp (nat_cmp ticket) old.places new.places place → SetsPlace old new ticket place
+pub SetsPlace-updates : (old new : Tickets) (ticket : ℕ) (place : Option Place) → UpdatesBy nat_cmp (nat_cmp ticket) old.places new.places place
+    → SetsPlace old new ticket place
 unfolding place_at
 SetsPlace-updates old new ticket place updates = record { here = updates.1; others = λ other differs. updates.2 other (is_at-other ticket other differs) }
 

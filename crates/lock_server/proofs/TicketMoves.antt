@@ -114,7 +114,8 @@ no_true e = absurd (let h : false ≡ true = e in cc)
 
 module _ (waits now : ℕ → List Pending) (tickets after : Tickets) (file : ℕ) (wait : Pending) (known : TicketsKnown waits tickets) where
   -- the wait with a ticket that stood nowhere joins those on the file
-  pub tickets_joined : PutsWaits waits now file (waits file ++ wait ∷ []) → IsIdle (place_at tickets wait.ticket) → SetsPlace tickets after wait.ticket (Some (Waits file)) → grants_of after ≡ grants_of tickets
+  pub tickets_joined : PutsWaits waits now file (waits file ++ wait ∷ []) → IsIdle (place_at tickets wait.ticket)
+      → SetsPlace tickets after wait.ticket (Some (Waits file)) → grants_of after ≡ grants_of tickets
       → TicketsKnown now after
   tickets_joined puts idle sets grants = record {
     pending = λ ticket other. elim (cases_eq ticket wait.ticket) [
@@ -211,12 +212,14 @@ module _ (waits now : ℕ → List Pending) (tickets after : Tickets) (file : �
     }
 
 -- a ticket is noted or given back that neither waits nor was granted
-pub tickets_noted : (waits : ℕ → List Pending) (tickets after : Tickets) (ticket : ℕ) (place : Option Place) → TicketsKnown waits tickets → IsIdle (place_at tickets ticket) → IsIdle place → SetsPlace tickets after ticket place
+pub tickets_noted : (waits : ℕ → List Pending) (tickets after : Tickets) (ticket : ℕ) (place : Option Place) → TicketsKnown waits tickets
+    → IsIdle (place_at tickets ticket) → IsIdle place → SetsPlace tickets after ticket place
     → grants_of after ≡ grants_of tickets → TicketsKnown waits after
 tickets_noted waits tickets after ticket place known was now sets grants = grind (arith, common_steps, cases_eq)
 
 -- a grant is fetched, and its ticket is free
-pub tickets_fetched : (waits : ℕ → List Pending) (tickets after : Tickets) (ticket : ℕ) → TicketsKnown waits tickets → grants_of tickets ≡ ticket ∷ grants_of after → SetsPlace tickets after ticket None → TicketsKnown waits after
+pub tickets_fetched : (waits : ℕ → List Pending) (tickets after : Tickets) (ticket : ℕ) → TicketsKnown waits tickets
+    → grants_of tickets ≡ ticket ∷ grants_of after → SetsPlace tickets after ticket None → TicketsKnown waits after
 tickets_fetched waits tickets after ticket known grants sets = record {
   pending = λ other file. elim (cases_eq other ticket) [
     | inl is ↦

@@ -22,12 +22,14 @@ pub record PutsWaiter (old new : Waiters) (owner : ℕ) (waiter : Option Waiter)
   pub here : waiter_of new owner ≡ waiter
   pub others : (other : ℕ) → other ≢ owner → waiter_of new other ≡ waiter_of old other
 
-pub PutsWaiter-updates : (old new : Waiters) (owner : ℕ) (waiter : Option Waiter) → UpdatesBy nat_cmp (nat_cmp owner) old.owners new.owners waiter → PutsWaiter old new owner waiter
+pub PutsWaiter-updates : (old new : Waiters) (owner : ℕ) (waiter : Option Waiter) → UpdatesBy nat_cmp (nat_cmp owner) old.owners new.owners waiter
+    → PutsWaiter old new owner waiter
 unfolding waiter_of
 PutsWaiter-updates old new owner waiter updates = record { here = updates.1; others = λ other differs. updates.2 other (is_at-other owner other differs) }
 
 -- what the entries tell of every owner
-pub files-puts : (old new : Waiters) (owner : ℕ) (waiter : Option Waiter) → PutsWaiter old new owner waiter → files_of old owner ≡ files_in waiter → (other : ℕ) → files_of new other ≡ files_of old other
+pub files-puts : (old new : Waiters) (owner : ℕ) (waiter : Option Waiter) → PutsWaiter old new owner waiter → files_of old owner ≡ files_in waiter
+    → (other : ℕ) → files_of new other ≡ files_of old other
 unfolding files_of
 files-puts old new owner waiter puts same other = grind (arith, common_steps, cases_eq)
 
@@ -36,7 +38,8 @@ nil_from [] none = refl
 nil_from (x ∷ xs) none = absurd (none (λ e. cc))
 
 -- a file counts once more with one of its places
-times_with : (files rest : List ℕ) (place there : ℕ) → place < length files → get_or files place there ≡ there → rest ≡ take place files ++ drop (suc place) files
+times_with : (files rest : List ℕ) (place there : ℕ) → place < length files → get_or files place there ≡ there
+    → rest ≡ take place files ++ drop (suc place) files
     → (file : ℕ) → times file files ≡ times file rest + cond (there == file) 1 0
 times_with files rest place there within is left file = grind (arith, common_steps, split_at, sum_by-append, sum_by-cons)
 
@@ -53,7 +56,8 @@ times_none file (other ∷ files) none =
     omega arith
 
 -- an entry from which one place of the file is removed
-pub LeavesFile-removes : (old new : Waiter) (file place there : ℕ) → position (λ other. other == file) old.files.items ≡ Some place → get_or old.files.items place there ≡ there
+pub LeavesFile-removes : (old new : Waiter) (file place there : ℕ) → position (λ other. other == file) old.files.items ≡ Some place
+    → get_or old.files.items place there ≡ there
     → new.files.items ≡ take place old.files.items ++ drop (suc place) old.files.items → new.crossed ≡ old.crossed → LeavesFile old new file
 LeavesFile-removes old new file place there found is left crossed = grind (arith, common_steps, position-Some, eqb-true, times_with, eq-eqb, ne_eqb)
 
@@ -71,7 +75,8 @@ unfolding files_of crossed_of
 Sweeps-drops old new owner puts none = grind (arith, common_steps, files-puts)
 
 -- an owner whose entry lost one place of a file, and was then swept
-pub Ends-left : (old mid new : Waiters) (owner file : ℕ) (was now : Waiter) → waiter_of old owner ≡ Some was → PutsWaiter old mid owner (Some now) → LeavesFile was now file → Sweeps mid new owner → Ends old new owner file
+pub Ends-left : (old mid new : Waiters) (owner file : ℕ) (was now : Waiter) → waiter_of old owner ≡ Some was → PutsWaiter old mid owner (Some now)
+    → LeavesFile was now file → Sweeps mid new owner → Ends old new owner file
 unfolding files_of crossed_of
 Ends-left old mid new owner file was now is puts left swept =
     let had : files_of old owner ≡ was.files.items = ap files_in is in
@@ -89,7 +94,8 @@ Ends-left old mid new owner file was now is puts left swept =
     }
 
 -- what a write through the entry that a map lent puts there
-pub waiter_written : (old new : Waiters) (owner : ℕ) (lent : Option (MutBor Waiter)) (was : MutBor Waiter) (now : Waiter) → option_copied_mut lent ≡ waiter_of old owner → lent ≡ Some was
+pub waiter_written : (old new : Waiters) (owner : ℕ) (lent : Option (MutBor Waiter)) (was : MutBor Waiter) (now : Waiter)
+    → option_copied_mut lent ≡ waiter_of old owner → lent ≡ Some was
     → WritesThrough nat_cmp (nat_cmp owner) old.owners now new.owners → (waiter_of old owner ≡ Some was.now) × PutsWaiter old new owner (Some now)
 unfolding waiter_of
 waiter_written old new owner lent was now value is writes = grind (arith, common_steps, PutsWaiter-updates)

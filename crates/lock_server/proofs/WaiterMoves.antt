@@ -42,7 +42,8 @@ head_time : (file : ℕ) (files : List ℕ) → times file (file ∷ files) ≢ 
 head_time file files none = grind (arith, common_steps, sum_by-cons, one_itself)
 
 -- an owner with a file has a detected wait
-pub detected_somewhere : (waits : ℕ → List Pending) (waiters : Waiters) → WaitersKnown waits waiters → (owner : ℕ) → files_of waiters owner ≢ [] → (file : ℕ) × Any (IsDetectedOf owner) (waits file)
+pub detected_somewhere : (waits : ℕ → List Pending) (waiters : Waiters) → WaitersKnown waits waiters → (owner : ℕ) → files_of waiters owner ≢ []
+    → (file : ℕ) × Any (IsDetectedOf owner) (waits file)
 detected_somewhere waits waiters known owner some = first (files_of waiters owner) refl
   where
     first : (on : List ℕ) → files_of waiters owner ≡ on → (file : ℕ) × Any (IsDetectedOf owner) (waits file)
@@ -71,7 +72,8 @@ counted owner (wait ∷ waits) any none = elim (Any-cons _ wait waits any) [
 ]
 
 -- and so its owner has a file
-pub file_from_detected : (waits : ℕ → List Pending) (waiters : Waiters) → WaitersKnown waits waiters → (owner file : ℕ) → Any (IsDetectedOf owner) (waits file) → files_of waiters owner ≢ []
+pub file_from_detected : (waits : ℕ → List Pending) (waiters : Waiters) → WaitersKnown waits waiters → (owner file : ℕ)
+    → Any (IsDetectedOf owner) (waits file) → files_of waiters owner ≢ []
 file_from_detected waits waiters known owner file any none =
     counted owner (waits file) any (sym (known.detected owner file) ∙ ap (times file) none)
 
@@ -83,7 +85,8 @@ no_push [] file e = let h : file ∷ [] ≡ [] = e in cc
 no_push (first ∷ files) file e = let h : first ∷ (files ++ file ∷ []) ≡ [] = e in cc
 
 module _ (waits now : ℕ → List Pending) (waiters after : Waiters) (file : ℕ) (wait : Pending) (known : WaitersKnown waits waiters) where
-  joined_counts : PutsWaits waits now file (waits file ++ wait ∷ []) → (owner : ℕ) → detected_waits (now file) owner ≡ detected_waits (waits file) owner + cond (is_detected_of owner wait) 1 0
+  joined_counts : PutsWaits waits now file (waits file ++ wait ∷ []) → (owner : ℕ)
+      → detected_waits (now file) owner ≡ detected_waits (waits file) owner + cond (is_detected_of owner wait) 1 0
   joined_counts puts owner =
       ap (λ (l : List Pending). detected_waits l owner) puts.here ∙ counted_with (is_detected_of owner) (waits file) [] wait
       ∙ ap (λ (l : List Pending). detected_waits l owner + cond (is_detected_of owner wait) 1 0) (append-nil (waits file))
@@ -195,10 +198,12 @@ module _ (waits now : ℕ → List Pending) (waiters after : Waiters) (file : �
         ]
 
 -- the same files, and nobody crossed without one
-pub waiters_kept : (waits : ℕ → List Pending) (waiters after : Waiters) → WaitersKnown waits waiters → ((owner : ℕ) → files_of after owner ≡ files_of waiters owner)
+pub waiters_kept : (waits : ℕ → List Pending) (waiters after : Waiters) → WaitersKnown waits waiters
+    → ((owner : ℕ) → files_of after owner ≡ files_of waiters owner)
     → ((owner : ℕ) → files_of after owner ≡ [] → crossed_of after owner ≡ false) → WaitersKnown waits after
 waiters_kept waits waiters after known files crossed = grind (arith, common_steps)
 
 -- a lock is given to an owner
-pub waiters_crossed : (waits : ℕ → List Pending) (waiters after : Waiters) (owner : ℕ) → WaitersKnown waits waiters → view.Crosses waiters after owner → WaitersKnown waits after
+pub waiters_crossed : (waits : ℕ → List Pending) (waiters after : Waiters) (owner : ℕ) → WaitersKnown waits waiters
+    → view.Crosses waiters after owner → WaitersKnown waits after
 waiters_crossed waits waiters after owner known crosses = grind (arith, common_steps, waiters_kept, cases_eq)

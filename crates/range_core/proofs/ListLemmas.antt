@@ -10,7 +10,8 @@ use Rattle.std.proofs.lemmas.List.{length-append, get_or_append_left, get_or-app
 use Rattle.std.proofs.Math.Seq.{drop-append-add}
 
 -- two lists in order, each element of the one before each of the other
-pub AllPairs-append : {X : Type 0} (R : X → X → Type 0) (xs ys : List X) → AllPairs R xs → AllPairs R ys → All (λ x. All (λ y. R x y) ys) xs → AllPairs R (xs ++ ys)
+pub AllPairs-append : {X : Type 0} (R : X → X → Type 0) (xs ys : List X) → AllPairs R xs → AllPairs R ys → All (λ x. All (λ y. R x y) ys) xs
+    → AllPairs R (xs ++ ys)
 AllPairs-append R xs ys first second across i j d before within =
     grind (arith, common_steps, cases_lt, get_or_append_left, length-append, get_or-append_right)
 
@@ -56,7 +57,9 @@ pub rest_at : {X : Type 0} (xs rest : List X) (place i : ℕ) (d : X) → rest �
 rest_at xs rest place i d is = ap (λ l. get_or l i d) is ∙ get_or-drop place xs i d
 
 -- the first of the new elements written over as many of the old ones, the rest of the replaced cut out, and the rest of the new put in
-pub spliced : {X : Type 0} (old over added laid cut : List X) (start end behind : ℕ) → behind ≡ start + length over → behind ≤ end → end ≤ length old → laid ≡ refill (length old) old (put_mid start (behind - start) old over) → cut ≡ take behind laid ++ drop end laid → take behind cut ++ (added ++ drop behind cut) ≡ take start old ++ (over ++ added ++ drop end old)
+pub spliced : {X : Type 0} (old over added laid cut : List X) (start end behind : ℕ) → behind ≡ start + length over → behind ≤ end → end ≤ length old
+    → laid ≡ refill (length old) old (put_mid start (behind - start) old over) → cut ≡ take behind laid ++ drop end laid
+    → take behind cut ++ (added ++ drop behind cut) ≡ take start old ++ (over ++ added ++ drop end old)
 spliced old over added laid cut start end behind behind_is ordered within laid_is cut_is =
     let before = length-take-le start old (omega arith) in
     let front = length-append (take start old) over in

@@ -49,7 +49,8 @@ mode_in-none (run ∷ runs) byte none =
     ]
 
 -- a byte has the mode of the run that covers it
-pub mode_in-at : (runs : List (Mode × Span)) (k : ℕ) (d : Mode × Span) (byte : ℕ) → AllPairs IsApart runs → k < length runs → Covers (get_or runs k d).1 byte → mode_in runs byte ≡ Some (get_or runs k d).0
+pub mode_in-at : (runs : List (Mode × Span)) (k : ℕ) (d : Mode × Span) (byte : ℕ) → AllPairs IsApart runs → k < length runs
+    → Covers (get_or runs k d).1 byte → mode_in runs byte ≡ Some (get_or runs k d).0
 mode_in-at [] k d byte apart within covers = absurd (omega arith)
 mode_in-at (run ∷ runs) zero d byte apart within covers = rw (is_covered-true run.1 byte covers) refl
 mode_in-at (run ∷ runs) (suc k) d byte apart within covers =

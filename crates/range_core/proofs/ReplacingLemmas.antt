@@ -30,7 +30,9 @@ mode_in-three : (a b c : List (Mode × Span)) (byte : ℕ) → mode_in (a ++ (b 
 mode_in-three a b c byte = mode_in-append a (b ++ c) byte ∙ ap (λ m. mode_or (mode_in a byte) m) (mode_in-append b c byte)
 
 -- the two ends, and the own run between them
-replaced_modes : (touched left right : List (Mode × Span)) (span : Span) (mode : Option Mode) (first last : ℕ) → span.first ≤ span.last → IsLeftEnd touched span mode first left → IsRightEnd touched span mode last right → SetsMode (mode_in touched) (mode_in (left ++ (own_run mode first last ++ right))) span mode
+replaced_modes : (touched left right : List (Mode × Span)) (span : Span) (mode : Option Mode) (first last : ℕ) → span.first ≤ span.last
+    → IsLeftEnd touched span mode first left → IsRightEnd touched span mode last right
+    → SetsMode (mode_in touched) (mode_in (left ++ (own_run mode first last ++ right))) span mode
 replaced_modes touched left right span mode first last range l r byte =
     search (rules, mode_in-three, cases_lt, mode_in-none, All-own_run, uncovered, mode_or-None, own_mode, cases_covers, is_covered-true, false≢true)
 
@@ -43,14 +45,17 @@ own_none None first last is = refl
 own_none (Some own) first last is = absurd (let none : Some own ≡ None = is in cc)
 
 -- the byte before an own run with a piece beside it, and the one behind
-left_byte : (touched left : List (Mode × Span)) (piece : Mode × Span) (span : Span) (mode : Option Mode) (first : ℕ) → IsLeftEnd touched span mode first (piece ∷ left) → mode_in touched piece.1.last ≡ Some piece.0
+left_byte : (touched left : List (Mode × Span)) (piece : Mode × Span) (span : Span) (mode : Option Mode) (first : ℕ)
+    → IsLeftEnd touched span mode first (piece ∷ left) → mode_in touched piece.1.last ≡ Some piece.0
 left_byte touched left piece span mode first l = grind (arith, common_steps, mode_in-at, AllPairs-few)
 
-right_byte : (touched right : List (Mode × Span)) (piece : Mode × Span) (span : Span) (mode : Option Mode) (last : ℕ) → IsRightEnd touched span mode last (piece ∷ right) → mode_in touched piece.1.first ≡ Some piece.0
+right_byte : (touched right : List (Mode × Span)) (piece : Mode × Span) (span : Span) (mode : Option Mode) (last : ℕ)
+    → IsRightEnd touched span mode last (piece ∷ right) → mode_in touched piece.1.first ≡ Some piece.0
 right_byte touched right piece span mode last r = grind (arith, common_steps, mode_in-at, AllPairs-few)
 
 -- of the one touched run pieces stay at both ends only where the range lies inside it
-one_left : (run : Mode × Span) (left right : List (Mode × Span)) (span : Span) (mode : Option Mode) (first last : ℕ) → IsLeftEnd (run ∷ []) span mode first left → IsRightEnd (run ∷ []) span mode last right → (length left + length right ≤ 1) ⊎ IsInside (run ∷ []) span
+one_left : (run : Mode × Span) (left right : List (Mode × Span)) (span : Span) (mode : Option Mode) (first last : ℕ)
+    → IsLeftEnd (run ∷ []) span mode first left → IsRightEnd (run ∷ []) span mode last right → (length left + length right ≤ 1) ⊎ IsInside (run ∷ []) span
 one_left run [] right span mode first last l r = inl (omega (arith, r.single))
 one_left run (piece ∷ left) [] span mode first last l r = inl (omega (arith, l.single))
 one_left run (piece ∷ left) (other ∷ right) span mode first last l r =
@@ -69,19 +74,23 @@ none_left [] span mode last r = refl
 none_left (piece ∷ right) span mode last r = absurd (let none : None ≡ Some piece.0 = right_byte [] right piece span mode last r in cc)
 
 -- so an unlock leaves no more runs than it touches, unless it lies inside the one that it touches
-few_left : (touched left right : List (Mode × Span)) (span : Span) (mode : Option Mode) (first last : ℕ) → IsLeftEnd touched span mode first left → IsRightEnd touched span mode last right → (length left + length right ≤ length touched) ⊎ IsInside touched span
+few_left : (touched left right : List (Mode × Span)) (span : Span) (mode : Option Mode) (first last : ℕ) → IsLeftEnd touched span mode first left
+    → IsRightEnd touched span mode last right → (length left + length right ≤ length touched) ⊎ IsInside touched span
 few_left [] left right span mode first last l r = inl (omega (arith, l.few, none_left right span mode last r))
 few_left (run ∷ []) left right span mode first last l r = one_left run left right span mode first last l r
 few_left (run ∷ (other ∷ more)) left right span mode first last l r = inl (omega (arith, l.single, r.single))
 
-unlock_left : (touched left right : List (Mode × Span)) (span : Span) (mode : Option Mode) (first last : ℕ) → IsLeftEnd touched span mode first left → IsRightEnd touched span mode last right → mode ≡ None → (length (left ++ (own_run mode first last ++ right)) ≤ length touched) ⊎ IsInside touched span
+unlock_left : (touched left right : List (Mode × Span)) (span : Span) (mode : Option Mode) (first last : ℕ) → IsLeftEnd touched span mode first left
+    → IsRightEnd touched span mode last right → mode ≡ None → (length (left ++ (own_run mode first last ++ right)) ≤ length touched) ⊎ IsInside touched span
 unlock_left touched left right span mode first last l r is = elim (few_left touched left right span mode first last l r) [
   | inl few ↦ inl (omega (arith, few, length-append left (own_run mode first last ++ right), length-append (own_run mode first last) right, own_none mode first last is))
   | inr inside ↦ inr inside
 ]
 
 -- what a set leaves in the place of the touched runs, from the two ends of its own run
-pub replaced : (touched left right : List (Mode × Span)) (span : Span) (mode : Option Mode) (first last : ℕ) → IsByteRange span → IsLeftEnd touched span mode first left → IsRightEnd touched span mode last right → IsReplacement touched span mode (left ++ (own_run mode first last ++ right))
+pub replaced : (touched left right : List (Mode × Span)) (span : Span) (mode : Option Mode) (first last : ℕ) → IsByteRange span
+    → IsLeftEnd touched span mode first left → IsRightEnd touched span mode last right
+    → IsReplacement touched span mode (left ++ (own_run mode first last ++ right))
 replaced touched left right span mode first last range l r =
     let own = own_run mode first last in
     let InFile = λ (run : Mode × Span). IsByteRange run.1 in
@@ -127,7 +136,9 @@ pub record IsSet (old new : List (Mode × Span)) (span : Span) (mode : Option Mo
   pub in_order : AreInOrder new
 
 -- the runs before those that a set touches stay, and those behind them
-pub set_between : (before touched behind put : List (Mode × Span)) (span : Span) (mode : Option Mode) → AreInOrder (before ++ (touched ++ behind)) → All (λ run. run.1.last + 1 < span.first) before → All (λ run. span.last + 1 < run.1.first) behind → IsReplacement touched span mode put → IsSet (before ++ (touched ++ behind)) (before ++ (put ++ behind)) span mode
+pub set_between : (before touched behind put : List (Mode × Span)) (span : Span) (mode : Option Mode) → AreInOrder (before ++ (touched ++ behind))
+    → All (λ run. run.1.last + 1 < span.first) before → All (λ run. span.last + 1 < run.1.first) behind → IsReplacement touched span mode put
+    → IsSet (before ++ (touched ++ behind)) (before ++ (put ++ behind)) span mode
 set_between before touched behind put span mode in_order lower higher replacement =
     let InFile = λ (run : Mode × Span). IsByteRange run.1 in
     let rest = ordered_parts IsApart before (touched ++ behind) in_order.apart in
@@ -159,7 +170,9 @@ set_between before touched behind put span mode in_order lower higher replacemen
     }
 
 -- the same where the touched runs stand at these places, from what was lent of the two lists
-pub set_at : (runs lent put lent_put now : List (Mode × Span)) (span : Span) (mode : Option Mode) (start end : ℕ) → All (λ run. IsByteRange run.1) runs → AllPairs IsApart runs → lent ≡ runs → lent_put ≡ put → AreTouched runs span start end → IsReplacement (between start end lent) span mode put → now ≡ take start runs ++ (lent_put ++ drop end runs) → IsSet runs now span mode
+pub set_at : (runs lent put lent_put now : List (Mode × Span)) (span : Span) (mode : Option Mode) (start end : ℕ)
+    → All (λ run. IsByteRange run.1) runs → AllPairs IsApart runs → lent ≡ runs → lent_put ≡ put → AreTouched runs span start end
+    → IsReplacement (between start end lent) span mode put → now ≡ take start runs ++ (lent_put ++ drop end runs) → IsSet runs now span mode
 set_at runs lent put lent_put now span mode start end ranges apart lent_is put_is touched replacement now_is =
     let parts = split_between runs start end touched.ordered in
     let in_order : AreInOrder runs = record { ranges = ranges; apart = apart } in
@@ -169,7 +182,9 @@ set_at runs lent put lent_put now span mode start end ranges apart lent_is put_i
     (subst (λ old. IsSet old (take start runs ++ (put ++ drop end runs)) span mode) (sym parts) set)
 
 -- an unlock that leaves more runs than it touches splits a run
-pub splits_at : (runs lent put : List (Mode × Span)) (span : Span) (mode : Option Mode) (start end : ℕ) → AllPairs IsApart runs → lent ≡ runs → AreTouched runs span start end → IsReplacement (between start end lent) span mode put → mode ≡ None → end - start < length put → SplitsRun (mode_in runs) span
+pub splits_at : (runs lent put : List (Mode × Span)) (span : Span) (mode : Option Mode) (start end : ℕ) → AllPairs IsApart runs → lent ≡ runs
+    → AreTouched runs span start end → IsReplacement (between start end lent) span mode put → mode ≡ None → end - start < length put
+    → SplitsRun (mode_in runs) span
 splits_at runs lent put span mode start end apart lent_is touched replacement unlock more =
     let replaced_there = subst (λ l. IsReplacement (between start end l) span mode put) lent_is replacement in
     let count = length-between runs start end touched.within in

@@ -13,7 +13,8 @@ use Rattle.range_core.specs.Changes.{mode_in}
 use Rattle.range_core.proofs.ModeLemmas.{held_at, mode_in-at, mode_in-none}
 
 -- a range of one mode round the byte is the largest where the bytes before it and after it have another mode or none
-pub IsRun_between : (modes : Modes) (byte : ℕ) (mode : Mode) (span : Span) → Covers span byte → IsConstant modes span mode → ((other : ℕ) → other + 1 ≡ span.first → modes other ≢ Some mode) → modes (span.last + 1) ≢ Some mode → IsRun modes byte mode span
+pub IsRun_between : (modes : Modes) (byte : ℕ) (mode : Mode) (span : Span) → Covers span byte → IsConstant modes span mode
+    → ((other : ℕ) → other + 1 ≡ span.first → modes other ≢ Some mode) → modes (span.last + 1) ≢ Some mode → IsRun modes byte mode span
 IsRun_between modes byte mode span covers constant first last = record {
   covered = covers;
   constant = constant;
@@ -30,7 +31,8 @@ IsRun_between modes byte mode span covers constant first last = record {
 }
 
 -- a byte right beside a run doesn't have its mode
-beside : (runs : List (Mode × Span)) (k : ℕ) (d : Mode × Span) (byte : ℕ) → All (λ run. IsByteRange run.1) runs → AllPairs IsApart runs → k < length runs → (byte + 1 ≡ (get_or runs k d).1.first) ⊎ (byte ≡ (get_or runs k d).1.last + 1) → mode_in runs byte ≢ Some (get_or runs k d).0
+beside : (runs : List (Mode × Span)) (k : ℕ) (d : Mode × Span) (byte : ℕ) → All (λ run. IsByteRange run.1) runs → AllPairs IsApart runs
+    → k < length runs → (byte + 1 ≡ (get_or runs k d).1.first) ⊎ (byte ≡ (get_or runs k d).1.last + 1) → mode_in runs byte ≢ Some (get_or runs k d).0
 beside runs k d byte ranges apart within touches has =
     let run = get_or runs k d in
     let range : run.1.first ≤ run.1.last = (ranges k d within).0 in
@@ -62,7 +64,8 @@ beside runs k d byte ranges apart within touches has =
     ]
 
 -- the run in the list that covers a byte is the run at the byte
-pub IsRun_at : (runs : List (Mode × Span)) (k : ℕ) (d : Mode × Span) (byte : ℕ) → All (λ run. IsByteRange run.1) runs → AllPairs IsApart runs → k < length runs → Covers (get_or runs k d).1 byte → IsRun (mode_in runs) byte (get_or runs k d).0 (get_or runs k d).1
+pub IsRun_at : (runs : List (Mode × Span)) (k : ℕ) (d : Mode × Span) (byte : ℕ) → All (λ run. IsByteRange run.1) runs → AllPairs IsApart runs
+    → k < length runs → Covers (get_or runs k d).1 byte → IsRun (mode_in runs) byte (get_or runs k d).0 (get_or runs k d).1
 IsRun_at runs k d byte ranges apart within covers =
     IsRun_between (mode_in runs) byte (get_or runs k d).0 (get_or runs k d).1 covers
     (λ other covered. mode_in-at runs k d other apart within covered)
@@ -86,7 +89,9 @@ conflicting None against conflicts = absurd conflicts
 conflicting (Some mode) against conflicts = (mode, refl, conflicts)
 
 -- no byte conflicts that lies behind the runs before the one place and before the runs from the other on, where none between does
-pub unhit : (runs : List (Mode × Span)) (start end first byte : ℕ) (against : Mode) → AllWithin (λ run. run.1.last < first) runs 0 start → AllWithin (λ run. ¬ (Conflict run.0 against)) runs start end → AllWithin (λ run. byte < run.1.first) runs end (length runs) → first ≤ byte → ¬ (HeldConflicts (mode_in runs byte) against)
+pub unhit : (runs : List (Mode × Span)) (start end first byte : ℕ) (against : Mode) → AllWithin (λ run. run.1.last < first) runs 0 start
+    → AllWithin (λ run. ¬ (Conflict run.0 against)) runs start end → AllWithin (λ run. byte < run.1.first) runs end (length runs) → first ≤ byte
+    → ¬ (HeldConflicts (mode_in runs byte) against)
 unhit runs start end first byte against before between behind from conflicts =
     let (mode, has, conflict) = conflicting (mode_in runs byte) against conflicts in
     let d : Mode × Span = (mode, record { first = 0; last = 0 }) in
@@ -100,7 +105,8 @@ unhit runs start end first byte against before between behind from conflicts =
     ]
 
 -- the runs from a place on begin behind each byte before the run there
-pub begins_from : (runs : List (Mode × Span)) (k : ℕ) (d : Mode × Span) (byte : ℕ) → All (λ run. IsByteRange run.1) runs → AllPairs IsApart runs → k < length runs → byte < (get_or runs k d).1.first → AllWithin (λ run. byte < run.1.first) runs k (length runs)
+pub begins_from : (runs : List (Mode × Span)) (k : ℕ) (d : Mode × Span) (byte : ℕ) → All (λ run. IsByteRange run.1) runs → AllPairs IsApart runs
+    → k < length runs → byte < (get_or runs k d).1.first → AllWithin (λ run. byte < run.1.first) runs k (length runs)
 begins_from runs k d byte ranges apart within before j e from inside =
     elim (cases_lt k j) [
       | inl behind ↦
@@ -119,7 +125,10 @@ pub firsts_rise : (runs : List (Mode × Span)) → All (λ run. IsByteRange run.
 firsts_rise runs ranges apart i j d upto within = grind (arith, common_steps, cases_lt)
 
 -- the least byte of the span that one run covers conflicts first, where no run before it that reaches the span does
-pub IsFirstHit_at : (runs : List (Mode × Span)) (start k : ℕ) (d : Mode × Span) (span : Span) (against : Mode) → All (λ run. IsByteRange run.1) runs → AllPairs IsApart runs → AllWithin (λ run. run.1.last < span.first) runs 0 start → AllWithin (λ run. ¬ (Conflict run.0 against)) runs start k → k < length runs → span.first ≤ (get_or runs k d).1.last → (get_or runs k d).1.first ≤ span.last → span.first ≤ span.last → Conflict (get_or runs k d).0 against → IsFirstHit (mode_in runs) span against (max (get_or runs k d).1.first span.first)
+pub IsFirstHit_at : (runs : List (Mode × Span)) (start k : ℕ) (d : Mode × Span) (span : Span) (against : Mode) → All (λ run. IsByteRange run.1) runs
+    → AllPairs IsApart runs → AllWithin (λ run. run.1.last < span.first) runs 0 start → AllWithin (λ run. ¬ (Conflict run.0 against)) runs start k
+    → k < length runs → span.first ≤ (get_or runs k d).1.last → (get_or runs k d).1.first ≤ span.last → span.first ≤ span.last
+    → Conflict (get_or runs k d).0 against → IsFirstHit (mode_in runs) span against (max (get_or runs k d).1.first span.first)
 IsFirstHit_at runs start k d span against ranges apart before between within reaches begins range conflict =
     let run = get_or runs k d in
     let first = max run.1.first span.first in
@@ -134,7 +143,9 @@ IsFirstHit_at runs start k d span against ranges apart before between within rea
     }
 
 -- no run covers a byte behind the runs before a place, where the run there, if there is one, begins behind it
-pub mode_in_between : (runs : List (Mode × Span)) (place byte : ℕ) → All (λ run. IsByteRange run.1) runs → AllPairs IsApart runs → AllWithin (λ run. run.1.last < byte) runs 0 place → ((d : Mode × Span) → place < length runs → byte < (get_or runs place d).1.first) → mode_in runs byte ≡ None
+pub mode_in_between : (runs : List (Mode × Span)) (place byte : ℕ) → All (λ run. IsByteRange run.1) runs → AllPairs IsApart runs
+    → AllWithin (λ run. run.1.last < byte) runs 0 place → ((d : Mode × Span) → place < length runs → byte < (get_or runs place d).1.first)
+    → mode_in runs byte ≡ None
 mode_in_between runs place byte ranges apart before behind =
     mode_in-none runs byte (λ k d within covers.
     elim (cases_lt k place) [
@@ -145,7 +156,8 @@ mode_in_between runs place byte ranges apart before behind =
     ])
 
 -- the runs that end before a byte stand before those that begin behind it
-pub start_before_end : (runs : List (Mode × Span)) (start end low high : ℕ) → All (λ run. IsByteRange run.1) runs → start ≤ length runs → low ≤ high → AllWithin (λ run. run.1.last < low) runs 0 start → AllWithin (λ run. high < run.1.first) runs end (length runs) → start ≤ end
+pub start_before_end : (runs : List (Mode × Span)) (start end low high : ℕ) → All (λ run. IsByteRange run.1) runs → start ≤ length runs → low ≤ high
+    → AllWithin (λ run. run.1.last < low) runs 0 start → AllWithin (λ run. high < run.1.first) runs end (length runs) → start ≤ end
 start_before_end runs start end low high ranges within less ends begins =
     elim (cases_lt end start) [
       | inl crossed ↦

@@ -53,7 +53,8 @@ pub record IsLeftEnd (touched : List (Mode × Span)) (span : Span) (mode : Optio
   pub joined : (byte : ℕ) → first ≤ byte → byte < span.first → mode_in touched byte ≡ mode
   pub outside : (byte : ℕ) → byte < first → mode_in touched byte ≡ mode_in piece byte
   pub beside : All (λ r. (r.1.first ≤ r.1.last) × (r.1.last + 1 ≡ first) × (mode ≢ Some r.0)) piece
-  pub apart : (run : Mode × Span) (last : ℕ) → run.1.last + 1 < span.first → All (IsApart run) touched → All (IsApart run) piece × All (IsApart run) (own_run mode first last)
+  pub apart : (run : Mode × Span) (last : ℕ) → run.1.last + 1 < span.first → All (IsApart run) touched
+      → All (IsApart run) piece × All (IsApart run) (own_run mode first last)
 
 -- a set's own run ends at this byte, and behind it stays this piece of what the set touches (this project's choice)
 pub record IsRightEnd (touched : List (Mode × Span)) (span : Span) (mode : Option Mode) (last : ℕ) (piece : List (Mode × Span)) : Type 0 where
@@ -63,4 +64,5 @@ pub record IsRightEnd (touched : List (Mode × Span)) (span : Span) (mode : Opti
   pub joined : (byte : ℕ) → span.last < byte → byte ≤ last → mode_in touched byte ≡ mode
   pub outside : (byte : ℕ) → last < byte → mode_in touched byte ≡ mode_in piece byte
   pub beside : All (λ r. (last + 1 ≡ r.1.first) × IsByteRange r.1 × (mode ≢ Some r.0)) piece
-  pub apart : (run : Mode × Span) (first : ℕ) → span.last + 1 < run.1.first → All (λ r. IsApart r run) touched → All (λ r. IsApart r run) piece × All (λ r. IsApart r run) (own_run mode first last)
+  pub apart : (run : Mode × Span) (first : ℕ) → span.last + 1 < run.1.first → All (λ r. IsApart r run) touched
+      → All (λ r. IsApart r run) piece × All (λ r. IsApart r run) (own_run mode first last)

@@ -74,7 +74,8 @@ headed_lines policy limits text =
     ∙ ap (λ (l : List (List ℕ)). first ∷ l) (lines_first second text (limits_in_line limits))
   where
     cut_of : (policy : Policy) (limits : Limits)
-        → header_lines (record { policy = policy; limits = limits }) ++ text ≡ (codes "policy " ++ policy_word policy) ++ 10 ∷ ((codes "limits " ++ limits_word limits) ++ 10 ∷ text)
+        → header_lines (record { policy = policy; limits = limits }) ++ text ≡ (codes "policy " ++ policy_word policy)
+        ++ 10 ∷ ((codes "limits " ++ limits_word limits) ++ 10 ∷ text)
     cut_of Held Small = refl
     cut_of Held Wide = refl
     cut_of Queue Small = refl

@@ -67,7 +67,8 @@ of_line : (number : ℕ) (reading : JournalReading) (line : List ℕ) (rest : Li
     → ((after : JournalReading) (verdict : Verdict) → LinesCome (number + 1) after rest verdict → JournalGives (number + 1) after rest (end_of verdict))
     → (next : Result JournalLine Cause) (verdict : Verdict) → ComesOf number reading line rest next verdict
     → MatchResult next
-    (λ said. MatchFact (MayGoOn reading line said) (JournalGives (number + 1) (reading_behind reading line said) rest (end_of verdict)) (end_of verdict ≡ journals.Illegal number))
+    (λ said. MatchFact (MayGoOn reading line said) (JournalGives (number + 1) (reading_behind reading line said) rest (end_of verdict))
+    (end_of verdict ≡ journals.Illegal number))
     (λ cause. end_of verdict ≡ journals.Faulty number cause)
 of_line number reading line rest later (Ok said) verdict (inl goes) = inl (goes.0, later (reading_behind reading line said) verdict goes.1)
 of_line number reading line rest later (Ok said) verdict (inr stops) = inr (stops.0, ap end_of stops.1.2)
@@ -84,7 +85,8 @@ legal_line : (number : ℕ) (reading : JournalReading) (line : List ℕ) (rest :
     → ((after : JournalReading) → JournalGives (number + 1) after rest journals.Legal → LinesCome (number + 1) after rest Legal)
     → (next : Result JournalLine Cause)
     → MatchResult next
-    (λ said. MatchFact (MayGoOn reading line said) (JournalGives (number + 1) (reading_behind reading line said) rest journals.Legal) (journals.Legal ≡ journals.Illegal number))
+    (λ said. MatchFact (MayGoOn reading line said) (JournalGives (number + 1) (reading_behind reading line said) rest journals.Legal) (journals.Legal
+    ≡ journals.Illegal number))
     (λ cause. journals.Legal ≡ journals.Faulty number cause)
     → ComesOf number reading line rest next Legal
 legal_line number reading line rest later (Ok said) (inl goes) = inl (goes.0, later (reading_behind reading line said) goes.1)

@@ -75,9 +75,11 @@ says_lock : (cmd : LkCmd) (fd : ℕ) (lock : Lock) → (lock.pid ≡ pos 0) ⊎ 
 says_lock cmd fd lock (inl none) = inr (none, ap (λ ws. lock_command_word cmd ∷ (lock_words fd lock ++ ws)) (written_zero lock.pid none))
 says_lock cmd fd lock (inr written) = inl (ap (λ ws. lock_command_word cmd ∷ (lock_words fd lock ++ ws)) written)
 
-pub good_lock : (limits : Limits) (cmd : LkCmd) (words : List (List ℕ)) (pid : List ℕ) (fd : ℕ) (lock : Lock) (z : ℤ) → words ≡ lock_words fd lock → pid ≡ signed_decimal z
+pub good_lock : (limits : Limits) (cmd : LkCmd) (words : List (List ℕ)) (pid : List ℕ) (fd : ℕ) (lock : Lock) (z : ℤ) → words ≡ lock_words fd lock
+    → pid ≡ signed_decimal z
     → fd < 2 ^ 32 → FitsSigned w64 lock.start → FitsSigned w64 lock.len → FitsSigned w64 z
-    → CommandGives limits (lock_command_word cmd ∷ (words ++ pid ∷ [])) (lock_command (lock_command_word cmd)) (words ++ pid ∷ []) (Ok (Lk fd cmd (record lock { pid = z })))
+    → CommandGives limits (lock_command_word cmd ∷ (words ++ pid ∷ [])) (lock_command (lock_command_word cmd)) (words
+    ++ pid ∷ []) (Ok (Lk fd cmd (record lock { pid = z })))
 good_lock limits cmd words pid fd lock z spelled written small start len fits =
     subst (λ ws. CommandGives limits (lock_command_word cmd ∷ (ws ++ pid ∷ [])) (lock_command (lock_command_word cmd)) (ws ++ pid ∷ []) (Ok (Lk fd cmd (record lock { pid = z })))) (sym spelled)
     (subst (λ word. CommandGives limits (lock_command_word cmd ∷ (lock_words fd lock ++ word ∷ [])) (lock_command (lock_command_word cmd)) (lock_words fd lock ++ word ∷ []) (Ok (Lk fd cmd (record lock { pid = z })))) (sym written)

@@ -283,7 +283,9 @@ in_flock owner mode = both (owner_text owner ++ codes " ") (flock_word mode) (bo
 pub in_held : (held : Held) → InLine (held_text held)
 in_held held = by_case held.whole
   where
-    by_case : (whole : Bool) → InLine (cond whole (codes "flock " ++ decimal held.file ++ codes " " ++ flock_text held.owner held.mode) (codes "lock " ++ byte_lock_text held.file held.owner held.mode held.span))
+    by_case : (whole : Bool)
+        → InLine (cond whole (codes "flock " ++ decimal held.file ++ codes " " ++ flock_text held.owner held.mode) (codes "lock "
+        ++ byte_lock_text held.file held.owner held.mode held.span))
     by_case true =
         both (decimal held.file ++ codes " ") (flock_text held.owner held.mode) (both (decimal held.file) (codes " ") (number held.file) refl) (in_flock held.owner held.mode)
     by_case false = in_byte_lock held.file held.owner held.mode held.span
@@ -291,7 +293,9 @@ in_held held = by_case held.whole
 plain_held : (held : Held) → IsPlain (held_line held)
 plain_held held = plain_line (held_text held) (in_held held) (by_case held.whole)
   where
-    by_case : (whole : Bool) → is_comment_line (cond whole (codes "flock " ++ decimal held.file ++ codes " " ++ flock_text held.owner held.mode) (codes "lock " ++ byte_lock_text held.file held.owner held.mode held.span)) ≡ false
+    by_case : (whole : Bool)
+        → is_comment_line (cond whole (codes "flock " ++ decimal held.file ++ codes " " ++ flock_text held.owner held.mode) (codes "lock "
+        ++ byte_lock_text held.file held.owner held.mode held.span)) ≡ false
     by_case true = refl
     by_case false = refl
 

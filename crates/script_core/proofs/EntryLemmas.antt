@@ -279,7 +279,8 @@ ToldGives-unique p n (name ∷ arguments) a b first second =
 abbrev TaggedTells : List (List ℕ) → Result (ℕ × ℕ) Cause → Result Note Cause → Type 0
 TaggedTells rest tagged result = MatchResult tagged (λ pair. ToldGives pair.0 pair.1 rest result) (λ cause. result ≡ Err cause)
 
-TaggedTells-unique : (rest : List (List ℕ)) (tagged : Result (ℕ × ℕ) Cause) (a b : Result Note Cause) → TaggedTells rest tagged a → TaggedTells rest tagged b → a ≡ b
+TaggedTells-unique : (rest : List (List ℕ)) (tagged : Result (ℕ × ℕ) Cause) (a b : Result Note Cause) → TaggedTells rest tagged a
+    → TaggedTells rest tagged b → a ≡ b
 TaggedTells-unique rest (Ok pair) a b first second = ToldGives-unique pair.0 pair.1 rest a b first second
 TaggedTells-unique rest (Err cause) a b first second = first ∙ sym second
 
@@ -295,7 +296,8 @@ LaterNotesGive limits notes pieces next result = MatchResult next (λ note. Note
 
 later_unique : (limits : Limits) (notes : List Note) (pieces : List (List ℕ))
     → ((more : List Note) (a b : Result (List Note) Cause) → NotesGive limits more pieces a → NotesGive limits more pieces b → a ≡ b)
-    → (next : Result Note Cause) (a b : Result (List Note) Cause) → LaterNotesGive limits notes pieces next a → LaterNotesGive limits notes pieces next b → a ≡ b
+    → (next : Result Note Cause) (a b : Result (List Note) Cause) → LaterNotesGive limits notes pieces next a
+    → LaterNotesGive limits notes pieces next b → a ≡ b
 later_unique limits notes pieces later (Ok note) a b first second = later (notes ++ note ∷ []) a b first second
 later_unique limits notes pieces later (Err cause) a b first second = first ∙ sym second
 
@@ -360,7 +362,8 @@ cut_at_piece all read count piece was within at =
 
 -- the piece at hand is a note, so the pieces so far are notes
 pub notes_one : (limits : Limits) (read : List (Bor (List ℕ))) (piece : Bor (List ℕ)) (notes items : List Note) (note : Note) → items ≡ notes ++ note ∷ []
-    → NotesGive limits [] (texts read) (Ok notes) → NoteGives limits (words_of piece.now) (Ok note) → NotesGive limits [] (texts (read ++ piece ∷ [])) (Ok items)
+    → NotesGive limits [] (texts read) (Ok notes) → NoteGives limits (words_of piece.now) (Ok note)
+    → NotesGive limits [] (texts (read ++ piece ∷ [])) (Ok items)
 notes_one limits read piece notes items note are given one =
     rw (map-append (λ (word : Bor (List ℕ)). word.now) read (piece ∷ []))
     (notes_then limits [] (texts read) notes (piece.now ∷ []) (Ok items) given (Ok note, one, ap Ok are))
@@ -374,12 +377,14 @@ notes_fault limits all read piece notes cause so_far turn given fault =
     (notes_then limits [] (texts read) notes (piece.now ∷ drop (length read + 1) all) (Err cause) given (Err cause, fault, refl))
 
 -- behind notes, what begins with one
-notes_begin : (limits : Limits) (start : List Note) (pieces : List (List ℕ)) (notes : List Note) (more : List (List ℕ)) → NotesGive limits start pieces (Ok notes)
+notes_begin : (limits : Limits) (start : List Note) (pieces : List (List ℕ)) (notes : List Note) (more : List (List ℕ))
+    → NotesGive limits start pieces (Ok notes)
     → BeginWithNote limits more → BeginWithNote limits (pieces ++ more)
 notes_begin limits start [] notes more read later = later
 notes_begin limits start (piece ∷ pieces) notes more read later = begin read.0 read.1 read.2
   where
-    begin : (next : Result Note Cause) → NoteGives limits (words_of piece) next → LaterNotesGive limits start pieces next (Ok notes) → BeginWithNote limits (piece ∷ (pieces ++ more))
+    begin : (next : Result Note Cause) → NoteGives limits (words_of piece) next → LaterNotesGive limits start pieces next (Ok notes)
+        → BeginWithNote limits (piece ∷ (pieces ++ more))
     begin (Ok note) one rest = (note, one)
     begin (Err cause) one rest = absurd (let other : Ok notes ≡ Err cause = rest in cc)
 

@@ -278,14 +278,17 @@ length-notes limits (note ∷ rest) all =
     omega (arith, body, later, text, length-append (note_text note) (flat_map note_text rest))
 
 -- the words of a first piece are read as the request that was taken
-taken_gives : (limits : Limits) (event : Event) (words : List (List ℕ)) → words ≡ tag event.p event.n ∷ request_words event.request → IsProcess limits event.p → event.n < 2 ^ 64
+taken_gives : (limits : Limits) (event : Event) (words : List (List ℕ)) → words ≡ tag event.p event.n ∷ request_words event.request
+    → IsProcess limits event.p → event.n < 2 ^ 64
     → IsWritable limits event.request → TakenGives limits words (Ok (record { p = event.p; n = event.n; request = event.request }))
 taken_gives limits event words are process number request =
     rw are (Ok (event.p, event.n), (process, number, refl), (Ok event.request, gives_request limits event.request request, refl))
 
 -- a first piece, and then notes
-pieces_give : (limits : Limits) (event : Event) (notes : List Note) → IsProcess limits event.p → event.n < 2 ^ 64 → IsWritable limits event.request → All (IsWritableNote limits) notes
-    → PiecesGive limits (pieces_of (join_with_byte 32 (tag event.p event.n ∷ request_words event.request) ++ flat_map note_text notes)) (Ok (record event { notes = notes }))
+pieces_give : (limits : Limits) (event : Event) (notes : List Note) → IsProcess limits event.p → event.n < 2 ^ 64 → IsWritable limits event.request
+    → All (IsWritableNote limits) notes
+    → PiecesGive limits (pieces_of (join_with_byte 32 (tag event.p event.n ∷ request_words event.request)
+    ++ flat_map note_text notes)) (Ok (record event { notes = notes }))
 unfolding AreWords
 pieces_give limits event [] process number request all =
     let word = tag event.p event.n in

@@ -102,7 +102,8 @@ of_request_taken p n (Ok request) result said is = said_by (Ok (record { p = p; 
 of_request_taken p n (Err cause) result said is = said_by (Err cause) result said is
 
 of_tagged : (limits : Limits) (word : List ℕ) (rest : List (List ℕ)) (tagged : Result (ℕ × ℕ) Cause) (result : Result Taken Cause) → TagGives limits word tagged
-    → MatchResult tagged (λ pair. (next : Result Request Cause) × RequestGives limits rest next × RequestIsTaken pair.0 pair.1 next result) (λ cause. result ≡ Err cause)
+    → MatchResult tagged (λ pair. (next : Result Request Cause) × RequestGives limits rest next
+    × RequestIsTaken pair.0 pair.1 next result) (λ cause. result ≡ Err cause)
     → IsSaid result
 unfolding IsSaid
 of_tagged limits word rest (Ok pair) result tag given = of_request_taken pair.0 pair.1 given.0 result (of_request limits rest given.0 given.1) given.2
@@ -113,7 +114,8 @@ unfolding IsSaid
 of_taken limits [] result is = said_by (Err Count) result (λ memory e. cc) is
 of_taken limits (first ∷ rest) result gives = of_tagged limits first rest gives.0 result gives.1 gives.2
 
-of_reply_words : (expected : List Argument) (name : List ℕ) (arguments : List (List ℕ)) (result : Result Reply Cause) → ReplyWordsGive expected name arguments result → IsSaid result
+of_reply_words : (expected : List Argument) (name : List ℕ) (arguments : List (List ℕ)) (result : Result Reply Cause)
+    → ReplyWordsGive expected name arguments result → IsSaid result
 unfolding IsSaid
 of_reply_words expected name arguments result (inl (cause, refused, is)) = said_by (Err cause) result (of_refused expected arguments cause refused) is
 of_reply_words expected name arguments result (inr (reply, are, is)) = said_by (Ok reply) result tt is

@@ -57,7 +57,8 @@ many_found : (limits : Limits) (name : List ℕ) (arguments others : List (List 
     → MatchOption found (result ≡ Err Word) (λ command. CommandGives limits (name ∷ others) command others result)
 many_found limits name arguments others result found h h2 h3 h4 = grind (arith, common_steps, too_many)
 
-pub many_arguments : (limits : Limits) (name : List ℕ) (arguments others : List (List ℕ)) (result : Result Request Cause) → 6 < length arguments → 6 < length others
+pub many_arguments : (limits : Limits) (name : List ℕ) (arguments others : List (List ℕ)) (result : Result Request Cause) → 6 < length arguments
+    → 6 < length others
     → RequestGives limits (name ∷ arguments) result → RequestGives limits (name ∷ others) result
 many_arguments limits name arguments others result many more given =
     many_found limits name arguments others result (command_named limits name) many more (found_has HasFew (λ command. bytes_eq command.name name) (commands limits) (each_has_few limits)) given
@@ -69,7 +70,8 @@ many_behind limits first name arguments others result many more (inl given) =
 many_behind limits first name arguments others result many more (inr refused) = inr refused
 
 -- of words that are too many for any line, others that are say the same behind the same two
-many_words : (reading : Reading) (first name : List ℕ) (arguments others : List (List ℕ)) (result : Result Line Cause) → 6 < length arguments → 6 < length others
+many_words : (reading : Reading) (first name : List ℕ) (arguments others : List (List ℕ)) (result : Result Line Cause) → 6 < length arguments
+    → 6 < length others
     → WordsGive reading (first ∷ name ∷ arguments) result → WordsGive reading (first ∷ name ∷ others) result
 many_words reading first name arguments others result many more given =
     MatchBool-map (is_comment first) _ _ _ _ (λ skipped. skipped)

@@ -85,22 +85,26 @@ neither : (a b : Bool) → (a || b) ≡ false → (a ≡ false) × (b ≡ false)
 neither true b e = absurd (cc)
 neither false b e = (refl, e)
 
-accepted_word : (limits : Limits) (first : List ℕ) (rest : List (List ℕ)) (result : Result Line Cause) → is_ok result ≡ true → ProcessGives limits first rest result → IsNoHeaderWord first
+accepted_word : (limits : Limits) (first : List ℕ) (rest : List (List ℕ)) (result : Result Line Cause) → is_ok result ≡ true
+    → ProcessGives limits first rest result → IsNoHeaderWord first
 accepted_word limits first rest result ok (inl arrival) =
     subst IsNoHeaderWord (sym arrival.2) (IsNoHeaderWord-decimal arrival.0 (small_process limits arrival.0 arrival.1))
 accepted_word limits first rest result ok (inr fault) = absurd (let refused : is_ok result ≡ false = ap is_ok fault.1 in cc)
 
-no_header_word : (first : List ℕ) (rest : List (List ℕ)) (result : Result Line Cause) → IsSame (first ∷ rest) result → ProcessGives Small first rest result → IsNoHeaderWord first
+no_header_word : (first : List ℕ) (rest : List (List ℕ)) (result : Result Line Cause) → IsSame (first ∷ rest) result
+    → ProcessGives Small first rest result → IsNoHeaderWord first
 no_header_word first rest result (inl ok) gives = accepted_word Small first rest result ok gives
 no_header_word first rest result (inr none) gives = neither (bytes_eq first (codes "policy")) (bytes_eq first (codes "limits")) none
 
-words_same : (arrivals : List (ℕ × Request)) (words : List (List ℕ)) (result : Result Line Cause) → IsSame words result → PlainWordsGive words result → WordsGive (reading_of arrivals) words result
+words_same : (arrivals : List (ℕ × Request)) (words : List (List ℕ)) (result : Result Line Cause) → IsSame words result → PlainWordsGive words result
+    → WordsGive (reading_of arrivals) words result
 words_same arrivals [] result same gives = gives
 words_same arrivals (first ∷ rest) result same gives =
     MatchBool-map (is_comment first) _ _ _ _ (λ skipped. skipped)
     (λ process. let none = no_header_word first rest result same process in rw (none.0, none.1) process) gives
 
-line_same : (arrivals : List (ℕ × Request)) (line : List ℕ) (result : Result Line Cause) → IsSame (words_of line) result → PlainLineGives line result → LineGives (reading_of arrivals) line result
+line_same : (arrivals : List (ℕ × Request)) (line : List ℕ) (result : Result Line Cause) → IsSame (words_of line) result → PlainLineGives line result
+    → LineGives (reading_of arrivals) line result
 line_same arrivals line result same gives = grind (arith, common_steps, MatchBool-map, words_same)
 
 -- the lines from this number on are accepted, or the faulty one doesn't begin as a header line does
@@ -136,7 +140,8 @@ lines_same number arrivals (line ∷ rest) result same (Ok (lines.Arrival p requ
 lines_same number arrivals (line ∷ rest) result same (Err cause, gives, more) =
     (Err cause, line_same arrivals line (Err cause) (same_fault number line rest result cause same more) gives, ap told more)
 
-reads_same : (bytes : List ℕ) (result : Result (List (ℕ × Request)) ScriptFault) → AreSame 1 (lines_of bytes) result → PlainReads bytes result → Reads bytes (told result)
+reads_same : (bytes : List ℕ) (result : Result (List (ℕ × Request)) ScriptFault) → AreSame 1 (lines_of bytes) result → PlainReads bytes result
+    → Reads bytes (told result)
 unfolding told
 reads_same bytes result same reads =
     MatchBool-map (nat_lt script_limit (length bytes)) _ _ _ _ (λ long. ap told long) (lines_same 1 [] (lines_of bytes) result same) reads

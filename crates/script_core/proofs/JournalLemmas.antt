@@ -25,7 +25,8 @@ use Rattle.script_core.proofs.ReadingLemmas.{same_value, MatchBool-unique, AreRe
 use Rattle.script_core.proofs.EntryLemmas.{PiecesGive-unique}
 
 -- of words that are too many for a header line, others that are say the same
-many_values : {A : Type 0} (argument : Argument) (word : A → List ℕ) (said : A → JournalLine) (words others : List (List ℕ)) (result : Result (Option JournalLine) Cause)
+many_values : {A : Type 0} (argument : Argument) (word : A → List ℕ) (said : A
+    → JournalLine) (words others : List (List ℕ)) (result : Result (Option JournalLine) Cause)
     → 1 < length words → 1 < length others → ValueGives argument word said words result → ValueGives argument word said others result
 many_values argument word said words others result many more (inl refused) = inl (refused.0, many_refused argument words others refused.0 many more refused.1, refused.2)
 many_values argument word said words others result many more (inr read) = absurd (let one = ap length read.1 in omega (arith, one))
@@ -49,7 +50,8 @@ IsNamed (Ok said) = Unit {0}
 IsNamed (Err cause) = IsOfScript cause
 
 ValueGives-unique : {A : Type 0} (argument : Argument) (word : A → List ℕ) (said : A → JournalLine) (read : List ℕ → A)
-    → ((value : A) → read (word value) ≡ value) → ((value : A) → Spells argument (word value)) → (words : List (List ℕ)) (a b : Result (Option JournalLine) Cause)
+    → ((value : A) → read (word value) ≡ value) → ((value : A) → Spells argument (word value))
+    → (words : List (List ℕ)) (a b : Result (Option JournalLine) Cause)
     → ValueGives argument word said words a → ValueGives argument word said words b → a ≡ b
 ValueGives-unique argument word said read h h2 words a b h3 h4 = grind (arith, common_steps, AreRefused-unique, one_spelled)
 
@@ -103,8 +105,10 @@ MatchFact-unique Fact P Q h h2 a b h3 h4 = grind (arith, common_steps)
 ends_unique : (number : ℕ) (reading : JournalReading) (line : List ℕ) (rest : List (List ℕ))
     → ((after : JournalReading) (a b : JournalEnd) → JournalGives (number + 1) after rest a → JournalGives (number + 1) after rest b → a ≡ b)
     → (next : Result JournalLine Cause) (a b : JournalEnd)
-    → MatchResult next (λ said. MatchFact (MayGoOn reading line said) (JournalGives (number + 1) (reading_behind reading line said) rest a) (a ≡ Illegal number)) (λ cause. a ≡ Faulty number cause)
-    → MatchResult next (λ said. MatchFact (MayGoOn reading line said) (JournalGives (number + 1) (reading_behind reading line said) rest b) (b ≡ Illegal number)) (λ cause. b ≡ Faulty number cause)
+    → MatchResult next (λ said. MatchFact (MayGoOn reading line said) (JournalGives (number + 1) (reading_behind reading line said) rest a) (a
+    ≡ Illegal number)) (λ cause. a ≡ Faulty number cause)
+    → MatchResult next (λ said. MatchFact (MayGoOn reading line said) (JournalGives (number + 1) (reading_behind reading line said) rest b) (b
+    ≡ Illegal number)) (λ cause. b ≡ Faulty number cause)
     → a ≡ b
 ends_unique number reading line rest h next a b h2 h3 = grind (arith, common_steps, MatchFact-unique, same_value)
 

@@ -101,7 +101,8 @@ first_due-some (first ∷ more) line is =
     ⊎_elim (λ out. rw ((out_as_told first).1 out.0) (first_due-some more line out.1))
     (λ due. by_test (may_be_left_out first) refl due.0 due.1) is
   where
-    by_test : (b : Bool) → may_be_left_out first ≡ b → (MayBeLeftOut first → ⊥) → line ≡ first → (if may_be_left_out first then first_due more else Some first) ≡ Some line
+    by_test : (b : Bool) → may_be_left_out first ≡ b → (MayBeLeftOut first → ⊥) → line ≡ first
+        → (if may_be_left_out first then first_due more else Some first) ≡ Some line
     by_test true is_out due same = absurd (due ((out_as_told first).0 is_out))
     by_test false isnt due same = rw isnt (ap (λ l. Some l) (sym same))
 

@@ -30,8 +30,10 @@ none_before : (stage : Stage) (entries : List Event) (report : List (List ℕ)) 
 none_before stage entries report h h2 = grind (arith, common_steps)
 
 -- an entry was taken down
-pub entry_taken : (old new : JournalReader) (reading : JournalReading) (line : List ℕ) (event : Event) → HasRead old reading → IsBeforeReport reading.place.stage
-    → ((rules : Rules) (processes : ℕ) (accepted : List Event) → HasAccepted rules processes old.checker accepted → HasAccepted rules processes new.checker (accepted ++ event ∷ []))
+pub entry_taken : (old new : JournalReader) (reading : JournalReading) (line : List ℕ) (event : Event) → HasRead old reading
+    → IsBeforeReport reading.place.stage
+    → ((rules : Rules) (processes : ℕ) (accepted : List Event) → HasAccepted rules processes old.checker accepted
+    → HasAccepted rules processes new.checker (accepted ++ event ∷ []))
     → new.place ≡ record old.place { stage = stages.Entries } → new.illegal ≡ old.illegal → new.report ≡ None
     → TakesSaid new reading line (lines.Entry event) (Ok tt)
 unfolding place_of is_spent HasChecked HasReported

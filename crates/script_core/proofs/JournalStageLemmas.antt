@@ -51,7 +51,8 @@ other_fits stage head h = grind (arith, common_steps, fits_as)
 head_fits : (place : Place) (words : List (List ℕ)) (head : Option JournalLine) → HeadGives place words (Ok head) → HeadFits place.stage head
 head_fits place words head h = grind (arith, common_steps, fits_as, by_test, value_fits, header_at, last_of, other_fits)
 
-entry_fits : (stage : Stage) (said : JournalLine) (next : Result Event Cause) → MatchResult next (λ event. ◌≡◌ {A = Result JournalLine Cause} (Ok said) (Ok (lines.Entry event)))
+entry_fits : (stage : Stage) (said : JournalLine) (next : Result Event Cause)
+    → MatchResult next (λ event. ◌≡◌ {A = Result JournalLine Cause} (Ok said) (Ok (lines.Entry event)))
     (λ cause. ◌≡◌ {A = Result JournalLine Cause} (Ok said) (Err cause))
     → IsBeforeReport stage → Fits stage said
 entry_fits stage said next h h2 = grind (arith, common_steps)

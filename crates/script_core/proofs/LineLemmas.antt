@@ -30,9 +30,11 @@ comment_word [] is = cc
 comment_word (byte ∷ bytes) is =
     let parts = slice_split (λ b. b == 32) bytes in
     let by_first : (b : Bool) → (if b then begins_with_hash bytes else byte == 35) ≡ true
-    → (first : List ℕ) × (rest : List (List ℕ)) × (filter (λ word. not (length word == 0)) (if b then [] ∷ parts else onto_first byte parts) ≡ first ∷ rest) × (is_comment first ≡ true) =
+    → (first : List ℕ) × (rest : List (List ℕ))
+    × (filter (λ word. not (length word == 0)) (if b then [] ∷ parts else onto_first byte parts) ≡ first ∷ rest) × (is_comment first ≡ true) =
     (λ b. elim b as (λ v. (if v then begins_with_hash bytes else byte == 35) ≡ true
-    → (first : List ℕ) × (rest : List (List ℕ)) × (filter (λ word. not (length word == 0)) (if v then [] ∷ parts else onto_first byte parts) ≡ first ∷ rest) × (is_comment first ≡ true))
+    → (first : List ℕ) × (rest : List (List ℕ))
+    × (filter (λ word. not (length word == 0)) (if v then [] ∷ parts else onto_first byte parts) ≡ first ∷ rest) × (is_comment first ≡ true))
     [ true ↦ comment_word bytes | false ↦ starts_comment byte parts ]) in
     by_first (byte == 32) is
 

@@ -57,14 +57,16 @@ many_told : (p n : ℕ) (name : List ℕ) (arguments others : List (List ℕ)) (
     → ToldGives p n (name ∷ arguments) result → ToldGives p n (name ∷ others) result
 many_told p n name arguments others result many more given = grind (arith, common_steps, MatchBool-map, many_wait, many_reply)
 
-many_tagged : (tagged : Result (ℕ × ℕ) Cause) (name : List ℕ) (arguments others : List (List ℕ)) (result : Result Note Cause) → 6 < length arguments → 6 < length others
+many_tagged : (tagged : Result (ℕ × ℕ) Cause) (name : List ℕ) (arguments others : List (List ℕ)) (result : Result Note Cause) → 6 < length arguments
+    → 6 < length others
     → MatchResult tagged (λ pair. ToldGives pair.0 pair.1 (name ∷ arguments) result) (λ cause. result ≡ Err cause)
     → MatchResult tagged (λ pair. ToldGives pair.0 pair.1 (name ∷ others) result) (λ cause. result ≡ Err cause)
 many_tagged (Ok pair) name arguments others result many more given = many_told pair.0 pair.1 name arguments others result many more given
 many_tagged (Err cause) name arguments others result many more given = given
 
 -- a note says what its first nine words say
-pub note_first_words : (limits : Limits) (words : List (List ℕ)) (result : Result Note Cause) → NoteGives limits (take 9 words) result → NoteGives limits words result
+pub note_first_words : (limits : Limits) (words : List (List ℕ)) (result : Result Note Cause) → NoteGives limits (take 9 words) result
+    → NoteGives limits words result
 note_first_words limits [] result given = given
 note_first_words limits (first ∷ []) result given = given
 note_first_words limits (first ∷ name ∷ arguments) result given =
@@ -76,14 +78,17 @@ note_first_words limits (first ∷ name ∷ arguments) result given =
 
 many_taken : (limits : Limits) (tagged : Result (ℕ × ℕ) Cause) (name : List ℕ) (arguments others : List (List ℕ)) (result : Result Taken Cause)
     → 6 < length arguments → 6 < length others
-    → MatchResult tagged (λ pair. (next : _) × RequestGives limits (name ∷ arguments) next × RequestIsTaken pair.0 pair.1 next result) (λ cause. result ≡ Err cause)
-    → MatchResult tagged (λ pair. (next : _) × RequestGives limits (name ∷ others) next × RequestIsTaken pair.0 pair.1 next result) (λ cause. result ≡ Err cause)
+    → MatchResult tagged (λ pair. (next : _) × RequestGives limits (name ∷ arguments) next
+    × RequestIsTaken pair.0 pair.1 next result) (λ cause. result ≡ Err cause)
+    → MatchResult tagged (λ pair. (next : _) × RequestGives limits (name ∷ others) next × RequestIsTaken pair.0 pair.1 next result) (λ cause. result
+    ≡ Err cause)
 many_taken limits (Ok pair) name arguments others result many more given =
     (given.0, many_arguments limits name arguments others given.0 many more given.1, given.2)
 many_taken limits (Err cause) name arguments others result many more given = given
 
 -- and so does a request behind its tag
-pub taken_first_words : (limits : Limits) (words : List (List ℕ)) (result : Result Taken Cause) → TakenGives limits (take 9 words) result → TakenGives limits words result
+pub taken_first_words : (limits : Limits) (words : List (List ℕ)) (result : Result Taken Cause) → TakenGives limits (take 9 words) result
+    → TakenGives limits words result
 taken_first_words limits [] result given = given
 taken_first_words limits (first ∷ []) result given = given
 taken_first_words limits (first ∷ name ∷ arguments) result given =

@@ -29,7 +29,8 @@ BeginsPlainly-decimal n small = grind (arith, common_steps, decimal_is_IsNumeral
 plain_zero : (bs : List ℕ) → BeginsPlainly bs → 0 < length bs → get_or bs 0 0 ≡ 48 → length bs ≡ 1
 plain_zero bs plain some e = grind (arith, plain.no_leading_zero)
 
-pub natural_from_parse : {E : Type 0} (bs : List ℕ) (r : Result ℕ E) → BeginsPlainly bs → ParsesUnsigned 64 10 bs r → MatchOption (result_ok r) ((n : ℕ) → n < 2 ^ 64 → bs ≢ decimal n) (λ n. bs ≡ decimal n)
+pub natural_from_parse : {E : Type 0} (bs : List ℕ) (r : Result ℕ E) → BeginsPlainly bs → ParsesUnsigned 64 10 bs r
+    → MatchOption (result_ok r) ((n : ℕ) → n < 2 ^ 64 → bs ≢ decimal n) (λ n. bs ≡ decimal n)
 natural_from_parse {E} bs (Ok x) plain parses =
     let unsigned : get_or bs 0 0 ≢ 43 = λ e. omega (arith, e, plain.at_least) in
     let given = parse_plain digits_model {E = E} 64 bs (Ok x) parses unsigned in
@@ -52,7 +53,8 @@ pub unsigned_none : (word : List ℕ) → ((rest : List ℕ) → word ≢ 45 ∷
 unsigned_none word sign none (pos n) fits = none n (omega (arith, fits.sfits))
 unsigned_none word sign none (negsuc n) fits = sign (decimal (suc n))
 
-pub unsigned_some : {E : Type 0} (word : List ℕ) (n : ℕ) (r : Result ℤ E) → ((rest : List ℕ) → word ≢ 45 ∷ rest) → n < 2 ^ 64 → word ≡ decimal n → OkIff r (FitsSigned w64 (pos n)) (pos n) → IsIntegerOf word (result_ok r)
+pub unsigned_some : {E : Type 0} (word : List ℕ) (n : ℕ) (r : Result ℤ E) → ((rest : List ℕ) → word ≢ 45 ∷ rest) → n < 2 ^ 64 → word ≡ decimal n
+    → OkIff r (FitsSigned w64 (pos n)) (pos n) → IsIntegerOf word (result_ok r)
 unsigned_some word n r h h2 h3 h4 = grind (arith, common_steps, decimal_injective)
 
 pub signed_none : (word digits : List ℕ) → word ≡ 45 ∷ digits → ((n : ℕ) → n < 2 ^ 64 → digits ≢ decimal n) → IsIntegerOf word None
@@ -65,7 +67,8 @@ signed_zero word digits h h2 h3 h4 h5 = grind (arith, common_steps, no_minus, de
 negated : (n : ℕ) → pos 0 -ℤ pos (suc n) ≡ negsuc n
 negated n = omega (arith, ints)
 
-pub signed_some : (word digits : List ℕ) (n : ℕ) (r : Option ℤ) → word ≡ 45 ∷ digits → n < 2 ^ 64 → (n ≡ 0 → ⊥) → digits ≡ decimal n → SomeIff r (FitsSigned w64 (pos 0 -ℤ pos n)) (pos 0 -ℤ pos n) → IsIntegerOf word r
+pub signed_some : (word digits : List ℕ) (n : ℕ) (r : Option ℤ) → word ≡ 45 ∷ digits → n < 2 ^ 64 → (n ≡ 0 → ⊥) → digits ≡ decimal n
+    → SomeIff r (FitsSigned w64 (pos 0 -ℤ pos n)) (pos 0 -ℤ pos n) → IsIntegerOf word r
 signed_some word digits n r h h2 h3 h4 h5 = grind (arith, common_steps, negated, no_minus, decimal_injective)
 
 -- a word spells one natural number

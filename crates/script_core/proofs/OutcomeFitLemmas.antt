@@ -202,7 +202,8 @@ mode_fits (change ∷ changes) before file owner byte mode fits is start =
     by_set (sets_byte change file owner byte) refl is (mode_fits changes change.mode file owner byte mode fits.1) (λ given. mode_fits changes before file owner byte mode fits.1 given start)
   where
     by_set : (b : Bool) → sets_byte change file owner byte ≡ b → mode_from (if b then change.mode else before) changes file owner byte ≡ Some mode
-        → (mode_from change.mode changes file owner byte ≡ Some mode → (change.mode ≡ Some mode → IsSmallOwner owner × (byte ≤ OFFMAX)) → IsSmallOwner owner × (byte ≤ OFFMAX))
+        → (mode_from change.mode changes file owner byte ≡ Some mode → (change.mode ≡ Some mode → IsSmallOwner owner × (byte ≤ OFFMAX))
+        → IsSmallOwner owner × (byte ≤ OFFMAX))
         → (mode_from before changes file owner byte ≡ Some mode → IsSmallOwner owner × (byte ≤ OFFMAX))
         → IsSmallOwner owner × (byte ≤ OFFMAX)
     by_set true sets is own other =
@@ -234,20 +235,24 @@ get_fits rules S wanted outcome h is =
     (held_fits S wanted held.1.0 h.fits.locks.changes held.1.1) held.1.2)
     (λ free. answers_fit rules S S wanted.p wanted.n replies.Free outcome h (same_all S) h.fits.locks tt free.1) is
 
-lock_fits : (rules : Rules) (S : State) (wanted : Wait) (outcome : Outcome) → IsAtHand rules S wanted.p wanted.n → FitsWanted wanted → outcome ≡ answered (with_lock S wanted) wanted.p wanted.n replies.Ok → OutcomeFits rules outcome
+lock_fits : (rules : Rules) (S : State) (wanted : Wait) (outcome : Outcome) → IsAtHand rules S wanted.p wanted.n → FitsWanted wanted
+    → outcome ≡ answered (with_lock S wanted) wanted.p wanted.n replies.Ok → OutcomeFits rules outcome
 lock_fits rules S wanted outcome h fit is =
     let few = few_wait rules.limits S wanted.p h.process h.live h.fits in
     locked_fits rules S S wanted [] outcome h h.fits tt (omega (arith, few)) fit is
 
-set_fits : (rules : Rules) (S : State) (wanted : Wait) (outcome : Outcome) → IsAtHand rules S wanted.p wanted.n → FitsWanted wanted → SetComesTo S wanted outcome → OutcomeFits rules outcome
+set_fits : (rules : Rules) (S : State) (wanted : Wait) (outcome : Outcome) → IsAtHand rules S wanted.p wanted.n → FitsWanted wanted
+    → SetComesTo S wanted outcome → OutcomeFits rules outcome
 set_fits rules S wanted outcome h fit is =
     ⊎_elim (λ no. refused_fits rules S wanted.p wanted.n _ outcome h no.1) (λ yes. lock_fits rules S wanted outcome h fit yes.1) is
 
-joins_fit : (rules : Rules) (S : State) (wanted : Wait) (outcome : Outcome) → IsAtHand rules S wanted.p wanted.n → FitsWanted wanted → IsBlocked rules.policy (locks_held S) S.waits wanted → outcome ≡ waits_then S wanted [] → OutcomeFits rules outcome
+joins_fit : (rules : Rules) (S : State) (wanted : Wait) (outcome : Outcome) → IsAtHand rules S wanted.p wanted.n → FitsWanted wanted
+    → IsBlocked rules.policy (locks_held S) S.waits wanted → outcome ≡ waits_then S wanted [] → OutcomeFits rules outcome
 joins_fit rules S wanted outcome h fit blocked is =
     waits_fit rules S S wanted [] outcome h h.fits h.settled h.live tt (omega arith) fit blocked is
 
-set_or_wait_fits : (rules : Rules) (S : State) (wanted : Wait) (outcome : Outcome) → IsAtHand rules S wanted.p wanted.n → FitsWanted wanted → SetOrWaitComesTo rules S wanted outcome → OutcomeFits rules outcome
+set_or_wait_fits : (rules : Rules) (S : State) (wanted : Wait) (outcome : Outcome) → IsAtHand rules S wanted.p wanted.n → FitsWanted wanted
+    → SetOrWaitComesTo rules S wanted outcome → OutcomeFits rules outcome
 set_or_wait_fits rules S wanted outcome h fit is =
     ⊎_elim (λ waits. joins_fit rules S wanted outcome h fit waits.0 waits.1) (λ yes. lock_fits rules S wanted outcome h fit yes.1) is
 

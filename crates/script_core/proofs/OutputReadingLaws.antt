@@ -64,7 +64,8 @@ entry_printable limits event writable =
     by_two _ (nat_lt entry_limit (length (entry_text event))) (is_printable (entry_text event)) refl (entry_reads_back event limits writable)
   where
     by_two : (Gives : Type 0) (long printable : Bool) → is_printable (entry_text event) ≡ printable
-        → MatchBool long (◌≡◌ {A = Result Event Cause} (Ok event) (Err TooLong)) (MatchBool printable Gives (◌≡◌ {A = Result Event Cause} (Ok event) (Err Byte)))
+        → MatchBool long (◌≡◌ {A = Result Event Cause} (Ok event) (Err TooLong))
+        (MatchBool printable Gives (◌≡◌ {A = Result Event Cause} (Ok event) (Err Byte)))
         → is_printable (entry_text event) ≡ true
     by_two Gives true printable at gives = absurd (cc)
     by_two Gives false true at gives = at

@@ -152,6 +152,7 @@ of_lines number reading (line ∷ rest) meaning before (Err cause, gives, refuse
 pub arrivals_read : (bytes : List ℕ) (meaning : Meaning) → Reads bytes (Ok meaning) → All (IsArrivalOf meaning.rules.limits) meaning.arrivals
 arrivals_read bytes meaning reads = grind (arith, common_steps, join_by, of_lines, All-nil)
 
-pub processes_read : (bytes : List ℕ) (meaning : Meaning) → Reads bytes (Ok meaning) → All (λ arrival. IsProcess meaning.rules.limits arrival.0) meaning.arrivals
+pub processes_read : (bytes : List ℕ) (meaning : Meaning) → Reads bytes (Ok meaning)
+    → All (λ arrival. IsProcess meaning.rules.limits arrival.0) meaning.arrivals
 processes_read bytes meaning reads =
     All-weaker (IsArrivalOf meaning.rules.limits) (λ arrival. IsProcess meaning.rules.limits arrival.0) (λ arrival is. is.0) meaning.arrivals (arrivals_read bytes meaning reads)

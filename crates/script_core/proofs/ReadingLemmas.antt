@@ -303,7 +303,8 @@ arguments_of limits (Kill target) = ProcessNumber limits ∷ []
 abbrev Names : Limits → List Argument → List (List ℕ) → Type 0
 Names limits arguments words = (command : Command) → command_named limits (get_or words 0 []) ≡ Some command → arguments ≡ command.required ++ command.optional
 
-names_by : (limits : Limits) (known : Command) (words : List (List ℕ)) → command_named limits (get_or words 0 []) ≡ Some known → Names limits (known.required ++ known.optional) words
+names_by : (limits : Limits) (known : Command) (words : List (List ℕ)) → command_named limits (get_or words 0 []) ≡ Some known
+    → Names limits (known.required ++ known.optional) words
 names_by limits known words named = λ command found. ap (λ (c : Command). c.required ++ c.optional) (command_is command known (sym named ∙ found))
 
 names_so : (limits : Limits) (known : Command) (words : List (List ℕ)) (request : Request) → (HasZeroPid request → ⊥) → Says words request
@@ -356,7 +357,8 @@ request_spelled limits words (Signal target) says fits = spells_so (ProcessNumbe
 request_spelled limits words (Kill target) says fits = spells_so (ProcessNumber limits ∷ []) words (Kill target) (λ zero. zero) says ((target, fits.0, fits.1, refl), tt)
 
 -- where the words are a request, no argument is bad
-no_bad : (limits : Limits) (name : List ℕ) (arguments : List (List ℕ)) (command : Command) (request : Request) (cause : Cause) → command_named limits name ≡ Some command
+no_bad : (limits : Limits) (name : List ℕ) (arguments : List (List ℕ)) (command : Command) (request : Request) (cause : Cause)
+    → command_named limits name ≡ Some command
     → IsRequest limits (name ∷ arguments) request → IsFirstBad (command.required ++ command.optional) arguments cause → ⊥
 no_bad limits name arguments command request cause named is bad =
     let same = request_named limits (name ∷ arguments) request is.says command named in
@@ -364,7 +366,8 @@ no_bad limits name arguments command request cause named is bad =
     not_bad (command.required ++ command.optional) arguments cause all bad
 
 ArgumentsGive-unique : (limits : Limits) (name : List ℕ) (arguments : List (List ℕ)) (command : Command) → command_named limits name ≡ Some command
-    → (a b : Result Request Cause) → ArgumentsGive limits (name ∷ arguments) command arguments a → ArgumentsGive limits (name ∷ arguments) command arguments b → a ≡ b
+    → (a b : Result Request Cause) → ArgumentsGive limits (name ∷ arguments) command arguments a
+    → ArgumentsGive limits (name ∷ arguments) command arguments b → a ≡ b
 ArgumentsGive-unique limits name arguments command named a b (inl first) (inl second) =
     first.2 ∙ (ap Err (IsFirstBad-unique (command.required ++ command.optional) arguments first.0 second.0 first.1 second.1) ∙ sym second.2)
 ArgumentsGive-unique limits name arguments command named a b (inl first) (inr second) = absurd (no_bad limits name arguments command second.0 first.0 named second.1 first.1)
@@ -372,7 +375,8 @@ ArgumentsGive-unique limits name arguments command named a b (inr first) (inl se
 ArgumentsGive-unique limits name arguments command named a b (inr first) (inr second) =
     first.2 ∙ (ap Ok (IsRequest-unique limits (name ∷ arguments) first.0 second.0 first.1 second.1) ∙ sym second.2)
 
-named_unique : (limits : Limits) (name : List ℕ) (arguments : List (List ℕ)) (found : Option Command) → command_named limits name ≡ found → (a b : Result Request Cause)
+named_unique : (limits : Limits) (name : List ℕ) (arguments : List (List ℕ)) (found : Option Command) → command_named limits name ≡ found
+    → (a b : Result Request Cause)
     → MatchOption found (a ≡ Err Word) (λ command. CommandGives limits (name ∷ arguments) command arguments a)
     → MatchOption found (b ≡ Err Word) (λ command. CommandGives limits (name ∷ arguments) command arguments b) → a ≡ b
 named_unique limits name arguments None named a b first second = same_value (Err Word) a b first second
@@ -380,7 +384,8 @@ named_unique limits name arguments (Some command) named a b first second =
     MatchBool-unique (λ result. ArgumentsGive limits (name ∷ arguments) command arguments result) (λ result. result ≡ Err Count) (has_count command (length arguments))
     (ArgumentsGive-unique limits name arguments command named) (same_value (Err Count)) a b first second
 
-pub RequestGives-unique : (limits : Limits) (words : List (List ℕ)) (a b : Result Request Cause) → RequestGives limits words a → RequestGives limits words b → a ≡ b
+pub RequestGives-unique : (limits : Limits) (words : List (List ℕ)) (a b : Result Request Cause) → RequestGives limits words a
+    → RequestGives limits words b → a ≡ b
 RequestGives-unique limits [] a b first second = same_value (Err Count) a b first second
 RequestGives-unique limits (name ∷ arguments) a b first second = named_unique limits name arguments (command_named limits name) refl a b first second
 
@@ -388,7 +393,8 @@ ArrivalGives-unique : (p : ℕ) (next : Result Request Cause) (a b : Result Line
 ArrivalGives-unique p (Ok request) a b first second = first ∙ sym second
 ArrivalGives-unique p (Err cause) a b first second = first ∙ sym second
 
-ProcessGives-unique : (limits : Limits) (word : List ℕ) (rest : List (List ℕ)) (a b : Result Line Cause) → ProcessGives limits word rest a → ProcessGives limits word rest b → a ≡ b
+ProcessGives-unique : (limits : Limits) (word : List ℕ) (rest : List (List ℕ)) (a b : Result Line Cause) → ProcessGives limits word rest a
+    → ProcessGives limits word rest b → a ≡ b
 ProcessGives-unique limits word rest a b (inl first) (inl second) =
     let p : first.0 ≡ second.0 = decimal_injective first.0 second.0 (small_process limits first.0 first.1) (small_process limits second.0 second.1) (sym first.2 ∙ second.2) in
     let next : first.3 ≡ second.3 = RequestGives-unique limits rest first.3 second.3 first.4 second.4 in
@@ -404,7 +410,8 @@ AreRefused-unique arguments words a b first second =
     MatchBool-unique (IsFirstBad arguments words) (λ cause. cause ≡ Count) (length words == length arguments) (IsFirstBad-unique arguments words) (same_value Count) a b first second
 
 -- one word that spells its argument isn't refused
-pub one_spelled : (argument : Argument) (word : List ℕ) (words : List (List ℕ)) (cause : Cause) → words ≡ word ∷ [] → Spells argument word → AreRefused (argument ∷ []) words cause → ⊥
+pub one_spelled : (argument : Argument) (word : List ℕ) (words : List (List ℕ)) (cause : Cause) → words ≡ word ∷ [] → Spells argument word
+    → AreRefused (argument ∷ []) words cause → ⊥
 unfolding AllSpell
 one_spelled argument word words cause are spells refused =
     not_bad (argument ∷ []) (word ∷ []) cause (spells, tt) (subst (λ ws. AreRefused (argument ∷ []) ws cause) are refused)
@@ -454,11 +461,13 @@ LaterGives reading first rest result = MatchBool (says_limits reading first) (Li
 abbrev StartGives : Reading → List ℕ → List (List ℕ) → Result Line Cause → Type 0
 StartGives reading first rest result = MatchBool (says_policy reading first) (PolicyGives rest result) (LaterGives reading first rest result)
 
-LaterGives-unique : (reading : Reading) (word : List ℕ) (rest : List (List ℕ)) (a b : Result Line Cause) → LaterGives reading word rest a → LaterGives reading word rest b → a ≡ b
+LaterGives-unique : (reading : Reading) (word : List ℕ) (rest : List (List ℕ)) (a b : Result Line Cause) → LaterGives reading word rest a
+    → LaterGives reading word rest b → a ≡ b
 LaterGives-unique reading word rest a b first second =
     MatchBool-unique (LimitsGive rest) (ProcessGives (limits_of reading) word rest) (says_limits reading word) (LimitsGive-unique rest) (ProcessGives-unique (limits_of reading) word rest) a b first second
 
-StartGives-unique : (reading : Reading) (word : List ℕ) (rest : List (List ℕ)) (a b : Result Line Cause) → StartGives reading word rest a → StartGives reading word rest b → a ≡ b
+StartGives-unique : (reading : Reading) (word : List ℕ) (rest : List (List ℕ)) (a b : Result Line Cause) → StartGives reading word rest a
+    → StartGives reading word rest b → a ≡ b
 StartGives-unique reading word rest a b first second =
     MatchBool-unique (PolicyGives rest) (LaterGives reading word rest) (says_policy reading word) (PolicyGives-unique rest) (LaterGives-unique reading word rest) a b first second
 
@@ -483,7 +492,8 @@ after_unique : (number : ℕ) (reading : Reading) (rest : List (List ℕ))
 after_unique number reading rest later (Ok said) a b first second = later (reading_after reading said) a b first second
 after_unique number reading rest later (Err cause) a b first second = first ∙ sym second
 
-LinesGive-unique : (number : ℕ) (reading : Reading) (rest : List (List ℕ)) (a b : Result Meaning ScriptFault) → LinesGive number reading rest a → LinesGive number reading rest b → a ≡ b
+LinesGive-unique : (number : ℕ) (reading : Reading) (rest : List (List ℕ)) (a b : Result Meaning ScriptFault) → LinesGive number reading rest a
+    → LinesGive number reading rest b → a ≡ b
 LinesGive-unique number reading [] a b first second = same_value (Ok (meaning_of reading)) a b first second
 LinesGive-unique number reading (line ∷ rest) a b first second =
     let next : first.0 ≡ second.0 = LineGives-unique reading line first.0 second.0 first.1 second.1 in

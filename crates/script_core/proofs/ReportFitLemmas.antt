@@ -67,7 +67,8 @@ flock_fits (change ∷ changes) before file description mode fits is start =
   where
     by_set : (b : Bool) → (change.file == file) && (change.description == description) ≡ b
         → flock_mode_from (if b then change.mode else before) changes file description ≡ Some mode
-        → (flock_mode_from change.mode changes file description ≡ Some mode → (change.mode ≡ Some mode → description ≤ description_limit) → description ≤ description_limit)
+        → (flock_mode_from change.mode changes file description ≡ Some mode → (change.mode ≡ Some mode → description ≤ description_limit)
+        → description ≤ description_limit)
         → (flock_mode_from before changes file description ≡ Some mode → description ≤ description_limit) → description ≤ description_limit
     by_set true sets is own other =
         let same = eqb-true change.description description (both_true (change.file == file) (change.description == description) sets).1 in
@@ -75,7 +76,8 @@ flock_fits (change ∷ changes) before file description mode fits is start =
         own is (λ e. omega (arith, same, small))
     by_set false sets is own other = other is
 
-byte_lock_fits : (S : State) (file : ℕ) → file < 64 → FitsLocks S → (x : Held) → (x.file ≡ file) × IsFalse x.whole × IsRun (mode_in S.changes file x.owner) x.span.first x.mode x.span
+byte_lock_fits : (S : State) (file : ℕ) → file < 64 → FitsLocks S → (x : Held)
+    → (x.file ≡ file) × IsFalse x.whole × IsRun (mode_in S.changes file x.owner) x.span.first x.mode x.span
     → FitsHeld x
 byte_lock_fits S file few locks x is = grind (arith, common_steps, mode_fits)
 

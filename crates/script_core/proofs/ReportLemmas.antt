@@ -57,7 +57,8 @@ unfolding process_lines
 no_processes states events sent old = sym (append-nil old)
 
 -- the report of what a manager shows is that of each state that it stands for
-pub report_in_state : (manager : Manager) (S : State) (processes : ℕ) (events : List Event) (sent : ℕ → ℕ) (locks : List Held) (waits : List Wait) (text : List ℕ)
+pub report_in_state : (manager : Manager) (S : State) (processes : ℕ) (events : List Event) (sent : ℕ
+    → ℕ) (locks : List Held) (waits : List Wait) (text : List ℕ)
     → StandsFor manager S → IsHeldReport (mode_in S.changes) (flock_mode_in S.flock_changes) locks → waits ≡ S.waits
     → text ≡ flat_map held_line locks ++ flat_map wait_line waits ++ process_lines (state_at manager) events sent 1 processes
     → IsReport processes S events sent text

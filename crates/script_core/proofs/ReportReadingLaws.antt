@@ -29,7 +29,8 @@ waits_fixed : AreFixed lines.Waits wait_text
 waits_fixed = record { text = λ x text is. is; is = λ x. refl; due = λ x out. out }
 
 -- texts of such lines, and of others behind them
-fixed_read : {X : Type 0} (line : X → ReportLine) (text_of : X → List ℕ) → AreFixed line text_of → (xs : List X) (rest : List ReportLine) (texts : List (List ℕ))
+fixed_read : {X : Type 0} (line : X → ReportLine) (text_of : X → List ℕ) → AreFixed line text_of
+    → (xs : List X) (rest : List ReportLine) (texts : List (List ℕ))
     → AreTextsOf (map line xs ++ rest) texts
     → (more : List (List ℕ)) × (joined texts ≡ flat_map (λ x. text_of x ++ 10 ∷ []) xs ++ joined more) × AreTextsOf rest more
 fixed_read line text_of fixed [] rest texts are = (texts, refl, are)

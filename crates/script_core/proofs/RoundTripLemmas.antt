@@ -96,12 +96,14 @@ unfolding AreVisible
 slice_split-word [] visible = refl
 slice_split-word (byte ∷ bytes) visible = rw (not_space byte visible.0, slice_split-word bytes visible.2) refl
 
-pub slice_split-words : (word rest : List ℕ) → AreVisible word → slice_split (λ byte. byte == 32) (word ++ 32 ∷ rest) ≡ word ∷ slice_split (λ byte. byte == 32) rest
+pub slice_split-words : (word rest : List ℕ) → AreVisible word
+    → slice_split (λ byte. byte == 32) (word ++ 32 ∷ rest) ≡ word ∷ slice_split (λ byte. byte == 32) rest
 unfolding AreVisible
 slice_split-words [] rest visible = refl
 slice_split-words (byte ∷ bytes) rest visible = rw (not_space byte visible.0, slice_split-words bytes rest visible.2) refl
 
-slice_split-join : (word : List ℕ) (words : List (List ℕ)) → AreWords (word ∷ words) → slice_split (λ byte. byte == 32) (join_with_byte 32 (word ∷ words)) ≡ word ∷ words
+slice_split-join : (word : List ℕ) (words : List (List ℕ)) → AreWords (word ∷ words)
+    → slice_split (λ byte. byte == 32) (join_with_byte 32 (word ∷ words)) ≡ word ∷ words
 unfolding AreWords
 slice_split-join word [] are = slice_split-word word are.0.visible
 slice_split-join word (next ∷ words) are =
@@ -280,7 +282,8 @@ is_written limits request writable = record { says = inl refl; writable = writab
 pub gives_request : (limits : Limits) (request : Request) → IsWritable limits request → RequestGives limits (request_words request) (Ok request)
 gives_request limits request h = grind (arith, common_steps, is_written, gives_named, lock_named, lock_counted, flock_counted)
 
-reads_words : (reading : Reading) (p : ℕ) (words : List (List ℕ)) (request : Request) → IsProcess (limits_of reading) p → RequestGives (limits_of reading) words (Ok request)
+reads_words : (reading : Reading) (p : ℕ) (words : List (List ℕ)) (request : Request) → IsProcess (limits_of reading) p
+    → RequestGives (limits_of reading) words (Ok request)
     → WordsGive reading (decimal p ∷ words) (Ok (lines.Arrival p request))
 reads_words reading p words request process gives =
     let small = small_process (limits_of reading) p process in
@@ -288,7 +291,8 @@ reads_words reading p words request process gives =
     let none = IsNoHeaderWord-decimal p small in
     rw (is_comment-digit (decimal p) plain.at_least, none.0, none.1) (inl (p, process, refl, Ok request, gives, refl))
 
-reads_line : (reading : Reading) (line : List ℕ) (words : List (List ℕ)) (said : Line) → length line ≤ line_limit → is_printable line ≡ true → words_of line ≡ words
+reads_line : (reading : Reading) (line : List ℕ) (words : List (List ℕ)) (said : Line) → length line ≤ line_limit → is_printable line ≡ true
+    → words_of line ≡ words
     → WordsGive reading words (Ok said) → LineGives reading line (Ok said)
 reads_line reading line words said short printable are gives =
     rw (le-ltb line_limit (length line) short, printable, are) gives

@@ -23,7 +23,8 @@ pub IsReadUpTo-more : (lines : List (List ℕ)) (count : ℕ) (line : List ℕ) 
 IsReadUpTo-more lines count line old new said before cut gives is = grind (arith, common_steps)
 
 pub fault_at : (lines : List (List ℕ)) (count : ℕ) (line : List ℕ) (old : Reading) (cause : Cause) → IsReadUpTo lines count old
-    → drop count lines ≡ line ∷ drop (count + 1) lines → LineGives old line (Err cause) → LinesGive 1 start lines (Err (record { line = count + 1; cause = cause }))
+    → drop count lines ≡ line ∷ drop (count + 1) lines → LineGives old line (Err cause)
+    → LinesGive 1 start lines (Err (record { line = count + 1; cause = cause }))
 fault_at lines count line old cause before cut gives = before.goes_on (Err (record { line = count + 1; cause = cause })) (rw cut (Err cause, gives, refl))
 
 -- an arrival that can't be taken down stands in the line at hand
@@ -103,7 +104,8 @@ single : (test : Bool) (byte : ℕ) → (test ≡ true → ⊥) → IsFull (cond
 single true byte other = absurd (other refl)
 single false byte other = record { is = refl }
 
-IsFull-slice_split : (byte : ℕ) (bytes : List ℕ) → ((front : List ℕ) → byte ∷ bytes ≢ front ++ 10 ∷ []) → IsFull (slice_split (λ byte. byte == 10) (byte ∷ bytes))
+IsFull-slice_split : (byte : ℕ) (bytes : List ℕ) → ((front : List ℕ) → byte ∷ bytes ≢ front ++ 10 ∷ [])
+    → IsFull (slice_split (λ byte. byte == 10) (byte ∷ bytes))
 IsFull-slice_split byte [] other = single (byte == 10) byte (λ e. other [] (ap (λ b. b ∷ []) (eqb-true byte 10 e)))
 IsFull-slice_split byte (next ∷ bytes) other =
     IsFull-cons (byte == 10) byte (slice_split (λ byte. byte == 10) (next ∷ bytes)) (HasFirst-slice_split (next ∷ bytes))

@@ -47,13 +47,15 @@ plain_piece line words start at reached =
     ne_eqb (get_or (take (at - start) (drop start line)) i 0) 32 (λ e. reached.plain (start + i) (omega arith) (omega (arith, small)) (sym is ∙ e)))
 
 -- a byte that is no space is read
-pub reached_byte : (line : List ℕ) (words : List (List ℕ)) (start at : ℕ) → get_or line at 0 ≢ 32 → Reached line words start at → Reached line words start (at + 1)
+pub reached_byte : (line : List ℕ) (words : List (List ℕ)) (start at : ℕ) → get_or line at 0 ≢ 32 → Reached line words start at
+    → Reached line words start (at + 1)
 reached_byte line words start at other reached = grind (arith, common_steps, cases_lt)
 
 -- a space is read, and the piece before it is pushed
 pub reached_space : (line : List ℕ) (words more : List (List ℕ)) (start at : ℕ) → IsUtf8 line → at < length line → get_or line at 0 ≡ 32
     → Reached line words start at
-    → ((before : List (List ℕ)) → words ≡ take 9 before → more ≡ take 9 (with_piece before (take (at - start) (drop start line)))) → Reached line more (at + 1) (at + 1)
+    → ((before : List (List ℕ)) → words ≡ take 9 before → more ≡ take 9 (with_piece before (take (at - start) (drop start line))))
+    → Reached line more (at + 1) (at + 1)
 reached_space line words more start at utf8 within space reached pushed =
     let piece = take (at - start) (drop start line) in
     let to : start + (at - start) ≡ at = omega (arith, reached.ordered) in

@@ -76,7 +76,8 @@ pub record AreLeft (place : Place) (entries : List Event) (texts : List (List �
   pub reported : List ReportLine
   pub lines : (T : State) → IsRun (rules_at place) (processes_at place) entries T → AreReportLines (processes_at place) T entries reported
   pub last : AreLastOf reported left
-  pub goes_on : (more : List (List ℕ)) → (AreTextsOf reported (texts ++ more) → AreTextsOf left more) × (AreTextsOf left more → AreTextsOf reported (texts ++ more))
+  pub goes_on : (more : List (List ℕ))
+      → (AreTextsOf reported (texts ++ more) → AreTextsOf left more) × (AreTextsOf left more → AreTextsOf reported (texts ++ more))
 
 -- these lines are to come of the report, if it was begun, and no text of it came if not
 abbrev pub ReportsAt : Place → List Event → List (List ℕ) → Option (List ReportLine) → Type 0

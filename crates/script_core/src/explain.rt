@@ -274,7 +274,8 @@ fn push_obstacle(
     entry: &Entry,
     obstacle: Option<InTheWay>,
 ) -> Result<(), Memory>
-    ensures { MatchResult result (λ unit. text.new.items ≡ text.old.items ++ obstacle_line entry.now obstacle) (λ error. Extends text.old.items text.new.items) }
+    ensures { MatchResult result (λ unit. text.new.items ≡ text.old.items
+        ++ obstacle_line entry.now obstacle) (λ error. Extends text.old.items text.new.items) }
 {
     match obstacle {
         Some(obstacle) => push_in_the_way(text, entry, obstacle),
@@ -383,7 +384,8 @@ fn word_of_loss(request: &Request) -> Option<&'static str>
 
 /// Appends the beginning of a line that explains a request: `#`, the request, and these words.
 fn push_comment(text: &mut Vec<u8>, entry: &Entry, words: &str) -> Result<(), Memory>
-    ensures { MatchResult result (λ unit. text.new.items ≡ text.old.items ++ comment entry.now.p entry.now.n words.now) (λ error. Extends text.old.items text.new.items) }
+    ensures { MatchResult result (λ unit. text.new.items ≡ text.old.items
+        ++ comment entry.now.p entry.now.n words.now) (λ error. Extends text.old.items text.new.items) }
 {
     push_tag(text, entry.p, entry.n)?;
     push_str(text, " ")?;

@@ -51,7 +51,8 @@ pub fn push_wait_text(text: &mut Vec<u8>, wait: &Wait) -> Result<(), Memory>
 
 /// Appends a space and the lock that a wait is for.
 fn push_wanted(text: &mut Vec<u8>, wait: &Wait) -> Result<(), Memory>
-    ensures { MatchResult result (λ unit. text.new.items ≡ text.old.items ++ 32 ∷ wanted_text wait.now.family wait.now) (λ error. Extends text.old.items text.new.items) }
+    ensures { MatchResult result (λ unit. text.new.items ≡ text.old.items
+        ++ 32 ∷ wanted_text wait.now.family wait.now) (λ error. Extends text.old.items text.new.items) }
 {
     let file = wait.file;
     match wait.family {
@@ -72,7 +73,8 @@ fn push_byte_lock(
     mode: Mode,
     span: Span,
 ) -> Result<(), Memory>
-    ensures { MatchResult result (λ unit. text.new.items ≡ text.old.items ++ 32 ∷ byte_lock_text file owner mode span) (λ error. Extends text.old.items text.new.items) }
+    ensures { MatchResult result (λ unit. text.new.items ≡ text.old.items
+        ++ 32 ∷ byte_lock_text file owner mode span) (λ error. Extends text.old.items text.new.items) }
 {
     push_number(text, b' ', u64::from(file))?;
     push_owner(text, owner)?;

@@ -47,7 +47,8 @@ pub fn push_request(text: &mut Vec<u8>, request: &Request) -> Result<(), Memory>
 
 /// Appends the words of a lock command behind its name, each behind a space.
 fn push_lock(text: &mut Vec<u8>, fd: u32, lock: &Lock) -> Result<(), Memory>
-    ensures { MatchResult result (λ unit. text.new.items ≡ text.old.items ++ 32 ∷ join_with_byte 32 (lock_words fd lock.now ++ pid_words lock.now.pid)) (λ error. Extends text.old.items text.new.items) }
+    ensures { MatchResult result (λ unit. text.new.items ≡ text.old.items
+        ++ 32 ∷ join_with_byte 32 (lock_words fd lock.now ++ pid_words lock.now.pid)) (λ error. Extends text.old.items text.new.items) }
 {
     push_number(text, b' ', u64::from(fd))?;
     push_word(text, kind_word(lock.kind))?;
@@ -59,7 +60,8 @@ fn push_lock(text: &mut Vec<u8>, fd: u32, lock: &Lock) -> Result<(), Memory>
 
 /// The pid is written only where it isn't 0.
 fn push_pid(text: &mut Vec<u8>, pid: i64) -> Result<(), Memory>
-    ensures { MatchResult result (λ unit. text.new.items ≡ text.old.items ++ flat_map (λ word. 32 ∷ word) (pid_words pid)) (λ error. Extends text.old.items text.new.items) }
+    ensures { MatchResult result (λ unit. text.new.items ≡ text.old.items
+        ++ flat_map (λ word. 32 ∷ word) (pid_words pid)) (λ error. Extends text.old.items text.new.items) }
 {
     if pid == 0 {
         return Ok(());
@@ -69,7 +71,8 @@ fn push_pid(text: &mut Vec<u8>, pid: i64) -> Result<(), Memory>
 
 /// Appends a space and a request of flock.
 fn push_flock_request(text: &mut Vec<u8>, fd: u32, op: FlockOp, nb: bool) -> Result<(), Memory>
-    ensures { MatchResult result (λ unit. text.new.items ≡ text.old.items ++ 32 ∷ request_text (Flock fd op nb)) (λ error. Extends text.old.items text.new.items) }
+    ensures { MatchResult result (λ unit. text.new.items ≡ text.old.items
+        ++ 32 ∷ request_text (Flock fd op nb)) (λ error. Extends text.old.items text.new.items) }
 {
     push_numbered(text, " flock", u64::from(fd))?;
     push_word(text, op_word(op))?;
@@ -78,7 +81,8 @@ fn push_flock_request(text: &mut Vec<u8>, fd: u32, op: FlockOp, nb: bool) -> Res
 
 /// `nb` is written only where it is set.
 fn push_nb(text: &mut Vec<u8>, nb: bool) -> Result<(), Memory>
-    ensures { MatchResult result (λ unit. text.new.items ≡ text.old.items ++ flat_map (λ word. 32 ∷ word) (nb_words nb)) (λ error. Extends text.old.items text.new.items) }
+    ensures { MatchResult result (λ unit. text.new.items ≡ text.old.items
+        ++ flat_map (λ word. 32 ∷ word) (nb_words nb)) (λ error. Extends text.old.items text.new.items) }
 {
     if nb { push_str(text, " nb") } else { Ok(()) }
 }

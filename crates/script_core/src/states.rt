@@ -149,7 +149,8 @@ fn push_process(text: &mut Vec<u8>, p: u8, state: ProcState) -> Result<(), Memor
 
 /// Appends the line that tells where a process stands.
 fn push_where(text: &mut Vec<u8>, p: u8, state: ProcState) -> Result<(), Memory>
-    ensures { MatchResult result (λ unit. text.new.items ≡ text.old.items ++ told_line (standing_text p state)) (λ error. Extends text.old.items text.new.items) }
+    ensures { MatchResult result (λ unit. text.new.items ≡ text.old.items
+        ++ told_line (standing_text p state)) (λ error. Extends text.old.items text.new.items) }
 {
     push_str(text, "# proc")?;
     push_number(text, b' ', u64::from(p))?;
@@ -197,7 +198,8 @@ fn push_descriptor(text: &mut Vec<u8>, p: u8, fd: u32, look: Option<Look>) -> Re
 
 /// Appends the line of a descriptor that is open.
 fn push_open(text: &mut Vec<u8>, p: u8, fd: u32, look: Look) -> Result<(), Memory>
-    ensures { MatchResult result (λ unit. text.new.items ≡ text.old.items ++ told_line (descriptor_text p fd look)) (λ error. Extends text.old.items text.new.items) }
+    ensures { MatchResult result (λ unit. text.new.items ≡ text.old.items
+        ++ told_line (descriptor_text p fd look)) (λ error. Extends text.old.items text.new.items) }
 {
     push_str(text, "# fd")?;
     push_number(text, b' ', u64::from(p))?;

@@ -18,7 +18,8 @@ use Rattle.wait_core.proofs.ProcessLemmas.{or_cases, or_right}
 pub inserted_same : (old new : ProcessSet) (p : ℕ) → ((q : ℕ) → is_member new q ≡ (q == p || is_member old q)) → IsTrue (is_member new p)
 inserted_same old new p members = members p ∙ or_left (p == p) (is_member old p) (eq-eqb p p refl)
 
-pub inserted_other : (old new : ProcessSet) (p : ℕ) → ((q : ℕ) → is_member new q ≡ (q == p || is_member old q)) → (q : ℕ) → q ≢ p → is_member new q ≡ is_member old q
+pub inserted_other : (old new : ProcessSet) (p : ℕ) → ((q : ℕ) → is_member new q ≡ (q == p || is_member old q)) → (q : ℕ) → q ≢ p
+    → is_member new q ≡ is_member old q
 inserted_other old new p members q other = let no : (q == p) ≡ false = grind (arith, nat_tests) in members q ∙ rw no refl
 
 -- one process more is told
@@ -27,13 +28,16 @@ pub told_more : (P : ℕ → Type 0) (old new : ProcessSet) (i : ℕ) → ((q : 
 told_more P old new i others here before q one few = grind (arith, common_steps, cases_eq)
 
 -- and those after it aren't in the set yet
-pub missing_more : (old new : ProcessSet) (i : ℕ) → ((q : ℕ) → q ≢ i → is_member new q ≡ is_member old q) → ((q : ℕ) → i ≤ q → IsFalse (is_member old q)) → (q : ℕ) → i + 1 ≤ q → IsFalse (is_member new q)
+pub missing_more : (old new : ProcessSet) (i : ℕ) → ((q : ℕ) → q ≢ i → is_member new q ≡ is_member old q)
+    → ((q : ℕ) → i ≤ q → IsFalse (is_member old q)) → (q : ℕ) → i + 1 ≤ q → IsFalse (is_member new q)
 missing_more old new i others after q past = others q (λ same. omega arith) ∙ after q (omega arith)
 
 module _ (wait : Wait) (waits : List Wait) (i : ℕ) (d : Wait) (within : i < length waits) where
   -- one wait more, which is a traditional one in conflict with the wait
-  pub conflicts_more : (old new : ProcessSet) → IsTraditional (get_or waits i d) → WaitsConflict (get_or waits i d) wait → ((q : ℕ) → is_member new q ≡ (q == (get_or waits i d).p || is_member old q))
-      → ((q : ℕ) → IsTrue (is_member old q) ↔ Any (IsConflictOf q wait) (take i waits)) → (q : ℕ) → IsTrue (is_member new q) ↔ Any (IsConflictOf q wait) (take (i + 1) waits)
+  pub conflicts_more : (old new : ProcessSet) → IsTraditional (get_or waits i d) → WaitsConflict (get_or waits i d) wait
+      → ((q : ℕ) → is_member new q ≡ (q == (get_or waits i d).p || is_member old q))
+      → ((q : ℕ) → IsTrue (is_member old q) ↔ Any (IsConflictOf q wait) (take i waits)) → (q : ℕ)
+      → IsTrue (is_member new q) ↔ Any (IsConflictOf q wait) (take (i + 1) waits)
   conflicts_more old new own conflict members before q =
       let other = get_or waits i d in
       rw (take_more waits i d within) (
@@ -48,7 +52,8 @@ module _ (wait : Wait) (waits : List Wait) (i : ℕ) (d : Wait) (within : i < le
       )
 
   skipped : (set : ProcessSet) → ¬ (IsTraditional (get_or waits i d) × WaitsConflict (get_or waits i d) wait)
-      → ((q : ℕ) → IsTrue (is_member set q) ↔ Any (IsConflictOf q wait) (take i waits)) → (q : ℕ) → IsTrue (is_member set q) ↔ Any (IsConflictOf q wait) (take (i + 1) waits)
+      → ((q : ℕ) → IsTrue (is_member set q) ↔ Any (IsConflictOf q wait) (take i waits)) → (q : ℕ)
+      → IsTrue (is_member set q) ↔ Any (IsConflictOf q wait) (take (i + 1) waits)
   skipped set neither before q = rw (take_more waits i d within) (
     λ has. Any-append_left (IsConflictOf q wait) (take i waits) (get_or waits i d ∷ []) ((before q).0 has),
     λ any. elim (Any-append (IsConflictOf q wait) (take i waits) (get_or waits i d ∷ []) any) [
@@ -59,10 +64,12 @@ module _ (wait : Wait) (waits : List Wait) (i : ℕ) (d : Wait) (within : i < le
 
   -- and one that isn't traditional
   pub description_skipped : (set : ProcessSet) (b : Bool) → IsTrue b ↔ IsTraditional (get_or waits i d) → b ≡ false
-      → ((q : ℕ) → IsTrue (is_member set q) ↔ Any (IsConflictOf q wait) (take i waits)) → (q : ℕ) → IsTrue (is_member set q) ↔ Any (IsConflictOf q wait) (take (i + 1) waits)
+      → ((q : ℕ) → IsTrue (is_member set q) ↔ Any (IsConflictOf q wait) (take i waits)) → (q : ℕ)
+      → IsTrue (is_member set q) ↔ Any (IsConflictOf q wait) (take (i + 1) waits)
   description_skipped set b test differs = skipped set (λ both. (let yes = test.1 both.0 in cc))
 
   -- and one that doesn't conflict
   pub compatible_skipped : (set : ProcessSet) (b : Bool) → IsTrue b ↔ WaitsConflict (get_or waits i d) wait → b ≡ false
-      → ((q : ℕ) → IsTrue (is_member set q) ↔ Any (IsConflictOf q wait) (take i waits)) → (q : ℕ) → IsTrue (is_member set q) ↔ Any (IsConflictOf q wait) (take (i + 1) waits)
+      → ((q : ℕ) → IsTrue (is_member set q) ↔ Any (IsConflictOf q wait) (take i waits)) → (q : ℕ)
+      → IsTrue (is_member set q) ↔ Any (IsConflictOf q wait) (take (i + 1) waits)
   compatible_skipped set b test differs = skipped set (λ both. (let yes = test.1 both.1 in cc))

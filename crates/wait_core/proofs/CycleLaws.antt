@@ -74,7 +74,8 @@ module _ (R S : ℕ → ℕ → Type 0) (from : ℕ) (Added : ℕ → Type 0) (c
   join_led p q r (inr (through, chain)) (inr (more, rest)) = inr (through ++ q ∷ more, chain_append R p through q more r chain rest)
 
   -- without a cycle of old steps, and no way from an end of a new step to its beginning, there is no cycle
-  free_with_added : ((p : ℕ) → ¬ ((through : List ℕ) × IsChain R p through p)) → ((next : ℕ) → Added next → ¬ AtOrLed R next from) → (p : ℕ) → ¬ ((through : List ℕ) × IsChain S p through p)
+  free_with_added : ((p : ℕ) → ¬ ((through : List ℕ) × IsChain R p through p)) → ((next : ℕ) → Added next → ¬ AtOrLed R next from) → (p : ℕ)
+      → ¬ ((through : List ℕ) × IsChain S p through p)
   free_with_added free closes p (through, chain) = elim (last_added p through p chain) [
     | inl old ↦ free p old
     | inr uses ↦ closes uses.next uses.added (join_led uses.next p from uses.goes uses.comes)
@@ -84,7 +85,8 @@ cons_same : (x y : Wait) (xs ys : List Wait) → x ≡ y → xs ≡ ys → x ∷
 cons_same x y xs ys e f = cc
 
 -- a place in a list with one more at its end is a place in the list, or that end
-place_in_push : (waits before : List Wait) (wait v : Wait) (after : List Wait) → waits ++ wait ∷ [] ≡ before ++ v ∷ after → ((rest : List Wait) × (waits ≡ before ++ v ∷ rest)) ⊎ ((before ≡ waits) × (v ≡ wait))
+place_in_push : (waits before : List Wait) (wait v : Wait) (after : List Wait) → waits ++ wait ∷ [] ≡ before ++ v ∷ after
+    → ((rest : List Wait) × (waits ≡ before ++ v ∷ rest)) ⊎ ((before ≡ waits) × (v ≡ wait))
 place_in_push [] [] wait v after e = inr (refl, cc)
 place_in_push [] (x ∷ before) wait v after e =
     absurd (let rest : [] ≡ before ++ v ∷ after = cc in let none = split_within [] before v after rest in omega (arith, none))
@@ -98,11 +100,13 @@ place_in_push (y ∷ waits) (x ∷ before) wait v after e =
     ]
 
 -- a step in a list with one more wait is a step in the list, or of that wait
-step_in_push : (policy : Policy) (locks : Locks) (waits : List Wait) (wait : Wait) (p q : ℕ) → WaitsFor policy locks (waits ++ wait ∷ []) p q → WaitsFor policy locks waits p q ⊎ ((p ≡ wait.p) × (IsTraditional wait × IsBlockedByProcess policy locks waits wait q))
+step_in_push : (policy : Policy) (locks : Locks) (waits : List Wait) (wait : Wait) (p q : ℕ) → WaitsFor policy locks (waits ++ wait ∷ []) p q
+    → WaitsFor policy locks waits p q ⊎ ((p ≡ wait.p) × (IsTraditional wait × IsBlockedByProcess policy locks waits wait q))
 step_in_push policy locks waits wait p q for = grind (arith, common_steps, place_in_push)
 
 -- the process that would wait isn't led to from one that blocks it
-not_led : (policy : Policy) (locks : Locks) (waits : List Wait) (wait : Wait) → (IsTraditional wait → ¬ ClosesCycle policy locks waits wait) → (next : ℕ) → IsTraditional wait × IsBlockedByProcess policy locks waits wait next → ¬ AtOrLed (WaitsFor policy locks waits) next wait.p
+not_led : (policy : Policy) (locks : Locks) (waits : List Wait) (wait : Wait) → (IsTraditional wait → ¬ ClosesCycle policy locks waits wait)
+    → (next : ℕ) → IsTraditional wait × IsBlockedByProcess policy locks waits wait next → ¬ AtOrLed (WaitsFor policy locks waits) next wait.p
 unfolding AtOrLed
 not_led policy locks waits wait h next h2 h3 = grind (arith, common_steps, not_own_blocker)
 
@@ -120,7 +124,9 @@ record PlaceBefore (f : Wait → Bool) (waits before : List Wait) (w : Wait) : T
   kept : before ≡ filter f earlier
 
 -- a place behind a wait that the filter keeps
-place_behind_kept : (f : Wait → Bool) (x : Wait) (waits before : List Wait) (w : Wait) (after : List Wait) → f x ≡ true → x ∷ filter f waits ≡ before ++ w ∷ after → ((rest : List Wait) → filter f waits ≡ rest ++ w ∷ after → PlaceBefore f waits rest w) → PlaceBefore f (x ∷ waits) before w
+place_behind_kept : (f : Wait → Bool) (x : Wait) (waits before : List Wait) (w : Wait) (after : List Wait) → f x ≡ true
+    → x ∷ filter f waits ≡ before ++ w ∷ after → ((rest : List Wait) → filter f waits ≡ rest ++ w ∷ after → PlaceBefore f waits rest w)
+    → PlaceBefore f (x ∷ waits) before w
 place_behind_kept f x waits [] w after passes e again =
     record { earlier = []; later = waits; place = (let same : x ≡ w = cc in cons_same x w waits waits same refl); kept = refl }
 place_behind_kept f x waits (y ∷ before) w after passes e again =
@@ -134,7 +140,8 @@ place_behind_kept f x waits (y ∷ before) w after passes e again =
     }
 
 -- a place among those that a filter keeps is a place in the list
-place_in_filter : (f : Wait → Bool) (waits before : List Wait) (w : Wait) (after : List Wait) → filter f waits ≡ before ++ w ∷ after → PlaceBefore f waits before w
+place_in_filter : (f : Wait → Bool) (waits before : List Wait) (w : Wait) (after : List Wait) → filter f waits ≡ before ++ w ∷ after
+    → PlaceBefore f waits before w
 place_in_filter f [] before w after e = absurd (let none = split_within [] before w after e in omega (arith, none))
 place_in_filter f (x ∷ waits) before w after e = elim (cases_Bool (f x)) [
   | inl passes ↦ place_behind_kept f x waits before w after passes (rw passes at e) (λ rest e'. place_in_filter f waits rest w after e')
@@ -148,13 +155,15 @@ place_in_filter f (x ∷ waits) before w after e = elim (cases_Bool (f x)) [
 ]
 
 -- what blocks behind the waits that are kept blocks behind all
-blocked_by_more : (policy : Policy) (locks : Locks) (f : Wait → Bool) (earlier : List Wait) (w : Wait) (q : ℕ) → IsBlockedByProcess policy locks (filter f earlier) w q → IsBlockedByProcess policy locks earlier w q
+blocked_by_more : (policy : Policy) (locks : Locks) (f : Wait → Bool) (earlier : List Wait) (w : Wait) (q : ℕ)
+    → IsBlockedByProcess policy locks (filter f earlier) w q → IsBlockedByProcess policy locks earlier w q
 blocked_by_more Held locks f earlier w q blocked = blocked
 blocked_by_more Queue locks f earlier w q (inl blocked) = inl blocked
 blocked_by_more Queue locks f earlier w q (inr behind) =
     inr (Any-weaker (λ v. IsConflictOf q w v × (f v ≡ true)) (IsConflictOf q w) (λ v h. h.0) earlier (Any-unfilter (IsConflictOf q w) f earlier behind))
 
-step_in_rest : (policy : Policy) (locks : Locks) (f : Wait → Bool) (waits : List Wait) (p q : ℕ) → WaitsFor policy locks (filter f waits) p q → WaitsFor policy locks waits p q
+step_in_rest : (policy : Policy) (locks : Locks) (f : Wait → Bool) (waits : List Wait) (p q : ℕ) → WaitsFor policy locks (filter f waits) p q
+    → WaitsFor policy locks waits p q
 step_in_rest policy locks f waits p q for =
     let there = place_in_filter f waits for.before for.wait for.after for.place in record {
       before = there.earlier;
@@ -172,14 +181,18 @@ free_when_one_leaves policy locks waits p free r (through, chain) =
     let f : Wait → Bool = λ (wait : Wait). not (wait.p == p) in
     free r (through, chain_weaker (WaitsFor policy locks (filter f waits)) (WaitsFor policy locks waits) (step_in_rest policy locks f waits) r through r chain)
 
-blocks_kept : (modes modes' : ByteModes) (q : ℕ) (owner : Owner) (span : Span) (mode : Mode) → ((byte : ℕ) → modes' (Process q) byte ≡ modes (Process q) byte) → ProcessBlocks modes' q owner span mode → ProcessBlocks modes q owner span mode
+blocks_kept : (modes modes' : ByteModes) (q : ℕ) (owner : Owner) (span : Span) (mode : Mode)
+    → ((byte : ℕ) → modes' (Process q) byte ≡ modes (Process q) byte) → ProcessBlocks modes' q owner span mode → ProcessBlocks modes q owner span mode
 blocks_kept modes modes' q owner span mode agree blocks = grind (arith, common_steps)
 
-blocked_kept : (policy : Policy) (old new : Locks) (earlier : List Wait) (w : Wait) (q : ℕ) → ((byte : ℕ) → new.bytes w.file (Process q) byte ≡ old.bytes w.file (Process q) byte) → IsBlockedByProcess policy new earlier w q → IsBlockedByProcess policy old earlier w q
+blocked_kept : (policy : Policy) (old new : Locks) (earlier : List Wait) (w : Wait) (q : ℕ)
+    → ((byte : ℕ) → new.bytes w.file (Process q) byte ≡ old.bytes w.file (Process q) byte) → IsBlockedByProcess policy new earlier w q
+    → IsBlockedByProcess policy old earlier w q
 blocked_kept policy old new earlier w q h h2 = grind (arith, common_steps, blocks_kept)
 
 -- a process that waits is the owner of its wait
-waiting_owner : (policy : Policy) (locks : Locks) (waits : List Wait) (owner : Owner) (p q : ℕ) → All (λ wait. wait.owner ≢ owner) waits → WaitsFor policy locks waits p q → Process p ≢ owner
+waiting_owner : (policy : Policy) (locks : Locks) (waits : List Wait) (owner : Owner) (p q : ℕ) → All (λ wait. wait.owner ≢ owner) waits
+    → WaitsFor policy locks waits p q → Process p ≢ owner
 waiting_owner policy locks waits owner p q others for same =
     let other : for.wait.owner ≢ owner =
     subst (λ (w : Wait). w.owner ≢ owner) (split_is waits for.before for.wait for.after for.place)
@@ -203,7 +216,8 @@ free_when_locks_change policy old new waits owner free agree others p (through, 
     free p (through, chain_on Step (WaitsFor policy old waits) on p through p first.0 chain first.1)
 
 -- a step by other locks of descriptions alone was a step before
-step_kept : (policy : Policy) (old new : Locks) (waits : List Wait) (p q : ℕ) → ((file r byte : ℕ) → new.bytes file (Process r) byte ≡ old.bytes file (Process r) byte) → WaitsFor policy new waits p q → WaitsFor policy old waits p q
+step_kept : (policy : Policy) (old new : Locks) (waits : List Wait) (p q : ℕ)
+    → ((file r byte : ℕ) → new.bytes file (Process r) byte ≡ old.bytes file (Process r) byte) → WaitsFor policy new waits p q → WaitsFor policy old waits p q
 step_kept policy old new waits p q agree step = grind (arith, common_steps, blocked_kept)
 
 pub free_when_description_locks_change : FreeWhenDescriptionLocksChange

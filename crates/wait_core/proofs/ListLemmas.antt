@@ -44,7 +44,8 @@ apart_numbers (wait ∷ waits) apart i j e before within same =
     (sym (get_or-map (λ (w : Wait). w.p) (wait ∷ waits) i wait e i_within) ∙ same ∙ get_or-map (λ (w : Wait). w.p) (wait ∷ waits) j wait e j_within)
 
 -- while a process has no wait, there are fewer waits than processes
-pub room_for : (processes : ℕ) (waits : List Wait) (p : ℕ) → All (IsWellFormed processes) waits → AllPairs (λ v w. v.p ≢ w.p) waits → 1 ≤ p → p ≤ processes → wait_of waits p ≡ None → length waits < processes
+pub room_for : (processes : ℕ) (waits : List Wait) (p : ℕ) → All (IsWellFormed processes) waits → AllPairs (λ v w. v.p ≢ w.p) waits → 1 ≤ p
+    → p ≤ processes → wait_of waits p ≡ None → length waits < processes
 room_for processes waits p each apart from_one within none =
     let numbers : List ℕ = map (λ (v : Wait). v.p) waits in
     let others : All (λ n. p ≢ n) numbers =
@@ -71,7 +72,8 @@ room_for processes waits p each apart from_one within none =
     let count = length-numbers_of waits in omega arith
 
 -- one more wait that is blocked
-pub AllBlocked-push : (policy : Policy) (locks : Locks) (earlier waits : List Wait) (wait : Wait) → AllBlocked policy locks earlier waits → IsBlocked policy locks (earlier ++ waits) wait → AllBlocked policy locks earlier (waits ++ wait ∷ [])
+pub AllBlocked-push : (policy : Policy) (locks : Locks) (earlier waits : List Wait) (wait : Wait) → AllBlocked policy locks earlier waits
+    → IsBlocked policy locks (earlier ++ waits) wait → AllBlocked policy locks earlier (waits ++ wait ∷ [])
 AllBlocked-push policy locks earlier [] wait all blocked = (subst (λ (es : List Wait). IsBlocked policy locks es wait) (append-nil earlier) blocked, tt)
 AllBlocked-push policy locks earlier (v ∷ waits) wait all blocked = (
   all.0,
@@ -80,11 +82,14 @@ AllBlocked-push policy locks earlier (v ∷ waits) wait all blocked = (
 )
 
 -- one more wait that is blocked, in the list as far as it was looked at
-pub blocked_so_far : (policy : Policy) (locks : Locks) (waits : List Wait) (i : ℕ) → i < length waits → AllBlocked policy locks [] (take i waits) → ((wait : Wait) → slice_get waits i ≡ Some wait → IsBlocked policy locks (take i waits) wait) → AllBlocked policy locks [] (take (i + 1) waits)
+pub blocked_so_far : (policy : Policy) (locks : Locks) (waits : List Wait) (i : ℕ) → i < length waits → AllBlocked policy locks [] (take i waits)
+    → ((wait : Wait) → slice_get waits i ≡ Some wait → IsBlocked policy locks (take i waits) wait) → AllBlocked policy locks [] (take (i + 1) waits)
 blocked_so_far policy locks waits i within all blocked = grind (arith, common_steps, slice_get_cases, take_more, AllBlocked-push)
 
 -- the first wait that isn't blocked
-pub first_ready : (policy : Policy) (locks : Locks) (waits : List Wait) (i : ℕ) (wait : Wait) → i < length waits → wait ≡ get_or waits i wait → AllBlocked policy locks [] (take i waits) → ((w : Wait) → slice_get waits i ≡ Some w → ¬ IsBlocked policy locks (take i waits) w) → IsNextReady policy locks waits wait
+pub first_ready : (policy : Policy) (locks : Locks) (waits : List Wait) (i : ℕ) (wait : Wait) → i < length waits → wait ≡ get_or waits i wait
+    → AllBlocked policy locks [] (take i waits) → ((w : Wait) → slice_get waits i ≡ Some w → ¬ IsBlocked policy locks (take i waits) w)
+    → IsNextReady policy locks waits wait
 first_ready policy locks waits i wait within is all ready = record {
   before = take i waits;
   after = drop (suc i) waits;
@@ -96,7 +101,8 @@ first_ready policy locks waits i wait within is all ready = record {
 }
 
 -- no process has two waits, so each wait is the one that is found for its process
-pub found_itself : (waits : List Wait) (i : ℕ) (wait : Wait) → i < length waits → get_or waits i wait ≡ wait → AllPairs (λ v w. v.p ≢ w.p) waits → wait_of waits wait.p ≡ Some wait
+pub found_itself : (waits : List Wait) (i : ℕ) (wait : Wait) → i < length waits → get_or waits i wait ≡ wait → AllPairs (λ v w. v.p ≢ w.p) waits
+    → wait_of waits wait.p ≡ Some wait
 found_itself [] i wait within is apart = absurd (omega (arith, within))
 found_itself (v ∷ waits) zero wait within is apart =
     let first : v ≡ wait = is in

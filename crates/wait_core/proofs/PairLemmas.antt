@@ -45,11 +45,13 @@ waits_by_lock locks waits p q (k, wait, within, is, holds) = record {
 }
 
 -- a table that tells the pairs of the list and these locks
-pub told : (waits : Waits) (locks : Locks) → ((p q : ℕ) → p ≤ 64 → 1 ≤ q → q ≤ 64 → IsTrue (has_pair waits p q) ↔ Any (IsBlockedWait locks p q) (waits_of waits)) → AreTold waits locks
+pub told : (waits : Waits) (locks : Locks)
+    → ((p q : ℕ) → p ≤ 64 → 1 ≤ q → q ≤ 64 → IsTrue (has_pair waits p q) ↔ Any (IsBlockedWait locks p q) (waits_of waits)) → AreTold waits locks
 told waits locks pairs = search (rules, waits_by_lock, blocked_wait)
 
 -- and the way back
-pub tells : (waits : Waits) (locks : Locks) → AreTold waits locks → (p q : ℕ) → p ≤ 64 → 1 ≤ q → q ≤ 64 → IsTrue (has_pair waits p q) ↔ Any (IsBlockedWait locks p q) (waits_of waits)
+pub tells : (waits : Waits) (locks : Locks) → AreTold waits locks → (p q : ℕ) → p ≤ 64 → 1 ≤ q → q ≤ 64
+    → IsTrue (has_pair waits p q) ↔ Any (IsBlockedWait locks p q) (waits_of waits)
 tells waits locks told p q p_few q_one q_few = grind (arith, common_steps, blocked_wait, waits_by_lock)
 
 pub keeps_other : (w : Wait) (p : ℕ) → w.p ≢ p → not (w.p == p) ≡ true
@@ -63,7 +65,8 @@ none_of_it : (locks : Locks) (p q process : ℕ) (waits : List Wait) → p ≡ p
 none_of_it locks p q process waits same (k, w, within, is, holds) = other_kept w process holds.1 (holds.0.of_p ∙ same)
 
 -- one wait less, and its process' row forgotten
-pub told-leave : (old new : Waits) (locks : Locks) (process : ℕ) → waits_of new ≡ without_wait_of (waits_of old) process → ((q : ℕ) → ¬ IsTrue (has_pair new process q)) → ((p q : ℕ) → p ≢ process → has_pair new p q ≡ has_pair old p q) → AreTold old locks → AreTold new locks
+pub told-leave : (old new : Waits) (locks : Locks) (process : ℕ) → waits_of new ≡ without_wait_of (waits_of old) process
+    → ((q : ℕ) → ¬ IsTrue (has_pair new process q)) → ((p q : ℕ) → p ≢ process → has_pair new p q ≡ has_pair old p q) → AreTold old locks → AreTold new locks
 told-leave old new locks process rest forgotten others was = told new locks (λ p q p_few q_one q_few.
     let Blocked : Wait → Type 0 = IsBlockedWait locks p q in
     elim (cases_eq p process) [
@@ -82,11 +85,14 @@ told-leave old new locks process rest forgotten others was = told new locks (λ 
     ])
 
 -- a process blocks by locks that agree on the range
-pub blocks_same : (modes modes' : ByteModes) (q : ℕ) (owner : Owner) (span : Span) (mode : Mode) → ((byte : ℕ) → Covers span byte → modes' (Process q) byte ≡ modes (Process q) byte) → ProcessBlocks modes q owner span mode → ProcessBlocks modes' q owner span mode
+pub blocks_same : (modes modes' : ByteModes) (q : ℕ) (owner : Owner) (span : Span) (mode : Mode)
+    → ((byte : ℕ) → Covers span byte → modes' (Process q) byte ≡ modes (Process q) byte) → ProcessBlocks modes q owner span mode
+    → ProcessBlocks modes' q owner span mode
 blocks_same modes modes' q owner span mode agree blocks = grind (arith, common_steps)
 
 -- no process has two waits
-pub one_place : (waits : List Wait) → AllPairs (λ v w. v.p ≢ w.p) waits → (i j : ℕ) (v w : Wait) → i < length waits → j < length waits → get_or waits i v ≡ v → get_or waits j w ≡ w → v.p ≡ w.p → i ≡ j
+pub one_place : (waits : List Wait) → AllPairs (λ v w. v.p ≢ w.p) waits → (i j : ℕ) (v w : Wait) → i < length waits → j < length waits
+    → get_or waits i v ≡ v → get_or waits j w ≡ w → v.p ≡ w.p → i ≡ j
 one_place waits apart i j v w i_within j_within v_is w_is same = elim (cases_eq i j) [
   | inl here ↦ here
   | inr differ ↦ elim (cases_lt i j) [
@@ -97,7 +103,8 @@ one_place waits apart i j v w i_within j_within v_is w_is same = elim (cases_eq 
   ]
 ]
 
-pub one_wait : (waits : List Wait) → AllPairs (λ v w. v.p ≢ w.p) waits → (i j : ℕ) (v w : Wait) → i < length waits → j < length waits → get_or waits i v ≡ v → get_or waits j w ≡ w → v.p ≡ w.p → v ≡ w
+pub one_wait : (waits : List Wait) → AllPairs (λ v w. v.p ≢ w.p) waits → (i j : ℕ) (v w : Wait) → i < length waits → j < length waits
+    → get_or waits i v ≡ v → get_or waits j w ≡ w → v.p ≡ w.p → v ≡ w
 one_wait waits apart i j v w i_within j_within v_is w_is same = grind (arith, common_steps, get_or_default, one_place)
 
 -- a process has a wait, or each wait is another one's
@@ -112,7 +119,8 @@ of_process_or_none (wait ∷ waits) p = elim (cases_eq wait.p p) [
 ]
 
 -- what blocks the one wait of a process blocks a wait of it
-pub by_its_wait : (locks : Locks) (waits : List Wait) (k q : ℕ) (wait : Wait) (b : Bool) → AllPairs (λ v w. v.p ≢ w.p) waits → k < length waits → get_or waits k wait ≡ wait → IsTrue b ↔ IsBlockedWait locks wait.p q wait → IsTrue b ↔ Any (IsBlockedWait locks wait.p q) waits
+pub by_its_wait : (locks : Locks) (waits : List Wait) (k q : ℕ) (wait : Wait) (b : Bool) → AllPairs (λ v w. v.p ≢ w.p) waits → k < length waits
+    → get_or waits k wait ≡ wait → IsTrue b ↔ IsBlockedWait locks wait.p q wait → IsTrue b ↔ Any (IsBlockedWait locks wait.p q) waits
 by_its_wait locks waits k q wait b apart within is blocks = grind (arith, common_steps, one_wait)
 
 -- of a process without a wait none is blocked
@@ -120,7 +128,8 @@ pub none_blocked : (locks : Locks) (waits : List Wait) (p q : ℕ) → All (λ w
 none_blocked locks waits p q none (k, w, within, is, holds) = subst (λ (v : Wait). v.p ≢ p) is (none k w within) holds.of_p
 
 -- a wait that is on another file than the one whose locks changed is blocked by the same locks
-kept_elsewhere : (old new : Locks) (file p q : ℕ) (wait : Wait) → AgreeBut file old new → wait.file ≢ file → IsBlockedWait old p q wait ↔ IsBlockedWait new p q wait
+kept_elsewhere : (old new : Locks) (file p q : ℕ) (wait : Wait) → AgreeBut file old new → wait.file ≢ file
+    → IsBlockedWait old p q wait ↔ IsBlockedWait new p q wait
 kept_elsewhere old new file p q wait agree other = grind (arith, common_steps, blocks_same)
 
 -- the pair is told anew, or it stays and so do the locks that it rests on
@@ -154,7 +163,8 @@ told-changed old new before after list apart pairs others was = told new after (
 ]))
 
 -- a process whose wait is on another file has no wait on this one
-elsewhere_by_wait : (waits : List Wait) → AllPairs (λ v w. v.p ≢ w.p) waits → (k file : ℕ) (wait : Wait) → k < length waits → get_or waits k wait ≡ wait → wait.file ≢ file → All (IsElsewhere wait.p file) waits
+elsewhere_by_wait : (waits : List Wait) → AllPairs (λ v w. v.p ≢ w.p) waits → (k file : ℕ) (wait : Wait) → k < length waits
+    → get_or waits k wait ≡ wait → wait.file ≢ file → All (IsElsewhere wait.p file) waits
 elsewhere_by_wait waits apart k file wait within is other j d inside same = search (rules, one_wait, get_or_default)
 
 -- the pairs of the processes are told anew whose waits are on the file, and the others stay
@@ -186,13 +196,16 @@ on_or_off : (file : ℕ) (span : Span) (wait : Wait) → IsOn file span wait ⊎
 on_or_off file span wait = grind (arith, common_steps, cases_eq, cases_lt)
 
 -- a process whose wait isn't on these bytes has no wait on them
-off_by_wait : (waits : List Wait) → AllPairs (λ v w. v.p ≢ w.p) waits → (k file : ℕ) (span : Span) (wait : Wait) → k < length waits → get_or waits k wait ≡ wait → ¬ IsOn file span wait → All (IsOff wait.p file span) waits
+off_by_wait : (waits : List Wait) → AllPairs (λ v w. v.p ≢ w.p) waits → (k file : ℕ) (span : Span) (wait : Wait) → k < length waits
+    → get_or waits k wait ≡ wait → ¬ IsOn file span wait → All (IsOff wait.p file span) waits
 off_by_wait waits apart k file span wait within is off j d inside same = search (rules, one_wait, get_or_default)
 
 -- the pairs with the owner are told anew of the waits on these bytes, if it is a process, and the others stay
-pub told-owner : (old new : Waits) (before after : Locks) (file processes : ℕ) (owner : Owner) (span : Span) → waits_of new ≡ waits_of old → AllPairs (λ v w. v.p ≢ w.p) (waits_of old)
+pub told-owner : (old new : Waits) (before after : Locks) (file processes : ℕ) (owner : Owner) (span : Span) → waits_of new ≡ waits_of old
+    → AllPairs (λ v w. v.p ≢ w.p) (waits_of old)
     → All (IsWellFormed processes) (waits_of old)
-    → ((q : ℕ) → Process q ≡ owner → 1 ≤ q → q ≤ 64 → All (λ wait. IsOn file span wait → IsTrue (has_pair new wait.p q) ↔ IsBlockedWait after wait.p q wait) (waits_of old))
+    → ((q : ℕ) → Process q ≡ owner → 1 ≤ q → q ≤ 64
+    → All (λ wait. IsOn file span wait → IsTrue (has_pair new wait.p q) ↔ IsBlockedWait after wait.p q wait) (waits_of old))
     → ((p q : ℕ) → q ≤ 64 → (Process q ≡ owner → All (IsOff p file span) (waits_of old)) → has_pair new p q ≡ has_pair old p q)
     → AgreeButOwner file owner span before after → AreTold old before → AreTold new after
 told-owner old new before after file processes owner span list apart well_formed anew others agree = told-changed old new before after list apart
@@ -239,7 +252,8 @@ abbrev pub Before : (Wait → Type 0) → (Wait → Type 0) → List Wait → �
 Before P On waits i = (k : ℕ) (wait : Wait) → k < i → k < length waits → get_or waits k wait ≡ wait → On wait → P wait
 
 -- and of one wait more that is looked at, where the waits of other processes keep it
-pub before_more : (P P' On : Wait → Type 0) (i : ℕ) (waits : List Wait) (d : Wait) → AllPairs (λ v w. v.p ≢ w.p) waits → i < length waits → Before P On waits i → P' (get_or waits i d)
+pub before_more : (P P' On : Wait → Type 0) (i : ℕ) (waits : List Wait) (d : Wait) → AllPairs (λ v w. v.p ≢ w.p) waits → i < length waits
+    → Before P On waits i → P' (get_or waits i d)
     → ((w : Wait) → w.p ≢ (get_or waits i d).p → P w → P' w) → Before P' On waits (i + 1)
 before_more P P' On i waits d apart within before last keeps k w below inside at on = elim (cases_eq k i) [
   | inl same ↦
@@ -252,7 +266,8 @@ before_more P P' On i waits d apart within before last keeps k w below inside at
 ]
 
 -- and of one that isn't
-pub before_skip : (P On : Wait → Type 0) (i : ℕ) (waits : List Wait) (d : Wait) → i < length waits → ¬ On (get_or waits i d) → Before P On waits i → Before P On waits (i + 1)
+pub before_skip : (P On : Wait → Type 0) (i : ℕ) (waits : List Wait) (d : Wait) → i < length waits → ¬ On (get_or waits i d) → Before P On waits i
+    → Before P On waits (i + 1)
 before_skip P On i waits d h h2 h3 h4 h5 h6 h7 h8 h9 = grind (arith, common_steps, cases_eq, get_or_default)
 
 -- and of all
@@ -261,7 +276,8 @@ before_all P On waits before k d within on =
     before k (get_or waits k d) within within (get_or_default waits k (get_or waits k d) d within) on
 
 -- a pair that stays is told of the same locks
-pub tells_still : (old new : Pairs) (locks : Locks) (q : ℕ) (w : Wait) → pair_in new w.p q ≡ pair_in old w.p q → TellsPair old locks q w → TellsPair new locks q w
+pub tells_still : (old new : Pairs) (locks : Locks) (q : ℕ) (w : Wait) → pair_in new w.p q ≡ pair_in old w.p q → TellsPair old locks q w
+    → TellsPair new locks q w
 tells_still old new locks q w same was = subst (λ (b : Bool). IsTrue b ↔ IsBlockedWait locks w.p q w) (sym same) was
 
 -- where each row is the set of no process, there is no pair
@@ -269,7 +285,8 @@ pub none_in_rows : (rows p q : ℕ) → ¬ IsTrue (is_member (get_or (replicate 
 none_in_rows rows p q has = grind (arith, common_steps, slice_get_cases, get_or-replicate, length-replicate, none_in, get_or_past)
 
 -- the row that is put at p is row p then
-pub put_row : (rows : List ProcessSet) (row : ProcessSet) (i p q : ℕ) → i ≡ p → i < length rows → is_member (get_or (set rows i row) p no_process) q ≡ is_member row q
+pub put_row : (rows : List ProcessSet) (row : ProcessSet) (i p q : ℕ) → i ≡ p → i < length rows
+    → is_member (get_or (set rows i row) p no_process) q ≡ is_member row q
 put_row rows row i p q same within =
     let is : get_or (set rows i row) p no_process ≡ row = rw (← same) (get_or-set_same rows i row no_process within) in rw is
 

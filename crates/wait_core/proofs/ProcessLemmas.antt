@@ -35,7 +35,8 @@ pub same_word : (one other : ProcessSet) → one.bits ≡ other.bits → one ≡
 same_word one other same = ap (λ (n : ℕ). record { bits = n }) same
 
 -- the members after one more bit is set
-pub member_inserted : (old new : ProcessSet) (p k : ℕ) → suc k ≡ p → k < 64 → new.bits ≡ bit_or old.bits (1 * 2 ^ k % 2 ^ 64) → (q : ℕ) → is_member new q ≡ (q == p || is_member old q)
+pub member_inserted : (old new : ProcessSet) (p k : ℕ) → suc k ≡ p → k < 64 → new.bits ≡ bit_or old.bits (1 * 2 ^ k % 2 ^ 64) → (q : ℕ)
+    → is_member new q ≡ (q == p || is_member old q)
 unfolding is_member
 member_inserted old new p k place few is zero = let no : (0 == p) ≡ false = grind (arith, nat_tests) in rw no refl
 member_inserted old new p k place few is (suc j) = elim (cases_eq j k) [
@@ -50,7 +51,8 @@ member_inserted old new p k place few is (suc j) = elim (cases_eq j k) [
 ]
 
 -- and after one is cleared
-pub member_removed : (old new : ProcessSet) (p k : ℕ) → suc k ≡ p → k < 64 → new.bits ≡ bit_and old.bits (bit_not w64 (1 * 2 ^ k % 2 ^ 64)) → (q : ℕ) → q ≤ 64 → is_member new q ≡ (if q == p then false else is_member old q)
+pub member_removed : (old new : ProcessSet) (p k : ℕ) → suc k ≡ p → k < 64 → new.bits ≡ bit_and old.bits (bit_not w64 (1 * 2 ^ k % 2 ^ 64)) → (q : ℕ)
+    → q ≤ 64 → is_member new q ≡ (if q == p then false else is_member old q)
 unfolding is_member
 member_removed old new p k place few is zero within = let no : (0 == p) ≡ false = grind (arith, nat_tests) in rw no refl
 member_removed old new p k place few is (suc j) within = elim (cases_eq j k) [
@@ -65,7 +67,8 @@ member_removed old new p k place few is (suc j) within = elim (cases_eq j k) [
 ]
 
 -- a process more makes a larger word, which lacks less
-pub grown : (old new : ProcessSet) (p k : ℕ) → suc k ≡ p → k < 64 → new.bits ≡ bit_or old.bits (1 * 2 ^ k % 2 ^ 64) → old.bits < 2 ^ 64 → IsFalse (is_member old p) → lacking new < lacking old
+pub grown : (old new : ProcessSet) (p k : ℕ) → suc k ≡ p → k < 64 → new.bits ≡ bit_or old.bits (1 * 2 ^ k % 2 ^ 64) → old.bits < 2 ^ 64
+    → IsFalse (is_member old p) → lacking new < lacking old
 unfolding is_member lacking
 grown old new p k place few is fits missing =
     let least : old.bits ≤ new.bits = rw is (le_or_l old.bits (1 * 2 ^ k % 2 ^ 64)) in
@@ -85,7 +88,8 @@ unfolding is_member
 member_union one other both h q = grind (arith, common_steps, bit_at_or, one_of_two, bit_at-lt)
 
 -- where a bit isn't left, a member of the one set is one of the other
-within_at : (set other : ProcessSet) (k : ℕ) → other.bits < 2 ^ 64 → k < 64 → bit_at (bit_and set.bits (bit_not w64 other.bits)) k ≡ 0 → IsTrue (is_member set (suc k)) → IsTrue (is_member other (suc k))
+within_at : (set other : ProcessSet) (k : ℕ) → other.bits < 2 ^ 64 → k < 64 → bit_at (bit_and set.bits (bit_not w64 other.bits)) k ≡ 0
+    → IsTrue (is_member set (suc k)) → IsTrue (is_member other (suc k))
 unfolding is_member
 within_at set other k fits few left known =
     let one : bit_at set.bits k ≡ 1 = eqb-true _ _ known in
@@ -103,7 +107,8 @@ all_within set other fits none (suc k) few known =
     within_at set other k fits (omega (arith, few)) left known
 
 -- where none of less number is left, each of less number is
-least_at : (set other : ProcessSet) (k : ℕ) → other.bits < 2 ^ 64 → k < 64 → ((i : ℕ) → i < k → bit_at (bit_and set.bits (bit_not w64 other.bits)) i ≡ 0) → (q : ℕ) → q < suc k → IsTrue (is_member set q) → IsTrue (is_member other q)
+least_at : (set other : ProcessSet) (k : ℕ) → other.bits < 2 ^ 64 → k < 64
+    → ((i : ℕ) → i < k → bit_at (bit_and set.bits (bit_not w64 other.bits)) i ≡ 0) → (q : ℕ) → q < suc k → IsTrue (is_member set q) → IsTrue (is_member other q)
 unfolding is_member
 least_at set other k fits few below zero less known = known
 least_at set other k fits few below (suc i) less known = within_at set other i fits (omega (arith, less, few)) (below i (omega (arith, less))) known

@@ -39,11 +39,13 @@ blocked_in_same : (family : Family) (old new : Locks) (wait : Wait) → SameOn w
 blocked_in_same family old new wait h h2 = grind (arith, common_steps)
 
 -- a wait is blocked still by locks that are the same on its file
-blocked_same : (policy : Policy) (old new : Locks) (earlier : List Wait) (wait : Wait) → SameOn wait.file old new → IsBlocked policy old earlier wait → IsBlocked policy new earlier wait
+blocked_same : (policy : Policy) (old new : Locks) (earlier : List Wait) (wait : Wait) → SameOn wait.file old new → IsBlocked policy old earlier wait
+    → IsBlocked policy new earlier wait
 blocked_same policy old new earlier wait h h2 = grind (arith, common_steps, blocked_in_same)
 
 -- more files, and locks that are the same on all others
-pub elsewhere_after : (files more : FileSet) (policy : Policy) (old new : Locks) → ((f : ℕ) → IsFalse (has_file more f) → IsFalse (has_file files f) × SameOn f old new)
+pub elsewhere_after : (files more : FileSet) (policy : Policy) (old new : Locks)
+    → ((f : ℕ) → IsFalse (has_file more f) → IsFalse (has_file files f) × SameOn f old new)
     → (earlier waits : List Wait) → AllBlockedElsewhere files policy old earlier waits → AllBlockedElsewhere more policy new earlier waits
 elsewhere_after files more policy old new others earlier [] all = tt
 elsewhere_after files more policy old new others earlier (wait ∷ waits) all = (
@@ -57,7 +59,8 @@ neither true b is = absurd (let e : true ≡ false = is in cc)
 neither false b is = (refl, is)
 
 -- who isn't among the processes with one more is another one, and wasn't among them
-pub not_before : (old new : ProcessSet) (p : ℕ) → ((q : ℕ) → is_member new q ≡ (q == p || is_member old q)) → (q : ℕ) → IsFalse (is_member new q) → (q ≢ p) × IsFalse (is_member old q)
+pub not_before : (old new : ProcessSet) (p : ℕ) → ((q : ℕ) → is_member new q ≡ (q == p || is_member old q)) → (q : ℕ) → IsFalse (is_member new q)
+    → (q ≢ p) × IsFalse (is_member old q)
 not_before old new p is q out = grind (arith, common_steps, neither, nat_tests)
 
 -- one file more
@@ -142,7 +145,8 @@ module _ (files : FileSet) (p : ℕ) where
       ]
 
 -- the waits of a process are on the file of the one that is found, of which there is one at most
-pub file_of_found : (waits : List Wait) (p : ℕ) (wait : Wait) → AllPairs (λ v w. v.p ≢ w.p) waits → wait_of waits p ≡ Some wait → All (λ v. v.p ≡ p → v.file ≡ wait.file) waits
+pub file_of_found : (waits : List Wait) (p : ℕ) (wait : Wait) → AllPairs (λ v w. v.p ≢ w.p) waits → wait_of waits p ≡ Some wait
+    → All (λ v. v.p ≡ p → v.file ≡ wait.file) waits
 file_of_found [] p wait apart found = All-nil (λ v. v.p ≡ p → v.file ≡ wait.file)
 file_of_found (v ∷ waits) p wait apart found = elim (cases_eq v.p p) [
   | inl same ↦
@@ -161,11 +165,13 @@ pub none_leaves : (files : FileSet) (waits : List Wait) (p : ℕ) → wait_of wa
 none_leaves files waits p none = All-weaker (λ v. v.p ≢ p) (MayLeave files p) (λ v other same. absurd (other same)) waits (none_of waits p none)
 
 -- where it has one on one of the files, those that leave are on these
-pub one_leaves : (files : FileSet) (waits : List Wait) (p : ℕ) (wait : Wait) → AllPairs (λ v w. v.p ≢ w.p) waits → wait_of waits p ≡ Some wait → IsTrue (has_file files wait.file) → All (MayLeave files p) waits
+pub one_leaves : (files : FileSet) (waits : List Wait) (p : ℕ) (wait : Wait) → AllPairs (λ v w. v.p ≢ w.p) waits → wait_of waits p ≡ Some wait
+    → IsTrue (has_file files wait.file) → All (MayLeave files p) waits
 one_leaves files waits p wait apart found among = grind (arith, common_steps, All-weaker, file_of_found)
 
 -- on no file: each wait is blocked
-pub elsewhere_all : (files : FileSet) (policy : Policy) (locks : Locks) (earlier waits : List Wait) → AllBlocked policy locks earlier waits → AllBlockedElsewhere files policy locks earlier waits
+pub elsewhere_all : (files : FileSet) (policy : Policy) (locks : Locks) (earlier waits : List Wait) → AllBlocked policy locks earlier waits
+    → AllBlockedElsewhere files policy locks earlier waits
 elsewhere_all files policy locks earlier [] all = tt
 elsewhere_all files policy locks earlier (wait ∷ waits) all = (λ elsewhere. all.0, elsewhere_all files policy locks (earlier ++ wait ∷ []) waits all.1)
 
@@ -175,7 +181,9 @@ all_where Holds policy locks each earlier [] all = tt
 all_where Holds policy locks each earlier (wait ∷ waits) all = (all.0 (each wait), all_where Holds policy locks each (earlier ++ wait ∷ []) waits all.1)
 
 -- of each process: nothing is said
-pub none_but : (set : ProcessSet) (processes : ℕ) (policy : Policy) (locks : Locks) → processes ≤ 64 → ((p : ℕ) → 1 ≤ p → p ≤ 64 → IsTrue (is_member set p)) → (earlier waits : List Wait) → All (IsWellFormed processes) waits → AllBlockedBut set policy locks earlier waits
+pub none_but : (set : ProcessSet) (processes : ℕ) (policy : Policy) (locks : Locks) → processes ≤ 64
+    → ((p : ℕ) → 1 ≤ p → p ≤ 64 → IsTrue (is_member set p)) → (earlier waits : List Wait) → All (IsWellFormed processes) waits
+    → AllBlockedBut set policy locks earlier waits
 none_but set processes policy locks few each earlier [] well_formed = tt
 none_but set processes policy locks few each earlier (wait ∷ waits) well_formed =
     let first = All-head (IsWellFormed processes) wait waits well_formed in (
@@ -184,7 +192,8 @@ none_but set processes policy locks few each earlier (wait ∷ waits) well_forme
     )
 
 -- the wait at a place, if this holds of it
-pub blocked_at : (Holds : Wait → Type 0) (policy : Policy) (locks : Locks) (earlier waits : List Wait) (i : ℕ) (wait : Wait) → i < length waits → get_or waits i wait ≡ wait
+pub blocked_at : (Holds : Wait → Type 0) (policy : Policy) (locks : Locks) (earlier waits : List Wait) (i : ℕ) (wait : Wait) → i < length waits
+    → get_or waits i wait ≡ wait
     → Holds wait → AllBlockedWhere Holds policy locks earlier waits → IsBlocked policy locks (earlier ++ take i waits) wait
 blocked_at Holds policy locks earlier [] i wait within is holds all = absurd (omega (arith, within))
 blocked_at Holds policy locks earlier (v ∷ waits) zero wait within is holds all =
@@ -196,22 +205,26 @@ blocked_at Holds policy locks earlier (v ∷ waits) (suc i) wait within is holds
     (blocked_at Holds policy locks (earlier ++ v ∷ []) waits i wait (omega (arith, within)) is holds all.1)
 
 -- a wait that a process blocks is blocked by a lock
-by_process : (family : Family) (locks : Locks) (wait : Wait) (q : ℕ) → IsTrue (can_own family wait.owner) → IsTraditional wait → ProcessBlocks (locks.bytes wait.file) q wait.owner wait.span wait.mode
+by_process : (family : Family) (locks : Locks) (wait : Wait) (q : ℕ) → IsTrue (can_own family wait.owner) → IsTraditional wait
+    → ProcessBlocks (locks.bytes wait.file) q wait.owner wait.span wait.mode
     → IsBlockedIn family locks wait
 by_process Bytes locks wait q owner traditional blocks = record { byte = blocks.byte; covered = blocks.covered; other = Process q; blocks = blocks.blocks }
 by_process Whole locks wait q owner traditional blocks = absurd (let no : false ≡ true = ap (can_own Whole) (sym traditional) ∙ owner in cc)
 
 -- a wait is blocked by a lock where its process is told to wait for one
-pub told_blocked : (waits : Waits) (locks : Locks) (processes k : ℕ) (wait : Wait) → processes ≤ 64 → All (IsWellFormed processes) (waits_of waits) → AllPairs (λ v w. v.p ≢ w.p) (waits_of waits)
+pub told_blocked : (waits : Waits) (locks : Locks) (processes k : ℕ) (wait : Wait) → processes ≤ 64 → All (IsWellFormed processes) (waits_of waits)
+    → AllPairs (λ v w. v.p ≢ w.p) (waits_of waits)
     → AreTold waits locks → k < length (waits_of waits) → get_or (waits_of waits) k wait ≡ wait → IsTold waits wait.p → IsBlockedIn wait.family locks wait
 told_blocked waits locks processes k wait h h2 h3 h4 h5 h6 h7 = search (rules, blocked_wait, one_wait, by_process)
 
-blocked_by_lock : (policy : Policy) (locks : Locks) (earlier : List Wait) (wait : Wait) → IsBlockedIn wait.family locks wait → IsBlocked policy locks earlier wait
+blocked_by_lock : (policy : Policy) (locks : Locks) (earlier : List Wait) (wait : Wait) → IsBlockedIn wait.family locks wait
+    → IsBlocked policy locks earlier wait
 blocked_by_lock Held locks earlier wait by_lock = by_lock
 blocked_by_lock Queue locks earlier wait by_lock = inl by_lock
 
 -- where each of the waits of which the one holds is one of which the other holds, or is blocked by a lock
-pub blocked_more : (One Other : Wait → Type 0) (policy : Policy) (locks : Locks) (earlier waits : List Wait) → All (λ wait. One wait → Other wait ⊎ IsBlockedIn wait.family locks wait) waits
+pub blocked_more : (One Other : Wait → Type 0) (policy : Policy) (locks : Locks) (earlier waits : List Wait)
+    → All (λ wait. One wait → Other wait ⊎ IsBlockedIn wait.family locks wait) waits
     → AllBlockedWhere Other policy locks earlier waits → AllBlockedWhere One policy locks earlier waits
 blocked_more One Other policy locks earlier [] each all = tt
 blocked_more One Other policy locks earlier (wait ∷ waits) each all =
@@ -224,7 +237,8 @@ blocked_more One Other policy locks earlier (wait ∷ waits) each all =
     )
 
 -- the wait of a process left, if it had one
-pub elsewhere_without : (files more : FileSet) (policy : Policy) (locks : Locks) (waits : List Wait) (p : ℕ) (wait : Option Wait) → AllPairs (λ v w. v.p ≢ w.p) waits → wait ≡ wait_of waits p
+pub elsewhere_without : (files more : FileSet) (policy : Policy) (locks : Locks) (waits : List Wait) (p : ℕ) (wait : Option Wait)
+    → AllPairs (λ v w. v.p ≢ w.p) waits → wait ≡ wait_of waits p
     → IfSome wait (λ some. (f : ℕ) → has_file more f ≡ (f == some.file || has_file files f)) → IfNone wait (more ≡ files)
     → AllBlockedElsewhere files policy locks [] waits → AllBlockedElsewhere more policy locks [] (filter (λ w. not (w.p == p)) waits)
 elsewhere_without files more policy locks waits p (Some wait) apart found some none all =

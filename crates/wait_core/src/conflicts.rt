@@ -63,7 +63,8 @@ impl Wait {
     pub(crate) fn blocking_by_lock(&self, books: &[Book]) -> ProcessSet
         requires file { self.now.file < length books.now }
         requires range { IsByteRange self.now.span }
-        ensures { let locks = locks_of books.now in (q : ℕ) → 1 ≤ q → q ≤ PROCESSES → IsTrue (is_member result q) ↔ ProcessBlocks (locks.bytes self.now.file) q self.now.owner self.now.span self.now.mode }
+        ensures { let locks = locks_of books.now in (q : ℕ) → 1 ≤ q → q ≤ PROCESSES
+            → IsTrue (is_member result q) ↔ ProcessBlocks (locks.bytes self.now.file) q self.now.owner self.now.span self.now.mode }
     {
         let blocks = self.blocked_by_processes(books);
         let mut blocking = ProcessSet::empty();
@@ -79,7 +80,8 @@ impl Wait {
     fn blocked_by_processes(&self, books: &[Book]) -> [bool; 256]
         requires file { self.now.file < length books.now }
         requires range { IsByteRange self.now.span }
-        ensures { let locks = locks_of books.now in (q : ℕ) → q < 256 → IsTrue (slice_index_or result q false) ↔ ProcessBlocks (locks.bytes self.now.file) q self.now.owner self.now.span self.now.mode }
+        ensures { let locks = locks_of books.now in (q : ℕ) → q < 256
+            → IsTrue (slice_index_or result q false) ↔ ProcessBlocks (locks.bytes self.now.file) q self.now.owner self.now.span self.now.mode }
     {
         books[usize::from(self.file)].blocking_processes(self.owner, self.span, self.mode)
     }
@@ -88,7 +90,8 @@ impl Wait {
     pub(crate) fn is_blocked_by_process(&self, process: u8, books: &[Book]) -> bool
         requires file { self.now.file < length books.now }
         requires range { IsByteRange self.now.span }
-        ensures { let locks = locks_of books.now in IsTrue result ↔ ProcessBlocks (locks.bytes self.now.file) process self.now.owner self.now.span self.now.mode }
+        ensures { let locks = locks_of books.now in IsTrue result
+            ↔ ProcessBlocks (locks.bytes self.now.file) process self.now.owner self.now.span self.now.mode }
     {
         books[usize::from(self.file)].process_blocks(process, self.owner, self.span, self.mode)
     }

@@ -82,7 +82,8 @@ impl Pairs {
         requires waits { All (IsWellFormed PROCESSES) waits.now }
         requires apart { AllPairs (λ v w. v.p ≢ w.p) waits.now }
         requires books { length books.now ≡ 64 }
-        ensures told { (q : ℕ) → Process q ≡ owner → 1 ≤ q → q ≤ PROCESSES → All (λ wait. IsOn file span wait → TellsPair self.new (locks_of books.now) q wait) waits.now }
+        ensures told { (q : ℕ) → Process q ≡ owner → 1 ≤ q → q ≤ PROCESSES
+            → All (λ wait. IsOn file span wait → TellsPair self.new (locks_of books.now) q wait) waits.now }
         ensures others { (p r : ℕ) → r ≤ PROCESSES → (Process r ≡ owner → All (IsOff p file span) waits.now) → pair_in self.new p r ≡ pair_in self.old p r }
     {
         if let Owner::Process(q) = owner

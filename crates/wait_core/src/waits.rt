@@ -157,7 +157,8 @@ impl Waits {
         ensures policy { policy_of self.new ≡ policy_of self.old }
         ensures processes { processes_of self.new ≡ processes_of self.old }
         ensures told { (locks : Locks) → AreTold self.old locks → AgreeBut file locks (locks_of books.now) → AreTold self.new (locks_of books.now) }
-        ensures blocked { file < FILES → (locks : Locks) → AreBlockedElsewhere self.old locks → AgreeElsewhere file locks (locks_of books.now) → AreBlockedElsewhere self.new (locks_of books.now) }
+        ensures blocked { file < FILES → (locks : Locks) → AreBlockedElsewhere self.old locks → AgreeElsewhere file locks (locks_of books.now)
+            → AreBlockedElsewhere self.new (locks_of books.now) }
     {
         self.pairs.tell_of_file(file, &self.waits, books);
         self.touch(file);
@@ -170,8 +171,10 @@ impl Waits {
         ensures waits { waits_of self.new ≡ waits_of self.old }
         ensures policy { policy_of self.new ≡ policy_of self.old }
         ensures processes { processes_of self.new ≡ processes_of self.old }
-        ensures told { (locks : Locks) → AreTold self.old locks → AgreeButOwner file owner span locks (locks_of books.now) → AreTold self.new (locks_of books.now) }
-        ensures blocked { file < FILES → (locks : Locks) → AreBlockedElsewhere self.old locks → AgreeElsewhere file locks (locks_of books.now) → AreBlockedElsewhere self.new (locks_of books.now) }
+        ensures told { (locks : Locks) → AreTold self.old locks → AgreeButOwner file owner span locks (locks_of books.now)
+            → AreTold self.new (locks_of books.now) }
+        ensures blocked { file < FILES → (locks : Locks) → AreBlockedElsewhere self.old locks → AgreeElsewhere file locks (locks_of books.now)
+            → AreBlockedElsewhere self.new (locks_of books.now) }
     {
         self.pairs
             .tell_of_owner(file, owner, span, &self.waits, books);
@@ -238,7 +241,8 @@ impl Waits {
 
     /// The processes whose waits are on changed files, but for those that are told to wait for a process by a lock.
     fn unsure(&self) -> ProcessSet
-        ensures { All (λ wait. IsFalse (is_member result wait.p) → IsFalse (has_file (changed_files self.now) wait.file) ⊎ IsTold self.now wait.p) (waits_of self.now) }
+        ensures { All (λ wait. IsFalse (is_member result wait.p)
+            → IsFalse (has_file (changed_files self.now) wait.file) ⊎ IsTold self.now wait.p) (waits_of self.now) }
     {
         let mut unsure = ProcessSet::empty();
         for wait in &self.waits {
@@ -329,7 +333,8 @@ impl Waits {
         requires place { i < length (waits_of self.now) }
         requires books { length books.now ≡ 64 }
         requires others { ∥ AllBlockedBut unsure (policy_of self.now) (locks_of books.now) [] (waits_of self.now) ∥₁ }
-        ensures { (wait : Wait) → slice_get (waits_of self.now) i ≡ Some wait → IsTrue result ↔ IsBlocked (policy_of self.now) (locks_of books.now) (take i (waits_of self.now)) wait }
+        ensures { (wait : Wait) → slice_get (waits_of self.now) i ≡ Some wait
+            → IsTrue result ↔ IsBlocked (policy_of self.now) (locks_of books.now) (take i (waits_of self.now)) wait }
     {
         // A law, and nothing to run.
         conflicts_are_decided();
@@ -340,7 +345,8 @@ impl Waits {
     fn is_blocked(&self, i: usize, books: &[Book]) -> bool
         requires place { i < length (waits_of self.now) }
         requires books { length books.now ≡ 64 }
-        ensures { (wait : Wait) → slice_get (waits_of self.now) i ≡ Some wait → IsTrue result ↔ IsBlocked (policy_of self.now) (locks_of books.now) (take i (waits_of self.now)) wait }
+        ensures { (wait : Wait) → slice_get (waits_of self.now) i ≡ Some wait
+            → IsTrue result ↔ IsBlocked (policy_of self.now) (locks_of books.now) (take i (waits_of self.now)) wait }
     {
         let wait = &self.waits[i];
         self.policy == Policy::Queue && self.is_behind(i) || wait.is_blocked_by_lock(books)

@@ -43,7 +43,8 @@ impl Book {
     /// gone through once. It takes no memory.
     pub fn blocking_processes(&self, owner: Owner, span: Span, mode: Mode) -> [bool; 256]
         requires { IsByteRange span }
-        ensures { (process : ℕ) → process < 256 → IsTrue (slice_index_or result process false) ↔ ProcessBlocks (byte_modes_of self.now) process owner span mode }
+        ensures { (process : ℕ) → process < 256
+            → IsTrue (slice_index_or result process false) ↔ ProcessBlocks (byte_modes_of self.now) process owner span mode }
     {
         let mut blocking = [false; 256];
         for (other, list) in &self.owners {

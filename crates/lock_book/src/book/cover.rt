@@ -130,7 +130,8 @@ impl Cover {
 fn raise_in(list: &mut RangeList, span: Span, mode: Mode) -> bool
     requires { IsByteRange span }
     ensures kept { IsTrue result → (byte : ℕ) (wanted : Mode) → HeldConflicts (modes_of list.old byte) wanted → HeldConflicts (modes_of list.new byte) wanted }
-    ensures raised { IsTrue result → (byte : ℕ) (wanted : Mode) → Covers span byte → HeldConflicts (Some mode) wanted → HeldConflicts (modes_of list.new byte) wanted }
+    ensures raised { IsTrue result → (byte : ℕ) (wanted : Mode) → Covers span byte → HeldConflicts (Some mode) wanted
+        → HeldConflicts (modes_of list.new byte) wanted }
 {
     if list.room() == 0 {
         return false;

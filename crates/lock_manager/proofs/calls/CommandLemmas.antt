@@ -35,7 +35,8 @@ use Rattle.lock_manager.specs.MachineView.{Shows, Tells, machine_rules, machine_
 use Rattle.lock_manager.proofs.calls.ReportLemmas.{same_locks}
 
 -- what the book of the file tells
-pub tells_at : (books : List Book) (file : ℕ) (book : Book) (owner : Owner) (span : Span) (mode : Mode) (told : Reply → Type 0) → slice_get books file ≡ Some book
+pub tells_at : (books : List Book) (file : ℕ) (book : Book) (owner : Owner) (span : Span) (mode : Mode) (told : Reply → Type 0)
+    → slice_get books file ≡ Some book
     → GetTells (byte_modes_of book) owner span mode told → GetTells ((locks_of books).bytes file) owner span mode told
 tells_at books file book owner span mode told was h =
     subst (λ e. GetTells (byte_modes_at e) owner span mode told) (sym was) h
@@ -65,7 +66,8 @@ asks : (rules : Rules) (S : State) (cmd : LkCmd) (p n : ℕ) (look : Look) (span
 asks rules S cmd p n look span mode outcome h h2 = grind (arith, common_steps)
 
 -- a kind that has a mode
-on_mode : (rules : Rules) (S : State) (cmd : LkCmd) (p n : ℕ) (kind : Kind) (look : Look) (span : Span) (mode : Mode) (outcome : Outcome) → Some mode ≡ wanted_mode kind
+on_mode : (rules : Rules) (S : State) (cmd : LkCmd) (p n : ℕ) (kind : Kind) (look : Look) (span : Span) (mode : Mode) (outcome : Outcome)
+    → Some mode ≡ wanted_mode kind
     → ModeComesTo rules S p n cmd look span mode outcome → RangeComesTo rules S p n cmd kind look span outcome
 on_mode rules S cmd p n kind look span mode outcome wanted h = grind (arith, common_steps)
 

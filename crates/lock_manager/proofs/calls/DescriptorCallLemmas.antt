@@ -47,7 +47,8 @@ IsServedBy Gives after reply old p request =
     (S : State) (n : ℕ) (outcome : Outcome) → ComesBy Gives after reply S p n outcome → ComesTo (machine_rules old) (machine_processes old) S p n request outcome
 
 -- a call that succeeds
-pub done_by : {X : Type 0} (Gives : Giving X) (after : State → Descriptors → X → State) (reply : X → Reply) (old new : Machine) (p : ℕ) (request : Request) (x : X)
+pub done_by : {X : Type 0} (Gives : Giving X) (after : State → Descriptors → X → State) (reply : X
+    → Reply) (old new : Machine) (p : ℕ) (request : Request) (x : X)
     → IsServedBy Gives after reply old p request
     → ((S : State) (E : Descriptors) → Shows old S → Gives S.descriptors (Ok x) E → StandFor new.tables E → Shows new (after S E x))
     → Gave Gives old.tables new.tables (Ok x) → Answers old new p request (reply x)
@@ -62,7 +63,8 @@ not_memory : (X : Type 0) (S : State) (p n : ℕ) (fault : FdFault) (outcome : O
 not_memory X S p n fault outcome refusal memory e = grind (arith, common_steps)
 
 -- a call that is refused, or that lacks memory
-pub refused_by : {X : Type 0} (Gives : Giving X) (after : State → Descriptors → X → State) (reply : X → Reply) (old new : Machine) (p : ℕ) (request : Request) (fault : FdFault) (result : Result Reply Memory)
+pub refused_by : {X : Type 0} (Gives : Giving X) (after : State → Descriptors → X → State) (reply : X
+    → Reply) (old new : Machine) (p : ℕ) (request : Request) (fault : FdFault) (result : Result Reply Memory)
     → IsServedBy Gives after reply old p request
     → new.books ≡ old.books → new.states ≡ old.states → waits_of new.waits ≡ waits_of old.waits
     → (HadMemory (fault_of X fault) → Gave Gives old.tables new.tables (Err fault))
@@ -85,7 +87,8 @@ with_descriptors S E x = record S { descriptors = E }
 abbrev pub Opens : Machine → ℕ → ℕ → Access → Giving ℕ
 Opens old p file access D result E = OpenGives (limits_of old.tables) D p file access result E
 
-pub served_by_open : (old : Machine) (p file : ℕ) (access : Access) → IsServedBy (Opens old p file access) with_descriptors replies.Fd old p (OpenFile file access)
+pub served_by_open : (old : Machine) (p file : ℕ) (access : Access)
+    → IsServedBy (Opens old p file access) with_descriptors replies.Fd old p (OpenFile file access)
 unfolding machine_rules
 served_by_open old p file access S n outcome h =
     (h.0, h.1, subst (λ limits. OpenGives limits S.descriptors p file access h.0 h.1) old.limited h.2, h.3)

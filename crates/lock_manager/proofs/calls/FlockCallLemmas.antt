@@ -52,11 +52,13 @@ found_asks test (first ∷ rest) p wait found passes = at (first.p == p) found (
     at false e later = or_true (test first) (list_any test rest) (later e)
 
 -- a wait for a flock lock is one for that of its description on its file
-pub is_its_own_flock : (wait : Wait) (description : ℕ) → wait.family ≡ Whole → wait.owner ≡ Description description → is_flock_wait wait.file description wait ≡ true
+pub is_its_own_flock : (wait : Wait) (description : ℕ) → wait.family ≡ Whole → wait.owner ≡ Description description
+    → is_flock_wait wait.file description wait ≡ true
 is_its_own_flock wait description family owner = grind (arith, common_steps, eq-eqb)
 
 -- a machine that shows the state without the wait and with its flock lock shows what is granted
-pub shows_granted_flock : (machine : Machine) (S : State) (before : List Wait) (wait : Wait) (after : List Wait) (description : ℕ) → wait.family ≡ Whole → wait.owner ≡ Description description
+pub shows_granted_flock : (machine : Machine) (S : State) (before : List Wait) (wait : Wait) (after : List Wait) (description : ℕ)
+    → wait.family ≡ Whole → wait.owner ≡ Description description
     → AreApart S.waits → S.waits ≡ before ++ wait ∷ after
     → Shows machine (with_flock_mode (with_process (without_wait S wait.p) wait.p Live) wait.file description (Some wait.mode))
     → Shows machine (granted S before wait after)
@@ -146,7 +148,8 @@ pub flock_tested : (old middle new : Machine) (nb : Bool) (look : Look) (wanted 
     → ((S : State) → Shows old S → Shows middle S) → machine_rules middle ≡ machine_rules old
     → TestTells middle new nb wanted note → told ≡ note ∷ []
     → (S : State) → Shows old S
-    → (T : State) × FlockModeComesTo (machine_rules old) S look nb wanted (flock_mode_in S.flock_changes look.file look.desc) (record { told = told; after = T }) × Shows new T
+    → (T : State) × FlockModeComesTo (machine_rules old) S look nb wanted (flock_mode_in S.flock_changes look.file look.desc)
+    (record { told = told; after = T }) × Shows new T
 flock_tested old middle new nb look wanted note book mode told was is none same rules tests told_is S h =
     let tested = tests [] S (same S h) in (
       tested.0,
@@ -162,7 +165,8 @@ pub flock_held : (machine : Machine) (nb : Bool) (look : Look) (wanted : Wait) (
     → slice_get machine.books.items look.file ≡ Some book → mode ≡ flock_modes_of book look.desc → mode ≡ Some held → held ≡ wanted.mode
     → told ≡ Answer wanted.p wanted.n replies.Ok ∷ []
     → (S : State) → Shows machine S
-    → (T : State) × FlockModeComesTo (machine_rules machine) S look nb wanted (flock_mode_in S.flock_changes look.file look.desc) (record { told = told; after = T }) × Shows machine T
+    → (T : State) × FlockModeComesTo (machine_rules machine) S look nb wanted (flock_mode_in S.flock_changes look.file look.desc)
+    (record { told = told; after = T }) × Shows machine T
 flock_held machine nb look wanted book mode held told was is some same told_is S h = grind (arith, common_steps, flock_in_state)
 
 -- another mode is converted
@@ -170,7 +174,8 @@ pub flock_converted : (old new : Machine) (nb : Bool) (look : Look) (wanted : Wa
     → slice_get old.books.items look.file ≡ Some book → mode ≡ flock_modes_of book look.desc → mode ≡ Some held → held ≢ wanted.mode
     → ((S : State) → Shows old S → (T : State) × ConversionComesTo (machine_rules old) S look nb wanted (record { told = told; after = T }) × Shows new T)
     → (S : State) → Shows old S
-    → (T : State) × FlockModeComesTo (machine_rules old) S look nb wanted (flock_mode_in S.flock_changes look.file look.desc) (record { told = told; after = T }) × Shows new T
+    → (T : State) × FlockModeComesTo (machine_rules old) S look nb wanted (flock_mode_in S.flock_changes look.file look.desc)
+    (record { told = told; after = T }) × Shows new T
 flock_converted old new nb look wanted book mode held told was is some other converts S h = search (rules, flock_in_state)
 
 -- a description with a mode has a place

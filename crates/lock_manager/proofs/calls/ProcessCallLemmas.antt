@@ -129,7 +129,8 @@ pub room_without : (books : List Book) (waits : List Wait) (p : ℕ) → HaveRoo
 room_without books waits p h = grind (arith, common_steps, counted_without, found_without)
 
 -- those are of descriptions that their processes have open
-pub owned_without : (tables : Tables) (locks : Locks) (waits : List Wait) (p : ℕ) → AreOwned tables locks waits → AreOwned tables locks (without_wait_of waits p)
+pub owned_without : (tables : Tables) (locks : Locks) (waits : List Wait) (p : ℕ) → AreOwned tables locks waits
+    → AreOwned tables locks (without_wait_of waits p)
 owned_without tables locks waits p owned =
     ∥∥₁_map owned (λ given. (
       given.0,

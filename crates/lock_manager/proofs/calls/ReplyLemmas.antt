@@ -9,8 +9,10 @@ use Rattle.lock_manager.specs.MachineView.{SameMachine, Answers, Tells, machine_
 use Rattle.lock_manager.specs.Replies.{IsReplied}
 
 -- a reply is told by its note
-pub told_by : (old new : Machine) (p n : ℕ) (request asked : Request) (reply : Result Reply Memory) (result : Result (Unit {0}) Memory) (before after : List Note)
-    → IsReplied p n reply result before after → before ≡ [] → request ≡ asked → IfOk reply (Answers old new p asked) → OnOk result (Tells old new p n request after)
+pub told_by : (old new : Machine) (p n : ℕ) (request asked : Request) (reply : Result Reply Memory) (result : Result (Unit {0}) Memory)
+    (before after : List Note)
+    → IsReplied p n reply result before after → before ≡ [] → request ≡ asked → IfOk reply (Answers old new p asked)
+    → OnOk result (Tells old new p n request after)
 told_by old new p n request asked (Ok reply) result before after is none same answers = rw (is.0, is.1, none, same) (answers n)
 told_by old new p n request asked (Err memory) result before after is none same answers = rw is tt
 

@@ -37,10 +37,12 @@ pub at_state : (m : Machine) (S : State) (P : Locks → List Wait → Type 0) �
 at_state m S P h given = subst (P (locks_held S)) h.waits (subst (λ locks. P locks (machine_waits m)) (same_locks m S h) given)
 
 -- a wait is blocked by a held lock, or in the queue
-pub is_blocked : (policy : Policy) (locks : Locks) (waits : List Wait) (wanted : Wait) → IsBlockedByLock locks wanted ⊎ IsQueued policy waits wanted → IsBlocked policy locks waits wanted
+pub is_blocked : (policy : Policy) (locks : Locks) (waits : List Wait) (wanted : Wait) → IsBlockedByLock locks wanted ⊎ IsQueued policy waits wanted
+    → IsBlocked policy locks waits wanted
 is_blocked policy locks waits wanted h = grind (arith, common_steps)
 
-pub not_blocked : (policy : Policy) (locks : Locks) (waits : List Wait) (wanted : Wait) → ¬ IsBlockedByLock locks wanted → ¬ IsQueued policy waits wanted → ¬ IsBlocked policy locks waits wanted
+pub not_blocked : (policy : Policy) (locks : Locks) (waits : List Wait) (wanted : Wait) → ¬ IsBlockedByLock locks wanted
+    → ¬ IsQueued policy waits wanted → ¬ IsBlocked policy locks waits wanted
 not_blocked policy locks waits wanted h h2 h3 = grind (arith, common_steps)
 
 -- the command finds its way blocked: where it would wait, as a wait is
@@ -60,7 +62,8 @@ comes_free rules S OSetLkW wanted outcome set free done =
     inr (not_blocked rules.policy (locks_held S) S.waits wanted (λ h. free (inl h)) (λ h. free (inr (refl, h))), done)
 
 -- what blocks a command that would wait would block the wait
-blocks_wait : (rules : Rules) (cmd : LkCmd) (wanted : Wait) (locks : Locks) (waits : List Wait) → IsCommandBlocked rules cmd wanted locks waits → IsBlocked rules.policy locks waits wanted
+blocks_wait : (rules : Rules) (cmd : LkCmd) (wanted : Wait) (locks : Locks) (waits : List Wait) → IsCommandBlocked rules cmd wanted locks waits
+    → IsBlocked rules.policy locks waits wanted
 blocks_wait rules cmd wanted locks waits (inl h) = is_blocked rules.policy locks waits wanted (inl h)
 blocks_wait rules cmd wanted locks waits (inr h) = is_blocked rules.policy locks waits wanted (inr h.1)
 
@@ -77,7 +80,8 @@ comes_waiting : (rules : Rules) (S : State) (cmd : LkCmd) (wanted : Wait) → is
 comes_waiting rules S cmd wanted h h2 h3 h4 = grind (arith, common_steps, blocks_wait)
 
 -- a lock that was set
-pub locked : (old new : Machine) (cmd : LkCmd) (wanted : Wait) (note : Note) → is_get cmd ≡ false → wanted.family ≡ Bytes → note ≡ Answer wanted.p wanted.n replies.Ok
+pub locked : (old new : Machine) (cmd : LkCmd) (wanted : Wait) (note : Note) → is_get cmd ≡ false → wanted.family ≡ Bytes
+    → note ≡ Answer wanted.p wanted.n replies.Ok
     → ¬ IsCommandBlocked (machine_rules old) cmd wanted (machine_locks old) (machine_waits old)
     → ((S : State) → Shows old S → Shows new (with_byte_mode S wanted.file wanted.owner wanted.span (Some wanted.mode))) → CommandTells old new cmd wanted note
 locked old new cmd wanted note set family note_is free stands S h =
@@ -90,7 +94,8 @@ locked old new cmd wanted note set family note_is free stands S h =
     )
 
 -- a command that was refused because of a cycle
-pub deadlocked : (old : Machine) (cmd : LkCmd) (wanted : Wait) (note : Note) → is_get cmd ≡ false → may_wait cmd ≡ true → note ≡ Answer wanted.p wanted.n (replies.Err EDEADLK)
+pub deadlocked : (old : Machine) (cmd : LkCmd) (wanted : Wait) (note : Note) → is_get cmd ≡ false → may_wait cmd ≡ true
+    → note ≡ Answer wanted.p wanted.n (replies.Err EDEADLK)
     → IsCommandBlocked (machine_rules old) cmd wanted (machine_locks old) (machine_waits old)
     → IsFalse (is_ofd cmd) × ClosesCycle (machine_rules old).policy (machine_locks old) (machine_waits old) wanted → CommandTells old old cmd wanted note
 deadlocked old cmd wanted note set waits note_is blocked cycle S h = (

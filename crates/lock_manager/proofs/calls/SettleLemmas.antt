@@ -74,7 +74,8 @@ settled_here old new grants rules blocked leads S h =
     (T, subst (λ notes. Settles (machine_rules old).policy S notes T) (append-nil grants) (given.2 [] T (all, refl)), given.1)
 
 -- what is kept stays where each wait is blocked, and no file counts as changed any more
-pub kept_at_rest : (m : Machine) (waits : Waits) → waits_of waits ≡ waits_of m.waits → (AreTold m.waits (locks_of m.books.items) → AreTold waits (locks_of m.books.items))
+pub kept_at_rest : (m : Machine) (waits : Waits) → waits_of waits ≡ waits_of m.waits
+    → (AreTold m.waits (locks_of m.books.items) → AreTold waits (locks_of m.books.items))
     → AreBlockedElsewhere waits (locks_of m.books.items) → AreKept m.rules.policy m.tables m.books.items waits
 kept_at_rest m waits same told blocked =
     let locks = locks_of m.books.items in

@@ -47,16 +47,19 @@ none_left true mode none = refl
 none_left false mode none = none
 
 -- without some locks the others conflict no more than before
-pub compatible_released : (old new : Locks) (p : ℕ) (files descriptions : List ℕ) → ReleasesLocks old new p files descriptions → AreCompatible old → AreCompatible new
+pub compatible_released : (old new : Locks) (p : ℕ) (files descriptions : List ℕ) → ReleasesLocks old new p files descriptions → AreCompatible old
+    → AreCompatible new
 compatible_released old new p files descriptions releases before = grind (arith, common_steps, left)
 
 -- nor are any past the largest offset
-pub within_released : (old new : Locks) (p : ℕ) (files descriptions : List ℕ) → ReleasesLocks old new p files descriptions → AreWithinFiles old → AreWithinFiles new
+pub within_released : (old new : Locks) (p : ℕ) (files descriptions : List ℕ) → ReleasesLocks old new p files descriptions → AreWithinFiles old
+    → AreWithinFiles new
 within_released old new p files descriptions releases within f o byte past =
     releases.bytes f o byte ∙ none_left (is_one_of files f && is_released p descriptions o) (old.bytes f o byte) (within f o byte past)
 
 -- a description that isn't open on the file any more has lost its locks there, or had none
-lost : (D E : Descriptors) (p : ℕ) (released : Released) (f d : ℕ) (mode : Option Mode) → Closing D E p released → (¬ IsOpenOn D f d → mode ≡ None) → ¬ IsOpenOn E f d
+lost : (D E : Descriptors) (p : ℕ) (released : Released) (f d : ℕ) (mode : Option Mode) → Closing D E p released → (¬ IsOpenOn D f d → mode ≡ None)
+    → ¬ IsOpenOn E f d
     → (if is_one_of released.files f && is_one_of released.descriptions d then None else mode) ≡ None
 lost D E p released f d mode closing before closed = at (is_one_of released.files f && is_one_of released.descriptions d) refl
   where
@@ -92,9 +95,11 @@ owned_released old new was is waits p released call releases others owned =
     ))
 
 -- after the release, and with these process states, the machine stands for the state with what was released and those
-with_release_and_states : (old new : Machine) (S : State) (E : Descriptors) (p : ℕ) (released : Released) (states : ℕ → ProcState) → Closing S.descriptors E p released
+with_release_and_states : (old new : Machine) (S : State) (E : Descriptors) (p : ℕ) (released : Released) (states : ℕ → ProcState)
+    → Closing S.descriptors E p released
     → ReleasesLocks (locks_of old.books.items) (locks_of new.books.items) p released.files released.descriptions
-    → ((q : ℕ) → machine_state new q ≡ states q) → waits_of new.waits ≡ waits_of old.waits → Shows old S → StandFor new.tables E → Shows new (record (with_released S E p released) { states = states })
+    → ((q : ℕ) → machine_state new q ≡ states q) → waits_of new.waits ≡ waits_of old.waits → Shows old S → StandFor new.tables E
+    → Shows new (record (with_released S E p released) { states = states })
 unfolding machine_locks machine_waits
 with_release_and_states old new S E p released states closing releases at waits h tables =
     let owned = owned_in old.tables (locks_of old.books.items) (waits_of old.waits) S.descriptors old.kept.owned h.descriptors in
@@ -164,13 +169,15 @@ ended old new p released call releases states waits others told S h =
     )
 
 -- whoever lives or waits after another one's end does so as before
-pub standing_ended : (old new : Tables) (states states' : List ProcState) (before after : List Wait) (p : ℕ) → StandsSo states states' p Ended → state_numbered states p ≡ Live
+pub standing_ended : (old new : Tables) (states states' : List ProcState) (before after : List Wait) (p : ℕ) → StandsSo states states' p Ended
+    → state_numbered states p ≡ Live
     → ((q : ℕ) → ever_alive new q ≡ ever_alive old q) → after ≡ before → AreStanding old states before → AreStanding new states' after
 standing_ended old new states states' before after p set live alive same h =
     grind (arith, common_steps, lived_before, suspended_after, waiting_still, waited_before)
 
 -- and after another one's birth, that was never alive
 pub standing_forked : (old new : Tables) (states states' : List ProcState) (waits : List Wait) (child : ℕ) → StandsSo states states' child Live
-    → ((q : ℕ) → ever_alive new q ≡ ((q == child) || ever_alive old q)) → ¬ (ever_alive old child ≡ true) → AreStanding old states waits → AreStanding new states' waits
+    → ((q : ℕ) → ever_alive new q ≡ ((q == child) || ever_alive old q)) → ¬ (ever_alive old child ≡ true) → AreStanding old states waits
+    → AreStanding new states' waits
 standing_forked old new states states' waits child set more never h =
     grind (arith, common_steps, alive_with, suspended_after, alive_still, waiting_still, waited_before)

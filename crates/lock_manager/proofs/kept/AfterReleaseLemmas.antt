@@ -24,11 +24,13 @@ use Rattle.lock_manager.proofs.kept.ClosingLemmas.{Closing, one_of, is_member, f
 use Rattle.lock_manager.proofs.kept.SafetyLemmas.{both}
 
 -- changes made one list after the other
-mode_from-append : (before : Option Mode) (xs ys : List Change) (f : ℕ) (o : Owner) (byte : ℕ) → mode_from before (xs ++ ys) f o byte ≡ mode_from (mode_from before xs f o byte) ys f o byte
+mode_from-append : (before : Option Mode) (xs ys : List Change) (f : ℕ) (o : Owner) (byte : ℕ)
+    → mode_from before (xs ++ ys) f o byte ≡ mode_from (mode_from before xs f o byte) ys f o byte
 mode_from-append before [] ys f o byte = refl
 mode_from-append before (x ∷ xs) ys f o byte = mode_from-append (if sets_byte x f o byte then x.mode else before) xs ys f o byte
 
-flock_mode_from-append : (before : Option Mode) (xs ys : List FlockChange) (f d : ℕ) → flock_mode_from before (xs ++ ys) f d ≡ flock_mode_from (flock_mode_from before xs f d) ys f d
+flock_mode_from-append : (before : Option Mode) (xs ys : List FlockChange) (f d : ℕ)
+    → flock_mode_from before (xs ++ ys) f d ≡ flock_mode_from (flock_mode_from before xs f d) ys f d
 flock_mode_from-append before [] ys f d = refl
 flock_mode_from-append before (x ∷ xs) ys f d =
     flock_mode_from-append (if (x.file == f) && (x.description == d) then x.mode else before) xs ys f d
@@ -55,7 +57,8 @@ removes_on opened descriptions f o = list_any (λ e. is_of_file (description_num
 
 -- what the changes for the files of the process leave
 process_modes : (p : ℕ) (files : List ℕ) (before : Option Mode) (f : ℕ) (o : Owner) (byte : ℕ)
-    → mode_from before (process_releases p files) f o byte ≡ (if is_one_of files f && is_same_owner (Process p) o && is_covered whole_file byte then None else before)
+    → mode_from before (process_releases p files) f o byte
+    ≡ (if is_one_of files f && is_same_owner (Process p) o && is_covered whole_file byte then None else before)
 process_modes p [] before f o byte = refl
 process_modes p (file ∷ files) before f o byte =
     let same = is_same_owner (Process p) o in
@@ -74,7 +77,8 @@ one_description x e rest removed before f o byte h = grind (arith, common_steps,
 
 -- what the changes for the descriptions leave
 description_modes : (opened : List OpenFileDescription) (descriptions : List ℕ) (before : Option Mode) (f : ℕ) (o : Owner) (byte : ℕ)
-    → mode_from before (description_releases opened descriptions) f o byte ≡ (if removes_on opened descriptions f o && is_covered whole_file byte then None else before)
+    → mode_from before (description_releases opened descriptions) f o byte
+    ≡ (if removes_on opened descriptions f o && is_covered whole_file byte then None else before)
 description_modes opened [] before f o byte = refl
 description_modes opened (e ∷ es) before f o byte =
     one_description (description_numbered opened e) e (description_releases opened es) (removes_on opened es f o) before f o byte
@@ -105,11 +109,13 @@ removes_no_process opened (e ∷ es) f q =
     never false = refl
 
 -- past the largest offset, where there is nothing, it doesn't matter what is removed
-whole_or_not : (whole removed : Bool) (mode : Option Mode) → (whole ≡ false → mode ≡ None) → (if removed then None else mode) ≡ (if removed && whole then None else mode)
+whole_or_not : (whole removed : Bool) (mode : Option Mode) → (whole ≡ false → mode ≡ None)
+    → (if removed then None else mode) ≡ (if removed && whole then None else mode)
 whole_or_not whole removed mode h = grind (arith, common_steps)
 
 -- two removals agree where the one that removes more removes only what isn't there
-agree : (more less : Bool) (mode : Option Mode) → (more ≡ true → less ≡ false → mode ≡ None) → (less ≡ true → more ≡ true) → (if more then None else mode) ≡ (if less then None else mode)
+agree : (more less : Bool) (mode : Option Mode) → (more ≡ true → less ≡ false → mode ≡ None) → (less ≡ true → more ≡ true)
+    → (if more then None else mode) ≡ (if less then None else mode)
 agree more less mode h h2 = grind (arith, common_steps)
 
 of_file : (x : Option OpenFileDescription) (f : ℕ) → option_map (λ opened. opened.file) x ≡ Some f → is_of_file x f ≡ true
@@ -126,7 +132,8 @@ removed_there : (D E : Descriptors) (p : ℕ) (released : Released) (f d : ℕ) 
 removed_there D E p released f d closing is told = grind (arith, common_steps, is_member, of_file, list_any_at, eq-eqb)
 
 -- and where they are removed, both it and its file are released
-only_there : (D E : Descriptors) (p : ℕ) (released : Released) (f d : ℕ) → Closing D E p released → removes_on E.descriptions released.descriptions f (Description d) ≡ true
+only_there : (D E : Descriptors) (p : ℕ) (released : Released) (f d : ℕ) → Closing D E p released
+    → removes_on E.descriptions released.descriptions f (Description d) ≡ true
     → (is_one_of released.files f && is_one_of released.descriptions d) ≡ true
 only_there D E p released f d closing removed =
     let any = Any-from_list_any (λ e. is_of_file (description_numbered E.descriptions e) f && (e == d)) released.descriptions removed in
@@ -149,7 +156,8 @@ outside_file byte outside = grind (arith, common_steps, cases_lt, le-leb)
 -- the byte locks after the release are those of the state
 pub bytes_after : (old new : Locks) (S : State) (E : Descriptors) (p : ℕ) (released : Released)
     → ((f : ℕ) (o : Owner) (byte : ℕ) → old.bytes f o byte ≡ mode_in S.changes f o byte)
-    → AreOfOpenDescriptions S.descriptors old → AreWithinFiles old → Closing S.descriptors E p released → ReleasesLocks old new p released.files released.descriptions
+    → AreOfOpenDescriptions S.descriptors old → AreWithinFiles old → Closing S.descriptors E p released
+    → ReleasesLocks old new p released.files released.descriptions
     → (f : ℕ) (o : Owner) (byte : ℕ) → new.bytes f o byte ≡ mode_in (with_released S E p released).changes f o byte
 bytes_after old new S E p released shown owned within closing releases f o byte =
     releases.bytes f o byte
@@ -162,7 +170,8 @@ bytes_after old new S E p released shown owned within closing releases f o byte 
     past : (o : Owner) → is_covered whole_file byte ≡ false → old.bytes f o byte ≡ None
     past o outside = within f o byte (outside_file byte outside)
 
-    spare : (d : ℕ) → (is_one_of released.files f && is_one_of released.descriptions d) ≡ true → removes_on E.descriptions released.descriptions f (Description d) ≡ false
+    spare : (d : ℕ) → (is_one_of released.files f && is_one_of released.descriptions d) ≡ true
+        → removes_on E.descriptions released.descriptions f (Description d) ≡ false
         → old.bytes f (Description d) byte ≡ None
     spare d told kept = owned.bytes f d
         (λ is. let removed = removed_there S.descriptors E p released f d closing is (both (is_one_of released.files f) (is_one_of released.descriptions d) told).1 in cc)

@@ -36,7 +36,8 @@ slice_get-set_other xs i j x other = elim (cases_lt j (length xs)) [
 
 -- one more change counts where it is of this owner on this byte
 pub mode_from-push : (before : Option Mode) (changes : List Change) (change : Change) (file : ℕ) (owner : Owner) (byte : ℕ)
-    → mode_from before (changes ++ change ∷ []) file owner byte ≡ (if sets_byte change file owner byte then change.mode else mode_from before changes file owner byte)
+    → mode_from before (changes ++ change ∷ []) file owner byte
+    ≡ (if sets_byte change file owner byte then change.mode else mode_from before changes file owner byte)
 mode_from-push before [] change file owner byte = refl
 mode_from-push before (first ∷ changes) change file owner byte =
     mode_from-push (if sets_byte first file owner byte then first.mode else before) changes change file owner byte
@@ -48,7 +49,8 @@ slice_get-set xs i j x within = grind (arith, common_steps, eqb_tells, slice_get
 -- the modes of one owner on one byte of a book that was changed, or of another one
 bytes_at : (is_it : Bool) (entry : Option Book) (old new : Book) (owner : Owner) (span : Span) (mode : Option Mode) (o : Owner) (byte : ℕ)
     → (is_it ≡ true → entry ≡ Some old) → SetsOwnerMode old new owner span mode
-    → byte_modes_at (if is_it then Some new else entry) o byte ≡ (if is_it && is_same_owner owner o && is_covered span byte then mode else byte_modes_at entry o byte)
+    → byte_modes_at (if is_it then Some new else entry) o byte
+    ≡ (if is_it && is_same_owner owner o && is_covered span byte then mode else byte_modes_at entry o byte)
 bytes_at is_it entry old new owner span mode o byte h h2 = grind (arith, common_steps)
 
 -- the flock mode of one description in a book that was changed, or in another one
@@ -75,7 +77,8 @@ pub set_flocks : (books : List Book) (file : ℕ) (old new : Book)
 set_flocks books file old new within was same f d = grind (arith, common_steps, slice_get-set, flocks_at, entry_is)
 
 -- nor do the byte modes change where the owners have the same in the two books
-same_at : (is_it : Bool) (entry : Option Book) (old new : Book) (o : Owner) (byte : ℕ) → (is_it ≡ true → entry ≡ Some old) → byte_modes_of new o byte ≡ byte_modes_of old o byte
+same_at : (is_it : Bool) (entry : Option Book) (old new : Book) (o : Owner) (byte : ℕ) → (is_it ≡ true → entry ≡ Some old)
+    → byte_modes_of new o byte ≡ byte_modes_of old o byte
     → byte_modes_at (if is_it then Some new else entry) o byte ≡ byte_modes_at entry o byte
 same_at true entry old new o byte was same = same ∙ ap (λ e. byte_modes_at e o byte) (sym (was refl))
 same_at false entry old new o byte was same = refl
@@ -100,7 +103,8 @@ changed locks file owner span mode f o byte =
     if (file == f) && is_same_owner owner o && is_covered span byte then mode else locks.bytes f o byte
 
 -- what holds of the locks after the change, and where they stay, holds after one book's set, refused or not
-pub after_set : (P : Locks → Type 0) (books : List Book) (file : ℕ) (old new : Book) (owner : Owner) (span : Span) (mode : Option Mode) (result : Result (Unit {0}) Memory)
+pub after_set : (P : Locks
+    → Type 0) (books : List Book) (file : ℕ) (old new : Book) (owner : Owner) (span : Span) (mode : Option Mode) (result : Result (Unit {0}) Memory)
     → file < length books → slice_get books file ≡ Some old
     → OnOk result (SetsOwnerMode old new owner span mode) → OnErr result (SameBook old new)
     → (((f : ℕ) (o : Owner) (byte : ℕ) → (locks_of (slice_set books file new)).bytes f o byte ≡ changed (locks_of books) file owner span mode f o byte)

@@ -42,7 +42,8 @@ use Rattle.wait_core.specs.declared.Family.{Family}
 use Rattle.wait_core.specs.declared.Family.TheVariants.{Bytes, Whole}
 
 -- the flock locks of a book that was changed, or of another one
-flocks_at : (is_it : Bool) (entry : Option Book) (old new : Book) (description : ℕ) (mode : Option Mode) (d : ℕ) → (is_it ≡ true → entry ≡ Some old) → SetsFlock old new description mode
+flocks_at : (is_it : Bool) (entry : Option Book) (old new : Book) (description : ℕ) (mode : Option Mode) (d : ℕ) → (is_it ≡ true → entry ≡ Some old)
+    → SetsFlock old new description mode
     → flock_modes_at (if is_it then Some new else entry) d ≡ (if is_it && (description == d) then mode else flock_modes_at entry d)
 flocks_at true entry old new description mode d was sets = sets.flocks d ∙ ap (λ e. if description == d then mode else flock_modes_at e d) (sym (was refl))
 flocks_at false entry old new description mode d was sets = refl
@@ -105,7 +106,8 @@ compatible_flock : (old new : Locks) (file description : ℕ) (mode : Option Mod
 compatible_flock old new file description mode before free bytes flocks = grind (arith, common_steps, no_conflict)
 
 -- the description that has it is open
-owned_flock : (tables : Tables) (waits : List Wait) (old new : Locks) (file description : ℕ) (mode : Option Mode) → MayLock tables file (Description description)
+owned_flock : (tables : Tables) (waits : List Wait) (old new : Locks) (file description : ℕ) (mode : Option Mode)
+    → MayLock tables file (Description description)
     → ((f : ℕ) (o : Owner) (byte : ℕ) → new.bytes f o byte ≡ old.bytes f o byte)
     → ((f d : ℕ) → new.flocks f d ≡ (if (file == f) && (description == d) then mode else old.flocks f d))
     → AreOwned tables old waits → AreOwned tables new waits
@@ -131,7 +133,8 @@ pub flock_place_kept : (old new : Book) (description : ℕ) (mode : Option Mode)
 flock_place_kept old new description mode sets d there = sets.places d ∙ or_right _ (has_flock_place old d) there
 
 -- what holds of the machine holds after a change of a flock lock that nothing blocks
-pub kept_by_flock : FreeWhenDescriptionLocksChange → (m : Machine) (books : List Book) (waits : Waits) (file : ℕ) (old new : Book) (description : ℕ) (mode : Option Mode)
+pub kept_by_flock : FreeWhenDescriptionLocksChange
+    → (m : Machine) (books : List Book) (waits : Waits) (file : ℕ) (old new : Book) (description : ℕ) (mode : Option Mode)
     → books ≡ slice_set m.books.items file new → file < length m.books.items → slice_get m.books.items file ≡ Some old
     → MayLock m.tables file (Description description)
     → ((k : Mode) → mode ≡ Some k → ¬ FlockConflict ((locks_of m.books.items).flocks file) (Description description) k)
@@ -166,7 +169,8 @@ kept_by_flock all m books waits file old new description mode is within was may 
 -- the machine shows the state with the changed flock lock
 pub with_flock_change : (old new : Machine) (S : State) (file : ℕ) (book changed : Book) (description : ℕ) (mode : Option Mode)
     → new.books.items ≡ slice_set old.books.items file changed → new.tables ≡ old.tables → new.states ≡ old.states
-    → file < length old.books.items → slice_get old.books.items file ≡ Some book → SetsFlock book changed description mode → waits_of new.waits ≡ waits_of old.waits
+    → file < length old.books.items → slice_get old.books.items file ≡ Some book → SetsFlock book changed description mode
+    → waits_of new.waits ≡ waits_of old.waits
     → Shows old S → Shows new (with_flock_mode S file description mode)
 unfolding machine_locks machine_state machine_waits
 with_flock_change old new S file book changed description mode books tables states within was sets waits h =
@@ -177,7 +181,8 @@ none_from_test None test = refl
 none_from_test (Some mode) test = (let differ : true ≡ false = test in cc)
 
 -- a lock that conflicts stands where there was none only if it stood there before
-conflict_still : (is_it : Bool) (mode held : Option Mode) (wanted : Mode) → (is_it ≡ true → held ≡ None) → HeldConflicts held wanted → HeldConflicts (if is_it then mode else held) wanted
+conflict_still : (is_it : Bool) (mode held : Option Mode) (wanted : Mode) → (is_it ≡ true → held ≡ None) → HeldConflicts held wanted
+    → HeldConflicts (if is_it then mode else held) wanted
 conflict_still true mode held wanted none conflict = absurd (subst (λ h. HeldConflicts h wanted) (none refl) conflict)
 conflict_still false mode held wanted none conflict = conflict
 
@@ -223,7 +228,8 @@ or_else true b is = refl
 or_else false b is = is
 
 -- a book in which a place was asked for, refused or not, keeps its locks
-pub place_taken : (old new : Book) (description : ℕ) (result : Result (Unit {0}) Memory) → OnOk result (ReservesFlock old new description) → OnErr result (SameBook old new)
+pub place_taken : (old new : Book) (description : ℕ) (result : Result (Unit {0}) Memory) → OnOk result (ReservesFlock old new description)
+    → OnErr result (SameBook old new)
     → KeepsLocks old new
 place_taken old new description result h h2 = grind (arith, common_steps, same_room, or_else, keeps_same)
 
@@ -239,7 +245,8 @@ pub room_joined_flock : (books : List Book) (waits : List Wait) (wait : Wait) (d
 room_joined_flock books waits wait description family owner there h = grind (arith, common_steps, counted, both, eqb-true, same_owner, list_any-append)
 
 -- a request for a flock lock of a process that there is, on a file that there is, can be asked for
-pub well_formed_flock : {processes : ℕ} (wanted : Wait) (look : Look) → wanted ≡ wanted_flock wanted.p wanted.n look wanted.mode → 1 ≤ wanted.p → wanted.p ≤ processes → look.file < 64
+pub well_formed_flock : {processes : ℕ} (wanted : Wait) (look : Look) → wanted ≡ wanted_flock wanted.p wanted.n look wanted.mode → 1 ≤ wanted.p
+    → wanted.p ≤ processes → look.file < 64
     → IsWellFormed processes wanted
 well_formed_flock {processes} wanted look is one most file =
     subst (λ w. IsWellFormed processes w) (sym is)

@@ -57,7 +57,8 @@ nothing_closes D E p same =
     }
 
 -- dup2
-pub dup2_closes : (limits : Limits) (D E : Descriptors) (p fd to : ℕ) (answer : ℕ × Released) → DupToGives limits D p fd to (Ok answer) E → Closing D E p answer.1
+pub dup2_closes : (limits : Limits) (D E : Descriptors) (p fd to : ℕ) (answer : ℕ × Released) → DupToGives limits D p fd to (Ok answer) E
+    → Closing D E p answer.1
 dup2_closes limits D E p fd to answer gives = grind (arith, common_steps, nothing_closes)
 
 -- what is open on a file after the call was open on it before, where it was open at all
@@ -65,7 +66,8 @@ pub open_after : (D E : Descriptors) (p : ℕ) (released : Released) (f d : ℕ)
 open_after D E p released f d closing is after = grind (arith, common_steps)
 
 -- the file of a description that was closed for good is released
-pub file_released : (D E : Descriptors) (p : ℕ) (released : Released) (f d : ℕ) → Closing D E p released → IsOpenOn D f d → ¬ IsOpen E d → is_one_of released.files f ≡ true
+pub file_released : (D E : Descriptors) (p : ℕ) (released : Released) (f d : ℕ) → Closing D E p released → IsOpenOn D f d → ¬ IsOpen E d
+    → is_one_of released.files f ≡ true
 file_released D E p released f d closing is gone =
     let q = is.is_open.process in
     let k = is.is_open.fd in
@@ -87,5 +89,6 @@ file_released D E p released f d closing is gone =
         absurd (gone (record { process = is.is_open.process; fd = is.is_open.fd; refers = closing.kept is.is_open.process is.is_open.fd e ∙ is.is_open.refers }))
 
 -- a description that was open and isn't told stays open, in that it can't be closed
-pub not_closed : (D E : Descriptors) (p : ℕ) (released : Released) (d : ℕ) → Closing D E p released → IsOpen D d → is_one_of released.descriptions d ≡ false → ¬ ¬ IsOpen E d
+pub not_closed : (D E : Descriptors) (p : ℕ) (released : Released) (d : ℕ) → Closing D E p released → IsOpen D d
+    → is_one_of released.descriptions d ≡ false → ¬ ¬ IsOpen E d
 not_closed D E p released d closing is other gone = grind (arith, common_steps, one_of)

@@ -62,25 +62,32 @@ owner_alone books file old new owner span mode result within was sets same =
 
 -- nor does a release of what the process closed
 pub process_alone : (books : List Book) (file : ℕ) (old new : Book) (p : ℕ) (descriptions : List ℕ) → file < length books → slice_get books file ≡ Some old
-    → ReleasesInBook old new p descriptions → AgreeButOwner file (Process p) (record { first = 0; last = OFFMAX }) (locks_of books) (locks_of (slice_set books file new))
+    → ReleasesInBook old new p descriptions
+    → AgreeButOwner file (Process p) (record { first = 0; last = OFFMAX }) (locks_of books) (locks_of (slice_set books file new))
 process_alone books file old new p descriptions within was releases f q byte few apart =
     grind (arith, common_steps, cases_eq, cases_Bool, eqb-true, slice_get-set_same, slice_get-set_other)
 
 -- what a refresh of the owner's pairs on these bytes leaves of what was known, where these are the books that it is told
 pub stays_known : (old new : Waits) (before after told_books : List Book) (file : ℕ) (owner : Owner) (span : Span) → told_books ≡ after → file < 64
     → ((locks : Locks) → AreTold old locks → AgreeButOwner file owner span locks (locks_of told_books) → AreTold new (locks_of told_books))
-    → (file < 64 → (locks : Locks) → AreBlockedElsewhere old locks → AgreeElsewhere file locks (locks_of told_books) → AreBlockedElsewhere new (locks_of told_books))
-    → AgreeElsewhere file (locks_of before) (locks_of after) → AgreeButOwner file owner span (locks_of before) (locks_of after) → StayKnown old new (locks_of before) (locks_of after)
+    → (file < 64 → (locks : Locks) → AreBlockedElsewhere old locks → AgreeElsewhere file locks (locks_of told_books)
+    → AreBlockedElsewhere new (locks_of told_books))
+    → AgreeElsewhere file (locks_of before) (locks_of after) → AgreeButOwner file owner span (locks_of before) (locks_of after)
+    → StayKnown old new (locks_of before) (locks_of after)
 stays_known old new before after told_books file owner span is within told blocked agree alone = grind (arith, common_steps)
 
 -- it holds after a change of one book by an owner that doesn't wait, which nothing blocks, refused or not, where there is room for
 -- the waits
-pub kept_in_room : FreeWhenLocksChange → FreeWhenDescriptionLocksChange → (m : Machine) (books : List Book) (waits : Waits) (file : ℕ) (old new : Book) (owner : Owner) (span : Span) (mode : Option Mode) (result : Result (Unit {0}) Memory)
+pub kept_in_room : FreeWhenLocksChange → FreeWhenDescriptionLocksChange
+    → (m : Machine) (books : List Book) (waits : Waits) (file : ℕ) (old new : Book) (owner : Owner) (span : Span) (mode : Option Mode)
+    (result : Result (Unit {0}) Memory)
     → books ≡ slice_set m.books.items file new → file < length m.books.items → slice_get m.books.items file ≡ Some old
     → MayLock m.tables file owner → IsByteRange span → ((p : ℕ) → owner ≡ Process p → state_numbered m.states.items p ≡ Live)
     → ((k : Mode) → mode ≡ Some k → ¬ ByteConflict ((locks_of m.books.items).bytes file) owner span k)
     → OnOk result (SetsOwnerMode old new owner span mode) → HaveRoom (slice_set m.books.items file new) (waits_of m.waits) → OnErr result (SameBook old new)
-    → SameWaits m.waits waits → (AgreeElsewhere file (locks_of m.books.items) (locks_of books) → AgreeButOwner file owner span (locks_of m.books.items) (locks_of books) → StayKnown m.waits waits (locks_of m.books.items) (locks_of books))
+    → SameWaits m.waits waits
+    → (AgreeElsewhere file (locks_of m.books.items) (locks_of books) → AgreeButOwner file owner span (locks_of m.books.items) (locks_of books)
+    → StayKnown m.waits waits (locks_of m.books.items) (locks_of books))
     → AreKept m.rules.policy m.tables books waits
 kept_in_room one all m books waits file old new owner span mode result is within was may range live free sets room same waits_same known =
     let before = m.books.items in
@@ -107,12 +114,16 @@ kept_in_room one all m books waits file old new owner span mode result is within
     }
 
 -- so it does where the change takes no room
-pub kept_by_change : FreeWhenLocksChange → FreeWhenDescriptionLocksChange → (m : Machine) (books : List Book) (waits : Waits) (file : ℕ) (old new : Book) (owner : Owner) (span : Span) (mode : Option Mode) (result : Result (Unit {0}) Memory)
+pub kept_by_change : FreeWhenLocksChange → FreeWhenDescriptionLocksChange
+    → (m : Machine) (books : List Book) (waits : Waits) (file : ℕ) (old new : Book) (owner : Owner) (span : Span) (mode : Option Mode)
+    (result : Result (Unit {0}) Memory)
     → books ≡ slice_set m.books.items file new → file < length m.books.items → slice_get m.books.items file ≡ Some old
     → MayLock m.tables file owner → IsByteRange span → ((p : ℕ) → owner ≡ Process p → state_numbered m.states.items p ≡ Live)
     → ((k : Mode) → mode ≡ Some k → ¬ ByteConflict ((locks_of m.books.items).bytes file) owner span k)
     → OnOk result (SetsOwnerMode old new owner span mode) → OnOk result (room_in old owner ≤ room_in new owner) → OnErr result (SameBook old new)
-    → SameWaits m.waits waits → (AgreeElsewhere file (locks_of m.books.items) (locks_of books) → AgreeButOwner file owner span (locks_of m.books.items) (locks_of books) → StayKnown m.waits waits (locks_of m.books.items) (locks_of books))
+    → SameWaits m.waits waits
+    → (AgreeElsewhere file (locks_of m.books.items) (locks_of books) → AgreeButOwner file owner span (locks_of m.books.items) (locks_of books)
+    → StayKnown m.waits waits (locks_of m.books.items) (locks_of books))
     → AreKept m.rules.policy m.tables books waits
 kept_by_change one all m books waits file old new owner span mode result is within was may range live free sets kept same waits_same known =
     kept_in_room one all m books waits file old new owner span mode result is within was may range live free sets

@@ -37,7 +37,8 @@ with_tables_and_process old new S E p state books states waits h tables = grind 
 -- after a change of one book the machine stands for the state with that change
 pub with_change : (old new : Machine) (S : State) (file : ℕ) (book changed : Book) (owner : Owner) (span : Span) (mode : Option Mode)
     → new.books.items ≡ slice_set old.books.items file changed → new.tables ≡ old.tables → new.states ≡ old.states
-    → file < length old.books.items → slice_get old.books.items file ≡ Some book → SetsOwnerMode book changed owner span mode → waits_of new.waits ≡ waits_of old.waits
+    → file < length old.books.items → slice_get old.books.items file ≡ Some book → SetsOwnerMode book changed owner span mode
+    → waits_of new.waits ≡ waits_of old.waits
     → Shows old S → Shows new (with_byte_mode S file owner span mode)
 unfolding machine_locks machine_state machine_waits
 with_change old new S file book changed owner span mode books tables states within was sets waits h =
@@ -45,8 +46,10 @@ with_change old new S file book changed owner span mode books tables states with
 
 -- after a change of one book that keeps its locks the machine stands for the same states
 pub same_by_book : (old new : Machine) (file : ℕ) (book same : Book)
-    → new.books.items ≡ slice_set old.books.items file same → new.tables ≡ old.tables → new.states ≡ old.states → new.rules ≡ old.rules → new.processes ≡ old.processes
-    → waits_of new.waits ≡ waits_of old.waits → file < length old.books.items → slice_get old.books.items file ≡ Some book → KeepsLocks book same → SameMachine old new
+    → new.books.items ≡ slice_set old.books.items file same → new.tables ≡ old.tables → new.states ≡ old.states → new.rules ≡ old.rules
+    → new.processes ≡ old.processes
+    → waits_of new.waits ≡ waits_of old.waits → file < length old.books.items → slice_get old.books.items file ≡ Some book → KeepsLocks book same
+    → SameMachine old new
 unfolding machine_locks machine_state machine_waits machine_rules machine_processes
 same_by_book old new file book same books tables states rules processes waits within was keeps =
     let locks : locks_of new.books.items ≡ locks_of old.books.items =

@@ -68,7 +68,8 @@ none_of_any None there gives = refl
 none_of_any (Some m) there gives = absurd (∥∥₁_elim there (λ x y. absurd x) (λ a. let none = gives a in cc))
 
 -- it holds for each descriptors that the tables stand for
-pub owned_in : (tables : Tables) (locks : Locks) (waits : List Wait) (E : Descriptors) → AreOwned tables locks waits → StandFor tables E → AreOfOpenDescriptions E locks
+pub owned_in : (tables : Tables) (locks : Locks) (waits : List Wait) (E : Descriptors) → AreOwned tables locks waits → StandFor tables E
+    → AreOfOpenDescriptions E locks
 owned_in tables locks waits E owned stands =
     record {
       bytes = λ file d closed byte. none_of_any (locks.bytes file (Description d) byte) owned
@@ -89,7 +90,8 @@ owned_after old new locks waits owned call =
     ))
 
 -- who may lock the file has the file open
-may_lock_on : (tables : Tables) (file : ℕ) (owner : Owner) (D : Descriptors) (d : ℕ) → StandFor tables D → MayLock tables file owner → owner ≡ Description d → ∥ IsOpenOn D file d ∥₁
+may_lock_on : (tables : Tables) (file : ℕ) (owner : Owner) (D : Descriptors) (d : ℕ) → StandFor tables D → MayLock tables file owner
+    → owner ≡ Description d → ∥ IsOpenOn D file d ∥₁
 may_lock_on tables file owner D d h h2 h3 = grind (arith, common_steps)
 
 -- a mode that is set, or else what was none, is none
@@ -98,7 +100,8 @@ none_but_set true mode before not_it none = absurd (not_it refl)
 none_but_set false mode before not_it none = none
 
 -- one book's change by who may lock the file, refused or not
-pub owned_set : (tables : Tables) (waits : List Wait) (books : List Book) (file : ℕ) (old new : Book) (owner : Owner) (span : Span) (mode : Option Mode) (result : Result (Unit {0}) Memory)
+pub owned_set : (tables : Tables) (waits : List Wait) (books : List Book) (file : ℕ) (old new : Book) (owner : Owner) (span : Span)
+    (mode : Option Mode) (result : Result (Unit {0}) Memory)
     → file < length books → slice_get books file ≡ Some old → MayLock tables file owner
     → OnOk result (SetsOwnerMode old new owner span mode) → OnErr result (SameBook old new)
     → AreOwned tables (locks_of books) waits → AreOwned tables (locks_of (slice_set books file new)) waits

@@ -48,7 +48,8 @@ pub stands_set : (states states' : List ProcState) (p : ℕ) (state : ProcState)
 stands_set states states' p state set = grind (arith, common_steps, eqb_tells)
 
 -- who lives lives on where another one begins to
-pub live_still : (states states' : List ProcState) (p : ℕ) → StandsSo states states' p Live → (q : ℕ) → state_numbered states q ≡ Live → state_numbered states' q ≡ Live
+pub live_still : (states states' : List ProcState) (p : ℕ) → StandsSo states states' p Live → (q : ℕ) → state_numbered states q ≡ Live
+    → state_numbered states' q ≡ Live
 live_still states states' p set q live = grind (arith, common_steps)
 
 -- who lives where another one doesn't lived before

@@ -9,11 +9,13 @@ use Rattle.lock_manager.specs.LockReleases.{is_one_of, ReleasesInBook, ReleasesL
 use Rattle.lock_manager.proofs.kept.BookLemmas.{slice_get-set, entry_is}
 
 -- one more number
-one_more : (numbers : List ℕ) (i d number : ℕ) → i < length numbers → is_one_of (take (i + 1) numbers) number ≡ (is_one_of (take i numbers) number || (get_or numbers i d == number))
+one_more : (numbers : List ℕ) (i d number : ℕ) → i < length numbers
+    → is_one_of (take (i + 1) numbers) number ≡ (is_one_of (take i numbers) number || (get_or numbers i d == number))
 one_more numbers i d number within = list_any_more (λ other. other == number) numbers i d within
 
 -- what is read of the entry of one more file, or of another one
-entry_more : {X : Type 0} (read : Option Book → X) (gone : X) (is_it before now : Bool) (entry : Option Book) (book new : Book) (old : X) → (is_it ≡ true → entry ≡ Some book)
+entry_more : {X : Type 0} (read : Option Book → X) (gone : X) (is_it before now : Bool) (entry : Option Book) (book new : Book) (old : X)
+    → (is_it ≡ true → entry ≡ Some book)
     → read (Some new) ≡ (if now then gone else read (Some book))
     → read entry ≡ (if before && now then gone else old)
     → read (if is_it then Some new else entry) ≡ (if (before || is_it) && now then gone else old)
@@ -28,7 +30,8 @@ entry_more read gone false true now entry book new old was releases is = is
 entry_more read gone false false now entry book new old was releases is = is
 
 -- the files so far and one more
-files_more : (files : List ℕ) (i d file f : ℕ) → i < length files → get_or files i d ≡ file → (is_one_of (take i files) f || (file == f)) ≡ is_one_of (take (i + 1) files) f
+files_more : (files : List ℕ) (i d file f : ℕ) → i < length files → get_or files i d ≡ file
+    → (is_one_of (take i files) f || (file == f)) ≡ is_one_of (take (i + 1) files) f
 files_more files i d file f inside is = ap (λ n. is_one_of (take i files) f || (n == f)) (sym is) ∙ sym (one_more files i d f inside)
 
 -- one more file

@@ -45,7 +45,8 @@ pub both : (a b : Bool) → (a && b) ≡ true → (a ≡ true) × (b ≡ true)
 both true b e = (refl, e)
 both false b e = cc
 
-pub hit : (file : ℕ) (owner : Owner) (span : Span) (f : ℕ) (o : Owner) (byte : ℕ) → ((file == f) && is_same_owner owner o && is_covered span byte) ≡ true → Hits file owner span f o byte
+pub hit : (file : ℕ) (owner : Owner) (span : Span) (f : ℕ) (o : Owner) (byte : ℕ)
+    → ((file == f) && is_same_owner owner o && is_covered span byte) ≡ true → Hits file owner span f o byte
 hit file owner span f o byte e = grind (arith, common_steps, both, eqb-true, same_owner, leb-true)
 
 -- no list without waits has one

@@ -90,7 +90,8 @@ not_child D p child q k d true none refers = absurd (let closed = none refl in c
 not_child D p child q k d false none refers = refers
 
 -- so does a fork, since the child had no descriptor before
-pub forked_stays : (processes : ℕ) (D E : Descriptors) (p child : ℕ) → ((fd : ℕ) → D.description_of child fd ≡ None) → ForkGives processes D p child (Ok tt) E → StayOpen D E
+pub forked_stays : (processes : ℕ) (D E : Descriptors) (p child : ℕ) → ((fd : ℕ) → D.description_of child fd ≡ None)
+    → ForkGives processes D p child (Ok tt) E → StayOpen D E
 forked_stays processes D E p child none gives f d q is = grind (arith, common_steps, not_child, eqb-true, same_files)
 
 -- what is kept stays under other tables, where locks and waits of descriptions are of open ones
@@ -98,7 +99,8 @@ kept_in : (m : Machine) (tables : Tables) → AreOwned tables (locks_of m.books.
 kept_in m tables owned = grind (arith, common_steps)
 
 -- so it does after a call that is refused
-pub kept_by_refusal : (m : Machine) (tables : Tables) → ((D : Descriptors) → StandFor m.tables D → StandFor tables D) → AreKept m.rules.policy tables m.books.items m.waits
+pub kept_by_refusal : (m : Machine) (tables : Tables) → ((D : Descriptors) → StandFor m.tables D → StandFor tables D)
+    → AreKept m.rules.policy tables m.books.items m.waits
 kept_by_refusal m tables refused =
     kept_in m tables (owned_after m.tables tables (locks_of m.books.items) (waits_of m.waits) m.kept.owned (λ D stands. (D, λ file d q is. is, refused D stands)))
 

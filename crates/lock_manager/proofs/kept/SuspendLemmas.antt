@@ -52,12 +52,14 @@ pub some_of : (p : Wait → Bool) (waits : List Wait) → length (filter p waits
 some_of p waits = omega (arith, length-filter p waits, count_by-le-length p waits)
 
 -- who may wait for the lock may wait as the wait says
-waits_as : (tables : Tables) (D : Descriptors) (wait : Wait) (owner : Owner) → StandFor tables D → MayWait tables wait.p wait.file owner → MayWaitAs D wait owner
+waits_as : (tables : Tables) (D : Descriptors) (wait : Wait) (owner : Owner) → StandFor tables D → MayWait tables wait.p wait.file owner
+    → MayWaitAs D wait owner
 waits_as tables D wait (Process q) stands may = may
 waits_as tables D wait (Description d) stands may = may D stands
 
 -- one more wait of who may wait
-pub owned_joined : (tables : Tables) (locks : Locks) (waits : List Wait) (wait : Wait) → MayWait tables wait.p wait.file wait.owner → AreOwned tables locks waits → AreOwned tables locks (waits ++ wait ∷ [])
+pub owned_joined : (tables : Tables) (locks : Locks) (waits : List Wait) (wait : Wait) → MayWait tables wait.p wait.file wait.owner
+    → AreOwned tables locks waits → AreOwned tables locks (waits ++ wait ∷ [])
 owned_joined tables locks waits wait may owned =
     ∥∥₁_map owned (λ given. (
       given.0,
@@ -91,17 +93,20 @@ pub room_joined : (books : List Book) (waits : List Wait) (wait : Wait) → wait
 room_joined books waits wait family more h = grind (arith, common_steps, counted, one_at_most, asked_by, list_any-append)
 
 -- where one owner's room grew, no owner has less
-no_less_room : (old new : Book) (owner : Owner) → SameButRoom old new owner → room_in old owner ≤ room_in new owner → (o : Owner) → room_in old o ≤ room_in new o
+no_less_room : (old new : Book) (owner : Owner) → SameButRoom old new owner → room_in old owner ≤ room_in new owner → (o : Owner)
+    → room_in old o ≤ room_in new o
 no_less_room old new owner same kept o = grind (arith, common_steps, cases_Bool, same_owner, itself)
 
 -- a book in which room was asked for, refused or not, keeps its locks
-pub room_taken : (old new : Book) (owner : Owner) (result : Result (Unit {0}) Memory) → OnOk result (SameButRoom old new owner) → OnOk result (room_in old owner ≤ room_in new owner)
+pub room_taken : (old new : Book) (owner : Owner) (result : Result (Unit {0}) Memory) → OnOk result (SameButRoom old new owner)
+    → OnOk result (room_in old owner ≤ room_in new owner)
     → OnErr result (SameBook old new) → KeepsLocks old new
 room_taken old new owner result h h2 h3 = grind (arith, common_steps, no_less_room, keeps_same)
 
 -- the room is there then
 pub roomy : (before books : List Book) (file : ℕ) (old new : Book) (owner : Owner) (count : ℕ) (result : Result (Unit {0}) Memory)
-    → books ≡ slice_set before file new → file < length before → OnOk result (count ≤ room_in new owner) → OnOk result (count ≤ room_at (slice_get books file) owner)
+    → books ≡ slice_set before file new → file < length before → OnOk result (count ≤ room_in new owner)
+    → OnOk result (count ≤ room_at (slice_get books file) owner)
 roomy before books file old new owner count result h h2 h3 = grind (arith, common_steps, slice_get-set_same)
 
 -- what is kept stays after a change of one book that keeps its locks
@@ -122,8 +127,10 @@ kept_by_book m books file old new is within was keeps =
     }
 
 -- and after a process has begun to wait, whose wait has its room and closes no cycle
-pub kept_by_join : FreeWhenOneJoins → (m : Machine) (waits : Waits) (wait : Wait) → MayWait m.tables wait.p wait.file wait.owner → state_numbered m.states.items wait.p ≡ Live
-    → (IsTraditional wait → ¬ ClosesCycle m.rules.policy (locks_of m.books.items) (waits_of m.waits) wait) → HaveRoom m.books.items (waits_of m.waits ++ wait ∷ [])
+pub kept_by_join : FreeWhenOneJoins → (m : Machine) (waits : Waits) (wait : Wait) → MayWait m.tables wait.p wait.file wait.owner
+    → state_numbered m.states.items wait.p ≡ Live
+    → (IsTraditional wait → ¬ ClosesCycle m.rules.policy (locks_of m.books.items) (waits_of m.waits) wait)
+    → HaveRoom m.books.items (waits_of m.waits ++ wait ∷ [])
     → waits_of waits ≡ waits_of m.waits ++ wait ∷ [] → StayKnown m.waits waits (locks_of m.books.items) (locks_of m.books.items)
     → AreKept m.rules.policy m.tables m.books.items waits
 kept_by_join joins m waits wait may live free room list known =
@@ -142,7 +149,9 @@ kept_by_join joins m waits wait may live free room list known =
     }
 
 -- the machine shows the state in which the process waits
-pub with_wait : (old new : Machine) (S : State) (wait : Wait) → new.books ≡ old.books → new.tables ≡ old.tables → waits_of new.waits ≡ waits_of old.waits ++ wait ∷ []
-    → StandsSo old.states.items new.states.items wait.p Waiting → Shows old S → Shows new (with_process (record S { waits = S.waits ++ wait ∷ [] }) wait.p Waiting)
+pub with_wait : (old new : Machine) (S : State) (wait : Wait) → new.books ≡ old.books → new.tables ≡ old.tables
+    → waits_of new.waits ≡ waits_of old.waits ++ wait ∷ []
+    → StandsSo old.states.items new.states.items wait.p Waiting → Shows old S
+    → Shows new (with_process (record S { waits = S.waits ++ wait ∷ [] }) wait.p Waiting)
 unfolding machine_locks machine_state machine_waits
 with_wait old new S wait books tables waits states h = grind (arith, common_steps)

@@ -49,5 +49,6 @@ none_held_at books file book process description span was free byte covers =
 
 -- a machine in which the owner has no lock on the range shows the state in which it was removed
 pub with_no_change : (machine : Machine) (S : State) (file : ℕ) (owner : Owner) (span : Span)
-    → ((byte : ℕ) → Covers span byte → (machine_locks machine).bytes file owner byte ≡ None) → Shows machine S → Shows machine (with_byte_mode S file owner span None)
+    → ((byte : ℕ) → Covers span byte → (machine_locks machine).bytes file owner byte ≡ None) → Shows machine S
+    → Shows machine (with_byte_mode S file owner span None)
 with_no_change machine S file owner span none h = grind (arith, common_steps, none_still, hit, mode_from-push)

@@ -28,7 +28,8 @@ use Rattle.lock_manager.proofs.kept.OwnedLemmas.{may_wait_more}
 use Rattle.lock_manager.proofs.kept.SafetyLemmas.{same_owner}
 
 -- what another process has open stays open
-stays_of_other : (D E : Descriptors) (p : ℕ) (released : Released) → Closing D E p released → (q file d : ℕ) → q ≢ p → HasOpenOn D q file d → HasOpenOn E q file d
+stays_of_other : (D E : Descriptors) (p : ℕ) (released : Released) → Closing D E p released → (q file d : ℕ) → q ≢ p → HasOpenOn D q file d
+    → HasOpenOn E q file d
 stays_of_other D E p released closing q file d other has = grind (arith, common_steps, eqb_tells)
 
 -- so the waits of other processes are for what these have open
@@ -37,7 +38,8 @@ pub holders_closed : (D E : Descriptors) (p : ℕ) (released : Released) (waits 
 holders_closed D E p released waits closing others h k d within = grind (arith, common_steps, may_wait_more, stays_of_other)
 
 -- and none of them is for a lock of an owner whose locks are released
-none_released : (D E : Descriptors) (p : ℕ) (released : Released) (waits : List Wait) → Closing D E p released → All (λ wait. wait.p ≢ p) waits → AreOfHolders E waits
+none_released : (D E : Descriptors) (p : ℕ) (released : Released) (waits : List Wait) → Closing D E p released → All (λ wait. wait.p ≢ p) waits
+    → AreOfHolders E waits
     → (owner : Owner) → is_released p released.descriptions owner ≡ true → All (λ wait. wait.owner ≢ owner) waits
 none_released D E p released waits closing others h (Process q) is k d within e =
     let wait = get_or waits k d in
@@ -113,8 +115,10 @@ unfolding mid_bytes
 kept_of_other old new p files descriptions h file o byte h2 = grind (arith, common_steps, eqb_tells)
 
 -- a release closes no cycle, where the process doesn't wait
-pub free_released : FreeWhenLocksChange → FreeWhenDescriptionLocksChange → (policy : Policy) (old new : Locks) (waits : List Wait) (p : ℕ) (files descriptions : List ℕ)
-    → ReleasesLocks old new p files descriptions → All (λ wait. wait.owner ≢ Process p) waits → IsFreeOfCycles policy old waits → IsFreeOfCycles policy new waits
+pub free_released : FreeWhenLocksChange → FreeWhenDescriptionLocksChange
+    → (policy : Policy) (old new : Locks) (waits : List Wait) (p : ℕ) (files descriptions : List ℕ)
+    → ReleasesLocks old new p files descriptions → All (λ wait. wait.owner ≢ Process p) waits → IsFreeOfCycles policy old waits
+    → IsFreeOfCycles policy new waits
 unfolding mid_bytes
 free_released one all policy old new waits p files descriptions releases others free =
     let mid : Locks = record { bytes = mid_bytes old new; flocks = old.flocks } in

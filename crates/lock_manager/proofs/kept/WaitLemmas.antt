@@ -44,7 +44,8 @@ pub suspended_after : (old new : Tables) (states states' : List ProcState) (wait
 suspended_after old new states states' waits born stay h k d within = grind (arith, common_steps)
 
 -- no wait is of a live process
-pub waits_of_others : (tables : Tables) (states : List ProcState) (waits : List Wait) (p : ℕ) → All (IsSuspended tables states) waits → state_numbered states p ≡ Live
+pub waits_of_others : (tables : Tables) (states : List ProcState) (waits : List Wait) (p : ℕ) → All (IsSuspended tables states) waits
+    → state_numbered states p ≡ Live
     → All (λ wait. wait.p ≢ p) waits
 waits_of_others tables states waits p h live k d within e =
     let both : Waiting ≡ Live = sym (h k d within).waiting ∙ ap (state_numbered states) e ∙ live in cc
@@ -79,12 +80,14 @@ pub agree_elsewhere : (books : List Book) (file : ℕ) (new : Book) → AgreeEls
 agree_elsewhere books file new = grind (arith, common_steps, slice_get-set_other)
 
 -- a step by a lock is one where the byte locks are the same
-step_by_bytes : (old new : Locks) (waits : List Wait) (p q : ℕ) → ((file : ℕ) (owner : Owner) (byte : ℕ) → new.bytes file owner byte ≡ old.bytes file owner byte)
+step_by_bytes : (old new : Locks) (waits : List Wait) (p q : ℕ)
+    → ((file : ℕ) (owner : Owner) (byte : ℕ) → new.bytes file owner byte ≡ old.bytes file owner byte)
     → WaitsFor Held old waits p q → WaitsFor Held new waits p q
 step_by_bytes old new waits p q same step = grind (arith, common_steps)
 
 -- no pair rests on a flock lock: where the byte locks stay, what is told stays true
-pub told_by_bytes : (waits : Waits) (old new : Locks) → ((file : ℕ) (owner : Owner) (byte : ℕ) → new.bytes file owner byte ≡ old.bytes file owner byte) → AreTold waits old → AreTold waits new
+pub told_by_bytes : (waits : Waits) (old new : Locks)
+    → ((file : ℕ) (owner : Owner) (byte : ℕ) → new.bytes file owner byte ≡ old.bytes file owner byte) → AreTold waits old → AreTold waits new
 told_by_bytes waits old new same told = grind (arith, common_steps, step_by_bytes)
 
 -- a change on a byte is of its owner alone
@@ -96,7 +99,8 @@ process_not_description : (p d : ℕ) → Process p ≢ Description d
 process_not_description p d e = cc
 
 -- a change of the locks of an owner closes no cycle, where a process that is the owner doesn't wait
-free_changed : FreeWhenLocksChange → FreeWhenDescriptionLocksChange → (policy : Policy) (old new : Locks) (waits : List Wait) (file : ℕ) (owner : Owner) (span : Span) (mode : Option Mode)
+free_changed : FreeWhenLocksChange → FreeWhenDescriptionLocksChange
+    → (policy : Policy) (old new : Locks) (waits : List Wait) (file : ℕ) (owner : Owner) (span : Span) (mode : Option Mode)
     → ((p : ℕ) → owner ≡ Process p → All (λ wait. wait.owner ≢ Process p) waits)
     → ((f : ℕ) (o : Owner) (byte : ℕ) → new.bytes f o byte ≡ changed old file owner span mode f o byte)
     → IsFreeOfCycles policy old waits → IsFreeOfCycles policy new waits
@@ -109,7 +113,8 @@ free_changed one all policy old new waits file (Description d) span mode idle by
 
 -- one book's change, refused or not, closes no cycle
 pub free_after : FreeWhenLocksChange → FreeWhenDescriptionLocksChange
-    → (policy : Policy) (waits : List Wait) (books : List Book) (file : ℕ) (old new : Book) (owner : Owner) (span : Span) (mode : Option Mode) (result : Result (Unit {0}) Memory)
+    → (policy : Policy) (waits : List Wait) (books : List Book) (file : ℕ) (old new : Book) (owner : Owner) (span : Span) (mode : Option Mode)
+    (result : Result (Unit {0}) Memory)
     → file < length books → slice_get books file ≡ Some old
     → ((p : ℕ) → owner ≡ Process p → All (λ wait. wait.owner ≢ Process p) waits)
     → OnOk result (SetsOwnerMode old new owner span mode) → OnErr result (SameBook old new)
@@ -120,11 +125,13 @@ free_after one all policy waits books file old new owner span mode result within
     (λ bytes flocks. all policy (locks_of books) (locks_of (slice_set books file new)) waits free (λ f q byte. bytes f (Process q) byte))
 
 -- of a book that was changed, or of another one
-pub rooms_at : (is_it : Bool) (entry : Option Book) (old new : Book) (owner : Owner) (count : ℕ) → (is_it ≡ true → entry ≡ Some old) → room_in old owner ≤ room_in new owner
+pub rooms_at : (is_it : Bool) (entry : Option Book) (old new : Book) (owner : Owner) (count : ℕ) → (is_it ≡ true → entry ≡ Some old)
+    → room_in old owner ≤ room_in new owner
     → count ≤ room_at entry owner → count ≤ room_at (if is_it then Some new else entry) owner
 rooms_at is_it entry old new owner count h h2 h3 = grind (arith, common_steps)
 
-pub places_at : (is_it : Bool) (entry : Option Book) (old new : Book) (d : ℕ) → (is_it ≡ true → entry ≡ Some old) → (has_flock_place old d ≡ true → has_flock_place new d ≡ true)
+pub places_at : (is_it : Bool) (entry : Option Book) (old new : Book) (d : ℕ) → (is_it ≡ true → entry ≡ Some old)
+    → (has_flock_place old d ≡ true → has_flock_place new d ≡ true)
     → has_place_at entry d ≡ true → has_place_at (if is_it then Some new else entry) d ≡ true
 places_at true entry old new d was kept there = kept (subst (λ e. has_place_at e d ≡ true) (was refl) there)
 places_at false entry old new d was kept there = there
@@ -161,7 +168,8 @@ pub keeps_same : (old new : Book) → SameBook old new → KeepsLocks old new
 keeps_same old new same = grind (arith, common_steps, same_room)
 
 -- one book's set, refused or not, leaves room for the waits
-pub room_after : (waits : List Wait) (books : List Book) (file : ℕ) (old new : Book) (owner : Owner) (span : Span) (mode : Option Mode) (result : Result (Unit {0}) Memory)
+pub room_after : (waits : List Wait) (books : List Book) (file : ℕ) (old new : Book) (owner : Owner) (span : Span) (mode : Option Mode)
+    (result : Result (Unit {0}) Memory)
     → file < length books → slice_get books file ≡ Some old
     → OnOk result (SetsOwnerMode old new owner span mode) → OnOk result (room_in old owner ≤ room_in new owner) → OnErr result (SameBook old new)
     → HaveRoom books waits → HaveRoom (slice_set books file new) waits
@@ -194,6 +202,7 @@ none_found (w ∷ waits) p none = elim (cases_Bool (w.p == p)) [
 ]
 
 -- the processes of the waits are those that wait
-pub those_waiting : (tables : Tables) (states : List ProcState) (waits : List Wait) (set : ProcessSet) → AreThoseWaiting set waits → AreStanding tables states waits
+pub those_waiting : (tables : Tables) (states : List ProcState) (waits : List Wait) (set : ProcessSet) → AreThoseWaiting set waits
+    → AreStanding tables states waits
     → AreWaiting (state_numbered states) set
 those_waiting tables states waits set known h p few = grind (arith, common_steps, Any-from_list_any, eqb-true, cases_Bool, none_found)

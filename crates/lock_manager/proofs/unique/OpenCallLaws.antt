@@ -35,6 +35,7 @@ not_too_many limits D p fd room h (inl full) = IsFull-none limits D p fd full h
 not_too_many limits D p fd room h (inr many) = omega arith
 
 -- what an open answers and leaves is determined
-pub OpenGives-unique : (limits : Limits) (old : Descriptors) (p file : ℕ) (access : Access) (result : Result ℕ FdFault) (D : Descriptors) (other : Result ℕ FdFault) (E : Descriptors)
+pub OpenGives-unique : (limits : Limits) (old : Descriptors) (p file : ℕ) (access : Access) (result : Result ℕ FdFault) (D : Descriptors)
+    (other : Result ℕ FdFault) (E : Descriptors)
     → OpenGives limits old p file access result D → OpenGives limits old p file access other E → (result ≡ other) × (D ≡ E)
 OpenGives-unique limits old p file access result D other E h h2 = grind (arith, common_steps, both_same, not_too_many, IsLowestFree-unique, same_everywhere)

@@ -62,7 +62,8 @@ CloseComesTo-unique S p n fd = grind (arith, common_steps, by_two, CloseGives-un
 
 -- a call that answers nothing but that it is done
 done-unique : (S : State) (p n : ℕ) (descriptors : Descriptors) (result : Result (Unit {0}) FdFault)
-    → AtMostOne (λ outcome. MatchResult result (λ done. outcome ≡ answered (record S { descriptors = descriptors }) p n replies.Ok) (λ fault. IsRefusal S p n fault outcome))
+    → AtMostOne (λ outcome. MatchResult result (λ done. outcome
+    ≡ answered (record S { descriptors = descriptors }) p n replies.Ok) (λ fault. IsRefusal S p n fault outcome))
 done-unique S p n descriptors result = answer-unique S p n (λ done. answered (record S { descriptors = descriptors }) p n replies.Ok) result
 
 SeekComesTo-unique : (S : State) (p n fd : ℕ) (offset : ℤ) → AtMostOne (SeekComesTo S p n fd offset)
@@ -126,7 +127,8 @@ FlockTestComesTo-unique : (rules : Rules) (S : State) (nb : Bool) (wanted : Wait
 FlockTestComesTo-unique rules S true wanted grants = MatchFact-unique (IsBlockedByLock (locks_held S) wanted) _ _ (one_value _) (one_value _)
 FlockTestComesTo-unique rules S false wanted grants = MatchFact-unique (IsBlocked rules.policy (locks_held S) S.waits wanted) _ _ (one_value _) (one_value _)
 
-FlockModeComesTo-unique : (rules : Rules) (S : State) (look : Look) (nb : Bool) (wanted : Wait) (held : Option Mode) → AtMostOne (FlockModeComesTo rules S look nb wanted held)
+FlockModeComesTo-unique : (rules : Rules) (S : State) (look : Look) (nb : Bool) (wanted : Wait) (held : Option Mode)
+    → AtMostOne (FlockModeComesTo rules S look nb wanted held)
 FlockModeComesTo-unique rules S look nb wanted held = grind (arith, common_steps, FlockTestComesTo-unique, MatchBool-by, one_value, by_two, Settles-unique)
 
 FlockComesTo-unique : (rules : Rules) (S : State) (p n fd : ℕ) (op : FlockOp) (nb : Bool) → AtMostOne (FlockComesTo rules S p n fd op nb)

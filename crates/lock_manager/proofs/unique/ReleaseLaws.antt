@@ -70,7 +70,8 @@ AreReleased-unique before after p closed released other h k =
 
 -- what a closing releases and leaves is determined
 pub closing-unique : (before base : Descriptors) (p : ℕ) (closed : ℕ → Bool) (released : Released) (D : Descriptors) (other : Released) (E : Descriptors)
-    → SameDescriptors D base → AreReleased before D p closed released → SameDescriptors E base → AreReleased before E p closed other → (released ≡ other) × (D ≡ E)
+    → SameDescriptors D base → AreReleased before D p closed released → SameDescriptors E base → AreReleased before E p closed other
+    → (released ≡ other) × (D ≡ E)
 closing-unique before base p closed released D other E leaves h leaves' k =
     let same : D ≡ E = both_same D E base leaves leaves' in
     (AreReleased-unique before E p closed released other (subst (λ after. AreReleased before after p closed released) same h) k, same)

@@ -68,7 +68,8 @@ impl Machine {
         requires empty { notes.old.items ≡ [] }
         requires room { length (machine_waits self.old) + 2 ≤ vec_capacity notes.old }
         ensures told { OnOk result ((S : State) → Shows self.old S →
-            (T : State) × FlockModeComesTo (machine_rules self.old) S look nb wanted (flock_mode_in S.flock_changes look.file look.desc) (record { told = notes.new.items; after = T }) × Shows self.new T) }
+            (T : State) × FlockModeComesTo (machine_rules self.old) S look nb wanted (flock_mode_in S.flock_changes look.file look.desc)
+            (record { told = notes.new.items; after = T }) × Shows self.new T) }
         ensures few { OnOk result (length notes.new.items + length (machine_waits self.new) ≤ vec_capacity notes.new) }
         ensures memory { OnErr result (SameMachine self.old self.new) }
         ensures same_rules { SameRules self.old self.new }

@@ -147,7 +147,9 @@ impl Machine {
     /// Whether a lock of another owner stands in the way or, of a request that may wait, an earlier wait in the queue.
     pub(super) fn is_blocked(&self, may_wait: bool, wanted: &Wait) -> bool
         requires { IsWellFormed (machine_processes self.now) wanted.now }
-        ensures { IsTrue result ↔ (IsBlockedByLock (machine_locks self.now) wanted.now ⊎ (IsTrue may_wait × IsQueued (machine_rules self.now).policy (machine_waits self.now) wanted.now)) }
+        ensures { IsTrue result
+            ↔ (IsBlockedByLock (machine_locks self.now) wanted.now
+            ⊎ (IsTrue may_wait × IsQueued (machine_rules self.now).policy (machine_waits self.now) wanted.now)) }
     {
         wanted.is_blocked_by_lock(&self.books) || may_wait && self.waits.queued(wanted)
     }
@@ -156,7 +158,8 @@ impl Machine {
     fn would_deadlock(&self, cmd: LkCmd, wanted: &Wait) -> bool
         requires well_formed { IsWellFormed (machine_processes self.now) wanted.now }
         requires traditional { IsFalse (is_ofd cmd) ↔ IsTraditional wanted.now }
-        ensures { IsTrue result ↔ (IsFalse (is_ofd cmd) × ClosesCycle (machine_rules self.now).policy (machine_locks self.now) (machine_waits self.now) wanted.now) }
+        ensures { IsTrue result
+            ↔ (IsFalse (is_ofd cmd) × ClosesCycle (machine_rules self.now).policy (machine_locks self.now) (machine_waits self.now) wanted.now) }
     {
         !cmd.is_ofd() && self.waits.would_cycle(wanted, &self.books)
     }
@@ -229,7 +232,8 @@ impl Machine {
         requires may_wait { MayWait self.old.tables wanted.p wanted.file wanted.owner }
         requires live { machine_state self.old wanted.p ≡ ProcState.Live }
         requires blocked { IsBlocked (machine_rules self.old).policy (machine_locks self.old) (machine_waits self.old) wanted }
-        requires free_of_cycles { IsTraditional wanted → ¬ ClosesCycle (machine_rules self.old).policy (machine_locks self.old) (machine_waits self.old) wanted }
+        requires free_of_cycles { IsTraditional wanted
+            → ¬ ClosesCycle (machine_rules self.old).policy (machine_locks self.old) (machine_waits self.old) wanted }
         ensures ok { OnOk result ((S : State) → Shows self.old S →
             Shows self.new (with_process (record S { waits = S.waits ++ wanted ∷ [] }) wanted.p ProcState.Waiting)) }
         ensures one { OnOk result (machine_waits self.new ≡ machine_waits self.old ++ wanted ∷ []) }
@@ -261,7 +265,8 @@ impl Machine {
         requires live { machine_state self.old wanted.p ≡ ProcState.Live }
         requires room { HaveRoom self.old.books.items (machine_waits self.old ++ wanted ∷ []) }
         requires blocked { IsBlocked (machine_rules self.old).policy (machine_locks self.old) (machine_waits self.old) wanted }
-        requires free_of_cycles { IsTraditional wanted → ¬ ClosesCycle (machine_rules self.old).policy (machine_locks self.old) (machine_waits self.old) wanted }
+        requires free_of_cycles { IsTraditional wanted
+            → ¬ ClosesCycle (machine_rules self.old).policy (machine_locks self.old) (machine_waits self.old) wanted }
         ensures shows { (S : State) → Shows self.old S →
             Shows self.new (with_process (record S { waits = S.waits ++ wanted ∷ [] }) wanted.p ProcState.Waiting) }
         ensures one { machine_waits self.new ≡ machine_waits self.old ++ wanted ∷ [] }

@@ -43,7 +43,9 @@ next_event one rules processes sent events S event next T U h step k other =
     ((λ i. record { p = p i; n = n i; request = request i; notes = outcome.0 i }), outcome.1)
 
 -- what is taken until there is no mail is one list of events, and leaves one state
-DrainsMail-unique : StepHasOneOutcome → (rules : Rules) (processes : ℕ) (sent : ℕ → List Request) (events : List Event) (S : State) (more : List Event) (T : State) (others : List Event) (U : State)
+DrainsMail-unique : StepHasOneOutcome
+    → (rules : Rules) (processes : ℕ) (sent : ℕ
+    → List Request) (events : List Event) (S : State) (more : List Event) (T : State) (others : List Event) (U : State)
     → DrainsMail rules processes sent events S more T → DrainsMail rules processes sent events S others U → (more ≡ others) × (T ≡ U)
 DrainsMail-unique one rules processes sent events S [] T [] U h k = (refl, h.0 ∙ sym k.0)
 DrainsMail-unique one rules processes sent events S [] T (next ∷ others) U h k =
@@ -68,7 +70,8 @@ DrainsMail-unique one rules processes sent events S (event ∷ more) T (next ∷
     ((λ i. same.0 i ∷ rest.0 i), rest.1)
 
 -- arrival by arrival
-DrainsFrom-unique : StepHasOneOutcome → (rules : Rules) (processes : ℕ) (arrived : List (ℕ × Request)) (events : List Event) (S : State) (later : List (ℕ × Request))
+DrainsFrom-unique : StepHasOneOutcome
+    → (rules : Rules) (processes : ℕ) (arrived : List (ℕ × Request)) (events : List Event) (S : State) (later : List (ℕ × Request))
     (journal : List Event) (T : State) (other : List Event) (U : State)
     → DrainsFrom rules processes arrived events S later journal T → DrainsFrom rules processes arrived events S later other U → (journal ≡ other) × (T ≡ U)
 DrainsFrom-unique one rules processes arrived events S [] journal T other U h k = (h.0 ∙ sym k.0, h.1 ∙ sym k.1)

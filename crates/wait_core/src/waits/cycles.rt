@@ -55,7 +55,8 @@ impl Waits {
     fn blockers(&self, wait: &Wait, books: &[Book]) -> ProcessSet
         requires well_formed { IsWellFormed (processes_of self.now) wait.now }
         requires books { length books.now ≡ 64 }
-        ensures { (q : ℕ) → 1 ≤ q → q ≤ PROCESSES → IsTrue (is_member result q) ↔ IsBlockedByProcess (policy_of self.now) (locks_of books.now) (waits_of self.now) wait.now q }
+        ensures { (q : ℕ) → 1 ≤ q → q ≤ PROCESSES
+            → IsTrue (is_member result q) ↔ IsBlockedByProcess (policy_of self.now) (locks_of books.now) (waits_of self.now) wait.now q }
     {
         let by_lock = wait.blocking_by_lock(books);
         match self.policy {
@@ -66,7 +67,8 @@ impl Waits {
 
     /// Processes among which is each one that some process waits for.
     fn all_waited_for(&self) -> ProcessSet
-        ensures { (p q : ℕ) → 1 ≤ q → q ≤ PROCESSES → (locks : Locks) → AreTold self.now locks → WaitsFor (policy_of self.now) locks (waits_of self.now) p q → IsTrue (is_member result q) }
+        ensures { (p q : ℕ) → 1 ≤ q → q ≤ PROCESSES → (locks : Locks) → AreTold self.now locks
+            → WaitsFor (policy_of self.now) locks (waits_of self.now) p q → IsTrue (is_member result q) }
     {
         let by_lock = self.pairs.all_told();
         match self.policy {
@@ -78,7 +80,8 @@ impl Waits {
     /// The processes that this one waits for.
     fn waited_for(&self, p: u8) -> ProcessSet
         requires { p ≤ PROCESSES }
-        ensures { (q : ℕ) → 1 ≤ q → q ≤ PROCESSES → (locks : Locks) → AreTold self.now locks → IsTrue (is_member result q) ↔ WaitsFor (policy_of self.now) locks (waits_of self.now) p q }
+        ensures { (q : ℕ) → 1 ≤ q → q ≤ PROCESSES → (locks : Locks) → AreTold self.now locks
+            → IsTrue (is_member result q) ↔ WaitsFor (policy_of self.now) locks (waits_of self.now) p q }
     {
         let row = self.pairs.row(p);
         match self.policy {

@@ -7,7 +7,8 @@ use Rattle.lock_server.proofs.closing.close.Given as goal
 
 abbrev pub invariant-loop-owner : goal.invariant-loop-owner
 invariant-loop-owner l = record {
-  closing : IsClosing (table_state l.initial.table) (through_at l.initial.openings) l.file l.open_file (next_of l.above) (table_state l.table) (through_at l.openings);
+  closing : IsClosing (table_state l.initial.table) (through_at l.initial.openings) l.file l.open_file (next_of l.above) (table_state l.table)
+      (through_at l.openings);
   policy : table_policy l.table ≡ table_policy l.initial.table;
 }
 

@@ -10,11 +10,14 @@ use Rattle.script_core.proofs.EntryLemmas.{notes_one, notes_fault, notes_wanted}
 use Rattle.script_core.proofs.FaultLemmas.{note_never_memory}
 use Rattle.script_core.proofs.entry.read_notes.Goals as goal
 
-turn_of : {S A B : Type 0} {steps : S → Option A → S → Type 0} {s : S} (xs : List A) (t : S) (y : Yields steps s xs t) → (r : Option A) (u : S) (x : A) → r ≡ Some x → steps t r u
-    → (v : A → B) (all : List B) → YieldsList steps v s all → (map v xs ≡ take (length xs) all) × ((length xs < length all) × (v x ≡ get_or all (length xs) (v x)))
+turn_of : {S A B : Type 0} {steps : S → Option A → S → Type 0} {s : S} (xs : List A) (t : S) (y : Yields steps s xs t)
+    → (r : Option A) (u : S) (x : A) → r ≡ Some x → steps t r u
+    → (v : A → B) (all : List B) → YieldsList steps v s all
+    → (map v xs ≡ take (length xs) all) × ((length xs < length all) × (v x ≡ get_or all (length xs) (v x)))
 turn_of xs t y r u x is step v all road = (YieldsList-so_far road xs t y, YieldsList-turn road xs t y r u x is step)
 
-end_of : {S A B : Type 0} {steps : S → Option A → S → Type 0} {s : S} (xs : List A) (t : S) (y : Yields steps s xs t) → (r : Option A) (u : S) → r ≡ None → steps t r u
+end_of : {S A B : Type 0} {steps : S → Option A → S → Type 0} {s : S} (xs : List A) (t : S) (y : Yields steps s xs t) → (r : Option A) (u : S)
+    → r ≡ None → steps t r u
     → (v : A → B) (all : List B) → YieldsList steps v s all → map v xs ≡ all
 end_of xs t y r u is step v all road = (YieldsList-end road xs t y r u is step).0
 

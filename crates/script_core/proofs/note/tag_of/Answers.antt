@@ -8,7 +8,8 @@ use Rattle.script_core.specs.EntryReading.{IsTag}
 use Rattle.script_core.proofs.EntryLemmas.{tag_cut}
 use Rattle.script_core.proofs.note.tag_of.Goals as goal
 
-not_process : (limits : Limits) (word : List ℕ) (r : Result ℕ Cause) → MatchResult r (λ p. IsProcess limits p × (word ≡ decimal p)) (IsBad (ProcessNumber limits) word)
+not_process : (limits : Limits) (word : List ℕ) (r : Result ℕ Cause)
+    → MatchResult r (λ p. IsProcess limits p × (word ≡ decimal p)) (IsBad (ProcessNumber limits) word)
     → None ≡ result_ok r → (p : ℕ) → IsProcess limits p → word ≡ decimal p → ⊥
 not_process limits word (Ok q) given none p is at = absurd (let other : None ≡ Some q = none in cc)
 not_process limits word (Err cause) given none p is at = given.0 (p, is.0, is.1, at)

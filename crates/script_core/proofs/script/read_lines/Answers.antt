@@ -9,11 +9,13 @@ use Rattle.std.proofs.lemmas.Iterator.Splits.{YieldsList-from_slice_split}
 use Rattle.script_core.proofs.ScriptLemmas.{IsReadUpTo-more, fault_at, memory_at, read_all, cut_at}
 use Rattle.script_core.proofs.script.read_lines.Goals as goal
 
-turn_of : {S A B : Type 0} {steps : S → Option A → S → Type 0} {s : S} (xs : List A) (t : S) (y : Yields steps s xs t) → (r : Option A) (u : S) (x : A) → r ≡ Some x → steps t r u
+turn_of : {S A B : Type 0} {steps : S → Option A → S → Type 0} {s : S} (xs : List A) (t : S) (y : Yields steps s xs t)
+    → (r : Option A) (u : S) (x : A) → r ≡ Some x → steps t r u
     → (v : A → B) (all : List B) → YieldsList steps v s all → (length xs < length all) × (v x ≡ get_or all (length xs) (v x))
 turn_of xs t y r u x is step v all road = YieldsList-turn road xs t y r u x is step
 
-end_of : {S A B : Type 0} {steps : S → Option A → S → Type 0} {s : S} (xs : List A) (t : S) (y : Yields steps s xs t) → (r : Option A) (u : S) → r ≡ None → steps t r u
+end_of : {S A B : Type 0} {steps : S → Option A → S → Type 0} {s : S} (xs : List A) (t : S) (y : Yields steps s xs t) → (r : Option A) (u : S)
+    → r ≡ None → steps t r u
     → (v : A → B) (all : List B) → YieldsList steps v s all → length xs ≡ length all
 end_of xs t y r u is step v all road = (YieldsList-end road xs t y r u is step).1
 

@@ -7,6 +7,7 @@ use Rattle.wait_core.proofs.Wait.blocking_by_lock.Given as goal
 
 abbrev pub invariant-loop-q : goal.invariant-loop-q
 invariant-loop-q l = record {
-  before : (q : ℕ) → 1 ≤ q → q < l.q → IsTrue (is_member l.blocking q) ↔ ProcessBlocks ((locks_of l.books).bytes l.self.file) q l.self.owner l.self.span l.self.mode;
+  before : (q : ℕ) → 1 ≤ q → q < l.q
+      → IsTrue (is_member l.blocking q) ↔ ProcessBlocks ((locks_of l.books).bytes l.self.file) q l.self.owner l.self.span l.self.mode;
   after : (q : ℕ) → l.q ≤ q → IsFalse (is_member l.blocking q);
 }

@@ -3,7 +3,8 @@ use Rattle.replay_core.specs.Devices.{GivesByte, GivesSome}
 use Rattle.replay_core.proofs.devices.Source.read_some.Goals as goal
 
 -- one byte is at least one
-one_byte : (old new : Option (List ℕ)) (room : List ℕ) (byte : ℕ) → 0 < length room → GivesByte old new (Some byte) → GivesSome old new (slice_set room 0 byte) 1
+one_byte : (old new : Option (List ℕ)) (room : List ℕ) (byte : ℕ) → 0 < length room → GivesByte old new (Some byte)
+    → GivesSome old new (slice_set room 0 byte) 1
 one_byte old new [] byte some gives = absurd (omega (arith, some))
 one_byte old new (first ∷ rest) byte some gives = record { within = omega arith; consumed = gives.consumed; end = λ e. absurd (omega (arith, e)) }
 
