@@ -6,9 +6,10 @@ use range_core::{Kind, Whence};
 use script_core::{
     Cause, JournalFault, JournalReader, ScriptFault, parse, parse_entry, write_entry, write_report,
 };
-use session_core::{Entry, Notes, RunAllFault, run_all};
+use session_core::{Entry, Notes, run_all};
 use std::alloc::Global;
 use std::process::Abort;
+use std::test::Fail;
 use wait_core::Policy;
 
 /// A refused growth of `parse` is told of one of the lines, whatever the script says.
@@ -86,7 +87,7 @@ proc 2 sent 2 taken 2 answered 1 waiting
 
 /// A refused growth of `write_report` leaves the old bytes and a front of the text, and written again it is the whole one.
 #[test]
-fn write_report_without_memory(rt: HostRuntime) -> Result<(), RunAllFault> {
+fn write_report_without_memory(rt: HostRuntime) -> Result<(), Fail> {
     let access = Access::Rw;
     let exclude = |fd| Request::Flock {
         fd,
