@@ -20,7 +20,7 @@ impl Book {
         ensures unlock { mode ≡ None → (¬ SplitsRun (byte_modes_of self.old owner) span) → IsOk result }
         ensures err { OnErr result (SameBook self.old self.new) }
     {
-        self.cover.prepare(self.alloc, &self.owners);
+        self.cover.prepare(self.alloc, mode, &self.owners);
         self.cover.raise(span, mode);
         match self.owners.get_mut(&owner) {
             Some(list) => {

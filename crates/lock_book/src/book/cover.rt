@@ -22,7 +22,7 @@ const SPARE_SETS: usize = 64;
 pub struct Cover {
     /// `None` where there is no cover: anything may stand on any byte.
     most: Option<RangeList>,
-    /// How many sets there were since it was made.
+    /// How many locks were set since it was made.
     sets: usize,
 }
 
@@ -47,12 +47,20 @@ impl Cover {
             .is_some_and(|list| list.first_hit(span, mode).is_none())
     }
 
-    /// Readies the cover for one more set by an owner of these lists: makes it where there are many owners and none, or one
-    /// that may have come to cover much more than there is.
-    pub fn prepare(&mut self, alloc: Global, owners: &BTreeMap<Owner, RangeList>)
+    /// Readies the cover for one more set of this mode by an owner of these lists: makes it where there are many owners and none,
+    /// or one that may have come to cover much more than there is. An unlock needs none, and takes no memory.
+    pub fn prepare(
+        &mut self,
+        alloc: Global,
+        mode: Option<Mode>,
+        owners: &BTreeMap<Owner, RangeList>,
+    )
         requires { AreCovered self.old owners.now.entries }
         ensures { AreCovered self.new owners.now.entries }
     {
+        if mode.is_none() {
+            return;
+        }
         self.sets = self.sets.saturating_add(1);
         if owners.len() > FEW_OWNERS && self.is_worn(owners.len()) {
             *self = Cover::of(alloc, owners);
@@ -117,7 +125,7 @@ impl Cover {
         }
     }
 
-    /// Whether there is no cover, or there were more sets since it was made than it has runs and the file owners.
+    /// Whether there is no cover, or more locks were set since it was made than it has runs and the file owners.
     fn is_worn(&self, owners: usize) -> bool {
         match &self.most {
             Some(list) => self.sets > list.runs().len().saturating_add(owners),
