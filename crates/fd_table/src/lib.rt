@@ -23,7 +23,7 @@ const FILE_COUNT: usize = FILES as usize;
 const MOST_DESCRIPTORS: u32 = 256;
 
 /// The number of open file descriptions that may ever be made (this project's choice).
-pub const DESCRIPTIONS: u64 = 4611686018427387904;
+pub const DESCRIPTIONS: u64 = 1 << 62;
 
 /// What a file descriptor was opened for: the access mode of its description (POSIX.1-2017 open).
 #[derive(Clone, Copy, Debug, PartialEq, Eq)]

@@ -11,7 +11,7 @@ ghost use Rattle.lock_manager.specs.WaitsKept.{SameWaits, StayKnown};
 
 use fd_table::Releases;
 use lock_book::{Book, Owner};
-use range_core::{OFFMAX, Span};
+use range_core::Span;
 use wait_core::{Waits, stay_free_of_cycles};
 
 /// Removes, on each file of which the process closed a descriptor, its traditional locks (POSIX.1-2017 close), and the OFD
@@ -32,13 +32,9 @@ pub fn release(books: &mut Vec<Book>, waits: &mut Waits, p: u8, released: &Relea
     // A law, and nothing to run.
     stay_free_of_cycles();
     let descriptions = released.descriptions();
-    let whole = Span {
-        first: 0,
-        last: OFFMAX,
-    };
     for file in released.files() {
         release_in(&mut books[usize::from(*file)], p, descriptions);
-        waits.refresh_owner(*file, Owner::Process(p), whole, books);
+        waits.refresh_owner(*file, Owner::Process(p), Span::WHOLE_FILE, books);
     }
 }
 

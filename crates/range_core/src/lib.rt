@@ -14,7 +14,7 @@ pub use resolving::resolve;
 use thiserror::Error;
 
 /// The largest offset of a file, in bytes: the largest value of a 64-bit `off_t` (this project's choice).
-pub const OFFMAX: u64 = 9223372036854775807;
+pub const OFFMAX: u64 = i64::MAX as u64;
 
 /// What a lock allows: others may hold read locks beside it, or it excludes every other owner
 /// (POSIX.1-2017 fcntl, `F_SETLK`; flock(2): `LOCK_SH` is `Read` and `LOCK_EX` is `Write`).
@@ -57,6 +57,14 @@ pub struct Span {
     pub first: u64,
     /// The offset of the last byte.
     pub last: u64,
+}
+
+impl Span {
+    /// All bytes that a file may have.
+    pub const WHOLE_FILE: Span = Span {
+        first: 0,
+        last: OFFMAX,
+    };
 }
 
 /// Why a lock description names no range (POSIX.1-2017 fcntl, ERRORS).

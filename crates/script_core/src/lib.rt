@@ -47,4 +47,4 @@ pub const LINE_MAX: usize = 120;
 pub const ENTRY_MAX: usize = 8192;
 
 /// The most bytes that a script may have (this project's choice).
-pub const SCRIPT_MAX: usize = 1048576;
+pub const SCRIPT_MAX: usize = 1 << 20;

@@ -18,4 +18,4 @@ pub use run::{RunAllFault, run_all};
 pub use session::{ArriveFault, Session};
 
 /// How many requests one process may send (this project's choice).
-pub const N_MAX: u64 = 1099511627776;
+pub const N_MAX: u64 = 1 << 40;

@@ -8,7 +8,7 @@ ghost use Rattle.lock_book.specs.Changes.{whole_file};
 
 use super::Book;
 use crate::{Held, Owner};
-use range_core::{Memory, Mode, OFFMAX, RangeList, Span};
+use range_core::{Memory, Mode, RangeList, Span};
 
 impl Book {
     /// All locks on the file, whose number is only written down: owners rising, the runs of each rising, and then the
@@ -56,10 +56,7 @@ fn flock_line(file: u8, description: u64, mode: Mode) -> Held
         whole: true,
         owner: Owner::Description(description),
         mode,
-        span: Span {
-            first: 0,
-            last: OFFMAX,
-        },
+        span: Span::WHOLE_FILE,
     }
 }
 

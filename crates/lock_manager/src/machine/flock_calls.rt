@@ -19,7 +19,7 @@ use crate::replies::{answered, refused};
 use crate::{Errno, FlockOp, Note, ProcState, Reply, Request};
 use fd_table::{FILES, Look};
 use lock_book::Owner;
-use range_core::{Memory, Mode, OFFMAX, Span};
+use range_core::{Memory, Mode, Span};
 use wait_core::{Family, Wait, Waits, stay_free_of_cycles};
 
 impl Machine {
@@ -201,10 +201,7 @@ pub(super) fn wanted_flock(p: u8, n: u64, look: Look, mode: Mode) -> Wait
         file: look.file,
         family: Family::Whole,
         owner: Owner::Description(look.desc),
-        span: Span {
-            first: 0,
-            last: OFFMAX,
-        },
+        span: Span::WHOLE_FILE,
         mode,
     }
 }
