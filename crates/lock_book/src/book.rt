@@ -3,8 +3,8 @@ ghost use Rattle.std.specs.Prelude.{ℕ, ◌≡◌, None, false};
 ghost use Rattle.lock_book.specs.OwnerLists.{AreInUse};
 ghost use Rattle.lock_book.specs.Covering.{AreCovered, AreCovered-prop};
 
-mod blocking;
 mod bytes;
+mod conflicts;
 mod cover;
 mod flocks;
 mod holders;

@@ -1,7 +1,7 @@
 //! Waits for locks: who waits, what blocks a wait, and when a wait would close a cycle.
 #![tactic(auto)]
 
-mod conflicts;
+mod blocking;
 mod files;
 mod laws;
 mod pairs;
