@@ -35,10 +35,6 @@ users_more : (row : Keys) (fd x : ℕ) (held : Option ℕ) → fd < length row �
 users_more row fd x held within is =
     sum_by_more (λ place. cond (is_key x place) 1 0) row fd None within ∙ ap (λ o. users_in (take fd row) x + one_for x o) is
 
--- the entry with this many users
-abbrev users_set : Opened → ℕ → Opened
-users_set entry n = record entry { users = n }
-
 same_count : (old now : Slab Opened) (row : Keys) (fd x : ℕ) (held : Option ℕ) → fd < length row → get_or row fd None ≡ held → one_for x held ≡ 0
     → AreCounted old now (take fd row) → get now x ≡ option_map (with_users (users_in (take (fd + 1) row) x)) (get old x)
 same_count old now row fd x held within is none counted =
@@ -113,7 +109,9 @@ pub row_read : (rows : List Keys) (place p : ℕ) (row read : Keys) → place �
 row_read rows place p row read is inside at same = same ∙ get_or_read rows place read (omega (arith, is, inside)) at [] ∙ ap (row_at rows) is
 
 -- the users that a place of the row adds fit
-pub users_fit : (old now : Slab Opened) (row : Keys) (fd key : ℕ) (entry : Opened) → fd < length row → ((key : ℕ) (entry : Opened) → get old key ≡ Some entry → entry.users + length row < 2 ^ 64) → AreCounted old now (take fd row) → get now key ≡ Some entry → entry.users + 1 < 2 ^ 64
+pub users_fit : (old now : Slab Opened) (row : Keys) (fd key : ℕ) (entry : Opened) → fd < length row
+    → ((key : ℕ) (entry : Opened) → get old key ≡ Some entry → entry.users + length row < 2 ^ 64)
+    → AreCounted old now (take fd row) → get now key ≡ Some entry → entry.users + 1 < 2 ^ 64
 users_fit old now row fd key entry within fit counted is =
     let before = mapped_from (with_users (users_in (take fd row) key)) (get old key) entry (sym (counted key) ∙ is) in
     omega (arith, fit key before.0 before.1, ap (λ (e : Opened). e.users) before.2, count_by-le-length (is_key key) (take fd row), length-take-le fd row (omega arith))

@@ -38,7 +38,8 @@ abbrev pub one_for : ℕ → Option ℕ → ℕ
 one_for key held = cond (is_key key held) 1 0
 
 -- a write of one key takes one user from the old key and gives one to the new
-pub users_of-with_key : (rows : List Keys) (p fd : ℕ) (held : Option ℕ) (key : ℕ) → p < length rows → fd < length (row_at rows p) → users_of (with_key rows p fd held) key + one_for key (key_at rows p fd) ≡ users_of rows key + one_for key held
+pub users_of-with_key : (rows : List Keys) (p fd : ℕ) (held : Option ℕ) (key : ℕ) → p < length rows → fd < length (row_at rows p)
+    → users_of (with_key rows p fd held) key + one_for key (key_at rows p fd) ≡ users_of rows key + one_for key held
 users_of-with_key rows p fd held key inside within = grind (arith, common_steps, sum_by-set)
 
 -- a key that a descriptor refers to has a user

@@ -110,10 +110,6 @@ numbered_set_other : (xs : List OpenFileDescription) (n m : ℕ) (x y z : OpenFi
     → description_numbered xs m ≡ Some z → description_numbered (set xs (pred n) x) m ≡ Some z
 numbered_set_other xs n m x y z h h2 h3 = grind (arith, common_steps, none-some, slice_get-set_other)
 
--- the description at this offset
-abbrev offset_at : OpenFileDescription → ℕ → OpenFileDescription
-offset_at x offset = record x { offset = offset }
-
 -- the description with this number gets this offset, if it is the one that is shown
 abbrev pub moved : ℕ → ℕ → Numbered → Numbered
 moved number offset s = cond (eqb s.number number) (record s { description = record s.description { offset = offset } }) s

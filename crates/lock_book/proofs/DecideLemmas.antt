@@ -17,6 +17,7 @@ use Rattle.lock_book.specs.Holders.{mode_in_place}
 use Rattle.lock_book.specs.Books.{list_of, place_of, byte_modes_of, flock_modes_of}
 use Rattle.lock_book.specs.Conflicts.{ByteModes, Blocks}
 use Rattle.lock_book.specs.Decided.{ByteConflictIsDecided, FlockConflictIsDecided, ProcessBlocksIsDecided}
+use Rattle.lock_book.proofs.BlockLemmas.{list_in}
 use Rattle.lock_book.proofs.OwnerLemmas.{same_owner, is_same_owner-self}
 
 -- two owners are one, or not
@@ -96,11 +97,6 @@ key_or_none test same P each (e ∷ es) = elim (each e.0) [
   ]
 ]
 
--- an owner with a lock has a list
-list_of_held : (list : Option RangeList) (byte : ℕ) (wanted : Mode) → HeldConflicts (modes_in_list list byte) wanted → (some : RangeList) × (list ≡ Some some)
-list_of_held None byte wanted conflicts = absurd conflicts
-list_of_held (Some list) byte wanted conflicts = (list, refl)
-
 pub byte_conflict_or_not : ByteConflictIsDecided
 unfolding list_of byte_modes_of
 byte_conflict_or_not book owner span wanted =
@@ -108,7 +104,7 @@ byte_conflict_or_not book owner span wanted =
     book.owners.entries) [
       | inl some ↦ inl (record { byte = some.1.byte; covered = some.1.covered; other = some.0; blocks = some.1.blocks })
       | inr none ↦ inr (λ conflict.
-          let list = list_of_held (list_of book conflict.other) conflict.byte wanted conflict.blocks.conflicts in
+          let list = list_in (list_of book conflict.other) conflict.byte wanted conflict.blocks.conflicts in
           none conflict.other list.0 list.1 (record { byte = conflict.byte; covered = conflict.covered; blocks = conflict.blocks }))
     ]
 

@@ -1,5 +1,4 @@
 pub mod BlockLemmas
-pub mod BookLaws
 pub mod BookLemmas
 pub mod CoverLemmas
 pub mod DecideLemmas

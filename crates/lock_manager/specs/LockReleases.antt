@@ -28,7 +28,8 @@ pub record ReleasesInBook (old new : Book) (p : ℕ) (descriptions : List ℕ) :
   pub places : (description : ℕ) → has_flock_place new description
       ≡ (if is_one_of descriptions description then false else has_flock_place old description)
 
--- on each of these files the process has no traditional lock and the descriptions no lock at all; all else stays (POSIX.1-2017 close; fcntl_locking(2); flock(2))
+-- on each of these files the process has no traditional lock and the descriptions no lock at all; all else stays (POSIX.1-2017 close;
+-- fcntl_locking(2); flock(2))
 pub record ReleasesLocks (old new : Locks) (p : ℕ) (files descriptions : List ℕ) : Type 0 where
   pub bytes : (file : ℕ) (owner : Owner) (byte : ℕ) → new.bytes file owner byte
       ≡ (if is_one_of files file && is_released p descriptions owner then None else old.bytes file owner byte)

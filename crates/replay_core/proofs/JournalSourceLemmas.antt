@@ -48,27 +48,6 @@ more_read old mid new before after left rest more so_far consumed count checked 
       few = omega (arith, is, few, so_far.few);
     }
 
--- the source is at its end
-pub read_to_end : (old mid new : Option (List ℕ)) (checking : Checking) (left : ℕ) → IsReadSoFar old mid checking left → Consumes mid new []
-    → IsAtEnd new → 0 < left → ReadsChecked old new checking
-read_to_end old mid new checking left so_far consumed ended some = record {
-  input = so_far.input ++ [];
-  consumed = Consumes-trans old mid new so_far.input [] so_far.consumed consumed;
-  ended = ended;
-  short = let is = length-append so_far.input [] in omega (arith, is, so_far.count, some);
-  checked = subst (HasChecked checking) (sym (append-nil so_far.input)) so_far.checked;
-  few = omega (arith, so_far.few, so_far.count, some);
-}
-
--- what is too long is refused
-pub refused : (old new : Option (List ℕ)) (checking : Checking) (left : ℕ) → IsReadSoFar old new checking left → left ≡ 0
-    → ReadsFaultyJournal old new (record { line = 0; cause = TooLong })
-refused old new checking left so_far none = record {
-  input = so_far.input;
-  read = record { consumed = so_far.consumed; whole = inr (omega (arith, so_far.count, none)) };
-  faulty = let is = lt-ltb journal_limit (length so_far.input) (omega (arith, so_far.count, none)) in rw is refl;
-}
-
 -- what isn't comes to what its lines come to
 pub comes : (bytes : List ℕ) (verdict : Verdict) → length bytes ≤ journal_limit → LinesCome 1 journal_start (lines_of bytes) verdict
     → JournalComes bytes verdict

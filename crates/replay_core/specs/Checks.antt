@@ -46,7 +46,8 @@ LinesCome number reading [] verdict = MatchFact (MayEnd reading) (verdict ≡ Le
 LinesCome number reading (line ∷ lines) verdict =
     (next : Result JournalLine Cause) × JournalLineGives reading.place line next
     × MatchResult next
-    (λ said. MatchFact (MayGoOn reading line said) (LinesCome (number + 1) (reading_behind reading line said) lines verdict) (IsIllegalAt number reading said verdict))
+    (λ said. MatchFact (MayGoOn reading line said)
+        (LinesCome (number + 1) (reading_behind reading line said) lines verdict) (IsIllegalAt number reading said verdict))
     (λ cause. verdict ≡ Faulty (record { line = number; cause = cause }))
 
 -- a journal: it is too long, or its lines decide

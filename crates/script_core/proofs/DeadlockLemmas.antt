@@ -33,10 +33,6 @@ first_at Holds xs i x within none holds = record {
       subst (λ y. ¬ Holds y) (sym (get_or-take i xs k d short)) (none k d short);
 }
 
--- of no item it holds, where it holds of none
-pub none_any : {X : Type 0} (P : X → Type 0) (xs : List X) → All (λ x. ¬ P x) xs → ¬ Any P xs
-none_any P xs none (k, x, within, is, holds) = none k x within (subst P (sym is) holds)
-
 -- of the first it holds
 first_any : {X : Type 0} (P : X → Type 0) (xs : List X) (x : X) → IsFirstOf P xs x → Any P xs
 first_any P xs x h =
@@ -51,12 +47,6 @@ step_blocks policies.Held report earlier wait q (obstacles.Lock held) first = fi
 step_blocks policies.Queue report earlier wait q (obstacles.Lock held) first = inl (first_any (IsLockAgainst q wait) report held first)
 step_blocks policies.Held report earlier wait q (obstacles.Wait other) h = absurd (let no = h.0 in cc)
 step_blocks policies.Queue report earlier wait q (obstacles.Wait other) h = inr (first_any (IsWaitAgainst q wait) earlier other h.2)
-
--- where nothing makes one it isn't blocked
-pub no_step : (report : List Held) (earlier : List Wait) (wait : Wait) (q : ℕ) → All (λ line. ¬ IsLockAgainst q wait line) report
-    → All (λ v. ¬ IsWaitAgainst q wait v) earlier → ¬ IsBlockedInReport policies.Queue report earlier wait q
-no_step report earlier wait q none free (inl by_lock) = none_any (IsLockAgainst q wait) report none by_lock
-no_step report earlier wait q none free (inr by_wait) = none_any (IsWaitAgainst q wait) earlier free by_wait
 
 -- a link tells a step
 pub link_leads : (policy : Policy) (report : List Held) (waits : List Wait) (start : Start) (link : Link) → IsLink policy report waits start link

@@ -185,7 +185,8 @@ never_born_more p sent h = grind (arith, common_steps)
 
 -- a front of a journal was made again: the manager stands for the state that it leaves, from which the rest leads on, and the text has
 -- grown by what explains the front
-pub record HasExplained (states : States) (rules : Rules) (processes : ℕ) (journal : List Event) (index : ℕ) (manager : Manager) (old new : List ℕ) : Type 0 where
+pub record HasExplained (states : States) (rules : Rules) (processes : ℕ) (journal : List Event) (index : ℕ) (manager : Manager)
+    (old new : List ℕ) : Type 0 where
   pub state : State
   pub last : State
   pub stands : StandsFor manager state

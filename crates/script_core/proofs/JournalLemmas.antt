@@ -44,11 +44,6 @@ head_of_first place words result h = grind (arith, common_steps, many_heads, len
 pub head_of_comment : (place : Place) (line : List ℕ) → begins_with_hash line ≡ true → HeadGives place (words_of line) (Ok (Some lines.Skipped))
 head_of_comment place line is = grind (arith, common_steps, comment_word)
 
--- not refused for want of memory
-IsNamed : Result (Option JournalLine) Cause → Type 0
-IsNamed (Ok said) = Unit {0}
-IsNamed (Err cause) = IsOfScript cause
-
 ValueGives-unique : {A : Type 0} (argument : Argument) (word : A → List ℕ) (said : A → JournalLine) (read : List ℕ → A)
     → ((value : A) → read (word value) ≡ value) → ((value : A) → Spells argument (word value))
     → (words : List (List ℕ)) (a b : Result (Option JournalLine) Cause)

@@ -25,10 +25,6 @@ pub SkipsTo-more : (old : List ReportLine) (text : List ℕ) (line : ReportLine)
 SkipsTo-more old text line rest skips other out more =
     ((λ are. ⊎_elim (λ yes. absurd (other yes.0)) (λ no. no.1.1) ((skips more).0 are)), (λ are. (skips more).1 (inr (other, (out, are)))))
 
--- no line is left
-pub none_left : (old : List ReportLine) (text : List ℕ) → SkipsTo old text [] → (more : List (List ℕ)) → AreTextsOf old (text ∷ more) → ⊥
-none_left old text skips more are = let no : text ∷ more ≡ [] = (skips more).0 are in cc
-
 -- what is due of the new lines is due of the old ones, whose lines before them may be left out
 pub record Owes (old new : List ReportLine) : Type 0 where
   pub due : (line : ReportLine) → IsFirstDue new line → IsFirstDue old line

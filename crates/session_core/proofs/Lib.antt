@@ -1,6 +1,7 @@
 pub mod tallies
 pub mod queue
 pub mod runs
+pub mod LeadsLemmas
 pub mod MailLemmas
 pub mod AnswerLemmas
 pub mod LastLemmas

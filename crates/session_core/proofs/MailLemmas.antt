@@ -229,16 +229,6 @@ pub next_untaken-waits : (mailboxes : List Mailbox) (journal : List Event) (p : 
     → next_untaken (mail_sent mailboxes journal) journal p ≡ slice_get (mail_waiting mailboxes p) 0
 next_untaken-waits mailboxes journal p = grind (arith, common_steps, length-map, slice_get-behind)
 
--- a process without a next request has no such mail
-pub no_mail : (mailboxes : List Mailbox) (journal : List Event) (q : ℕ)
-    → IsNone (next_untaken (mail_sent mailboxes journal) journal q) → ¬ (HasMail mailboxes q)
-no_mail mailboxes journal q none some =
-    nothing (mail_waiting mailboxes q) (subst (λ o. IsNone o) (next_untaken-waits mailboxes journal q) none) some
-  where
-    nothing : (waiting : List Request) → IsNone (slice_get waiting 0) → ¬ (0 < length waiting)
-    nothing [] none some = omega arith
-    nothing (request ∷ waiting) none some = cc
-
 -- there are 64 processes at most, whatever the limits
 pub few_processes : (limits : Limits) (processes : ℕ) → processes ≤ process_limit limits → processes ≤ 64
 few_processes Small processes within = omega (arith, within)

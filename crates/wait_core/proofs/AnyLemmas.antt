@@ -41,10 +41,6 @@ module _ {X : Type 0} where
   pub Any-weaker : (P Q : X → Type 0) → ((x : X) → P x → Q x) → (xs : List X) → Any P xs → Any Q xs
   Any-weaker P Q weaker xs (k, x, within, is, holds) = (k, x, within, is, weaker x holds)
 
-  -- the element at a place, of which something holds
-  pub Any-at : (P : X → Type 0) (xs : List X) (k : ℕ) (x : X) → k < length xs → get_or xs k x ≡ x → P x → Any P xs
-  Any-at P xs k x within is holds = (k, x, within, is, holds)
-
   filter-yes : (f : X → Bool) (x : X) (xs : List X) → f x ≡ true → filter f (x ∷ xs) ≡ x ∷ filter f xs
   filter-yes f x xs passes = rw passes
 
@@ -87,6 +83,3 @@ module _ {X : Type 0} where
 
   pub split_is : (xs before : List X) (x : X) (after : List X) → xs ≡ before ++ x ∷ after → get_or xs (length before) x ≡ x
   split_is xs before x after place = rw place (get_or-append_seam before x after x)
-
-  pub split_take : (xs before : List X) (x : X) (after : List X) → xs ≡ before ++ x ∷ after → take (length before) xs ≡ before
-  split_take xs before x after place = rw place (take-append_seam before (x ∷ after))

@@ -2,7 +2,7 @@
 use Rattle.std.proofs.lemmas.Grind.{common_steps}
 use Rattle.std.proofs.Common.{ℕ, ◌≡◌, ◌≢◌, ◌+◌, ◌<◌, ◌≤◌, ◌↔◌, ◌∙◌, inl, inr, sym, refl, arith, Bool, false, List, [], ◌∷◌, Any, length, get_or, take}
 use Rattle.std.specs.Prelude.{IsTrue, IsFalse, ◌==◌, ◌||◌}
-use Rattle.std.proofs.lemmas.Bool.{cases_eq, eqb-true, eq-eqb, or_left}
+use Rattle.std.proofs.lemmas.Bool.{cases_eq, eqb-true, eq-eqb, or_left, or_right}
 use Rattle.std.proofs.lemmas.Bool.Decides.{nat_tests}
 use Rattle.std.proofs.lemmas.List.{take_more}
 use Rattle.wait_core.specs.declared.Wait.{Wait}
@@ -12,7 +12,7 @@ use Rattle.wait_core.specs.Cycles.{IsTraditional}
 use Rattle.wait_core.specs.Pairs.{IsConflictOf}
 use Rattle.wait_core.specs.Processes.{is_member}
 use Rattle.wait_core.proofs.AnyLemmas.{Any-append, Any-append_left, Any-append_right, Any-here, Any-alone}
-use Rattle.wait_core.proofs.ProcessLemmas.{or_cases, or_right}
+use Rattle.wait_core.proofs.ProcessLemmas.{or_cases}
 
 -- the set has the process that was put in, and else what it had
 pub inserted_same : (old new : ProcessSet) (p : ℕ) → ((q : ℕ) → is_member new q ≡ (q == p || is_member old q)) → IsTrue (is_member new p)

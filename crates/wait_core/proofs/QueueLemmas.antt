@@ -4,7 +4,7 @@ use Rattle.std.proofs.Common.{ℕ, ◌≡◌, ◌≢◌, ◌≤◌, ◌↔◌, �
 use Rattle.std.specs.Prelude.{IsTrue, ◌==◌, ◌||◌, if◌then◌else◌}
 use Rattle.std.specs.List.{filter}
 use Rattle.std.proofs.Math.Logic.{∥∥₁_elim}
-use Rattle.std.proofs.lemmas.Bool.{cases_eq, cases_Bool, eq-eqb, or_left}
+use Rattle.std.proofs.lemmas.Bool.{cases_eq, cases_Bool, eq-eqb, or_left, or_right}
 use Rattle.std.proofs.lemmas.Bool.Decides.{nat_tests}
 use Rattle.std.proofs.lemmas.List.{append-nil}
 use Rattle.std.proofs.lemmas.List.Elements.{All-nil, All-head, All-tail, All-push, filter-append}
@@ -23,7 +23,7 @@ use Rattle.wait_core.specs.WaitsView.{waits_of, has_pair, AreTold}
 use Rattle.wait_core.proofs.AnyLemmas.{Any-filter, Any-unfilter, Any-weaker}
 use Rattle.wait_core.proofs.DecideLemmas.{any_or_not, same_or_other, waits_conflict_or_not}
 use Rattle.wait_core.proofs.PairLemmas.{keeps_other, other_kept}
-use Rattle.wait_core.proofs.ProcessLemmas.{or_cases, or_right}
+use Rattle.wait_core.proofs.ProcessLemmas.{or_cases}
 
 -- whether a wait is one of the process that conflicts
 conflict_of_or_not : (q : ℕ) (wait v : Wait) → IsConflictOf q wait v ⊎ ¬ IsConflictOf q wait v

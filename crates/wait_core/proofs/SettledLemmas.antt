@@ -96,10 +96,6 @@ module _ (files : FileSet) (p : ℕ) where
   abbrev pub MayLeave : Wait → Type 0
   MayLeave wait = wait.p ≡ p → IsTrue (has_file files wait.file)
 
-  -- whether the wait is of another process
-  stays : Wait → Bool
-  stays wait = not (wait.p == p)
-
   -- of the earlier waits those that conflict with one on another file stay
   conflict_stays : (v wait : Wait) → IsFalse (has_file files wait.file) → WaitsConflict v wait × MayLeave v → not (v.p == p) ≡ true
   conflict_stays v wait elsewhere (conflict, leaves) = elim (cases_eq v.p p) [

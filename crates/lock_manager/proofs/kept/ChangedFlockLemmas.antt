@@ -223,15 +223,11 @@ flock_frees_none books file old new description mode within was sets none wait b
           subst (λ (n : ℕ). held n h.description ≡ None) is_both.0 (subst (λ (n : ℕ). held file n ≡ None) is_both.1 there)) h.conflicts);
     }
 
-or_else : (a b : Bool) → b ≡ true → (a || b) ≡ true
-or_else true b is = refl
-or_else false b is = is
-
 -- a book in which a place was asked for, refused or not, keeps its locks
 pub place_taken : (old new : Book) (description : ℕ) (result : Result (Unit {0}) Memory) → OnOk result (ReservesFlock old new description)
     → OnErr result (SameBook old new)
     → KeepsLocks old new
-place_taken old new description result h h2 = grind (arith, common_steps, same_room, or_else, keeps_same)
+place_taken old new description result h h2 = grind (arith, common_steps, same_room, or_right, keeps_same)
 
 -- the place is there then
 pub placed : (before books : List Book) (file : ℕ) (old new : Book) (description : ℕ) (result : Result (Unit {0}) Memory)

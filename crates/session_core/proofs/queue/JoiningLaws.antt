@@ -41,7 +41,8 @@ use Rattle.session_core.proofs.queue.AnyLemmas.{Any-here, Any-there}
 use Rattle.session_core.proofs.queue.WaitPlaces.{Anything, StandsIn, StandsIn-each, Passes}
 use Rattle.session_core.proofs.queue.WaitMoves.{Joins, ready_apart, Settles-passes, Step-moves}
 use Rattle.session_core.proofs.queue.TurnLemmas.{Contains-here, Contains-there, Passes-answers, Waits-join}
-use Rattle.session_core.proofs.queue.TurnLaws.{Leads-one, has_waited, WouldWaitAs-of}
+use Rattle.session_core.proofs.LeadsLemmas.{Leads-split, Leads-unique}
+use Rattle.session_core.proofs.queue.TurnLaws.{has_waited, WouldWaitAs-of}
 
 -- what some has none has
 none_each : {X : Type 0} (P : X → Type 0) (xs : List X) → ¬ Any P xs → Each (λ x. ¬ P x) xs
@@ -227,13 +228,6 @@ request_kept rules processes S event p n Exit wanted outcome grants others queue
 request_kept rules processes S event p n (Signal target) wanted outcome grants others queue asks sets is are told = absurd asks
 request_kept rules processes S event p n (Kill target) wanted outcome grants others queue asks sets is are told = absurd asks
 
--- events one after another lead over a state between
-Leads-split : (rules : Rules) (processes : ℕ) (S : State) (before later : List Event) (T : State) → Leads rules processes S (before ++ later) T
-    → (U : State) × Leads rules processes S before U × Leads rules processes U later T
-Leads-split rules processes S [] later T leads = (S, refl, leads)
-Leads-split rules processes S (event ∷ before) later T leads =
-    let rest = Leads-split rules processes leads.0 before later T leads.2 in (rest.0, (leads.0, leads.1, rest.1), rest.2)
-
 -- the step of the event, from the state before it
 event_kept : StepHasOneOutcome → (rules : Rules) (processes : ℕ) (before : List Event) (event : Event) (after : List Event) (S T : State)
     (wanted : Wait) → rules.policy ≡ Queue → IsRun rules processes (before ++ event ∷ after) T
@@ -241,7 +235,7 @@ event_kept : StepHasOneOutcome → (rules : Rules) (processes : ℕ) (before : L
     → IsTurnKept rules S event wanted
 event_kept one rules processes before event after S T wanted queue run leads asks sets =
     let (U, led, rest) = Leads-split rules processes opening_state before (event ∷ after) T run.leads in
-    let same : U ≡ S = Leads-one one rules processes opening_state before U S led leads in
+    let same : U ≡ S = Leads-unique one rules processes opening_state before U S led leads in
     let step : IsStep rules processes S event rest.0 = subst (λ X. IsStep rules processes X event rest.0) same rest.1 in
     request_kept rules processes S event event.p event.n event.request wanted step.outcome step.grants sets.others queue asks sets.sets
     step.comes_to step.are_notes sets.told
@@ -257,7 +251,7 @@ none_told_passed one rules processes before event after S T wanted queue some ru
     has_waited one rules processes early first between (event ∷ after) T v queue some
     (subst (λ l. IsRun rules processes (l ++ event ∷ after) T) place run) waits in
     let same : waited.reached.state ≡ S =
-    Leads-one one rules processes opening_state front waited.reached.state S waited.reached.led
+    Leads-unique one rules processes opening_state front waited.reached.state S waited.reached.led
     (subst (λ l. Leads rules processes opening_state l S) place leads) in
     ⊎_elim (λ over. over_told before kept.grants v (subst (λ l. IsOver l (notes_told l) v) (sym place) over))
     (λ stands.

@@ -30,6 +30,7 @@ use Rattle.session_core.specs.QueuePolicy.{WouldWaitAs, WaitsAs, IsOver, notes_t
 use Rattle.session_core.proofs.tallies.Tally.{numbers_in, AreCountedFrom, Tallies, Tells, one_more, one_more-same, Each-map}
 use Rattle.session_core.proofs.tallies.Moves.{live_apart}
 use Rattle.session_core.proofs.tallies.StepLaws.{Step-tells}
+use Rattle.session_core.proofs.LeadsLemmas.{Leads-unique}
 use Rattle.session_core.proofs.runs.RunLaws.{AreNext, AreNext-numbered, opening_tallies}
 use Rattle.session_core.proofs.runs.HeadlineLaws.{none, at_most_taken}
 use Rattle.session_core.proofs.queue.AnyLemmas.{Any-append_left, Any-append_right}
@@ -155,14 +156,6 @@ Leads-reach rules processes S (event ∷ before) later T taken counts t next lea
 AreNext-front : (taken : ℕ → ℕ) (xs ys : List Event) → AreNext taken (xs ++ ys) → AreNext taken xs
 AreNext-front taken [] ys h = tt
 AreNext-front taken (x ∷ xs) ys h = (h.0, AreNext-front (one_more x.p taken) xs ys h.1)
-
--- events lead to one state
-pub Leads-one : StepHasOneOutcome → (rules : Rules) (processes : ℕ) (S : State) (events : List Event) (T U : State)
-    → Leads rules processes S events T → Leads rules processes S events U → T ≡ U
-Leads-one one rules processes S [] T U h k = h ∙ sym k
-Leads-one one rules processes S (event ∷ events) T U h k =
-    let same = one rules processes S event.p event.n event.request event.notes event.notes h.0 k.0 h.1 k.1 in
-    Leads-one one rules processes h.0 events T U h.2 (subst (λ X. Leads rules processes X events U) (sym same.1) k.2)
 
 -- a wait in the list is over by some of these events, or stays
 pub Leads-stands : (rules : Rules) (processes : ℕ) (S : State) (events : List Event) (T : State) (taken counts : ℕ → ℕ) (v : Wait)
@@ -308,7 +301,7 @@ has_waited one rules processes before first between later T v queue some run wai
     Leads-reach rules processes opening_state before (first ∷ between) reached.state none none opening (AreNext-front none front later next)
     reached.led in
     let same : waits.state ≡ joined.state =
-    Leads-one one rules processes opening_state before waits.state joined.state waits.leads joined.led in
+    Leads-unique one rules processes opening_state before waits.state joined.state waits.leads joined.led in
     let stood =
     stands_from rules processes joined.state first between reached.state joined.taken joined.counts v queue joined.tallies joined.next
     joined.leads (subst (λ S. WouldWaitAs S first.p first.n first.request v) same waits.asks) waits.told in
@@ -335,7 +328,7 @@ are_waiting : StepHasOneOutcome → (rules : Rules) (processes : ℕ) (before la
     → AreWaiting rules processes before later second T v w
 are_waiting one rules processes before later second T v w waited waits =
     let same : waits.state ≡ waited.reached.state =
-    Leads-one one rules processes opening_state before waits.state waited.reached.state waits.leads waited.reached.led in
+    Leads-unique one rules processes opening_state before waits.state waited.reached.state waits.leads waited.reached.led in
     record {
       reached = waited.reached;
       first = waited.first;

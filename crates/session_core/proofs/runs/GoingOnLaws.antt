@@ -6,7 +6,8 @@ use Rattle.lock_manager.specs.SomeOutcome.{IsWhole, StepHasSomeOutcome}
 use Rattle.session_core.specs.Event.{Event}
 use Rattle.session_core.specs.Runs.{Leads, events_of}
 use Rattle.session_core.specs.GoingOn.{EveryRunGoesOn}
-use Rattle.session_core.proofs.runs.JournalLemmas.{Leads-push, AreNumbered-push}
+use Rattle.session_core.proofs.LeadsLemmas.{Leads-push}
+use Rattle.session_core.proofs.runs.JournalLemmas.{AreNumbered-push}
 
 -- events lead to a state that has what a step asks, from one that has
 Leads-whole : StepHasSomeOutcome → (rules : Rules) (processes : ℕ) (S : State) (events : List Event) (T : State) → IsWhole S

@@ -19,6 +19,7 @@ use Rattle.session_core.specs.Mail.{IsPrefixOf, requests_taken}
 use Rattle.session_core.specs.Draining.{IsReplayed, next_untaken}
 use Rattle.session_core.specs.Headline.{AreWithinLimits, Holds, request_limit}
 use Rattle.session_core.proofs.runs.HeadlineLaws.{Holds-from}
+use Rattle.session_core.proofs.LeadsLemmas.{Leads-push}
 use Rattle.session_core.proofs.MailLemmas.{StandsAt, mailbox_of-there, mail_waiting-set, mail_taken-set, length-mail_sent, next_untaken-waits}
 
 -- one more event of the process
@@ -74,13 +75,6 @@ AreNumbered-push journal event number numbered q place =
     subst (λ l. IfSome (slice_get l place) (λ e. e.n ≡ place + 1)) (sym (events_of-push_other q journal event other)) (numbered q place))
     (cases_eq event.p q)
 
--- one more step
-pub Leads-push : (rules : Rules) (processes : ℕ) (S : State) (events : List Event) (T : State) (event : Event) (U : State)
-    → Leads rules processes S events T → IsStep rules processes T event U → Leads rules processes S (events ++ event ∷ []) U
-Leads-push rules processes S [] T event U leads step = (U, subst (λ X. IsStep rules processes X event U) leads step, refl)
-Leads-push rules processes S (e ∷ events) T event U leads step =
-    (leads.0, leads.1, Leads-push rules processes leads.0 events T event U leads.2 step)
-
 -- a replayed journal with one more step of the manager
 pub IsReplayed-push : (old new : Manager) (journal : List Event) (event : Event) → event.n ≡ length (events_of event.p journal) + 1
     → rules_of new ≡ rules_of old → processes_of new ≡ processes_of old
@@ -88,14 +82,11 @@ pub IsReplayed-push : (old new : Manager) (journal : List Event) (event : Event)
     → IsReplayed old journal → IsReplayed new (journal ++ event ∷ [])
 IsReplayed-push old new journal event number same_rules same_processes steps r = grind (arith, common_steps, Leads-push, AreNumbered-push)
 
-Some-injective : {X : Type 0} {x y : X} → Some x ≡ Some y → x ≡ y
-Some-injective e = cc
-
 -- what stands right after a prefix begins the rest
 next_of_prefix : {X : Type 0} (xs rest : List X) (x : X) → slice_get (xs ++ rest) (length xs) ≡ Some x
     → (more : List X) × (rest ≡ x ∷ more)
 next_of_prefix [] [] x h = cc
-next_of_prefix [] (y ∷ ys) x h = let same : y ≡ x = Some-injective h in (ys, ap (λ z. z ∷ ys) same)
+next_of_prefix [] (y ∷ ys) x h = let same : y ≡ x = cc in (ys, ap (λ z. z ∷ ys) same)
 next_of_prefix (z ∷ zs) rest x h = next_of_prefix zs rest x h
 
 -- the requests that were taken stay a prefix where the next one is taken
@@ -161,7 +152,7 @@ mail_sent-few processes mailboxes journal mail p = grind (arith, common_steps, l
 pub next_within : (mailboxes : List Mailbox) (place p : ℕ) (mailbox : Mailbox) (journal : List Event) (request : Request)
     → StandsAt mailboxes place p mailbox → next_untaken (mail_sent mailboxes journal) journal p ≡ Some request
     → mailbox.waiting.items ≡ request ∷ drop 1 mailbox.waiting.items
-next_within mailboxes place p mailbox journal request h h2 = grind (arith, common_steps, mailbox_of-there, next_untaken-waits, Some-injective)
+next_within mailboxes place p mailbox journal request h h2 = grind (arith, common_steps, mailbox_of-there, next_untaken-waits)
 
 -- so there is one in it
 pub next_waits : (mailboxes : List Mailbox) (place p : ℕ) (mailbox : Mailbox) (journal : List Event) (request : Request)

@@ -25,26 +25,11 @@ use Rattle.session_core.specs.LastAnswers.{latest, last_of, processes_in}
 use Rattle.session_core.specs.Checking.{IsAfter}
 use Rattle.session_core.specs.Replaying.{HasMade, IsNextOf, IsOutOfTurn, Makes, Repeats, count_of}
 use Rattle.session_core.proofs.tallies.Tally.{Tallies}
+use Rattle.session_core.proofs.LeadsLemmas.{Leads-split, Leads-unique}
 use Rattle.session_core.proofs.runs.RunLaws.{counted_answers}
 use Rattle.session_core.proofs.runs.HeadlineLaws.{replayed_tallied, answers_counted, before_birth}
 use Rattle.session_core.proofs.LastLemmas.{AreNumberedFrom, AreLastAnswers-push, last_past, latest_number, number_in}
 use Rattle.session_core.proofs.runs.JournalLemmas.{events_of-push_own, events_of-push_other, IsReplayed-push}
-
--- what leads through two lists of events leads through a state between them
-Leads-split : (rules : Rules) (processes : ℕ) (S : State) (xs ys : List Event) (T : State) → Leads rules processes S (xs ++ ys) T
-    → (U : State) × Leads rules processes S xs U × Leads rules processes U ys T
-Leads-split rules processes S [] ys T h = (S, refl, h)
-Leads-split rules processes S (x ∷ xs) ys T h =
-    let rest = Leads-split rules processes h.0 xs ys T h.2 in (rest.0, (h.0, h.1, rest.1), rest.2)
-
--- events lead to one state
-Leads-unique : StepHasOneOutcome → (rules : Rules) (processes : ℕ) (S : State) (events : List Event) (T U : State)
-    → Leads rules processes S events T → Leads rules processes S events U → T ≡ U
-Leads-unique one rules processes S [] T U h k = h ∙ sym k
-Leads-unique one rules processes S (event ∷ events) T U h k =
-    let outcome : (event.notes ≡ event.notes) × (h.0 ≡ k.0) =
-    one rules processes S event.p event.n event.request event.notes event.notes h.0 k.0 h.1 k.1 in
-    Leads-unique one rules processes k.0 events T U (subst (λ X. Leads rules processes X events T) outcome.1 h.2) k.2
 
 IfSome-front : {X : Type 0} (P : X → Type 0) (xs ys : List X) (place : ℕ) → IfSome (slice_get (xs ++ ys) place) P
     → IfSome (slice_get xs place) P

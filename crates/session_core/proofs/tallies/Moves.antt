@@ -194,9 +194,6 @@ without_wait-apart p (wait ∷ waits) h =
     (λ other.
     rw (ne_eqb wait.p p other) (without_wait-each (λ v. v.p ≢ wait.p) p waits h.0, without_wait-apart p waits h.1)) (cases_eq wait.p p)
 
-Some-same : {X : Type 0} {x y : X} → Some x ≡ Some y → x ≡ y
-Some-same e = cc
-
 -- the wait that is found for a process is one of the list, and of the process
 pub found_wait : (P : Wait → Type 0) (p : ℕ) (waits : List Wait) (wait : Wait) → wait_of waits p ≡ Some wait → Each P waits
     → (wait.p ≡ p) × P wait
@@ -205,7 +202,7 @@ found_wait P p (v ∷ waits) wait found h =
     ⊎_elim
     (λ same.
     let first : wait_of (v ∷ waits) p ≡ Some v = rw (eq-eqb v.p p same) refl in
-    let is : v ≡ wait = Some-same (sym first ∙ found) in
+    let is : v ≡ wait = cc in
     subst (λ w. (w.p ≡ p) × P w) is (same, h.0))
     (λ other.
     let later : wait_of (v ∷ waits) p ≡ wait_of waits p = rw (ne_eqb v.p p other) refl in

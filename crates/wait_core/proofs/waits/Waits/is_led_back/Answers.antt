@@ -1,13 +1,13 @@
 use Rattle.std.proofs.lemmas.Grind.{common_steps}
 use Rattle.std.proofs.Common.{ℕ, ◌≤◌, ◌∙◌, inl, inr, sym, subst, arith}
 use Rattle.std.specs.Prelude.{IsTrue, ◌==◌}
-use Rattle.std.proofs.lemmas.Bool.{eqb-true, or_left}
+use Rattle.std.proofs.lemmas.Bool.{eqb-true, or_left, or_right}
 use Rattle.wait_core.specs.Locks.{locks_of}
 use Rattle.wait_core.specs.Cycles.{WaitsFor}
 use Rattle.wait_core.specs.Processes.{is_member}
 use Rattle.wait_core.specs.WaitsView.{waits_of, policy_of, processes_of}
 use Rattle.wait_core.proofs.DecideLemmas.{told_known}
-use Rattle.wait_core.proofs.ProcessLemmas.{none_in, or_cases, or_right}
+use Rattle.wait_core.proofs.ProcessLemmas.{none_in, or_cases}
 use Rattle.wait_core.proofs.ReachLemmas.{blocked_reached, reach_step, reached_closes, closes_reached}
 use Rattle.wait_core.proofs.waits.Waits.is_led_back.Goals as goal
 
