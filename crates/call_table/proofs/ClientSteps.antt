@@ -1,4 +1,4 @@
--- The steps by which a client posts keep the rule.
+-- The steps by which a client posts keep the rule: for `fill` and `Client::post`.
 use Rattle.std.proofs.lemmas.List.{take_more, length-take-le}
 use Rattle.std.proofs.Common.{◌≡◌, ◌≢◌, ⊎_elim, ℕ, ◌+◌, ◌%◌, ◌<◌, ◌≤◌, List, [], ◌∷◌, ◌++◌, length, take, get_or, set, refl, sym, ap, ◌∙◌, subst, arith, length-append, length-set, append_assoc}
 use Rattle.std.proofs.Math.Nat.{mod-lt}

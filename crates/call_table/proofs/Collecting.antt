@@ -1,4 +1,4 @@
--- The steps by which a client collects keep the rule.
+-- The steps by which a client collects keep the rule: for `Client::closed` and `Client::collect`.
 use Rattle.std.proofs.lemmas.Grind.{common_steps}
 use Rattle.std.proofs.lemmas.List.{set-get_or}
 use Rattle.std.proofs.lemmas.Bool.{eqb-true}

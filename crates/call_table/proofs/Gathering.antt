@@ -1,4 +1,4 @@
--- What a client knows once it has collected.
+-- What a client knows once it has collected: for `Client::closed`, `Client::collect` and `gather`.
 use Rattle.std.proofs.lemmas.Grind.{common_steps}
 use Rattle.std.proofs.lemmas.List.{take_more_set, take_all, length-take-le}
 use Rattle.std.proofs.Common.{◌≡◌, ℕ, ◌+◌, ◌<◌, ◌≤◌, true, List, [], ◌∷◌, ◌++◌, length, take, set, sym, ap, ◌∙◌, subst, arith, length-set}

@@ -1,4 +1,4 @@
--- The opening, and the steps by which seats are split and joined, keep the rule.
+-- The opening, and the steps by which seats are split and joined, keep the rule: for `Desk::meet` and `open_hub`.
 use Rattle.std.proofs.lemmas.Grind.{common_steps, merely}
 use Rattle.std.proofs.Common.{◌≡◌, ◌≢◌, ⊎_elim, ℕ, zero, suc, ◌+◌, ◌*◌, ◌<◌, ◌≤◌, Bool, true, true≢false, eqb, cond, eq-eqb, ne_eqb, List, [], ◌∷◌, length, get_or, set, refl, sym, ap, ◌∙◌, subst, arith, length-set}
 use Rattle.std.specs.Prelude.{replicate}

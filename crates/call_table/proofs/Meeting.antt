@@ -1,4 +1,4 @@
--- What the desk and a client know once they have met.
+-- What the desk and a client know once they have met: for `Desk::meet`.
 use Rattle.std.proofs.Common.{arith, ◌≡◌, ℕ, Bool, true, [], length, sym, ◌∙◌, subst}
 use Rattle.std.proofs.lemmas.Grind.{common_steps}
 use Rattle.atomic_table.specs.Table.{Splits, Joins}

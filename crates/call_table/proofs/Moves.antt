@@ -1,4 +1,4 @@
--- A step of one seat keeps the rule where it keeps what holds of each process.
+-- A step of one seat keeps the rule where it keeps what holds of each process: for `Desk::close`, `Client::closed`, `Client::collect` and others.
 use Rattle.std.proofs.Common.{◌≡◌, ◌≢◌, ℕ, ◌<◌, ◌≤◌, eqb, cond, Bool, List, length, set, refl, sym, ap, ◌∙◌, subst, arith, ⊎_elim, eq-eqb, ne_eqb}
 use native.Mathlib.Decide.{ℕ_discrete}
 use mathlib.Core.Logic.{dite}

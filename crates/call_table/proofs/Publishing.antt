@@ -1,4 +1,4 @@
--- The steps by which the desk publishes answers and closes keep the rule.
+-- The steps by which the desk publishes answers and closes keep the rule: for `Desk::close`.
 use Rattle.std.proofs.Common.{◌≡◌, ◌≢◌, ◌⊎◌, ⊎_elim, ℕ, ◌+◌, ◌%◌, ◌<◌, ◌≤◌, true, List, [], ◌∷◌, ◌++◌, length, set, refl, sym, ap, ◌∙◌, subst, arith, length-append, length-set}
 use Rattle.std.proofs.Math.Nat.{mod-lt}
 use Rattle.std.proofs.Math.Decide.{dec_lt}

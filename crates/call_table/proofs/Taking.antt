@@ -1,4 +1,4 @@
--- The step by which the desk takes a request keeps the rule.
+-- The step by which the desk takes a request keeps the rule: for `Desk::close`, `find_next`, `publish_for` and others.
 use Rattle.std.proofs.lemmas.Grind.{common_steps}
 use Rattle.std.proofs.lemmas.List.Elements.{filter-append}
 use Rattle.std.proofs.Common.{◌≡◌, ◌≢◌, ℕ, ◌+◌, ◌<◌, ◌≤◌, true, false, true≢false, eq-eqb, List, [], ◌∷◌, ◌++◌, length, set, refl, sym, ap, ◌∙◌, subst, arith, length-append, length-set, append_assoc, append-nil}

@@ -1,4 +1,4 @@
--- The answers among the notes of one more event, in the order in which they are published.
+-- The answers among the notes of one more event, in the order in which they are published: for `publish_notes`.
 use Rattle.std.proofs.lemmas.Grind.{common_steps}
 use Rattle.std.proofs.Common.{◌≡◌, ◌≢◌, ℕ, ◌+◌, ◌<◌, get_or, take, drop, length-append, eqb, cond, eq-eqb, ne_eqb, Bool, true, false, List, [], ◌∷◌, ◌++◌, length, refl, sym, ap, ◌∙◌, subst, arith, append_assoc, append-nil}
 use mathlib.Core.Option.{some}

@@ -1,4 +1,4 @@
--- From what a call leaves to what the definition says of it.
+-- From what a call leaves to what the definition says of it: for `Tables::close_fd`, `Tables::dup`, `Tables::dup2` and others.
 use Rattle.std.proofs.lemmas.Grind.{common_steps}
 use Rattle.std.proofs.Common.{◌≡◌, ℕ, ℤ, pos, ◌<◌, true, cond, eqb, List, length, get_or, set, Some, None, Ok, IsSome, refl, ap, ◌∙◌, arith}
 use Rattle.std.specs.Option.{option_map}

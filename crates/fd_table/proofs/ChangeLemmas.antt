@@ -1,4 +1,4 @@
--- The entries, and what is seen of them, where a descriptor gets a key or is closed.
+-- The entries, and what is seen of them, where a descriptor gets a key or is closed: for `add_users`, `Tables::close_one`, `Tables::fork` and others.
 use Rattle.std.proofs.Common.{rules, ◌≡◌, ◌≢◌, ℕ, ◌+◌, ◌-◌, ◌<◌, ◌≤◌, cond, List, length, Option, Some, None, refl, sym, ap, ◌∙◌, inl, inr, arith}
 use Rattle.std.proofs.lemmas.Grind.{common_steps}
 use Rattle.std.specs.Option.{option_map}

@@ -1,4 +1,4 @@
--- The entries of the slab, and what is seen of them, after each change.
+-- The entries of the slab, and what is seen of them, after each change: for `add_users`, `Tables::close_fd`, `Tables::close_one` and others.
 use Rattle.std.proofs.Common.{rules, ◌≡◌, ◌≢◌, ◌⊎◌, ℕ, ◌+◌, ◌<◌, ◌≤◌, Bool, true, false, cond, List, length, Option, Some, None, IsSome, is_some, refl, sym, ap, ◌∙◌, arith}
 use Rattle.std.proofs.lemmas.Grind.{common_steps}
 use Rattle.std.specs.Option.{option_map, option_and_then}

@@ -1,4 +1,4 @@
--- The rows and the entries after a fork.
+-- The rows and the entries after a fork: for `add_users` and `Tables::fork`.
 use Rattle.std.proofs.Common.{rules, ◌≡◌, ℕ, ◌+◌, ◌<◌, ◌^◌, true, false, ◌||◌, cond, eqb, List, [], length, get_or, set, take, Option, Some, None, refl, sym, ap, ◌∙◌, arith}
 use Rattle.std.proofs.lemmas.Grind.{common_steps}
 use Rattle.std.specs.Option.{option_map}

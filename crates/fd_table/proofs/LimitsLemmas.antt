@@ -1,4 +1,4 @@
--- How many descriptors a process has.
+-- How many descriptors a process has: for `Tables::close_one`, `Tables::dup`, `Tables::end_process` and others.
 use Rattle.std.proofs.lemmas.Grind.{common_steps}
 use Rattle.std.proofs.Common.{◌<◌, ◌≤◌, arith}
 use Rattle.fd_table.specs.declared.Limits.{Limits}

@@ -1,4 +1,4 @@
--- Lists of numbers that rise.
+-- Lists of numbers that rise: for `Releases::list_files` and `Releases::sort_descriptions`.
 use Rattle.std.proofs.lemmas.Grind.{common_steps}
 use Rattle.std.proofs.Common.{◌≡◌, ℕ, ◌+◌, ◌<◌, false, eqb, List, [], ◌∷◌, ◌++◌, length, get_or, ap, subst, ◌∙◌, inl, inr, arith, Contains}
 use Rattle.std.specs.List.{IsDistinct}

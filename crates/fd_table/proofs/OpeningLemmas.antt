@@ -1,4 +1,4 @@
--- The fields of new tables, and the descriptors that they stand for.
+-- The fields of new tables, and the descriptors that they stand for: for `Tables::new`.
 use Rattle.std.proofs.lemmas.Grind.{common_steps}
 use Rattle.std.proofs.Common.{◌≡◌, ℕ, ◌+◌, ◌<◌, ◌≤◌, cond, eqb, List, [], length, get_or, replicate, Option, None, ap, ◌∙◌, inl, inr, arith}
 use Rattle.std.proofs.lemmas.Bool.{cases_eq, cases_lt, eq-eqb, ne_eqb, lt-ltb}

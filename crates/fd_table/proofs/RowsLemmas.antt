@@ -1,4 +1,5 @@
--- Rows of keys: what a change leaves at each place, and how it changes the counts of users.
+-- Rows of keys: what a change leaves at each place, and how it changes the counts of users; for `Tables::close_one`, `Tables::dup`,
+-- `Tables::end_process` and others.
 use Rattle.std.proofs.lemmas.Grind.{common_steps}
 use Rattle.std.proofs.Common.{◌≡◌, ◌⊎◌, ℕ, zero, suc, ◌+◌, ◌*◌, ◌<◌, ◌≤◌, true, false, cond, ltb, List, [], ◌∷◌, length, get_or, set, Option, Some, None, ap, inl, inr, arith}
 use Rattle.std.specs.List.{sum_by}

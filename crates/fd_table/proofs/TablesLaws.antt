@@ -1,4 +1,4 @@
--- Any tables stand for some descriptors, so no clause that speaks of those is empty.
+-- Any tables stand for some descriptors, so no clause that speaks of those is empty: for `tables_stand_for_some`.
 use Rattle.std.proofs.lemmas.Grind.{common_steps}
 use Rattle.std.proofs.Common.{rules, ◌≡◌, ℕ, zero, suc, ◌+◌, ◌<◌, ◌≤◌, cond, eqb, List, [], ◌∷◌, ◌++◌, length, get_or, Option, Some, None, refl, sym, subst, ◌∙◌, inl, inr, arith}
 use Rattle.std.specs.Option.{option_map}

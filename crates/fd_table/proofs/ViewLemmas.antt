@@ -1,4 +1,5 @@
--- What is shown after each change stands for the descriptors after the same change.
+-- What is shown after each change stands for the descriptors after the same change: for `Tables::close_one`, `Tables::dup2`, `Tables::end_process`
+-- and others.
 use Rattle.std.proofs.Common.{arith, ◌≡◌, ◌≢◌, ℕ, zero, suc, pred, ◌+◌, ◌||◌, cond, eqb, List, [], ◌∷◌, ◌++◌, length, set, Option, Some, None, refl, ap, subst, ◌∙◌, add-one}
 use Rattle.std.proofs.lemmas.Grind.{common_steps}
 use Rattle.std.specs.List.{slice_get}

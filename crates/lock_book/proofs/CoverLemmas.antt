@@ -1,4 +1,4 @@
--- What keeps each owner's list covered.
+-- What keeps each owner's list covered: for `Book::blocked`, `Book::clear_owner`, `Book::first_hit` and others.
 use Rattle.std.proofs.Common.{ℕ, ◌≡◌, refl, subst, true, Option, Some, None, List, Result, inl, inr, arith}
 use Rattle.std.specs.Prelude.{OnOk, OnErr}
 use Rattle.std.specs.BTreeMap.{BTreeMap, UpdatesBy}

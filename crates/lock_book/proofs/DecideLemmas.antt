@@ -1,4 +1,5 @@
--- Whether a lock is blocked can be decided: by a search of the owners or the places that a book keeps, and of the bytes of a range.
+-- Whether a lock is blocked can be decided: by a search of the owners or the places that a book keeps, and of the bytes of a range; for
+-- `conflicts_are_decided`.
 use Rattle.std.proofs.lemmas.Grind.{common_steps}
 use Rattle.std.proofs.Common.{ℕ, ◌≡◌, ◌≢◌, ◌+◌, ◌-◌, ◌<◌, ◌≤◌, ◌⊎◌, inl, inr, subst, refl, arith, zero, suc, true, Bool, List, [], ◌∷◌, Option, Some, None}
 use Rattle.std.specs.Prelude.{◌==◌}

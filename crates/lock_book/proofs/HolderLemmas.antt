@@ -1,4 +1,5 @@
--- What the counts of locks by mode say of the places that they count.
+-- What the counts of locks by mode say of the places that they count: for `FlockHolders::blocked`, `FlockHolders::blocked_by_others`,
+-- `FlockHolders::is_empty` and others.
 use Rattle.std.proofs.lemmas.Grind.{common_steps}
 use Rattle.std.proofs.Common.{ℕ, ◌≡◌, ◌≢◌, ◌+◌, ◌^◌, ◌<◌, ◌≤◌, ◌↔◌, ◌∙◌, sym, ap, refl, subst, arith, true, false, Option, Some, None, [], ◌∷◌, All, Any, length, inl, inr}
 use Rattle.std.specs.Prelude.{◌⊎◌, unwrap_or}

@@ -1,4 +1,4 @@
--- Some and all elements of lists that are put together.
+-- Some and all elements of lists that are put together: for `push_runs`.
 use Rattle.std.proofs.lemmas.Grind.{common_steps}
 use Rattle.std.proofs.Common.{◌≡◌, ◌+◌, ◌∙◌, ap, subst, arith, append_assoc, List, [], ◌∷◌, ◌++◌, All, Any, length}
 use Rattle.std.specs.List.{AllPairs}

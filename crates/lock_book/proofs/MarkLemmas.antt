@@ -1,4 +1,4 @@
--- The processes that are marked as those that block.
+-- The processes that are marked as those that block: for `Book::blocking_processes`.
 use Rattle.std.proofs.Common.{ℕ, ◌≡◌, ◌≢◌, ◌<◌, ◌↔◌, ◌∙◌, inl, inr, sym, ap, subst, refl, Bool, true, false, Option, Some, List, [], ◌∷◌, ◌++◌, All, map, set, get_or, length}
 use Rattle.std.specs.Prelude.{is_some, slice_index_or, IsTrue, IfSome, IfNone}
 use Rattle.std.specs.Iterator.{Yields}

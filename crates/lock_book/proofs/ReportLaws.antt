@@ -1,4 +1,4 @@
--- The report is determined by the locks.
+-- The report is determined by the locks: for `locks_have_one_file_report` and `locks_have_one_report`.
 use Rattle.std.proofs.lemmas.Grind.{common_steps}
 use Rattle.std.proofs.Common.{ℕ, ◌≡◌, ◌≤◌, ◌∙◌, sym, ap, refl, subst, arith, zero, suc, Bool, List, [], ◌∷◌, ◌++◌, All, inl, inr}
 use Rattle.std.specs.List.{AllPairs, Contains}

@@ -1,4 +1,4 @@
--- What the runs of a list say of it, and the lines that tell them.
+-- What the runs of a list say of it, and the lines that tell them: for `Book::has_no_byte_lock`, `is_idle` and `push_runs`.
 use Rattle.std.proofs.Common.{ℕ, ◌≡◌, ◌<◌, ◌==◌, ◌∙◌, sym, ap, refl, arith, Bool, false, Option, Some, None, List, [], ◌∷◌, All, length, map}
 use Rattle.std.specs.Prelude.{◌↔◌, IsTrue}
 use Rattle.std.proofs.lemmas.Bool.{eqb-true}

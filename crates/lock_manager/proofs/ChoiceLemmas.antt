@@ -1,5 +1,5 @@
--- What holds of each case of a choice holds of the choice. Which predicates it holds of is the relation R: that at most one value meets
--- them, or that some value does.
+-- What holds of each case of a choice holds of the choice. Which predicates it holds of is the relation R: that at most one value meets them, or that
+-- some value does; for `step_has_one_outcome`.
 use Rattle.std.proofs.Common.{◌≡◌, ℕ, ◌||◌, Bool, true, false, Option, Some, None, Result, Ok, Err, MatchBool, MatchOption, MatchResult}
 use Rattle.range_core.specs.Resolving.{resolution}
 use Rattle.range_core.specs.declared.Mode.{Mode}

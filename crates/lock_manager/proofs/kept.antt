@@ -1,4 +1,4 @@
--- What holds of the machine at every moment, and the state that it shows, after each of its changes.
+-- What holds of the machine at every moment, and the state that it shows, after each of its changes: for its facts `kept` and `standing`.
 pub mod AfterCloseLemmas
 pub mod AfterReleaseLemmas
 pub mod BookLemmas

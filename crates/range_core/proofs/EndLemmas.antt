@@ -1,5 +1,5 @@
--- Where a set's own run begins and ends, and what stays beside it, in the three cases at each end: no touched run sticks out of
--- the range there; one of the mode that is set, which becomes part of the own run; or one of another mode, of which a piece stays.
+-- Where a set's own run begins and ends, and what stays beside it, in the three cases at each end: no touched run sticks out of the range there; one
+-- of the mode that is set, which becomes part of the own run; or one of another mode, of which a piece stays; for `left_end` and `right_end`.
 use Rattle.std.proofs.Common.{rules, ℕ, ◌≡◌, ◌≢◌, ◌+◌, ◌-◌, ◌<◌, ◌≤◌, refl, Option, Some, None, List, [], ◌∷◌, All, length, get_or, arith}
 use Rattle.std.proofs.lemmas.Grind.{common_steps}
 use Rattle.std.proofs.lemmas.Bool.{cases_lt}

@@ -1,4 +1,4 @@
--- The mode that a list of runs gives a byte.
+-- The mode that a list of runs gives a byte: for `RangeList::beginning_after`, `RangeList::ending_from`, `RangeList::first_hit` and others.
 use Rattle.std.proofs.lemmas.Grind.{common_steps}
 use Rattle.std.proofs.Common.{ℕ, zero, suc, ◌≡◌, ◌<◌, true, false, refl, Option, Some, None, List, [], ◌∷◌, ◌++◌, All, AllPairs, length, get_or, arith, ◌⊎◌, inl, inr}
 use Rattle.std.specs.Prelude.{if◌then◌else◌}

@@ -1,4 +1,5 @@
--- What stands in the place of the touched runs after a set, and the whole list with it.
+-- What stands in the place of the touched runs after a set, and the whole list with it: for `replacement`, `RangeList::set` and
+-- `RangeList::set_reserved`.
 use Rattle.std.proofs.Common.{rules, ℕ, ◌≡◌, ◌+◌, ◌-◌, ◌<◌, ◌≤◌, refl, ap, sym, ◌∙◌, ◌⊎◌, Option, Some, None, List, [], ◌∷◌, ◌++◌, All, AllPairs, length, take, drop, get_or, subst, arith, inl, inr}
 use Rattle.std.proofs.lemmas.Grind.{common_steps}
 use Rattle.std.proofs.lemmas.Bool.{cases_lt, false≢true}

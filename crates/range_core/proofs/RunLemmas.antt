@@ -1,4 +1,5 @@
--- The runs in a list that is in order are the runs of the modes that it gives, and the least byte that conflicts is found in them.
+-- The runs in a list that is in order are the runs of the modes that it gives, and the least byte that conflicts is found in them: for
+-- `RangeList::beginning_after`, `RangeList::ending_from`, `RangeList::first_hit` and others.
 use Rattle.std.proofs.lemmas.Grind.{common_steps}
 use Rattle.std.proofs.Common.{ℕ, ◌≡◌, ◌≢◌, ◌+◌, ◌-◌, ◌<◌, ◌≤◌, max, sym, refl, Option, Some, None, List, All, AllPairs, length, get_or, arith, ◌⊎◌, inl, inr}
 use Rattle.std.specs.List.{AllWithin, between}

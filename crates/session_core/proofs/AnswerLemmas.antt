@@ -1,4 +1,4 @@
--- Answers among notes and events, counted and looked up.
+-- Answers among notes and events, counted and looked up: for `Session::find_answer`.
 use Rattle.std.proofs.Common.{arith, ℕ, ◌≡◌, ◌+◌, ◌<◌, refl, sym, ◌∙◌, ap, true, false, eq-eqb, ne_eqb, length, List, [], ◌∷◌, ◌++◌, ⊎_elim, Some, None, drop, get_or, find, option_map}
 use Rattle.std.proofs.lemmas.Grind.{common_steps}
 use Rattle.std.specs.Prelude.{◌==◌, if◌then◌else◌}

@@ -1,4 +1,5 @@
--- The last answer to each process: as a journal grows, and by its number.
+-- The last answer to each process: as a journal grows, and by its number; for `Session::answer_of`, `Session::answered`, `Replay::answered` and
+-- others.
 use Rattle.std.proofs.Common.{rules, ℕ, zero, suc, ◌≡◌, ◌+◌, ◌<◌, ◌≤◌, refl, sym, ◌∙◌, ap, subst, arith, true, false, eq-eqb, ne_eqb, length, List, [], ◌∷◌, ◌++◌, Option, Some, None, IfSome, slice_get}
 use Rattle.std.proofs.lemmas.Grind.{common_steps}
 use Rattle.std.specs.Prelude.{◌==◌, if◌then◌else◌}

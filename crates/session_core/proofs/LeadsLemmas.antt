@@ -1,4 +1,5 @@
--- What events lead to: one state, through a state between, and by one event more.
+-- What events lead to: one state, through a state between, and by one event more; for `Replay::answered`, `Session::arrive`, `check_journal` and
+-- others.
 use Rattle.std.proofs.Common.{ℕ, ◌≡◌, refl, sym, ◌∙◌, subst, List, [], ◌∷◌, ◌++◌}
 use Rattle.lock_manager.specs.declared.request.Rules.{Rules}
 use Rattle.lock_manager.specs.State.{State}

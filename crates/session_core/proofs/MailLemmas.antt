@@ -1,4 +1,4 @@
--- Mailboxes by process: what is written to one of them, and what stays.
+-- Mailboxes by process: what is written to one of them, and what stays; for `Session::arrive`, `Session::new`, `Session::next_mail` and others.
 use Rattle.std.proofs.Common.{rules, ℕ, zero, suc, ◌≡◌, ◌≢◌, ◌+◌, ◌-◌, ◌<◌, ◌≤◌, refl, sym, ◌∙◌, ap, subst, arith, length, length-append, take, slice_get, set, get_or, List, [], ◌∷◌, ◌++◌, Some, Option, Result, Ok, Err, IfOk, eq-eqb, ne_eqb, ⊎_elim}
 use Rattle.std.proofs.lemmas.Grind.{common_steps}
 use Rattle.std.specs.Prelude.{◌==◌, if◌then◌else◌, IsNone, IsTrue}

@@ -1,4 +1,4 @@
--- What each event tells, as tallies of what was taken and answered: for the headline's numbers and answers.
+-- What each event tells, as tallies of what was taken and answered: for the numbers and answers of the headline, a session's fact `holds`.
 pub mod DescriptorLaws
 pub mod FlockLaws
 pub mod LockLaws

@@ -1,4 +1,4 @@
--- Some element of a list: ends, joins and filters.
+-- Some element of a list: ends, joins and filters; for `Wait::blocking_by_wait`.
 use Rattle.std.proofs.Common.{ℕ, ◌≡◌, ◌+◌, ◌<◌, ◌∙◌, ◌⊎◌, inl, inr, sym, ap, subst, refl, arith, Bool, true, false, zero, suc, List, [], ◌∷◌, ◌++◌, Any, length, get_or, take, drop}
 use Rattle.std.specs.List.{filter}
 use Rattle.std.proofs.lemmas.Bool.{cases_Bool}

@@ -1,4 +1,4 @@
--- Waits that stand behind no other one.
+-- Waits that stand behind no other one: for `Waits::is_behind` and `Waits::push`.
 use Rattle.std.proofs.lemmas.Grind.{common_steps}
 use Rattle.std.proofs.Common.{ℕ, ◌≡◌, ◌≢◌, ◌<◌, ◌≤◌, ◌↔◌, ◌∙◌, sym, subst, arith, Bool, List, [], ◌∷◌, ◌++◌, All, Any, length, get_or, take}
 use Rattle.std.specs.Prelude.{◌==◌, if◌then◌else◌, IsTrue, IsFalse}

@@ -1,4 +1,5 @@
--- Sets of processes that block a wait: what one process more, or one wait more, makes of them.
+-- Sets of processes that block a wait: what one process more, or one wait more, makes of them; for `Wait::blocking_by_lock` and
+-- `Wait::blocking_by_wait`.
 use Rattle.std.proofs.lemmas.Grind.{common_steps}
 use Rattle.std.proofs.Common.{ℕ, ◌≡◌, ◌≢◌, ◌+◌, ◌<◌, ◌≤◌, ◌↔◌, ◌∙◌, inl, inr, sym, refl, arith, Bool, false, List, [], ◌∷◌, Any, length, get_or, take}
 use Rattle.std.specs.Prelude.{IsTrue, IsFalse, ◌==◌, ◌||◌}

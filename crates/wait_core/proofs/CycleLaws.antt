@@ -1,4 +1,4 @@
--- A list of waits that is free of cycles stays so.
+-- A list of waits that is free of cycles stays so: for `stay_free_of_cycles`.
 use Rattle.std.proofs.lemmas.Grind.{common_steps}
 use Rattle.std.proofs.Common.{ℕ, ◌≡◌, ◌≢◌, ◌∙◌, ◌⊎◌, inl, inr, sym, ap, subst, refl, arith, Bool, true, not, List, [], ◌∷◌, ◌++◌, All, length}
 use Rattle.std.specs.Prelude.{◌==◌}

@@ -1,5 +1,5 @@
--- Who waits for whom by a lock can be decided, and which waits are blocked. So what is told of it is known, where it is only known that
--- it is told.
+-- Who waits for whom by a lock can be decided, and which waits are blocked. So what is told of it is known, where it is only known that it is told:
+-- for `Waits::is_blocked_among`, `Waits::is_led_back`, `Waits::next_ready_among` and `Waits::next_ready_on_changed`.
 use Rattle.std.proofs.lemmas.Grind.{common_steps}
 use Rattle.std.proofs.Common.{ℕ, ◌≡◌, ◌≢◌, ◌⊎◌, inl, inr, arith, List, [], ◌∷◌, ◌++◌, Any, Option, Some, None}
 use Rattle.std.specs.Prelude.{slice_get}

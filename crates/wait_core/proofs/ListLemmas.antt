@@ -1,4 +1,4 @@
--- The list of waits: its room, what it finds, and which of it are blocked.
+-- The list of waits: its room, what it finds, and which of it are blocked; for `Waits::list`, `Waits::next_ready_among` and `Waits::push`.
 use Rattle.std.proofs.lemmas.Grind.{common_steps}
 use Rattle.std.proofs.Common.{ℕ, ◌≡◌, ◌≢◌, ◌+◌, ◌<◌, ◌≤◌, ◌∙◌, inl, inr, sym, ap, subst, refl, arith, append_assoc, append-nil, true, false, Some, None, List, [], ◌∷◌, ◌++◌, All, length, get_or, map, zero, suc, take, drop}
 use Rattle.std.specs.Prelude.{◌==◌, slice_get}

@@ -1,4 +1,5 @@
--- What the table of pairs tells, and what a change of the list or of the locks leaves of it.
+-- What the table of pairs tells, and what a change of the list or of the locks leaves of it: for `Pairs::all_told`, `Pairs::clear`, `Pairs::forget`
+-- and others.
 use Rattle.std.proofs.Common.{rules, ℕ, ◌≡◌, ◌≢◌, ◌+◌, ◌<◌, ◌≤◌, ◌↔◌, ◌∙◌, ◌⊎◌, inl, inr, sym, ap, subst, arith, Bool, true, false, not, suc, List, [], ◌∷◌, ◌++◌, All, Any, length, get_or, set, get_or-set_same, get_or-set_other, replicate, take, drop}
 use Rattle.std.proofs.lemmas.Grind.{common_steps}
 use Rattle.std.specs.Prelude.{IsTrue, ◌==◌, if◌then◌else◌}

@@ -1,4 +1,4 @@
--- Sets of processes, by their bits.
+-- Sets of processes, by their bits: for `ProcessSet::all`, `Wait::blocking_by_lock`, `Wait::blocking_by_wait` and others.
 use Rattle.std.proofs.lemmas.Grind.{common_steps}
 use Rattle.std.proofs.Common.{ℕ, ◌≡◌, ◌≢◌, ◌<◌, ◌≤◌, ◌*◌, ◌%◌, ◌^◌, ◌∙◌, ◌⊎◌, inl, inr, sym, ap, subst, refl, arith, Bool, true, false, zero, suc, w64}
 use Rattle.std.specs.Prelude.{◌==◌, ◌||◌, if◌then◌else◌, IsTrue, IsFalse, bit_and, bit_or}

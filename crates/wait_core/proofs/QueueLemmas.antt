@@ -1,4 +1,5 @@
--- Which process stands behind which in the queue, and what a wait more or less makes of that.
+-- Which process stands behind which in the queue, and what a wait more or less makes of that: for `Waits::all_waited_for`, `Waits::leave`,
+-- `Waits::push` and `Waits::waited_for`.
 use Rattle.std.proofs.lemmas.Grind.{common_steps}
 use Rattle.std.proofs.Common.{ℕ, ◌≡◌, ◌≢◌, ◌≤◌, ◌↔◌, ◌∙◌, ◌⊎◌, inl, inr, sym, ap, subst, refl, arith, Bool, true, false, not, List, [], ◌∷◌, ◌++◌, All, Any, append_assoc}
 use Rattle.std.specs.Prelude.{IsTrue, ◌==◌, ◌||◌, if◌then◌else◌}

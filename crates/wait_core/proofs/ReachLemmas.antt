@@ -1,4 +1,5 @@
--- What a wait's blockers lead to: soundness and completeness of the search for a cycle.
+-- What a wait's blockers lead to: soundness and completeness of the search for a cycle; for `Waits::all_waited_for`, `Waits::is_led_back` and
+-- `Waits::would_cycle`.
 use Rattle.std.proofs.lemmas.Grind.{common_steps}
 use Rattle.std.proofs.Common.{ℕ, ◌≡◌, ◌≤◌, ◌⊎◌, inl, inr, sym, subst, refl, arith, List, [], ◌∷◌, ◌++◌, All, length}
 use Rattle.std.specs.Prelude.{IsTrue}

@@ -1,4 +1,5 @@
--- Waits that are known to be blocked on all files but some, and what a change of the list or of the locks leaves of that.
+-- Waits that are known to be blocked on all files but some, and what a change of the list or of the locks leaves of that: for
+-- `Waits::forget_changes`, `Waits::is_blocked_among`, `Waits::join` and others.
 use Rattle.std.proofs.Common.{rules, ℕ, ◌≡◌, ◌≢◌, ◌<◌, ◌≤◌, ◌∙◌, ◌⊎◌, inl, inr, sym, ap, subst, refl, arith, Bool, true, false, not, zero, suc, Option, Some, None, List, [], ◌∷◌, ◌++◌, All, Any, length, get_or, take, append_assoc, append-nil}
 use Rattle.std.proofs.lemmas.Grind.{common_steps}
 use Rattle.std.specs.Prelude.{◌==◌, ◌||◌, IfSome, IfNone, IsTrue, IsFalse}

@@ -1,4 +1,4 @@
--- The set of the processes that wait, as waits join the list and leave it.
+-- The set of the processes that wait, as waits join the list and leave it: for `Waits::leave`, `Waits::new` and `Waits::push`.
 use Rattle.std.proofs.lemmas.Grind.{common_steps}
 use Rattle.std.proofs.Common.{ℕ, ◌≡◌, ◌≤◌, ◌∙◌, inl, inr, sym, ap, refl, arith, Bool, true, false, not, Option, None, Some, List, [], ◌∷◌, ◌++◌}
 use Rattle.std.specs.Prelude.{◌==◌, ◌||◌, ◌&&◌, if◌then◌else◌, IfNone, IfSome}

@@ -1,4 +1,4 @@
--- From what a lock command finds to what it comes to.
+-- From what a lock command finds to what it comes to: for `Machine::get_reply`, `Machine::lock_command`, `Machine::range_command` and others.
 use Rattle.std.proofs.Common.{arith, rules, ℕ, ◌≡◌, sym, subst, true, false, Some, List, [], ◌∷◌, Result, Ok, Err, IfOk}
 use Rattle.std.proofs.lemmas.Grind.{common_steps}
 use Rattle.std.proofs.lemmas.Option.{same_Some}

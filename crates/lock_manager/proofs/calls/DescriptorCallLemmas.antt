@@ -1,4 +1,4 @@
--- From a call on descriptors to what the request comes to.
+-- From a call on descriptors to what the request comes to: for `Machine::close_fd`, `Machine::dup`, `Machine::dup_to` and others.
 use Rattle.std.proofs.Common.{arith, ℕ, ◌≡◌, subst, Ok, Err, Result, IfOk, List}
 use Rattle.std.proofs.lemmas.Grind.{common_steps}
 use Rattle.std.proofs.Math.Logic.{∥∥₁_elim}

@@ -1,4 +1,5 @@
--- What flock comes to: at once, refused, or later.
+-- What flock comes to: at once, refused, or later; for `Machine::convert_flock`, `Machine::flock_mode`, `Machine::grant_flock` and
+-- `Machine::test_flock`.
 use Rattle.std.proofs.Common.{rules, arith, ℕ, ◌≡◌, ◌≢◌, refl, sym, ◌∙◌, ap, subst, Bool, true, false, Option, Some, None, List, [], ◌∷◌, ◌++◌, inl, inr, ◌⊎◌, IsTrue}
 use Rattle.std.proofs.lemmas.Grind.{common_steps}
 use Rattle.std.proofs.lemmas.Bool.{eq-eqb}

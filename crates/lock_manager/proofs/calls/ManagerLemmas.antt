@@ -1,4 +1,4 @@
--- From the machine to the manager.
+-- From the machine to the manager: for `Manager::new` and `Manager::take`.
 use Rattle.std.proofs.Common.{arith, ℕ, ◌≡◌, List, [], ◌++◌}
 use Rattle.std.proofs.lemmas.Grind.{common_steps}
 use Rattle.lock_manager.specs.Settling.{Settles}

@@ -1,4 +1,5 @@
--- What fork, exit, signal and kill do to the waits and to the states that a machine shows.
+-- What fork, exit, signal and kill do to the waits and to the states that a machine shows: for `Machine::grant_bytes`, `Machine::grant_flock`,
+-- `Machine::interrupt` and `Machine::kill`.
 use Rattle.std.proofs.lemmas.Grind.{common_steps}
 use Rattle.std.proofs.Common.{ℕ, suc, ◌≡◌, ◌≢◌, ◌≤◌, ◌+◌, refl, sym, ◌∙◌, ap, subst, List, [], ◌∷◌, length, Some, Bool, true, false, All, get_or, inl, inr, arith}
 use Rattle.std.proofs.Math.Logic.{∥∥₁_map}

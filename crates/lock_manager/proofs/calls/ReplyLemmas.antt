@@ -1,4 +1,4 @@
--- What is told where a call gives a reply.
+-- What is told where a call gives a reply: for `Machine::serve`.
 use Rattle.std.proofs.Common.{ℕ, ◌≡◌, ◌≤◌, ◌+◌, arith, length, List, [], Result, Ok, Err, IfOk, OnOk, OnErr}
 use Rattle.range_core.specs.declared.Memory.{Memory}
 use Rattle.lock_manager.specs.declared.machine.Machine.{Machine}

@@ -1,4 +1,4 @@
--- The report of all files, file by file.
+-- The report of all files, file by file: for `Machine::held`.
 use Rattle.std.proofs.Common.{ℕ, zero, suc, ◌≡◌, ◌+◌, refl, sym, ◌∙◌, ap, subst, List, [], ◌++◌, append_assoc, append-nil, add-one, add-zero, arith, Some}
 use Rattle.std.specs.Prelude.{slice_get}
 use Rattle.lock_book.specs.declared.Held.{Held}

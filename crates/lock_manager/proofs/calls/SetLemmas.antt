@@ -1,4 +1,4 @@
--- What a set command comes to: at once, refused, or later.
+-- What a set command comes to: at once, refused, or later; for `Machine::set_command` and `Machine::test_flock`.
 use Rattle.std.proofs.Common.{arith, ◌≡◌, refl, sym, ap, subst, Bool, true, false, Some, List, [], ◌∷◌, ◌++◌, inl, inr, ◌⊎◌, IsTrue}
 use Rattle.std.proofs.lemmas.Grind.{common_steps}
 use Rattle.std.specs.Prelude.{IsFalse, ◌↔◌, slice_get}

@@ -1,4 +1,4 @@
--- The grants of a settling, one after another.
+-- The grants of a settling, one after another: for `Machine::rest` and `Machine::settle`.
 use Rattle.std.proofs.Common.{◌≡◌, refl, sym, ◌∙◌, subst, List, [], ◌∷◌, ◌++◌, append-nil, inl}
 use Rattle.std.proofs.lemmas.List.{append_assoc}
 use Rattle.std.proofs.Math.Logic.{∥∥₁_map}

@@ -1,4 +1,4 @@
--- What holds of the machine after it has released what a call closed.
+-- What holds of the machine after it has released what a call closed: for `Machine::close_fd`, `Machine::dup_to`, `Machine::end` and `Machine::fork`.
 use Rattle.std.proofs.Common.{arith, ℕ, ◌≡◌, ◌≢◌, All, ◌==◌, refl, sym, ◌∙◌, ap, subst, List, Some, None, Option, Bool, true, false}
 use Rattle.std.proofs.lemmas.Grind.{common_steps}
 use Rattle.std.proofs.Math.Logic.{∥∥₁_map}

@@ -1,4 +1,5 @@
--- The locks that a release leaves are those of the definition's state.
+-- The locks that a release leaves are those of the definition's state: for `Machine::close_fd`, `Machine::dup_to`, `Machine::end` and
+-- `Machine::fork`.
 use Rattle.std.proofs.lemmas.Grind.{common_steps}
 use Rattle.std.proofs.Common.{ℕ, ◌≡◌, ◌<◌, ◌==◌, refl, sym, ◌∙◌, ap, subst, List, [], ◌∷◌, ◌++◌, Some, None, Option, Bool, true, false, get_or, arith, Contains, eq-eqb}
 use Rattle.std.specs.Prelude.{◌&&◌, ◌||◌, if◌then◌else◌, option_map}

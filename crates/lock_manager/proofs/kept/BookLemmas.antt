@@ -1,4 +1,4 @@
--- What one book's change does to the locks of all files.
+-- What one book's change does to the locks of all files: for `Machine::change`, `Machine::change_flock`, `Machine::close_fd` and others.
 use Rattle.std.proofs.Common.{arith, ℕ, ◌≡◌, ◌≢◌, ◌<◌, ◌≤◌, refl, sym, ◌∙◌, ap, subst, List, [], ◌∷◌, ◌++◌, length, Some, None, inl, inr, Option, Bool, true, false, get_or, Result, Ok, Err, OnOk, OnErr, All}
 use Rattle.std.proofs.lemmas.Grind.{common_steps}
 use Rattle.lock_manager.specs.Opening.{HoldsNothing}

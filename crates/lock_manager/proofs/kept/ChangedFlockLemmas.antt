@@ -1,4 +1,4 @@
--- What holds of the machine after a change of one flock lock.
+-- What holds of the machine after a change of one flock lock: for `Machine::change_flock`, `Machine::place_flock` and `Machine::test_flock`.
 use Rattle.std.proofs.lemmas.Grind.{common_steps}
 use Rattle.std.proofs.Common.{ℕ, ◌≡◌, ◌≢◌, ◌<◌, ◌≤◌, refl, sym, ◌∙◌, ap, subst, List, [], ◌∷◌, ◌++◌, length, Some, None, Option, Bool, true, false, arith, Result, OnOk, OnErr}
 use Rattle.std.proofs.Math.Logic.{∥∥₁_map, ∥∥₁_elim}

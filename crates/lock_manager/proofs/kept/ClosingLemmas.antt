@@ -1,4 +1,4 @@
--- What a call that closes descriptors leaves open, and what it releases.
+-- What a call that closes descriptors leaves open, and what it releases: for `Machine::close_fd`, `Machine::dup_to` and `Machine::end`.
 use Rattle.std.proofs.lemmas.Grind.{common_steps}
 use Rattle.std.proofs.Common.{ℕ, ◌≡◌, ◌==◌, refl, sym, ◌∙◌, ap, List, Bool, true, false, Ok, Contains, get_or, eq-eqb, arith}
 use Rattle.std.proofs.lemmas.Bool.{eqb-true}

@@ -1,4 +1,4 @@
--- A wait that is granted leaves the list, and its owner has the lock.
+-- A wait that is granted leaves the list, and its owner has the lock: for `Machine::grant_bytes` and `Machine::grant_flock`.
 use Rattle.std.proofs.lemmas.Grind.{common_steps}
 use Rattle.std.proofs.Common.{ℕ, suc, ◌≡◌, ◌≢◌, ◌<◌, ◌≤◌, ◌+◌, refl, sym, ◌∙◌, ap, subst, List, [], ◌∷◌, ◌++◌, length, get_or, Some, Bool, true, false, inl, inr, arith}
 use Rattle.std.proofs.Math.Logic.{∥∥₁_elim, ∥∥₁_map}

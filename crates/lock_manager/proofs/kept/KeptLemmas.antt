@@ -1,4 +1,5 @@
--- What holds of the machine at every moment, after a change of one book and after a release.
+-- What holds of the machine at every moment, after a change of one book and after a release: for `Machine::change`, `Machine::close_fd`,
+-- `Machine::dup_to` and others.
 use Rattle.std.proofs.lemmas.Grind.{common_steps}
 use Rattle.std.proofs.Common.{ℕ, ◌≡◌, ◌≢◌, ◌<◌, ◌≤◌, sym, arith, ◌∙◌, subst, true, List, length, Some, Option, All, Result, OnOk, OnErr}
 use Rattle.std.proofs.Math.Logic.{∥∥₁_map}

@@ -1,4 +1,4 @@
--- From one machine and a state that it stands for to the next.
+-- From one machine and a state that it stands for to the next: for `Machine::change`, `Machine::dup`, `Machine::fork` and others.
 use Rattle.std.proofs.Common.{arith, ℕ, ◌≡◌, ◌<◌, refl, sym, ◌∙◌, ap, subst, Option, Some, length, List, [], All, true}
 use Rattle.std.proofs.lemmas.Grind.{common_steps}
 use Rattle.std.specs.Prelude.{slice_get, slice_set, ◌==◌, if◌then◌else◌}

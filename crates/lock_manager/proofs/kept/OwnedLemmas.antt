@@ -1,4 +1,5 @@
--- Only descriptions that some descriptor refers to have locks, each on its own file, and only processes wait for them that have them open.
+-- Only descriptions that some descriptor refers to have locks, each on its own file, and only processes wait for them that have them open: for
+-- `Machine::new`.
 use Rattle.std.proofs.lemmas.Grind.{common_steps}
 use Rattle.std.proofs.Common.{ℕ, ◌≡◌, ◌<◌, refl, sym, ◌∙◌, subst, List, [], length, Some, None, Option, Bool, true, false, Result, OnOk, OnErr, All, arith}
 use Rattle.std.proofs.Math.Logic.{∥∥₁_map, ∥∥₁_elim}

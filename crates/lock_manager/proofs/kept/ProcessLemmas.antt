@@ -1,4 +1,4 @@
--- Where the processes stand after one of them has changed.
+-- Where the processes stand after one of them has changed: for `Machine::end`, `Machine::interrupt`, `Machine::join` and others.
 use Rattle.std.proofs.lemmas.Grind.{common_steps}
 use Rattle.std.proofs.Common.{ℕ, ◌≡◌, ◌≢◌, ◌<◌, ◌≤◌, ◌+◌, List, length, Bool, true, arith}
 use Rattle.std.specs.Prelude.{slice_set, ◌==◌, ◌||◌, if◌then◌else◌}

@@ -1,4 +1,4 @@
--- What the loops that release locks have done so far.
+-- What the loops that release locks have done so far: for `release`.
 use Rattle.std.proofs.Common.{arith, ℕ, ◌≡◌, ◌+◌, ◌<◌, refl, sym, ◌∙◌, ap, List, length, take, get_or, Some, Option, Bool, true, false}
 use Rattle.std.proofs.lemmas.Grind.{common_steps}
 use Rattle.std.proofs.lemmas.List.Folds.{list_any_more}

@@ -1,4 +1,4 @@
--- What is open stays open in the calls that close nothing.
+-- What is open stays open in the calls that close nothing: for `Machine::close_fd`, `Machine::dup`, `Machine::dup_to` and others.
 use Rattle.std.proofs.Common.{arith, ℕ, zero, suc, ◌≡◌, refl, ◌∙◌, ap, List, [], ◌∷◌, ◌++◌, Some, None, Option, Bool, true, false, Result, Ok, Err, OnErr, ℤ}
 use Rattle.std.proofs.lemmas.Grind.{common_steps}
 use Rattle.std.proofs.lemmas.Option.{slice_get_within}

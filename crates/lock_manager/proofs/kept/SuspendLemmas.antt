@@ -1,4 +1,4 @@
--- What holds of the machine when one more process waits.
+-- What holds of the machine when one more process waits: for `Machine::join`, `Machine::keep_room`, `Machine::pending` and others.
 use Rattle.std.proofs.lemmas.Grind.{common_steps}
 use Rattle.std.proofs.Common.{ℕ, ◌≡◌, ◌≢◌, ◌<◌, ◌≤◌, ◌+◌, refl, sym, ◌∙◌, ap, subst, List, [], ◌∷◌, ◌++◌, length, Some, None, Bool, true, false, All, Result, OnOk, OnErr, inl, inr, arith}
 use Rattle.std.proofs.Math.Logic.{∥∥₁_map}

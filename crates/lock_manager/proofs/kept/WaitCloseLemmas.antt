@@ -1,4 +1,4 @@
--- What holds of the waits stays so after a release.
+-- What holds of the waits stays so after a release: for `release`.
 use Rattle.std.proofs.lemmas.Grind.{common_steps}
 use Rattle.std.proofs.Common.{ℕ, suc, ◌≡◌, ◌≢◌, ◌≤◌, refl, sym, ◌∙◌, subst, List, [], ◌∷◌, length, Bool, true, false, All, get_or, arith}
 use Rattle.std.proofs.Math.Logic.{∥∥₁_elim}

@@ -1,4 +1,5 @@
--- What holds of the waits stays so while locks, descriptors and processes change.
+-- What holds of the waits stays so while locks, descriptors and processes change: for `Machine::change`, `Machine::change_flock`, `Machine::close_fd`
+-- and others.
 use Rattle.std.proofs.lemmas.Grind.{common_steps}
 use Rattle.std.proofs.Common.{ℕ, ◌≡◌, ◌≢◌, ◌<◌, ◌≤◌, refl, sym, ◌∙◌, ap, subst, List, [], ◌∷◌, ◌++◌, length, None, Some, Option, Bool, true, false, Result, OnOk, OnErr, All, get_or, inl, inr, arith}
 use Rattle.std.proofs.Math.Logic.{∥∥₁_elim}

@@ -1,4 +1,4 @@
--- A list of arrivals has one drain, since a step has one outcome.
+-- A list of arrivals has one drain, since a step has one outcome: for `arrivals_have_one_drain`.
 use Rattle.std.proofs.lemmas.Grind.{common_steps}
 use Rattle.std.proofs.Common.{ℕ, ◌≡◌, ◌+◌, ◌<◌, refl, sym, ◌∙◌, ap, subst, arith, length, List, [], ◌∷◌, ◌++◌, append-nil, append_assoc, Option, Some}
 use Rattle.std.specs.Prelude.{IsNone}

@@ -1,4 +1,4 @@
--- Draining: one more event taken, how much mail is left, and one more arrival.
+-- Draining: one more event taken, how much mail is left, and one more arrival; for `drain`, `drain_of` and `run_all`.
 use Rattle.std.proofs.lemmas.Grind.{common_steps}
 use Rattle.std.proofs.Common.{rules, ℕ, zero, suc, ◌≡◌, ◌≢◌, ◌+◌, ◌-◌, ◌<◌, ◌≤◌, refl, sym, ◌∙◌, ap, subst, arith, eq-eqb, ne_eqb, length, length-append, List, [], ◌∷◌, ◌++◌, ⊎_elim, true, false, Option, Some, None, Result, Err, is_some, slice_get, get_or, take, drop}
 use Rattle.std.specs.Prelude.{◌==◌, if◌then◌else◌, IsNone}

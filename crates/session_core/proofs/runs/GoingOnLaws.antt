@@ -1,4 +1,4 @@
--- Every run goes on, whatever a live process requests.
+-- Every run goes on, whatever a live process requests: for `every_run_goes_on`.
 use Rattle.std.proofs.Common.{ℕ, ◌+◌, refl, sym, subst, length, List, [], ◌∷◌}
 use Rattle.lock_manager.specs.declared.request.Rules.{Rules}
 use Rattle.lock_manager.specs.State.{State, opening_state}

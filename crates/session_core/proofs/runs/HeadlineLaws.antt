@@ -1,4 +1,5 @@
--- The headline, from what a session keeps: its journal is a run whose state the manager stands for.
+-- The headline, from what a session keeps: its journal is a run whose state the manager stands for; for `Replay::answered`, `Session::arrive`,
+-- `check_journal` and others.
 use Rattle.std.proofs.Common.{rules, ℕ, ◌≡◌, ◌+◌, ◌<◌, ◌≤◌, ◌⊎◌, sym, ◌∙◌, ap, subst, arith, length, List, ◌∷◌, ◌++◌, ⊎_elim, Option, Some, None, IfSome, IfNone, All, map, slice_get, option_map}
 use Rattle.std.proofs.lemmas.Grind.{common_steps}
 use Rattle.std.specs.List.{AllByRecursion as Each}

@@ -1,4 +1,5 @@
--- Runs made again: their fronts, the one state that they leave, and one more event.
+-- Runs made again: their fronts, the one state that they leave, and one more event; for `Replay::answered`, `check_journal`,
+-- `JournalChecker::manager` and others.
 use Rattle.std.proofs.lemmas.Grind.{common_steps}
 use Rattle.std.proofs.Common.{rules, ℕ, zero, suc, ◌≡◌, ◌≢◌, ◌+◌, ◌-◌, ◌<◌, ◌≤◌, None, refl, sym, ◌∙◌, ap, subst, arith, length, List, [], ◌∷◌, ◌++◌, ⊎_elim, Some, IfSome, slice_get, get_or, set, get_or-set_same, get_or-set_other, replicate, take, drop, length-append}
 use Rattle.std.specs.Prelude.{◌==◌}

@@ -1,4 +1,5 @@
--- What holds of every run: numbers, answers in turn, and quiet after an end.
+-- What holds of every run: numbers, answers in turn, and quiet after an end; for `Replay::answered`, `check_journal`, `JournalChecker::manager` and
+-- others.
 use Rattle.std.proofs.lemmas.Grind.{common_steps}
 use Rattle.std.proofs.Common.{ℕ, zero, suc, ◌≡◌, ◌≢◌, ◌+◌, ◌<◌, ◌≤◌, refl, sym, ◌∙◌, ap, subst, arith, true, false, eq-eqb, ne_eqb, length, length-append, List, [], ◌∷◌, ◌++◌, ⊎_elim, Some, IfSome, map, find, slice_get, get_or}
 use Rattle.std.specs.Prelude.{◌==◌, if◌then◌else◌}
