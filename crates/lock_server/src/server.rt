@@ -182,9 +182,10 @@ impl LockServer {
     /// Sets or removes the flock lock of the owner on the file; `Blocked` where another owner's lock is in the way. A conversion
     /// removes the old lock and settles the waits, and is then tested, so it may lose its lock (flock(2), `LOCK_NB`; FUSE, flock).
     ///
-    /// `Memory` leaves everything as it was.
+    /// `Memory`, which never comes of an unlock, leaves everything as it was.
     pub fn flock(&mut self, file: u64, owner: u64, mode: Option<Mode>) -> Result<Answer, Memory>
         ensures ok { IfOk result (λ answer. FlockOpComesTo (policy_of self.old) (state_of self.old) file owner mode answer (state_of self.new)) }
+        ensures unlock { mode ≡ None → IsOk result }
         ensures err { OnErr result (SameState (state_of self.old) (state_of self.new)) }
         ensures policy { policy_of self.new ≡ policy_of self.old }
         ensures openings { SameOpenings (through_of self.old) (through_of self.new) }

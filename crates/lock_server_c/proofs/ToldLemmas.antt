@@ -33,6 +33,10 @@ answered (Ok Done) ok e = absurd (subst (λ (n : ℕ). T (n == DONE)) e tt)
 answered (Ok Blocked) ok e = absurd (subst (λ (n : ℕ). T (n == BLOCKED)) e tt)
 answered (Err memory) ok e = false≢true ok
 
+pub removal_told : (answer : Result Answer Memory) (status : ℕ) (mode : Option Mode) → status ≡ status_of answer → (mode ≡ None → IsOk answer) → mode ≡ None
+    → status ≢ NO_MEMORY
+removal_told answer status mode told_by ok unlock e = answered answer (ok unlock) (sym told_by ∙ e)
+
 pub unlock_told : (handle : Option LockServer) (server : LockServer) (answer : Result Answer Memory) (status file owner : ℕ) (span : Span) (mode : Option Mode)
     → handle ≡ Some server → status ≡ status_of answer → (mode ≡ None → (¬ SplitsLock server file owner span) → IsOk answer)
     → Has handle (λ held. mode ≡ None → (¬ SplitsLock held file owner span) → status ≢ NO_MEMORY)

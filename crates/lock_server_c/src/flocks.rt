@@ -1,5 +1,5 @@
 //! The calls on flock locks.
-ghost use Rattle.std.specs.Prelude.{◌≡◌, ◌↔◌, IsSome};
+ghost use Rattle.std.specs.Prelude.{◌≡◌, ◌≢◌, ◌↔◌, None, IsSome};
 ghost use Rattle.wait_core.specs.declared.Family.TheVariants.{Whole};
 ghost use Rattle.lock_server.specs.Calls.{FlockOpComesTo, FlockWaitComesTo, Releases};
 ghost use Rattle.lock_server.specs.Openings.{SameOpenings};
@@ -8,7 +8,7 @@ ghost use Rattle.lock_server.specs.States.{IsTaken};
 ghost use Rattle.lock_server_c.specs.Numbers.{flock_by, wanted_of};
 ghost use Rattle.lock_server_c.specs.Owned.{Has};
 ghost use Rattle.lock_server_c.specs.Told.{Answers, AnswersWait, Goes, Seen, flock_mode};
-ghost use Rattle.lock_server_c.specs.declared.status.TheConstants.{TICKET_TAKEN};
+ghost use Rattle.lock_server_c.specs.declared.status.TheConstants.{NO_MEMORY, TICKET_TAKEN};
 
 use crate::handle::Handle;
 use crate::{numbers, status};
@@ -26,6 +26,7 @@ pub extern "C" fn dehokuna_flock(
 ) -> u32
     requires { IsSome handle.old.server }
     ensures ok { Answers handle.old handle.new result (λ policy S. FlockOpComesTo policy S file owner (wanted_of mode)) }
+    ensures unlock { wanted_of mode ≡ None → result ≢ NO_MEMORY }
     ensures openings { Seen handle.old handle.new SameOpenings }
 {
     let mut server = handle.take(alloc);
