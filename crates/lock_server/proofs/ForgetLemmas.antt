@@ -9,20 +9,20 @@ use Rattle.wait_core.specs.declared.Family.TheVariants.{Bytes}
 use Rattle.wait_core.specs.declared.Policy.{Policy}
 use Rattle.lock_server.specs.declared.Pending.{Pending}
 use Rattle.lock_server.specs.Calls.{DismissesOn, Forgets, ForgetsIn, ForgetsOn, IsStrangerOn, ReleasesOn, is_other_wait}
-use Rattle.lock_server.specs.Files.{FileState, SameFile, Unlocks, untouched}
-use Rattle.lock_server.specs.States.{ChangesFile, SameState, SettlesFile, State}
+use Rattle.lock_server.specs.Files.{FileState, SameFile, SameLocks, untouched}
+use Rattle.lock_server.specs.States.{ChangesFile, Crosses, HasDetected, SameState, SettlesFile, State}
 use Rattle.lock_server.proofs.SettleLemmas.{crosses_then, detected_before}
 use Rattle.lock_server.proofs.StateLemmas.{SameFile-itself, SameFile-then, state_from_same}
 
--- the owner's byte locks have left the file, and some of its waits for byte locks
+-- some of the owner's waits for byte locks have left the file, and all locks stay
 pub record IsDismissing (S : State) (file owner : ℕ) (T : State) : Type 0 where
-  pub unlocks : Unlocks Bytes (S.files file) owner (T.files file)
+  pub locks : SameLocks (S.files file) (T.files file)
   pub kept : filter (is_other_wait owner) (T.files file).waits ≡ filter (is_other_wait owner) (S.files file).waits
   pub changes : ChangesFile S file [] T
 
--- at first none of its waits
-pub dismissing_none : (S : State) (file owner : ℕ) (T : State) → ReleasesOn S file Bytes owner T → IsDismissing S file owner T
-dismissing_none S file owner T releases = grind (arith, common_steps)
+-- at first none of them
+pub dismissing_none : (S : State) (file owner : ℕ) → Crosses S [] S → IsDismissing S file owner S
+dismissing_none S file owner crossed = grind (arith, common_steps, SameFile-itself)
 
 -- what a filter drops doesn't count
 filter_without : (p : Pending → Bool) (before after : List Pending) (wait : Pending) → p wait ≡ false
@@ -41,10 +41,19 @@ filter_all p (wait ∷ waits) all =
 pub dismissing_more : (S : State) (file owner : ℕ) (M T : State) → IsDismissing S file owner M → DismissesOn M file owner T → IsDismissing S file owner T
 dismissing_more S file owner M T so_far one = grind (arith, common_steps, filter_without, SameFile-then, crosses_then, detected_before)
 
--- none of its waits is left
-pub all_dismissed : (S : State) (file owner : ℕ) (M T : State) → IsDismissing S file owner M
-    → All (λ wait. IsTrue (is_other_wait owner wait)) (M.files file).waits → SameState M T → ForgetsOn S file owner T
-all_dismissed S file owner M T so_far all same = search (rules, state_from_same, filter_all)
+-- who has a detected wait after a release had it before
+released_before : (M : State) (file owner : ℕ) (T : State) → ReleasesOn M file Bytes owner T → (other : ℕ) → HasDetected T other → HasDetected M other
+released_before M file owner T releases other has = search (rules, cases_eq)
+
+-- none of its waits is left, and then its byte locks go
+released_last : (S : State) (file owner : ℕ) (M T : State) → IsDismissing S file owner M
+    → All (λ wait. IsTrue (is_other_wait owner wait)) (M.files file).waits → ReleasesOn M file Bytes owner T → ForgetsOn S file owner T
+released_last S file owner M T so_far all releases = grind (arith, common_steps, filter_all, SameFile-then, crosses_then, released_before)
+
+pub all_dismissed : (S : State) (file owner : ℕ) (M N T : State) → IsDismissing S file owner M
+    → All (λ wait. IsTrue (is_other_wait owner wait)) (M.files file).waits → SameState M N → ReleasesOn N file Bytes owner T → ForgetsOn S file owner T
+all_dismissed S file owner M N T so_far all same releases =
+    released_last S file owner M T so_far all (subst (λ (U : State). ReleasesOn U file Bytes owner T) (state_from_same M N same) releases)
 
 -- one wait that is dismissed is one wait less
 pub fewer_after : (M : State) (file owner : ℕ) (T : State) → DismissesOn M file owner T → length (T.files file).waits < length (M.files file).waits

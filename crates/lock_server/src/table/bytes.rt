@@ -89,8 +89,9 @@ impl Table {
         ensures forgets { ForgetsOn (table_state self.old) file owner (table_state self.new) }
         ensures policy { table_policy self.new ≡ table_policy self.old }
     {
-        self.release(file, owner);
+        // The waits go first: as long as one stands, the owner's room on the file stays at its release.
         while self.dismiss_one(file, owner) {}
+        self.release(file, owner);
     }
 
     /// The first wait on the file for byte locks of the owner leaves the list; false where there is none.

@@ -2,10 +2,11 @@ use Rattle.std.proofs.Common.{arith, ◌∙◌}
 use Rattle.std.proofs.lemmas.Grind.{common_steps}
 use Rattle.lock_server.specs.TableView.{table_state}
 use Rattle.lock_server.proofs.ForgetLemmas.{all_dismissed, dismissing_more, dismissing_none, fewer_after}
+use Rattle.lock_server.proofs.GrantedMoves.{crosses_itself}
 use Rattle.lock_server.proofs.table.Table.dismiss.Goals as goal
 
 pub loop-init : goal.loop-init
-loop-init c = grind (arith, common_steps, dismissing_none)
+loop-init c = grind (arith, common_steps, dismissing_none, crosses_itself)
 
 pub loop-preserved : goal.loop-preserved
 loop-preserved c = record {
@@ -20,4 +21,5 @@ loop-smaller c = fewer_after (table_state c.loop.self) c.args.file c.args.owner 
 pub returns-clause-forgets : goal.returns-clause-forgets
 returns-clause-forgets c =
     let none = c.dismiss_one.ensures.none c.loop-test.false in
-    all_dismissed (table_state c.args.self.now) c.args.file c.args.owner (table_state c.loop.self) (table_state c.dismiss_one.new.self) c.loop.invariant.dismissing none.0 none.1
+    all_dismissed (table_state c.args.self.now) c.args.file c.args.owner (table_state c.loop.self) (table_state c.dismiss_one.new.self) (table_state c.release.new.self)
+    c.loop.invariant.dismissing none.0 none.1 c.release.ensures.releases
