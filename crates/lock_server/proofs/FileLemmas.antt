@@ -1,5 +1,6 @@
 -- What a file's waits and their room come to where one leaves.
 use Rattle.std.proofs.Common.{ℕ, ◌≡◌, ◌<◌, ◌∙◌, sym, subst, arith, suc, List, ◌∷◌, ◌++◌, All, length, get_or, take, drop}
+use Rattle.std.proofs.lemmas.Grind.{common_steps}
 use Rattle.std.proofs.lemmas.List.{length-take-le}
 use Rattle.range_core.specs.Ranges.{IsByteRange}
 use Rattle.lock_book.specs.declared.book.Book.{Book}
@@ -7,11 +8,16 @@ use Rattle.wait_core.specs.declared.Family.{Family}
 use Rattle.wait_core.specs.declared.Family.TheVariants.{Bytes, Whole}
 use Rattle.lock_server.specs.declared.Pending.{Pending}
 use Rattle.lock_server.specs.declared.file.LockFile.{LockFile}
-use Rattle.lock_server.specs.Files.{FileState, SameLocks}
+use Rattle.lock_server.specs.Files.{FileState, Leaves, SameFile, SameLocks}
 use Rattle.lock_server.specs.Room.{HasRoom}
 use Rattle.lock_server.specs.Waiting.{IsReservedIn, LeavesAt}
 use Rattle.lock_server.proofs.LeaveLemmas.{All-without, split_at}
 use Rattle.lock_server.proofs.RoomLemmas.{HasRoom-left, byte_room_left, flock_place_left}
+
+-- a wait has left as long as the file is the same
+pub left_still : (F M G : FileState) (before after : List Pending) (wait : Pending) → Leaves F before wait after M → SameFile M G
+    → Leaves F before wait after G
+left_still F M G before after wait leaves same = grind (arith, common_steps)
 
 module _ (waits left : List Pending) (place : ℕ) (wait : Pending) (within : place < length waits) (is : get_or waits place wait ≡ wait) (rest : left ≡ take place waits ++ drop (suc place) waits) where
   stood : waits ≡ take place waits ++ wait ∷ drop (suc place) waits

@@ -319,7 +319,7 @@ impl LockServer {
     {
         let wanted = flock_request(NO_TICKET, owner, mode);
         if self.table.holds_back(file, &wanted) {
-            self.table.sweep(file);
+            self.table.give_back_place(file, owner);
             return Answer::Blocked;
         }
         self.table.set_flock(file, owner, Some(mode));

@@ -1,5 +1,5 @@
 //! The flock locks of one file.
-ghost use Rattle.std.specs.Prelude.{◌≡◌, ◌↔◌, ℕ, None, IsTrue, Any, OnOk};
+ghost use Rattle.std.specs.Prelude.{◌≡◌, ◌↔◌, ℕ, None, false, IsTrue, Any, OnOk};
 ghost use Rattle.lock_server.specs.Files.{SameFile, SetsFlock, Unlocks};
 ghost use Rattle.lock_server.specs.FileView.{file_state, keeps_place};
 ghost use Rattle.lock_server.specs.Pendings.{is_flock_wait};
@@ -46,6 +46,17 @@ impl LockFile {
         if self.waits_for_flock(owner) {
             self.book.flock_set_reserved(owner, None);
         } else {
+            self.book.release_flock(owner);
+        }
+    }
+
+    /// Gives back the place of the owner, where it has neither a flock lock nor a wait for one. It takes no memory.
+    pub fn give_back_place(&mut self, owner: u64)
+        ensures same { SameFile (file_state self.old) (file_state self.new) }
+        ensures gone { (file_state self.old).flocks owner ≡ None → (¬ Any (λ wait. IsTrue (is_flock_wait owner wait)) (file_state self.old).waits)
+            → keeps_place self.new owner ≡ false }
+    {
+        if self.flock_mode(owner).is_none() && !self.waits_for_flock(owner) {
             self.book.release_flock(owner);
         }
     }

@@ -141,7 +141,9 @@ impl LockFile {
             × SameFile (file_state self.old) (file_state self.new)) }
     {
         let place = self.place_of(ticket)?;
-        Some(self.remove_at(place))
+        let wait = self.remove_at(place);
+        self.give_back_place(wait.owner);
+        Some(wait)
     }
 
     /// The first wait for byte locks of the owner leaves the list, where there is one. It takes no memory.

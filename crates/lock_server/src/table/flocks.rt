@@ -58,6 +58,18 @@ impl Table {
         }
     }
 
+    /// Gives back the place of the owner on the file, where it has neither a flock lock there nor a wait for one, and drops the entry of
+    /// the file, where that has neither a lock nor a wait. It takes no memory.
+    pub fn give_back_place(&mut self, file: u64, owner: u64)
+        ensures same { SameState (table_state self.old) (table_state self.new) }
+        ensures policy { table_policy self.new ≡ table_policy self.old }
+    {
+        if let Some(locks) = self.files.get_mut(&file) {
+            locks.give_back_place(owner);
+        }
+        self.sweep(file);
+    }
+
     /// Sets or removes the flock lock of the owner on the file, in the place that is kept, which stays. No conflict is looked for,
     /// and no wait is granted. It takes no memory (flock(2)).
     pub fn set_flock(&mut self, file: u64, owner: u64, mode: Option<Mode>)

@@ -40,7 +40,7 @@ impl Table {
             Ok(()) => Ok(()),
             Err(memory) => {
                 self.waiters.sweep(wanted.owner);
-                self.sweep(file);
+                self.give_back_place(file, wanted.owner);
                 Err(memory)
             }
         }
