@@ -1,6 +1,6 @@
-/* Calls each function of the library on its happy path, refuses each growth in turn, and prints 'N passed, M failed'. Linked with
- * --wrap=malloc and --wrap=realloc, so that it can refuse. What is right is told by the pages of fcntl(2), fcntl_locking(2) and
- * flock(2). */
+/* Calls each function of the library on its happy path, refuses each growth in turn, counts what memory is left where owners and files came
+ * and went, and prints 'N passed, M failed'. Linked with --wrap of malloc, realloc and free, so that it can refuse and count. What is right
+ * is told by the pages of fcntl(2), fcntl_locking(2) and flock(2). */
 #include "dehokuna.h"
 #include <stdio.h>
 #include <stdlib.h>
@@ -23,19 +23,38 @@ static void check(bool holds, const char *what, int line) {
 static long growths_left = -1;
 static bool was_refused;
 
+/* How many blocks of memory are taken and not given back. */
+static long blocks;
+
 void *__real_malloc(size_t size);
 void *__real_realloc(void *block, size_t size);
+void __real_free(void *block);
 void *__wrap_malloc(size_t size);
 void *__wrap_realloc(void *block, size_t size);
+void __wrap_free(void *block);
 
 static bool is_refused(void) {
     if (growths_left < 0 || growths_left-- > 0) return false;
     return was_refused = true;
 }
 
-void *__wrap_malloc(size_t size) { return is_refused() ? NULL : __real_malloc(size); }
+void *__wrap_malloc(size_t size) {
+    void *taken = is_refused() ? NULL : __real_malloc(size);
+    blocks += taken != NULL;
+    return taken;
+}
 
-void *__wrap_realloc(void *block, size_t size) { return is_refused() ? NULL : __real_realloc(block, size); }
+void *__wrap_realloc(void *block, size_t size) {
+    const bool is_new = block == NULL;
+    void *taken = is_refused() ? NULL : __real_realloc(block, size);
+    blocks += is_new && taken != NULL;
+    return taken;
+}
+
+void __wrap_free(void *block) {
+    blocks -= block != NULL;
+    __real_free(block);
+}
 
 enum { FILE_A = 7, FILE_B = 8, ANN = 1, BOB = 2, CAT = 3 };
 
@@ -197,7 +216,8 @@ static void policies(void) {
     CHECK(!held.at && !queue.at);
 }
 
-/* One call of each kind that may grow, on a server where ANN holds bytes 0 to 9 of FILE_A. */
+/* One call of each kind that may grow, on a server where ANN holds bytes 0 to 9 of FILE_A, and a shared flock lock on it. */
+enum { KINDS = 7 };
 static uint32_t grow(struct dehokuna_server *server, int which) {
     switch (which) {
     case 0: return dehokuna_set(server, FILE_B, BOB, 0, 9, DEHOKUNA_WRITE);
@@ -205,17 +225,19 @@ static uint32_t grow(struct dehokuna_server *server, int which) {
     case 2: return dehokuna_wait(server, 1, FILE_A, BOB, 0, 9, DEHOKUNA_READ, true);
     case 3: return dehokuna_flock(server, FILE_B, BOB, DEHOKUNA_READ);
     case 4: return dehokuna_note(server, FILE_A, ANN, 50) ? DEHOKUNA_DONE : DEHOKUNA_NO_MEMORY;
+    case 5: return dehokuna_flock_wait(server, 1, FILE_A, ANN, DEHOKUNA_WRITE);
     default: return dehokuna_flock_wait(server, 1, FILE_A, BOB, DEHOKUNA_WRITE);
     }
 }
 
 /* Refuses the first growth of a call, then the second one and so on: each time it is told, and nothing has changed. */
 static void refusals(void) {
-    for (int which = 0; which < 6; which++) {
+    for (int which = 0; which < KINDS; which++) {
         for (long growths = 0; was_refused || growths == 0; growths++) {
             struct dehokuna_server server = {0};
             CHECK(dehokuna_create(&server, DEHOKUNA_HELD));
             CHECK(dehokuna_set(&server, FILE_A, ANN, 0, 9, DEHOKUNA_WRITE) == DEHOKUNA_DONE);
+            CHECK(dehokuna_flock(&server, FILE_A, ANN, DEHOKUNA_READ) == DEHOKUNA_DONE);
             was_refused = false;
             growths_left = growths;
             uint32_t status = grow(&server, which);
@@ -225,6 +247,8 @@ static void refusals(void) {
                 dehokuna_release(&server, FILE_A, 50, false, 0);
                 CHECK(is_blocked_by(&server, FILE_A, CAT, 4, (struct dehokuna_blocker){ANN, 0, 9, DEHOKUNA_WRITE}));
                 CHECK(is_free(&server, FILE_B, CAT, 0, 9) && !dehokuna_cancel(&server, 1) && granted(&server) == 0);
+                CHECK(dehokuna_flock(&server, FILE_A, CAT, DEHOKUNA_WRITE) == DEHOKUNA_BLOCKED);
+                CHECK(dehokuna_flock(&server, FILE_A, CAT, DEHOKUNA_READ) == DEHOKUNA_DONE);
                 CHECK(dehokuna_flock(&server, FILE_B, CAT, DEHOKUNA_WRITE) == DEHOKUNA_DONE);
             }
             dehokuna_destroy(&server);
@@ -263,6 +287,186 @@ static void unlocks_without_memory(void) {
     dehokuna_destroy(&server);
 }
 
+/* What ends something takes no memory, however many owners have locks on the file and however many requests wait there. */
+static void ends_without_memory(void) {
+    enum { OWNERS = 200, HOLDER = 999, OPEN_FILE = 50 };
+    struct dehokuna_server server = {0};
+    struct dehokuna_blocker told;
+    uint64_t ticket = 0;
+    bool are_done = true, are_granted = true;
+    CHECK(dehokuna_create(&server, DEHOKUNA_HELD));
+    CHECK(dehokuna_set(&server, FILE_A, HOLDER, 5000, 5009, DEHOKUNA_WRITE) == DEHOKUNA_DONE);
+    CHECK(dehokuna_flock(&server, FILE_A, HOLDER, DEHOKUNA_WRITE) == DEHOKUNA_DONE);
+    for (uint64_t owner = 0; owner < OWNERS; owner++) {
+        are_done &= dehokuna_note(&server, FILE_A, owner, OPEN_FILE + owner % 2);
+        are_done &= dehokuna_set(&server, FILE_A, owner, 4 * owner, 4 * owner + 2, DEHOKUNA_WRITE) == DEHOKUNA_DONE;
+        are_done &= dehokuna_wait(&server, owner, FILE_A, owner, 5000, 5000, DEHOKUNA_READ, owner % 3 == 0) == DEHOKUNA_WAITS;
+        are_done &= dehokuna_flock_wait(&server, 1000 + owner, FILE_A, owner, DEHOKUNA_READ) == DEHOKUNA_WAITS;
+    }
+    CHECK(are_done);
+    was_refused = false;
+    growths_left = 0;
+    CHECK(dehokuna_get(&server, FILE_A, HOLDER, 0, 9, DEHOKUNA_READ, &told) && told.owner == 0);
+    CHECK(dehokuna_cancel(&server, 0) && dehokuna_cancel(&server, 1) && dehokuna_cancel(&server, 1000) && dehokuna_cancel(&server, 1001));
+    dehokuna_flush(&server, FILE_A, 0);
+    dehokuna_flush(&server, FILE_A, 2);
+    dehokuna_forget(&server, 3);
+    dehokuna_release(&server, FILE_A, OPEN_FILE, true, 4);
+    CHECK(!dehokuna_next_grant(&server, &ticket));
+    CHECK(dehokuna_flock(&server, FILE_A, HOLDER, DEHOKUNA_UNLOCK) == DEHOKUNA_DONE);
+    dehokuna_flush(&server, FILE_A, HOLDER);
+    for (uint64_t owner = 2; owner < OWNERS; owner++) are_granted &= dehokuna_next_grant(&server, &ticket) && ticket == 1000 + owner;
+    for (uint64_t owner = 2; owner < OWNERS; owner++)
+        are_granted &= owner == 3 || (dehokuna_next_grant(&server, &ticket) && ticket == owner);
+    CHECK(are_granted && !dehokuna_next_grant(&server, &ticket));
+    dehokuna_flock_release(&server, FILE_A, 2);
+    CHECK(!was_refused);
+    for (uint64_t owner = 1; owner < OWNERS; owner += 2)
+        are_done &= dehokuna_set(&server, FILE_A, owner, 0, DEHOKUNA_LARGEST_OFFSET, DEHOKUNA_UNLOCK) == DEHOKUNA_DONE;
+    CHECK(are_done);
+    growths_left = -1;
+    dehokuna_destroy(&server);
+}
+
+/* The owner that stays while others come and go, and the byte of each file that it keeps; and how many come in each way. */
+#define KEEPER UINT64_MAX
+enum { KEPT = 0, COMERS = 1000, OPEN_FILE = 50 };
+
+static bool keep(struct dehokuna_server *server, uint64_t file) {
+    return dehokuna_set(server, file, KEEPER, KEPT, KEPT, DEHOKUNA_WRITE) == DEHOKUNA_DONE
+           && dehokuna_flock(server, file, KEEPER, DEHOKUNA_READ) == DEHOKUNA_DONE;
+}
+
+/* In each way an owner sets byte locks on the file that the keeper keeps, and is rid of them: the ways in which an owner comes. */
+enum { SET_WAYS = 5 };
+static bool comes_for_bytes(struct dehokuna_server *server, uint64_t file, uint64_t owner, int way) {
+    const uint64_t end = DEHOKUNA_LARGEST_OFFSET;
+    bool is_right = dehokuna_set(server, file, owner, KEPT, 9, DEHOKUNA_READ) == DEHOKUNA_BLOCKED;
+    is_right &= dehokuna_note(server, file, owner, OPEN_FILE);
+    is_right &= dehokuna_set(server, file, owner, 10, 19, DEHOKUNA_WRITE) == DEHOKUNA_DONE;
+    is_right &= dehokuna_set(server, file, owner, 12, 13, DEHOKUNA_READ) == DEHOKUNA_DONE;
+    switch (way) {
+    case 0: dehokuna_flush(server, file, owner); break;
+    case 1: dehokuna_forget(server, owner); break;
+    case 2: dehokuna_release(server, file, OPEN_FILE, false, 0); break;
+    case 3:
+        is_right &= dehokuna_set(server, file, owner, 0, 15, DEHOKUNA_UNLOCK) == DEHOKUNA_DONE;
+        is_right &= dehokuna_set(server, file, owner, 16, end, DEHOKUNA_UNLOCK) == DEHOKUNA_DONE;
+        dehokuna_release(server, file, OPEN_FILE, false, 0);
+        break;
+    default:
+        is_right &= dehokuna_set(server, file, owner, 0, end, DEHOKUNA_UNLOCK) == DEHOKUNA_DONE;
+        is_right &= dehokuna_note(server, file, owner, OPEN_FILE + 1);
+        dehokuna_release(server, file, OPEN_FILE + 1, true, owner);
+    }
+    return is_right;
+}
+
+/* In each way an owner waits for the byte that the keeper keeps, and is rid of the wait or of the lock. */
+enum { WAIT_WAYS = 4 };
+static bool waits_for_bytes(struct dehokuna_server *server, uint64_t file, uint64_t owner, int way) {
+    const uint64_t ticket = owner;
+    bool is_right = dehokuna_wait(server, ticket, file, owner, KEPT, 9, DEHOKUNA_WRITE, way != 3) == DEHOKUNA_WAITS;
+    is_right &= dehokuna_wait(server, ticket, file, owner, KEPT, 9, DEHOKUNA_WRITE, true) == DEHOKUNA_TICKET_TAKEN;
+    switch (way) {
+    case 0:
+        is_right &= dehokuna_cancel(server, ticket);
+        dehokuna_flush(server, file, owner);
+        return is_right;
+    case 1:
+        is_right &= dehokuna_set(server, file, owner, 10, 19, DEHOKUNA_WRITE) == DEHOKUNA_DONE;
+        dehokuna_forget(server, owner);
+        return is_right;
+    case 2:
+        dehokuna_flush(server, file, KEEPER);
+        is_right &= granted(server) == ticket;
+        dehokuna_flush(server, file, owner);
+        break;
+    default:
+        dehokuna_flush(server, file, KEEPER);
+        is_right &= granted(server) == ticket;
+        is_right &= dehokuna_set(server, file, owner, KEPT, 9, DEHOKUNA_UNLOCK) == DEHOKUNA_DONE;
+    }
+    return is_right && keep(server, file);
+}
+
+/* In each way an owner asks for a flock lock beside that of the keeper, and is rid of the lock or the wait. */
+enum { FLOCK_WAYS = 9 };
+static bool comes_for_flock(struct dehokuna_server *server, uint64_t file, uint64_t owner, int way) {
+    const uint64_t ticket = owner;
+    const uint32_t done = DEHOKUNA_DONE, blocked = DEHOKUNA_BLOCKED, waits = DEHOKUNA_WAITS;
+    if (way == 0) return dehokuna_flock(server, file, owner, DEHOKUNA_WRITE) == blocked;
+    if (way == 1) return dehokuna_flock_wait(server, ticket, file, owner, DEHOKUNA_WRITE) == waits && dehokuna_cancel(server, ticket);
+    bool is_right = dehokuna_flock_wait(server, ticket, file, owner, DEHOKUNA_READ) == done;
+    switch (way) {
+    case 2: return is_right && dehokuna_flock(server, file, owner, DEHOKUNA_UNLOCK) == done;
+    case 3: dehokuna_flock_release(server, file, owner); return is_right;
+    case 4: dehokuna_release(server, file, OPEN_FILE, true, owner); return is_right;
+    case 5: return is_right && dehokuna_flock(server, file, owner, DEHOKUNA_WRITE) == blocked;
+    }
+    is_right &= dehokuna_flock_wait(server, ticket, file, owner, DEHOKUNA_WRITE) == waits;
+    if (way == 6) return is_right && dehokuna_cancel(server, ticket);
+    if (way == 7) {
+        is_right &= dehokuna_flock(server, file, owner, DEHOKUNA_WRITE) == blocked;
+        return is_right && dehokuna_cancel(server, ticket);
+    }
+    dehokuna_flock_release(server, file, KEEPER);
+    is_right &= granted(server) == ticket;
+    dehokuna_flock_release(server, file, owner);
+    return is_right && keep(server, file);
+}
+
+/* Owners come in each way to the file, each of another number from this one on. */
+static bool all_come(struct dehokuna_server *server, uint64_t file, uint64_t owner) {
+    bool is_right = true;
+    for (int way = 0; way < SET_WAYS; way++) is_right &= comes_for_bytes(server, file, owner++, way);
+    for (int way = 0; way < WAIT_WAYS; way++) is_right &= waits_for_bytes(server, file, owner++, way);
+    for (int way = 0; way < FLOCK_WAYS; way++) is_right &= comes_for_flock(server, file, owner++, way);
+    return is_right;
+}
+
+enum { WAYS = SET_WAYS + WAIT_WAYS + FLOCK_WAYS };
+
+/* How many blocks a server has taken in the end, where so many owners came in each way to one file that is kept. */
+static long taken_beside_a_keeper(uint64_t owners) {
+    const long before = blocks;
+    struct dehokuna_server server = {0};
+    CHECK(dehokuna_create(&server, DEHOKUNA_HELD) && keep(&server, FILE_A));
+    bool is_right = true;
+    for (uint64_t owner = 0; owner < owners; owner++) is_right &= all_come(&server, FILE_A, owner * WAYS);
+    CHECK(is_right);
+    const long taken = blocks - before;
+    dehokuna_destroy(&server);
+    return taken;
+}
+
+/* The same of so many files, which the keeper leaves too. */
+static long taken_after_files(uint64_t files) {
+    const long before = blocks;
+    struct dehokuna_server server = {0};
+    CHECK(dehokuna_create(&server, DEHOKUNA_HELD));
+    bool is_right = true;
+    for (uint64_t file = 0; file < files; file++) {
+        is_right &= keep(&server, file) && all_come(&server, file, file * WAYS);
+        dehokuna_flush(&server, file, KEEPER);
+        dehokuna_flock_release(&server, file, KEEPER);
+    }
+    CHECK(is_right);
+    const long taken = blocks - before;
+    dehokuna_destroy(&server);
+    return taken;
+}
+
+/* Files and owners that hold nothing take no memory, however many come and go: but for one block of each map and list that was
+ * used once, which a single owner in each way would leave too. */
+static void nothing_is_left(void) {
+    enum { USED_ONCE = 5 };
+    const long before = blocks, kept = taken_beside_a_keeper(0), made = taken_after_files(0);
+    CHECK(taken_beside_a_keeper(COMERS) <= kept + USED_ONCE);
+    CHECK(taken_after_files(COMERS) <= made + USED_ONCE);
+    CHECK(blocks == before);
+}
+
 int main(void) {
     struct dehokuna_server server = {0};
     CHECK(dehokuna_create(&server, DEHOKUNA_HELD) && server.at);
@@ -277,6 +481,8 @@ int main(void) {
     policies();
     refusals();
     unlocks_without_memory();
+    ends_without_memory();
+    nothing_is_left();
     printf("%u passed, %u failed\n", passed, failed);
     return failed ? 1 : 0;
 }

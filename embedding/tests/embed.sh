@@ -10,7 +10,7 @@ installed=$3
 passed=0
 failed=0
 flags='-std=c11 -O1 -g -Wall -Wextra -Wshadow -Werror'
-wraps='-Wl,--wrap=malloc,--wrap=realloc'
+wraps='-Wl,--wrap=malloc,--wrap=realloc,--wrap=free'
 
 # Counts whether the command succeeds, and says so by the name $1.
 try() {
