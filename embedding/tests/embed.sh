@@ -1,6 +1,6 @@
 #!/bin/sh
-# Calls the library from C plainly, under valgrind and with the sanitizers, from C by what `make install` installs, and from Rust
-# where rustc is there; prints 'N passed, M failed', of these programs.
+# Calls the library from C plainly, under valgrind and with the sanitizers, from threads, from C by what `make install` installs, and from
+# Rust where rustc is there; prints 'N passed, M failed', of these programs.
 # Usage: embed.sh LIBRARY FOLDER INSTALLED, an archive, a folder for what is built, and the PREFIX of an installation
 set -u
 cd "$(dirname "$0")" || exit 2
@@ -46,6 +46,17 @@ as_installed() {
     ${CC:-cc} $flags calls.c $words $wraps -o "$built/calls-installed" && timeout 60 "$built/calls-installed"
 }
 
+in_threads() {
+    # shellcheck disable=SC2086
+    ${CC:-cc} $flags -pthread -I.. threaded.c "$library" -o "$built/threaded" && timeout 60 "$built/threaded"
+}
+
+# Whether what the document shows of the threaded program is what it has.
+as_shown() {
+    sed -n '/^static void serve/,/^}/p' threaded.c > "$built/serve"
+    [ -s "$built/serve" ] && sed -n '/^    static void serve/,/^    }/s/^    //p' ../../docs/EMBEDDING.md | diff - "$built/serve"
+}
+
 as_cxx() {
     ${CXX:-c++} -fsyntax-only -Wall -Werror -x c++ ../dehokuna.h
 }
@@ -58,6 +69,8 @@ mkdir -p "$built"
 try 'from C' plainly
 if command -v valgrind > /dev/null; then try 'under valgrind' under_valgrind; else echo 'skipped: valgrind is not there'; fi
 try 'with the sanitizers' sanitized
+try 'in threads' in_threads
+try 'in threads, as the document shows it' as_shown
 if command -v pkg-config > /dev/null; then try 'as installed' as_installed; else echo 'skipped: pkg-config is not there'; fi
 if command -v "${CXX:-c++}" > /dev/null; then try 'the header in C++' as_cxx; else echo 'skipped: no C++ compiler is there'; fi
 if command -v rustc > /dev/null; then try 'from Rust' from_rust; else echo 'skipped: rustc is not there'; fi
