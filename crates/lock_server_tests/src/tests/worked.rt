@@ -48,6 +48,29 @@ const REFUSES_CYCLES: &[Row] = &[
     (F, Call::Grant, Told::Nothing),
 ];
 
+/// An owner that is given a lock while it waits comes to stand in a cycle that no request closed. A request that leads there and not back to
+/// its own owner waits, and one that would close another cycle through that owner is refused, until its wait is over.
+const CROSSES_AN_OWNER: &[Row] = &[
+    (F, Call::Set(2, (0, 0), Some(Write)), Told::Done),
+    (F, Call::Set(3, (5, 5), Some(Read)), Told::Done),
+    (F, Call::Wait(1, 1, (0, 0), Write, true), Told::Waits),
+    (F, Call::Wait(2, 2, (5, 5), Write, true), Told::Waits),
+    (F, Call::Wait(3, 1, (5, 5), Read, true), Told::Done),
+    (F, Call::Wait(4, 4, (0, 0), Read, true), Told::Waits),
+    (F, Call::Wait(5, 3, (5, 5), Write, true), Told::Deadlock),
+    (F, Call::Cancel(1), Told::Done),
+    (F, Call::Wait(5, 3, (5, 5), Write, true), Told::Waits),
+    (F, Call::Grant, Told::Nothing),
+    (F, Call::Flush(1), Told::Done),
+    (F, Call::Grant, Told::Granted(5)),
+    (F, Call::Grant, Told::Nothing),
+    (F, Call::Flush(3), Told::Done),
+    (F, Call::Grant, Told::Granted(2)),
+    (F, Call::Grant, Told::Nothing),
+    (F, Call::Flush(2), Told::Done),
+    (F, Call::Grant, Told::Granted(4)),
+];
+
 /// A release while the owner waits keeps the room of its grants.
 const KEEPS_WAITS_AT_A_RELEASE: &[Row] = &[
     (F, Call::Set(1, (0, 9), Some(Write)), Told::Done),
@@ -178,7 +201,7 @@ const A_LAST_CLOSE_TAKES_WHO_CAME_THROUGH: &[Row] = &[
     (7, Call::Get(STRANGER, (2, 2), Write), Told::Nothing),
 ];
 
-/// A lock, a split, waits and flock locks are each refused for want of memory at some growth.
+/// A lock, a split, waits, flock locks and a conversion are each refused for want of memory at some growth.
 const GROWS: &[Row] = &[
     (3, Call::Set(1, (0, 9), Some(Write)), Told::Done),
     (3, Call::Set(1, (5, 5), None), Told::Done),
@@ -186,6 +209,7 @@ const GROWS: &[Row] = &[
     (3, Call::Wait(11, 2, (0, 4), Read, false), Told::Waits),
     (4, Call::Wait(12, 2, (0, 4), Read, true), Told::Waits),
     (3, Call::Flock(1, Some(Read)), Told::Done),
+    (3, Call::FlockWait(15, 1, Write), Told::Done),
     (4, Call::FlockWait(13, 1, Write), Told::Done),
     (4, Call::FlockWait(14, 2, Write), Told::Waits),
     (
@@ -214,13 +238,27 @@ const GROWS: &[Row] = &[
     (4, Call::Grant, Told::Nothing),
 ];
 
-/// What an owner without locks is told of the file from three of its bytes on.
-fn seen(server: &mut LockServer, file: u64) -> Result<[Told; 3], Memory> {
+/// What an owner without locks is told of the file: from three of its bytes on, and where it asks for a flock lock, which it gives back.
+fn seen(server: &mut LockServer, file: u64) -> Result<[Told; 4], Memory> {
     Ok([
         serve(server, file, Call::Get(STRANGER, (0, 63), Write))?,
         serve(server, file, Call::Get(STRANGER, (5, 63), Write))?,
         serve(server, file, Call::Get(STRANGER, (10, 63), Write))?,
+        flock_seen(server, file)?,
     ])
+}
+
+/// Whether an owner without locks would be given a flock lock. The question is asked again where a growth is refused.
+fn flock_seen(server: &mut LockServer, file: u64) -> Result<Told, Memory> {
+    let question = Call::Flock(STRANGER, Some(Write));
+    let told = match serve(server, file, question) {
+        Ok(told) => told,
+        Err(_) => serve(server, file, question)?,
+    };
+    if told == Told::Done {
+        serve(server, file, Call::Flock(STRANGER, None))?;
+    }
+    Ok(told)
 }
 
 /// Each call tells what its row says. Where a growth is refused, as by a test run with one allocation failing, all is as before and
@@ -246,6 +284,7 @@ fn worked_runs_come_out(rt: HostRuntime) -> Result<(), Fail> {
     for (policy, rows) in [
         (Policy::Held, GRANTS_IN_ORDER),
         (Policy::Held, REFUSES_CYCLES),
+        (Policy::Held, CROSSES_AN_OWNER),
         (Policy::Held, KEEPS_WAITS_AT_A_RELEASE),
         (Policy::Held, CONVERTS_FLOCKS),
         (Policy::Queue, QUEUES),
