@@ -3,7 +3,7 @@ use Rattle.std.specs.Prelude.{ℕ, Option}
 use Rattle.wait_core.specs.declared.Policy.{Policy}
 use Rattle.lock_server.specs.declared.server.LockServer.{LockServer}
 use Rattle.lock_server.specs.OpeningsView.{through_at}
-use Rattle.lock_server.specs.TableView.{table_state, table_policy}
+use Rattle.lock_server.specs.TableView.{HasEntry, table_state, table_policy}
 use Rattle.lock_server.specs.States.{State}
 
 -- the state that a server stands for
@@ -17,3 +17,7 @@ policy_of server = table_policy server.table
 -- by file and owner: the open file through which the owner was last seen there, and not flushed since
 unfoldable pub through_of : LockServer → ℕ → ℕ → Option ℕ
 through_of server = through_at server.openings
+
+-- the server has an entry for the file, which takes memory
+unfoldable pub KeepsFile : LockServer → ℕ → Type 0
+KeepsFile server file = HasEntry server.table file

@@ -1,5 +1,5 @@
 //! Through which open file each owner was last seen on each file, until it is flushed there.
-ghost use Rattle.std.specs.Prelude.{◌≡◌, ◌<◌, ℕ, None, Some, IfSome, IfNone, IsTrue, OnOk, OnErr};
+ghost use Rattle.std.specs.Prelude.{◌≡◌, ◌<◌, ◌↔◌, ℕ, None, Some, IfSome, IfNone, IsTrue, OnOk, OnErr};
 
 use crate::Memory;
 use std::alloc::Global;
@@ -45,7 +45,7 @@ impl Seen {
 
     /// Whether no owner is known.
     pub fn is_empty(&self) -> bool
-        ensures { IsTrue result → (owner : ℕ) → open_of self.now owner ≡ None }
+        ensures { IsTrue result ↔ ((owner : ℕ) → open_of self.now owner ≡ None) }
     {
         self.owners.is_empty()
     }
@@ -102,10 +102,19 @@ impl Openings {
         ensures err { OnErr result (SameOpenings (through_at self.old) (through_at self.new)) }
     {
         self.enter(file)?;
-        let seen = self.files.get_mut(&file).unwrap();
-        let done = seen.note(owner, open_file);
+        let done = self.note_there(file, owner, open_file);
         self.sweep(file);
         done
+    }
+
+    /// The same on a file that has an entry.
+    fn note_there(&mut self, file: u64, owner: u64, open_file: u64) -> Result<(), Memory>
+        requires { HasSeen self.old file }
+        ensures ok { OnOk result (SeesOn (through_at self.old) (through_at self.new) file owner (Some open_file)) }
+        ensures err { OnErr result (SameOpenings (through_at self.old) (through_at self.new)) }
+    {
+        let seen = self.files.get_mut(&file).unwrap();
+        seen.note(owner, open_file)
     }
 
     /// The owner isn't known any more on the file. It takes no memory (POSIX.1-2017 close; FUSE, flush).
@@ -186,7 +195,8 @@ impl Openings {
 
     /// Drops the entry of the file, where no owner is known there. It takes no memory.
     fn sweep(&mut self, file: u64)
-        ensures { SameOpenings (through_at self.old) (through_at self.new) }
+        ensures same { SameOpenings (through_at self.old) (through_at self.new) }
+        ensures gone { ((owner : ℕ) → through_at self.old file owner ≡ None) → ¬ HasSeen self.new file }
     {
         let Some(seen) = self.files.get(&file) else {
             return;

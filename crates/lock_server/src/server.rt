@@ -25,7 +25,7 @@ pub struct LockServer {
     ghost safe: { ∥ IsSafe (table_policy table) (table_state table) ∥₁ },
 }
 
-#[tactic(auto, unfolding(crate::specs::ServerView::state_of, crate::specs::ServerView::policy_of, crate::specs::ServerView::through_of))]
+#[tactic(auto, unfolding(crate::specs::ServerView::state_of, crate::specs::ServerView::policy_of, crate::specs::ServerView::through_of, crate::specs::ServerView::KeepsFile))]
 impl LockServer {
     ghost use Rattle.std.specs.Prelude.{◌↔◌, ℕ, IfOk, IfSome, IfNone, IsOk, IsTrue, OnErr, OnOk, Some, None, false};
     ghost use Rattle.range_core.specs.Ranges.{IsByteRange, SplitsRun};
@@ -33,8 +33,9 @@ impl LockServer {
     ghost use Rattle.lock_server.specs.Calls.{CancelComesTo, ConvertsFrom, FetchComesTo, FlockOpComesTo, FlockWaitComesTo, Forgets, IsRefused};
     ghost use Rattle.lock_server.specs.Calls.{IsSetHeldBack, Releases, SetComesTo, TestComesTo, WaitComesTo};
     ghost use Rattle.lock_server.specs.Closing.{Closes};
+    ghost use Rattle.lock_server.specs.Files.{SameFile, untouched};
     ghost use Rattle.lock_server.specs.Openings.{ForgetsOwner, ForgetsThrough, SameOpenings, SeesOn};
-    ghost use Rattle.lock_server.specs.ServerView.{policy_of, state_of, through_of};
+    ghost use Rattle.lock_server.specs.ServerView.{KeepsFile, policy_of, state_of, through_of};
     ghost use Rattle.lock_server.specs.States.{IsTaken, opening, SameState};
     ghost use Rattle.lock_server.specs.TableRoom.{HasFlockPlace, HasRoomFor, KeepsRoomOn};
 
@@ -75,6 +76,7 @@ impl LockServer {
         requires { IsByteRange span }
         ensures ok { IfOk result (λ answer. SetComesTo (policy_of self.old) (state_of self.old) file owner span mode answer (state_of self.new)) }
         ensures unlock { mode ≡ None → (¬ SplitsRun (((state_of self.old).files file).bytes (Owner.Description owner)) span) → IsOk result }
+        ensures gone { result ≡ Ok Answer.Done → SameFile ((state_of self.new).files file) untouched → ¬ KeepsFile self.new file }
         ensures err { OnErr result (SameState (state_of self.old) (state_of self.new)) }
         ensures policy { policy_of self.new ≡ policy_of self.old }
         ensures openings { SameOpenings (through_of self.old) (through_of self.new) }
@@ -159,6 +161,7 @@ impl LockServer {
     /// Removes all byte locks of the owner on the file; its waits stay (POSIX.1-2017 close; FUSE, flush). It takes no memory.
     pub fn flush(&mut self, file: u64, owner: u64)
         ensures flushes { Releases (policy_of self.old) (state_of self.old) file Family.Bytes owner (state_of self.new) }
+        ensures gone { SameFile ((state_of self.new).files file) untouched → ¬ KeepsFile self.new file }
         ensures policy { policy_of self.new ≡ policy_of self.old }
         ensures openings { SeesOn (through_of self.old) (through_of self.new) file owner None }
     {
@@ -186,6 +189,7 @@ impl LockServer {
     pub fn flock(&mut self, file: u64, owner: u64, mode: Option<Mode>) -> Result<Answer, Memory>
         ensures ok { IfOk result (λ answer. FlockOpComesTo (policy_of self.old) (state_of self.old) file owner mode answer (state_of self.new)) }
         ensures unlock { mode ≡ None → IsOk result }
+        ensures gone { mode ≡ None → SameFile ((state_of self.new).files file) untouched → ¬ KeepsFile self.new file }
         ensures err { OnErr result (SameState (state_of self.old) (state_of self.new)) }
         ensures policy { policy_of self.new ≡ policy_of self.old }
         ensures openings { SameOpenings (through_of self.old) (through_of self.new) }
@@ -238,6 +242,7 @@ impl LockServer {
     /// `FUSE_RELEASE_FLOCK_UNLOCK`). It takes no memory.
     pub fn flock_release(&mut self, file: u64, owner: u64)
         ensures releases { Releases (policy_of self.old) (state_of self.old) file Family.Whole owner (state_of self.new) }
+        ensures gone { SameFile ((state_of self.new).files file) untouched → ¬ KeepsFile self.new file }
         ensures policy { policy_of self.new ≡ policy_of self.old }
         ensures openings { SameOpenings (through_of self.old) (through_of self.new) }
     {
@@ -252,6 +257,7 @@ impl LockServer {
     /// on the file.
     pub fn release(&mut self, file: u64, open_file: u64, flock_owner: Option<u64>)
         ensures closes { Closes (policy_of self.old) (state_of self.old) (through_of self.old) file open_file flock_owner (state_of self.new) }
+        ensures gone { SameFile ((state_of self.new).files file) untouched → ¬ KeepsFile self.new file }
         ensures policy { policy_of self.new ≡ policy_of self.old }
         ensures openings { ForgetsThrough (through_of self.old) (through_of self.new) file open_file }
     {

@@ -1,6 +1,7 @@
 //! The entries of files, and the tickets.
 ghost use Rattle.std.specs.Prelude.{◌≡◌, ◌↔◌, IsOk, IsTrue, OnOk};
 ghost use Rattle.lock_server.specs.Calls.{FetchComesTo};
+ghost use Rattle.lock_server.specs.Files.{SameFile, untouched};
 ghost use Rattle.lock_server.specs.States.{IsTaken, SameState};
 ghost use Rattle.lock_server.specs.TableView.{HasEntry, table_state, table_policy};
 
@@ -43,6 +44,7 @@ impl Table {
     /// Drops the entry of the file, where it has neither a lock nor a wait.
     pub fn sweep(&mut self, file: u64)
         ensures same { SameState (table_state self.old) (table_state self.new) }
+        ensures gone { SameFile ((table_state self.new).files file) untouched → ¬ HasEntry self.new file }
         ensures policy { table_policy self.new ≡ table_policy self.old }
     {
         let Some(locks) = self.files.get(&file) else {

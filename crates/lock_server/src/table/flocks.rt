@@ -1,11 +1,12 @@
 //! flock locks.
 ghost use Rattle.std.specs.Prelude.{◌≡◌, false, None, OnOk};
+ghost use Rattle.lock_server.specs.Files.{SameFile, untouched};
 ghost use Rattle.lock_book.specs.Changes.{whole_file};
 ghost use Rattle.lock_server.specs.Calls.{ReleasesOn, SetsOn};
 ghost use Rattle.lock_server.specs.Closing.{ClosesOn};
 ghost use Rattle.lock_server.specs.States.{SameState};
 ghost use Rattle.lock_server.specs.TableRoom.{HasFlockPlace, KeepsRoomOn};
-ghost use Rattle.lock_server.specs.TableView.{table_state, table_policy};
+ghost use Rattle.lock_server.specs.TableView.{HasEntry, table_state, table_policy};
 
 use super::Table;
 use crate::{Family, Memory, Mode};
@@ -62,6 +63,7 @@ impl Table {
     /// the file, where that has neither a lock nor a wait. It takes no memory.
     pub fn give_back_place(&mut self, file: u64, owner: u64)
         ensures same { SameState (table_state self.old) (table_state self.new) }
+        ensures gone { SameFile ((table_state self.new).files file) untouched → ¬ HasEntry self.new file }
         ensures policy { table_policy self.new ≡ table_policy self.old }
     {
         if let Some(locks) = self.files.get_mut(&file) {

@@ -1,5 +1,5 @@
 //! Requests that may wait, and those that wait no more.
-ghost use Rattle.std.specs.Prelude.{◌≡◌, ◌↔◌, Some, IsTrue, IfSome, IfNone, OnOk};
+ghost use Rattle.std.specs.Prelude.{◌≡◌, ◌↔◌, None, Some, IsTrue, IfSome, IfNone, OnOk};
 ghost use Rattle.range_core.specs.Ranges.{IsByteRange};
 ghost use Rattle.lock_server.specs.Calls.{LeavesOn, Suspends};
 ghost use Rattle.lock_server.specs.TableRoom.{HasRoomFor};
@@ -77,6 +77,7 @@ impl Table {
     /// The request doesn't wait after all: its ticket is free again. It takes no memory.
     pub fn give_back(&mut self, ticket: u64)
         requires { place_at self.old.tickets ticket ≡ Some Place.Reserved }
+        ensures free { place_at self.new.tickets ticket ≡ None }
         ensures same { SameState (table_state self.old) (table_state self.new) }
         ensures policy { table_policy self.new ≡ table_policy self.old }
     {
