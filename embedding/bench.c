@@ -1,6 +1,7 @@
 /* How long calls of the library take, and what memory, at growing sizes: files, each locked by one of a tenth as many owners, and as
  * many waits as owners, each of an owner for the next, so that a last one closes a cycle through all; then a flush of each file, which
- * grants the waits. Prints a line for each size and policy. Each size has a process of its own, so that its memory is its own. */
+ * grants the waits. Prints a line for each size and policy. Each size has a process of its own, so that its memory is its own. And then of
+ * one file what calls on it take, beside many owners, runs or waits. */
 #include "dehokuna.h"
 #include <stdio.h>
 #include <stdlib.h>
@@ -90,6 +91,72 @@ static void measure_apart(uint64_t files, uint32_t policy) {
     DEMAND(WIFEXITED(status) && WEXITSTATUS(status) == 0);
 }
 
+/* How many owners, runs or waits the one file has, how often what takes long and very long is asked, and a byte behind all locks. */
+enum { MANY = 10000, FEW = 100, VERY_FEW = 3, FILE_A = 7, WANTED = 1000000 };
+
+static void tell(const char *what, double since, uint64_t calls) {
+    printf("| %s | %.2f |\n", what, (now() - since) / (double)calls * 1e6);
+}
+
+static void one_file_of_many_owners(void) {
+    struct dehokuna_server server = {0};
+    struct dehokuna_blocker told;
+    DEMAND(dehokuna_create(&server, DEHOKUNA_HELD));
+    double since = now();
+    for (uint64_t owner = 0; owner < MANY; owner++)
+        DEMAND(dehokuna_set(&server, FILE_A, owner, 4 * owner, 4 * owner + 1, DEHOKUNA_WRITE) == DEHOKUNA_DONE);
+    tell("a set of each owner, one lock each", since, MANY);
+    since = now();
+    for (uint64_t owner = 0; owner < MANY; owner++) DEMAND(!dehokuna_get(&server, FILE_A, owner, WANTED, WANTED, DEHOKUNA_WRITE, &told));
+    tell("a get where nobody has a lock, beside those", since, MANY);
+    since = now();
+    for (uint64_t owner = 0; owner < MANY; owner++)
+        DEMAND(dehokuna_get(&server, FILE_A, owner, 4 * MANY - 4, WANTED, DEHOKUNA_WRITE, &told) == (owner + 1 != MANY));
+    tell("a get of what the last of them has", since, MANY);
+    since = now();
+    for (uint64_t owner = MANY; owner < MANY + FEW; owner++)
+        DEMAND(dehokuna_wait(&server, owner, FILE_A, owner, 0, 0, DEHOKUNA_READ, true) == DEHOKUNA_WAITS);
+    tell("a detected wait beside those", since, FEW);
+    since = now();
+    for (uint64_t owner = 0; owner < MANY; owner++) dehokuna_flush(&server, FILE_A, MANY - 1 - owner);
+    tell("a flush of each owner, beside a hundred waits", since, MANY);
+    dehokuna_destroy(&server);
+}
+
+static void one_file_of_many_runs(void) {
+    struct dehokuna_server server = {0};
+    DEMAND(dehokuna_create(&server, DEHOKUNA_HELD));
+    double since = now();
+    for (uint64_t run = 0; run < MANY; run++)
+        DEMAND(dehokuna_set(&server, FILE_A, 1, 4 * run, 4 * run + 1, DEHOKUNA_WRITE) == DEHOKUNA_DONE);
+    tell("a run of one owner behind all others", since, MANY);
+    dehokuna_flush(&server, FILE_A, 1);
+    since = now();
+    for (uint64_t run = MANY; run > 0; run--)
+        DEMAND(dehokuna_set(&server, FILE_A, 1, 4 * run, 4 * run + 1, DEHOKUNA_WRITE) == DEHOKUNA_DONE);
+    tell("a run of one owner before all others", since, MANY);
+    dehokuna_destroy(&server);
+}
+
+static void one_file_of_many_waits(void) {
+    struct dehokuna_server server = {0};
+    uint64_t ticket = 0;
+    DEMAND(dehokuna_create(&server, DEHOKUNA_HELD));
+    DEMAND(dehokuna_set(&server, FILE_A, MANY, 0, 0, DEHOKUNA_WRITE) == DEHOKUNA_DONE);
+    double since = now();
+    for (uint64_t owner = 0; owner < MANY; owner++)
+        DEMAND(dehokuna_wait(&server, owner, FILE_A, owner, 0, 0, DEHOKUNA_READ, false) == DEHOKUNA_WAITS);
+    tell("an undetected wait of each owner for one byte", since, MANY);
+    since = now();
+    for (uint64_t owner = 0; owner < VERY_FEW; owner++) DEMAND(dehokuna_cancel(&server, owner));
+    tell("a cancel of the first of them", since, VERY_FEW);
+    since = now();
+    dehokuna_flush(&server, FILE_A, MANY);
+    tell("the flush that grants them all", since, 1);
+    for (uint64_t granted = VERY_FEW; granted < MANY; granted++) DEMAND(dehokuna_next_grant(&server, &ticket));
+    dehokuna_destroy(&server);
+}
+
 int main(void) {
     printf("| Policy | Files | Owners and waits | a set, ns | a wait, ns | a cycle through all, ms | a flush with its grants, ns | MiB |\n");
     printf("|---|---|---|---|---|---|---|---|\n");
@@ -97,5 +164,9 @@ int main(void) {
         measure_apart(files, DEHOKUNA_HELD);
         measure_apart(files, DEHOKUNA_QUEUE);
     }
+    printf("\n| On one file, %d owners, runs or waits | a call, us |\n|---|---|\n", MANY);
+    one_file_of_many_owners();
+    one_file_of_many_runs();
+    one_file_of_many_waits();
     return 0;
 }
