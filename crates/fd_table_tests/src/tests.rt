@@ -7,20 +7,26 @@ use std::alloc::Global;
 use std::process::Abort;
 use std::test::Fail;
 
-// Each call that may grow is made again where a growth was refused, so that these tests pass whichever growth is: a run
-// that refuses none meets no `Memory`.
-fn small_tables(alloc: Global) -> Result<Tables, Memory> {
+// Each call that may grow is made again where a growth was refused, and then it must succeed: at most one is refused in a run,
+// so these tests pass whichever it is, and a run that refuses none meets no `Memory`.
+fn small_tables(rt: &impl Abort, alloc: Global) -> Result<Tables, Memory> {
     match Tables::new(alloc, 16, Limits::Small) {
-        Ok(tables) => Ok(tables),
-        Err(_) => Tables::new(alloc, 16, Limits::Small),
+        Err(_) => again(rt, Tables::new(alloc, 16, Limits::Small)),
+        first => first,
     }
 }
 
-fn wide_tables(alloc: Global) -> Result<Tables, Memory> {
+fn wide_tables(rt: &impl Abort, alloc: Global) -> Result<Tables, Memory> {
     match Tables::new(alloc, 64, Limits::Wide) {
-        Ok(tables) => Ok(tables),
-        Err(_) => Tables::new(alloc, 64, Limits::Wide),
+        Err(_) => again(rt, Tables::new(alloc, 64, Limits::Wide)),
+        first => first,
     }
+}
+
+// What a call comes to that is made again.
+fn again(rt: &impl Abort, second: Result<Tables, Memory>) -> Result<Tables, Memory> {
+    assert!(rt; second.is_ok(), "refused again");
+    second
 }
 
 /// A call, and what it answers. Files are opened for both reading and writing.
@@ -75,7 +81,9 @@ fn open(rt: &impl Abort, tables: &mut Tables, p: u8, file: u8) -> Result<u32, Fd
         return first;
     }
     assert!(rt; looks(tables, p) == before);
-    open_once(rt, tables, p, file)
+    let second = open_once(rt, tables, p, file);
+    assert!(rt; !matches!(second, Err(FdFault::Memory(_))), "refused again");
+    second
 }
 
 // `fork`, once.
@@ -93,7 +101,9 @@ fn fork(rt: &impl Abort, tables: &mut Tables, p: u8, child: u8) -> Result<(), Fd
     }
     assert!(rt; looks(tables, p) == before);
     assert!(rt; !tables.born(child));
-    fork_once(rt, tables, p, child)
+    let second = fork_once(rt, tables, p, child);
+    assert!(rt; !matches!(second, Err(FdFault::Memory(_))), "refused again");
+    second
 }
 
 // Whether these files and these descriptions were released.
@@ -153,7 +163,7 @@ fn assert_comes_out(
 #[test]
 fn descriptors_come_and_go(rt: HostRuntime) -> Result<(), Fail> {
     for run in worked::RUNS {
-        let mut tables = small_tables(rt.alloc())?;
+        let mut tables = small_tables(&rt, rt.alloc())?;
         assert_comes_out(&rt, &mut tables, run.name, run.steps)?;
     }
     Ok(())
@@ -177,7 +187,7 @@ fn dup_all(rt: &impl Abort, tables: &mut Tables, last: u32) -> Result<(), FdFaul
 // EMFILE is met at the 33rd number of a small table (POSIX.1-2017 dup and open, ERRORS).
 #[test]
 fn small_table_has_32_numbers(rt: HostRuntime) -> Result<(), Fail> {
-    let mut tables = small_tables(rt.alloc())?;
+    let mut tables = small_tables(&rt, rt.alloc())?;
     assert_eq!(rt; open(&rt, &mut tables, 1, 0)?, 0);
     dup_all(&rt, &mut tables, 31)?;
     assert_comes_out(&rt, &mut tables, "a full small table", worked::FULL_SMALL)?;
@@ -187,7 +197,7 @@ fn small_table_has_32_numbers(rt: HostRuntime) -> Result<(), Fail> {
 // A wide table has 256 numbers and 64 processes.
 #[test]
 fn wide_table_has_256_numbers(rt: HostRuntime) -> Result<(), Fail> {
-    let mut tables = wide_tables(rt.alloc())?;
+    let mut tables = wide_tables(&rt, rt.alloc())?;
     assert_comes_out(&rt, &mut tables, "a wide table", worked::WIDE)?;
     dup_all(&rt, &mut tables, 255)?;
     assert_eq!(rt; tables.dup(1, 0), Err(FdFault::TooMany));
@@ -197,7 +207,7 @@ fn wide_table_has_256_numbers(rt: HostRuntime) -> Result<(), Fail> {
 // As many descriptions as make the slab grow again, and a child.
 #[test]
 fn growth_after_growth(rt: HostRuntime) -> Result<(), Fail> {
-    let mut tables = small_tables(rt.alloc())?;
+    let mut tables = small_tables(&rt, rt.alloc())?;
     for fd in 0..20u32 {
         let file = Step::Opens(1, 7, Ok(fd));
         let refers = Step::Refers(1, fd, 7, u64::from(fd) + 1, 0, 0);
