@@ -199,19 +199,25 @@ struct Run {
     steps: &'static [Step],
 }
 
+/// What a call comes to that is made again after a growth was refused: it must succeed, for at most one is refused in a run.
+fn again<T>(rt: &impl Abort, second: Result<T, Memory>) -> Result<T, Memory> {
+    assert!(rt; second.is_ok(), "refused again");
+    second
+}
+
 /// What is held, asked again where a growth is refused.
-fn all_held(manager: &Manager) -> Result<Vec<Held>, Memory> {
+fn all_held(rt: &impl Abort, manager: &Manager) -> Result<Vec<Held>, Memory> {
     match manager.held() {
-        Ok(report) => Ok(report),
-        Err(_) => manager.held(),
+        Err(_) => again(rt, manager.held()),
+        first => first,
     }
 }
 
 /// The waits, asked again where a growth is refused.
-fn all_waits(manager: &Manager) -> Result<Vec<Wait>, Memory> {
+fn all_waits(rt: &impl Abort, manager: &Manager) -> Result<Vec<Wait>, Memory> {
     match manager.waits() {
-        Ok(waits) => Ok(waits),
-        Err(_) => manager.waits(),
+        Err(_) => again(rt, manager.waits()),
+        first => first,
     }
 }
 
@@ -244,16 +250,16 @@ fn answer(
     n: u64,
     request: Request,
 ) -> Result<Vec<Note>, Memory> {
-    let held = all_held(manager)?;
-    let waits = all_waits(manager)?;
+    let held = all_held(rt, manager)?;
+    let waits = all_waits(rt, manager)?;
     let states = all_states(manager);
     if let Ok(notes) = answer_once(rt, manager, p, n, request) {
         return Ok(notes);
     }
-    assert!(rt; all_held(manager)?.as_slice() == held.as_slice());
-    assert!(rt; all_waits(manager)?.as_slice() == waits.as_slice());
+    assert!(rt; all_held(rt, manager)?.as_slice() == held.as_slice());
+    assert!(rt; all_waits(rt, manager)?.as_slice() == waits.as_slice());
     assert!(rt; all_states(manager) == states);
-    answer_once(rt, manager, p, n, request)
+    again(rt, answer_once(rt, manager, p, n, request))
 }
 
 /// Just this was told.
@@ -267,8 +273,8 @@ fn told(notes: &[Note], wanted: &[Said]) -> bool {
 }
 
 /// Just these locks are held.
-fn holds(manager: &Manager, wanted: &[Kept]) -> Result<bool, Memory> {
-    let locks = all_held(manager)?;
+fn holds(rt: &impl Abort, manager: &Manager, wanted: &[Kept]) -> Result<bool, Memory> {
+    let locks = all_held(rt, manager)?;
     for (lock, kept) in locks.iter().zip(wanted) {
         if *lock != kept.held() {
             return Ok(false);
@@ -291,8 +297,8 @@ fn first_in_the_way(
     wait: &Wait,
 ) -> Result<Option<InTheWay>, Memory> {
     match first_once(rt, manager, wait) {
-        Ok(first) => Ok(first),
-        Err(_) => first_once(rt, manager, wait),
+        Err(_) => again(rt, first_once(rt, manager, wait)),
+        first => first,
     }
 }
 
@@ -313,8 +319,8 @@ fn comes_out(
             let notes = answer(rt, manager, p, n, ask.request())?;
             told(notes.as_slice(), wanted)
         }
-        Step::Holds(locks) => holds(manager, locks)?,
-        Step::Queue(waits) => all_waits(manager)?.as_slice() == waits,
+        Step::Holds(locks) => holds(rt, manager, locks)?,
+        Step::Queue(waits) => all_waits(rt, manager)?.as_slice() == waits,
         Step::Stands(p, state) => manager.state_of(p) == state,
         Step::Unable(p) => !manager.able(p),
         Step::Wants(p, n, ask, wait) => manager.wanted(p, n, ask.request()) == wait,
@@ -323,17 +329,17 @@ fn comes_out(
     })
 }
 
-fn opening(alloc: Global) -> Result<Manager, Memory> {
+fn opening(rt: &impl Abort, alloc: Global) -> Result<Manager, Memory> {
     match Manager::new(alloc, 16, RULES) {
-        Ok(manager) => Ok(manager),
-        Err(_) => Manager::new(alloc, 16, RULES),
+        Err(_) => again(rt, Manager::new(alloc, 16, RULES)),
+        first => first,
     }
 }
 
 /// Each run, from the opening on, comes out as its steps say.
 fn assert_all_come_out(rt: &impl Abort, alloc: Global, runs: &[Run]) -> Result<(), Memory> {
     for run in runs {
-        let mut manager = opening(alloc)?;
+        let mut manager = opening(rt, alloc)?;
         for (number, step) in run.steps.iter().enumerate() {
             let came = comes_out(rt, &mut manager, number as u64, *step)?;
             assert!(rt; came, "{}: step {number}", run.name);
