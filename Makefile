@@ -16,8 +16,8 @@ build:
 
 # The gate, and then the command lines, single lines, devices that fail, the worked scripts (also in threads, in whatever order comes), the
 # large scripts and the samples on the program as two compilers built it in the gate, what the README, the help and the manual page show, the
-# files and names that the documents point to, that want of memory is made at one place, that each edit still applies, and the conformance
-# tools' tests but for those that a busy machine can upset.
+# files and names that the documents point to, that the tests of script_core have these worked scripts, that want of memory is made at one
+# place, that each edit still applies, and the conformance tools' tests but for those that a busy machine can upset.
 WORKED := $(basename $(wildcard tests/worked-scripts/*.out)) $(wildcard tests/threads/*)
 test:
 	rt ci
@@ -37,6 +37,7 @@ test:
 	sh tests/samples.sh $(PROGRAM).by-rattle
 	sh tests/readme.sh $(PROGRAM)
 	sh tests/signposts.sh
+	sh tests/worked-rows.sh | cmp - crates/script_core_tests/src/tests/worked.rt
 	tests/memory-is-passed-on
 	tests/edit-reasons --apply
 	cd conformance && LOCKREPLAY=$(abspath $(PROGRAM)) python3 -m unittest tests.test_corpus tests.test_judging tests.test_lies tests.test_trace
@@ -51,8 +52,9 @@ edits:
 	rt all check
 	tests/edit-reasons $(EDITS)
 
-# Refuses each growth of runs on the sample in turn, and of the tests that look what a refusal leaves, on what was built.
-TESTED := lock_book_tests fd_table_tests lock_server_tests lock_manager_tests session_core_tests
+# Refuses each growth of runs on the sample and on each worked script in turn, and of the tests that look what a refusal leaves, on what
+# was built.
+TESTED := lock_book_tests fd_table_tests lock_server_tests lock_manager_tests session_core_tests script_core_tests
 memory: build
 	sh tests/refuse-growths.sh $(PROGRAM)
 	sh tests/refuse-growths.sh $(PROGRAM) crates/lockreplay/stdin
@@ -61,11 +63,11 @@ memory: build
 	sh tests/refuse-growths.sh $(PROGRAM) --explain tests/command-line/explained
 	sh tests/refuse-growths.sh $(PROGRAM) --state all tests/command-line/state
 	sh tests/refuse-growths.sh $(PROGRAM) --threads --explain tests/command-line/handed-over
-	@for crate in $(TESTED) call_table_tests script_core_tests; do (cd crates/$$crate && rt test) > crates/$$crate/out/test.log 2>&1 \
+	@for script in $(basename $(wildcard tests/worked-scripts/*.out)); do sh tests/refuse-growths.sh $(PROGRAM) $$script || exit 1; done
+	@for crate in $(TESTED) call_table_tests; do (cd crates/$$crate && rt test) > crates/$$crate/out/test.log 2>&1 \
 	    || { cat crates/$$crate/out/test.log >&2; exit 1; }; done
 	@for crate in $(TESTED); do sh tests/refuse-growths-in-tests.sh crates/$$crate/out/$${crate}_tests || exit 1; done
 	sh tests/refuse-growths-in-tests.sh crates/call_table_tests/out/call_table_tests_tests . 'Memory|SpawnError'
-	sh tests/refuse-growths-in-tests.sh crates/script_core_tests/out/script_core_tests_tests memory
 
 # Refuses each thread and each growth of runs in threads in turn, and runs scripts in threads TIMES times: each order is judged by a run
 # without threads.

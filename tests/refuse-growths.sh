@@ -1,8 +1,8 @@
 #!/bin/sh
-# Refuses each growth of a run on the sample in turn. The program must then tell want of memory and print nothing, or end as it
+# Refuses each growth of a run in turn. The program must then tell want of memory and print nothing, or end as it
 # does with no growth refused (a vector that is refused the room it would like asks for the room it needs). With --threads it may
 # also tell that it has no thread, since a thread takes memory.
-# Usage: refuse-growths.sh PROGRAM [WORD..], the words of the command line; standard input is the sample
+# Usage: refuse-growths.sh PROGRAM [WORD..], the words of the command line, as a script's name; standard input is the sample
 set -eu
 program=$1
 shift
