@@ -17,8 +17,8 @@ use std::test::Fail;
 use wait_core::{Policy, Wait};
 use worked::{ARRIVALS, RUNS};
 
-// Each call that may grow is made again where a growth was refused, so that these tests pass whichever growth is: a run
-// that refuses none meets no `Memory`.
+// Each call that may grow is made again where a growth was refused, and then it must succeed: at most one is refused in a run,
+// so these tests pass whichever it is, and a run that refuses none meets no `Memory`.
 
 const RULES: Rules = Rules {
     policy: Policy::Held,
@@ -177,6 +177,12 @@ struct Run {
     steps: &'static [Step],
 }
 
+/// What a call comes to that is made again after a growth was refused.
+fn again<T>(rt: &impl Abort, second: Result<T, Memory>) -> Result<T, Memory> {
+    assert!(rt; second.is_ok(), "refused again");
+    second
+}
+
 /// A session of 1 to 16 processes.
 fn session_of(
     rt: &impl Abort,
@@ -187,22 +193,22 @@ fn session_of(
     assert!(rt; 1 <= processes && processes <= 16);
     let limits = Limits::Small;
     match Session::new(alloc, processes, Rules { policy, limits }) {
-        Ok(session) => Ok(session),
-        Err(_) => Session::new(alloc, processes, Rules { policy, limits }),
+        Err(_) => again(rt, Session::new(alloc, processes, Rules { policy, limits })),
+        first => first,
     }
 }
 
-fn all_held(session: &Session) -> Result<Vec<Held>, Memory> {
+fn all_held(rt: &impl Abort, session: &Session) -> Result<Vec<Held>, Memory> {
     match session.manager().held() {
-        Ok(report) => Ok(report),
-        Err(_) => session.manager().held(),
+        Err(_) => again(rt, session.manager().held()),
+        first => first,
     }
 }
 
-fn all_waits(session: &Session) -> Result<Vec<Wait>, Memory> {
+fn all_waits(rt: &impl Abort, session: &Session) -> Result<Vec<Wait>, Memory> {
     match session.manager().waits() {
-        Ok(report) => Ok(report),
-        Err(_) => session.manager().waits(),
+        Err(_) => again(rt, session.manager().waits()),
+        first => first,
     }
 }
 
@@ -228,7 +234,7 @@ struct Standing {
     waits: Vec<Wait>,
 }
 
-fn standing_of(session: &Session) -> Result<Standing, Memory> {
+fn standing_of(rt: &impl Abort, session: &Session) -> Result<Standing, Memory> {
     let manager = session.manager();
     Ok(Standing {
         counts: counts(session),
@@ -237,14 +243,14 @@ fn standing_of(session: &Session) -> Result<Standing, Memory> {
             manager.state_of(2),
             manager.state_of(3),
         ],
-        locks: all_held(session)?,
-        waits: all_waits(session)?,
+        locks: all_held(rt, session)?,
+        waits: all_waits(rt, session)?,
     })
 }
 
 /// The session stands as it did before.
 fn assert_stands(rt: &impl Abort, session: &Session, before: &Standing) -> Result<(), Memory> {
-    let after = standing_of(session)?;
+    let after = standing_of(rt, session)?;
     assert!(rt; after.counts == before.counts && after.states == before.states);
     assert!(rt; after.locks.as_slice() == before.locks.as_slice());
     assert!(rt; after.waits.as_slice() == before.waits.as_slice());
@@ -269,11 +275,16 @@ fn arrive(
     p: u8,
     request: Request,
 ) -> Result<u64, ArriveFault> {
-    let before = standing_of(session)?;
+    let before = standing_of(rt, session)?;
     match arrive_once(rt, session, p, request) {
         Err(ArriveFault::Memory(_)) => {
             assert_stands(rt, session, &before)?;
-            arrive_once(rt, session, p, request)
+            let second = arrive_once(rt, session, p, request);
+            assert!(rt;
+                !matches!(second, Err(ArriveFault::Memory(_))),
+                "refused again"
+            );
+            second
         },
         first => first,
     }
@@ -281,12 +292,12 @@ fn arrive(
 
 /// `take_next`, likewise.
 fn take_next(rt: &impl Abort, session: &mut Session) -> Result<Option<u64>, Memory> {
-    let before = standing_of(session)?;
+    let before = standing_of(rt, session)?;
     match session.take_next() {
         Ok(place) => Ok(place),
         Err(_) => {
             assert_stands(rt, session, &before)?;
-            session.take_next()
+            again(rt, session.take_next())
         }
     }
 }
@@ -310,13 +321,13 @@ fn take_one(
     p: u8,
     request: Request,
 ) -> Result<u64, Memory> {
-    let before = standing_of(session)?;
+    let before = standing_of(rt, session)?;
     let first = take_one_once(rt, session, p, request);
     if first.is_ok() {
         return first;
     }
     assert_stands(rt, session, &before)?;
-    take_one_once(rt, session, p, request)
+    again(rt, take_one_once(rt, session, p, request))
 }
 
 /// Takes until nothing can be taken, 16 times at most.
@@ -348,8 +359,8 @@ fn told(session: &Session, place: usize, wanted: &[Said]) -> bool {
 }
 
 /// Just these locks are held.
-fn holds(session: &Session, wanted: &[Kept]) -> Result<bool, Memory> {
-    let locks = all_held(session)?;
+fn holds(rt: &impl Abort, session: &Session, wanted: &[Kept]) -> Result<bool, Memory> {
+    let locks = all_held(rt, session)?;
     for (lock, kept) in locks.iter().zip(wanted) {
         if *lock != kept.held() {
             return Ok(false);
@@ -373,7 +384,7 @@ fn comes_out(rt: &impl Abort, session: &mut Session, step: Step) -> Result<bool,
         Step::Told(place, said) => told(session, place, said),
         Step::Answered(p, n, reply) => session.answer_of(p, n) == reply,
         Step::Stands(p, state) => session.manager().state_of(p) == state,
-        Step::Holds(locks) => holds(session, locks)?,
+        Step::Holds(locks) => holds(rt, session, locks)?,
     })
 }
 
@@ -406,11 +417,19 @@ fn worked_runs_come_out(rt: HostRuntime) -> Result<(), Fail> {
     Ok(())
 }
 
-fn run_of_two(alloc: Global, arrivals: &[(u8, Request)]) -> Result<Session, RunAllFault>
+fn run_of_two(
+    rt: &impl Abort,
+    alloc: Global,
+    arrivals: &[(u8, Request)],
+) -> Result<Session, RunAllFault>
     requires { All (λ arrival. (1 ≤ arrival.0) × (arrival.0 ≤ 2)) arrivals.now }
 {
     match run_all(alloc, 2, RULES, arrivals) {
-        Err(RunAllFault::Memory(_)) => run_all(alloc, 2, RULES, arrivals),
+        Err(RunAllFault::Memory(_)) => {
+            let second = run_all(alloc, 2, RULES, arrivals);
+            assert!(rt; second.is_ok(), "refused again");
+            second
+        }
         first => first,
     }
 }
@@ -424,7 +443,7 @@ fn arrivals_are_run(rt: HostRuntime) -> Result<(), Fail> {
         (1, set(0, Kind::Write, 0, 100)),
         (1, set(0, Kind::Read, 40, 20)),
     ];
-    let mut session = run_of_two(rt.alloc(), &arrivals)?;
+    let mut session = run_of_two(&rt, rt.alloc(), &arrivals)?;
     assert_comes_out(&rt, &mut session, "four arrivals", ARRIVALS)?;
     Ok(())
 }

@@ -2,7 +2,7 @@
 ghost use Rattle.std.specs.Prelude.{◌≤◌};
 
 use super::judged::{CASES, THIRD_UNLOCKS, WORKED};
-use super::{Ask, RULES, Said, is_told};
+use super::{Ask, RULES, Said, again, is_told};
 use lock_manager::{ProcState, Reply};
 use range_core::{Kind, Memory};
 use session_core::{CheckFault, Entry, Expected, JournalChecker, Notes, check_journal};
@@ -69,40 +69,42 @@ fn journal(alloc: Global, front: usize, rest: &[Line]) -> Result<Vec<Entry>, Mem
 }
 
 /// Whether the entries are a run of so many processes.
-fn is_run(alloc: Global, processes: u8, entries: &[Entry]) -> Result<bool, Memory>
+fn is_run(rt: &impl Abort, alloc: Global, processes: u8, entries: &[Entry]) -> Result<bool, Memory>
     requires { (1 ≤ processes) × (processes ≤ 16) }
 {
     match check_journal(alloc, processes, RULES, entries) {
-        Err(_) => check_journal(alloc, processes, RULES, entries),
+        Err(_) => again(rt, check_journal(alloc, processes, RULES, entries)),
         first => first,
     }
 }
 
 /// At the opening, with so many processes.
-fn checker_of(alloc: Global, processes: u8) -> Result<JournalChecker, Memory>
+fn checker_of(rt: &impl Abort, alloc: Global, processes: u8) -> Result<JournalChecker, Memory>
     requires { (1 ≤ processes) × (processes ≤ 16) }
 {
     match JournalChecker::new(alloc, processes, RULES) {
-        Err(_) => JournalChecker::new(alloc, processes, RULES),
+        Err(_) => again(rt, JournalChecker::new(alloc, processes, RULES)),
         first => first,
     }
 }
 
 /// How many of the entries are accepted in turn before one is illegal. A refused growth must leave all as it was.
-fn accepted(checker: &mut JournalChecker, entries: &[Entry]) -> Result<usize, Memory> {
+fn accepted(rt: &impl Abort, checker: &mut JournalChecker, entries: &[Entry]) -> usize {
     for (place, entry) in entries.iter().enumerate() {
         let first = checker.next(entry);
         let answer = match first {
             Err(CheckFault::Memory(_)) => checker.next(entry),
             first => first,
         };
-        match answer {
-            Ok(()) => {}
-            Err(CheckFault::Illegal) => return Ok(place),
-            Err(CheckFault::Memory(memory)) => return Err(memory),
+        assert!(rt;
+            !matches!(answer, Err(CheckFault::Memory(_))),
+            "refused again"
+        );
+        if answer.is_err() {
+            return place;
         }
     }
-    Ok(entries.len())
+    entries.len()
 }
 
 /// Whether the checker expected that.
@@ -117,13 +119,14 @@ fn is_expected(checker: &JournalChecker, wanted: Expects) -> bool {
 }
 
 /// Whether a checker that found an illegal entry accepts none of the worked journal.
-fn is_spent(alloc: Global, checker: &mut JournalChecker) -> Result<bool, Memory> {
+fn is_spent(rt: &impl Abort, alloc: Global, checker: &mut JournalChecker) -> Result<bool, Memory> {
     let worked = journal(alloc, 8, &[])?;
-    Ok(accepted(checker, &worked)? == 0)
+    Ok(accepted(rt, checker, &worked) == 0)
 }
 
 /// Whether the entries are judged so, and a checker that found an illegal one accepts nothing more, for the sake of that one.
 fn is_judged(
+    rt: &impl Abort,
     alloc: Global,
     checker: &mut JournalChecker,
     case: &Case,
@@ -132,27 +135,27 @@ fn is_judged(
     requires { (1 ≤ case.now.processes) × (case.now.processes ≤ 16) }
 {
     let all_legal = case.legal == entries.len();
-    if is_run(alloc, case.processes, entries)? != all_legal {
+    if is_run(rt, alloc, case.processes, entries)? != all_legal {
         return Ok(false);
     }
-    if accepted(checker, entries)? != case.legal || !is_expected(checker, case.expects) {
+    if accepted(rt, checker, entries) != case.legal || !is_expected(checker, case.expects) {
         return Ok(false);
     }
-    Ok(all_legal || is_spent(alloc, checker)? && is_expected(checker, case.expects))
+    Ok(all_legal || is_spent(rt, alloc, checker)? && is_expected(checker, case.expects))
 }
 
 /// The same, of the entries of the case.
-fn is_case_judged(alloc: Global, case: &Case) -> Result<bool, Memory>
+fn is_case_judged(rt: &impl Abort, alloc: Global, case: &Case) -> Result<bool, Memory>
     requires { (1 ≤ case.now.processes) × (case.now.processes ≤ 16) }
 {
     let entries = journal(alloc, case.front, case.rest)?;
-    let mut checker = checker_of(alloc, case.processes)?;
-    is_judged(alloc, &mut checker, case, &entries)
+    let mut checker = checker_of(rt, alloc, case.processes)?;
+    is_judged(rt, alloc, &mut checker, case, &entries)
 }
 
 fn assert_judged(rt: &impl Abort, alloc: Global, case: &Case) -> Result<(), Memory> {
     assert!(rt; 1 <= case.processes && case.processes <= 16);
-    assert!(rt; is_case_judged(alloc, case)?, "{}", case.name);
+    assert!(rt; is_case_judged(rt, alloc, case)?, "{}", case.name);
     Ok(())
 }
 
@@ -256,6 +259,7 @@ const BEHIND: &[Seen] = &[
 
 /// Whether the checker accepts so many entries of the worked journal, and these behind them, and tells that of the processes.
 fn goes_on(
+    rt: &impl Abort,
     alloc: Global,
     checker: &mut JournalChecker,
     front: usize,
@@ -263,21 +267,25 @@ fn goes_on(
     processes: &[Seen],
 ) -> Result<bool, Memory> {
     let entries = journal(alloc, front, rest)?;
-    Ok(accepted(checker, &entries)? == entries.len() && is_seen(checker, processes))
+    Ok(accepted(rt, checker, &entries) == entries.len() && is_seen(checker, processes))
 }
 
 /// Whether the checker tells so before the unlock, and behind it.
-fn tells_both(alloc: Global, checker: &mut JournalChecker) -> Result<bool, Memory> {
+fn tells_both(
+    rt: &impl Abort,
+    alloc: Global,
+    checker: &mut JournalChecker,
+) -> Result<bool, Memory> {
     Ok(
-        goes_on(alloc, checker, 7, &[], BEFORE)?
-            && goes_on(alloc, checker, 0, &[THIRD_UNLOCKS], BEHIND)?,
+        goes_on(rt, alloc, checker, 7, &[], BEFORE)?
+            && goes_on(rt, alloc, checker, 0, &[THIRD_UNLOCKS], BEHIND)?,
     )
 }
 
 #[test]
 fn a_checker_tells_the_state_and_the_counts(rt: HostRuntime) -> Result<(), Fail> {
-    let mut checker = checker_of(rt.alloc(), 3)?;
-    assert!(rt; tells_both(rt.alloc(), &mut checker)?);
+    let mut checker = checker_of(&rt, rt.alloc(), 3)?;
+    assert!(rt; tells_both(&rt, rt.alloc(), &mut checker)?);
     Ok(())
 }
 
@@ -298,29 +306,38 @@ fn locks_or_unlocks(alloc: Global, n: u64) -> Result<Entry, Memory> {
 }
 
 /// Whether the checker accepts that entry.
-fn accepts(alloc: Global, checker: &mut JournalChecker, n: u64) -> Result<bool, Memory> {
+fn accepts(
+    rt: &impl Abort,
+    alloc: Global,
+    checker: &mut JournalChecker,
+    n: u64,
+) -> Result<bool, Memory> {
     let one = [locks_or_unlocks(alloc, n)?];
-    Ok(accepted(checker, &one)? == 1)
+    Ok(accepted(rt, checker, &one) == 1)
 }
 
 /// Whether the checker accepts the first 3000 entries, and the last of them no second time.
-fn accepts_often(alloc: Global, checker: &mut JournalChecker) -> Result<bool, Memory> {
+fn accepts_often(
+    rt: &impl Abort,
+    alloc: Global,
+    checker: &mut JournalChecker,
+) -> Result<bool, Memory> {
     let open = journal(alloc, 1, &[])?;
-    if accepted(checker, &open)? != 1 {
+    if accepted(rt, checker, &open) != 1 {
         return Ok(false);
     }
     for n in 2..=3000 {
-        if !accepts(alloc, checker, n)? {
+        if !accepts(rt, alloc, checker, n)? {
             return Ok(false);
         }
     }
-    Ok(!accepts(alloc, checker, 3000)? && is_expected(checker, Expects::NumberAfter(3000)))
+    Ok(!accepts(rt, alloc, checker, 3000)? && is_expected(checker, Expects::NumberAfter(3000)))
 }
 
 /// A checker keeps no entry, so a journal may be of any length: here each entry is dropped as soon as it was accepted.
 #[test]
 fn a_checker_accepts_entries_often(rt: HostRuntime) -> Result<(), Fail> {
-    let mut checker = checker_of(rt.alloc(), 3)?;
-    assert!(rt; accepts_often(rt.alloc(), &mut checker)?);
+    let mut checker = checker_of(&rt, rt.alloc(), 3)?;
+    assert!(rt; accepts_often(&rt, rt.alloc(), &mut checker)?);
     Ok(())
 }
