@@ -65,22 +65,29 @@ check '2,048 open file descriptions with a lock on one file' "$asks"' BEGIN {
     for (d = 1; d <= 2048; d++) print ">flock 0 description " d + 1 " sh"
     for (p = 1; p <= 9; p++) tells(p) }'
 
-# waiters OF LIMITS: all processes but the first wait, and one unlock grants them all.
+# All processes from 2 to `last` wait for the first, and one request of the process `by` grants them all: its answer to itself, if it is
+# answered, stands before the grants.
 waiters=' BEGIN {
     asks(1, "open 0 rw", "fd 0")
     asks(1, "setlk 0 w set 0 1", "ok")
-    for (p = 2; p <= processes; p++) asks(1, "fork " p, "ok")
-    for (p = 2; p <= processes; p++) asks(p, "setlkw 0 r set 0 1", "waits")
-    line = "setlk 0 u set 0 1"
-    count[1]++
-    print "<1 " line
-    granted = ">1#" count[1] " " line " | 1#" count[1] " ok"
-    for (p = 2; p <= processes; p++) granted = granted " | " p "#1 ok"
+    for (p = 2; p <= last || p <= by; p++) asks(1, "fork " p, "ok")
+    for (p = 2; p <= last; p++) asks(p, "setlkw 0 r set 0 1", "waits")
+    count[by]++
+    print "<" by " " line
+    granted = ">" by "#" count[by] " " line
+    if (line != "exit") granted = granted " | " by "#" count[by] " ok"
+    for (p = 2; p <= last; p++) granted = granted " | " p "#1 ok"
     print granted
-    for (p = 2; p <= processes; p++) print ">lock 0 process " p " r 0 0"
-    for (p = 1; p <= processes; p++) tells(p) }'
-check '15 waits, granted by one unlock' "$asks"' BEGIN { processes = 16 }'"$waiters"
-check '63 waits, granted by one unlock' "$asks"' BEGIN { print "<limits wide"; processes = 64 }'"$waiters"
+    for (p = 2; p <= last; p++) print ">lock 0 process " p " r 0 0"
+    if (line ~ /^setlk/) tells(1)
+    else print ">proc 1 sent " count[1] " taken " count[1] " answered " count[1] - (line == "exit") " ended"
+    for (p = 2; p <= last || p <= by; p++) tells(p) }'
+unlock='by = 1; line = "setlk 0 u set 0 1"'
+wide='print "<limits wide"'
+check '15 waits, granted by one unlock' "$asks BEGIN { last = 16; $unlock }$waiters"
+check '63 waits, granted by one unlock' "$asks BEGIN { $wide; last = 64; $unlock }$waiters"
+check '63 waits, granted by an exit' "$asks BEGIN { $wide; last = 64; by = 1; line = \"exit\" }$waiters"
+check '62 waits, granted by a kill' "$asks BEGIN { $wide; last = 63; by = 64; line = \"kill 1\" }$waiters"
 
 check 'a comment of 60 words' "$asks"' BEGIN {
     line = "#"
