@@ -323,7 +323,7 @@ static void ends_without_memory(void) {
     CHECK(!was_refused);
     for (uint64_t owner = 1; owner < OWNERS; owner += 2)
         are_done &= dehokuna_set(&server, FILE_A, owner, 0, DEHOKUNA_LARGEST_OFFSET, DEHOKUNA_UNLOCK) == DEHOKUNA_DONE;
-    CHECK(are_done);
+    CHECK(are_done && !was_refused);
     growths_left = -1;
     dehokuna_destroy(&server);
 }
