@@ -1,4 +1,5 @@
--- Chains of steps between owners, of any kind: what keeps them free of cycles.
+-- Chains of steps between owners, of any kind: what keeps them free of cycles; for `Table::add_going_on`, `Table::add_steps`, `LockServer::cancel`
+-- and others.
 use Rattle.std.proofs.Common.{ℕ, ◌≡◌, ◌⊎◌, inl, inr, sym, subst, refl, List, [], ◌∷◌, ◌++◌}
 use Rattle.wait_core.specs.Cycles.{IsChain}
 

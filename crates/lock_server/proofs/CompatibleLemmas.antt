@@ -1,4 +1,4 @@
--- No owners conflict after a change that nothing blocked.
+-- No owners conflict after a change that nothing blocked: for `LockServer::wait`.
 use Rattle.std.proofs.Common.{arith, ℕ, ◌≡◌, ◌≢◌, ◌∙◌, ◌⊎◌, inl, inr, sym, subst, refl, Bool, true, false, Option, Some, None, List}
 use Rattle.std.proofs.lemmas.Grind.{common_steps}
 use Rattle.std.specs.Prelude.{◌==◌, ◌&&◌, if◌then◌else◌}

@@ -1,4 +1,4 @@
--- Who is crossed after a change, by the waiters, and so by the state of a table.
+-- Who is crossed after a change, by the waiters, and so by the state of a table: for `Table::cancel`, `close`, `close_owner` and others.
 use Rattle.std.proofs.lemmas.Grind.{common_steps}
 use Rattle.std.proofs.Common.{ℕ, ◌≡◌, ◌≢◌, ◌<◌, ◌∙◌, ◌⊎◌, inl, inr, sym, ap, refl, subst, arith, zero, suc, true, false, Bool, Option, Some, None, List, [], ◌∷◌, ◌++◌}
 use Rattle.std.specs.Prelude.{◌↔◌, IsTrue, Contains}

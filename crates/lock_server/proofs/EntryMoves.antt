@@ -66,7 +66,8 @@ unlocks_nothing files tickets waiters file owner span known none = record {
   changes = (releases_nothing files tickets waiters file Bytes owner known none).changes;
 }
 
-module _ (old new : BTreeMap ℕ LockFile) (tickets : Tickets) (was : Waiters) (file : ℕ) (before after : LockFile) (is : get nat_cmp old file ≡ Some before) (puts : PutsEntry old new file (Some after)) (known : IsIndexed old tickets was) where
+module _ (old new : BTreeMap ℕ LockFile) (tickets : Tickets) (was : Waiters) (file : ℕ) (before after : LockFile)
+    (is : get nat_cmp old file ≡ Some before) (puts : PutsEntry old new file (Some after)) (known : IsIndexed old tickets was) where
   module _ (waits : (file_state after).waits ≡ (file_state before).waits) where
     -- where the waits are kept all is known as before
     pub kept_indexed : IsIndexed new tickets was
@@ -98,7 +99,8 @@ module _ (old new : BTreeMap ℕ LockFile) (tickets : Tickets) (was : Waiters) (
 
   module _ (free : Tickets) (now : Waiters) (wait : Pending) (grants : grants_of free ≡ grants_of tickets) where
     -- a wait leaves, whose ticket is free now
-    module _ (ahead behind : List Pending) (leaves : Leaves (file_state before) ahead wait behind (file_state after)) (sets : SetsPlace tickets free wait.ticket None) (ends : EndsIf wait.detect was now wait.owner file) where
+    module _ (ahead behind : List Pending) (leaves : Leaves (file_state before) ahead wait behind (file_state after))
+        (sets : SetsPlace tickets free wait.ticket None) (ends : EndsIf wait.detect was now wait.owner file) where
       stood : waits_in old file ≡ ahead ++ wait ∷ behind
       stood = ap (λ (F : FileState). F.waits) (ap state_at is) ∙ leaves.place
 
@@ -119,7 +121,8 @@ module _ (old new : BTreeMap ℕ LockFile) (tickets : Tickets) (was : Waiters) (
           (CrossesBy-ended (waits_in old) was (waiters_known old tickets was known) now wait.owner file wait.detect ends)
 
     -- a wait joins, for which room was taken
-    module _ (joins : Joins (file_state before) wait (file_state after)) (noted : place_at tickets wait.ticket ≡ Some Reserved) (sets : SetsPlace tickets free wait.ticket (Some (Waits file))) (begins : BeginsIf wait.detect was now wait.owner file) where
+    module _ (joins : Joins (file_state before) wait (file_state after)) (noted : place_at tickets wait.ticket ≡ Some Reserved)
+        (sets : SetsPlace tickets free wait.ticket (Some (Waits file))) (begins : BeginsIf wait.detect was now wait.owner file) where
       came : PutsWaits (waits_in old) (waits_in new) file (waits_in old file ++ wait ∷ [])
       came =
           puts_waits old new file after puts (waits_in old file ++ wait ∷ [])

@@ -1,4 +1,4 @@
--- What a file's waits and their room come to where one leaves.
+-- What a file's waits and their room come to where one leaves: for `LockFile::cancel` and `LockFile::remove_at`.
 use Rattle.std.proofs.Common.{ℕ, ◌≡◌, ◌<◌, ◌∙◌, sym, subst, arith, suc, List, ◌∷◌, ◌++◌, All, length, get_or, take, drop}
 use Rattle.std.proofs.lemmas.Grind.{common_steps}
 use Rattle.std.proofs.lemmas.List.{length-take-le}
@@ -19,7 +19,8 @@ pub left_still : (F M G : FileState) (before after : List Pending) (wait : Pendi
     → Leaves F before wait after G
 left_still F M G before after wait leaves same = grind (arith, common_steps)
 
-module _ (waits left : List Pending) (place : ℕ) (wait : Pending) (within : place < length waits) (is : get_or waits place wait ≡ wait) (rest : left ≡ take place waits ++ drop (suc place) waits) where
+module _ (waits left : List Pending) (place : ℕ) (wait : Pending) (within : place < length waits) (is : get_or waits place wait ≡ wait)
+    (rest : left ≡ take place waits ++ drop (suc place) waits) where
   stood : waits ≡ take place waits ++ wait ∷ drop (suc place) waits
   stood = split_at waits place wait within is
 

@@ -20,21 +20,12 @@ use Rattle.lock_server.specs.FileView.{keeps_place}
 use Rattle.lock_server.specs.States.{SameState, State}
 use Rattle.lock_server.specs.TableRoom.{HasFlockPlace, HasRoomFor, KeepsRoomOn}
 use Rattle.lock_server.specs.Waiting.{IsReservedIn}
-use Rattle.lock_server.proofs.StateLemmas.{SameState-itself, state_from_same}
+use Rattle.lock_server.proofs.StateLemmas.{state_from_same}
 
 -- a set of a flock lock, as the request asks for it
 pub set_as_asked : (S : State) (file : ℕ) (wanted : Pending) (T : State) → wanted.family ≡ Whole
     → SetsOn S file Whole wanted.owner whole_file (Some wanted.mode) T → SetsOn S file wanted.family wanted.owner wanted.span (Some wanted.mode) T
 set_as_asked S file wanted T family sets = grind (arith, common_steps)
-
-pub KeepsRoomOn-itself : (table : Table) (file : ℕ) → KeepsRoomOn table table file
-KeepsRoomOn-itself table file = record { places = λ owner place. place; requests = λ wait family detect room. room }
-
-pub KeepsRoomOn-then : (one other last : Table) (file : ℕ) → KeepsRoomOn one other file → KeepsRoomOn other last file → KeepsRoomOn one last file
-KeepsRoomOn-then one other last file first next = record {
-  places = λ owner place. next.places owner (first.places owner place);
-  requests = λ wait family detect room. next.requests wait family detect (first.requests wait family detect room);
-}
 
 -- the room for a flock request has a place for its lock
 pub place_from_room : (table : Table) (file : ℕ) (wait : Pending) → wait.family ≡ Whole → HasRoomFor table file wait → HasFlockPlace table file wait.owner
@@ -59,13 +50,6 @@ pub never_refused : (policy : Policy) (S : State) (file : ℕ) (wanted : Pending
 never_refused policy S file wanted undetected refused = let h : false ≡ true = sym undetected ∙ refused.0 in cc
 
 module _ (policy : Policy) (S : State) (file : ℕ) (wanted : Pending) where
-  -- the mode that is held is asked for
-  pub flock_held : (held : Option Mode) → held ≡ Some wanted.mode → FlockComesTo policy S file wanted held Done S
-  flock_held held same = subst (λ (h : Option Mode). FlockComesTo policy S file wanted h Done S) (sym same) (inl (refl, (refl, SameState-itself S)))
-
-  pub flock_wait_held : (held : Option Mode) → held ≡ Some wanted.mode → FlockWaitComesTo policy S file wanted held told.Done S
-  flock_wait_held held same = subst (λ (h : Option Mode). FlockWaitComesTo policy S file wanted h told.Done S) (sym same) (inl (refl, (refl, SameState-itself S)))
-
   -- another one: the first half, and then the second
   pub flock_converts : (held : Option Mode) (M : State) (answer : Answer) (T : State) → held ≢ Some wanted.mode
       → ConvertsFrom policy S file wanted.owner held M → TestComesTo policy M file wanted answer T → FlockComesTo policy S file wanted held answer T

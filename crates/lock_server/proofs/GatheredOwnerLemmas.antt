@@ -33,10 +33,6 @@ pub record IsGivenBefore {X : Type 0} (Gives : ℕ → X → ℕ → Type 0) (xs
   pub gives : Gives place item other
 
 module _ {X : Type 0} (Gives : ℕ → X → ℕ → Type 0) (xs : List X) where
-  -- before the first element nothing is given
-  pub gathered_none : (old : List ℕ) → AddsOwners old old (IsGivenBefore Gives xs 0)
-  gathered_none old = AddsOwners-same old (IsGivenBefore Gives xs 0) (λ other h. omega (arith, h.before))
-
   given_here : (i : ℕ) (x : X) (other : ℕ) → slice_get xs i ≡ Some x → IsGivenBefore Gives xs (i + 1) other → IsGivenBefore Gives xs i other ⊎ Gives i x other
   given_here i x other at given = elim (cases_lt given.place i) [
     | inl before ↦ inl (record { place = given.place; before = before; item = given.item; is = given.is; gives = given.gives })

@@ -1,4 +1,5 @@
--- The wait at a place that is granted, and the place where a wait is found.
+-- The wait at a place that is granted, and the place where a wait is found: for `LockFile::cancel`, `LockFile::dismiss`, `LockFile::give` and
+-- `LockFile::grant`.
 use Rattle.std.proofs.lemmas.Grind.{common_steps}
 use Rattle.std.proofs.Common.{ℕ, ◌≡◌, ◌+◌, ◌<◌, refl, subst, arith, true, false, Bool, Some, None, List, [], ◌∷◌, ◌++◌, All, length, length-append, get_or}
 use Rattle.std.specs.Prelude.{position, slice_get, IsTrue}

@@ -38,7 +38,9 @@ pub lent_of_ready : (policy : Policy) (files : BTreeMap ℕ LockFile) (file plac
     → (lent : Option (MutBor LockFile)) → option_copied_mut lent ≡ get nat_cmp files file → IsSome lent
 lent_of_ready policy files file place h lent h2 = grind (arith, common_steps, no_place)
 
-module _ (old new : BTreeMap ℕ LockFile) (tickets free : Tickets) (was between now : Waiters) (file : ℕ) (before after : LockFile) (is : get nat_cmp old file ≡ Some before) (puts : PutsEntry old new file (Some after)) (known : IsIndexed old tickets was) (policy : Policy) (wait : Pending) (grants : Grants policy (file_state before) wait (file_state after)) where
+module _ (old new : BTreeMap ℕ LockFile) (tickets free : Tickets) (was between now : Waiters) (file : ℕ) (before after : LockFile)
+    (is : get nat_cmp old file ≡ Some before) (puts : PutsEntry old new file (Some after)) (known : IsIndexed old tickets was) (policy : Policy)
+    (wait : Pending) (grants : Grants policy (file_state before) wait (file_state after)) where
   stood : waits_in old file ≡ grants.before ++ wait ∷ grants.after
   stood = ap (λ (F : FileState). F.waits) (ap state_at is) ∙ grants.is_next.place
 
@@ -58,7 +60,8 @@ module _ (old new : BTreeMap ℕ LockFile) (tickets free : Tickets) (was between
     | inr differs ↦ sets.others ticket differs ∙ noted
   ]
 
-  module _ (sets : SetsPlace tickets free wait.ticket (Some Granted)) (queued : grants_of free ≡ grants_of tickets ++ wait.ticket ∷ []) (ends : EndsIf wait.detect was between wait.owner file) (crosses : view.Crosses between now wait.owner) where
+  module _ (sets : SetsPlace tickets free wait.ticket (Some Granted)) (queued : grants_of free ≡ grants_of tickets ++ wait.ticket ∷ [])
+      (ends : EndsIf wait.detect was between wait.owner file) (crosses : view.Crosses between now wait.owner) where
     between_known : WaitersKnown (waits_in new) between
     between_known = WaitersKnown-ended (waits_in old) (waits_in new) was between file wait grants.before grants.after stood gone wait.detect refl ends (waiters_known old tickets was known)
 

@@ -1,4 +1,4 @@
--- What is known of tickets and of owners, where a file changes.
+-- What is known of tickets and of owners, where a file changes: for `Table::cancel`, `Table::dismiss_one`, `Table::give_back_place` and others.
 use Rattle.std.proofs.Common.{arith, ℕ, ◌≡◌, ◌≢◌, ◌==◌, inl, inr, sym, refl, subst, true, Bool, Option, Some, List, [], ◌∷◌, Any}
 use Rattle.std.proofs.lemmas.Grind.{common_steps}
 use Rattle.std.specs.Prelude.{◌&&◌, AllPairs}

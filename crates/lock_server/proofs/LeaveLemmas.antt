@@ -1,4 +1,4 @@
--- A wait that leaves the list of a file.
+-- A wait that leaves the list of a file: for `add_conflicting`, `Table::add_going_on`, `LockFile::add_holders` and others.
 use Rattle.std.proofs.Common.{ℕ, ◌≡◌, ◌+◌, ◌<◌, ◌∙◌, inl, inr, sym, ap, arith, true, false, cond, Bool, suc, List, [], ◌∷◌, ◌++◌, All, Any, length, get_or, take, drop}
 use Rattle.std.specs.Prelude.{filter}
 use Rattle.std.proofs.lemmas.List.{take-append-drop}

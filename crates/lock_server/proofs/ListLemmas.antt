@@ -1,4 +1,5 @@
--- Some element of a list: of one that was mapped, and of waits that block.
+-- Some element of a list: of one that was mapped, and of waits that block; for `LockServer::flock_or_wait`, `LockFile::is_blocked_at` and
+-- `LockFile::is_wait_blocked`.
 use Rattle.std.proofs.Common.{rules, ◌≡◌, ◌⊎◌, inl, inr, sym, subst, refl, arith, zero, suc, List, [], ◌∷◌, ◌++◌, Any, length}
 use Rattle.std.proofs.lemmas.Grind.{common_steps}
 use Rattle.std.specs.Prelude.{◌↔◌, Bool, IsTrue, map}

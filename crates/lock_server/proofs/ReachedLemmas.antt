@@ -38,14 +38,6 @@ pub record IsAddedBefore (waiters : Waiters) (target : ℕ) (owners old new : Li
   pub all : (other place : ℕ) → place < n → slice_get owners place ≡ Some other → IsGoingOn waiters target other → Contains new other
 
 module _ (waiters : Waiters) (target : ℕ) (owners old : List ℕ) where
-  pub added_none : IsAddedBefore waiters target owners old old 0
-  added_none = record {
-    more = [];
-    is = sym (append-nil old);
-    only = λ other among. absurd (let none : among.0 < 0 = among.1 in omega arith);
-    all = λ other place before. absurd (omega arith);
-  }
-
   -- this one is there, or doesn't go on
   pub added_skip : (new : List ℕ) (i owner : ℕ) → slice_get owners i ≡ Some owner → IsAddedBefore waiters target owners old new i
       → (IsGoingOn waiters target owner → Contains new owner)

@@ -1,4 +1,4 @@
--- The first wait on a file that isn't blocked.
+-- The first wait on a file that isn't blocked: for `LockFile::next_ready`.
 use Rattle.std.proofs.lemmas.Grind.{common_steps}
 use Rattle.std.proofs.Common.{ℕ, ◌≡◌, ◌+◌, ◌<◌, ◌∙◌, inl, inr, sym, ap, subst, refl, arith, append_assoc, append-nil, Some, List, [], ◌∷◌, ◌++◌, length, suc, take, drop}
 use Rattle.std.specs.Prelude.{slice_get}

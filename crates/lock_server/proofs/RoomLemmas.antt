@@ -1,4 +1,4 @@
--- The room of a file, and what keeps it.
+-- The room of a file, and what keeps it: for `LockFile::give`, `LockFile::place_flock` and `LockFile::set_flock`.
 use Rattle.std.proofs.lemmas.Grind.{common_steps}
 use Rattle.std.proofs.Common.{ℕ, ◌≡◌, ◌+◌, ◌≤◌, ◌<◌, sym, refl, subst, arith, true, false, Bool, Option, Result, List, ◌∷◌, ◌++◌}
 use Rattle.std.specs.Prelude.{OnOk, OnErr, IsTrue, ◌||◌, ◌&&◌, ◌==◌}

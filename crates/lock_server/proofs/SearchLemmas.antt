@@ -24,16 +24,6 @@ module _ (R : ℕ → ℕ → Type 0) (GoesOn : ℕ → Type 0) (target : ℕ) (
     pub not_target : (place : ℕ) → place < looked_at → get_or reached place 0 ≢ target
     pub within : looked_at ≤ length reached
 
-  -- at first nothing was looked at
-  pub searched_none : IsSearched start 0
-  searched_none = record {
-    kept = λ owner h. h;
-    led = λ owner h. (owner, h, inl refl);
-    followed = λ place other before. absurd (omega arith);
-    not_target = λ place before. absurd (omega arith);
-    within = omega arith;
-  }
-
   -- the next one is looked at: it isn't the target, and those to which it leads are put behind
   pub searched_more : (reached next more : List ℕ) (looked_at owner : ℕ) → IsSearched reached looked_at → looked_at < length reached
       → owner ≡ get_or reached looked_at owner → owner ≢ target

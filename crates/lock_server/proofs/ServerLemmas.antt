@@ -1,4 +1,4 @@
--- What the server's calls come to, by what the table's do.
+-- What the server's calls come to, by what the table's do: for `LockServer::cancel`, `LockServer::convert`, `LockServer::flock_or_refuse` and others.
 use Rattle.std.proofs.Common.{arith, ℕ, ◌≡◌, inr, sym, subst, refl, false, Option, Some, None, List}
 use Rattle.std.proofs.lemmas.Grind.{common_steps}
 use Rattle.std.proofs.Math.Logic.{∥∥₁_map}

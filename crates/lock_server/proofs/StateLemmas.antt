@@ -1,4 +1,4 @@
--- States that are the same at each place are one state.
+-- States that are the same at each place are one state: for `Table::cancel`, `LockServer::flock_or_wait`, `Table::settle` and `LockServer::wait`.
 use Rattle.std.proofs.Common.{arith, ◌≡◌, refl}
 use Rattle.std.proofs.lemmas.Grind.{common_steps}
 use Rattle.lock_server.specs.Files.{FileState, SameLocks, SameFile}
@@ -28,5 +28,3 @@ SameFile-itself F = record { locks = SameLocks-itself F; waits = refl }
 pub SameFile-then : (F G H : FileState) → SameFile F G → SameFile G H → SameFile F H
 SameFile-then F G H one other = grind (arith, common_steps)
 
-pub SameState-itself : (S : State) → SameState S S
-SameState-itself S = record { files = λ file. SameFile-itself (S.files file); grants = refl; crossed = λ owner. refl }

@@ -1,4 +1,4 @@
--- The entries of files.
+-- The entries of files: for `Table::add_steps`, `Table::blocker`, `Table::blocks` and `Table::holds_back`.
 use Rattle.std.proofs.Common.{ℕ, ◌≡◌, ◌∙◌, sym, ap, Option, Some, None, inl, inr, []}
 use Rattle.std.specs.Ordering.{nat_cmp}
 use Rattle.std.specs.BTreeMap.{get}

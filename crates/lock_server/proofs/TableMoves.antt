@@ -1,4 +1,5 @@
--- What is known of tickets and of owners, and the states of two tables, where the entry of one file changes.
+-- What is known of tickets and of owners, and the states of two tables, where the entry of one file changes: for `Table::give_back`,
+-- `Table::next_grant`, `Table::release` and `Table::release_flock`.
 use Rattle.std.proofs.Common.{rules, arith, ℕ, ◌≡◌, ◌≢◌, ◌∙◌, sym, ap, refl, true, false, Bool, Option, Some, None, List, [], ◌∷◌, ◌++◌}
 use Rattle.std.proofs.lemmas.Grind.{common_steps}
 use Rattle.std.specs.BTreeMap.{BTreeMap, get}

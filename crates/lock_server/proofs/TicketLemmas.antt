@@ -1,4 +1,4 @@
--- Maps by number, and how many grants may still come.
+-- Maps by number, and how many grants may still come: for `Tickets::fetch`, `Tickets::forget`, `Tickets::grant` and others.
 use Rattle.std.proofs.Common.{ℕ, ◌≡◌, ◌≢◌, ◌+◌, ◌≤◌, arith, false, List, [], ◌∷◌, Option, Some, Result, Ok, Err, length}
 use Rattle.std.specs.Prelude.{OnOk, OnErr}
 use Rattle.std.specs.Ordering.{nat_cmp}

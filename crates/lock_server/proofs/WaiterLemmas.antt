@@ -1,4 +1,4 @@
--- The entries of owners with detected waits.
+-- The entries of owners with detected waits: for `Waiters::end`, `Waiter::leave`, `Waiters::reserve` and `Waiters::sweep`.
 use Rattle.std.proofs.lemmas.Grind.{common_steps}
 use Rattle.std.proofs.Common.{ℕ, ◌≡◌, ◌≢◌, ◌==◌, ◌+◌, ◌<◌, ◌∙◌, sym, ap, subst, refl, arith, cond, suc, Option, Some, None, List, [], ◌∷◌, ◌++◌, All, length, get_or, take, drop, false}
 use Rattle.std.specs.Ordering.{nat_cmp}

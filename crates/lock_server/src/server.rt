@@ -10,7 +10,6 @@ use crate::{
     Answer, Blocker, Family, Memory, Mode, Owner, Pending, Policy, Span, WaitAnswer, WaitFault,
     closing,
 };
-use range_core::OFFMAX;
 use std::alloc::Global;
 
 /// The ticket of a request that doesn't wait, which is never told.
@@ -375,10 +374,7 @@ fn flock_request(ticket: u64, owner: u64, mode: Mode) -> Pending
         ticket,
         owner,
         family: Family::Whole,
-        span: Span {
-            first: 0,
-            last: OFFMAX,
-        },
+        span: Span::WHOLE_FILE,
         mode,
         detect: false,
     }

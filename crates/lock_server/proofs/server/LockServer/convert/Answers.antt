@@ -2,7 +2,7 @@ use Rattle.std.proofs.Common.{◌∙◌}
 use Rattle.lock_book.specs.Changes.{whole_file}
 use Rattle.wait_core.specs.declared.Family.TheVariants.{Whole}
 use Rattle.lock_server.specs.TableView.{table_policy, table_state}
-use Rattle.lock_server.proofs.FlockLemmas.{KeepsRoomOn-then}
+use Rattle.lock_server.proofs.GrantedMoves.{KeepsRoomOn-then}
 use Rattle.lock_server.proofs.SafeLemmas.{moves_unset}
 use Rattle.lock_server.proofs.ServerLemmas.{rests, safe_rested}
 use Rattle.lock_server.proofs.server.LockServer.convert.Goals as goal
