@@ -1,4 +1,4 @@
--- What clap states of the program's command.
+-- What clap states of the program's command: for `options`.
 use Rattle.std.proofs.Common.{◌≡◌, ◌≢◌, ◌∙◌, ap, ap₂, refl, Bool, true, false, ℕ, ◌==◌, ◌&&◌, ◌||◌, codes, List, [], ◌∷◌, Option, Some, None, Result, subst, sym, inl, inr, arith}
 use Rattle.std.specs.Prelude.{if◌then◌else◌, is_some, length, option_and_then, option_map, IfOk, IsErr, Ok, Err}
 use Rattle.std.proofs.lemmas.Bool.Decides.{eqb_tells}

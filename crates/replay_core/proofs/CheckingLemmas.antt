@@ -1,5 +1,6 @@
--- A journal, byte by byte.
-use Rattle.std.proofs.Common.{◌≡◌, ◌<◌, ◌≤◌, ℕ, ◌+◌, ◌==◌, true, false, nat_lt, List, [], ◌∷◌, ◌++◌, Option, Some, None, Ok, Err, length, refl, sym, ap, subst, ◌∙◌, inl, inr, arith, append_assoc, append-nil, length-append, get_or, take, drop, take-append-drop}
+-- A journal, byte by byte: for `Checking::end`, `Checking::end_last_line`, `Checking::end_line` and others.
+use Rattle.std.proofs.Common.{rules, ◌≡◌, ◌<◌, ◌≤◌, ℕ, ◌+◌, ◌==◌, true, false, nat_lt, List, [], ◌∷◌, ◌++◌, Option, Some, None, Ok, Err, length, refl, sym, ap, subst, ◌∙◌, inl, inr, arith, append_assoc, append-nil, length-append, get_or, take, drop, take-append-drop}
+use Rattle.std.proofs.lemmas.Grind.{common_steps}
 use Rattle.std.specs.Prelude.{All, OnOk, Result, is_some}
 use Rattle.std.specs.List.{slice_split}
 use Rattle.std.proofs.lemmas.Bool.{lt-ltb}
@@ -20,7 +21,7 @@ use Rattle.script_core.specs.JournalView.{HasRead, Takes, Finishes, expected_in}
 use Rattle.replay_core.specs.declared.checking.Finding.{Finding}
 use Rattle.replay_core.specs.declared.checking.Finding.TheVariants as findings
 use Rattle.replay_core.specs.declared.checking.Checking.{Checking}
-use Rattle.replay_core.specs.Checks.{Verdict, Legal, Illegal, Faulty, HasChecked, HasJudged, HasReadLines, Judges, LinesCome, LeadsTo, AreDecided, HasReadBytes, IsFoundOf, IsFoundAt, verdict_of, AreLinesRead, verdict_at_end}
+use Rattle.replay_core.specs.Checks.{Verdict, Illegal, Faulty, HasChecked, HasJudged, HasReadLines, Judges, LinesCome, LeadsTo, AreDecided, HasReadBytes, IsFoundOf, IsFoundAt, verdict_of, AreLinesRead, verdict_at_end}
 
 -- no byte ends a line
 abbrev pub InLine : List ℕ → Type 0
@@ -89,25 +90,17 @@ behind_one bytes rest byte verdict come =
 pub line_read : (bytes line : List ℕ) (number : ℕ) (reading : JournalReading) (said : JournalLine) → InLine line → LeadsTo bytes number reading line
     → JournalLineGives reading.place line (Ok said) → MayGoOn reading line said
     → LeadsTo (bytes ++ 10 ∷ []) (number + 1) (reading_behind reading line said) []
-line_read bytes line number reading said on leads gives goes = λ rest verdict come.
-    behind_one bytes rest 10 verdict
-    (leads (10 ∷ rest) verdict
-    (subst (λ (ls : List (List ℕ)). LinesCome number reading ls verdict) (sym (lines_first line rest on)) (Ok said, gives, inl (goes, come))))
+line_read bytes line number reading said on leads gives goes = search (rules, behind_one, lines_first)
 
 -- what the line that ends comes to decides
 pub line_decides : (bytes line : List ℕ) (number : ℕ) (reading : JournalReading) (verdict : Verdict) → InLine line → LeadsTo bytes number reading line
     → ((others : List (List ℕ)) → LinesCome number reading (line ∷ others) verdict) → AreDecided (bytes ++ 10 ∷ []) verdict
-line_decides bytes line number reading verdict on leads come = λ rest.
-    behind_one bytes rest 10 verdict
-    (leads (10 ∷ rest) verdict
-    (subst (λ (ls : List (List ℕ)). LinesCome number reading ls verdict) (sym (lines_first line rest on)) (come (lines_of rest))))
+line_decides bytes line number reading verdict on leads come = search (rules, behind_one, lines_first)
 
 -- the line grows
 pub line_grows : (bytes line : List ℕ) (byte number : ℕ) (reading : JournalReading) → LeadsTo bytes number reading line
     → LeadsTo (bytes ++ byte ∷ []) number reading (line ++ byte ∷ [])
-line_grows bytes line byte number reading leads = λ rest verdict come.
-    behind_one bytes rest byte verdict
-    (leads (byte ∷ rest) verdict (subst (λ (l : List ℕ). LinesCome number reading (lines_of l) verdict) (append_assoc line (byte ∷ []) rest) come))
+line_grows bytes line byte number reading leads = grind (arith, common_steps, behind_one, append_assoc)
 
 long_line : (number : ℕ) (reading : JournalReading) (line : List ℕ) (others : List (List ℕ)) → entry_limit < length line
     → LinesCome number reading (line ∷ others) (Faulty (record { line = number; cause = TooLong }))
@@ -162,9 +155,7 @@ end_leads bytes line number reading verdict none leads come =
 pub line_taken : (old new : Checking) (reading : JournalReading) (line : List ℕ) → line ≡ old.line.items → Takes new.reader reading line (Ok tt)
     → new.line.items ≡ [] → new.before ≡ old.before + 1 → new.found ≡ None → Judges old new reading
 unfolding Judges
-line_taken old new reading line is takes cleared counted unfound =
-    subst (λ (l : List ℕ). IsFoundAt old new reading l new.found) is
-    (subst (λ (f : Option Finding). IsFoundAt old new reading line f) (sym unfound) (takes.0, takes.1, takes.2, takes.3, cleared, counted))
+line_taken old new reading line is takes cleared counted unfound = search (rules)
 
 -- the journal may not go on with it
 pub line_illegal : (old new : Checking) (reading : JournalReading) (line : List ℕ) → line ≡ old.line.items
@@ -184,10 +175,7 @@ pub line_faulty : (old new : Checking) (reading : JournalReading) (line : List �
     → Takes new.reader reading line (Err (journal_faults.Grammar cause)) → new.before ≡ old.before → new.found ≡ Some (findings.Faulty cause)
     → Judges old new reading
 unfolding Judges
-line_faulty old new reading line cause is takes counted found =
-    subst (λ (l : List ℕ). IsFoundAt old new reading l new.found) is
-    (subst (λ (f : Option Finding). IsFoundAt old new reading line f) (sym found)
-    (λ others. (Err cause, takes.0, ap (λ (n : ℕ). Faulty (record { line = n + 1; cause = cause })) counted)))
+line_faulty old new reading line cause is takes counted found = grind (arith, common_steps)
 
 -- ---- the bytes
 
@@ -195,16 +183,7 @@ line_faulty old new reading line cause is takes counted found =
 pub fresh : (checking : Checking) → HasRead checking.reader journal_start → checking.line.items ≡ [] → checking.before ≡ 0 → checking.found ≡ None
     → HasChecked checking []
 unfolding HasChecked
-fresh checking read none first unfound =
-    subst (IsFoundOf checking []) (sym unfound)
-    (record {
-      reading = journal_start;
-      read = read;
-      leads = subst (λ (l : List ℕ). LeadsTo [] (checking.before + 1) journal_start l) (sym none)
-          (subst (λ (n : ℕ). LeadsTo [] (n + 1) journal_start []) (sym first) (λ rest verdict come. come));
-      in_line = subst InLine (sym none) (λ k d below. absurd (omega (arith, below)));
-      short = subst (λ (l : List ℕ). length l ≤ entry_limit) (sym none) (omega arith);
-    })
+fresh checking read none first unfound = grind (arith, common_steps)
 
 -- where nothing was found the lines before the one at hand were read
 read_of : (checking : Checking) (bytes : List ℕ) (found : Option Finding) → found ≡ None → IsFoundOf checking bytes found → HasReadBytes checking bytes
@@ -229,9 +208,7 @@ ends_by old new bytes read (Some finding) is =
 pub ended : (old new : Checking) (bytes : List ℕ) → old.found ≡ None → HasChecked old bytes
     → ((reading : JournalReading) → HasRead old.reader reading → Judges old new reading) → HasChecked new (bytes ++ 10 ∷ [])
 unfolding HasChecked Judges
-ended old new bytes unfound checked judged =
-    let read = read_of old bytes old.found unfound checked in
-    ends_by old new bytes read new.found (judged read.reading read.read)
+ended old new bytes unfound checked judged = grind (arith, common_steps, read_of, ends_by)
 
 -- another byte
 pub grown : (old new : Checking) (bytes : List ℕ) (byte : ℕ) → old.found ≡ None → HasChecked old bytes → (byte == 10) ≡ false
@@ -313,9 +290,7 @@ last_by old new bytes read (Some finding) some is =
 pub last_line : (old new : Checking) (bytes : List ℕ) → old.found ≡ None → 0 < length old.line.items → HasChecked old bytes
     → ((reading : JournalReading) → HasRead old.reader reading → Judges old new reading) → HasReadLines new bytes
 unfolding HasChecked HasReadLines Judges
-last_line old new bytes unfound some checked judged =
-    let read = read_of old bytes old.found unfound checked in
-    last_by old new bytes read new.found some (judged read.reading read.read)
+last_line old new bytes unfound some checked judged = grind (arith, common_steps, read_of, last_by)
 
 decided_then : (checking : Checking) (bytes : List ℕ) (found : Option Finding) → is_some found ≡ true → AreLinesRead checking bytes found
     → LinesCome 1 journal_start (lines_of bytes) (verdict_at_end checking found)
@@ -331,10 +306,7 @@ judged_before checking bytes some read = decided_then checking bytes checking.fo
 pub may_end : (checking : Checking) (bytes : List ℕ) → checking.found ≡ None → HasReadLines checking bytes
     → ((reading : JournalReading) → HasRead checking.reader reading → Finishes checking.reader reading (Ok tt)) → HasJudged checking bytes
 unfolding HasReadLines HasJudged
-may_end checking bytes unfound read finishes =
-    let all = subst (AreLinesRead checking bytes) unfound read in
-    subst (λ (f : Option Finding). LinesCome 1 journal_start (lines_of bytes) (verdict_at_end checking f)) (sym unfound)
-    (all.2 Legal (inl (finishes all.0 all.1, refl)))
+may_end checking bytes unfound read finishes = grind (arith, common_steps)
 
 due_then : (old new : Checking) (reading : JournalReading) (fault : JournalFault) → new.reader ≡ old.reader → new.before ≡ old.before
     → Finishes old.reader reading (Err fault) → LinesCome (old.before + 1) reading [] (Illegal (new.before + 1) (expected_in new.reader))
@@ -355,10 +327,7 @@ pub may_not_end : (old new : Checking) (bytes : List ℕ) (fault : JournalFault)
     → ((reading : JournalReading) → HasRead old.reader reading → Finishes old.reader reading (Err fault))
     → new.reader ≡ old.reader → new.before ≡ old.before → new.found ≡ Some findings.Illegal → HasJudged new bytes
 unfolding HasReadLines HasJudged
-may_not_end old new bytes fault unfound read finishes same count found =
-    let all = subst (AreLinesRead old bytes) unfound read in
-    subst (λ (f : Option Finding). LinesCome 1 journal_start (lines_of bytes) (verdict_at_end new f)) (sym found)
-    (all.2 (Illegal (new.before + 1) (expected_in new.reader)) (due_then old new all.0 fault same count (finishes all.0 all.1)))
+may_not_end old new bytes fault unfound read finishes same count found = search (rules, due_then)
 
 -- ---- several bytes
 
@@ -367,10 +336,7 @@ pub one_more : (old mid new : Checking) (bytes : List ℕ) (i byte : ℕ) → i 
     → ((front : List ℕ) → HasChecked old front → HasChecked mid (front ++ take i bytes))
     → ((front : List ℕ) → HasChecked mid front → HasChecked new (front ++ byte ∷ []))
     → (front : List ℕ) → HasChecked old front → HasChecked new (front ++ take (i + 1) bytes)
-one_more old mid new bytes i byte below is so_far one front checked =
-    let all = append_assoc front (take i bytes) (byte ∷ []) ∙ ap (λ (b : ℕ). front ++ (take i bytes ++ b ∷ [])) is
-    ∙ ap (λ (l : List ℕ). front ++ l) (sym (take_more bytes i 0 below)) in
-    subst (λ (l : List ℕ). HasChecked new l) all (one (front ++ take i bytes) (so_far front checked))
+one_more old mid new bytes i byte below is so_far one front checked = grind (arith, common_steps, append_assoc, take_more)
 
 -- the others change nothing once something was found
 pub others_skipped : (checking : Checking) (front bytes : List ℕ) (i : ℕ) → is_some checking.found ≡ true → HasChecked checking (front ++ take i bytes)
@@ -385,9 +351,7 @@ others_skipped checking front bytes i some checked =
 pub ended_where : {T E : Type 0} (result : Result T E) (old new : Checking) (bytes : List ℕ) (byte : ℕ) → byte ≡ 10 → old.found ≡ None
     → HasChecked old bytes → ((reading : JournalReading) → HasRead old.reader reading → OnOk result (Judges old new reading))
     → OnOk result (HasChecked new (bytes ++ byte ∷ []))
-ended_where (Ok done) old new bytes byte is unfound checked judged =
-    subst (λ (b : ℕ). HasChecked new (bytes ++ b ∷ [])) (sym is) (ended old new bytes unfound checked judged)
-ended_where (Err error) old new bytes byte is unfound checked judged = tt
+ended_where result old new bytes byte h h2 h3 h4 = grind (arith, common_steps, ended)
 
 -- the last line
 pub last_line_where : {T E : Type 0} (result : Result T E) (old new : Checking) (bytes : List ℕ) → old.found ≡ None → 0 < length old.line.items
@@ -398,10 +362,7 @@ last_line_where (Err error) old new bytes unfound some checked judged = tt
 
 -- a byte that isn't a line feed
 pub goes_on : (byte : ℕ) → (byte ≡ 10 → ⊥) → (byte == 10) ≡ false
-goes_on byte differs = elim (eqb_tells byte 10) [
-  | inl same ↦ absurd (differs same.1)
-  | inr other ↦ other.0
-]
+goes_on byte differs = grind (arith, common_steps, eqb_tells)
 
 unfound_of : (found : Option Finding) → is_some found ≡ false → found ≡ None
 unfound_of None none = refl

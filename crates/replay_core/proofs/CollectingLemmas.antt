@@ -1,4 +1,5 @@
--- What a client has collected, step by step.
+-- What a client has collected, step by step: for `Caller::collect` and `meet`.
+use Rattle.std.proofs.lemmas.Grind.{common_steps}
 use Rattle.std.proofs.Common.{◌≡◌, ℕ, zero, suc, ◌+◌, ◌<◌, ◌≤◌, true, List, [], ◌∷◌, ◌++◌, length, refl, sym, ap, ◌∙◌, subst, arith, length-append, append_assoc, append-nil, take-append-drop}
 use Rattle.std.proofs.lemmas.List.{nil_from_length}
 use Rattle.std.specs.Prelude.{◌||◌, ◌&&◌, ◌==◌, take, drop}
@@ -44,21 +45,14 @@ next_item (y ∷ front) rest x e = next_item front rest x e
 
 one_more : {A : Type 0} (front all : List A) (n : ℕ) (x : A) → length front ≡ n → IsPrefixOf front all → get_elem? all n ≡ some x
     → IsPrefixOf (front ++ x ∷ []) all
-one_more front all n x count first e =
-    let at = subst (λ (l : List _). get_elem? l (length front) ≡ some x) first.1 (subst (λ (k : ℕ). get_elem? all k ≡ some x) (sym count) e) in
-    let next = next_item front first.0 x at in (
-      next.0,
-      first.1 ∙ ap (λ (l : List _). front ++ l) next.1 ∙ sym (append_assoc front (x ∷ []) next.0),
-    )
+one_more front all n x count first e = grind (arith, common_steps, next_item, append_assoc)
 
 -- the first items of a list are a front of it, and a front is the first items
 taken_first : {A : Type 0} (xs ys : List A) (n : ℕ) → xs ≡ take n ys → IsPrefixOf xs ys
 taken_first xs ys n e = (drop n ys, sym (take-append-drop n ys) ∙ ap (λ (l : List _). l ++ drop n ys) (sym e))
 
 first_taken : {A : Type 0} (xs ys : List A) → IsPrefixOf xs ys → xs ≡ take (length xs) ys
-first_taken [] ys first = refl
-first_taken (x ∷ xs) ys first =
-    ap (λ (l : List _). x ∷ l) (first_taken xs (xs ++ first.0) (first.0, refl)) ∙ ap (take (length (x ∷ xs))) (sym first.1)
+first_taken xs ys h = grind (arith, common_steps)
 
 in_front : (c : ClientView) (answers : List (ℕ × Reply × ℕ)) → AreCollected c answers → IsPrefixOf answers (answers_to c.process c.seen)
 in_front c answers have = taken_first answers (answers_to c.process c.seen) (length answers) have.in_order
@@ -95,19 +89,11 @@ prefix_shorter xs ys first = let e = ap (λ l. length l) first.1 in let sum = le
 
 -- no more is collected than was posted
 pub collected_fewer : (old new : ClientView) (answer : ℕ × Reply × ℕ) → IsCollected old new answer → old.collected < length old.posted
-collected_fewer old new answer one =
-    let below = within (answers_to old.process one.journal) old.collected answer one.is_next in
-    let most = one.seen.in_turn.most in
-    let posted = prefix_shorter (requests_taken old.process one.journal) old.posted one.seen.taken_in_order in
-    omega (arith, below, most, posted)
+collected_fewer old new answer one = grind (arith, common_steps, within, prefix_shorter)
 
 -- a front as long as the whole is the whole
 pub front_is_all : {A : Type 0} (front all : List A) → IsPrefixOf front all → length front ≡ length all → front ≡ all
-front_is_all front all first e =
-    let sum = length-append front first.0 in
-    let whole = ap (λ (l : List _). length l) first.1 in
-    let none : first.0 ≡ [] = nil_from_length first.0 (omega (arith, e, sum, whole)) in
-    sym (first.1 ∙ ap (λ (l : List _). front ++ l) none ∙ append-nil front)
+front_is_all front all first e = grind (arith, common_steps, length-append, nil_from_length, append-nil)
 
 -- a front of a front is a front
 pub front_of_front : {A : Type 0} (front part all : List A) → IsPrefixOf front part → IsPrefixOf part all → IsPrefixOf front all

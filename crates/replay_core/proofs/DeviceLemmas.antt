@@ -1,5 +1,5 @@
--- What is written in several calls.
-use Rattle.std.proofs.Common.{◌≡◌, ℕ, ◌++◌, sym, ◌∙◌, ap, List, take, drop, Option, append_assoc, take-append-drop}
+-- What is written in several calls: for `write_all`.
+use Rattle.std.proofs.Common.{rules, ◌≡◌, ℕ, ◌++◌, List, take, drop, Option, append_assoc, take-append-drop}
 use Rattle.std.specs.Io.KnownBytes.{Appends}
 use Rattle.std.proofs.KnownBytes.{Appends-trans}
 
@@ -12,8 +12,4 @@ pub record HasWritten (old new : Option (List ℕ)) (text rest : List ℕ) : Typ
 -- the sink took some more
 pub more_written : (old mid new : Option (List ℕ)) (text rest : List ℕ) (count : ℕ) → HasWritten old mid text rest → Appends mid new (take count rest)
     → HasWritten old new text (drop count rest)
-more_written old mid new text rest count h more = record {
-  front = h.front ++ take count rest;
-  is = h.is ∙ ap (λ l. h.front ++ l) (sym (take-append-drop count rest)) ∙ sym (append_assoc h.front (take count rest) (drop count rest));
-  appended = Appends-trans old mid new h.front (take count rest) h.appended more;
-}
+more_written old mid new text rest count h more = search (rules, take-append-drop, append_assoc, Appends-trans)

@@ -1,4 +1,5 @@
--- What is known of the callers, one after another and all together.
+-- What is known of the callers, one after another and all together: for `gather_all`, `make_callers` and `replay_threads`.
+use Rattle.std.proofs.lemmas.Grind.{common_steps}
 use Rattle.std.proofs.Common.{◌≡◌, inl, inr, ℕ, zero, suc, ◌+◌, ◌-◌, ◌<◌, List, [], ◌∷◌, ◌++◌, Some, length, map, refl, sym, ap, ◌∙◌, subst, arith, length-append}
 use Rattle.std.specs.Prelude.{slice_get, vec_items, option_map}
 use Rattle.std.proofs.lemmas.List.{length-map}
@@ -51,19 +52,12 @@ are_new setup hub clients desk opened = λ i client here. (setup, (opened.client
 -- one more caller, of the next process
 pub of_more : (arrivals : List (ℕ × Request)) (callers : List Caller) (caller : Caller) → AreOf arrivals callers
     → IsOf arrivals (length callers + 1) caller → AreOf arrivals (callers ++ caller ∷ [])
-of_more arrivals callers caller each one = λ i c here. elim (item_of_grown callers caller c i here) [
-  | inl old ↦ each i c old
-  | inr new ↦ subst (λ (x : Caller). IsOf arrivals (i + 1) x) (sym new.1) (subst (λ (n : ℕ). IsOf arrivals (n + 1) caller) (sym new.0) one)
-]
+of_more arrivals callers caller each one = grind (arith, common_steps, item_of_grown)
 
 -- what is gathered of a caller at its end is so of it before
 pub gathered_before : (journal : List Event) (old new : Caller) (answers : List (ℕ × Reply × ℕ)) → SameCaller old new
     → IsGathered journal new answers → IsGathered journal old answers
-gathered_before journal old new answers same gathered = record {
-  taken_in_order = subst (λ (p : ℕ). IsPrefixOf (requests_taken p journal) old.requests.items) same.process
-      (subst (λ (l : List Request). IsPrefixOf (requests_taken new.process journal) l) same.requests gathered.taken_in_order);
-  all_answers = gathered.all_answers ∙ ap (λ (p : ℕ). answers_to p journal) same.process;
-}
+gathered_before journal old new answers same gathered = grind (arith, common_steps)
 
 -- one more caller and its answers
 pub gathered_more : (journal : List Event) (done : List Caller) (caller : Caller) (collected : List (List (ℕ × Reply × ℕ)))

@@ -1,10 +1,10 @@
--- A journal as a source gives it.
-use Rattle.std.proofs.Common.{◌≡◌, ◌≤◌, ◌<◌, ℕ, ◌+◌, List, [], ◌++◌, Option, Some, None, length, refl, sym, subst, inr, arith, length-append, append-nil}
-use Rattle.std.specs.Io.KnownBytes.{Consumes, IsAtEnd}
+-- A journal as a source gives it: for `read_journal`, `tell` and `tell_finding`.
+use Rattle.std.proofs.lemmas.Grind.{common_steps}
+use Rattle.std.proofs.Common.{◌≡◌, ◌≤◌, ℕ, ◌+◌, List, [], ◌++◌, Option, Some, None, length, refl, arith, length-append}
+use Rattle.std.specs.Io.KnownBytes.{Consumes}
 use Rattle.std.proofs.KnownBytes.{Consumes-trans, Consumes-nil}
-use Rattle.std.proofs.lemmas.Bool.{lt-ltb, le-ltb}
+use Rattle.std.proofs.lemmas.Bool.{le-ltb}
 use Rattle.script_core.specs.declared.script.Cause.{Cause}
-use Rattle.script_core.specs.declared.script.Cause.TheVariants.{TooLong}
 use Rattle.script_core.specs.Words.{lines_of}
 use Rattle.script_core.specs.JournalReading.{journal_start}
 use Rattle.script_core.specs.JournalView.{expected_in}
@@ -12,7 +12,7 @@ use Rattle.replay_core.specs.declared.checking.Finding.{Finding}
 use Rattle.replay_core.specs.declared.checking.Finding.TheVariants as findings
 use Rattle.replay_core.specs.declared.checking.Checking.{Checking}
 use Rattle.replay_core.specs.declared.replays.RunFault.TheVariants as faults
-use Rattle.replay_core.specs.Checks.{Verdict, journal_limit, illegal_line, verdict_at_end, HasChecked, HasJudged, IsCheckFault, IsToldOf, JournalComes, LinesCome, ReadsFaultyJournal, ReadsChecked}
+use Rattle.replay_core.specs.Checks.{Verdict, journal_limit, illegal_line, verdict_at_end, HasChecked, HasJudged, IsCheckFault, IsToldOf, JournalComes, LinesCome}
 
 -- so much was read and checked, and so many bytes more may come
 pub record IsReadSoFar (old new : Option (List ℕ)) (checking : Checking) (left : ℕ) : Type 0 where
@@ -25,28 +25,14 @@ pub record IsReadSoFar (old new : Option (List ℕ)) (checking : Checking) (left
 -- nothing was read
 pub nothing_read : (source : Option (List ℕ)) (checking : Checking) (left : ℕ) → HasChecked checking [] → left ≡ journal_limit + 1
     → checking.before ≡ 0 → IsReadSoFar source source checking left
-nothing_read source checking left checked all none = record {
-  input = [];
-  consumed = Consumes-nil source;
-  count = omega (arith, all);
-  checked = checked;
-  few = omega (arith, none);
-}
+nothing_read source checking left checked all none = grind (arith, common_steps, Consumes-nil)
 
 -- some more was read and checked
 pub more_read : (old mid new : Option (List ℕ)) (before after : Checking) (left rest : ℕ) (more : List ℕ)
     → IsReadSoFar old mid before left → Consumes mid new more → rest + length more ≡ left
     → ((front : List ℕ) → HasChecked before front → HasChecked after (front ++ more)) → after.before ≤ before.before + length more
     → IsReadSoFar old new after rest
-more_read old mid new before after left rest more so_far consumed count checked few =
-    let is = length-append so_far.input more in
-    record {
-      input = so_far.input ++ more;
-      consumed = Consumes-trans old mid new so_far.input more so_far.consumed consumed;
-      count = omega (arith, is, so_far.count, count);
-      checked = checked so_far.input so_far.checked;
-      few = omega (arith, is, few, so_far.few);
-    }
+more_read old mid new before after left rest more so_far consumed count checked few = grind (arith, common_steps, length-append, Consumes-trans)
 
 -- what isn't comes to what its lines come to
 pub comes : (bytes : List ℕ) (verdict : Verdict) → length bytes ≤ journal_limit → LinesCome 1 journal_start (lines_of bytes) verdict
@@ -58,9 +44,7 @@ comes bytes verdict short come = let is = le-ltb journal_limit (length bytes) sh
 judged_as : (checking : Checking) (bytes : List ℕ) (found : Option Finding) → checking.found ≡ found → length bytes ≤ journal_limit
     → HasJudged checking bytes → JournalComes bytes (verdict_at_end checking found)
 unfolding HasJudged
-judged_as checking bytes found is short judged =
-    comes bytes (verdict_at_end checking found) short
-    (subst (λ (f : Option Finding). LinesCome 1 journal_start (lines_of bytes) (verdict_at_end checking f)) is judged)
+judged_as checking bytes found is short judged = grind (arith, common_steps, comes)
 
 -- it is legal
 pub told_legal : (checking : Checking) (bytes : List ℕ) → checking.found ≡ None → length bytes ≤ journal_limit → HasJudged checking bytes

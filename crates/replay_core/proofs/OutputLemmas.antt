@@ -1,5 +1,6 @@
--- The texts of a run.
-use Rattle.std.proofs.Common.{◌≡◌, ◌≤◌, ◌+◌, ◌∙◌, ℕ, zero, suc, List, [], ◌∷◌, ◌++◌, Option, inl, inr, refl, sym, ap, ap₂, subst, length, arith}
+-- The texts of a run: for `explained_text`, `replay`, `replay_in_threads` and others.
+use Rattle.std.proofs.lemmas.Grind.{common_steps}
+use Rattle.std.proofs.Common.{◌≡◌, ◌≤◌, ◌∙◌, ℕ, List, [], ◌∷◌, ◌++◌, Option, sym, ap, subst, length, arith}
 use Rattle.std.specs.Prelude.{Ok, Result}
 use Rattle.std.specs.Io.KnownBytes.{IsAtEnd}
 use Rattle.std.proofs.Math.Logic.{∥∥₁_map}
@@ -19,7 +20,7 @@ use Rattle.script_core.specs.ScriptText.{Meaning}
 use Rattle.script_core.specs.ReportText.{IsReport, AreCounts}
 use Rattle.script_core.specs.Output.{IsOutput, processes_in}
 use Rattle.script_core.specs.declared.states.States.{States}
-use Rattle.script_core.specs.Explaining.{ExplainsRun, IsExplained, unborn_line, unborn_lines}
+use Rattle.script_core.specs.Explaining.{ExplainsRun, IsExplained, unborn_lines}
 use Rattle.replay_core.specs.declared.replays.Ran.{Ran}
 use Rattle.replay_core.specs.Devices.{ReadsWhole}
 use Rattle.replay_core.specs.Interleaving.{Interleaves, IsThreadOutput, IsThreadExplanation, IsThreadRunOf}
@@ -57,10 +58,7 @@ of_script P rules others n m same_rules same h = subst (λ (r : Rules). P r m) s
 
 -- the journal of a script's run leads to the state that is left
 pub is_led : (bytes : List ℕ) (ran : Ran) (run : IsRunOf bytes ran) → IsLedTo ran run.state
-is_led bytes ran run =
-    of_script (λ rules n. Leads rules n opening_state (events_in ran.session) run.state) run.script.rules ran.rules (processes_in run.script)
-    (processes_of (manager_of ran.session)) (sym run.rules) (sym run.processes)
-    (drains_lead run.script.rules (processes_in run.script) [] [] opening_state run.script.arrivals (events_in ran.session) run.state run.drained refl)
+is_led bytes ran run = grind (arith, common_steps, of_script, drains_lead)
 
 -- ---- the texts
 
@@ -175,9 +173,7 @@ runs bytes ran run =
 same_unborn : (states others : ℕ → ProcState) (sent : ℕ → ℕ) (p n : ℕ) → ((q : ℕ) → states q ≡ others q)
     → unborn_lines states sent p n ≡ unborn_lines others sent p n
 unfolding unborn_lines
-same_unborn states others sent p zero same = refl
-same_unborn states others sent p (suc n) same =
-    ap₂ (λ (line lines : List ℕ). line ++ lines) (ap (λ state. unborn_line state p (sent p)) (same p)) (same_unborn states others sent (p + 1) n same)
+same_unborn states others sent p n h = grind (arith, common_steps)
 
 -- the lines of the journal with what explains them, the report, and who was never born, one behind another
 pub one_behind_another : (states : States) (ran : Ran) (count : ℕ → ℕ) (S : State) (explained report first second third : List ℕ)
@@ -187,17 +183,7 @@ pub one_behind_another : (states : States) (ran : Ran) (count : ℕ → ℕ) (S 
     → first ≡ explained → second ≡ first ++ report
     → third ≡ second ++ unborn_lines (state_at (manager_of ran.session)) count 1 (processes_of (manager_of ran.session))
     → IsExplainedTextOf states ran count S third
-one_behind_another states ran count S explained report first second third stands explains is_report one two three =
-    let n = processes_of (manager_of ran.session) in
-    let unborn = unborn_lines (state_at (manager_of ran.session)) count 1 n in
-    record {
-      explained = explained;
-      explains = explains;
-      report = report;
-      is_report = is_report;
-      is = three ∙ ap (λ (l : List ℕ). l ++ unborn) (two ∙ ap (λ (l : List ℕ). l ++ report) one)
-          ∙ ap (λ (l : List ℕ). explained ++ report ++ l) (same_unborn (state_at (manager_of ran.session)) S.states count 1 n stands.states);
-    }
+one_behind_another states ran count S explained report first second third stands explains is_report one two three = grind (arith, common_steps, same_unborn)
 
 -- ---- what was read
 
@@ -206,20 +192,10 @@ accepted script = Ok script
 
 -- so all that the source had was read of it
 read_to_end : (old new : Option (List ℕ)) (bytes : List ℕ) → ReadsWhole old new bytes → length bytes ≤ SCRIPT_MAX → IsAtEnd new
-read_to_end old new bytes read short = elim read.whole [
-  | inl ended ↦ ended
-  | inr long ↦ absurd (omega (arith, long, short))
-]
+read_to_end old new bytes read short = grind (arith, common_steps)
 
 -- and of a text of it was written what was written of the text
 pub writes : (Outputs : List ℕ → List ℕ → Type 0) (read_old read_new : Option (List ℕ)) (Written : List ℕ → Type 0) (bytes text : List ℕ)
     → ReadsWhole read_old read_new bytes → length bytes ≤ SCRIPT_MAX → Outputs bytes text → Written text
     → WritesOf Outputs read_old read_new Written
-writes Outputs read_old read_new Written bytes text read short out written = record {
-  input = bytes;
-  consumed = read.consumed;
-  ended = read_to_end read_old read_new bytes read short;
-  text = text;
-  is_output = out;
-  written = written;
-}
+writes Outputs read_old read_new Written bytes text read short out written = grind (arith, common_steps, read_to_end)

@@ -1,5 +1,6 @@
--- An output is judged legal.
-use Rattle.std.proofs.Common.{◌≡◌, ◌≤◌, ℕ, ◌==◌, Bool, true, false, not, ◌&&◌, List, [], ◌∷◌, ◌++◌, length, length-append, codes, Ok, inl, inr, refl, sym, ap, ◌∙◌, subst, arith, lit≤}
+-- An output is judged legal: for `outputs_are_judged_legal`.
+use Rattle.std.proofs.lemmas.Grind.{common_steps}
+use Rattle.std.proofs.Common.{rules, ◌≡◌, ◌≤◌, ℕ, ◌==◌, Bool, true, false, not, ◌&&◌, List, [], ◌∷◌, ◌++◌, length, length-append, codes, Ok, inl, inr, refl, sym, subst, arith}
 use Rattle.std.specs.Prelude.{Some, None}
 use Rattle.std.specs.List.{AllByRecursion as Each, list_all}
 use Rattle.std.proofs.lemmas.Bool.{le-ltb}
@@ -66,27 +67,11 @@ limits_line policy Wide = (Ok (Some (lines.Limits Wide)), inr (Wide, refl, refl)
 headed_lines : (policy : Policy) (limits : Limits) (text : List ℕ)
     → lines_of (header_lines (record { policy = policy; limits = limits }) ++ text)
     ≡ (codes "policy " ++ policy_word policy) ∷ (codes "limits " ++ limits_word limits) ∷ lines_of text
-headed_lines policy limits text =
-    let first = codes "policy " ++ policy_word policy in
-    let second = codes "limits " ++ limits_word limits in
-    let cut : header_lines (record { policy = policy; limits = limits }) ++ text ≡ first ++ 10 ∷ (second ++ 10 ∷ text) = cut_of policy limits in
-    ap lines_of cut ∙ lines_first first (second ++ 10 ∷ text) (policy_in_line policy)
-    ∙ ap (λ (l : List (List ℕ)). first ∷ l) (lines_first second text (limits_in_line limits))
-  where
-    cut_of : (policy : Policy) (limits : Limits)
-        → header_lines (record { policy = policy; limits = limits }) ++ text ≡ (codes "policy " ++ policy_word policy)
-        ++ 10 ∷ ((codes "limits " ++ limits_word limits) ++ 10 ∷ text)
-    cut_of Held Small = refl
-    cut_of Held Wide = refl
-    cut_of Queue Small = refl
-    cut_of Queue Wide = refl
+headed_lines policy limits text = grind (arith, common_steps, lines_first, policy_in_line, limits_in_line)
 
 -- the header lines are as short as this
 header_length : (policy : Policy) (limits : Limits) → length (header_lines (record { policy = policy; limits = limits })) ≤ 26
-header_length Held Small = lit≤ tt
-header_length Held Wide = lit≤ tt
-header_length Queue Small = lit≤ tt
-header_length Queue Wide = lit≤ tt
+header_length policy limits = grind (arith, common_steps)
 
 -- ---- outputs
 
@@ -95,10 +80,7 @@ plain_short : (text : List ℕ) → length text ≤ output_limit → length text
 plain_short text short = omega (arith, short)
 
 headed_short : (rules : Rules) (text : List ℕ) → length text ≤ output_limit → length (header_lines rules ++ text) ≤ journal_limit
-headed_short rules text short =
-    let headers = header_length rules.policy rules.limits in
-    let size = length-append (header_lines rules) text in
-    omega (arith, short, headers, size)
+headed_short rules text short = grind (arith, common_steps, header_length, length-append)
 
 pub outputs_judged : OutputsAreLegal → OutputsAreShort → OutputsAreJudgedLegal
 outputs_judged outputs short = record {

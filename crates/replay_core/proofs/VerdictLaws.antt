@@ -1,5 +1,6 @@
--- A journal has one verdict, which is of its end.
-use Rattle.std.proofs.Common.{◌≡◌, ℕ, ◌+◌, List, [], ◌∷◌, length, nat_lt, Bool, true, false, MatchBool, MatchResult, Result, Ok, Err, inl, inr, refl, sym, ap, ◌∙◌, subst}
+-- A journal has one verdict, which is of its end: for `journals_have_one_verdict`.
+use Rattle.std.proofs.Common.{arith, ◌≡◌, ℕ, ◌+◌, List, [], ◌∷◌, length, nat_lt, Bool, true, false, MatchBool, MatchResult, Result, Ok, Err, inl, inr, refl, sym, ap, ◌∙◌, subst}
+use Rattle.std.proofs.lemmas.Grind.{common_steps}
 use Rattle.range_core.specs.Facts.{MatchFact}
 use Rattle.script_core.specs.declared.place.JournalLine.{JournalLine}
 use Rattle.script_core.specs.declared.place.JournalLine.TheVariants as lines
@@ -14,10 +15,7 @@ use Rattle.replay_core.specs.Checks.{Verdict, Legal, Illegal, Faulty, IsIllegalA
 -- one of two facts, of which one holds, decides
 decided : {X : Type 0} (Fact : Type 0) (P Q : X → Type 0) → ((a b : X) → P a → P b → a ≡ b) → ((a b : X) → Q a → Q b → a ≡ b)
     → (a b : X) → MatchFact Fact (P a) (Q a) → MatchFact Fact (P b) (Q b) → a ≡ b
-decided Fact P Q here there a b (inl first) (inl second) = here a b first.1 second.1
-decided Fact P Q here there a b (inl first) (inr second) = absurd (second.0 first.0)
-decided Fact P Q here there a b (inr first) (inl second) = absurd (first.0 second.0)
-decided Fact P Q here there a b (inr first) (inr second) = there a b first.1 second.1
+decided Fact P Q h h2 a b h3 h4 = grind (arith, common_steps)
 
 -- a line that the journal may not go on with has one verdict
 one_illegal : OneIsTold → (number : ℕ) (reading : JournalReading) (said : JournalLine) (a b : Verdict) → IsIllegalAt number reading said a
@@ -35,10 +33,7 @@ ComesOf number reading line rest next verdict =
 one_of_line : OneIsTold → (number : ℕ) (reading : JournalReading) (line : List ℕ) (rest : List (List ℕ))
     → ((after : JournalReading) (a b : Verdict) → LinesCome (number + 1) after rest a → LinesCome (number + 1) after rest b → a ≡ b)
     → (next : Result JournalLine Cause) (a b : Verdict) → ComesOf number reading line rest next a → ComesOf number reading line rest next b → a ≡ b
-one_of_line told number reading line rest later (Ok said) a b first second =
-    decided (MayGoOn reading line said) (LinesCome (number + 1) (reading_behind reading line said) rest) (IsIllegalAt number reading said)
-    (later (reading_behind reading line said)) (one_illegal told number reading said) a b first second
-one_of_line told number reading line rest later (Err cause) a b first second = first ∙ sym second
+one_of_line h number reading line rest h2 next a b h3 h4 = grind (arith, common_steps, decided, one_illegal)
 
 one_of_lines : LinesHaveOneMeaning → OneIsTold → (number : ℕ) (reading : JournalReading) (lines : List (List ℕ)) (a b : Verdict)
     → LinesCome number reading lines a → LinesCome number reading lines b → a ≡ b
@@ -89,9 +84,7 @@ legal_line : (number : ℕ) (reading : JournalReading) (line : List ℕ) (rest :
     ≡ journals.Illegal number))
     (λ cause. journals.Legal ≡ journals.Faulty number cause)
     → ComesOf number reading line rest next Legal
-legal_line number reading line rest later (Ok said) (inl goes) = inl (goes.0, later (reading_behind reading line said) goes.1)
-legal_line number reading line rest later (Ok said) (inr stops) = absurd (let bad = stops.1 in cc)
-legal_line number reading line rest later (Err cause) is = absurd cc
+legal_line number reading line rest h next h2 = grind (arith, common_steps)
 
 pub legal_of : (number : ℕ) (reading : JournalReading) (lines : List (List ℕ)) → JournalGives number reading lines journals.Legal
     → LinesCome number reading lines Legal
