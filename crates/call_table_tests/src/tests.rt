@@ -24,10 +24,18 @@ mod threads;
 
 use fd_table::{Access, Limits};
 use lock_manager::{Request, Rules};
+use range_core::Memory;
+use std::process::Abort;
 use wait_core::Policy;
 
-// Each call that may grow is made again where a growth was refused, so that these tests pass whichever growth is: a run
-// that refuses none meets no `Memory`.
+// Each call that may grow is made again where a growth was refused, and then it must succeed: at most one is refused in a run,
+// so these tests pass whichever it is, and a run that refuses none meets no `Memory`.
+
+/// What a call comes to that is made again after a growth was refused.
+fn again<T>(rt: &impl Abort, second: Result<T, Memory>) -> Result<T, Memory> {
+    assert!(rt; second.is_ok(), "refused again");
+    second
+}
 
 const RULES: Rules = Rules {
     policy: Policy::Held,

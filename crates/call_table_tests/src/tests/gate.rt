@@ -71,9 +71,11 @@ fn act<'a>(mut client: Caller<'a>, gate: &Acting) -> Option<(Caller<'a>, Came)> 
     None
 }
 
-/// A client that acts at the gate, by its process: the number of what it posts there, the answer that it collects there, and the next one.
+/// A client that acts at the gate, by its process: the answers that it collects before, the number of what it posts there, the answer that
+/// it collects there, and the next one.
 struct Row {
     process: u8,
+    before: &'static [Answer],
     posted: u64,
     meanwhile: Option<Answer>,
     next: Option<Answer>,
@@ -82,13 +84,15 @@ struct Row {
 const ROWS: &[Row] = &[
     Row {
         process: 1,
+        before: &[(1, Reply::Fd(0), 1), (2, Reply::Ok, 2)],
         posted: 4,
-        meanwhile: Some((1, Reply::Fd(0), 1)),
-        next: Some((2, Reply::Ok, 2)),
+        meanwhile: Some((3, Reply::Ok, 3)),
+        next: None,
     },
     // The answer to its request is published only once the gate is passed.
     Row {
         process: 2,
+        before: &[],
         posted: 2,
         meanwhile: None,
         next: Some((
@@ -116,6 +120,13 @@ fn lock_and_look(
     Ok(())
 }
 
+/// The client collects just these answers, one after another.
+fn collect_all(rt: &impl Abort, client: &mut Caller, answers: &[Answer]) {
+    for answer in answers {
+        assert!(rt; client.collect() == Some(*answer));
+    }
+}
+
 /// The desk serves that request, and the client acts meanwhile. Refused where no thread can be had.
 fn serve_while_it_acts<'a, R: Threads + Wait + Abort + Sync>(
     rt: &R,
@@ -125,7 +136,7 @@ fn serve_while_it_acts<'a, R: Threads + Wait + Abort + Sync>(
 ) -> Result<(Served, Option<(Caller<'a>, Came)>), Fail> {
     thread::scope(thread::scope_env(), rt, |scope| {
         let acting = scope.spawn(move || act(client, gate))?;
-        let served = server.serve(gate);
+        let served = server.serve(rt, gate);
         gate.served.store(true, Ordering::SeqCst);
         let acted = acting.join(rt);
         Ok((served?, acted))
@@ -161,6 +172,7 @@ fn a_client_acts_while_the_desk_serves(rt: HostRuntime) -> Result<(), Fail> {
             mem::swap(&mut first, &mut second);
         }
         drop(second);
+        collect_all(&rt, &mut first, row.before);
         act_at_the_gate(&rt, first, &mut server, row)?;
     }
     Ok(())

@@ -4,7 +4,7 @@ ghost use Rattle.fd_table.specs.Descriptors.{process_limit};
 ghost use Rattle.call_table.specs.Desks.{IsDeskOf, IsOpened};
 ghost use Rattle.call_table.specs.Shown.{IsClientOf};
 
-use super::{FORK, OPEN, RULES, SEEK, WIDE};
+use super::{FORK, OPEN, RULES, SEEK, WIDE, again};
 use call_table::{Busy, Client, Desk, Gate, Hub, Served, open_hub};
 use lock_manager::{LkCmd, Lock, Reply, Request, Rules};
 use range_core::{Kind, Memory, Whence};
@@ -53,9 +53,9 @@ pub struct Server<'a> {
 }
 
 impl Server<'_> {
-    pub fn serve<G: Gate>(&mut self, gate: &G) -> Result<Served, Memory> {
+    pub fn serve<R: Abort, G: Gate>(&mut self, rt: &R, gate: &G) -> Result<Served, Memory> {
         match self.desk.serve_one(self.hub, gate) {
-            Err(_) => self.desk.serve_one(self.hub, gate),
+            Err(_) => again(rt, self.desk.serve_one(self.hub, gate)),
             first => first,
         }
     }
@@ -67,6 +67,7 @@ impl Server<'_> {
 
 /// [`open_hub`], and once more where a growth was refused.
 fn open_again(
+    rt: &impl Abort,
     alloc: Global,
     processes: u8,
     depth: u8,
@@ -78,7 +79,11 @@ fn open_again(
         made.0 made.1.items made.2) }
 {
     match open_hub(alloc, processes, depth, rules) {
-        Err(_) => open_hub(alloc, processes, depth, rules),
+        Err(_) => {
+            let second = open_hub(alloc, processes, depth, rules);
+            assert!(rt; second.is_ok(), "refused again");
+            second
+        }
         first => first,
     }
 }
@@ -95,7 +100,7 @@ pub fn open_table(
     requires depth { (1 ≤ depth) × (depth ≤ 32) }
     ensures { IfOk result (λ made. IsClientOf made.0 made.1 × IsClientOf made.0 made.2 × IsDeskOf made.0 made.3) }
 {
-    let (hub, mut clients, desk) = open_again(alloc, processes, depth, rules)?;
+    let (hub, mut clients, desk) = open_again(rt, alloc, processes, depth, rules)?;
     let last = clients.pop().expect(rt, "the last process has a client");
     assert!(rt; !clients.is_empty());
     let first = clients.swap_remove(0);
@@ -130,7 +135,7 @@ pub fn advance(
             last.post(*request)
         };
         assert!(rt; posted.is_ok());
-        assert!(rt; matches!(server.serve(&Open)?, Served::Took(_)));
+        assert!(rt; matches!(server.serve(rt, &Open)?, Served::Took(_)));
     }
     Ok(())
 }
@@ -151,7 +156,7 @@ fn fill(rt: &impl Abort, caller: &mut Caller) {
 /// The desk takes all that both posted.
 fn serve_both(rt: &impl Abort, server: &mut Server) -> Result<(), Memory> {
     for _ in 0..2 * DEPTH {
-        assert!(rt; matches!(server.serve(&Open)?, Served::Took(_)));
+        assert!(rt; matches!(server.serve(rt, &Open)?, Served::Took(_)));
     }
     Ok(())
 }
@@ -211,7 +216,7 @@ fn serve_unseen(
     match desk.serve_one(hub, &Open) {
         Err(_) => {
             assert!(rt; client.collect(hub).is_none());
-            desk.serve_one(hub, &Open)
+            again(rt, desk.serve_one(hub, &Open))
         }
         first => first,
     }

@@ -84,12 +84,12 @@ fn converse(
 }
 
 /// Serves until so many requests are taken, or the turns run out, and closes.
-fn serve_all(server: &mut Server, requests: usize) -> Result<(), Memory> {
+fn serve_all(rt: &impl Abort, server: &mut Server, requests: usize) -> Result<(), Memory> {
     for _ in 0..TURNS {
         if server.desk.session().journal().len() == requests {
             break;
         }
-        if server.serve(&Open)? == Served::Idle {
+        if server.serve(rt, &Open)? == Served::Idle {
             thread::yield_now();
         }
     }
@@ -132,7 +132,7 @@ fn run_both<R: Threads + Wait + Abort + Sync>(
     thread::scope(thread::scope_env(), rt, |scope| {
         let one = scope.spawn(move || converse(first, script.first, to_first))?;
         let two = scope.spawn(move || converse(second, script.second, to_second))?;
-        let served = serve_all(server, script.requests);
+        let served = serve_all(rt, server, script.requests);
         let (one, two) = (one.join(rt), two.join(rt));
         served?;
         let (one, two) = (one?, two?);
