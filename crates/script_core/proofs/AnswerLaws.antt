@@ -1,4 +1,4 @@
--- A line of a journal has one answer: one meaning, and one text of what is there in its place.
+-- A line of a journal has one answer: one meaning, and one text of what is there in its place; for `lines_have_one_answer`.
 use Rattle.std.proofs.lemmas.Grind.{common_steps}
 use Rattle.std.proofs.Common.{rules, ◌≡◌, ℕ, ◌+◌, ◌≤◌, ◌==◌, List, [], ◌∷◌, ◌++◌, length, drop, inl, inr, codes, decimal, Some, IfSome, slice_get, refl, sym, ap, ◌∙◌, subst, arith, eq-eqb}
 use Rattle.std.proofs.lemmas.List.{length-drop}
@@ -120,18 +120,7 @@ no_more_left a b has =
 
 one_left : LocksHaveOneReport → (place : Place) (entries : List Event) (texts : List (List ℕ)) (a b : List ReportLine) → AreLeft place entries texts a
     → AreLeft place entries texts b → a ≡ b
-one_left one place entries texts a b h k =
-    let T = h.legal.0 in
-    let run = h.legal.1 in
-    let same = one_report one (processes_at place) T entries h.reported k.reported (h.lines T run) (k.lines T run) in
-    let there = no_more_left a b (λ more are.
-    (k.goes_on more).0 (subst (λ l. AreTextsOf l (texts ++ more)) same ((h.goes_on more).1 are))) in
-    let back = no_more_left b a (λ more are.
-    (h.goes_on more).0 (subst (λ l. AreTextsOf l (texts ++ more)) (sym same) ((k.goes_on more).1 are))) in
-    let other : b ≡ drop k.last.0 h.reported = k.last.1 ∙ ap (drop k.last.0) (sym same) in
-    let many : length (drop h.last.0 h.reported) ≡ length (drop k.last.0 h.reported) =
-    let first = ap length h.last.1 in let second = ap length other in omega (arith, there, back, first, second) in
-    h.last.1 ∙ as_many h.reported h.last.0 k.last.0 many ∙ sym other
+one_left one place entries texts a b h k = search (rules, one_report, no_more_left, as_many)
 
 -- ---- what is told
 

@@ -1,6 +1,7 @@
--- Commands and their arguments.
+-- Commands and their arguments: for `command_name` and `read_lock`.
+use Rattle.std.proofs.lemmas.Bool.{false_from_ne_true}
 use Rattle.std.proofs.lemmas.Grind.{common_steps}
-use Rattle.std.proofs.Common.{◌≡◌, ℕ, ◌<◌, ◌≤◌, ◌^◌, List, [], ◌∷◌, ◌++◌, length, get_or, codes, decimal, ◌⊎◌, Bool, true, false, ℤ, pos, FitsSigned, w64, Ok, Err, Bor, refl, sym, ap, subst, inl, inr, arith}
+use Rattle.std.proofs.Common.{◌≡◌, ℕ, ◌<◌, ◌≤◌, ◌^◌, List, [], ◌∷◌, ◌++◌, length, get_or, codes, decimal, ◌⊎◌, false, ℤ, pos, FitsSigned, w64, Ok, Err, Bor, refl, sym, ap, subst, inl, inr, arith}
 use Rattle.std.specs.Fmt.{digits, signed_decimal}
 use Rattle.std.specs.Str.{bytes_eq}
 use Rattle.std.proofs.lemmas.Slice.Eq.{bytes_eq-Decides}
@@ -15,13 +16,9 @@ use Rattle.script_core.specs.Arguments.{Argument, AnyNumber, IsBad, IsFirstBad, 
 use Rattle.script_core.specs.ScriptText.{Says}
 use Rattle.script_core.specs.Reading.{CommandGives}
 
-false_where_not : (test : Bool) → (test ≡ true → ⊥) → test ≡ false
-false_where_not true fails = absurd (fails refl)
-false_where_not false fails = refl
-
 -- a word that differs from a command's name isn't found under it
 pub not_named : (name word : List ℕ) → (word ≡ name → ⊥) → bytes_eq name word ≡ false
-not_named name word differ = false_where_not (bytes_eq name word) (λ same. differ (sym ((bytes_eq-Decides name word).0 same)))
+not_named name word differ = false_from_ne_true (bytes_eq name word) (λ same. differ (sym ((bytes_eq-Decides name word).0 same)))
 
 -- the texts of a list of this length, one by one
 pub five_texts : (xs : List (Bor (List ℕ))) (d : Bor (List ℕ)) → 5 ≤ length xs → length xs < 6

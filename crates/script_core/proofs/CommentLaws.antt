@@ -1,7 +1,7 @@
 -- Which lines begin with `#` and which don't, and which texts go with the lines that do: for `explanations_are_comments`.
 use Rattle.std.proofs.lemmas.Grind.{common_steps}
 use Rattle.std.proofs.Common.{rules, ℕ, zero, suc, ◌≡◌, ◌+◌, ◌==◌, ◌/◌, ◌%◌, Bool, true, false, not, ◌&&◌, cond, Option, Some, None, List, [], ◌∷◌, ◌++◌, flat_map, codes, decimal, ℤ, pos, negsuc, refl, sym, ap, subst, ◌∙◌, arith, append_assoc, inl, inr}
-use Rattle.std.specs.List.{list_all, list_any, slice_split, join_with_byte}
+use Rattle.std.specs.List.{list_all, slice_split, join_with_byte}
 use Rattle.std.specs.Fmt.{signed_decimal, digits, digits_onto, digit_glyph}
 use Rattle.std.proofs.lemmas.Bool.{cases_Bool}
 use Rattle.std.proofs.lemmas.Bool.Decides.{nat_tests}
@@ -37,7 +37,7 @@ use Rattle.script_core.specs.EntryText.{error_name, reply_words, reply_text, tag
 use Rattle.script_core.specs.ReportText.{owner_text, flock_word, byte_lock_text, flock_text, held_text, held_line, wanted_text, wait_line, state_word, counts_text, process_line, reported_line, process_lines, line_of, IsReport}
 use Rattle.script_core.specs.declared.deadlock.Link.{Link}
 use Rattle.script_core.specs.Deadlocks.{step_text, first_step_text, next_step_text}
-use Rattle.script_core.specs.Explaining.{comment, obstacle_line, deadlock_line, is_same_place, word_of_loss, loss_line, loss_lines, Explains, more_text, never_born_line, unborn_line, unborn_lines, is_comment_line, without_comments}
+use Rattle.script_core.specs.Explaining.{comment, obstacle_line, deadlock_line, word_of_loss, loss_line, loss_lines, Explains, more_text, never_born_line, unborn_line, unborn_lines, is_comment_line, without_comments}
 
 -- no byte ends a line
 abbrev pub goes_on : ℕ → Bool
@@ -265,39 +265,16 @@ in_flock_word modes.Read = refl
 in_flock_word modes.Write = refl
 
 in_byte_lock : (file : ℕ) (owner : Owner) (mode : Mode) (span : Span) → InLine (byte_lock_text file owner mode span)
-in_byte_lock file owner mode span =
-    let one = decimal file ++ codes " " in
-    let two = one ++ owner_text owner in
-    let three = two ++ codes " " in
-    let four = three ++ mode_word mode in
-    let five = four ++ codes " " in
-    let six = five ++ decimal span.first in
-    both (six ++ codes " ") (decimal span.last)
-    (both six (codes " ") (both five (decimal span.first) (both four (codes " ")
-    (both three (mode_word mode) (both two (codes " ") (both one (owner_text owner) (both (decimal file) (codes " ") (number file) refl) (in_owner owner)) refl) (in_mode mode))
-    refl) (number span.first)) refl) (number span.last)
+in_byte_lock file owner mode span = search (rules, both, number, in_owner, in_mode)
 
 in_flock : (owner : Owner) (mode : Mode) → InLine (flock_text owner mode)
 in_flock owner mode = both (owner_text owner ++ codes " ") (flock_word mode) (both (owner_text owner) (codes " ") (in_owner owner) refl) (in_flock_word mode)
 
 pub in_held : (held : Held) → InLine (held_text held)
-in_held held = by_case held.whole
-  where
-    by_case : (whole : Bool)
-        → InLine (cond whole (codes "flock " ++ decimal held.file ++ codes " " ++ flock_text held.owner held.mode) (codes "lock "
-        ++ byte_lock_text held.file held.owner held.mode held.span))
-    by_case true =
-        both (decimal held.file ++ codes " ") (flock_text held.owner held.mode) (both (decimal held.file) (codes " ") (number held.file) refl) (in_flock held.owner held.mode)
-    by_case false = in_byte_lock held.file held.owner held.mode held.span
+in_held held = search (rules, both, number, in_flock, in_byte_lock)
 
 plain_held : (held : Held) → IsPlain (held_line held)
-plain_held held = plain_line (held_text held) (in_held held) (by_case held.whole)
-  where
-    by_case : (whole : Bool)
-        → is_comment_line (cond whole (codes "flock " ++ decimal held.file ++ codes " " ++ flock_text held.owner held.mode) (codes "lock "
-        ++ byte_lock_text held.file held.owner held.mode held.span)) ≡ false
-    by_case true = refl
-    by_case false = refl
+plain_held held = search (rules, plain_line, in_held)
 
 in_wanted : (family : Family) (wait : Wait) → InLine (wanted_text family wait)
 in_wanted family wait = grind (arith, common_steps, in_byte_lock, both, number, in_flock)
@@ -379,11 +356,7 @@ comment_deadlock event (first ∷ rest) =
     (both (first_step_text first) (flat_map next_step_text rest) (in_first first) (in_nexts rest))
 
 comment_loss : (event : Event) (word : List ℕ) (after : List Held) (held : Held) → InLine word → IsComment (loss_line event word after held)
-comment_loss event word after held is = by_case (list_any (is_same_place held) after)
-  where
-    by_case : (there : Bool) → IsComment (cond there [] (comment event.p event.n (word ++ held_line held)))
-    by_case true = comment_none
-    by_case false = comment_behind event.p event.n word (held_text held) is (in_held held)
+comment_loss event word after held is = search (rules, comment_none, comment_behind, in_held)
 
 losses_as : (event : Event) (word : List ℕ) (before after : List Held) → InLine word → IsComment (flat_map (loss_line event word after) before)
 losses_as event word before after is = comment_each (loss_line event word after) (λ held. comment_loss event word after held is) before

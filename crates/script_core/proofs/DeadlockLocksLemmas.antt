@@ -1,6 +1,6 @@
 -- The report of the locks and the list of waits tell who waits for whom: for `write_explained`, clause `ok`.
+use Rattle.std.proofs.Common.{rules, ℕ, zero, suc, ◌≡◌, ◌+◌, ◌<◌, ◌≤◌, inl, inr, Option, Some, None, List, [], ◌∷◌, ◌++◌, All, Any, length, get_or, take, drop, refl, sym, ap, subst, ◌∙◌, arith}
 use Rattle.std.proofs.lemmas.Grind.{common_steps}
-use Rattle.std.proofs.Common.{ℕ, zero, suc, ◌≡◌, ◌+◌, ◌<◌, ◌≤◌, inl, inr, Option, Some, None, List, [], ◌∷◌, ◌++◌, All, Any, length, get_or, take, drop, refl, sym, ap, subst, ◌∙◌, arith}
 use Rattle.std.specs.Prelude.{IsFalse}
 use Rattle.std.proofs.Math.Seq.{drop-cons, get_or-append_seam, take-append_seam}
 use Rattle.std.proofs.lemmas.Bool.{cases_lt}
@@ -180,10 +180,7 @@ cycle_in_report : (policy : Policy) (locks : Locks) (report : List Held) (waits 
     → wait.file < 64 → All (λ v. v.file < 64) waits
     → IsCycle (IsBlockedByProcess policy locks waits wait) (WaitsFor policy locks waits) wait.p blocker through
     → IsCycle (LeadsInReport policy report waits (Wanted wait)) (WaitsInReport policy report waits) wait.p blocker through
-cycle_in_report policy locks report waits wait blocker through told low few cycle = (
-  blocked_in_report policy locks report waits wait blocker told low cycle.0,
-  chain_of (WaitsFor policy locks waits) (WaitsInReport policy report waits) (λ p q. waits_in_report policy locks report waits p q told few) blocker through wait.p cycle.1,
-)
+cycle_in_report policy locks report waits wait blocker through told low few cycle = search (rules, blocked_in_report, chain_of, waits_in_report)
 
 -- what is told of the report is told of the state
 pub told_of_state : (policy : Policy) (locks : Locks) (report : List Held) (waits : List Wait) (wait : Wait) (links : List Link) → AreReported locks report

@@ -1,7 +1,9 @@
 -- What a step that is refused with EDEADLK has found: for `write_explained`, clause `ok`.
-use Rattle.std.proofs.Common.{arith, rules, ℕ, ◌≡◌, ◌==◌, ◌||◌, inl, inr, Bool, true, false, Option, Some, None, Result, Ok, List, [], ◌∷◌, ◌++◌, refl, sym, ap, subst, ◌∙◌, append-nil}
+use Rattle.script_core.proofs.FitLemmas.{blocked_at}
+use Rattle.script_core.proofs.OutcomeFitLemmas.{by_bool}
+use Rattle.std.proofs.Common.{arith, rules, ℕ, ◌≡◌, ◌==◌, ◌||◌, inl, inr, Bool, true, false, Option, Some, None, Result, Ok, List, [], ◌∷◌, ◌++◌, refl, sym, ap, subst, ◌∙◌}
 use Rattle.std.proofs.lemmas.Grind.{common_steps}
-use Rattle.std.specs.Prelude.{Err, MatchBool, MatchOption, MatchResult}
+use Rattle.std.specs.Prelude.{Err, MatchOption, MatchResult}
 use Rattle.range_core.specs.declared.Mode.{Mode}
 use Rattle.range_core.specs.declared.Span.{Span}
 use Rattle.range_core.specs.declared.RangeFault.{RangeFault}
@@ -12,9 +14,8 @@ use Rattle.fd_table.specs.declared.tables.Look.{Look}
 use Rattle.fd_table.specs.Descriptors.{look_at}
 use Rattle.wait_core.specs.declared.Policy.{Policy}
 use Rattle.wait_core.specs.declared.Wait.{Wait}
-use Rattle.wait_core.specs.Blocking.{AllBlocked, IsBlocked}
+use Rattle.wait_core.specs.Blocking.{AllBlocked}
 use Rattle.wait_core.specs.Cycles.{IsTraditional, ClosesCycle}
-use Rattle.wait_core.specs.Locks.{Locks}
 use Rattle.lock_manager.specs.declared.request.Rules.{Rules}
 use Rattle.lock_manager.specs.declared.request.Lock.{Lock}
 use Rattle.lock_manager.specs.declared.request.LkCmd.{LkCmd}
@@ -25,7 +26,7 @@ use Rattle.lock_manager.specs.declared.request.Request.{Request}
 use Rattle.lock_manager.specs.declared.request.Request.TheVariants.{OpenFile, Dup, DupTo, CloseFd, Seek, Resize, Lk, Flock, Fork, Exit, Signal, Kill}
 use Rattle.lock_manager.specs.declared.request.ProcState.{ProcState}
 use Rattle.lock_manager.specs.State.{State, locks_held, opening_state}
-use Rattle.lock_manager.specs.Settling.{IsSettled, Settles, granted}
+use Rattle.lock_manager.specs.Settling.{IsSettled, Settles}
 use Rattle.lock_manager.specs.Outcomes.{Outcome, IsRefusal, answered, refused, range_error}
 use Rattle.lock_manager.specs.LockWords.{is_get, is_bad_argument, wanted_mode, permits, wanted_lock}
 use Rattle.lock_manager.specs.LockCommands.{CommandComesTo, DescribedComesTo, GetTells}
@@ -36,29 +37,13 @@ use Rattle.lock_manager.specs.Step.{ComesTo, Step}
 use Rattle.script_core.specs.Explaining.{is_edeadlk, is_deadlock}
 
 -- a settled state stays
-blocked_at : (policy : Policy) (locks : Locks) (earlier before : List Wait) (wait : Wait) (after : List Wait)
-    → AllBlocked policy locks earlier (before ++ wait ∷ after)
-    → IsBlocked policy locks (earlier ++ before) wait
-blocked_at policy locks earlier [] wait after h = subst (λ (l : List Wait). IsBlocked policy locks l wait) (sym (append-nil earlier)) h.0
-blocked_at policy locks earlier (first ∷ before) wait after h =
-    subst (λ (l : List Wait). IsBlocked policy locks l wait) (append_one earlier first before) (blocked_at policy locks (earlier ++ first ∷ []) before wait after h.1)
-  where
-    append_one : (xs : List Wait) (x : Wait) (ys : List Wait) → (xs ++ x ∷ []) ++ ys ≡ xs ++ x ∷ ys
-    append_one [] x ys = refl
-    append_one (y ∷ xs) x ys = ap (λ (l : List Wait). y ∷ l) (append_one xs x ys)
-
 stays_settled : (policy : Policy) (S : State) (grants : List Note) (T : State) → IsSettled policy S → Settles policy S grants T → T ≡ S
 stays_settled policy S [] T settled h = h.1
 stays_settled policy S (grant ∷ grants) T settled (before, wait, after, next, is, rest) =
     absurd (next.ready (blocked_at policy (locks_held S) [] before wait after
     (subst (AllBlocked policy (locks_held S) []) next.place settled)))
 
--- settling leaves a settled state
-pub settled_then : (policy : Policy) (S : State) (grants : List Note) (T : State) → Settles policy S grants T → IsSettled policy T
-settled_then policy S [] T h = subst (IsSettled policy) (sym h.1) h.0
-settled_then policy S (grant ∷ grants) T (before, wait, after, next, is, rest) = settled_then policy (granted S before wait after) grants T rest
-
--- and so is the opening
+-- the opening is settled
 pub opening_settled : (policy : Policy) → IsSettled policy opening_state
 unfolding opening_state
 opening_settled policy = tt
@@ -113,10 +98,6 @@ test_told : (rules : Rules) (S U : State) (p n : ℕ) (request : Request) (nb : 
 test_told rules S U p n request nb wanted grants outcome h = grind (arith, common_steps, other_told)
 
 -- by cases
-pub if_bool : (b : Bool) (P Q X : Type 0) → MatchBool b P Q → (P → X) → (Q → X) → X
-if_bool true P Q X h one other = one h
-if_bool false P Q X h one other = other h
-
 pub if_option : {Y : Type 0} (o : Option Y) (P : Type 0) (Q : Y → Type 0) (X : Type 0) → MatchOption o P Q → (P → X) → ((y : Y) → o ≡ Some y → Q y → X) → X
 if_option None P Q X h one other = one h
 if_option (Some y) P Q X h one other = other y refl h
@@ -128,7 +109,7 @@ if_result (Err e) P Q X h one other = other e h
 
 mode_told : (rules : Rules) (S : State) (p n : ℕ) (request : Request) (look : Look) (nb : Bool) (wanted : Wait) (held : Option Mode) (outcome : Outcome)
     → FlockModeComesTo rules S look nb wanted held outcome → TellsOnly rules S p n request outcome
-mode_told rules S p n request look nb wanted held outcome h = grind (arith, common_steps, test_told, if_bool, other_told)
+mode_told rules S p n request look nb wanted held outcome h = grind (arith, common_steps, test_told, by_bool, other_told)
 
 op_told : (rules : Rules) (S : State) (p n : ℕ) (request : Request) (look : Look) (op : FlockOp) (nb : Bool) (outcome : Outcome)
     → FlockOpComesTo rules S p n look op nb outcome → TellsOnly rules S p n request outcome
@@ -155,12 +136,12 @@ described_told : (rules : Rules) (S : State) (p n fd : ℕ) (cmd : LkCmd) (lock 
     → look_at S.descriptors p fd ≡ Some look
     → DescribedComesTo rules S p n cmd lock look outcome → TellsOnly rules S p n (Lk fd cmd lock) outcome
 described_told rules S p n fd cmd lock look outcome opened h =
-    if_bool (is_bad_argument cmd lock) _ _ (TellsOnly rules S p n (Lk fd cmd lock) outcome) h
+    by_bool (is_bad_argument cmd lock) h
     (λ bad. other_told rules S p n (Lk fd cmd lock) outcome _ bad refl)
     (λ good. if_result (resolution lock.whence lock.start lock.len look.offset look.size) _ _ (TellsOnly rules S p n (Lk fd cmd lock) outcome) good
     (λ span resolved ranged. if_option (wanted_mode lock.kind) _ _ (TellsOnly rules S p n (Lk fd cmd lock) outcome) ranged
     (λ unlocked. other_told rules S p n (Lk fd cmd lock) outcome _ unlocked refl)
-    (λ mode kind wants. if_bool (is_get cmd || permits look.access mode) _ _ (TellsOnly rules S p n (Lk fd cmd lock) outcome) wants
+    (λ mode kind wants. by_bool (is_get cmd || permits look.access mode) wants
     (command_told rules S p n fd cmd lock look span mode outcome
     (record { look = look; of_open = opened; span = span; of_range = resolved; mode = mode; of_kind = kind; is = refl }))
     (λ denied. other_told rules S p n (Lk fd cmd lock) outcome _ denied refl)))
@@ -188,7 +169,7 @@ outcome_told rules processes S p n (Flock fd op nb) outcome h =
 outcome_told rules processes S p n Exit outcome h = other_told rules S p n Exit outcome _ h.3 refl
 outcome_told rules processes S p n (Signal target) outcome h = signal_told rules S p n target (Signal target) (S.states target) outcome h
 outcome_told rules processes S p n (Kill target) outcome h =
-    if_bool (target == p) _ _ (TellsOnly rules S p n (Kill target) outcome) h
+    by_bool (target == p) h
     (λ own. other_told rules S p n (Kill target) outcome _ own.3 refl)
     (λ others. kill_told rules S p n target (Kill target) (S.states target) outcome others)
 

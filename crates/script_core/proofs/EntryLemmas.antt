@@ -1,7 +1,6 @@
--- The line of an entry is read in one way.
-use Rattle.std.proofs.Common.{◌≡◌, ◌≢◌, ℕ, suc, ◌+◌, ◌<◌, ◌^◌, ◌==◌, true, false, cond, List, [], ◌∷◌, ◌++◌, length, take, drop, get_or, codes, decimal, Option, Some, None, MatchBool, MatchOption, MatchResult, Result, Ok, Err, Bor, nat_lt, ◌⊎◌, inl, inr, refl, sym, ap, ◌∙◌, subst, arith, lit<, ne_eqb, append_assoc, drop-cons, add-one}
+-- The line of an entry is read in one way: for `parse_entry`, `read_notes`, `read_pieces` and `tag_of`.
+use Rattle.std.proofs.Common.{rules, ◌≡◌, ◌≢◌, ℕ, ◌+◌, ◌<◌, ◌^◌, ◌==◌, true, false, cond, List, [], ◌∷◌, ◌++◌, length, take, drop, get_or, codes, decimal, Option, Some, None, MatchOption, MatchResult, Result, Ok, Err, Bor, ◌⊎◌, inl, inr, refl, sym, ap, ◌∙◌, subst, lit<, ne_eqb, append_assoc, drop-cons, add-one}
 use Rattle.std.specs.Prelude.{All, bytes_eq}
-use Rattle.std.specs.Int.{IsInRange}
 use Rattle.std.specs.List.{slice_split}
 use Rattle.std.proofs.lemmas.Fmt.{decimal_injective, decimal_is_IsNumeral}
 use Rattle.std.proofs.lemmas.Grind.{get_or_default_zero}
@@ -22,13 +21,13 @@ use Rattle.lock_manager.specs.declared.request.Note.TheVariants.{Answer}
 use Rattle.session_core.specs.Event.{Event}
 use Rattle.script_core.specs.declared.entry.Taken.{Taken}
 use Rattle.script_core.specs.declared.script.Cause.{Cause}
-use Rattle.script_core.specs.declared.script.Cause.TheVariants.{Byte, Word, Count, TooLong}
-use Rattle.script_core.specs.Words.{texts, words_of, is_printable}
+use Rattle.script_core.specs.declared.script.Cause.TheVariants.{Word, Count}
+use Rattle.script_core.specs.Words.{texts, words_of}
 use Rattle.script_core.specs.RequestText.{mode_word}
 use Rattle.script_core.specs.EntryText.{error_name, reply_words, tag}
 use Rattle.script_core.specs.Arguments.{Argument, DescriptorNumber, AnyNumber, UnsignedNumber, ModeWord, ErrorWord, Spells, AreRefused, Command}
 use Rattle.script_core.specs.Reading.{RequestGives}
-use Rattle.script_core.specs.EntryReading.{entry_limit, pieces_of, IsTag, TagGives, RequestIsTaken, TakenGives, IsWritableReply, IsReply, reply_named, ReplyWordsGive, ReplyGives, WaitGives, ToldGives, NoteGives, NotesGive, EventGives, PiecesGive, HasOneEntry, BeginWithNote}
+use Rattle.script_core.specs.EntryReading.{pieces_of, IsTag, TagGives, RequestIsTaken, TakenGives, IsWritableReply, IsReply, reply_named, ReplyWordsGive, ReplyGives, WaitGives, ToldGives, NoteGives, NotesGive, EventGives, PiecesGive, HasOneEntry, BeginWithNote}
 use Rattle.script_core.proofs.NumberLemmas.{digits_value-spelled, number_in-spelled}
 use Rattle.script_core.proofs.ReadingLemmas.{MatchBool-unique, same_value, small_process, natural_at, number_at, AllSpell, not_bad, AreRefused-unique, RequestGives-unique}
 
@@ -58,9 +57,7 @@ split_pieces text (Some x) split =
 
 -- a number has no `#`
 pub plain_number : (n : ℕ) → n < 2 ^ 64 → Lacks 35 (decimal n)
-plain_number n small i within e =
-    let digit : IsInRange 48 57 (get_or (decimal n) i 0) = digit_at (decimal n) i (decimal_is_IsNumeral n small).0.1 within in
-    omega (arith, e)
+plain_number n small i within e = search (rules, digit_at, decimal_is_IsNumeral)
 
 pub tag_is : (p n : ℕ) → tag p n ≡ decimal p ++ 35 ∷ decimal n
 tag_is p n = append_assoc (decimal p) (codes "#") (decimal n)
@@ -87,10 +84,7 @@ IsTag-unique limits word a b first second =
     (λ i. (process i, number i))
 
 TagGives-unique : (limits : Limits) (word : List ℕ) (a b : Result (ℕ × ℕ) Cause) → TagGives limits word a → TagGives limits word b → a ≡ b
-TagGives-unique limits word (Ok a) (Ok b) first second = ap Ok (IsTag-unique limits word a b first second)
-TagGives-unique limits word (Ok a) (Err cause) first second = absurd (second.0 a.0 a.1 first)
-TagGives-unique limits word (Err cause) (Ok b) first second = absurd (first.0 b.0 b.1 second)
-TagGives-unique limits word (Err cause) (Err other) first second = ap Err (first.1 ∙ sym second.1)
+TagGives-unique limits word a b h h2 = search (rules, IsTag-unique)
 
 RequestIsTaken-unique : (p n : ℕ) (next : Result Request Cause) (a b : Result Taken Cause) → RequestIsTaken p n next a → RequestIsTaken p n next b → a ≡ b
 RequestIsTaken-unique p n (Ok request) a b first second = first ∙ sym second
@@ -103,16 +97,10 @@ TaggedGives limits rest tagged result =
 
 TaggedGives-unique : (limits : Limits) (rest : List (List ℕ)) (tagged : Result (ℕ × ℕ) Cause) (a b : Result Taken Cause)
     → TaggedGives limits rest tagged a → TaggedGives limits rest tagged b → a ≡ b
-TaggedGives-unique limits rest (Ok pair) a b first second =
-    let next : first.0 ≡ second.0 = RequestGives-unique limits rest first.0 second.0 first.1 second.1 in
-    RequestIsTaken-unique pair.0 pair.1 second.0 a b (subst (λ next. RequestIsTaken pair.0 pair.1 next a) next first.2) second.2
-TaggedGives-unique limits rest (Err cause) a b first second = first ∙ sym second
+TaggedGives-unique limits rest tagged a b h h2 = search (rules, RequestGives-unique, RequestIsTaken-unique)
 
 TakenGives-unique : (limits : Limits) (words : List (List ℕ)) (a b : Result Taken Cause) → TakenGives limits words a → TakenGives limits words b → a ≡ b
-TakenGives-unique limits [] a b first second = same_value (Err Count) a b first second
-TakenGives-unique limits (word ∷ rest) a b first second =
-    let tagged : first.0 ≡ second.0 = TagGives-unique limits word first.0 second.0 first.1 second.1 in
-    TaggedGives-unique limits rest second.0 a b (subst (λ tagged. TaggedGives limits rest tagged a) tagged first.2) second.2
+TakenGives-unique limits words a b h h2 = search (rules, same_value, TagGives-unique, TaggedGives-unique)
 
 -- the word of a mode or the name of an error, read back
 mode_in : List ℕ → Mode
@@ -144,23 +132,11 @@ mode_in-word modes.Write = refl
 
 error_read : (error : Errno) → reply_in (error_name error ∷ []) ≡ replies.Err error
 unfolding reply_in error_in
-error_read EBADF = refl
-error_read EINVAL = refl
-error_read EOVERFLOW = refl
-error_read EAGAIN = refl
-error_read EDEADLK = refl
-error_read EINTR = refl
-error_read EMFILE = refl
-error_read ESRCH = refl
+error_read error = search (rules)
 
 reply_read : (reply : Reply) → IsWritableReply reply → reply_in (reply_words reply) ≡ reply
 unfolding reply_in natural_at number_at
-reply_read replies.Ok writable = refl
-reply_read (replies.Fd fd) writable = ap replies.Fd (digits_value-spelled fd (omega (arith, writable)))
-reply_read replies.Free writable = refl
-reply_read (replies.Held mode start len pid) writable =
-    (λ i. replies.Held (mode_in-word mode i) (digits_value-spelled start writable.0 i) (digits_value-spelled len writable.1 i) (number_in-spelled pid writable.2 i))
-reply_read (replies.Err error) writable = error_read error
+reply_read reply h = search (rules, digits_value-spelled, mode_in-word, number_in-spelled, error_read)
 
 IsReply-unique : (words : List (List ℕ)) (a b : Reply) → IsReply words a → IsReply words b → a ≡ b
 IsReply-unique words a b first second =
@@ -179,33 +155,16 @@ abbrev AreExpected : Option Command → List Argument → Type 0
 AreExpected found arguments = MatchOption found (arguments ≡ []) (λ form. arguments ≡ form.required)
 
 error_unnamed : (error : Errno) → reply_named (error_name error) ≡ None
-error_unnamed EBADF = refl
-error_unnamed EINVAL = refl
-error_unnamed EOVERFLOW = refl
-error_unnamed EAGAIN = refl
-error_unnamed EDEADLK = refl
-error_unnamed EINTR = refl
-error_unnamed EMFILE = refl
-error_unnamed ESRCH = refl
+error_unnamed error = search (rules)
 
 reply_expected : (reply : Reply) → AreExpected (reply_named (get_or (reply_words reply) 0 [])) (reply_arguments reply)
 unfolding reply_arguments
-reply_expected replies.Ok = refl
-reply_expected (replies.Fd fd) = refl
-reply_expected replies.Free = refl
-reply_expected (replies.Held mode start len pid) = refl
-reply_expected (replies.Err error) = rw (error_unnamed error) refl
+reply_expected reply = search (rules, error_unnamed)
 
 -- the words of a reply aren't refused
 reply_spelled : (reply : Reply) → IsWritableReply reply → (cause : Cause) → AreRefused (reply_arguments reply) (drop 1 (reply_words reply)) cause → ⊥
 unfolding reply_arguments AllSpell
-reply_spelled replies.Ok writable cause refused = refused
-reply_spelled (replies.Fd fd) writable cause refused = not_bad (DescriptorNumber ∷ []) (decimal fd ∷ []) cause ((fd, writable, refl), tt) refused
-reply_spelled replies.Free writable cause refused = refused
-reply_spelled (replies.Held mode start len pid) writable cause refused =
-    not_bad (ModeWord ∷ UnsignedNumber ∷ UnsignedNumber ∷ AnyNumber ∷ []) (drop 1 (reply_words (replies.Held mode start len pid))) cause
-    ((mode, refl), ((start, writable.0, refl), ((len, writable.1, refl), ((pid, writable.2, refl), tt)))) refused
-reply_spelled (replies.Err error) writable cause refused = refused
+reply_spelled reply h cause h2 = search (rules, not_bad)
 
 not_refused : (expected : List Argument) (name : List ℕ) (arguments : List (List ℕ)) (reply : Reply) (cause : Cause) → reply_arguments reply ≡ expected
     → IsReply (name ∷ arguments) reply → AreRefused expected arguments cause → ⊥
@@ -265,9 +224,7 @@ RepliedGives p n name arguments result = (next : Result Reply Cause) × ReplyGiv
 
 RepliedGives-unique : (p n : ℕ) (name : List ℕ) (arguments : List (List ℕ)) (a b : Result Note Cause)
     → RepliedGives p n name arguments a → RepliedGives p n name arguments b → a ≡ b
-RepliedGives-unique p n name arguments a b first second =
-    let next : first.0 ≡ second.0 = FoundGives-unique name arguments (reply_named name) refl first.0 second.0 first.1 second.1 in
-    AnswerGives-unique p n second.0 a b (subst (λ next. AnswerGives p n next a) next first.2) second.2
+RepliedGives-unique p n name arguments a b first second = search (rules, FoundGives-unique, AnswerGives-unique)
 
 ToldGives-unique : (p n : ℕ) (words : List (List ℕ)) (a b : Result Note Cause) → ToldGives p n words a → ToldGives p n words b → a ≡ b
 ToldGives-unique p n [] a b first second = same_value (Err Count) a b first second
@@ -285,10 +242,7 @@ TaggedTells-unique rest (Ok pair) a b first second = ToldGives-unique pair.0 pai
 TaggedTells-unique rest (Err cause) a b first second = first ∙ sym second
 
 NoteGives-unique : (limits : Limits) (words : List (List ℕ)) (a b : Result Note Cause) → NoteGives limits words a → NoteGives limits words b → a ≡ b
-NoteGives-unique limits [] a b first second = same_value (Err Count) a b first second
-NoteGives-unique limits (word ∷ rest) a b first second =
-    let tagged : first.0 ≡ second.0 = TagGives-unique limits word first.0 second.0 first.1 second.1 in
-    TaggedTells-unique rest second.0 a b (subst (λ tagged. TaggedTells rest tagged a) tagged first.2) second.2
+NoteGives-unique limits words a b h h2 = search (rules, same_value, TagGives-unique, TaggedTells-unique)
 
 -- the pieces behind one that gives this
 abbrev LaterNotesGive : Limits → List Note → List (List ℕ) → Result Note Cause → Result (List Note) Cause → Type 0
@@ -319,24 +273,14 @@ BehindGives limits pieces next result =
 
 BehindGives-unique : (limits : Limits) (pieces : List (List ℕ)) (next : Result Taken Cause) (a b : Result Event Cause)
     → BehindGives limits pieces next a → BehindGives limits pieces next b → a ≡ b
-BehindGives-unique limits pieces (Ok taken) a b first second =
-    let notes : first.0 ≡ second.0 = NotesGive-unique limits [] pieces first.0 second.0 first.1 second.1 in
-    EventGives-unique taken second.0 a b (subst (λ notes. EventGives taken notes a) notes first.2) second.2
-BehindGives-unique limits pieces (Err cause) a b first second = first ∙ sym second
+BehindGives-unique limits pieces next a b h h2 = search (rules, NotesGive-unique, EventGives-unique)
 
 pub PiecesGive-unique : (limits : Limits) (pieces : List (List ℕ)) (a b : Result Event Cause) → PiecesGive limits pieces a → PiecesGive limits pieces b → a ≡ b
-PiecesGive-unique limits [] a b first second = same_value (Err Count) a b first second
-PiecesGive-unique limits (piece ∷ pieces) a b first second =
-    let next : first.0 ≡ second.0 = TakenGives-unique limits (words_of piece) first.0 second.0 first.1 second.1 in
-    BehindGives-unique limits pieces second.0 a b (subst (λ next. BehindGives limits pieces next a) next first.2) second.2
+PiecesGive-unique limits pieces a b h h2 = search (rules, same_value, TakenGives-unique, BehindGives-unique)
 
 -- two readings of the same line are equal
 pub one_entry : (limits : Limits) (line : List ℕ) → HasOneEntry limits line
-one_entry limits line = λ a b first second.
-    MatchBool-unique (λ result. result ≡ Err TooLong) (λ result. MatchBool (is_printable line) (PiecesGive limits (pieces_of line) result) (result ≡ Err Byte)) (nat_lt entry_limit (length line))
-    (same_value (Err TooLong))
-    (MatchBool-unique (PiecesGive limits (pieces_of line)) (λ result. result ≡ Err Byte) (is_printable line) (PiecesGive-unique limits (pieces_of line)) (same_value (Err Byte)))
-    a b first second
+one_entry limits line = search (rules, MatchBool-unique, same_value, PiecesGive-unique)
 
 -- behind notes that were read, the later pieces go on
 pub notes_then : (limits : Limits) (start : List Note) (pieces : List (List ℕ)) (notes : List Note) (more : List (List ℕ)) (result : Result (List Note) Cause)
@@ -355,18 +299,13 @@ notes_then limits start (piece ∷ pieces) notes more result read later =
 -- the pieces are those that were read, the one at hand and the later ones
 pub cut_at_piece : (all read : List (List ℕ)) (count : ℕ) (piece : List ℕ) → read ≡ take count all → count < length all → piece ≡ get_or all count piece
     → all ≡ read ++ piece ∷ drop (count + 1) all
-cut_at_piece all read count piece was within at =
-    let later : drop count all ≡ piece ∷ drop (count + 1) all =
-    rw add-one (drop-cons all count piece within ∙ ap (λ first. first ∷ drop (suc count) all) (sym at)) in
-    sym (take-append-drop count all) ∙ (λ i. sym was i ++ later i)
+cut_at_piece all read count piece h h2 h3 = search (rules, add-one, drop-cons, take-append-drop)
 
 -- the piece at hand is a note, so the pieces so far are notes
 pub notes_one : (limits : Limits) (read : List (Bor (List ℕ))) (piece : Bor (List ℕ)) (notes items : List Note) (note : Note) → items ≡ notes ++ note ∷ []
     → NotesGive limits [] (texts read) (Ok notes) → NoteGives limits (words_of piece.now) (Ok note)
     → NotesGive limits [] (texts (read ++ piece ∷ [])) (Ok items)
-notes_one limits read piece notes items note are given one =
-    rw (map-append (λ (word : Bor (List ℕ)). word.now) read (piece ∷ []))
-    (notes_then limits [] (texts read) notes (piece.now ∷ []) (Ok items) given (Ok note, one, ap Ok are))
+notes_one limits read piece notes items note are given one = search (rules, map-append, notes_then)
 
 -- the piece at hand is none, so its fault is that of all pieces
 pub notes_fault : (limits : Limits) (all : List (List ℕ)) (read : List (Bor (List ℕ))) (piece : Bor (List ℕ)) (notes : List Note) (cause : Cause)
@@ -392,6 +331,4 @@ notes_begin limits start (piece ∷ pieces) notes more read later = begin read.0
 pub notes_wanted : (limits : Limits) (all : List (List ℕ)) (read : List (Bor (List ℕ))) (piece : Bor (List ℕ)) (notes : List Note) (note : Note)
     → texts read ≡ take (length read) all → (length read < length all) × (piece.now ≡ get_or all (length read) piece.now)
     → NotesGive limits [] (texts read) (Ok notes) → NoteGives limits (words_of piece.now) (Ok note) → BeginWithNote limits all
-notes_wanted limits all read piece notes note so_far turn given one =
-    subst (BeginWithNote limits) (sym (cut_at_piece all (texts read) (length read) piece.now so_far turn.0 turn.1))
-    (notes_begin limits [] (texts read) notes (piece.now ∷ drop (length read + 1) all) given (note, one))
+notes_wanted limits all read piece notes note so_far turn given one = search (rules, cut_at_piece, notes_begin)

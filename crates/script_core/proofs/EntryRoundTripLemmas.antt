@@ -1,6 +1,7 @@
--- The line that is written of an entry is read as that entry.
+-- The line that is written of an entry is read as that entry: for `write_entry`.
+use Rattle.std.proofs.lemmas.List.Elements.{All-head, All-tail}
 use Rattle.std.proofs.lemmas.Grind.{common_steps}
-use Rattle.std.proofs.Common.{◌≡◌, ℕ, suc, ◌*◌, ◌^◌, ◌<◌, ◌≤◌, ◌==◌, ◌&&◌, nat_le, true, false, not, List, [], ◌∷◌, ◌++◌, length, filter, flat_map, codes, decimal, Ok, inr, refl, sym, ap, ◌∙◌, subst, arith, lit<, lit≤, length-append, append_assoc, append-nil, tests}
+use Rattle.std.proofs.Common.{◌≡◌, ℕ, ◌*◌, ◌^◌, ◌<◌, ◌≤◌, ◌==◌, ◌&&◌, nat_le, true, false, not, List, [], ◌∷◌, ◌++◌, length, filter, flat_map, codes, decimal, Ok, inr, refl, sym, ap, ◌∙◌, subst, arith, lit<, lit≤, length-append, append_assoc, append-nil, tests}
 use Rattle.std.specs.Prelude.{All, bytes_eq}
 use Rattle.std.specs.List.{slice_split, join_with_byte, list_all}
 use Rattle.std.proofs.lemmas.Fmt.{length-decimal-le}
@@ -236,12 +237,6 @@ bar_text : (bytes : List ℕ) (note : Note) (rest : List ℕ) → bytes ++ (note
 bar_text bytes note rest =
     ap (λ (t : List ℕ). bytes ++ (t ++ rest)) (text_of_note note) ∙ sym (append_assoc bytes (32 ∷ []) (124 ∷ ((32 ∷ note_body note) ++ rest)))
 
-pub all_first : {X : Type 0} (P : X → Type 0) (x : X) (xs : List X) → All P (x ∷ xs) → P x
-all_first P x xs all = all 0 x (omega arith)
-
-pub all_later : {X : Type 0} (P : X → Type 0) (x : X) (xs : List X) → All P (x ∷ xs) → All P xs
-all_later P x xs all k d within = all (suc k) d (omega (arith, within))
-
 -- the text of further notes is read as these
 notes_give : (limits : Limits) (before : List Note) (note : Note) (rest : List Note) → IsWritableNote limits note → All (IsWritableNote limits) rest
     → NotesGive limits before (pieces_of ((32 ∷ note_body note) ++ flat_map note_text rest)) (Ok (before ++ note ∷ rest))
@@ -255,7 +250,7 @@ notes_give limits before note (next ∷ rest) writable all =
     let later = (32 ∷ note_body next) ++ flat_map note_text rest in
     let pieces : pieces_of ((32 ∷ note_body note) ++ flat_map note_text (next ∷ rest)) ≡ ((32 ∷ note_body note) ++ 32 ∷ []) ∷ pieces_of later =
     ap pieces_of (bar_text (32 ∷ note_body note) next (flat_map note_text rest)) ∙ piece_then ((32 ∷ note_body note) ++ 32 ∷ []) later spoken in
-    let others = notes_give limits (before ++ note ∷ []) next rest (all_first (IsWritableNote limits) next rest all) (all_later (IsWritableNote limits) next rest all) in
+    let others = notes_give limits (before ++ note ∷ []) next rest (All-head (IsWritableNote limits) next rest all) (All-tail (IsWritableNote limits) next rest all) in
     subst (λ (ps : List (List ℕ)). NotesGive limits before ps (Ok (before ++ note ∷ next ∷ rest))) (sym pieces) (
       Ok note,
       subst (λ (words : List (List ℕ)). NoteGives limits words (Ok note)) (sym (words_of_middle limits note writable)) (note_gives limits note writable),
@@ -266,14 +261,14 @@ printable_notes : (limits : Limits) (notes : List Note) → All (IsWritableNote 
 printable_notes limits [] all = refl
 printable_notes limits (note ∷ rest) all =
     rw (text_of_note note)
-    (printable_then (note_body note) (flat_map note_text rest) (AreSpoken-note limits note (all_first (IsWritableNote limits) note rest all))
-    (printable_notes limits rest (all_later (IsWritableNote limits) note rest all)))
+    (printable_then (note_body note) (flat_map note_text rest) (AreSpoken-note limits note (All-head (IsWritableNote limits) note rest all))
+    (printable_notes limits rest (All-tail (IsWritableNote limits) note rest all)))
 
 pub length-notes : (limits : Limits) (notes : List Note) → All (IsWritableNote limits) notes → length (flat_map note_text notes) ≤ 96 * length notes
 length-notes limits [] all = lit≤ tt
 length-notes limits (note ∷ rest) all =
-    let body = length-note limits note (all_first (IsWritableNote limits) note rest all) in
-    let later = length-notes limits rest (all_later (IsWritableNote limits) note rest all) in
+    let body = length-note limits note (All-head (IsWritableNote limits) note rest all) in
+    let later = length-notes limits rest (All-tail (IsWritableNote limits) note rest all) in
     let text = ap length (text_of_note note) in
     omega (arith, body, later, text, length-append (note_text note) (flat_map note_text rest))
 
@@ -309,7 +304,7 @@ pieces_give limits event (note ∷ rest) process number request all =
     subst (λ (ps : List (List ℕ)). PiecesGive limits ps (Ok (record event { notes = note ∷ rest }))) (sym pieces) (
       Ok (record { p = event.p; n = event.n; request = event.request }),
       taken_gives limits event (words_of (first ++ 32 ∷ [])) (words_end word words are) process number request,
-      (Ok (note ∷ rest), notes_give limits [] note rest (all_first (IsWritableNote limits) note rest all) (all_later (IsWritableNote limits) note rest all), refl),
+      (Ok (note ∷ rest), notes_give limits [] note rest (All-head (IsWritableNote limits) note rest all) (All-tail (IsWritableNote limits) note rest all), refl),
     )
 
 -- the line that is written of an event is read as it

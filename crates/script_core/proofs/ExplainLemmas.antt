@@ -40,7 +40,8 @@ use Rattle.script_core.specs.Deadlocks.{TellsCycleIfAny}
 use Rattle.script_core.specs.Explaining.{comment, is_deadlock, obstacle_line, deadlock_line, TellsDeadlock, IsCycleOf, word_of_loss, loss_lines, StandsInTheWay, Explains, ExplainsRun, more_text, never_born_line, unborn_line, unborn_lines}
 use Rattle.script_core.proofs.TextLemmas.{kept_behind}
 use Rattle.script_core.proofs.DeadlockLocksLemmas.{told_of_state, none_of_state}
-use Rattle.script_core.proofs.DeadlockStepLemmas.{HasClosed, step_closes, settled_then, opening_settled}
+use Rattle.script_core.proofs.DeadlockStepLemmas.{HasClosed, step_closes, opening_settled}
+use Rattle.script_core.proofs.FitLemmas.{settles_settled}
 use Rattle.script_core.proofs.FilesLemmas.{opening_files, step_files, asks_file}
 
 -- a request asks for one lock
@@ -295,7 +296,7 @@ explained_more states rules processes journal index number manager next old mid 
       last = h.last;
       stands = step.3;
       within = step_files rules processes h.state event.p event.n event.request event.notes step.0 step.1 h.within;
-      settled = settled_then rules.policy step.1.outcome.after step.1.grants step.0 step.1.settles;
+      settled = settles_settled rules.policy step.1.outcome.after step.1.grants step.0 step.1.settles;
       leads = subst (λ (l : List Event). Leads rules processes step.0 l h.last) (ap (λ (k : ℕ). drop k journal) (sym (add-one index))) step.2;
       more = h.more ++ piece;
       explains = subst (λ (l : List Event). ExplainsRun states rules processes 1 opening_state l step.0 (h.more ++ piece)) (sym front)

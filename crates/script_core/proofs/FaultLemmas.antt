@@ -1,4 +1,5 @@
--- The words of a line, and of the pieces of an entry's line, are never refused for want of memory.
+-- The words of a line, and of the pieces of an entry's line, are never refused for want of memory: for `Reader::parse_line`, `read_notes` and
+-- `read_pieces`.
 use Rattle.std.proofs.Common.{arith, ◌≡◌, ℕ, ◌==◌, ◌∙◌, sym, subst, inl, inr, List, [], ◌∷◌, length, Option, Some, None, Result, Ok, Err, IfErr, MatchOption, MatchResult, ◌⊎◌}
 use Rattle.std.proofs.lemmas.Grind.{common_steps}
 use Rattle.fd_table.specs.declared.Limits.{Limits}

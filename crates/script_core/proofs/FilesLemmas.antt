@@ -1,8 +1,8 @@
 -- Each description and each wait is of one of the files, and each step keeps that: for `write_explained`, clause `ok`.
+use Rattle.std.proofs.lemmas.List.Elements.{All-head, All-tail, All-cons, All-append, All-set, All-filter}
 use Rattle.std.proofs.lemmas.Grind.{common_steps}
-use Rattle.std.proofs.Common.{rules, ℕ, zero, suc, ◌≡◌, ◌==◌, ◌<◌, inl, inr, ◌||◌, not, Bool, Option, Some, Result, List, [], ◌∷◌, ◌++◌, All, length, sym, subst, arith}
+use Rattle.std.proofs.Common.{rules, ℕ, zero, suc, ◌≡◌, ◌==◌, ◌<◌, inl, inr, ◌||◌, not, Bool, Option, Some, Result, List, [], ◌∷◌, ◌++◌, All, sym, subst, arith}
 use Rattle.std.specs.Prelude.{pred, slice_get}
-use Rattle.std.proofs.lemmas.List.Elements.{All-append, All-set, All-filter}
 use Rattle.std.proofs.lemmas.Option.{get_or_from_slice_get, slice_get_within}
 use Rattle.range_core.specs.declared.Mode.{Mode}
 use Rattle.range_core.specs.Resolving.{resolution}
@@ -35,7 +35,8 @@ use Rattle.lock_manager.specs.ProcessCalls.{EndComesTo, SignalComesTo, KillOther
 use Rattle.lock_manager.specs.Asking.{AsksFor}
 use Rattle.lock_manager.specs.Step.{ComesTo, Step}
 use Rattle.script_core.specs.Files.{IsWithinFiles}
-use Rattle.script_core.proofs.DeadlockStepLemmas.{if_bool, if_option, if_result}
+use Rattle.script_core.proofs.DeadlockStepLemmas.{if_option, if_result}
+use Rattle.script_core.proofs.OutcomeFitLemmas.{by_bool}
 
 abbrev InFiles : List OpenFileDescription → Type 0
 InFiles descriptions = All (λ opened. opened.file < FILES) descriptions
@@ -48,20 +49,10 @@ all_one : {X : Type 0} (P : X → Type 0) (x : X) → P x → All P (x ∷ [])
 all_one P x holds zero d within = holds
 all_one P x holds (suc k) d within = absurd (omega (arith, within))
 
-all_after : {X : Type 0} (P : X → Type 0) (x : X) (xs : List X) → All P (x ∷ xs) → All P xs
-all_after P x xs h k d within = h (suc k) d (omega (arith, within))
-
-all_cons : {X : Type 0} (P : X → Type 0) (x : X) (xs : List X) → P x → All P xs → All P (x ∷ xs)
-all_cons P x xs holds h zero d within = holds
-all_cons P x xs holds h (suc k) d within = h k d (omega (arith, within))
-
-all_first : {X : Type 0} (P : X → Type 0) (x : X) (xs : List X) → All P (x ∷ xs) → P x
-all_first P x xs h = h 0 x (let n = length xs in omega arith)
-
 all_without : {X : Type 0} (P : X → Type 0) (before : List X) (x : X) (after : List X) → All P (before ++ x ∷ after) → All P (before ++ after)
-all_without P [] x after h = all_after P x after h
+all_without P [] x after h = All-tail P x after h
 all_without P (y ∷ before) x after h =
-    all_cons P y (before ++ after) (all_first P y (before ++ x ∷ after) h) (all_without P before x after (all_after P y (before ++ x ∷ after) h))
+    All-cons P y (before ++ after) (All-head P y (before ++ x ∷ after) h) (all_without P before x after (All-tail P y (before ++ x ∷ after) h))
 
 all_at : {X : Type 0} (P : X → Type 0) (xs : List X) (k : ℕ) (x : X) → All P xs → slice_get xs k ≡ Some x → P x
 all_at P xs k x h is = subst P (get_or_from_slice_get xs k x x is) (h k x (slice_get_within xs k x is))
@@ -109,11 +100,7 @@ same_files : (new old : Descriptors) → SameDescriptors new old → InFiles old
 same_files new old same files = subst InFiles (sym same.descriptions) files
 
 end_leaves : (S : State) (p : ℕ) (told : List Note) (outcome : Outcome) → EndComesTo S p told outcome → IsWithinFiles S → IsWithinFiles outcome.after
-end_leaves S p told outcome (released, descriptors, gives, is) within =
-    leaves outcome _ is (record {
-      descriptions = same_files descriptors _ gives.0 within.descriptions;
-      waits = All-filter (λ (wait : Wait). not (wait.p == p)) WaitInFiles S.waits within.waits;
-    })
+end_leaves S p told outcome h h2 = search (rules, leaves, same_files, All-filter)
 
 signal_leaves : (S : State) (p n target : ℕ) (state : ProcState) (outcome : Outcome) → SignalComesTo S p n target state outcome → IsWithinFiles S
     → IsWithinFiles outcome.after
@@ -146,7 +133,7 @@ test_leaves rules S nb wanted grants outcome h h2 h3 = grind (arith, common_step
 mode_leaves : (rules : Rules) (S : State) (look : Look) (nb : Bool) (wanted : Wait) (held : Option Mode) (outcome : Outcome)
     → FlockModeComesTo rules S look nb wanted held outcome
     → wanted.file < FILES → IsWithinFiles S → IsWithinFiles outcome.after
-mode_leaves rules S look nb wanted held outcome h h2 h3 = grind (arith, common_steps, test_leaves, if_bool, leaves, settles_within)
+mode_leaves rules S look nb wanted held outcome h h2 h3 = grind (arith, common_steps, test_leaves, by_bool, leaves, settles_within)
 
 op_leaves : (rules : Rules) (S : State) (p n : ℕ) (look : Look) (op : FlockOp) (nb : Bool) (outcome : Outcome) → FlockOpComesTo rules S p n look op nb outcome
     → look.file < FILES → IsWithinFiles S → IsWithinFiles outcome.after
@@ -166,11 +153,11 @@ described_leaves : (rules : Rules) (S : State) (p n : ℕ) (cmd : LkCmd) (lock :
     → DescribedComesTo rules S p n cmd lock look outcome
     → look.file < FILES → IsWithinFiles S → IsWithinFiles outcome.after
 described_leaves rules S p n cmd lock look outcome h low within =
-    if_bool (is_bad_argument cmd lock) _ _ (IsWithinFiles outcome.after) h (λ bad. leaves outcome _ bad within)
+    by_bool (is_bad_argument cmd lock) h (λ bad. leaves outcome _ bad within)
     (λ good. if_result (resolution lock.whence lock.start lock.len look.offset look.size) _ _ (IsWithinFiles outcome.after) good
     (λ span resolved ranged. if_option (wanted_mode lock.kind) _ _ (IsWithinFiles outcome.after) ranged
     (λ unlocked. leaves outcome _ unlocked (record { descriptions = within.descriptions; waits = within.waits }))
-    (λ mode kind wants. if_bool (is_get cmd || permits look.access mode) _ _ (IsWithinFiles outcome.after) wants
+    (λ mode kind wants. by_bool (is_get cmd || permits look.access mode) wants
     (λ command. command_leaves rules S cmd (wanted_lock cmd p n look span mode) outcome command low within) (λ denied. leaves outcome _ denied within)))
     (λ fault no_range. leaves outcome _ no_range within))
 
@@ -195,7 +182,7 @@ outcome_leaves rules processes S p n (DupTo fd to) outcome (result, descriptors,
     (λ answer was is.
     let given = subst (λ (r : Result (ℕ × Released) FdFault). DupToGives rules.limits S.descriptors p fd to r descriptors) was gives in
     let files : InFiles descriptors.descriptions =
-    if_bool (to == fd) _ _ (InFiles descriptors.descriptions) given.4 (λ still. same_files descriptors _ still.1 within.descriptions)
+    by_bool (to == fd) given.4 (λ still. same_files descriptors _ still.1 within.descriptions)
     (λ moved. same_files descriptors _ moved.0 within.descriptions) in
     leaves outcome _ is (record { descriptions = files; waits = within.waits }))
     (λ fault refused. refusal_leaves S p n fault outcome refused within)
@@ -236,7 +223,7 @@ outcome_leaves rules processes S p n (Flock fd op nb) outcome h within =
 outcome_leaves rules processes S p n Exit outcome h within = end_leaves S p [] outcome h within
 outcome_leaves rules processes S p n (Signal target) outcome h within = signal_leaves S p n target (S.states target) outcome h within
 outcome_leaves rules processes S p n (Kill target) outcome h within =
-    if_bool (target == p) _ _ (IsWithinFiles outcome.after) h (λ own. end_leaves S p [] outcome own within)
+    by_bool (target == p) h (λ own. end_leaves S p [] outcome own within)
     (λ others. kill_leaves S p n target (S.states target) outcome others within)
 
 -- each step keeps it

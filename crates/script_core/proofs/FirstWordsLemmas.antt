@@ -1,4 +1,4 @@
--- A line's first words: what they say, the whole line says.
+-- A line's first words: what they say, the whole line says; for `Reader::parse_text`.
 use Rattle.std.proofs.lemmas.Grind.{common_steps}
 use Rattle.std.proofs.Common.{◌≡◌, ℕ, ◌+◌, ◌<◌, ◌≤◌, Bool, true, false, Option, Some, IfSome, MatchOption, Result, Err, List, [], ◌∷◌, length, take, find, refl, ap, subst, inl, inr, arith, ne_eqb, ⊎_elim, MatchBool}
 use Rattle.std.specs.Prelude.{if◌then◌else◌, bytes_eq}

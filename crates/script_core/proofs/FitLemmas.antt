@@ -1,6 +1,7 @@
--- What a request comes to has numbers that a line may have: its notes, and the waits and locks that it leaves; and the notes are few.
+-- What a request comes to has numbers that a line may have: its notes, and the waits and locks that it leaves; and the notes are few; for
+-- `deadlock_of`, `outputs_are_legal`, `push_all_unborn` and others.
+use Rattle.std.proofs.Common.{rules, ◌≡◌, ◌≢◌, ℕ, zero, suc, pred, slice_get, ◌+◌, ◌^◌, ◌<◌, ◌≤◌, ◌==◌, ◌||◌, true, false, List, [], ◌∷◌, ◌++◌, length, length-append, map, filter_map, Option, Some, None, option_map, ⊎_elim, refl, sym, ap, ◌∙◌, subst, arith, eq-eqb, ne_eqb, append_assoc, append-nil}
 use Rattle.std.proofs.lemmas.Grind.{common_steps}
-use Rattle.std.proofs.Common.{◌≡◌, ◌≢◌, ℕ, zero, suc, pred, slice_get, ◌+◌, ◌^◌, ◌<◌, ◌≤◌, ◌==◌, ◌||◌, true, false, List, [], ◌∷◌, ◌++◌, length, length-append, map, filter_map, Option, Some, None, option_map, ⊎_elim, refl, sym, ap, ◌∙◌, subst, arith, eq-eqb, ne_eqb, append_assoc, append-nil}
 use Rattle.std.specs.Prelude.{⊤, IfSome, slice_set, option_and_then}
 use Rattle.std.specs.List.{AllByRecursion as Each, IsDistinct, list_any, cons_option}
 use Rattle.std.proofs.lemmas.Bool.{cases_eq}
@@ -305,24 +306,7 @@ moved_file old new number offset x h h2 h3 = grind (arith, common_steps, length_
 -- a wait leaves the list, and its process lives
 granted_fits : (limits : Limits) (S : State) (before : List Wait) (wait : Wait) (after : List Wait) → S.waits ≡ before ++ wait ∷ after → Fits limits S
     → Fits limits (granted S before wait after)
-granted_fits limits S before wait after place fits =
-    let all = each_middle (FitsWait limits S.states) before wait after (subst (λ (l : List Wait). Each (FitsWait limits S.states) l) place fits.waits) in
-    let apart = apart_middle before wait after (subst AreApart place fits.apart) in
-    let locked = same_locked S wait in
-    let states : (with_lock S wait).states ≡ S.states = locked.states in
-    let set = lock_locks S wait all.0.wanted fits.locks in
-    let locks_kept : FitsLocks (granted S before wait after) = record { changes = set.changes; flocks = set.flocks; files = set.files } in
-    record {
-      locks = locks_kept;
-      waits = each_both (λ (other : Wait). other.p ≢ wait.p) (FitsWait limits S.states) (FitsWait limits (granted S before wait after).states) (before ++ after)
-          (λ other differs is. still_waits limits S.states (granted S before wait after).states other is
-          (rw (ne_eqb other.p wait.p differs) (ap (λ (states : ℕ → ProcState). states other.p) states ∙ is.waiting))) apart.1 all.1;
-      apart = apart.0;
-      born = λ p there. ⊎_elim
-          (λ same. locked.alive p ∙ fits.born p (λ e. let bad : Waiting ≡ Unborn = sym all.0.waiting ∙ ap S.states (sym same) ∙ e in cc))
-          (λ differs. locked.alive p ∙ fits.born p (λ e. there (rw (ne_eqb p wait.p differs) (ap (λ (states : ℕ → ProcState). states p) states ∙ e))))
-          (cases_eq p wait.p);
-    }
+granted_fits limits S before wait after place fits = search (rules, each_middle, apart_middle, same_locked, lock_locks, each_both, still_waits, cases_eq)
 
 -- the waits that settling grants leave the list, and what it tells can be written
 pub record SettlesFit (limits : Limits) (S : State) (grants : List Note) (T : State) : Type 0 where
@@ -360,7 +344,7 @@ pub settles_settled : (policy : Policy) (S : State) (grants : List Note) (T : St
 settles_settled policy S [] T settles = subst (IsSettled policy) (sym settles.1) settles.0
 settles_settled policy S (grant ∷ grants) T (before, wait, after, next, is, rest) = settles_settled policy (granted S before wait after) grants T rest
 
-blocked_at : (policy : Policy) (locks : Locks) (earlier before : List Wait) (wait : Wait) (after : List Wait)
+pub blocked_at : (policy : Policy) (locks : Locks) (earlier before : List Wait) (wait : Wait) (after : List Wait)
     → AllBlocked policy locks earlier (before ++ wait ∷ after) → IsBlocked policy locks (earlier ++ before) wait
 blocked_at policy locks earlier [] wait after all = subst (λ (l : List Wait). IsBlocked policy locks l wait) (sym (append-nil earlier)) all.0
 blocked_at policy locks earlier (first ∷ before) wait after all =

@@ -1,6 +1,8 @@
--- No process is spelled as the word of a header line, and header lines change nothing else.
+-- No process is spelled as the word of a header line, and header lines change nothing else: for `headers_change_nothing_else`.
+use Rattle.std.proofs.lemmas.Bool.{or_parts}
+use Rattle.script_core.proofs.FirstWordsLemmas.{MatchBool-map}
 use Rattle.std.proofs.lemmas.Grind.{common_steps}
-use Rattle.std.proofs.Common.{◌≡◌, ℕ, ◌+◌, ◌<◌, ◌^◌, ◌⊎◌, ◌||◌, Bool, true, false, List, [], ◌∷◌, ◌++◌, length, get_or, codes, decimal, None, Result, Ok, Err, is_ok, MatchBool, IfSome, slice_get, zero, suc, inl, inr, refl, sym, ap, subst, arith, lit<, nat_lt}
+use Rattle.std.proofs.Common.{◌≡◌, ℕ, ◌+◌, ◌<◌, ◌^◌, ◌⊎◌, Bool, true, false, List, [], ◌∷◌, ◌++◌, length, get_or, codes, decimal, None, Result, Ok, Err, is_ok, MatchBool, IfSome, slice_get, zero, suc, inl, inr, refl, sym, ap, subst, arith, lit<, nat_lt}
 use Rattle.std.specs.Bool.{IsFalse}
 use Rattle.std.specs.Str.{bytes_eq}
 use Rattle.fd_table.specs.declared.Limits.{Limits}
@@ -48,10 +50,6 @@ IsPlain (Ok (lines.Arrival p request)) = Unit {0}
 IsPlain (Err cause) = Unit {0}
 
 -- a choice by a test, each side passed on
-MatchBool-map : (test : Bool) (P Q R S : Type 0) → (P → R) → (Q → S) → MatchBool test P Q → MatchBool test R S
-MatchBool-map true P Q R S f g h = f h
-MatchBool-map false P Q R S f g h = g h
-
 pub MatchBool-join : (test : Bool) (P Q R : Type 0) → (P → R) → (Q → R) → MatchBool test P Q → R
 MatchBool-join true P Q R f g h = f h
 MatchBool-join false P Q R f g h = g h
@@ -81,10 +79,6 @@ plain_line line result gives = grind (arith, common_steps, MatchBool-join, IsPla
 abbrev IsSame : List (List ℕ) → Result Line Cause → Type 0
 IsSame words result = (is_ok result ≡ true) ⊎ IsFalse (is_header words)
 
-neither : (a b : Bool) → (a || b) ≡ false → (a ≡ false) × (b ≡ false)
-neither true b e = absurd (cc)
-neither false b e = (refl, e)
-
 accepted_word : (limits : Limits) (first : List ℕ) (rest : List (List ℕ)) (result : Result Line Cause) → is_ok result ≡ true
     → ProcessGives limits first rest result → IsNoHeaderWord first
 accepted_word limits first rest result ok (inl arrival) =
@@ -94,7 +88,7 @@ accepted_word limits first rest result ok (inr fault) = absurd (let refused : is
 no_header_word : (first : List ℕ) (rest : List (List ℕ)) (result : Result Line Cause) → IsSame (first ∷ rest) result
     → ProcessGives Small first rest result → IsNoHeaderWord first
 no_header_word first rest result (inl ok) gives = accepted_word Small first rest result ok gives
-no_header_word first rest result (inr none) gives = neither (bytes_eq first (codes "policy")) (bytes_eq first (codes "limits")) none
+no_header_word first rest result (inr none) gives = or_parts (bytes_eq first (codes "policy")) (bytes_eq first (codes "limits")) none
 
 words_same : (arrivals : List (ℕ × Request)) (words : List (List ℕ)) (result : Result Line Cause) → IsSame words result → PlainWordsGive words result
     → WordsGive (reading_of arrivals) words result

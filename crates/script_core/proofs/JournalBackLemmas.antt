@@ -1,9 +1,9 @@
--- The texts of events, line by line, are read as a journal of these events.
+-- The texts of events, line by line, are read as a journal of these events: for `journals_are_read_back`.
+use Rattle.std.proofs.lemmas.List.Elements.{All-head, All-tail, filter-append}
 use Rattle.std.proofs.lemmas.Grind.{common_steps}
 use Rattle.std.proofs.Common.{◌≡◌, ℕ, zero, suc, ◌+◌, ◌<◌, ◌≤◌, ◌==◌, false, None, Ok, Err, List, [], ◌∷◌, ◌++◌, length, map, get_or, slice_get, IfSome, flat_map, refl, sym, ap, ◌∙◌, subst, inl, arith, append_assoc, append-nil, ne_eqb}
 use Rattle.std.specs.Prelude.{All, bytes_eq, nat_lt}
 use Rattle.std.specs.List.{slice_split}
-use Rattle.std.proofs.lemmas.List.Elements.{filter-append}
 use Rattle.fd_table.specs.declared.Limits.{Limits}
 use Rattle.lock_manager.specs.declared.request.Rules.{Rules}
 use Rattle.lock_manager.specs.State.{State, opening_state}
@@ -25,7 +25,7 @@ use Rattle.script_core.proofs.ReadingLemmas.{small_process}
 use Rattle.script_core.proofs.FirstWordsLemmas.{MatchBool-map}
 use Rattle.script_core.proofs.ArgumentLemmas.{not_named}
 use Rattle.script_core.proofs.RoundTripLemmas.{IsWord-decimal, slice_split-words, not_empty}
-use Rattle.script_core.proofs.EntryRoundTripLemmas.{IsWord-tag, all_first, all_later, entry_reads_back}
+use Rattle.script_core.proofs.EntryRoundTripLemmas.{IsWord-tag, entry_reads_back}
 
 -- a word that begins with a digit
 record IsDigitWord (word : List ℕ) : Type 0 where
@@ -122,10 +122,10 @@ read_back number reading (event ∷ events) before none writable legal =
     let all : AreLegal reading.place ((reading.entries ++ event ∷ []) ++ events) =
     subst (AreLegal reading.place) (sym (append_assoc reading.entries (event ∷ []) events)) legal in (
       Ok (lines.Entry event),
-      line_of_entry reading.place event (all_first (IsWritableEvent (limits_at reading.place)) event events writable) before,
+      line_of_entry reading.place event (All-head (IsWritableEvent (limits_at reading.place)) event events writable) before,
       inl (
         legal_front reading.place (reading.entries ++ event ∷ []) events all,
-        read_back (number + 1) (reading_behind reading (entry_text event) (lines.Entry event)) events tt none (all_later (IsWritableEvent (limits_at reading.place)) event events writable) all,
+        read_back (number + 1) (reading_behind reading (entry_text event) (lines.Entry event)) events tt none (All-tail (IsWritableEvent (limits_at reading.place)) event events writable) all,
       ),
     )
 
@@ -137,8 +137,8 @@ pub entries_read_back : EntriesAreReadBack
 entries_read_back reading [] before writable = (reading, refl, sym (append-nil reading.entries))
 entries_read_back reading (event ∷ events) before writable =
     let behind = reading_behind reading (entry_text event) (lines.Entry event) in
-    let rest = entries_read_back behind events tt (all_later (IsWritableEvent (limits_at reading.place)) event events writable) in (
+    let rest = entries_read_back behind events tt (All-tail (IsWritableEvent (limits_at reading.place)) event events writable) in (
       rest.0,
-      (lines.Entry event, line_of_entry reading.place event (all_first (IsWritableEvent (limits_at reading.place)) event events writable) before, rest.1),
+      (lines.Entry event, line_of_entry reading.place event (All-head (IsWritableEvent (limits_at reading.place)) event events writable) before, rest.1),
       rest.2 ∙ append_assoc reading.entries (event ∷ []) events,
     )

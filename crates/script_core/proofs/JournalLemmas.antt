@@ -1,7 +1,7 @@
--- The lines of a journal: what their first words say, that each has one meaning, and that a journal has one end.
+-- The lines of a journal: what their first words say, that each has one meaning, and that a journal has one end; for `journals_have_one_end`,
+-- `JournalReader::next` and `Place::parse_head`.
+use Rattle.std.proofs.Common.{rules, ◌≡◌, ℕ, ◌+◌, ◌<◌, true, Option, Some, Result, Ok, Err, List, [], ◌∷◌, length, take, refl, sym, ap, ◌∙◌, subst, inl, inr, arith, MatchResult}
 use Rattle.std.proofs.lemmas.Grind.{common_steps}
-use Rattle.std.proofs.Common.{◌≡◌, ℕ, ◌+◌, ◌<◌, true, Option, Some, None, Result, Ok, Err, List, [], ◌∷◌, length, take, refl, sym, ap, ◌∙◌, subst, inl, inr, arith, MatchResult}
-use Rattle.std.specs.Prelude.{nat_lt}
 use Rattle.std.proofs.lemmas.Bool.{cases_lt}
 use Rattle.std.proofs.lemmas.List.{length-take-le, take_all}
 use Rattle.range_core.specs.Facts.{MatchFact}
@@ -12,13 +12,11 @@ use Rattle.script_core.specs.declared.place.Place.{Place}
 use Rattle.script_core.specs.declared.place.JournalLine.{JournalLine}
 use Rattle.script_core.specs.declared.place.JournalLine.TheVariants as lines
 use Rattle.script_core.specs.declared.script.Cause.{Cause}
-use Rattle.script_core.specs.declared.script.Cause.TheVariants.{Byte, TooLong}
 use Rattle.script_core.specs.HeaderText.{policy_word, limits_word}
-use Rattle.script_core.specs.Words.{words_of, begins_with_hash, is_printable}
+use Rattle.script_core.specs.Words.{words_of, begins_with_hash}
 use Rattle.script_core.specs.Arguments.{Argument, PolicyWord, LimitsWord, Spells}
-use Rattle.script_core.specs.Reading.{is_comment, IsOfScript}
-use Rattle.script_core.specs.EntryReading.{entry_limit, pieces_of}
-use Rattle.script_core.specs.JournalReading.{ValueGives, OtherGives, HeadGives, BodyGives, TextGives, HasOneMeaning, JournalReading, JournalEnd, Faulty, Illegal, Legal, JournalGives, JournalsHaveOneEnd, MayGoOn, MayEnd, reading_behind, limits_at, journal_says_policy, journal_says_limits, is_report_word}
+use Rattle.script_core.specs.Reading.{is_comment}
+use Rattle.script_core.specs.JournalReading.{ValueGives, OtherGives, HeadGives, BodyGives, TextGives, HasOneMeaning, JournalReading, JournalEnd, Faulty, Illegal, Legal, JournalGives, JournalsHaveOneEnd, MayGoOn, MayEnd, reading_behind, journal_says_policy, journal_says_limits, is_report_word}
 use Rattle.script_core.proofs.LineLemmas.{comment_word}
 use Rattle.script_core.proofs.FirstWordsLemmas.{MatchBool-map, many_refused}
 use Rattle.script_core.proofs.ReadingLemmas.{same_value, MatchBool-unique, AreRefused-unique, one_spelled, policy_in, policy_in-word, limits_in, limits_in-word}
@@ -73,23 +71,14 @@ entry_unique (Err cause) a b first second = first ∙ sym second
 
 BodyGives-unique : (limits : Limits) (line : List ℕ) (head : Result (Option JournalLine) Cause) (a b : Result JournalLine Cause)
     → BodyGives limits line head a → BodyGives limits line head b → a ≡ b
-BodyGives-unique limits line (Ok (Some said)) a b first second = first ∙ sym second
-BodyGives-unique limits line (Ok None) a b first second =
-    let next : first.0 ≡ second.0 = PiecesGive-unique limits (pieces_of line) first.0 second.0 first.1 second.1 in
-    entry_unique second.0 a b (subst (λ next. MatchResult next (λ event. a ≡ Ok (lines.Entry event)) (λ cause. a ≡ Err cause)) next first.2) second.2
-BodyGives-unique limits line (Err cause) a b first second = first ∙ sym second
+BodyGives-unique limits line head a b h h2 = search (rules, PiecesGive-unique, entry_unique)
 
 TextGives-unique : (place : Place) (line : List ℕ) (a b : Result JournalLine Cause) → TextGives place line a → TextGives place line b → a ≡ b
-TextGives-unique place line a b first second =
-    let head : first.0 ≡ second.0 = HeadGives-unique place (words_of line) first.0 second.0 first.1 second.1 in
-    BodyGives-unique (limits_at place) line second.0 a b (subst (λ head. BodyGives (limits_at place) line head a) head first.2) second.2
+TextGives-unique place line a b first second = search (rules, HeadGives-unique, BodyGives-unique)
 
 -- a line of a journal has one meaning
 pub one_meaning : (place : Place) (line : List ℕ) → HasOneMeaning place line
-one_meaning place line = λ a b first second.
-    MatchBool-unique (λ r. r ≡ Err TooLong) _ (nat_lt entry_limit (length line)) (same_value (Err TooLong))
-    (MatchBool-unique (TextGives place line) (λ r. r ≡ Err Byte) (is_printable line) (TextGives-unique place line) (same_value (Err Byte)))
-    a b first second
+one_meaning place line = search (rules, MatchBool-unique, same_value, TextGives-unique)
 
 -- one of two facts is settled where both are
 MatchFact-unique : {X : Type 0} (Fact : Type 0) (P Q : X → Type 0) → ((a b : X) → P a → P b → a ≡ b) → ((a b : X) → Q a → Q b → a ≡ b)

@@ -1,5 +1,5 @@
 -- What a `JournalReader` has read once a header line, an entry or a line of the report was taken down, and whether it may end.
-use Rattle.std.proofs.Common.{arith, ◌≡◌, ◌≢◌, ℕ, true, false, List, [], ◌∷◌, ◌++◌, Option, Some, None, MatchOption, Result, Ok, Err, inr, refl, sym, ap, ap₂, ◌∙◌, subst}
+use Rattle.std.proofs.Common.{rules, arith, ◌≡◌, ◌≢◌, ℕ, true, false, List, [], ◌∷◌, ◌++◌, Option, Some, None, MatchOption, Result, Ok, Err, inr, refl, sym, ap, ap₂, ◌∙◌, subst}
 use Rattle.std.proofs.lemmas.Grind.{common_steps}
 use Rattle.std.specs.Prelude.{is_some, if◌then◌else◌}
 use Rattle.fd_table.specs.declared.Limits.{Limits}
@@ -37,18 +37,7 @@ pub entry_taken : (old new : JournalReader) (reading : JournalReading) (line : L
     → new.place ≡ record old.place { stage = stages.Entries } → new.illegal ≡ old.illegal → new.report ≡ None
     → TakesSaid new reading line (lines.Entry event) (Ok tt)
 unfolding place_of is_spent HasChecked HasReported
-entry_taken old new reading line event read before accepts placed illegal report =
-    let accepted = accepts (rules_at reading.place) (processes_at reading.place) reading.entries read.checked in
-    let none = none_before reading.place.stage reading.entries reading.report before read.stage in (
-      accepted.run,
-      record {
-        place = placed ∙ ap (λ (p : Place). record p { stage = stages.Entries }) read.place;
-        stage = none;
-        unspent = ap is_some illegal ∙ read.unspent;
-        checked = accepted;
-        reported = rw report none;
-      },
-    )
+entry_taken old new reading line event read before accepts placed illegal report = search (rules, none_before)
 
 -- a header line was taken down
 pub limits_taken : (old new : JournalReader) (reading : JournalReading) (line : List ℕ) (limits : Limits) (result : Result Unit JournalFault)
@@ -155,7 +144,4 @@ whole_at place entries texts stage report T h h2 h3 h4 = grind (arith, common_st
 -- the report is whole, or wasn't begun
 pub finish_whole : (reader : JournalReader) (reading : JournalReading) → HasRead reader reading → cuts reader ≡ false → MayEnd reading
 unfolding cuts place_of HasReported HasChecked
-finish_whole reader reading read whole =
-    let run = read.checked.run in
-    whole_at reading.place reading.entries reading.report reader.place.stage reader.report run.0 run.1
-    (subst (λ s. IsStageOf s reading.entries reading.report) (sym (ap (λ (p : Place). p.stage) read.place)) read.stage) read.reported whole
+finish_whole reader reading read whole = search (rules, whole_at)

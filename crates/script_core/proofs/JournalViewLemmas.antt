@@ -1,5 +1,5 @@
 -- What a `JournalReader` answers to a line, from what the line gives and what was taken down of it.
-use Rattle.std.proofs.Common.{arith, ◌≡◌, ◌⊎◌, ℕ, Result, Ok, Err, List, refl, subst, inl, inr}
+use Rattle.std.proofs.Common.{rules, arith, ◌≡◌, ◌⊎◌, ℕ, Result, Ok, Err, List, refl, subst, inl, inr}
 use Rattle.std.proofs.lemmas.Grind.{common_steps}
 use Rattle.script_core.specs.declared.place.Place.{Place}
 use Rattle.script_core.specs.declared.place.JournalLine.{JournalLine}
@@ -27,14 +27,7 @@ of_script_or_memory Tag = inl (λ memory e. cc)
 -- a fault of the grammar is told as one
 pub grammar_fault : (reader : JournalReader) (reading : JournalReading) (line : List ℕ) (cause : Cause) → IsOfScript cause
     → JournalLineGives reading.place line (Err cause) → HasRead reader reading → Takes reader reading line (Err (fault_of cause))
-grammar_fault reader reading line Byte of gives read = (gives, read)
-grammar_fault reader reading line Word of gives read = (gives, read)
-grammar_fault reader reading line Count of gives read = (gives, read)
-grammar_fault reader reading line Number of gives read = (gives, read)
-grammar_fault reader reading line Process of gives read = (gives, read)
-grammar_fault reader reading line TooLong of gives read = (gives, read)
-grammar_fault reader reading line (Memory memory) of gives read = absurd (of memory refl)
-grammar_fault reader reading line Tag of gives read = (gives, read)
+grammar_fault reader reading line cause h h2 h3 = search (rules)
 
 fault_by : (reader : JournalReader) (reading : JournalReading) (line : List ℕ) (cause : Cause)
     → (IsOfScript cause → JournalLineGives reading.place line (Err cause))

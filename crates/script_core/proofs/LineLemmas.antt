@@ -1,4 +1,4 @@
--- The bytes of a line.
+-- The bytes of a line: for `Reader::parse_text` and `printable_text`.
 use Rattle.std.proofs.lemmas.Grind.{common_steps}
 use Rattle.std.proofs.Common.{◌≡◌, ℕ, Bool, true, false, Ok, List, [], ◌∷◌, length, filter, refl, arith, ne_eqb}
 use Rattle.std.specs.Prelude.{◌==◌, if◌then◌else◌, not}

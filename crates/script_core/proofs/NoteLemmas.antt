@@ -1,4 +1,4 @@
--- A piece's first words: what they say, the whole piece says.
+-- A piece's first words: what they say, the whole piece says; for `read_note` and `read_taken`.
 use Rattle.std.proofs.lemmas.Grind.{common_steps}
 use Rattle.std.proofs.Common.{◌≡◌, ℕ, ◌<◌, ◌≤◌, Option, IfSome, MatchOption, MatchResult, Result, Ok, Err, List, [], ◌∷◌, length, take, subst, arith, lit≤, ⊎_elim, take_all, ◌⊎◌}
 use Rattle.std.specs.Prelude.{bytes_eq}

@@ -1,6 +1,6 @@
--- Words that spell numbers.
+-- Words that spell numbers: for `integer_of`, `natural_of`, `read_descriptor` and others.
+use Rattle.std.proofs.Common.{rules, ◌≡◌, ◌≢◌, ◌∙◌, ℕ, ◌<◌, ◌≤◌, ◌^◌, zero, suc, ◌==◌, false, cond, List, [], ◌∷◌, length, get_or, codes, decimal, Option, None, Result, Ok, Err, MatchOption, ℤ, pos, negsuc, ◌-ℤ◌, neg_ℤ, FitsSigned, refl, sym, ap, arith}
 use Rattle.std.proofs.lemmas.Grind.{common_steps}
-use Rattle.std.proofs.Common.{◌≡◌, ◌≢◌, ◌∙◌, ℕ, ◌<◌, ◌≤◌, ◌^◌, zero, suc, ◌==◌, false, cond, List, [], ◌∷◌, length, get_or, codes, decimal, Option, None, Result, Ok, Err, MatchOption, ℤ, pos, negsuc, ◌-ℤ◌, neg_ℤ, FitsSigned, refl, sym, ap, arith}
 use Rattle.std.specs.Fmt.{digits, signed_decimal}
 use Rattle.std.specs.Option.{SomeIff}
 use Rattle.std.specs.Result.{OkIff, result_ok}
@@ -97,7 +97,4 @@ number_in-zero = refl
 
 pub number_in-spelled : (z : ℤ) → FitsSigned w64 z → number_in (signed_decimal z) ≡ z
 unfolding number_in
-number_in-spelled (pos n) fits =
-    let small : n < 2 ^ 64 = omega (arith, fits.sfits) in
-    number_in-plain (decimal n) (BeginsPlainly-decimal n small).at_least ∙ ap pos (digits_value-spelled n small)
-number_in-spelled (negsuc n) fits = ap (λ m. neg_ℤ (pos m)) (digits_value-spelled (suc n) (omega (arith, fits.sfits)))
+number_in-spelled z h = search (rules, number_in-plain, BeginsPlainly-decimal, digits_value-spelled)

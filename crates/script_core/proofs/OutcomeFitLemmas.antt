@@ -1,5 +1,7 @@
--- Whatever a request comes to fits, one case for each request: the notes can be written, and there is no more than one for each process.
+-- Whatever a request comes to fits, one case for each request: the notes can be written, and there is no more than one for each process; for
+-- `outputs_are_legal`.
 use Rattle.std.proofs.lemmas.Grind.{common_steps}
+use Rattle.std.proofs.lemmas.List.Sums.{length-filter, count_by-le-length}
 use Rattle.std.proofs.Common.{rules, ◌≡◌, ◌≢◌, ℕ, ◌+◌, ◌-◌, ◌^◌, ◌<◌, ◌≤◌, ◌==◌, ◌&&◌, ◌⊎◌, Bool, true, false, not, nat_le, List, [], ◌∷◌, length, Option, Some, None, Result, Ok, Err, MatchBool, MatchOption, MatchResult, inl, ⊎_elim, refl, sym, ap, ◌∙◌, subst, arith, lit<, eq-eqb, ne_eqb, ℤ, pos, negsuc}
 use Rattle.std.specs.Prelude.{if◌then◌else◌, FitsSigned, int_lt, nat_abs}
 use Rattle.std.specs.Int.{w64}
@@ -444,14 +446,8 @@ apart_left (wait ∷ waits) p apart =
       | false ↦ (each_other (λ other. other.p ≢ wait.p) waits p apart.0, apart_left waits p apart.1)
     ]
 
-fewer_left : (waits : List Wait) (p : ℕ) → length (without_wait_of waits p) ≤ length waits
-fewer_left [] p = omega arith
-fewer_left (wait ∷ waits) p =
-    let rest = fewer_left waits p in
-    elim (wait.p == p) as (λ b. length (if not b then wait ∷ without_wait_of waits p else without_wait_of waits p) ≤ length (wait ∷ waits)) [
-      | true ↦ omega (arith, rest)
-      | false ↦ omega (arith, rest)
-    ]
+pub fewer_left : (waits : List Wait) (p : ℕ) → length (without_wait_of waits p) ≤ length waits
+fewer_left waits p = grind (arith, common_steps, length-filter, count_by-le-length)
 
 -- the wait that a process has is one of them, and leaves one fewer
 record IsWaitOf (P : Wait → Type 0) (waits : List Wait) (p : ℕ) (wait : Wait) : Type 0 where

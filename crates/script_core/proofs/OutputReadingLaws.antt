@@ -1,4 +1,5 @@
--- Outputs are legal journals.
+-- Outputs are legal journals: for `outputs_are_legal`.
+use Rattle.std.proofs.lemmas.List.Elements.{All-head, All-tail}
 use Rattle.std.proofs.lemmas.Grind.{common_steps}
 use Rattle.std.proofs.Common.{◌≡◌, ℕ, ◌+◌, ◌≤◌, ◌&&◌, Bool, true, false, nat_le, nat_lt, List, [], ◌∷◌, ◌++◌, map, flat_map, length, All, MatchBool, Result, Ok, Err, inl, inr, refl, sym, ap, ◌∙◌, subst, arith, lit≤, append_assoc, append-nil}
 use Rattle.std.specs.Prelude.{unwrap_or}
@@ -27,7 +28,7 @@ use Rattle.script_core.specs.JournalReading.{Legal, JournalReading, JournalGives
 use Rattle.script_core.specs.Output.{processes_in}
 use Rattle.script_core.specs.OutputReading.{OutputsAreLegal}
 use Rattle.script_core.proofs.lengths.ArrivalLengthLemmas.{few_read}
-use Rattle.script_core.proofs.EntryRoundTripLemmas.{entry_reads_back, all_first, all_later}
+use Rattle.script_core.proofs.EntryRoundTripLemmas.{entry_reads_back}
 use Rattle.script_core.proofs.CommentLaws.{InLine, lines_first}
 use Rattle.script_core.proofs.JournalBackLemmas.{line_of_entry, legal_front}
 use Rattle.script_core.proofs.ReportReadingLaws.{reports_read_back}
@@ -112,11 +113,11 @@ entries_give number reading (event ∷ events) texts before none writable legal 
     let rest : GivesBehind reading.place ((reading.entries ++ event ∷ []) ++ events) texts =
     subst (λ (l : List Event). GivesBehind reading.place l texts) (sym cut) more in (
       Ok (lines.Entry event),
-      line_of_entry reading.place event (all_first (IsWritableEvent (limits_at reading.place)) event events writable) before,
+      line_of_entry reading.place event (All-head (IsWritableEvent (limits_at reading.place)) event events writable) before,
       inl (
         legal_front reading.place (reading.entries ++ event ∷ []) events all,
         entries_give (number + 1) (reading_behind reading (entry_text event) (lines.Entry event)) events texts tt none
-            (all_later (IsWritableEvent (limits_at reading.place)) event events writable) all rest,
+            (All-tail (IsWritableEvent (limits_at reading.place)) event events writable) all rest,
       ),
     )
 

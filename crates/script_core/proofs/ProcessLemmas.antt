@@ -1,4 +1,4 @@
--- The arrivals of a script: each is of one of its processes, and is said by the words of its line.
+-- The arrivals of a script: each is of one of its processes, and is said by the words of its line; for `parse`.
 use Rattle.std.proofs.Common.{arith, ℕ, ◌≡◌, refl, sym, subst, Bool, true, false, List, [], ◌∷◌, inl, inr, Option, MatchOption, Result, Ok, Err, All}
 use Rattle.std.proofs.lemmas.Grind.{common_steps}
 use Rattle.std.proofs.lemmas.List.Elements.{All-push, All-nil, All-weaker}

@@ -1,5 +1,5 @@
--- A script has one reading.
-use Rattle.std.proofs.Common.{◌≡◌, ℕ, zero, suc, ◌+◌, ◌<◌, ◌^◌, ◌==◌, ◌⊎◌, Bool, true, false, cond, List, [], ◌∷◌, ◌++◌, length, drop, get_or, codes, ℤ, pos, negsuc, FitsSigned, w64, MatchBool, MatchOption, MatchResult, Option, Some, None, unwrap_or, Result, Ok, Err, inl, inr, refl, sym, ap, ◌∙◌, subst, arith, nat_lt}
+-- A script has one reading: for `parse` and `read_named`.
+use Rattle.std.proofs.Common.{rules, ◌≡◌, ℕ, ◌+◌, ◌<◌, ◌^◌, ◌==◌, ◌⊎◌, Bool, true, false, cond, List, [], ◌∷◌, ◌++◌, length, drop, get_or, codes, ℤ, pos, FitsSigned, w64, MatchBool, MatchOption, MatchResult, Option, Some, None, unwrap_or, Result, Ok, Err, inl, inr, refl, sym, ap, ◌∙◌, subst, arith, nat_lt}
 use Rattle.std.specs.Fmt.{digits, signed_decimal}
 use Rattle.std.specs.Str.{bytes_eq}
 use Rattle.std.specs.Str.Parse.{digits_value}
@@ -24,16 +24,15 @@ use Rattle.range_core.specs.declared.Whence.TheVariants.{Set, Cur, End}
 use Rattle.script_core.specs.declared.commands.CommandName.{CommandName}
 use Rattle.script_core.specs.declared.commands.CommandName.TheVariants as names
 use Rattle.script_core.specs.declared.line.Line.{Line}
-use Rattle.script_core.specs.declared.line.Line.TheVariants as lines
 use Rattle.script_core.specs.declared.script.Cause.{Cause}
 use Rattle.script_core.specs.declared.script.Cause.TheVariants.{Byte, Word, Count, TooLong}
 use Rattle.script_core.specs.declared.script.ScriptFault.{ScriptFault}
-use Rattle.script_core.specs.Words.{lines_of, words_of, is_printable, line_limit, script_limit}
+use Rattle.script_core.specs.Words.{words_of, is_printable, line_limit}
 use Rattle.script_core.specs.HeaderText.{policy_word, limits_word}
 use Rattle.script_core.specs.RequestText.{access_word, kind_word, whence_word, op_word, nb_words, command_word, lock_command_word, pid_words, lock_words, request_words}
-use Rattle.script_core.specs.Arguments.{Argument, FileNumber, DescriptorNumber, AnyNumber, ProcessNumber, AccessWord, OpWord, NbWord, PolicyWord, LimitsWord, Spells, IsFirstBad, AreRefused, lock_arguments, open_command, descriptor_command, number_command, dup_to_command, lock_command, flock_command, process_command, exit_command, Command, command_named, has_count}
+use Rattle.script_core.specs.Arguments.{Argument, FileNumber, DescriptorNumber, AnyNumber, ProcessNumber, AccessWord, OpWord, NbWord, Spells, IsFirstBad, AreRefused, lock_arguments, lock_command, Command, command_named, has_count}
 use Rattle.script_core.specs.ScriptText.{Meaning, HasZeroPid, Says, IsRequest, IsProcess, IsWritable}
-use Rattle.script_core.specs.Reading.{Reading, ArgumentsGive, CommandGives, RequestGives, ArrivalGives, ProcessGives, PolicyGives, LimitsGive, WordsGive, LineGives, LinesGive, HasOneReading, is_comment, says_policy, says_limits, limits_of, meaning_of, reading_after, start}
+use Rattle.script_core.specs.Reading.{Reading, ArgumentsGive, CommandGives, RequestGives, ArrivalGives, ProcessGives, PolicyGives, LimitsGive, WordsGive, LineGives, LinesGive, HasOneReading, says_policy, says_limits, limits_of, meaning_of, reading_after, start}
 use Rattle.script_core.proofs.NumberLemmas.{number_in, number_in-zero, digits_value-spelled, number_in-spelled}
 
 pub same_value : {X : Type 0} (value a b : X) → a ≡ value → b ≡ value → a ≡ b
@@ -59,9 +58,7 @@ abbrev PidFollows : ℤ → List (List ℕ) → Type 0
 PidFollows pid rest = ((pid ≡ pos 0) × (rest ≡ [])) ⊎ (rest ≡ signed_decimal pid ∷ [])
 
 PidFollows-pid_words : (pid : ℤ) → PidFollows pid (pid_words pid)
-PidFollows-pid_words (pos zero) = inl (refl, refl)
-PidFollows-pid_words (pos (suc n)) = inr refl
-PidFollows-pid_words (negsuc n) = inr refl
+PidFollows-pid_words pid = search (rules)
 
 zero_follows : pid_words (pos 0) ++ codes "0" ∷ [] ≡ signed_decimal (pos 0) ∷ []
 unfolding digits
@@ -100,27 +97,19 @@ nb_in (word ∷ words) = true
 
 access_in-word : (access : Access) → access_in (access_word access) ≡ access
 unfolding access_in
-access_in-word R = refl
-access_in-word W = refl
-access_in-word Rw = refl
+access_in-word access = search (rules)
 
 kind_in-word : (kind : Kind) → kind_in (kind_word kind) ≡ kind
 unfolding kind_in
-kind_in-word Read = refl
-kind_in-word Write = refl
-kind_in-word Unlock = refl
+kind_in-word kind = search (rules)
 
 whence_in-word : (whence : Whence) → whence_in (whence_word whence) ≡ whence
 unfolding whence_in
-whence_in-word Set = refl
-whence_in-word Cur = refl
-whence_in-word End = refl
+whence_in-word whence = search (rules)
 
 op_in-word : (op : FlockOp) → op_in (op_word op) ≡ op
 unfolding op_in
-op_in-word Sh = refl
-op_in-word Ex = refl
-op_in-word Un = refl
+op_in-word op = search (rules)
 
 nb_in-words : (nb : Bool) → nb_in (nb_words nb) ≡ nb
 unfolding nb_in
@@ -169,12 +158,7 @@ said words =
 said_lock : (cmd : LkCmd) (arguments : List (List ℕ))
     → said (lock_command_word cmd ∷ arguments) ≡ Lk (natural_at 1 (lock_command_word cmd ∷ arguments)) cmd (lock_in (lock_command_word cmd ∷ arguments))
 unfolding said
-said_lock GetLk arguments = refl
-said_lock SetLk arguments = refl
-said_lock SetLkW arguments = refl
-said_lock OGetLk arguments = refl
-said_lock OSetLk arguments = refl
-said_lock OSetLkW arguments = refl
+said_lock cmd arguments = search (rules)
 
 pid_said : (pid : ℤ) (rest : List (List ℕ)) → PidFollows pid rest → FitsSigned w64 pid → number_at 0 rest ≡ pid
 unfolding number_at
@@ -267,22 +251,14 @@ command_is command known e = ap (λ o. unwrap_or o known) e
 
 -- a lock command is known by its word
 pub lock_named : (limits : Limits) (cmd : LkCmd) → command_named limits (lock_command_word cmd) ≡ Some (lock_command (lock_command_word cmd))
-lock_named limits GetLk = refl
-lock_named limits SetLk = refl
-lock_named limits SetLkW = refl
-lock_named limits OGetLk = refl
-lock_named limits OSetLk = refl
-lock_named limits OSetLkW = refl
+lock_named limits cmd = search (rules)
 
 -- what it makes of its arguments is what the request is
 pub lock_gives : (limits : Limits) (command : CommandName) (cmd : LkCmd) (arguments : List (List ℕ)) (result : Result Request Cause)
     → command ≡ names.Lock cmd
     → CommandGives limits (lock_command_word cmd ∷ arguments) (lock_command (lock_command_word cmd)) arguments result
     → RequestGives limits (command_word command ∷ arguments) result
-lock_gives limits command cmd arguments result is gives =
-    let words = lock_command_word cmd ∷ arguments in
-    subst (λ name. RequestGives limits (command_word name ∷ arguments) result) (sym is)
-    (subst (λ found. MatchOption found (result ≡ Err Word) (λ named. CommandGives limits words named arguments result)) (sym (lock_named limits cmd)) gives)
+lock_gives limits command cmd arguments result is gives = search (rules, lock_named)
 
 -- the arguments that the command of a request may have
 arguments_of : Limits → Request → List Argument
@@ -314,20 +290,7 @@ names_so limits known words request none says named =
 
 request_named : (limits : Limits) (words : List (List ℕ)) (request : Request) → Says words request → Names limits (arguments_of limits request) words
 unfolding arguments_of
-request_named limits words (OpenFile file access) says = names_so limits open_command words (OpenFile file access) (λ zero. zero) says refl
-request_named limits words (Dup fd) says = names_so limits (descriptor_command (codes "dup")) words (Dup fd) (λ zero. zero) says refl
-request_named limits words (DupTo fd to) says = names_so limits dup_to_command words (DupTo fd to) (λ zero. zero) says refl
-request_named limits words (CloseFd fd) says = names_so limits (descriptor_command (codes "close")) words (CloseFd fd) (λ zero. zero) says refl
-request_named limits words (Seek fd offset) says = names_so limits (number_command (codes "seek")) words (Seek fd offset) (λ zero. zero) says refl
-request_named limits words (Resize fd size) says = names_so limits (number_command (codes "resize")) words (Resize fd size) (λ zero. zero) says refl
-request_named limits words (Lk fd cmd lock) says =
-    let spelled = SaysLock-from_says words fd cmd lock says in
-    names_by limits (lock_command (lock_command_word cmd)) words (ap (λ ws. command_named limits (get_or ws 0 [])) spelled.are ∙ lock_named limits cmd)
-request_named limits words (Flock fd op nb) says = names_so limits flock_command words (Flock fd op nb) (λ zero. zero) says refl
-request_named limits words (Fork child) says = names_so limits (process_command limits (codes "fork")) words (Fork child) (λ zero. zero) says refl
-request_named limits words Exit says = names_so limits exit_command words Exit (λ zero. zero) says refl
-request_named limits words (Signal target) says = names_so limits (process_command limits (codes "signal")) words (Signal target) (λ zero. zero) says refl
-request_named limits words (Kill target) says = names_so limits (process_command limits (codes "kill")) words (Kill target) (λ zero. zero) says refl
+request_named limits words request h = search (rules, names_so, SaysLock-from_says, names_by, lock_named)
 
 spells_so : (arguments : List Argument) (words : List (List ℕ)) (request : Request) → (HasZeroPid request → ⊥) → Says words request
     → AllSpell arguments (drop 1 (request_words request)) → AllSpell arguments (drop 1 words)
@@ -395,14 +358,7 @@ ArrivalGives-unique p (Err cause) a b first second = first ∙ sym second
 
 ProcessGives-unique : (limits : Limits) (word : List ℕ) (rest : List (List ℕ)) (a b : Result Line Cause) → ProcessGives limits word rest a
     → ProcessGives limits word rest b → a ≡ b
-ProcessGives-unique limits word rest a b (inl first) (inl second) =
-    let p : first.0 ≡ second.0 = decimal_injective first.0 second.0 (small_process limits first.0 first.1) (small_process limits second.0 second.1) (sym first.2 ∙ second.2) in
-    let next : first.3 ≡ second.3 = RequestGives-unique limits rest first.3 second.3 first.4 second.4 in
-    let arrival = subst (λ p. ArrivalGives p second.3 a) p (subst (λ next. ArrivalGives first.0 next a) next first.5) in
-    ArrivalGives-unique second.0 second.3 a b arrival second.5
-ProcessGives-unique limits word rest a b (inl first) (inr second) = absurd (second.0 (first.0, first.1.0, first.1.1, first.2))
-ProcessGives-unique limits word rest a b (inr first) (inl second) = absurd (first.0 (second.0, second.1.0, second.1.1, second.2))
-ProcessGives-unique limits word rest a b (inr first) (inr second) = first.1 ∙ sym second.1
+ProcessGives-unique limits word rest a b h h2 = search (rules, decimal_injective, small_process, RequestGives-unique, ArrivalGives-unique)
 
 -- words that are refused have one cause
 pub AreRefused-unique : (arguments : List Argument) (words : List (List ℕ)) (a b : Cause) → AreRefused arguments words a → AreRefused arguments words b → a ≡ b
@@ -434,24 +390,10 @@ limits_in-word Small = refl
 limits_in-word Wide = refl
 
 PolicyGives-unique : (words : List (List ℕ)) (a b : Result Line Cause) → PolicyGives words a → PolicyGives words b → a ≡ b
-PolicyGives-unique words a b (inl first) (inl second) =
-    first.2 ∙ (ap Err (AreRefused-unique (PolicyWord ∷ []) words first.0 second.0 first.1 second.1) ∙ sym second.2)
-PolicyGives-unique words a b (inl first) (inr second) = absurd (one_spelled PolicyWord (policy_word second.0) words first.0 second.1 (second.0, refl) first.1)
-PolicyGives-unique words a b (inr first) (inl second) = absurd (one_spelled PolicyWord (policy_word first.0) words second.0 first.1 (first.0, refl) second.1)
-PolicyGives-unique words a b (inr first) (inr second) =
-    let read = ap (λ ws. policy_in (get_or ws 0 [])) (sym first.1 ∙ second.1) in
-    let same : first.0 ≡ second.0 = sym (policy_in-word first.0) ∙ (read ∙ policy_in-word second.0) in
-    first.2 ∙ (ap (λ policy. Ok (lines.Policy policy)) same ∙ sym second.2)
+PolicyGives-unique words a b h h2 = search (rules, AreRefused-unique, one_spelled, policy_in, policy_in-word)
 
 LimitsGive-unique : (words : List (List ℕ)) (a b : Result Line Cause) → LimitsGive words a → LimitsGive words b → a ≡ b
-LimitsGive-unique words a b (inl first) (inl second) =
-    first.2 ∙ (ap Err (AreRefused-unique (LimitsWord ∷ []) words first.0 second.0 first.1 second.1) ∙ sym second.2)
-LimitsGive-unique words a b (inl first) (inr second) = absurd (one_spelled LimitsWord (limits_word second.0) words first.0 second.1 (second.0, refl) first.1)
-LimitsGive-unique words a b (inr first) (inl second) = absurd (one_spelled LimitsWord (limits_word first.0) words second.0 first.1 (first.0, refl) second.1)
-LimitsGive-unique words a b (inr first) (inr second) =
-    let read = ap (λ ws. limits_in (get_or ws 0 [])) (sym first.1 ∙ second.1) in
-    let same : first.0 ≡ second.0 = sym (limits_in-word first.0) ∙ (read ∙ limits_in-word second.0) in
-    first.2 ∙ (ap (λ limits. Ok (lines.Limits limits)) same ∙ sym second.2)
+LimitsGive-unique words a b h h2 = search (rules, AreRefused-unique, one_spelled, limits_in, limits_in-word)
 
 -- a first word that is no comment and says no policy, with what follows it
 abbrev LaterGives : Reading → List ℕ → List (List ℕ) → Result Line Cause → Type 0
@@ -472,9 +414,7 @@ StartGives-unique reading word rest a b first second =
     MatchBool-unique (PolicyGives rest) (LaterGives reading word rest) (says_policy reading word) (PolicyGives-unique rest) (LaterGives-unique reading word rest) a b first second
 
 WordsGive-unique : (reading : Reading) (words : List (List ℕ)) (a b : Result Line Cause) → WordsGive reading words a → WordsGive reading words b → a ≡ b
-WordsGive-unique reading [] a b first second = same_value (Ok lines.Skipped) a b first second
-WordsGive-unique reading (word ∷ rest) a b first second =
-    MatchBool-unique (λ result. result ≡ Ok lines.Skipped) (StartGives reading word rest) (is_comment word) (same_value (Ok lines.Skipped)) (StartGives-unique reading word rest) a b first second
+WordsGive-unique reading words a b h h2 = search (rules, same_value, MatchBool-unique, StartGives-unique)
 
 LineGives-unique : (reading : Reading) (line : List ℕ) (a b : Result Line Cause) → LineGives reading line a → LineGives reading line b → a ≡ b
 LineGives-unique reading line a b first second =
@@ -502,6 +442,4 @@ LinesGive-unique number reading (line ∷ rest) a b first second =
 
 -- two readings of the same bytes are equal
 pub one_reading : (bytes : List ℕ) → HasOneReading bytes
-one_reading bytes = λ a b first second.
-    MatchBool-unique (λ result. result ≡ Err (record { line = 0; cause = TooLong })) (LinesGive 1 start (lines_of bytes)) (nat_lt script_limit (length bytes))
-    (same_value (Err (record { line = 0; cause = TooLong }))) (LinesGive-unique 1 start (lines_of bytes)) a b first second
+one_reading bytes = search (rules, MatchBool-unique, same_value, LinesGive-unique)

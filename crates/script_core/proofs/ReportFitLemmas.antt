@@ -1,4 +1,5 @@
--- The report of an output: its numbers are such as its lines may have, and each line is read as one of the report.
+-- The report of an output: its numbers are such as its lines may have, and each line is read as one of the report; for `outputs_are_legal` and
+-- `outputs_are_short`.
 use Rattle.std.proofs.lemmas.Grind.{common_steps}
 use Rattle.std.proofs.Common.{◌≡◌, ◌≢◌, ℕ, zero, suc, ◌+◌, ◌*◌, ◌^◌, ◌<◌, ◌≤◌, ◌==◌, ◌&&◌, Bool, true, false, not, nat_le, List, [], ◌∷◌, ◌++◌, length, length-append, map, filter, Option, Some, None, Ok, IfSome, slice_get, inl, inr, ⊎_elim, refl, sym, ap, ◌∙◌, subst, arith, lit<, lit≤, eq-eqb, ne_eqb, codes, decimal}
 use Rattle.std.specs.Prelude.{if◌then◌else◌, IsFalse}

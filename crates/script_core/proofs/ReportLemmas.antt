@@ -1,4 +1,4 @@
--- The text of the report.
+-- The text of the report: for `push_processes` and `write_report`.
 use Rattle.std.proofs.lemmas.Grind.{common_steps}
 use Rattle.std.proofs.Common.{◌≡◌, ℕ, zero, suc, ◌+◌, ◌-◌, ◌<◌, List, ◌++◌, Result, Ok, Err, length, flat_map, OnOk, refl, sym, ap, ◌∙◌, arith, append_assoc, append-nil, add-one}
 use Rattle.std.specs.Prelude.{slice_index}

@@ -1,4 +1,4 @@
--- The text of a request, behind its process and a space, is a line that says it.
+-- The text of a request, behind its process and a space, is a line that says it: for `write_entry`.
 use Rattle.std.proofs.lemmas.Grind.{common_steps}
 use Rattle.std.proofs.Common.{◌≡◌, ℕ, zero, suc, ◌+◌, ◌^◌, ◌<◌, ◌≤◌, ◌==◌, Bool, nat_le, nat_lt, true, false, not, ◌&&◌, List, [], ◌∷◌, ◌++◌, length, drop, get_or, filter, codes, decimal, ℤ, pos, negsuc, FitsSigned, w64, Ok, Some, inl, inr, refl, ap, ◌∙◌, arith, tests, lit<, lit≤, length-append, append_assoc}
 use Rattle.std.specs.Fmt.{signed_decimal}

@@ -1,4 +1,4 @@
--- The lines of a script.
+-- The lines of a script: for `parse` and `read_lines`.
 use Rattle.std.proofs.lemmas.Grind.{common_steps}
 use Rattle.std.proofs.Common.{◌≡◌, ◌≢◌, ℕ, ◌+◌, ◌<◌, List, [], ◌∷◌, ◌++◌, length, drop, get_or, Result, Ok, Err, Bool, true, false, cond, ◌==◌, MatchBool, MatchResult, ◌⊎◌, inl, inr, ◌≤◌, refl, sym, ap, ◌∙◌, subst, arith, add-one, drop-cons}
 use Rattle.std.specs.List.{slice_split, onto_first, enumerate_from}

@@ -2,7 +2,6 @@
 use Rattle.std.proofs.lemmas.Grind.{common_steps, flat_map-append}
 use Rattle.std.proofs.Common.{rules, ◌≡◌, ℕ, suc, ◌+◌, ◌*◌, ◌≤◌, ◌==◌, Bool, List, [], ◌∷◌, ◌++◌, length, length-append, filter_map, flat_map, Option, Some, None, option_map, Result, Ok, Err, MatchOption, MatchResult, ⊎_elim, refl, sym, ap, ◌∙◌, subst, arith}
 use Rattle.std.specs.List.{cons_option}
-use Rattle.std.proofs.lemmas.List.Sums.{length-filter, count_by-le-length}
 use Rattle.range_core.specs.declared.Mode.{Mode}
 use Rattle.range_core.specs.declared.Span.{Span}
 use Rattle.range_core.specs.declared.RangeFault.{RangeFault}
@@ -16,7 +15,6 @@ use Rattle.fd_table.specs.Releases.{Released}
 use Rattle.fd_table.specs.Descriptors.{Descriptors, OpenFileDescription, description_numbered, look_at}
 use Rattle.wait_core.specs.declared.Policy.{Policy}
 use Rattle.wait_core.specs.declared.Wait.{Wait}
-use Rattle.wait_core.specs.WaitsView.{without_wait_of}
 use Rattle.lock_manager.specs.declared.request.Rules.{Rules}
 use Rattle.lock_manager.specs.declared.request.Errno.{Errno}
 use Rattle.lock_manager.specs.declared.request.Errno.TheVariants.{EBADF}
@@ -40,7 +38,7 @@ use Rattle.lock_manager.specs.FlockCalls.{FlockOpComesTo, FlockModeComesTo, Floc
 use Rattle.lock_manager.specs.ProcessCalls.{ForkComesTo, EndComesTo, SignalComesTo, KillOtherComesTo}
 use Rattle.lock_manager.specs.Step.{ComesTo, Step}
 use Rattle.script_core.proofs.FitLemmas.{same_locked}
-use Rattle.script_core.proofs.OutcomeFitLemmas.{by_bool}
+use Rattle.script_core.proofs.OutcomeFitLemmas.{by_bool, fewer_left}
 use Rattle.script_core.proofs.lengths.StartLemmas.{set_at, starts_of, flock_starts_of, flock_start, two_starts}
 
 -- ---- the starts of a state
@@ -244,15 +242,11 @@ flock_grows rules S p n op nb look outcome h = grind (arith, common_steps, refus
 fork_grows : (processes : ℕ) (S : State) (p n child : ℕ) (outcome : Outcome) → ForkComesTo processes S p n child outcome → OutcomeGrows S outcome
 fork_grows processes S p n child outcome h = grind (arith, common_steps, answer_grows, refusal_grows)
 
--- of the waits of all others there are no more
-others_few : (waits : List Wait) (p : ℕ) → length (without_wait_of waits p) ≤ length waits
-others_few waits p = grind (arith, common_steps, length-filter, count_by-le-length)
-
 end_grows : (S : State) (p : ℕ) (told : List Note) (outcome : Outcome) → length told ≤ 2 → EndComesTo S p told outcome → OutcomeGrows S outcome
-end_grows S p told outcome h h2 = grind (arith, common_steps, starts_released, others_few)
+end_grows S p told outcome h h2 = grind (arith, common_steps, starts_released, fewer_left)
 
 signal_grows : (S : State) (p n target : ℕ) (state : ProcState) (outcome : Outcome) → SignalComesTo S p n target state outcome → OutcomeGrows S outcome
-signal_grows S p n target state outcome h = grind (arith, common_steps, refused_grows, answer_grows, others_few)
+signal_grows S p n target state outcome h = grind (arith, common_steps, refused_grows, answer_grows, fewer_left)
 
 kill_grows : (S : State) (p n target : ℕ) (state : ProcState) (outcome : Outcome) → KillOtherComesTo S p n target state outcome → OutcomeGrows S outcome
 kill_grows S p n target Unborn outcome is = refused_grows S p n _ outcome is

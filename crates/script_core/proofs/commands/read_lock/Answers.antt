@@ -1,4 +1,5 @@
-use Rattle.std.proofs.Common.{[], ℕ, List, get_or, FitsSigned, w64, Bor, rules, arith}
+use Rattle.std.proofs.lemmas.Grind.{common_steps}
+use Rattle.std.proofs.Common.{[], ℕ, List, get_or, Bor, rules, arith}
 use Rattle.std.proofs.lemmas.Int.{to_z-of_z}
 use Rattle.std.proofs.lemmas.Result.{err_from_is_err_and}
 use Rattle.script_core.specs.RequestText.{lock_command_word}
@@ -35,11 +36,4 @@ returns-in_err-pid-in-len6 c limits =
 
 pub returns-in_ok-pid-in-len6 : goal.returns-in_ok-pid-in-len6
 unfolding nothing
-returns-in_ok-pid-in-len6 c limits =
-    let xs = c.args.arguments.now in
-    let lock = c.in_ok-fd-in-len6.lock in
-    let start : FitsSigned w64 lock.start = search rules in
-    let len : FitsSigned w64 lock.len = search rules in
-    let pid : FitsSigned w64 c.in_ok-pid-in-len6.pid = search rules in
-    rw (six_texts xs nothing c.in-len6.len_at_least c.in-len6.len_below, to_z-of_z w64 _ start, to_z-of_z w64 _ len, to_z-of_z w64 _ pid)
-    (good_lock limits c.args.cmd _ (get_or xs 5 nothing).now c.in_ok-fd-in-len6.fd lock _ c.in_ok-fd-in-len6.ensures.0 c.in_ok-pid-in-len6.ensures (omega arith) start len pid)
+returns-in_ok-pid-in-len6 c limits = grind (arith, common_steps, six_texts, nothing, to_z-of_z, good_lock)

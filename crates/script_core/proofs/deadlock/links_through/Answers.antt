@@ -1,7 +1,6 @@
-use Rattle.std.proofs.Common.{List, arith, sym, subst}
-use Rattle.script_core.specs.declared.deadlock.Link.{Link}
-use Rattle.script_core.specs.declared.deadlock.Start.TheVariants.{Waiting}
-use Rattle.script_core.proofs.DeadlockLemmas.{HaveGoneOn, none_left, gone_more, all_told}
+use Rattle.std.proofs.lemmas.Grind.{common_steps}
+use Rattle.std.proofs.Common.{arith}
+use Rattle.script_core.proofs.DeadlockLemmas.{none_left, gone_more, all_told}
 use Rattle.script_core.proofs.deadlock.links_through.Goals as goal
 
 pub unreachable-requires : goal.unreachable-requires
@@ -10,10 +9,7 @@ unreachable-requires c =
     c.loop-layer.links.items c.loop-layer.start c.loop-layer.invariant c.in-Some.ensures.items c.in_default-least_link.ensures
 
 pub loop-layer-preserved : goal.loop-layer-preserved
-loop-layer-preserved c =
-    subst (λ (l : List Link). HaveGoneOn c.args.policy c.args.held.now c.args.waits.now c.args.wanted.now c.pop.new.self.items l (Waiting c.in-Some-least_link.link.process)) (sym c.in_ok-push.ensures.items)
-    (gone_more c.args.policy c.args.held.now c.args.waits.now c.args.wanted.now c.loop-layer.layers.items c.pop.new.self.items c.in-Some.layer
-    c.loop-layer.links.items c.loop-layer.start c.in-Some-least_link.link c.loop-layer.invariant c.in-Some.ensures.items c.in-Some-least_link.ensures)
+loop-layer-preserved c = grind (arith, common_steps, gone_more)
 
 pub returns : goal.returns
 returns c =

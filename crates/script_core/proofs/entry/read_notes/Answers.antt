@@ -1,4 +1,5 @@
-use Rattle.std.proofs.Common.{◌≡◌, ◌<◌, [], ◌∷◌, ◌++◌, List, length, map, take, get_or, Option, Some, None, Ok, refl, sym, subst, lit<}
+use Rattle.std.proofs.Common.{arith, ◌≡◌, ◌<◌, [], List, length, map, take, get_or, Option, Some, None, Ok, subst, lit<}
+use Rattle.std.proofs.lemmas.Grind.{common_steps}
 use Rattle.std.specs.Iterator.{Yields}
 use Rattle.std.proofs.lemmas.Iterator.{YieldsList}
 use Rattle.std.proofs.lemmas.Iterator.Consumers.{YieldsList-at, YieldsList-so_far, YieldsList-turn, YieldsList-end}
@@ -45,9 +46,7 @@ returns-in_err-map_err-clause-memory c =
     (λ is. notes_wanted c.args.limits (pieces_of c.args.text.now) c.loop-piece.yielded c.in-Some.piece c.loop-piece.notes.items c.in_ok-note.note turn.0 turn.1 c.loop-piece.invariant c.in_ok-note.ensures)
 
 pub loop-piece-preserved : goal.loop-piece-preserved
-loop-piece-preserved c =
-    let items : c.push.new.self.items ≡ c.loop-piece.notes.items ++ c.in_ok-note.note ∷ [] = rw (c.push.ensures.items, sym c.in_ok-map_err.ensures.variant) refl in
-    notes_one c.args.limits c.loop-piece.yielded c.in-Some.piece c.loop-piece.notes.items c.push.new.self.items c.in_ok-note.note items c.loop-piece.invariant c.in_ok-note.ensures
+loop-piece-preserved c = grind (arith, common_steps, notes_one)
 
 pub returns-clause-read : goal.returns-clause-read
 returns-clause-read c =

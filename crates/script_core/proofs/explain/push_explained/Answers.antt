@@ -1,4 +1,5 @@
-use Rattle.std.proofs.Common.{◌≡◌, ◌+◌, ℕ, Bool, ap, subst, refl}
+use Rattle.std.proofs.Common.{arith, ◌≡◌, ◌+◌, ℕ, Bool, ap, subst}
+use Rattle.std.proofs.lemmas.Grind.{common_steps}
 use Rattle.std.proofs.lemmas.Result.{err_from_is_err_and}
 use Rattle.script_core.specs.StateText.{is_told}
 use Rattle.script_core.proofs.TextLemmas.{kept_behind}
@@ -6,12 +7,7 @@ use Rattle.script_core.proofs.ExplainLemmas.{StateTold, none_explained, kept_aga
 use Rattle.script_core.proofs.explain.push_explained.Goals as goal
 
 pub loop-entry-init : goal.loop-entry-init
-loop-entry-init c =
-    let opened = c.in_ok-manager.ensures in (
-      refl,
-      none_explained c.args.states c.args.rules c.args.processes c.args.journal.now c.in_ok-manager.manager c.args.text.now.items c.requires.run
-          opened.opening opened.rules opened.processes,
-    )
+loop-entry-init c = grind (arith, common_steps, none_explained)
 
 pub loop-entry-preserved : goal.loop-entry-preserved
 loop-entry-preserved c =
@@ -28,11 +24,7 @@ loop-entry-preserved c =
     )
 
 pub returns-in_err-push_step-clause-err : goal.returns-in_err-push_step-clause-err
-returns-in_err-push_step-clause-err c =
-    let failed = err_from_is_err_and c.from_residual-in_err-push_step.result c.from_residual-in_err-push_step.ensures.1 in
-    rw failed.1
-    (kept_behind c.args.text.now.items c.loop-entry.text.items c.push_step.new.text.items c.loop-entry.invariant.1.more c.loop-entry.invariant.1.is
-    c.in_err-push_step.ensures.err)
+returns-in_err-push_step-clause-err c = grind (arith, common_steps, err_from_is_err_and, kept_behind)
 
 pub returns-in_err-push_state_if-clause-err : goal.returns-in_err-push_state_if-clause-err
 returns-in_err-push_state_if-clause-err c =

@@ -1,3 +1,4 @@
+use Rattle.std.proofs.lemmas.Grind.{common_steps}
 use Rattle.std.proofs.Common.{◌≡◌, [], ◌∷◌, ℕ, ◌<◌, ◌≤◌, List, length, get_or, Bor, refl, inl, inr, rules, arith}
 use Rattle.std.proofs.lemmas.Result.{err_from_is_err_and}
 use Rattle.script_core.specs.Words.{texts}
@@ -8,12 +9,7 @@ nothing = record { ref_ptr = (0, 0); now = [] }
 
 four_texts : (xs : List (Bor (List ℕ))) (d : Bor (List ℕ)) → 4 ≤ length xs → length xs < 5
     → texts xs ≡ (get_or xs 0 d).now ∷ (get_or xs 1 d).now ∷ (get_or xs 2 d).now ∷ (get_or xs 3 d).now ∷ []
-four_texts [] d at_least below = absurd (omega (arith, at_least))
-four_texts (a ∷ []) d at_least below = absurd (omega (arith, at_least))
-four_texts (a ∷ b ∷ []) d at_least below = absurd (omega (arith, at_least))
-four_texts (a ∷ b ∷ e ∷ []) d at_least below = absurd (omega (arith, at_least))
-four_texts (a ∷ b ∷ e ∷ f ∷ []) d at_least below = refl
-four_texts (a ∷ b ∷ e ∷ f ∷ g ∷ xs) d at_least below = absurd (omega (arith, below))
+four_texts xs d h h2 = grind (arith, common_steps)
 
 pub returns-in_err-len : goal.returns-in_err-len
 unfolding nothing

@@ -1,4 +1,5 @@
-use Rattle.std.proofs.Common.{◌≡◌, ℕ, ◌-◌, ◌≤◌, [], ◌∷◌, List, length, drop, take, get_or, false, codes, Result, Ok, Err, MatchResult, Bor, refl, sym, ap, arith, take_all}
+use Rattle.std.proofs.lemmas.Grind.{common_steps}
+use Rattle.std.proofs.Common.{◌≡◌, ℕ, ◌-◌, ◌≤◌, [], ◌∷◌, List, length, drop, take, get_or, false, codes, Result, Ok, Err, MatchResult, Bor, sym, ap, arith, take_all}
 use Rattle.std.specs.Prelude.{bytes_eq}
 use Rattle.std.proofs.lemmas.Result.{err_from_is_err_and}
 use Rattle.lock_manager.specs.declared.request.Reply.{Reply}
@@ -25,14 +26,8 @@ tells_reply p n words name arguments next result are other gives then = rw (are,
 
 pub returns-in_err-reply : goal.returns-in_err-reply
 unfolding nothing
-returns-in_err-reply c =
-    let failed = err_from_is_err_and c.from_residual.result c.from_residual.ensures.1 in
-    rw (failed.1, failed.2)
-    (tells_reply c.args.p c.args.n (texts c.args.words.now) _ _ (Err c.in_err-reply.field-0.0) _ (first_text c.args.words.now nothing c.in-len1-up.len_at_least)
-    (sym c.if-eq.ensures) c.in_err-reply.ensures refl)
+returns-in_err-reply c = grind (arith, common_steps, err_from_is_err_and, tells_reply, first_text, nothing)
 
 pub returns : goal.returns
 unfolding nothing
-returns c =
-    tells_reply c.args.p c.args.n (texts c.args.words.now) _ _ (Ok c.in_ok-reply.reply) _ (first_text c.args.words.now nothing c.in-len1-up.len_at_least)
-    (sym c.if-eq.ensures) c.in_ok-reply.ensures refl
+returns c = grind (arith, common_steps, tells_reply, first_text, nothing)

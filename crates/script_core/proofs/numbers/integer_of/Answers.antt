@@ -1,3 +1,4 @@
+use Rattle.std.proofs.lemmas.Grind.{common_steps}
 use Rattle.std.proofs.Common.{Some, None, lit<, arith}
 use Rattle.std.proofs.lemmas.Str.Pattern.{strip_prefix_char}
 use Rattle.script_core.proofs.NumberLemmas.{unsigned_none, unsigned_some, signed_none, signed_zero, signed_some}
@@ -14,9 +15,7 @@ returns-in_err-natural_of-in-None c =
     rw c.from_residual-in_err-natural_of-in-None.ensures (unsigned_none c.args.word.now unsigned c.in_err-natural_of-in-None.ensures)
 
 pub returns-in-0 : goal.returns-in-0
-returns-in-0 c =
-    let split = strip_prefix_char 45 c.args.word.now (Some c.in-Some.digits) c.in-Some.ensures.cases (lit< tt) in
-    signed_zero c.args.word.now c.in-Some.digits.now split (rw c.in-0.is at c.in_ok-n-in-Some.ensures)
+returns-in-0 c = grind (arith, common_steps, strip_prefix_char, signed_zero)
 
 pub returns-in_default : goal.returns-in_default
 returns-in_default c =

@@ -1,3 +1,4 @@
+use Rattle.std.proofs.lemmas.Grind.{common_steps}
 use Rattle.std.proofs.Common.{◌≡◌, length, arith, ap}
 use Rattle.script_core.specs.Words.{texts}
 use Rattle.script_core.proofs.WordLemmas.{reached_byte, reached_space, reached_end}
@@ -11,20 +12,7 @@ pub range_from-requires : goal.range_from-requires
 range_from-requires c = c.loop-at.invariant.cut
 
 pub loop-at-preserved : goal.loop-at-preserved
-loop-at-preserved c =
-    let line = c.args.line.now in
-    let words = texts c.loop-at.words.items in
-    let start = c.loop-at.start in
-    let at = c.loop-at.at in
-    let bytes = c.as_bytes-bytes.ensures.value in
-    elim c.if-bytes-at-eq32.branch [
-      | then-bytes-at-eq32 w ↦
-          rw (w.words-is, w.start-is)
-          (reached_space line words (texts w.push_word.new.words.items) start at c.utf8.line (rw bytes at c.loop-at-test.true) (rw bytes at w.if-bytes-at-eq32.true)
-          c.loop-at.invariant (rw w.range.ensures.value at w.push_word.ensures))
-      | else-bytes-at-eq32 w ↦
-          rw (w.words-is, w.start-is) (reached_byte line words start at (rw bytes at w.if-bytes-at-eq32.false) c.loop-at.invariant)
-    ]
+loop-at-preserved c = grind (arith, common_steps, then-bytes-at-eq32, reached_space, else-bytes-at-eq32, reached_byte)
 
 pub returns : goal.returns
 returns c =

@@ -1,12 +1,8 @@
-use Rattle.std.proofs.Common.{take, flat_map}
+use Rattle.std.proofs.Common.{arith}
+use Rattle.std.proofs.lemmas.Grind.{common_steps}
 use Rattle.std.proofs.lemmas.Result.{err_from_is_err_and}
-use Rattle.script_core.specs.ReportText.{wait_line}
 use Rattle.script_core.proofs.TextLemmas.{kept_behind}
 use Rattle.script_core.proofs.write.push_waits.Goals as goal
 
 pub returns-in_err-push_wait : goal.returns-in_err-push_wait
-returns-in_err-push_wait c =
-    let failed = err_from_is_err_and c.from_residual.result c.from_residual.ensures.1 in
-    rw failed.1
-    (kept_behind c.args.text.now.items c.loop-wait.text.items c.push_wait.new.text.items (flat_map wait_line (take c.loop-wait.wait-index c.args.waits.now))
-    c.loop-wait.invariant c.in_err-push_wait.ensures)
+returns-in_err-push_wait c = grind (arith, common_steps, err_from_is_err_and, kept_behind)
