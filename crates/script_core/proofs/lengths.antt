@@ -1,4 +1,4 @@
--- That an output is no longer than a journal may be: how many notes, locks and waits there are, and how long their texts.
+-- That an output is no longer than a journal may be: how many notes, locks and waits there are, and how long their texts: for `outputs_are_short`.
 pub mod ArrivalLengthLemmas
 pub mod HeldCountLemmas
 pub mod JournalLengthLemmas

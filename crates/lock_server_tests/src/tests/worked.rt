@@ -239,21 +239,21 @@ const GROWS: &[Row] = &[
 ];
 
 /// What an owner without locks is told of the file: from three of its bytes on, and where it asks for a flock lock, which it gives back.
-fn seen(server: &mut LockServer, file: u64) -> Result<[Told; 4], Memory> {
+fn seen(rt: &impl Abort, server: &mut LockServer, file: u64) -> Result<[Told; 4], Memory> {
     Ok([
         serve(server, file, Call::Get(STRANGER, (0, 63), Write))?,
         serve(server, file, Call::Get(STRANGER, (5, 63), Write))?,
         serve(server, file, Call::Get(STRANGER, (10, 63), Write))?,
-        flock_seen(server, file)?,
+        flock_seen(rt, server, file)?,
     ])
 }
 
 /// Whether an owner without locks would be given a flock lock. The question is asked again where a growth is refused.
-fn flock_seen(server: &mut LockServer, file: u64) -> Result<Told, Memory> {
+fn flock_seen(rt: &impl Abort, server: &mut LockServer, file: u64) -> Result<Told, Memory> {
     let question = Call::Flock(STRANGER, Some(Write));
     let told = match serve(server, file, question) {
         Ok(told) => told,
-        Err(_) => serve(server, file, question)?,
+        Err(_) => serve_again(rt, server, file, question)?,
     };
     if told == Told::Done {
         serve(server, file, Call::Flock(STRANGER, None))?;
@@ -261,16 +261,28 @@ fn flock_seen(server: &mut LockServer, file: u64) -> Result<Told, Memory> {
     Ok(told)
 }
 
+/// A call that is made again after a refused growth: it must be answered, for at most one growth is refused in a run.
+fn serve_again(
+    rt: &impl Abort,
+    server: &mut LockServer,
+    file: u64,
+    call: Call,
+) -> Result<Told, Memory> {
+    let second = serve(server, file, call);
+    assert!(rt; second.is_ok(), "refused again");
+    second
+}
+
 /// Each call tells what its row says. Where a growth is refused, as by a test run with one allocation failing, all is as before and
 /// the next try goes through.
 fn follow(rt: &impl Abort, server: &mut LockServer, rows: &[Row]) -> Result<(), Memory> {
     for (place, (file, call, wanted)) in rows.iter().enumerate() {
-        let before = seen(server, *file)?;
+        let before = seen(rt, server, *file)?;
         let told = match serve(server, *file, *call) {
             Ok(told) => told,
             Err(_) => {
-                assert!(rt; seen(server, *file)? == before, "row {place}");
-                serve(server, *file, *call)?
+                assert!(rt; seen(rt, server, *file)? == before, "row {place}");
+                serve_again(rt, server, *file, *call)?
             }
         };
         assert!(rt; told == *wanted, "row {place}");
@@ -303,11 +315,10 @@ fn note_twice(rt: &impl Abort, server: &mut LockServer, lock: Row) -> Result<(),
     for open_file in [20, 21] {
         let (note, release) = (Call::Note(1, open_file), Call::Release(open_file, None));
         if serve(server, 3, note).is_err() {
-            tells(
-                rt,
-                server,
-                &[(3, release, Told::Done), lock, (3, note, Told::Done)],
-            )?;
+            let rows = [(3, release, Told::Done), lock, (3, note, Told::Done)];
+            let again = tells(rt, server, &rows);
+            assert!(rt; again.is_ok(), "refused again");
+            again?;
         }
     }
     Ok(())
