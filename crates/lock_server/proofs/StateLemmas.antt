@@ -27,4 +27,3 @@ SameFile-itself F = record { locks = SameLocks-itself F; waits = refl }
 
 pub SameFile-then : (F G H : FileState) → SameFile F G → SameFile G H → SameFile F H
 SameFile-then F G H one other = grind (arith, common_steps)
-

@@ -47,7 +47,7 @@ LinesCome number reading (line ∷ lines) verdict =
     (next : Result JournalLine Cause) × JournalLineGives reading.place line next
     × MatchResult next
     (λ said. MatchFact (MayGoOn reading line said)
-        (LinesCome (number + 1) (reading_behind reading line said) lines verdict) (IsIllegalAt number reading said verdict))
+    (LinesCome (number + 1) (reading_behind reading line said) lines verdict) (IsIllegalAt number reading said verdict))
     (λ cause. verdict ≡ Faulty (record { line = number; cause = cause }))
 
 -- a journal: it is too long, or its lines decide

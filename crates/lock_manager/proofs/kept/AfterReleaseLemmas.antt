@@ -180,7 +180,7 @@ bytes_after old new S E p released shown owned within closing releases f o byte 
 
     at : (o : Owner) → (if is_one_of released.files f && is_released p released.descriptions o then None else old.bytes f o byte)
         ≡ (if removes_on E.descriptions released.descriptions f o && is_covered whole_file byte then None
-            else mode_from (old.bytes f o byte) (process_releases p released.files) f o byte)
+        else mode_from (old.bytes f o byte) (process_releases p released.files) f o byte)
     at (Process q) =
         let m = old.bytes f (Process q) byte in
         let whole = is_covered whole_file byte in
