@@ -1,5 +1,5 @@
 -- The two halves of a conversion by flock: for `convert`, `flock_or_refuse`, `flock_or_wait`, `flock` and `flock_wait`.
-use Rattle.std.proofs.Common.{arith, ℕ, ◌≡◌, ◌≢◌, ◌∙◌, inl, inr, sym, ap, subst, refl, Bool, false, true, Option, Some, None}
+use Rattle.std.proofs.Common.{arith, ℕ, ◌≡◌, ◌≢◌, ◌∙◌, inr, sym, ap, subst, refl, Bool, false, true, Option, Some, None}
 use Rattle.std.proofs.lemmas.Grind.{common_steps}
 use Rattle.std.specs.Option.{option_eq}
 use Rattle.range_core.specs.contracts.ModePartialEq.TheImpl.{eq-value as equality}
@@ -11,14 +11,12 @@ use Rattle.wait_core.specs.declared.Family.TheVariants.{Whole}
 use Rattle.wait_core.specs.declared.Policy.{Policy}
 use Rattle.lock_server.specs.declared.Pending.{Pending}
 use Rattle.lock_server.specs.declared.Answer.{Answer}
-use Rattle.lock_server.specs.declared.Answer.TheVariants.{Done}
 use Rattle.lock_server.specs.declared.WaitAnswer.{WaitAnswer}
-use Rattle.lock_server.specs.declared.WaitAnswer.TheVariants as told
 use Rattle.lock_server.specs.declared.table.Table.{Table}
 use Rattle.lock_server.specs.Calls.{ConvertsFrom, FlockComesTo, FlockWaitComesTo, IsRefused, SetsOn, TestComesTo, WaitComesTo}
 use Rattle.lock_server.specs.FileView.{keeps_place}
 use Rattle.lock_server.specs.States.{SameState, State}
-use Rattle.lock_server.specs.TableRoom.{HasFlockPlace, HasRoomFor, KeepsRoomOn}
+use Rattle.lock_server.specs.TableRoom.{HasFlockPlace, HasRoomFor}
 use Rattle.lock_server.specs.Waiting.{IsReservedIn}
 use Rattle.lock_server.proofs.StateLemmas.{state_from_same}
 

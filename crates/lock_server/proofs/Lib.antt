@@ -17,6 +17,7 @@ pub mod ForgetLemmas
 pub mod SafeForgetLemmas
 pub mod FlockLemmas
 pub mod StateLemmas
+pub mod SweptLemmas
 pub mod StepLemmas
 pub mod CompatibleLemmas
 pub mod SafeLemmas

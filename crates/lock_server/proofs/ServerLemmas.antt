@@ -13,7 +13,7 @@ use Rattle.lock_server.specs.declared.table.Table.{Table}
 use Rattle.lock_server.specs.Settling.{IsSettled, IsWaitBlocked}
 use Rattle.lock_server.specs.States.{State, SameState, SettlesFile}
 use Rattle.lock_server.specs.Safety.{IsSafe, AreTicketsOnce}
-use Rattle.lock_server.specs.TableView.{table_state, table_policy}
+use Rattle.lock_server.specs.TableView.{StaysSafe, table_state, table_policy}
 use Rattle.lock_server.specs.Calls.{FetchComesTo, SetsOn, Changes, Releases, ReleasesOn, IsRefused, SetComesTo, Suspends, IsSetHeldBack, byte_request, given_by, no_ticket}
 use Rattle.lock_server.proofs.JoinLemmas.{safe_joined}
 use Rattle.lock_server.proofs.SafeLemmas.{Moves, moves_given, moves_unset, safe_but, safe_fetched, safe_settled}
@@ -83,3 +83,8 @@ pub safe_after_join : (old new : Table) (file : ℕ) (wait : Pending) → ∥ Is
     → ¬ IsRefused (table_policy old) (table_state old) file wait → ∥ IsSafe (table_policy new) (table_state new) ∥₁
 safe_after_join old new file wait holds policy suspends blocked passed =
     ∥∥₁_map holds (λ safe. safe_at (table_policy old) new policy (safe_joined (table_policy old) (table_state old) file wait (table_state new) suspends safe blocked passed (tickets_once new)))
+
+-- a table that stands for the same stays safe
+pub safe_same : (old new : Table) → SameState (table_state old) (table_state new) → table_policy new ≡ table_policy old → StaysSafe old new
+safe_same old new same policy holds = ∥∥₁_map holds
+    (λ safe. safe_at (table_policy old) new policy (subst (λ (T : State). IsSafe (table_policy old) T) (sym (state_from_same (table_state old) (table_state new) same)) safe))

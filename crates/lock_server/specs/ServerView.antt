@@ -1,7 +1,8 @@
 -- What a server stands for (the words are this project's choice).
-use Rattle.std.specs.Prelude.{ℕ, Option}
+use Rattle.std.specs.Prelude.{◌↔◌, ℕ, Option}
 use Rattle.wait_core.specs.declared.Policy.{Policy}
 use Rattle.lock_server.specs.declared.server.LockServer.{LockServer}
+use Rattle.lock_server.specs.Files.{SameFile, untouched}
 use Rattle.lock_server.specs.OpeningsView.{through_at}
 use Rattle.lock_server.specs.TableView.{HasEntry, table_state, table_policy}
 use Rattle.lock_server.specs.States.{State}
@@ -21,3 +22,7 @@ through_of server = through_at server.openings
 -- the server has an entry for the file, which takes memory
 unfoldable pub KeepsFile : LockServer → ℕ → Type 0
 KeepsFile server file = HasEntry server.table file
+
+-- any server has an entry for just the files with a lock or a wait
+abbrev pub FilesAreKeptWhileInUse : Type 0
+FilesAreKeptWhileInUse = (server : LockServer) (file : ℕ) → KeepsFile server file ↔ (¬ SameFile ((state_of server).files file) untouched)

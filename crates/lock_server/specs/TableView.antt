@@ -1,11 +1,13 @@
 -- What a table stands for (the words are this project's choice).
-use Rattle.std.specs.Prelude.{◌≡◌, ℕ, Option, Some}
+use Rattle.std.specs.Prelude.{◌≡◌, ◌≢◌, ℕ, Option, Some}
 use Rattle.std.specs.BTreeMap.{get}
 use Rattle.std.specs.Ordering.{nat_cmp}
 use Rattle.wait_core.specs.declared.Policy.{Policy}
 use Rattle.lock_server.specs.declared.file.LockFile.{LockFile}
 use Rattle.lock_server.specs.declared.table.Table.{Table}
 use Rattle.lock_server.specs.FileView.{state_at}
+use Rattle.lock_server.specs.Files.{SameFile, untouched}
+use Rattle.lock_server.specs.Safety.{IsSafe}
 use Rattle.lock_server.specs.TicketsView.{grants_of}
 use Rattle.lock_server.specs.WaitersView.{crossed_of}
 use Rattle.lock_server.specs.States.{State}
@@ -30,3 +32,23 @@ table_state table = record {
 -- the policy of a table
 unfoldable pub table_policy : Table → Policy
 table_policy table = table.policy
+
+-- the file has no entry where it has neither a lock nor a wait
+abbrev pub IsSwept : Table → ℕ → Type 0
+IsSwept table file = SameFile ((table_state table).files file) untouched → ¬ HasEntry table file
+
+-- and so has none of all files
+abbrev pub AreSwept : Table → Type 0
+AreSwept table = (file : ℕ) → IsSwept table file
+
+-- each file but this one has the entry that it had, or none
+abbrev pub KeepsOthers : Table → Table → ℕ → Type 0
+KeepsOthers old new file = (other : ℕ) → other ≢ file → entry_of new other ≡ entry_of old other
+
+-- each file has the entry that it had, or none
+abbrev pub KeepsEntries : Table → Table → Type 0
+KeepsEntries old new = (file : ℕ) → entry_of new file ≡ entry_of old file
+
+-- what holds between two calls holds afterwards, where it held before
+abbrev pub StaysSafe : Table → Table → Type 0
+StaysSafe old new = ∥ IsSafe (table_policy old) (table_state old) ∥₁ → ∥ IsSafe (table_policy new) (table_state new) ∥₁

@@ -5,7 +5,7 @@ ghost use Rattle.lock_book.specs.Owners.{is_same_owner};
 ghost use Rattle.lock_server.specs.Closing.{ClosesOn, is_through};
 ghost use Rattle.lock_server.specs.Openings.{ForgetsThrough, is_number, SeesOn};
 ghost use Rattle.lock_server.specs.OpeningsView.{through_at};
-ghost use Rattle.lock_server.specs.TableView.{table_state, table_policy};
+ghost use Rattle.lock_server.specs.TableView.{KeepsOthers, table_state, table_policy};
 
 use crate::openings::Openings;
 use crate::table::Table;
@@ -16,6 +16,7 @@ pub(crate) fn close(table: &mut Table, openings: &mut Openings, file: u64, open_
     ensures closes { ClosesOn (table_state table.old) file (is_through (through_at openings.old file) open_file) None (table_state table.new) }
     ensures forgets { ForgetsThrough (through_at openings.old) (through_at openings.new) file open_file }
     ensures policy { table_policy table.new ≡ table_policy table.old }
+    ensures others { KeepsOthers table.old table.new file }
 {
     let mut above = None;
     while let Some(owner) = openings.next_owner(file, above) {
@@ -31,6 +32,7 @@ fn close_owner(table: &mut Table, openings: &mut Openings, file: u64, owner: u64
     ensures forgets { SeesOn (through_at openings.old) (through_at openings.new) file owner
         (if is_number open_file (through_at openings.old file owner) then None else through_at openings.old file owner) }
     ensures policy { table_policy table.new ≡ table_policy table.old }
+    ensures others { KeepsOthers table.old table.new file }
 {
     if openings.is_through(file, owner, open_file) {
         table.release(file, owner);

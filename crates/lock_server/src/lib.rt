@@ -4,13 +4,17 @@
 
 mod blocking;
 mod closing;
+mod converting;
 mod file;
+mod laws;
 mod openings;
+mod requests;
 mod server;
 mod table;
 mod tickets;
 mod waiters;
 
+pub use laws::files_are_kept_while_in_use;
 pub use lock_book::{Blocker, Owner};
 pub use range_core::{Memory, Mode, Span};
 pub use server::LockServer;

@@ -1,19 +1,17 @@
 //! The lock server: each call is a change of the table, and then a settling of the file that changed.
 ghost use Rattle.std.specs.Prelude.{◌≡◌};
-ghost use Rattle.lock_server.specs.Calls.{byte_request as byte_request_of, flock_request as flock_request_of, no_ticket};
+ghost use Rattle.lock_server.specs.Calls.{byte_request as byte_request_of, flock_request as flock_request_of};
 ghost use Rattle.lock_server.specs.Safety.{IsSafe};
-ghost use Rattle.lock_server.specs.TableView.{table_state, table_policy};
+ghost use Rattle.lock_server.specs.TableView.{AreSwept, table_state, table_policy};
 
 use crate::openings::Openings;
+use crate::requests::{NO_TICKET, byte_request, flock_request};
 use crate::table::Table;
 use crate::{
     Answer, Blocker, Family, Memory, Mode, Owner, Pending, Policy, Span, WaitAnswer, WaitFault,
-    closing,
+    closing, converting,
 };
 use std::alloc::Global;
-
-/// The ticket of a request that doesn't wait, which is never told.
-const NO_TICKET: u64 = 0;
 
 /// The advisory locks of a file server: on files that are numbered by 64 bits (inodes), of owners that are (FUSE's `lock_owner`),
 /// with waits that are named by tickets. Files and owners come and go by need; a file without a lock and a wait takes no memory.
@@ -22,6 +20,7 @@ pub struct LockServer {
     table: Table,
     openings: Openings,
     ghost safe: { ∥ IsSafe (table_policy table) (table_state table) ∥₁ },
+    ghost swept: { AreSwept table },
 }
 
 #[tactic(auto, unfolding(crate::specs::ServerView::state_of, crate::specs::ServerView::policy_of, crate::specs::ServerView::through_of, crate::specs::ServerView::KeepsFile))]
@@ -29,14 +28,13 @@ impl LockServer {
     ghost use Rattle.std.specs.Prelude.{◌↔◌, ℕ, IfOk, IfSome, IfNone, IsOk, IsTrue, OnErr, OnOk, Some, None, false};
     ghost use Rattle.range_core.specs.Ranges.{IsByteRange, SplitsRun};
     ghost use Rattle.lock_book.specs.Conflicts.{ByteConflict, IsFirstBlocker};
-    ghost use Rattle.lock_server.specs.Calls.{CancelComesTo, ConvertsFrom, FetchComesTo, FlockOpComesTo, FlockWaitComesTo, Forgets, IsRefused};
-    ghost use Rattle.lock_server.specs.Calls.{IsSetHeldBack, Releases, SetComesTo, TestComesTo, WaitComesTo};
+    ghost use Rattle.lock_server.specs.Calls.{CancelComesTo, FetchComesTo, FlockOpComesTo, FlockWaitComesTo, Forgets, IsRefused};
+    ghost use Rattle.lock_server.specs.Calls.{IsSetHeldBack, Releases, SetComesTo, WaitComesTo};
     ghost use Rattle.lock_server.specs.Closing.{Closes};
     ghost use Rattle.lock_server.specs.Files.{SameFile, untouched};
     ghost use Rattle.lock_server.specs.Openings.{ForgetsOwner, ForgetsThrough, SameOpenings, SeesOn};
     ghost use Rattle.lock_server.specs.ServerView.{KeepsFile, policy_of, state_of, through_of};
     ghost use Rattle.lock_server.specs.States.{IsTaken, opening, SameState};
-    ghost use Rattle.lock_server.specs.TableRoom.{HasFlockPlace, HasRoomFor, KeepsRoomOn};
 
     /// No lock and no wait. It takes no memory.
     pub fn new(alloc: Global, policy: Policy) -> LockServer
@@ -136,12 +134,14 @@ impl LockServer {
         ensures policy { policy_of self.new ≡ policy_of self.old }
         ensures openings { SameOpenings (through_of self.old) (through_of self.new) }
     {
-        let Some(file) = self.table.cancel(ticket) else {
-            return false;
-        };
-        self.table.settle(file);
-        self.table.sweep(file);
-        true
+        match self.table.cancel(ticket) {
+            Some(file) => {
+                self.table.settle(file);
+                self.table.sweep(file);
+                true
+            }
+            None => false,
+        }
     }
 
     /// The owner is seen through the open file of the file, and no more through another one, until it is flushed or forgotten: for
@@ -202,8 +202,8 @@ impl LockServer {
             return Ok(Answer::Done);
         }
         self.table.place_flock(file, owner)?;
-        self.convert(file, owner, held);
-        Ok(self.flock_or_refuse(file, owner, mode))
+        converting::convert(&mut self.table, file, owner, held);
+        Ok(converting::flock_or_refuse(&mut self.table, file, owner, mode))
     }
 
     /// The same as `flock` of a mode, but that the request waits where it is blocked; no deadlock is looked for (flock(2)).
@@ -233,8 +233,8 @@ impl LockServer {
         }
         let wanted = flock_request(ticket, owner, mode);
         self.table.reserve(file, &wanted)?;
-        self.convert(file, owner, held);
-        Ok(self.flock_or_wait(file, wanted))
+        converting::convert(&mut self.table, file, owner, held);
+        Ok(converting::flock_or_wait(&mut self.table, file, wanted))
     }
 
     /// Removes the flock lock of the owner on the file; its waits stay (flock(2), `LOCK_UN` and last close; FUSE, release with
@@ -298,84 +298,5 @@ impl LockServer {
         } else {
             Ok(false)
         }
-    }
-
-    /// The first half of a conversion: a flock lock that is held is removed, and the file is settled (flock(2), "converting a lock").
-    fn convert(&mut self, file: u64, owner: u64, held: Option<Mode>)
-        requires { HasFlockPlace self.old.table file owner }
-        ensures converts { ConvertsFrom (policy_of self.old) (state_of self.old) file owner held (state_of self.new) }
-        ensures room { KeepsRoomOn self.old.table self.new.table file }
-        ensures policy { policy_of self.new ≡ policy_of self.old }
-        ensures openings { SameOpenings (through_of self.old) (through_of self.new) }
-    {
-        if held.is_none() {
-            return;
-        }
-        self.table.set_flock(file, owner, None);
-        self.table.settle(file);
-    }
-
-    /// The second half where the request doesn't wait: it is tested, and set in the place that is kept.
-    fn flock_or_refuse(&mut self, file: u64, owner: u64, mode: Mode) -> Answer
-        requires { HasFlockPlace self.old.table file owner }
-        ensures comes_to { TestComesTo (policy_of self.old) (state_of self.old) file (flock_request_of no_ticket owner mode) result (state_of self.new) }
-        ensures policy { policy_of self.new ≡ policy_of self.old }
-        ensures openings { SameOpenings (through_of self.old) (through_of self.new) }
-    {
-        let wanted = flock_request(NO_TICKET, owner, mode);
-        if self.table.holds_back(file, &wanted) {
-            self.table.give_back_place(file, owner);
-            return Answer::Blocked;
-        }
-        self.table.set_flock(file, owner, Some(mode));
-        self.table.settle(file);
-        Answer::Done
-    }
-
-    /// The second half where the request may wait: it is set or joins the waits, in the room that was taken.
-    fn flock_or_wait(&mut self, file: u64, wanted: Pending) -> WaitAnswer
-        requires range { IsByteRange wanted.span }
-        requires flock { (wanted.family ≡ Family.Whole) × (wanted.detect ≡ false) }
-        requires room { HasRoomFor self.old.table file wanted }
-        ensures comes_to { WaitComesTo (policy_of self.old) (state_of self.old) file wanted result (state_of self.new) }
-        ensures policy { policy_of self.new ≡ policy_of self.old }
-        ensures openings { SameOpenings (through_of self.old) (through_of self.new) }
-    {
-        if self.table.blocks(file, &wanted) {
-            self.table.join(file, wanted);
-            return WaitAnswer::Waits;
-        }
-        self.table.set_flock(file, wanted.owner, Some(wanted.mode));
-        self.table.give_back(wanted.ticket);
-        self.table.settle(file);
-        WaitAnswer::Done
-    }
-}
-
-/// A request for byte locks, as it would wait.
-fn byte_request(ticket: u64, owner: u64, span: Span, mode: Mode, detect: bool) -> Pending
-    ensures { result ≡ byte_request_of ticket owner span mode detect }
-{
-    Pending {
-        ticket,
-        owner,
-        family: Family::Bytes,
-        span,
-        mode,
-        detect,
-    }
-}
-
-/// A request for a flock lock, as it would wait.
-fn flock_request(ticket: u64, owner: u64, mode: Mode) -> Pending
-    ensures { result ≡ flock_request_of ticket owner mode }
-{
-    Pending {
-        ticket,
-        owner,
-        family: Family::Whole,
-        span: Span::WHOLE_FILE,
-        mode,
-        detect: false,
     }
 }

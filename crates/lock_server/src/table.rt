@@ -32,12 +32,13 @@ pub struct Table {
 impl Table {
     ghost use Rattle.std.specs.Prelude.{◌≡◌};
     ghost use Rattle.lock_server.specs.States.{opening, SameState};
-    ghost use Rattle.lock_server.specs.TableView.{table_state, table_policy};
+    ghost use Rattle.lock_server.specs.TableView.{AreSwept, table_state, table_policy};
 
     /// No lock and no wait. It takes no memory.
     pub fn new(alloc: Global, policy: Policy) -> Table
         ensures opening { SameState opening (table_state result) }
         ensures policy { table_policy result ≡ policy }
+        ensures swept { AreSwept result }
     {
         Table {
             policy,

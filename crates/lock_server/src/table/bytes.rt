@@ -6,7 +6,7 @@ ghost use Rattle.lock_server.specs.Calls.{DismissesOn, Forgets, ForgetsOn, is_ot
 ghost use Rattle.lock_server.specs.Files.{SameFile, untouched};
 ghost use Rattle.lock_server.specs.Settling.{IsHeldBack};
 ghost use Rattle.lock_server.specs.States.{SameState};
-ghost use Rattle.lock_server.specs.TableView.{HasEntry, table_state, table_policy};
+ghost use Rattle.lock_server.specs.TableView.{AreSwept, HasEntry, IsSwept, KeepsOthers, table_state, table_policy};
 
 use super::Table;
 use crate::{Blocker, Family, Memory, Mode, Owner, Pending, Span};
@@ -38,6 +38,8 @@ impl Table {
         ensures unlock { mode ≡ None → (¬ SplitsRun (((table_state self.old).files file).bytes (Owner.Description owner)) span) → IsOk result }
         ensures err { OnErr result (SameState (table_state self.old) (table_state self.new)) }
         ensures policy { table_policy self.new ≡ table_policy self.old }
+        ensures swept { OnErr result (IsSwept self.old file → IsSwept self.new file) }
+        ensures others { KeepsOthers self.old self.new file }
     {
         // Where nothing is known of the file there is nothing to unlock.
         if mode.is_none() && !self.files.contains_key(&file) {
@@ -67,6 +69,7 @@ impl Table {
         ensures unlock { mode ≡ None → (¬ SplitsRun (((table_state self.old).files file).bytes (Owner.Description owner)) span) → IsOk result }
         ensures err { OnErr result (SameState (table_state self.old) (table_state self.new)) }
         ensures policy { table_policy self.new ≡ table_policy self.old }
+        ensures others { KeepsOthers self.old self.new file }
     {
         let locks = self.files.get_mut(&file).unwrap();
         locks.set(owner, span, mode)?;
@@ -78,6 +81,7 @@ impl Table {
     pub fn release(&mut self, file: u64, owner: u64)
         ensures releases { ReleasesOn (table_state self.old) file Family.Bytes owner (table_state self.new) }
         ensures policy { table_policy self.new ≡ table_policy self.old }
+        ensures others { KeepsOthers self.old self.new file }
     {
         if let Some(locks) = self.files.get_mut(&file) {
             locks.release(owner);
@@ -88,6 +92,7 @@ impl Table {
     pub fn dismiss(&mut self, file: u64, owner: u64)
         ensures forgets { ForgetsOn (table_state self.old) file owner (table_state self.new) }
         ensures policy { table_policy self.new ≡ table_policy self.old }
+        ensures others { KeepsOthers self.old self.new file }
     {
         // The waits go first: as long as one stands, the owner's room on the file stays at its release.
         while self.dismiss_one(file, owner) {}
@@ -100,6 +105,7 @@ impl Table {
         ensures none { IsFalse result → All (λ wait. IsTrue (is_other_wait owner wait)) ((table_state self.old).files file).waits
             × SameState (table_state self.old) (table_state self.new) }
         ensures policy { table_policy self.new ≡ table_policy self.old }
+        ensures others { KeepsOthers self.old self.new file }
     {
         let Some(locks) = self.files.get_mut(&file) else {
             return false;
@@ -117,6 +123,7 @@ impl Table {
     pub fn forget(&mut self, owner: u64)
         ensures forgets { Forgets (table_policy self.old) (table_state self.old) owner (table_state self.new) }
         ensures policy { table_policy self.new ≡ table_policy self.old }
+        ensures swept { AreSwept self.old → AreSwept self.new }
     {
         let mut above = None;
         while let Some(file) = self.next_file(above) {

@@ -1,9 +1,8 @@
 //! The entries of files, and the tickets.
-ghost use Rattle.std.specs.Prelude.{◌≡◌, ◌↔◌, IsOk, IsTrue, OnOk};
+ghost use Rattle.std.specs.Prelude.{◌≡◌, ◌↔◌, IsOk, IsTrue, OnErr, OnOk};
 ghost use Rattle.lock_server.specs.Calls.{FetchComesTo};
-ghost use Rattle.lock_server.specs.Files.{SameFile, untouched};
 ghost use Rattle.lock_server.specs.States.{IsTaken, SameState};
-ghost use Rattle.lock_server.specs.TableView.{HasEntry, table_state, table_policy};
+ghost use Rattle.lock_server.specs.TableView.{HasEntry, IsSwept, KeepsEntries, KeepsOthers, table_state, table_policy};
 
 use super::Table;
 use crate::Memory;
@@ -33,6 +32,8 @@ impl Table {
         ensures entry { OnOk result (HasEntry self.new file) }
         ensures there { HasEntry self.old file → IsOk result }
         ensures policy { table_policy self.new ≡ table_policy self.old }
+        ensures swept { OnErr result (IsSwept self.old file → IsSwept self.new file) }
+        ensures others { KeepsOthers self.old self.new file }
     {
         if self.files.contains_key(&file) {
             return Ok(());
@@ -44,8 +45,9 @@ impl Table {
     /// Drops the entry of the file, where it has neither a lock nor a wait.
     pub fn sweep(&mut self, file: u64)
         ensures same { SameState (table_state self.old) (table_state self.new) }
-        ensures gone { SameFile ((table_state self.new).files file) untouched → ¬ HasEntry self.new file }
+        ensures gone { IsSwept self.new file }
         ensures policy { table_policy self.new ≡ table_policy self.old }
+        ensures others { KeepsOthers self.old self.new file }
     {
         let Some(locks) = self.files.get(&file) else {
             return;
@@ -59,6 +61,7 @@ impl Table {
     pub fn next_grant(&mut self) -> Option<u64>
         ensures fetched { FetchComesTo (table_state self.old) result (table_state self.new) }
         ensures policy { table_policy self.new ≡ table_policy self.old }
+        ensures entries { KeepsEntries self.old self.new }
     {
         self.tickets.fetch()
     }

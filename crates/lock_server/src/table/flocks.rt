@@ -1,12 +1,11 @@
 //! flock locks.
-ghost use Rattle.std.specs.Prelude.{◌≡◌, false, None, OnOk};
-ghost use Rattle.lock_server.specs.Files.{SameFile, untouched};
+ghost use Rattle.std.specs.Prelude.{◌≡◌, false, None, OnErr, OnOk};
 ghost use Rattle.lock_book.specs.Changes.{whole_file};
 ghost use Rattle.lock_server.specs.Calls.{ReleasesOn, SetsOn};
 ghost use Rattle.lock_server.specs.Closing.{ClosesOn};
 ghost use Rattle.lock_server.specs.States.{SameState};
 ghost use Rattle.lock_server.specs.TableRoom.{HasFlockPlace, KeepsRoomOn};
-ghost use Rattle.lock_server.specs.TableView.{HasEntry, table_state, table_policy};
+ghost use Rattle.lock_server.specs.TableView.{IsSwept, KeepsOthers, table_state, table_policy};
 
 use super::Table;
 use crate::{Family, Memory, Mode};
@@ -24,6 +23,7 @@ impl Table {
     pub fn release_flock(&mut self, file: u64, owner: u64)
         ensures releases { ReleasesOn (table_state self.old) file Family.Whole owner (table_state self.new) }
         ensures policy { table_policy self.new ≡ table_policy self.old }
+        ensures others { KeepsOthers self.old self.new file }
     {
         if let Some(locks) = self.files.get_mut(&file) {
             locks.release_flock(owner);
@@ -34,6 +34,7 @@ impl Table {
     pub fn release_flock_of(&mut self, file: u64, owner: Option<u64>)
         ensures closes { ClosesOn (table_state self.old) file (λ other. false) owner (table_state self.new) }
         ensures policy { table_policy self.new ≡ table_policy self.old }
+        ensures others { KeepsOthers self.old self.new file }
     {
         if let Some(owner) = owner {
             self.release_flock(file, owner);
@@ -47,6 +48,8 @@ impl Table {
         ensures same { SameState (table_state self.old) (table_state self.new) }
         ensures ok { OnOk result (HasFlockPlace self.new file owner) }
         ensures policy { table_policy self.new ≡ table_policy self.old }
+        ensures swept { OnErr result (IsSwept self.old file → IsSwept self.new file) }
+        ensures others { KeepsOthers self.old self.new file }
     {
         self.open(file)?;
         let locks = self.files.get_mut(&file).unwrap();
@@ -63,8 +66,9 @@ impl Table {
     /// the file, where that has neither a lock nor a wait. It takes no memory.
     pub fn give_back_place(&mut self, file: u64, owner: u64)
         ensures same { SameState (table_state self.old) (table_state self.new) }
-        ensures gone { SameFile ((table_state self.new).files file) untouched → ¬ HasEntry self.new file }
+        ensures gone { IsSwept self.new file }
         ensures policy { table_policy self.new ≡ table_policy self.old }
+        ensures others { KeepsOthers self.old self.new file }
     {
         if let Some(locks) = self.files.get_mut(&file) {
             locks.give_back_place(owner);
@@ -79,6 +83,7 @@ impl Table {
         ensures sets { SetsOn (table_state self.old) file Family.Whole owner whole_file mode (table_state self.new) }
         ensures room { KeepsRoomOn self.old self.new file }
         ensures policy { table_policy self.new ≡ table_policy self.old }
+        ensures others { KeepsOthers self.old self.new file }
     {
         let locks = self.files.get_mut(&file).unwrap();
         locks.set_flock(owner, mode);

@@ -4,7 +4,7 @@ ghost use Rattle.lock_server.specs.States.{GrantsOn, SameState, SettlesFile};
 ghost use Rattle.lock_server.specs.Settling.{IsSettled};
 ghost use Rattle.lock_server.specs.TableRoom.{KeepsRoomOn};
 ghost use Rattle.lock_server.specs.Waiting.{IsReadyAt};
-ghost use Rattle.lock_server.specs.TableView.{table_state, table_policy};
+ghost use Rattle.lock_server.specs.TableView.{KeepsOthers, table_state, table_policy};
 
 use super::Table;
 use crate::Pending;
@@ -18,6 +18,7 @@ impl Table {
         ensures settled { IsSettled (table_policy self.new) ((table_state self.new).files file) }
         ensures room { KeepsRoomOn self.old self.new file }
         ensures policy { table_policy self.new ≡ table_policy self.old }
+        ensures others { KeepsOthers self.old self.new file }
     {
         while self.grant_next(file) {}
     }
@@ -29,6 +30,7 @@ impl Table {
             × SameState (table_state self.old) (table_state self.new) }
         ensures room { KeepsRoomOn self.old self.new file }
         ensures policy { table_policy self.new ≡ table_policy self.old }
+        ensures others { KeepsOthers self.old self.new file }
     {
         let Some(place) = self.next_ready(file) else {
             return false;

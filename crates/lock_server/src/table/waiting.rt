@@ -1,11 +1,11 @@
 //! Requests that may wait, and those that wait no more.
-ghost use Rattle.std.specs.Prelude.{◌≡◌, ◌↔◌, None, Some, IsTrue, IfSome, IfNone, OnOk};
+ghost use Rattle.std.specs.Prelude.{◌≡◌, ◌↔◌, None, Some, IsTrue, IfSome, IfNone, OnErr, OnOk};
 ghost use Rattle.range_core.specs.Ranges.{IsByteRange};
 ghost use Rattle.lock_server.specs.Calls.{LeavesOn, Suspends};
 ghost use Rattle.lock_server.specs.TableRoom.{HasRoomFor};
 ghost use Rattle.lock_server.specs.Settling.{IsWaitBlocked};
 ghost use Rattle.lock_server.specs.States.{IsPending, IsTaken, SameState};
-ghost use Rattle.lock_server.specs.TableView.{HasEntry, table_state, table_policy};
+ghost use Rattle.lock_server.specs.TableView.{HasEntry, IsSwept, KeepsEntries, KeepsOthers, table_state, table_policy};
 ghost use Rattle.lock_server.specs.TicketsView.{place_at};
 
 use super::Table;
@@ -34,6 +34,8 @@ impl Table {
         ensures same { SameState (table_state self.old) (table_state self.new) }
         ensures ok { OnOk result (HasRoomFor self.new file wanted.now) }
         ensures policy { table_policy self.new ≡ table_policy self.old }
+        ensures swept { OnErr result (IsSwept self.old file → IsSwept self.new file) }
+        ensures others { KeepsOthers self.old self.new file }
     {
         self.open(file)?;
         match self.reserve_all(file, wanted) {
@@ -53,6 +55,7 @@ impl Table {
         ensures same { SameState (table_state self.old) (table_state self.new) }
         ensures ok { OnOk result (HasRoomFor self.new file wanted.now) }
         ensures policy { table_policy self.new ≡ table_policy self.old }
+        ensures others { KeepsOthers self.old self.new file }
     {
         let locks = self.files.get_mut(&file).unwrap();
         locks.reserve(wanted)?;
@@ -67,6 +70,7 @@ impl Table {
         requires room { HasRoomFor self.old file wanted }
         ensures suspends { Suspends (table_state self.old) file wanted (table_state self.new) }
         ensures policy { table_policy self.new ≡ table_policy self.old }
+        ensures others { KeepsOthers self.old self.new file }
     {
         let locks = self.files.get_mut(&file).unwrap();
         locks.join(wanted);
@@ -80,6 +84,7 @@ impl Table {
         ensures free { place_at self.new.tickets ticket ≡ None }
         ensures same { SameState (table_state self.old) (table_state self.new) }
         ensures policy { table_policy self.new ≡ table_policy self.old }
+        ensures entries { KeepsEntries self.old self.new }
     {
         self.tickets.forget(ticket);
     }
@@ -90,6 +95,8 @@ impl Table {
         ensures some { IfSome result (λ file. LeavesOn (table_state self.old) file ticket (table_state self.new)) }
         ensures none { IfNone result ((¬ IsPending (table_state self.old) ticket) × SameState (table_state self.old) (table_state self.new)) }
         ensures policy { table_policy self.new ≡ table_policy self.old }
+        ensures others { IfSome result (λ file. KeepsOthers self.old self.new file) }
+        ensures entries { IfNone result (KeepsEntries self.old self.new) }
     {
         let Some(place) = self.tickets.place(ticket) else {
             return None;

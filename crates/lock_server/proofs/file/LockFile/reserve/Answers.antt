@@ -7,3 +7,7 @@ use Rattle.lock_server.proofs.file.LockFile.reserve.Goals as goal
 pub overflow_add-waits : goal.overflow_add-waits
 unfolding file_state
 overflow_add-waits c = grind (arith, common_steps, count_by-le-length, length-filter)
+
+pub returns-in-Whole-clause-same : goal.returns-in-Whole-clause-same
+unfolding file_state
+returns-in-Whole-clause-same c = grind (arith, common_steps)

@@ -3,24 +3,30 @@ use Rattle.lock_server.specs.ServerView.{policy_of, state_of}
 use Rattle.lock_server.specs.TableView.{table_policy, table_state}
 use Rattle.lock_server.proofs.SafeLemmas.{moves_left}
 use Rattle.lock_server.proofs.ServerLemmas.{rests, safe_rested, swept}
+use Rattle.lock_server.proofs.SweptLemmas.{all_swept, all_swept_but}
 use Rattle.lock_server.proofs.server.LockServer.cancel.Goals as goal
 
-pub invariant_of-self-2 : goal.invariant_of-self-2
-invariant_of-self-2 c =
+pub invariant_of-self-in-None-clause-swept : goal.invariant_of-self-in-None-clause-swept
+invariant_of-self-in-None-clause-swept c = all_swept c.args.self.now.table c.cancel.new.self c.in-None.ensures.entries c.args.self.now.swept
+
+pub invariant_of-self : goal.invariant_of-self
+invariant_of-self c =
     let table = c.args.self.now.table in
     let file = c.in-Some.file in
     let rest = swept (table_policy table) (table_state c.cancel.new.self) file (table_state c.settle.new.self) (table_state c.sweep.new.self)
     (rests (table_policy table) c.cancel.new.self c.settle.new.self file c.cancel.ensures.policy c.settle.ensures.policy c.settle.ensures.settles c.settle.ensures.settled)
-    c.sweep.ensures.same in
-    record {
+    c.sweep.ensures.same in record {
       safe = safe_rested table c.sweep.new.self [] (table_state c.cancel.new.self) file c.args.self.now.safe
           (c.sweep.ensures.policy ∙ c.settle.ensures.policy ∙ c.cancel.ensures.policy)
           (moves_left (table_state table) file c.args.ticket (table_state c.cancel.new.self) c.in-Some.ensures.some) rest;
+      swept = all_swept_but table c.sweep.new.self file
+          (λ other differs. c.sweep.ensures.others other differs ∙ c.settle.ensures.others other differs ∙ c.in-Some.ensures.others other differs)
+          c.sweep.ensures.gone c.args.self.now.swept;
     }
 
-pub returns-clause-comes_to : goal.returns-clause-comes_to
+pub returns-in-Some-clause-comes_to : goal.returns-in-Some-clause-comes_to
 unfolding policy_of state_of
-returns-clause-comes_to c =
+returns-in-Some-clause-comes_to c =
     let table = c.args.self.now.table in
     let file = c.in-Some.file in
     let rest = swept (table_policy table) (table_state c.cancel.new.self) file (table_state c.settle.new.self) (table_state c.sweep.new.self)

@@ -5,6 +5,8 @@ use Rattle.lock_server.specs.Calls.{ConvertsFrom, FlockOpComesTo, TestComesTo, f
 use Rattle.lock_server.specs.ServerView.{policy_of, state_of}
 use Rattle.lock_server.specs.TableView.{table_state}
 use Rattle.lock_server.proofs.FlockLemmas.{apart_by_test, flocks_by_halves}
+use Rattle.lock_server.proofs.ServerLemmas.{safe_same}
+use Rattle.lock_server.proofs.SweptLemmas.{all_swept_but}
 use Rattle.lock_server.proofs.server.LockServer.flock.Goals as goal
 
 pub flock_or_refuse-requires : goal.flock_or_refuse-requires
@@ -16,8 +18,8 @@ returns-clause-ok c =
     let policy = policy_of c.args.self.now in
     let S = state_of c.args.self.now in
     let P = table_state c.place_flock.new.self in
-    let M = state_of c.convert.new.self in
-    let T = state_of c.flock_or_refuse.new.self in
+    let M = table_state c.convert.new.table in
+    let T = table_state c.flock_or_refuse.new.table in
     let wanted = flock_request no_ticket c.args.owner c.in-Some.mode in
     let held = c.flock_mode-held.result in
     let differs = apart_by_test held c.in-Some.mode c.eq.result c.eq.ensures c.if-eq.false in
@@ -25,3 +27,23 @@ returns-clause-ok c =
     let comes = subst (λ (p : Policy). TestComesTo p M c.args.file wanted c.flock_or_refuse.result T) (c.convert.ensures.policy ∙ c.place_flock.ensures.policy) c.flock_or_refuse.ensures.comes_to in
     subst (λ (mode : Option Mode). FlockOpComesTo policy S c.args.file c.args.owner mode c.flock_or_refuse.result T) (sym c.in-Some.is)
     (flocks_by_halves policy S P M T c.args.file wanted held c.flock_or_refuse.result c.flock_mode-held.ensures differs c.in_ok-place_flock.ensures.same converts comes)
+
+pub invariant_of-self : goal.invariant_of-self
+invariant_of-self c =
+    let table = c.args.self.now.table in
+    let new = c.place_flock.new.self in
+    record {
+      safe = safe_same table new c.place_flock.ensures.same c.place_flock.ensures.policy c.args.self.now.safe;
+      swept = all_swept_but table new c.args.file c.place_flock.ensures.others (c.in_err-place_flock.ensures.swept (c.args.self.now.swept c.args.file)) c.args.self.now.swept;
+    }
+
+pub invariant_of-self-2 : goal.invariant_of-self-2
+invariant_of-self-2 c =
+    let table = c.args.self.now.table in
+    let placed = safe_same table c.place_flock.new.self c.place_flock.ensures.same c.place_flock.ensures.policy in
+    record {
+      safe = c.flock_or_refuse.ensures.safe (c.convert.ensures.safe (placed c.args.self.now.safe));
+      swept = all_swept_but table c.flock_or_refuse.new.table c.args.file
+          (λ other differs. c.flock_or_refuse.ensures.others other differs ∙ c.convert.ensures.others other differs ∙ c.place_flock.ensures.others other differs)
+          c.flock_or_refuse.ensures.swept c.args.self.now.swept;
+    }

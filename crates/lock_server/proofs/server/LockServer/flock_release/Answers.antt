@@ -5,6 +5,7 @@ use Rattle.lock_server.specs.ServerView.{policy_of, state_of}
 use Rattle.lock_server.specs.TableView.{table_policy, table_state}
 use Rattle.lock_server.proofs.SafeLemmas.{moves_released}
 use Rattle.lock_server.proofs.ServerLemmas.{releases_at_rest, rests, safe_rested, swept}
+use Rattle.lock_server.proofs.SweptLemmas.{all_swept_but}
 use Rattle.lock_server.proofs.server.LockServer.flock_release.Goals as goal
 
 pub invariant_of-self : goal.invariant_of-self
@@ -17,6 +18,9 @@ invariant_of-self c =
       safe = safe_rested table c.sweep.new.self _ (table_state c.release_flock.new.self) c.args.file c.args.self.now.safe
           (c.sweep.ensures.policy ∙ c.settle.ensures.policy ∙ c.release_flock.ensures.policy)
           (moves_released (table_state table) c.args.file Whole c.args.owner (table_state c.release_flock.new.self) c.release_flock.ensures.releases) rest;
+      swept = all_swept_but table c.sweep.new.self c.args.file
+          (λ other differs. c.sweep.ensures.others other differs ∙ c.settle.ensures.others other differs ∙ c.release_flock.ensures.others other differs)
+          c.sweep.ensures.gone c.args.self.now.swept;
     }
 
 pub returns-clause-releases : goal.returns-clause-releases

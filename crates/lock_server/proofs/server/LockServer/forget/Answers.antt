@@ -13,4 +13,5 @@ invariant_of-self c =
       safe = ∥∥₁_map c.args.self.now.safe (λ safe.
           safe_at (table_policy old) new c.forget.ensures.policy
           (safe_forgotten (table_policy old) (table_state old) c.args.owner (table_state new) safe c.forget.ensures.forgets (tickets_once new)));
+      swept = c.forget.ensures.swept c.args.self.now.swept;
     }

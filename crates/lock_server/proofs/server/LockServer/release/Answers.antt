@@ -5,6 +5,7 @@ use Rattle.lock_server.specs.ServerView.{policy_of, state_of, through_of}
 use Rattle.lock_server.specs.TableView.{table_policy, table_state}
 use Rattle.lock_server.proofs.ClosingLemmas.{closes_then, moves_closed}
 use Rattle.lock_server.proofs.ServerLemmas.{rests, safe_rested, swept}
+use Rattle.lock_server.proofs.SweptLemmas.{all_swept_but}
 use Rattle.lock_server.proofs.server.LockServer.release.Goals as goal
 
 pub invariant_of-self : goal.invariant_of-self
@@ -21,6 +22,9 @@ invariant_of-self c =
       safe = safe_rested table c.sweep.new.self _ (table_state closed) c.args.file c.args.self.now.safe
           (c.sweep.ensures.policy ∙ c.settle.ensures.policy ∙ c.close.ensures.policy ∙ c.release_flock_of.ensures.policy)
           (moves_closed (table_state table) c.args.file came c.args.flock_owner (table_state closed) closes) rest;
+      swept = all_swept_but table c.sweep.new.self c.args.file
+          (λ other differs. c.sweep.ensures.others other differs ∙ c.settle.ensures.others other differs ∙ c.close.ensures.others other differs ∙ c.release_flock_of.ensures.others other differs)
+          c.sweep.ensures.gone c.args.self.now.swept;
     }
 
 pub returns-clause-closes : goal.returns-clause-closes

@@ -3,8 +3,18 @@ use Rattle.wait_core.specs.declared.Family.TheVariants.{Bytes}
 use Rattle.lock_server.specs.Calls.{given_by}
 use Rattle.lock_server.specs.ServerView.{policy_of, state_of}
 use Rattle.lock_server.specs.TableView.{table_policy, table_state}
-use Rattle.lock_server.proofs.ServerLemmas.{changes_at_rest, moves_set, rests, safe_rested, set_done, swept}
+use Rattle.lock_server.proofs.ServerLemmas.{changes_at_rest, moves_set, rests, safe_rested, safe_same, set_done, swept}
+use Rattle.lock_server.proofs.SweptLemmas.{all_swept_but}
 use Rattle.lock_server.proofs.server.LockServer.set.Goals as goal
+
+pub invariant_of-self : goal.invariant_of-self
+invariant_of-self c =
+    let table = c.args.self.now.table in
+    let new = c.set.new.self in
+    record {
+      safe = safe_same table new c.in_err-set.ensures.err c.set.ensures.policy c.args.self.now.safe;
+      swept = all_swept_but table new c.args.file c.set.ensures.others (c.in_err-set.ensures.swept (c.args.self.now.swept c.args.file)) c.args.self.now.swept;
+    }
 
 pub invariant_of-self-2 : goal.invariant_of-self-2
 unfolding state_of
@@ -17,6 +27,9 @@ invariant_of-self-2 c =
           (c.sweep.ensures.policy ∙ c.settle.ensures.policy ∙ c.set.ensures.policy)
           (moves_set (table_state table) c.args.file c.args.owner c.args.span c.args.mode (table_state c.set.new.self)
           (λ held. let back = c.is_held_back.ensures.1 held in let none = c.if-is_held_back.false in cc) c.in_ok-set.ensures.ok) rest;
+      swept = all_swept_but table c.sweep.new.self c.args.file
+          (λ other differs. c.sweep.ensures.others other differs ∙ c.settle.ensures.others other differs ∙ c.set.ensures.others other differs)
+          c.sweep.ensures.gone c.args.self.now.swept;
     }
 
 pub returns-clause-ok : goal.returns-clause-ok

@@ -8,9 +8,19 @@ use Rattle.lock_server.specs.States.{State}
 use Rattle.lock_server.specs.TableView.{table_policy, table_state}
 use Rattle.lock_server.proofs.CompatibleLemmas.{free_from_open}
 use Rattle.lock_server.proofs.SafeLemmas.{moves_given}
-use Rattle.lock_server.proofs.ServerLemmas.{changes_at_rest, rests, safe_after_join, safe_rested}
+use Rattle.lock_server.proofs.ServerLemmas.{changes_at_rest, rests, safe_after_join, safe_rested, safe_same}
 use Rattle.lock_server.proofs.StateLemmas.{state_from_same}
+use Rattle.lock_server.proofs.SweptLemmas.{all_swept_but, lock_of_bytes, swept_with_lock, swept_with_wait}
 use Rattle.lock_server.proofs.server.LockServer.wait.Goals as goal
+
+pub invariant_of-self : goal.invariant_of-self
+invariant_of-self c =
+    let table = c.args.self.now.table in
+    let new = c.set.new.self in
+    record {
+      safe = safe_same table new c.in_err-set.ensures.err c.set.ensures.policy c.args.self.now.safe;
+      swept = all_swept_but table new c.args.file c.set.ensures.others (c.in_err-set.ensures.swept (c.args.self.now.swept c.args.file)) c.args.self.now.swept;
+    }
 
 pub invariant_of-self-then-not-blocks : goal.invariant_of-self-then-not-blocks
 invariant_of-self-then-not-blocks c =
@@ -25,6 +35,12 @@ invariant_of-self-then-not-blocks c =
     record {
       safe = safe_rested table c.settle.new.self (c.args.owner ∷ []) (table_state c.set.new.self) c.args.file c.args.self.now.safe (c.settle.ensures.policy ∙ c.set.ensures.policy)
           (moves_given S c.args.file request (table_state c.set.new.self) (free_from_open (table_policy table) F F.waits request ready) c.in_ok-set.ensures.ok) rest;
+      swept = all_swept_but table c.settle.new.self c.args.file
+          (λ other differs. c.settle.ensures.others other differs ∙ c.set.ensures.others other differs)
+          (swept_with_lock (table_policy c.set.new.self) (table_state c.set.new.self) c.args.file c.settle.new.self
+          (lock_of_bytes F c.args.owner c.args.span c.args.mode ((table_state c.set.new.self).files c.args.file) c.requires c.in_ok-set.ensures.ok.sets)
+          c.settle.ensures.settles)
+          c.args.self.now.swept;
     }
 
 pub returns-then-not-blocks-clause-ok : goal.returns-then-not-blocks-clause-ok
@@ -43,6 +59,15 @@ returns-then-not-blocks-clause-ok c =
       (refl, changes_at_rest (table_policy table) S c.args.file Bytes c.args.owner c.args.span (Some c.args.mode) (table_state c.set.new.self) (table_state c.settle.new.self) c.in_ok-set.ensures.ok rest),
     )
 
+pub invariant_of-self-in-Break-branch-3 : goal.invariant_of-self-in-Break-branch-3
+invariant_of-self-in-Break-branch-3 c =
+    let table = c.args.self.now.table in
+    let new = c.reserve.new.self in
+    record {
+      safe = safe_same table new c.reserve.ensures.same c.reserve.ensures.policy c.args.self.now.safe;
+      swept = all_swept_but table new c.args.file c.reserve.ensures.others (c.in_err-reserve.ensures.swept (c.args.self.now.swept c.args.file)) c.args.self.now.swept;
+    }
+
 pub invariant_of-self-2 : goal.invariant_of-self-2
 unfolding policy_of state_of
 invariant_of-self-2 c =
@@ -57,7 +82,11 @@ invariant_of-self-2 c =
     let passed : ¬ IsRefused (table_policy table) S c.args.file request =
     λ refused. (let back = c.in_ok-closes_cycle.ensures.1 (subst (λ (w : Pending). IsRefused (table_policy table) S c.args.file w) (sym c.byte_request-wanted.ensures) refused) in
     let none = c.if-branch.false in cc) in
-    record { safe = safe_after_join table c.join.new.self c.args.file request c.args.self.now.safe (c.join.ensures.policy ∙ c.reserve.ensures.policy) suspends blocked passed }
+    record {
+      safe = safe_after_join table c.join.new.self c.args.file request c.args.self.now.safe (c.join.ensures.policy ∙ c.reserve.ensures.policy) suspends blocked passed;
+      swept = all_swept_but table c.join.new.self c.args.file (λ other differs. c.join.ensures.others other differs ∙ c.reserve.ensures.others other differs)
+          (swept_with_wait c.join.new.self c.args.file _ _ c.join.ensures.suspends.joins.waits) c.args.self.now.swept;
+    }
 
 pub returns-clause-ok : goal.returns-clause-ok
 unfolding policy_of state_of

@@ -16,6 +16,8 @@ returns-in_default c = record {
     record { files = λ file. SameFile-itself _; grants = refl; crossed = λ owner. refl },
   );
   policy = refl;
+  others = tt;
+  entries = λ file. refl;
 }
 
 pub returns-in-Reserved : goal.returns-in-Reserved
@@ -28,6 +30,8 @@ returns-in-Reserved c =
       some = tt;
       none = (not_pending c.args.self.now c.args.ticket none, record { files = λ file. SameFile-itself _; grants = refl; crossed = λ owner. refl });
       policy = refl;
+      others = tt;
+      entries = λ file. refl;
     }
 
 pub unwrap-locks-requires : goal.unwrap-locks-requires

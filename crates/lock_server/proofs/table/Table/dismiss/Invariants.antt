@@ -1,5 +1,5 @@
 use Rattle.std.proofs.Common.{◌≡◌, length}
-use Rattle.lock_server.specs.TableView.{table_policy, table_state}
+use Rattle.lock_server.specs.TableView.{KeepsOthers, table_policy, table_state}
 use Rattle.lock_server.proofs.ForgetLemmas.{IsDismissing}
 use Rattle.lock_server.proofs.table.Table.dismiss.Given as goal
 
@@ -7,6 +7,7 @@ abbrev pub invariant-loop : goal.invariant-loop
 invariant-loop l = record {
   dismissing : IsDismissing (table_state l.fn.self) l.file l.owner (table_state l.self);
   policy : table_policy l.self ≡ table_policy l.fn.self;
+  others : KeepsOthers l.fn.self l.self l.file;
 }
 
 -- each round one wait leaves the file

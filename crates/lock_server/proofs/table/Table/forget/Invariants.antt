@@ -1,5 +1,5 @@
 use Rattle.std.proofs.Common.{◌≡◌, ◌-◌, ◌^◌}
-use Rattle.lock_server.specs.TableView.{table_policy, table_state}
+use Rattle.lock_server.specs.TableView.{AreSwept, table_policy, table_state}
 use Rattle.lock_server.proofs.ForgetLemmas.{IsForgetting, next_of}
 use Rattle.lock_server.proofs.table.Table.forget.Given as goal
 
@@ -7,6 +7,7 @@ abbrev pub invariant-loop-file : goal.invariant-loop-file
 invariant-loop-file l = record {
   forgetting : IsForgetting (table_policy l.initial.self) (table_state l.initial.self) l.owner (next_of l.above) (table_state l.self);
   policy : table_policy l.self ≡ table_policy l.initial.self;
+  swept : AreSwept l.initial.self → AreSwept l.self;
 }
 
 -- each file is above the one before

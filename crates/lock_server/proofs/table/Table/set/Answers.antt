@@ -1,5 +1,5 @@
-use Rattle.std.proofs.Common.{◌≡◌, ◌∙◌, sym, subst, true, false, Option, Some, None}
-use Rattle.std.specs.Prelude.{is_some}
+use Rattle.std.proofs.Common.{◌≡◌, ◌∙◌, sym, subst, true, false, Option, Some, None, Result, Ok, Err}
+use Rattle.std.specs.Prelude.{is_some, OnErr}
 use Rattle.std.specs.BTreeMap.{get}
 use Rattle.std.specs.Ordering.{nat_cmp}
 use Rattle.std.proofs.lemmas.Bool.{false≢true}
@@ -35,3 +35,10 @@ returns-in_err-open-clause-unlock c unlock whole =
           let mode = some_from_test c.args.mode test in absurd (let none : None ≡ Some mode.0 = sym unlock ∙ mode.1 in cc)
     ] in
     absurd (false≢true (c.in_err-open.ensures.there there))
+
+on_err : {X E : Type 0} (told : Result X E) (P : Type 0) → P → OnErr told P
+on_err (Ok done) P holds = tt
+on_err (Err memory) P holds = holds
+
+pub returns-in_err-open-clause-swept : goal.returns-in_err-open-clause-swept
+returns-in_err-open-clause-swept c = on_err c.from_residual.result _ c.in_err-open.ensures.swept

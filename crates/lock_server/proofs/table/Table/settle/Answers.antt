@@ -15,6 +15,7 @@ loop-init c =
       led = leads_nowhere (table_policy table) (table_state table) c.args.file (crosses_itself table);
       room = KeepsRoomOn-itself table c.args.file;
       policy = refl;
+      others = λ other differs. refl;
       file = refl;
     }
 
@@ -28,6 +29,7 @@ loop-preserved c =
       led = leads_more (table_policy table) (table_state table) c.args.file (table_state before) granted.0 (table_state after) c.loop.invariant.led grants;
       room = KeepsRoomOn-then table before after c.args.file c.loop.invariant.room c.grant_next.ensures.room;
       policy = c.grant_next.ensures.policy ∙ c.loop.invariant.policy;
+      others = λ other differs. c.grant_next.ensures.others other differs ∙ c.loop.invariant.others other differs;
       file = refl;
     }
 

@@ -1,6 +1,6 @@
 use Rattle.std.proofs.Common.{◌≡◌, length}
 use Rattle.lock_server.specs.TableRoom.{KeepsRoomOn}
-use Rattle.lock_server.specs.TableView.{table_policy, table_state}
+use Rattle.lock_server.specs.TableView.{KeepsOthers, table_policy, table_state}
 use Rattle.lock_server.proofs.SettleLemmas.{HasLedOn}
 use Rattle.lock_server.proofs.table.Table.settle.Given as goal
 
@@ -11,6 +11,7 @@ invariant-loop l =
       led : HasLedOn (table_policy l.fn.self) (table_state l.fn.self) l.file (table_state l.self);
       room : KeepsRoomOn l.fn.self l.self l.file;
       policy : table_policy l.self ≡ table_policy l.fn.self;
+      others : KeepsOthers l.fn.self l.self l.file;
       file : l.file ≡ l.fn.file;
     }
 

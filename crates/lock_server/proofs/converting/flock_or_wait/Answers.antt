@@ -1,6 +1,5 @@
 use Rattle.std.proofs.Common.{◌≡◌, ◌∙◌, inr, refl, sym, subst, false, true}
 use Rattle.std.proofs.Math.Logic.{∥∥₁_map}
-use Rattle.lock_server.specs.ServerView.{policy_of, state_of}
 use Rattle.lock_server.specs.Settling.{IsHeldBack, IsWaitBlocked}
 use Rattle.lock_server.specs.States.{State}
 use Rattle.lock_server.specs.TableView.{table_policy, table_state}
@@ -11,30 +10,29 @@ use Rattle.lock_server.proofs.SafeLemmas.{moves_given}
 use Rattle.lock_server.proofs.ServerLemmas.{ComesToRest, changes_at_rest, rests, safe_at, safe_rested}
 use Rattle.lock_server.proofs.StateLemmas.{state_from_same}
 use Rattle.lock_server.proofs.TakenLemmas.{tickets_once}
-use Rattle.lock_server.proofs.server.LockServer.flock_or_wait.Goals as goal
+use Rattle.lock_server.proofs.SweptLemmas.{lock_of_flock, same_lock, swept_with_lock}
+use Rattle.lock_server.proofs.converting.flock_or_wait.Goals as goal
 
-pub invariant_of-self : goal.invariant_of-self
+pub returns-then-blocks-clause-safe : goal.returns-then-blocks-clause-safe
 unfolding table_policy
-invariant_of-self c =
-    let table = c.args.self.now.table in
+returns-then-blocks-clause-safe c holds =
+    let table = c.args.table.now in
     let new = c.join.new.self in
     let wanted = c.args.wanted in
-    record {
-      safe = ∥∥₁_map c.args.self.now.safe (λ safe.
-          safe_at (table_policy table) new c.join.ensures.policy
-          (safe_joined (table_policy table) (table_state table) c.args.file wanted (table_state new) c.join.ensures.suspends safe (c.blocks-2.ensures.0 c.if-blocks.true)
-          (never_refused (table_policy table) (table_state table) c.args.file wanted c.requires.flock.1) (tickets_once new)));
-    }
+    ∥∥₁_map holds (λ safe.
+    safe_at (table_policy table) new c.join.ensures.policy
+    (safe_joined (table_policy table) (table_state table) c.args.file wanted (table_state new) c.join.ensures.suspends safe (c.blocks-2.ensures.0 c.if-blocks.true)
+    (never_refused (table_policy table) (table_state table) c.args.file wanted c.requires.flock.1) (tickets_once new)))
 
 pub set_flock-requires : goal.set_flock-requires
-set_flock-requires c = place_from_room c.args.self.now.table c.args.file c.args.wanted c.requires.flock.0 c.requires.room
+set_flock-requires c = place_from_room c.args.table.now c.args.file c.args.wanted c.requires.flock.0 c.requires.room
 
 pub give_back-requires : goal.give_back-requires
 give_back-requires c = (c.set_flock.ensures.room.requests c.args.wanted c.requires.flock.0 c.requires.flock.1 c.requires.room).ticket
 
-pub invariant_of-self-2 : goal.invariant_of-self-2
-invariant_of-self-2 c =
-    let table = c.args.self.now.table in
+pub returns-clause-safe : goal.returns-clause-safe
+returns-clause-safe c safe =
+    let table = c.args.table.now in
     let wanted = c.args.wanted in
     let S = table_state table in
     let set = c.set_flock.new.self in
@@ -44,15 +42,12 @@ invariant_of-self-2 c =
     let back = rests (table_policy table) c.give_back.new.self c.settle.new.self c.args.file (c.give_back.ensures.policy ∙ c.set_flock.ensures.policy) c.settle.ensures.policy
     c.settle.ensures.settles c.settle.ensures.settled in
     let rest = subst (λ (M : State). ComesToRest (table_policy table) M c.args.file (table_state c.settle.new.self)) (state_from_same (table_state set) (table_state c.give_back.new.self) c.give_back.ensures.same) back in
-    record {
-      safe = safe_rested table c.settle.new.self _ (table_state set) c.args.file c.args.self.now.safe (c.settle.ensures.policy ∙ c.give_back.ensures.policy ∙ c.set_flock.ensures.policy)
-          (moves_given S c.args.file wanted (table_state set) free (set_as_asked S c.args.file wanted (table_state set) c.requires.flock.0 c.set_flock.ensures.sets)) rest;
-    }
+    safe_rested table c.settle.new.self _ (table_state set) c.args.file safe (c.settle.ensures.policy ∙ c.give_back.ensures.policy ∙ c.set_flock.ensures.policy)
+    (moves_given S c.args.file wanted (table_state set) free (set_as_asked S c.args.file wanted (table_state set) c.requires.flock.0 c.set_flock.ensures.sets)) rest
 
 pub returns-clause-comes_to : goal.returns-clause-comes_to
-unfolding policy_of state_of
 returns-clause-comes_to c =
-    let table = c.args.self.now.table in
+    let table = c.args.table.now in
     let wanted = c.args.wanted in
     let S = table_state table in
     let set = c.set_flock.new.self in
@@ -63,3 +58,12 @@ returns-clause-comes_to c =
     let rest = subst (λ (M : State). ComesToRest (table_policy table) M c.args.file (table_state c.settle.new.self)) (state_from_same (table_state set) (table_state c.give_back.new.self) c.give_back.ensures.same) back in
     let sets = set_as_asked S c.args.file wanted (table_state set) c.requires.flock.0 c.set_flock.ensures.sets in
     inr (open_still, (refl, changes_at_rest (table_policy table) S c.args.file wanted.family wanted.owner wanted.span _ (table_state set) (table_state c.settle.new.self) sets rest))
+
+pub returns-clause-swept : goal.returns-clause-swept
+returns-clause-swept c =
+    let set = (table_state c.set_flock.new.self).files c.args.file in
+    let back = c.give_back.new.self in
+    swept_with_lock (table_policy back) (table_state back) c.args.file c.settle.new.self
+    (same_lock set ((table_state back).files c.args.file) (c.give_back.ensures.same.files c.args.file)
+    (lock_of_flock ((table_state c.args.table.now).files c.args.file) c.args.wanted.owner c.args.wanted.mode set c.set_flock.ensures.sets.sets))
+    c.settle.ensures.settles

@@ -5,17 +5,15 @@ use Rattle.lock_server.specs.TableView.{table_policy, table_state}
 use Rattle.lock_server.proofs.GrantedMoves.{KeepsRoomOn-then}
 use Rattle.lock_server.proofs.SafeLemmas.{moves_unset}
 use Rattle.lock_server.proofs.ServerLemmas.{rests, safe_rested}
-use Rattle.lock_server.proofs.server.LockServer.convert.Goals as goal
+use Rattle.lock_server.proofs.converting.convert.Goals as goal
 
-pub invariant_of-self : goal.invariant_of-self
-invariant_of-self c =
-    let table = c.args.self.now.table in
+pub returns-clause-safe : goal.returns-clause-safe
+returns-clause-safe c safe =
+    let table = c.args.table.now in
     let set = c.set_flock.new.self in
     let rest = rests (table_policy table) set c.settle.new.self c.args.file c.set_flock.ensures.policy c.settle.ensures.policy c.settle.ensures.settles c.settle.ensures.settled in
-    record {
-      safe = safe_rested table c.settle.new.self _ (table_state set) c.args.file c.args.self.now.safe (c.settle.ensures.policy ∙ c.set_flock.ensures.policy)
-          (moves_unset (table_state table) c.args.file Whole c.args.owner whole_file (table_state set) c.set_flock.ensures.sets) rest;
-    }
+    safe_rested table c.settle.new.self _ (table_state set) c.args.file safe (c.settle.ensures.policy ∙ c.set_flock.ensures.policy)
+    (moves_unset (table_state table) c.args.file Whole c.args.owner whole_file (table_state set) c.set_flock.ensures.sets) rest
 
 pub returns-clause-room : goal.returns-clause-room
-returns-clause-room c = KeepsRoomOn-then c.args.self.now.table c.set_flock.new.self c.settle.new.self c.args.file c.set_flock.ensures.room c.settle.ensures.room
+returns-clause-room c = KeepsRoomOn-then c.args.table.now c.set_flock.new.self c.settle.new.self c.args.file c.set_flock.ensures.room c.settle.ensures.room
