@@ -19,7 +19,7 @@ use Rattle.call_table.specs.Views.{client_of, tally_at}
 use Rattle.call_table.specs.Rule.{CellHas, request_cell, Agrees, Kept}
 use Rattle.call_table.specs.Steps.{Seated, HasClient, client_filled, client_posted, Fills, Posts}
 use Rattle.call_table.proofs.PlacesLaws.{stored_here, stored_else}
-use Rattle.call_table.proofs.Pushing.{at_push, other_cell}
+use Rattle.call_table.proofs.Pushing.{at_push, other_cell, prefix_none}
 use Rattle.call_table.proofs.Frames.{before_length, request_six, request_cell_stays, answers_stay, answers_same, closing_same}
 use Rattle.call_table.proofs.Moves.{client_moves}
 
@@ -136,7 +136,7 @@ posts_agree P d p l deep at now desk c r x room few number fits spelled stored e
         filled_most = omega arith;
         reads = λ e y h. ⊎_elim
             (λ (old : get_elem? c.posted (length requests) ≡ some y). q.reads e y old)
-            (λ (new : (length requests ≡ length c.posted) × (r ≡ y)). none desk.reading.1 (request_spelled y)
+            (λ (new : (length requests ≡ length c.posted) × (r ≡ y)). prefix_none desk.reading.1 (request_spelled y)
             (λ some_read. let m = q.reads_some e some_read in let n = q.looked_most in omega arith))
             (at_push c.posted r y (length requests) h);
         reads_some = q.reads_some;
@@ -146,10 +146,6 @@ posts_agree P d p l deep at now desk c r x room few number fits spelled stored e
           desk.journal (tally_at desk.tallies p).published desk.filling c g.answers);
       closing = closing_same g.closing;
     }
-  where
-    none : (words spelling : List ℕ) → ¬ (0 < length words) → IsPrefixOf words spelling
-    none [] spelling n = (spelling, refl)
-    none (w ∷ ws) spelling n = absurd (n (omega arith))
 
 pub client_is : (c u : ClientView) → HasClient u (Client c, []) → c ≡ u
 client_is c u e = ap (λ (m : Seated). client_of m.0) e

@@ -18,8 +18,8 @@ use Rattle.call_table.specs.declared.tally.Tally.{Tally}
 use Rattle.call_table.specs.Spelling.{request_spelled, RequestFits}
 use Rattle.call_table.specs.Places.{Place, posted, index_of, IsProcess, word_at}
 use Rattle.call_table.specs.Views.{desk_of, tally_at}
-use Rattle.call_table.specs.Rule.{CellHas, BeginsRequest, request_cell, RequestsAgree, AnswersAgree, ClosingAgrees, Agrees, Kept}
-use Rattle.call_table.specs.Steps.{Seated, HasDesk, desk_looked, desk_read, Looks, Reads}
+use Rattle.call_table.specs.Rule.{CellHas, BeginsRequest, request_cell, RequestsAgree, AnswersAgree, ClosingAgrees, Agrees, Kept, mark_of}
+use Rattle.call_table.specs.Steps.{Seated, HasDesk, desk_looked, desk_read, Looks, Reads, IsRunOf}
 use Rattle.call_table.proofs.Pushing.{some_at, prefix_more, tally_here, tally_else}
 use Rattle.call_table.proofs.Frames.{request_six, desk_stays}
 use Rattle.call_table.proofs.Moves.{desk_moves}
@@ -35,10 +35,7 @@ desk_loads setup s k id d now word here made told journal closed each =
     subst (λ (words : List ℕ). Kept setup record { words = words; homes = s.homes; views = set s.views id (Desk now) })
     (sym (set-get_or s.words word 0))
     (desk_moves setup s k id d now s.words here made told refl
-    (λ run. subst (λ (h : List Rattle.session_core.specs.Event.Event). ∥
-    ((T : Rattle.lock_manager.specs.State.State) × Rattle.session_core.specs.Runs.IsRun setup.rules setup.processes h T) ∥₁)
-    (sym journal) run)
-    (λ marked. marked ∙ ap Rattle.call_table.specs.Rule.mark_of (sym closed))
+    (λ run. subst (IsRunOf setup) (sym journal) run) (λ marked. marked ∙ ap mark_of (sym closed))
     (λ p a b agrees. each p (a, b) agrees))
 
 pub desk_is : (d u : DeskView) → HasDesk u (Desk d, []) → d ≡ u
@@ -49,6 +46,15 @@ looks_agree : (depth p : ℕ) (at : Place → ℕ) (d : DeskView) (c : ClientVie
     → Agrees depth p at d c → Agrees depth p at (desk_looked d p found) c
 looks_agree depth p at d c found is g = grind (arith, common_steps, tally_here)
 
+-- what holds of a process, at the view of the desk's seat
+pub agrees_at : (setup : Setup) (s : State (Unit {0}) View) (k : Kept setup s) (id : ℕ) (d : DeskView)
+    → get_elem? s.views id ≡ some (Desk d)
+    → (p : ℕ) → IsProcess setup.processes p → Agrees setup.depth p (word_at setup.processes setup.depth s.words) d (k.clients p)
+agrees_at setup s k id d here p l =
+    let mine_is = k.stands id (Desk d) here in
+    subst (λ (x : DeskView). Agrees setup.depth p (word_at setup.processes setup.depth s.words) x (k.clients p))
+    (sym mine_is.view_is) (k.each p l.0 l.1)
+
 pub may_look : (setup : Setup) (slots id : ℕ) (me : Seated) (d : DeskView) (word : ℕ)
     → IsProcess setup.processes word → HasDesk d me
     → Allows (Kept setup) slots id me word (λ n. n) (Looks (step slots word 0 0 none) me)
@@ -56,10 +62,7 @@ may_look setup slots id me d word l is =
     subst (λ (y : Seated). Allows (Kept setup) slots id y word (λ n. n) (Looks (step slots word 0 0 none) y)) (sym is)
     (λ s k wide here _.
     let found : ℕ = get_or s.words word 0 in
-    let mine_is = k.stands id (Desk d) here in
-    let g : Agrees setup.depth word (word_at setup.processes setup.depth s.words) d (k.clients word) =
-    subst (λ (x : DeskView). Agrees setup.depth word (word_at setup.processes setup.depth s.words) x (k.clients word))
-    (sym mine_is.view_is) (k.each word l.0 l.1) in
+    let g = agrees_at setup s k id d here word l in
     let all = g.requests.posted_word in
     let least = g.requests.looked_least in let most = g.requests.looked_most in (
       Desk (desk_looked d word found),
@@ -82,15 +85,6 @@ may_look setup slots id me d word l is =
         (let few = g.requests.few in omega arith),
       ),
     ))
-
--- what holds of a process, at the view of the desk's seat
-pub agrees_at : (setup : Setup) (s : State (Unit {0}) View) (k : Kept setup s) (id : ℕ) (d : DeskView)
-    → get_elem? s.views id ≡ some (Desk d)
-    → (p : ℕ) → IsProcess setup.processes p → Agrees setup.depth p (word_at setup.processes setup.depth s.words) d (k.clients p)
-agrees_at setup s k id d here p l =
-    let mine_is = k.stands id (Desk d) here in
-    subst (λ (x : DeskView). Agrees setup.depth p (word_at setup.processes setup.depth s.words) x (k.clients p))
-    (sym mine_is.view_is) (k.each p l.0 l.1)
 
 -- a read: a word of the next untaken request of process p
 reads_agree : (depth p : ℕ) → 1 ≤ p → (at : Place → ℕ) (d : DeskView) (c : ClientView) (r : Request) (found : ℕ) → d.reading.0 ≡ p

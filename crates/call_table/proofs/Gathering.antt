@@ -22,12 +22,11 @@ use Rattle.call_table.proofs.Posting.{view_is}
 use Rattle.call_table.proofs.Collecting.{may_get, may_collect}
 use Rattle.call_table.proofs.InTurnLaws.{number_at}
 
-pub sits_as : (setup : Setup) (me after : Seated) (process posted collected now : ℕ) (c : ClientView)
+pub sits_as : {setup : Setup} {me after : Seated} {process posted collected now : ℕ} (c : ClientView)
     → SitsAs me setup process posted collected → HasClient c after
     → c.process ≡ (client_of me.0).process → c.posted ≡ (client_of me.0).posted → c.collected ≡ now → c.filled ≡ [] → c.read ≡ []
     → collected ≤ now → now ≤ posted → SitsAs after setup process posted now
-sits_as setup me after process posted collected now c sits is process_same posted_same collected_is filled_none read_none more most =
-    grind (arith, common_steps, view_is)
+sits_as c sits is process_same posted_same collected_is filled_none read_none more most = grind (arith, common_steps, view_is)
 
 -- the word i of the next answer may be loaded, after those before it
 pub may_get_next : (setup key : Setup) (slots id : ℕ) (me : Seated) (c : ClientView) (words : List ℕ) (p before i word : ℕ)

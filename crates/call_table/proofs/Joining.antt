@@ -20,7 +20,7 @@ use Rattle.call_table.specs.declared.client_view.ClientView.{ClientView}
 use Rattle.call_table.specs.declared.before.Before.{Before}
 use Rattle.call_table.specs.declared.desk_view.DeskView.{DeskView}
 use Rattle.call_table.specs.declared.tally.Tally.{Tally}
-use Rattle.call_table.specs.Places.{Place, posted, IsProcess, words_of, word_at}
+use Rattle.call_table.specs.Places.{Place, mark, posted, IsProcess, words_of, word_at}
 use Rattle.call_table.specs.Views.{client_of, desk_of, new_client, new_desk, opening_view}
 use Rattle.call_table.specs.Rule.{Agrees, ClientStands, DeskStands, Outgrows, Stands, mark_of, Kept}
 use Rattle.call_table.specs.Steps.{Seated, Compares, met_desk, met_client, before_meeting}
@@ -54,13 +54,10 @@ may_make setup id d room s k here =
     let seats : ℕ → ℕ = with_seat k.seats p n in
     let keep_client : (j : ℕ) (u : ClientView) → ClientStands k.desk.setup k.desk.made k.clients k.seats j u
     → ClientStands now.setup now.made k.clients seats j u =
-    λ j u t. record {
-      seat_is = t.seat_is ∙ sym (seat_else k.seats p n u.process (λ e. let m = t.most in omega arith));
-      view_is = t.view_is;
-      told = t.told ∙ told_is;
-      least = t.least;
-      most = let m = t.most in omega arith;
-    } in
+    λ j u t.
+    let seat_is = t.seat_is ∙ sym (seat_else k.seats p n u.process (λ e. let m = t.most in omega arith)) in
+    let told = t.told ∙ told_is in
+    let most : u.process ≤ now.made = (let m = t.most in omega arith) in assumption (t, seat_is, told, most) in
     let keep : (j : ℕ) (v : View) → j ≢ id → Stands k.desk k.clients k.desk_seat k.seats j v
     → Stands now k.clients k.desk_seat seats j v =
     λ j v apart. elim v as (λ w. Stands k.desk k.clients k.desk_seat k.seats j w → Stands now k.clients k.desk_seat seats j w) [
@@ -96,8 +93,7 @@ may_make setup id d room s k here =
       wide = k.wide;
       deep = k.deep;
       run = subst (λ (x : DeskView). ∥ ((T : manager.State) × IsRun setup.rules setup.processes x.journal T) ∥₁) is k.run;
-      marked = subst (λ (x : DeskView). word_at setup.processes setup.depth s.words Rattle.call_table.specs.Places.mark ≡ mark_of
-          x.closed) is k.marked;
+      marked = subst (λ (x : DeskView). word_at setup.processes setup.depth s.words mark ≡ mark_of x.closed) is k.marked;
       each = λ q a b. desk_stays setup.depth q (word_at setup.processes setup.depth s.words) d now (k.clients q) refl refl refl
           refl (λ _. refl) (λ _. refl)
           (subst (λ (x : DeskView). Agrees setup.depth q (word_at setup.processes setup.depth s.words) x (k.clients q)) is
@@ -137,13 +133,12 @@ may_join setup id other d c s k here apart there =
     let n = k.made_most in omega arith))) in
     let keep_client : (j : ℕ) (u : ClientView) → j ≢ other → ClientStands k.desk.setup k.desk.made k.clients k.seats j u
     → ClientStands now.setup now.made clients seats j u =
-    λ j u n t. let differ : u.process ≢ p = λ e. n (t.seat_is ∙ ap k.seats e ∙ sym his.seat_is) in record {
-      seat_is = t.seat_is ∙ sym (seat_else k.seats p id u.process differ);
-      view_is = t.view_is ∙ sym (client_else k.clients p his_now u.process differ);
-      told = t.told ∙ told_is;
-      least = t.least;
-      most = let m = t.most in omega arith;
-    } in
+    λ j u n t.
+    let differ : u.process ≢ p = λ e. n (t.seat_is ∙ ap k.seats e ∙ sym his.seat_is) in
+    let seat_is = t.seat_is ∙ sym (seat_else k.seats p id u.process differ) in
+    let view_is = t.view_is ∙ sym (client_else k.clients p his_now u.process differ) in
+    let told = t.told ∙ told_is in
+    let most : u.process ≤ now.made = (let m = t.most in omega arith) in assumption (t, seat_is, view_is, told, most) in
     let keep : (j : ℕ) (v : View) → j ≢ id → j ≢ other → Stands k.desk k.clients k.desk_seat k.seats j v
     → Stands now clients k.desk_seat seats j v =
     λ j v n m. elim v as (λ w. Stands k.desk k.clients k.desk_seat k.seats j w → Stands now clients k.desk_seat seats j w) [
@@ -181,8 +176,7 @@ may_join setup id other d c s k here apart there =
       wide = k.wide;
       deep = k.deep;
       run = subst (λ (x : DeskView). ∥ ((T : manager.State) × IsRun setup.rules setup.processes x.journal T) ∥₁) is k.run;
-      marked = subst (λ (x : DeskView). word_at setup.processes setup.depth s.words Rattle.call_table.specs.Places.mark ≡ mark_of
-          x.closed) is k.marked;
+      marked = subst (λ (x : DeskView). word_at setup.processes setup.depth s.words mark ≡ mark_of x.closed) is k.marked;
       each = λ q a b. dite (ℕ_discrete q p)
           (λ e. subst (λ (y : ClientView). Agrees setup.depth q at now y) (sym (client_here k.clients p his_now q e))
           (meets_agree setup.depth q at d c (sym e)
@@ -205,13 +199,9 @@ may_part setup id d c before s k here =
     let seats : ℕ → ℕ = with_seat k.seats p n in
     let keep_client : (j : ℕ) (u : ClientView) → j ≢ id → ClientStands k.desk.setup k.desk.made k.clients k.seats j u
     → ClientStands k.desk.setup k.desk.made k.clients seats j u =
-    λ j u apart t. record {
-      seat_is = t.seat_is ∙ sym (seat_else k.seats p n u.process (λ e. apart (t.seat_is ∙ ap k.seats e ∙ sym his.seat_is)));
-      view_is = t.view_is;
-      told = t.told;
-      least = t.least;
-      most = t.most;
-    } in
+    λ j u apart t.
+    let seat_is = t.seat_is ∙ sym (seat_else k.seats p n u.process (λ e. apart (t.seat_is ∙ ap k.seats e ∙ sym his.seat_is))) in
+    assumption (t, seat_is) in
     let keep : (j : ℕ) (v : View) → j ≢ id → Stands k.desk k.clients k.desk_seat k.seats j v
     → Stands k.desk k.clients k.desk_seat seats j v =
     λ j v apart. elim v as (λ w. Stands k.desk k.clients k.desk_seat k.seats j w → Stands k.desk k.clients k.desk_seat seats j w) [
@@ -233,13 +223,8 @@ may_part setup id d c before s k here =
           (at_set s.views id j (Desk d) v old))
           (λ (new : (j ≡ length (set s.views id (Desk d))) × (Client c ≡ v)).
           subst (λ (y : ℕ × View). Stands k.desk k.clients k.desk_seat seats y.0 y.1)
-          (λ i. (sym (new.0 ∙ length-set s.views id (Desk d)) i, new.1 i)) record {
-            seat_is = sym (seat_here k.seats p n p refl);
-            view_is = his.view_is;
-            told = his.told;
-            least = his.least;
-            most = his.most;
-          })
+          (λ i. (sym (new.0 ∙ length-set s.views id (Desk d)) i, new.1 i))
+          (let seat_is = sym (seat_here k.seats p n p refl) in assumption (his, seat_is)))
           (at_push (set s.views id (Desk d)) (Client c) v j e);
       told = k.told;
       made_most = k.made_most;

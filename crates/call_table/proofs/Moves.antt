@@ -6,8 +6,6 @@ use mathlib.Core.Option.{some}
 use lib.ListN.{get_elem?}
 use Rattle.atomic_table.specs.Table.{State}
 use Rattle.atomic_table.proofs.Lists.{at_set}
-use Rattle.lock_manager.specs.State as manager
-use Rattle.session_core.specs.Runs.{IsRun}
 use Rattle.call_table.specs.declared.setup.Setup.{Setup}
 use Rattle.call_table.specs.declared.view.View.{View}
 use Rattle.call_table.specs.declared.view.View.TheVariants.{Spent, Client, Desk, Both}
@@ -15,6 +13,7 @@ use Rattle.call_table.specs.declared.client_view.ClientView.{ClientView}
 use Rattle.call_table.specs.declared.desk_view.DeskView.{DeskView}
 use Rattle.call_table.specs.Places.{Place, mark, IsPlace, owner_of, word_at}
 use Rattle.call_table.specs.Rule.{Agrees, ClientStands, DeskStands, Stands, mark_of, Kept}
+use Rattle.call_table.specs.Steps.{IsRunOf}
 use Rattle.call_table.proofs.Frames.{words_stay}
 
 -- the clients, where process p has this one
@@ -83,14 +82,8 @@ module _ (setup : Setup) (s : State (Unit {0}) View) (k : Kept setup s) where
           → ClientStands k.desk.setup k.desk.made (with_client k.clients c.process now) k.seats j u
       kept_client j u n t =
           let mine_is : ClientStands k.desk.setup k.desk.made k.clients k.seats id c = k.stands id (Client c) here in
-          record {
-            seat_is = t.seat_is;
-            view_is = t.view_is ∙ sym (client_else k.clients c.process now u.process (λ e. n (t.seat_is ∙ ap k.seats e
-                ∙ sym mine_is.seat_is)));
-            told = t.told;
-            least = t.least;
-            most = t.most;
-          }
+          let view_is = t.view_is ∙ sym (client_else k.clients c.process now u.process (λ e. n (t.seat_is ∙ ap k.seats e ∙ sym mine_is.seat_is))) in
+          assumption (t, view_is)
 
       stays : (j : ℕ) (v : View) → j ≢ id → Stands k.desk k.clients k.desk_seat k.seats j v
           → Stands k.desk (with_client k.clients c.process now) k.desk_seat k.seats j v
@@ -102,8 +95,7 @@ module _ (setup : Setup) (s : State (Unit {0}) View) (k : Kept setup s) where
   -- the desk's seat steps: its view becomes another
   pub desk_moves : (id : ℕ) (d now : DeskView) (words : List ℕ) → get_elem? s.views id ≡ some (Desk d) → now.made ≡ d.made
       → now.setup ≡ d.setup → length words ≡ length s.words
-      → (∥ ((T : manager.State) × IsRun setup.rules setup.processes d.journal T) ∥₁
-      → ∥ ((T : manager.State) × IsRun setup.rules setup.processes now.journal T) ∥₁)
+      → (IsRunOf setup d.journal → IsRunOf setup now.journal)
       → (at mark ≡ mark_of d.closed → now_at words mark ≡ mark_of now.closed)
       → ((p : ℕ) → 1 ≤ p → p ≤ setup.processes → Agrees setup.depth p at d (k.clients p)
       → Agrees setup.depth p (now_at words) now (k.clients p))
@@ -128,20 +120,17 @@ module _ (setup : Setup) (s : State (Unit {0}) View) (k : Kept setup s) where
         unmade = λ q h. k.unmade q (subst (λ (n : ℕ). n < q) (sym made_is) h);
         wide = wide ∙ k.wide;
         deep = k.deep;
-        run = run (subst (λ (x : DeskView). ∥ ((T : manager.State) × IsRun setup.rules setup.processes x.journal T) ∥₁) is k.run);
+        run = run (subst (λ (x : DeskView). IsRunOf setup x.journal) is k.run);
         marked = marked (subst (λ (x : DeskView). at mark ≡ mark_of x.closed) is k.marked);
         each = λ q a b. each q a b (subst (λ (x : DeskView). Agrees setup.depth q at x (k.clients q)) is (k.each q a b));
       }
     where
       kept_client : (j : ℕ) (u : ClientView) → k.desk.made ≡ now.made → k.desk.setup ≡ now.setup
           → ClientStands k.desk.setup k.desk.made k.clients k.seats j u → ClientStands now.setup now.made k.clients k.seats j u
-      kept_client j u made_is told_is t = record {
-        seat_is = t.seat_is;
-        view_is = t.view_is;
-        told = t.told ∙ told_is;
-        least = t.least;
-        most = subst (λ (n : ℕ). u.process ≤ n) made_is t.most;
-      }
+      kept_client j u made_is told_is t =
+          let told = t.told ∙ told_is in
+          let most = subst (λ (n : ℕ). u.process ≤ n) made_is t.most in
+          assumption (t, told, most)
 
       stays : (j : ℕ) (v : View) → j ≢ id → k.desk.made ≡ now.made → k.desk.setup ≡ now.setup
           → Stands k.desk k.clients k.desk_seat k.seats j v → Stands now k.clients k.desk_seat k.seats j v

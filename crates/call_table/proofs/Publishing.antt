@@ -19,7 +19,7 @@ use Rattle.call_table.specs.Spelling.{answer_spelled, ReplyFits}
 use Rattle.call_table.specs.Places.{Place, mark, posted, taken, answered, request, answer, index_of, IsPlace, IsProcess, owner_of, word_at}
 use Rattle.call_table.specs.Views.{tally_at, with_tally}
 use Rattle.call_table.specs.Rule.{CellHas, answer_cell, RequestsAgree, AnswersAgree, ClosingAgrees, Agrees, mark_of, Kept}
-use Rattle.call_table.specs.Steps.{Seated, HasDesk, desk_filled, desk_published, FillsAnswer, Publishes, Closes}
+use Rattle.call_table.specs.Steps.{Seated, HasDesk, desk_filled, desk_published, FillsAnswer, Publishes, Closes, IsRunOf}
 use Rattle.call_table.proofs.PlacesLaws.{stored_here, stored_else}
 use Rattle.call_table.proofs.Pushing.{at_push, other_cell, prefix_length, tally_here, tally_else}
 use Rattle.call_table.proofs.Frames.{before_length, answer_six, requests_stay, answer_cell_stays, words_stay, desk_stays}
@@ -47,9 +47,7 @@ desk_stores setup s k id d now p x a here is own least made told journal closed 
     let now_at : Place → ℕ = word_at P D words in
     let else : (b : Place) → IsPlace P D b → b ≢ a → now_at b ≡ at b = λ b t apart. stored_else P D s.words a b x is t apart in
     desk_moves setup s k id d now words here made told (length-set s.words (index_of P D a) x)
-    (λ run. subst (λ (h : List Rattle.session_core.specs.Event.Event). ∥
-    ((T : Rattle.lock_manager.specs.State.State) × Rattle.session_core.specs.Runs.IsRun setup.rules setup.processes h T) ∥₁)
-    (sym journal) run)
+    (λ run. subst (IsRunOf setup) (sym journal) run)
     (λ marked. else mark tt (λ e. let z = ap owner_of e ∙ own in omega arith) ∙ marked ∙ ap mark_of (sym closed))
     (λ q l m agrees. dite (ℕ_discrete q p)
     (λ e. subst (λ (y : ℕ). Agrees D y now_at now (k.clients q)) (sym e)
@@ -197,12 +195,9 @@ publishes_agree P depth p l deep at now d c x a mine spelled fits there number s
         filled_most = λ e. let least = l.0 in absurd (omega arith);
         fills_some = λ e. let least = l.0 in absurd (omega arith);
       };
-      closing = subst (λ (u : Tally). ClosingAgrees p d.journal u.published d.closed c) (sym is) record {
-        all_published = λ closed. let all = g.closing.all_published closed in absurd (omega arith);
-        over_closed = g.closing.over_closed;
-        drained_over = g.closing.drained_over;
-        drained_all = g.closing.drained_all;
-      };
+      closing = subst (λ (u : Tally). ClosingAgrees p d.journal u.published d.closed c) (sym is)
+          (let all_published : d.closed ≡ true → n + 1 ≡ length (answers_to p d.journal) =
+          λ closed. let all = g.closing.all_published closed in absurd (omega arith) in assumption (g.closing, all_published));
     }
 
 pub may_publish : (setup : Setup) (slots id : ℕ) (me : Seated) (d : DeskView) (p word x : ℕ) (a : ℕ × Reply × ℕ)

@@ -23,14 +23,15 @@ use Rattle.call_table.specs.declared.tally.Tally.{Tally}
 use Rattle.call_table.specs.Spelling.{request_spelled, answer_spelled, RequestFits}
 use Rattle.call_table.specs.Places.{Place, mark, posted, taken, answered, request, answer, index_of, IsPlace, IsProcess, word_at}
 use Rattle.call_table.specs.Views.{tally_at}
-use Rattle.call_table.specs.Rule.{RequestsAgree, AnswersAgree, ClosingAgrees, Kept}
+use Rattle.call_table.specs.Rule.{BeginsRequest, RequestsAgree, AnswersAgree, ClosingAgrees, Kept}
 use Rattle.call_table.specs.Steps.{Seated, HasDesk, desk_took, Takes}
 use Rattle.call_table.proofs.SpellingLaws.{one_request}
 use Rattle.call_table.proofs.PlacesLaws.{stored_here, stored_else}
 use Rattle.call_table.proofs.Pushing.{some_at, at_front, prefix_more, prefix_all, prefix_longer, prefix_none}
-use Rattle.call_table.proofs.Frames.{request_six, answer_six, request_cell_stays, answer_cell_stays}
+use Rattle.call_table.proofs.Frames.{request_six, answer_six, requests_stay, request_cell_stays, answer_cell_stays}
 use Rattle.call_table.proofs.Moves.{desk_moves}
 use Rattle.call_table.proofs.DeskSteps.{desk_is}
+use Rattle.call_table.proofs.Collecting.{answers_front}
 use Rattle.call_table.specs.InTurn.{AreInTurn}
 
 -- what one more event adds to the requests of a process that were taken
@@ -40,21 +41,6 @@ taken_here p H e is = grind (arith, common_steps, filter-append, eq-eqb, map-app
 
 pub taken_else : (p : ℕ) (H : List Event) (e : Event) → e.p ≢ p → requests_taken p (H ++ e ∷ []) ≡ requests_taken p H
 taken_else p H e other = grind (arith, common_steps, filter-append, append-nil)
-
-answers_longer : (p place : ℕ) (H : List Event) (e : Event)
-    → (more : List (ℕ × Reply × ℕ)) × (answers_from p place (H ++ e ∷ []) ≡ answers_from p place H ++ more)
-answers_longer p place [] e = (answers_in p place e.notes, append-nil (answers_in p place e.notes))
-answers_longer p place (x ∷ xs) e =
-    let rest = answers_longer p (place + 1) xs e in (
-      rest.0,
-      ap (λ (l : List (ℕ × Reply × ℕ)). answers_in p place x.notes ++ l) rest.1
-          ∙ sym (append_assoc (answers_in p place x.notes) (answers_from p (place + 1) xs) rest.0),
-    )
-
--- the answers to a process only grow
-pub answers_grow : (p : ℕ) (H : List Event) (e : Event)
-    → (more : List (ℕ × Reply × ℕ)) × (answers_to p (H ++ e ∷ []) ≡ answers_to p H ++ more)
-answers_grow p H e = answers_longer p 1 H e
 
 module _ (depth p : ℕ) (l : 1 ≤ p) (deep : 1 ≤ depth) (at now : Place → ℕ) (d : DeskView) (c : ClientView) (e : Event)
     (cells_same : (cell i : ℕ) → cell < depth → i < 6 → now (request p cell i) ≡ at (request p cell i))
@@ -69,28 +55,22 @@ module _ (depth p : ℕ) (l : 1 ≤ p) (deep : 1 ≤ depth) (at now : Place → 
   t : Tally
   t = tally_at d.tallies p
 
+  -- where no words are read, what was read counts for nothing
+  requests_unread : (requests : List Request) → RequestsAgree depth p now requests (tally_at d.tallies p).looked d.reading c
+      → RequestsAgree depth p now requests (tally_at d.tallies p).looked (0, []) c
+  requests_unread requests q =
+      let reads : 0 ≡ p → BeginsRequest [] c.posted (length requests) = λ is. absurd (omega arith) in
+      let reads_some : 0 ≡ p → 0 < 0 → length requests < (tally_at d.tallies p).looked = λ is. absurd (omega arith) in
+      assumption (q, reads, reads_some)
+
   -- another process' request was taken
   pub requests_else : e.p ≢ p → now (posted p) ≡ at (posted p) → now (taken p) ≡ at (taken p)
       → RequestsAgree depth p at (requests_taken p H) (tally_at d.tallies p).looked d.reading c
       → RequestsAgree depth p now (requests_taken p longer) (tally_at d.tallies p).looked (0, []) c
   requests_else other posted_same taken_same q =
-      subst (λ (x : List Request). RequestsAgree depth p now x (tally_at d.tallies p).looked (0, []) c)
-      (sym (taken_else p H e other)) record {
-        posted_word = posted_same ∙ q.posted_word;
-        taken_word = taken_same ∙ q.taken_word;
-        in_order = q.in_order;
-        looked_least = q.looked_least;
-        looked_most = q.looked_most;
-        fit = q.fit;
-        cells = λ before x h f. request_cell_stays depth p deep at now cells_same before (request_spelled x)
-            (omega (arith, request_six x)) (q.cells before x h f);
-        few = q.few;
-        room = q.room;
-        filled = request_cell_stays depth p deep at now cells_same (length c.posted) c.filled q.filled_most q.filled;
-        filled_most = q.filled_most;
-        reads = λ is. absurd (omega arith);
-        reads_some = λ is. absurd (omega arith);
-      }
+      subst (λ (x : List Request). RequestsAgree depth p now x (tally_at d.tallies p).looked (0, []) c) (sym (taken_else p H e other))
+      (requests_unread (requests_taken p H)
+      (requests_stay depth p deep at now posted_same taken_same cells_same (requests_taken p H) (tally_at d.tallies p).looked d.reading c q))
 
   -- the next request of the process was taken: it is the one that was read
   pub requests_here : e.p ≡ p → d.reading.0 ≡ p → d.reading.1 ≡ request_spelled e.request → RequestFits e.request
@@ -131,7 +111,7 @@ module _ (depth p : ℕ) (l : 1 ≤ p) (deep : 1 ≤ depth) (at now : Place → 
   pub answers_here : now (answered p) ≡ at (answered p) → AnswersAgree depth p at H (tally_at d.tallies p).published d.filling c
       → AnswersAgree depth p now longer (tally_at d.tallies p).published d.filling c
   answers_here answered_same g =
-      let grow = answers_grow p H e in
+      let grow = answers_front p 1 H (e ∷ []) in
       let total : length (answers_to p longer) ≡ length (answers_to p H) + length grow.0 =
       ap (λ (x : List (ℕ × Reply × ℕ)). length x) grow.1 ∙ length-append (answers_to p H) grow.0 in
       let front : (i : ℕ) (a : ℕ × Reply × ℕ) → i < length (answers_to p H) → get_elem? (answers_to p longer) i ≡ some a

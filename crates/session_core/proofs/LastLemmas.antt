@@ -1,8 +1,7 @@
 -- The last answer to each process: as a journal grows, and by its number; for `Session::answer_of`, `Session::answered`, `Replay::answered` and
 -- others.
-use Rattle.std.proofs.Common.{rules, ℕ, zero, suc, ◌≡◌, ◌+◌, ◌<◌, ◌≤◌, refl, sym, ◌∙◌, ap, subst, arith, true, false, eq-eqb, ne_eqb, length, List, [], ◌∷◌, ◌++◌, Option, Some, None, IfSome, slice_get}
+use Rattle.std.proofs.Common.{rules, ℕ, zero, suc, ◌≡◌, ◌+◌, ◌<◌, ◌≤◌, refl, sym, ◌∙◌, ap, subst, arith, eq-eqb, ne_eqb, length, List, [], ◌∷◌, ◌++◌, Option, Some, None, IfSome, slice_get}
 use Rattle.std.proofs.lemmas.Grind.{common_steps}
-use Rattle.std.specs.Prelude.{◌==◌, if◌then◌else◌}
 use Rattle.std.proofs.lemmas.Bool.{cases_lt}
 use Rattle.std.proofs.lemmas.List.{append-nil, nil_from_length}
 use Rattle.std.proofs.lemmas.Option.{slice_get_past}
@@ -33,8 +32,7 @@ latest-place : (known : Option declared.Answer) (p place other : ℕ) (notes : L
     → latest known (answers_in p place notes) ≡ latest known (answers_in p other notes)
 latest-place known p place other [] = refl
 latest-place known p place other (Answer q n reply ∷ notes) =
-    elim (q == p) as (λ b. latest known (if b then (n, reply, place) ∷ answers_in p place notes else answers_in p place notes) ≡ latest known (if b then (n, reply, other) ∷ answers_in p other notes else answers_in p other notes))
-    [ true ↦ latest-place (Some (record { n = n; reply = reply })) p place other notes | false ↦ latest-place known p place other notes ]
+    grind (arith, common_steps, latest-place (Some (record { n = n; reply = reply })) p place other notes, latest-place known p place other notes)
 latest-place known p place other (Waits q n ∷ notes) = latest-place known p place other notes
 
 -- what is known last after one more event
@@ -72,9 +70,7 @@ pub latest_number : (first : ℕ) (known : Option declared.Answer) (answers : Li
     → number_in (latest known answers) ≡ first + length answers
 latest_number first known [] is numbered = is ∙ omega arith
 latest_number first known (x ∷ xs) is numbered =
-    let here : x.0 ≡ first + 0 + 1 = numbered 0 in
-    let rest = latest_number (first + 1) (Some (record { n = x.0; reply = x.1 })) xs (omega (arith, here)) (numbered_later first x xs numbered) in
-    omega (arith, rest)
+    grind (arith, common_steps, latest_number (first + 1) (Some (record { n = x.0; reply = x.1 })) xs, numbered_later first x xs, numbered 0)
 
 -- an answer with another number is passed over
 passed_over : (n : ℕ) (x : ℕ × Reply × ℕ) (xs : List (ℕ × Reply × ℕ)) → (x.0 ≡ n → ⊥) → reply_among n (x ∷ xs) ≡ reply_among n xs
@@ -84,8 +80,7 @@ passed_over n x xs other = rw (ne_eqb x.0 n other) refl
 none_past : (n first : ℕ) (answers : List (ℕ × Reply × ℕ)) → AreNumberedFrom first answers → first + length answers < n → reply_among n answers ≡ None
 none_past n first [] numbered past = refl
 none_past n first (x ∷ xs) numbered past =
-    let here : x.0 ≡ first + 0 + 1 = numbered 0 in
-    passed_over n x xs (λ same. omega (arith, here, same)) ∙ none_past n (first + 1) xs (numbered_later first x xs numbered) (omega arith)
+    grind (arith, common_steps, passed_over, none_past n (first + 1) xs, numbered_later first x xs, numbered 0)
 
 -- the last one is found by its number
 latest_found : (n first : ℕ) (known : Option declared.Answer) (answers : List (ℕ × Reply × ℕ)) (last : declared.Answer) → number_in known ≡ first
@@ -97,13 +92,16 @@ latest_found n first known (x ∷ []) last is numbered found same past =
     let read : x.1 ≡ last.reply = cc in
     rw (eq-eqb x.0 n (number ∙ sym same)) (ap (λ reply. Some reply) read)
 latest_found n first known (x ∷ (y ∷ ys)) last is numbered found same past =
-    let here : x.0 ≡ first + 0 + 1 = numbered 0 in
-    let later = numbered_later first x (y ∷ ys) numbered in
-    let start : number_in (Some (record { n = x.0; reply = x.1 })) ≡ first + 1 = omega (arith, here) in
-    let many = latest_number (first + 1) (Some (record { n = x.0; reply = x.1 })) (y ∷ ys) start later in
-    let number : number_in (latest (Some (record { n = x.0; reply = x.1 })) (y ∷ ys)) ≡ last.n = ap number_in found in
-    passed_over n x (y ∷ ys) (λ e. omega (arith, here, many, number))
-    ∙ latest_found n (first + 1) (Some (record { n = x.0; reply = x.1 })) (y ∷ ys) last start later found same (omega (arith, here, many, number))
+    let start : declared.Answer = record { n = x.0; reply = x.1 } in
+    grind (
+      arith,
+      common_steps,
+      passed_over,
+      numbered 0,
+      numbered_later first x (y ∷ ys),
+      latest_number (first + 1) (Some start) (y ∷ ys),
+      latest_found n (first + 1) (Some start) (y ∷ ys) last,
+    )
 
 latest_some : (answer : declared.Answer) (answers : List (ℕ × Reply × ℕ)) → latest (Some answer) answers ≡ None → ⊥
 latest_some answer [] none = cc

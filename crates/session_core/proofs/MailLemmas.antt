@@ -1,5 +1,6 @@
 -- Mailboxes by process: what is written to one of them, and what stays; for `Session::arrive`, `Session::new`, `Session::next_mail` and others.
 use Rattle.std.proofs.Common.{rules, ℕ, zero, suc, ◌≡◌, ◌≢◌, ◌+◌, ◌-◌, ◌<◌, ◌≤◌, refl, sym, ◌∙◌, ap, subst, arith, length, length-append, take, slice_get, set, get_or, List, [], ◌∷◌, ◌++◌, Some, Option, Result, Ok, Err, IfOk, eq-eqb, ne_eqb, ⊎_elim}
+use Rattle.std.proofs.Math.Seq.{take-append-add}
 use Rattle.std.proofs.lemmas.Grind.{common_steps}
 use Rattle.std.specs.Prelude.{◌==◌, if◌then◌else◌, IsNone, IsTrue}
 use Rattle.std.proofs.lemmas.List.{get_or-set_same, length-set, length-map, append-nil, append_assoc}
@@ -117,11 +118,9 @@ Holds-sent manager mailboxes mailboxes' journal few holds = grind (arith, common
 -- two lists without the last item of the second
 take-behind : {X : Type 0} (xs ys : List X) → 0 < length ys
     → take (length (xs ++ ys) - 1) (xs ++ ys) ≡ xs ++ take (length ys - 1) ys
-take-behind [] ys some = refl
-take-behind (x ∷ xs) ys some =
+take-behind xs ys some =
     let long = length-append xs ys in
-    let count : suc (length (xs ++ ys)) - 1 ≡ suc (length (xs ++ ys) - 1) = omega arith in
-    ap (λ n. take n (x ∷ (xs ++ ys))) count ∙ ap (λ l. x ∷ l) (take-behind xs ys some)
+    let e : length (xs ++ ys) - 1 ≡ length xs + (length ys - 1) = omega arith in rw e (take-append-add xs ys (length ys - 1))
 
 -- what a process sent, where the last request was taken out of its mailbox
 pub mail_sent-withdrawn : (mailboxes : List Mailbox) (journal : List Event) (place p : ℕ) (old new : Mailbox)
@@ -220,7 +219,7 @@ IsMailInside-set mailboxes place p old new senders senders' at others own inside
     (cases_eq q p)
 
 -- what stands right behind a list is the first of what follows it
-slice_get-behind : {X : Type 0} (xs ys : List X) → slice_get (xs ++ ys) (length xs) ≡ slice_get ys 0
+pub slice_get-behind : {X : Type 0} (xs ys : List X) → slice_get (xs ++ ys) (length xs) ≡ slice_get ys 0
 slice_get-behind [] ys = refl
 slice_get-behind (x ∷ xs) ys = slice_get-behind xs ys
 

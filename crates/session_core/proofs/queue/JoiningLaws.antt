@@ -102,6 +102,23 @@ tested_kept rules S tested event wanted made others queue is_tested passes told 
           (ready_apart rules.policy (locks_held tested) tested.waits wanted queue ready);
     }
 
+-- a request that would wait, tested in this state
+test_ready : (rules : Rules) (settled : State) (event : Event) (wanted : Wait) (made : List Note) (outcome : Outcome) (grants others : List Note)
+    → FlockTestComesTo rules settled false wanted made outcome → event.notes ≡ outcome.told ++ grants
+    → event.notes ≡ Answer wanted.p wanted.n replies.Ok ∷ others
+    → ¬ IsBlocked rules.policy (locks_held settled) settled.waits wanted
+    × (outcome ≡ answered_then (with_lock settled wanted) wanted.p wanted.n replies.Ok made)
+test_ready rules settled event wanted made outcome grants others h h2 h3 = grind (arith, common_steps, Ok≢waits)
+
+-- a request that would wait, where it is tested behind these grants
+test_kept : (rules : Rules) (S tested : State) (event : Event) (wanted : Wait) (made : List Note) (outcome : Outcome) (grants others : List Note)
+    → rules.policy ≡ Queue → IsTested rules S wanted made tested → Passes S.waits made tested.waits
+    → FlockTestComesTo rules tested false wanted made outcome → event.notes ≡ outcome.told ++ grants
+    → event.notes ≡ Answer wanted.p wanted.n replies.Ok ∷ others → IsTurnKept rules S event wanted
+test_kept rules S tested event wanted made outcome grants others queue is_tested passes test are told =
+    let (ready, is) = test_ready rules tested event wanted made outcome grants others test are told in
+    tested_kept rules S tested event wanted made grants queue is_tested passes (are ∙ ap (λ (o : Outcome). o.told ++ grants) is) ready
+
 -- a lock command that would wait
 command_kept : (rules : Rules) (S : State) (event : Event) (cmd : LkCmd) (wanted : Wait) (outcome : Outcome) (grants others : List Note)
     → rules.policy ≡ Queue → IsTrue (may_wait cmd) → IsTested rules S wanted [] S → CommandComesTo rules S cmd wanted outcome
@@ -111,14 +128,11 @@ command_kept rules S event OGetLk wanted outcome grants others queue may tested 
 command_kept rules S event SetLk wanted outcome grants others queue may tested is are told = cc
 command_kept rules S event OSetLk wanted outcome grants others queue may tested is are told = cc
 command_kept rules S event SetLkW wanted outcome grants others queue may tested (inl blocked) are told =
-    ⊎_elim (λ no. absurd (Ok≢refused S wanted.p wanted.n _ outcome grants event.notes others no are told))
-    (λ waits. absurd (Ok≢waits S wanted wanted.p wanted.n [] outcome grants event.notes others waits are told)) (cases_fact blocked.1)
+    grind (arith, common_steps, Ok≢refused, Ok≢waits, cases_fact)
 command_kept rules S event SetLkW wanted outcome grants others queue may tested (inr free) are told =
     tested_kept rules S S event wanted [] others queue tested refl told free.0
-command_kept rules S event OSetLkW wanted outcome grants others queue may tested (inl blocked) are told =
-    absurd (Ok≢waits S wanted wanted.p wanted.n [] outcome grants event.notes others blocked.1 are told)
-command_kept rules S event OSetLkW wanted outcome grants others queue may tested (inr free) are told =
-    tested_kept rules S S event wanted [] others queue tested refl told free.0
+command_kept rules S event OSetLkW wanted outcome grants others queue may tested is are told =
+    test_kept rules S S event wanted [] outcome grants others queue tested refl is are told
 
 lock_kept : (rules : Rules) (S : State) (event : Event) (p n fd : ℕ) (cmd : LkCmd) (lock : Lock) (wanted : Wait) (outcome : Outcome)
     (grants others : List Note) → rules.policy ≡ Queue → IsTrue (may_wait cmd) → AsksForBytes S p n fd cmd lock wanted
@@ -127,14 +141,6 @@ lock_kept : (rules : Rules) (S : State) (event : Event) (p n fd : ℕ) (cmd : Lk
 lock_kept rules S event p n fd cmd lock wanted outcome grants others queue may asks is are told =
     grind (arith, common_steps, Ok≢refused, command_kept, cases_bool)
 
--- a flock request that would wait, tested in this state
-test_ready : (rules : Rules) (settled : State) (event : Event) (wanted : Wait) (made : List Note) (outcome : Outcome) (grants others : List Note)
-    → FlockTestComesTo rules settled false wanted made outcome → event.notes ≡ outcome.told ++ grants
-    → event.notes ≡ Answer wanted.p wanted.n replies.Ok ∷ others
-    → ¬ IsBlocked rules.policy (locks_held settled) settled.waits wanted
-    × (outcome ≡ answered_then (with_lock settled wanted) wanted.p wanted.n replies.Ok made)
-test_ready rules settled event wanted made outcome grants others h h2 h3 = grind (arith, common_steps, Ok≢waits)
-
 same_mode : (m k : Mode) → IsTrue (is_same_mode m k) → m ≡ k
 same_mode m k h = grind (arith, common_steps)
 
@@ -142,91 +148,70 @@ known_bool : {Yes No : Type 0} (b : Bool) → MatchBool b Yes No → ((b ≡ tru
 known_bool true h = inl (refl, h)
 known_bool false h = inr h
 
--- a flock request that would wait, where it is tested behind these grants
-flock_test_kept : (rules : Rules) (S tested : State) (event : Event) (wanted : Wait) (made : List Note) (outcome : Outcome) (grants others : List Note)
-    → rules.policy ≡ Queue → IsTested rules S wanted made tested → Passes S.waits made tested.waits
-    → FlockTestComesTo rules tested false wanted made outcome → event.notes ≡ outcome.told ++ grants
-    → event.notes ≡ Answer wanted.p wanted.n replies.Ok ∷ others → IsTurnKept rules S event wanted
-flock_test_kept rules S tested event wanted made outcome grants others queue is_tested passes test are told =
-    let (ready, is) = test_ready rules tested event wanted made outcome grants others test are told in
-    tested_kept rules S tested event wanted made grants queue is_tested passes (are ∙ ap (λ (o : Outcome). o.told ++ grants) is) ready
+module _ (rules : Rules) (S : State) (event : Event) (p n : ℕ) (outcome : Outcome) (grants others : List Note) (queue : rules.policy ≡ Queue)
+    (are : event.notes ≡ outcome.told ++ grants) (told : event.notes ≡ Answer p n replies.Ok ∷ others) where
+  flock_mode_kept : (look : Look) (mode : Mode) → ¬ HasFlock S (wanted_flock p n look mode) mode
+      → FlockModeComesTo rules S look false (wanted_flock p n look mode) (flock_mode_in S.flock_changes look.file look.desc) outcome
+      → IsTurnKept rules S event (wanted_flock p n look mode)
+  flock_mode_kept look mode sets is =
+      let wanted : Wait = wanted_flock p n look mode in
+      elim (known_mode (flock_mode_in S.flock_changes look.file look.desc)) [
+        | inl nothing ↦
+            let test : FlockTestComesTo rules S false wanted [] outcome =
+            subst (λ o. FlockModeComesTo rules S look false wanted o outcome) nothing is in
+            let tested : IsTested rules S wanted [] S = rw nothing (refl, refl) in
+            test_kept rules S S event wanted [] outcome grants others queue tested refl test are told
+        | inr some ↦
+            let held : Mode = some.0 in
+            let has : HasFlock S wanted held = (refl, look.desc, refl, some.1) in
+            let converts = subst (λ o. FlockModeComesTo rules S look false wanted o outcome) some.1 is in
+            ⊎_elim
+            (λ already. absurd (sets (subst (HasFlock S wanted) (same_mode held mode already.0) has)))
+            (λ converted.
+            let tested : IsTested rules S wanted converted.0 converted.1 = rw some.1 converted.2 in
+            let passes = Settles-passes rules.policy (with_flock_mode S look.file look.desc None) converted.0 converted.1 queue converted.2 in
+            test_kept rules S converted.1 event wanted converted.0 outcome grants others queue tested passes converted.3 are told)
+            (known_bool (is_same_mode held mode) converts)
+      ]
+    where
+      known_mode : (o : Option Mode) → (o ≡ None) ⊎ ((m : Mode) × (o ≡ Some m))
+      known_mode None = inl refl
+      known_mode (Some m) = inr (m, refl)
 
-flock_mode_kept : (rules : Rules) (S : State) (event : Event) (p n : ℕ) (look : Look) (mode : Mode) (outcome : Outcome) (grants others : List Note)
-    → rules.policy ≡ Queue → ¬ HasFlock S (wanted_flock p n look mode) mode
-    → FlockModeComesTo rules S look false (wanted_flock p n look mode) (flock_mode_in S.flock_changes look.file look.desc) outcome
-    → event.notes ≡ outcome.told ++ grants → event.notes ≡ Answer p n replies.Ok ∷ others
-    → IsTurnKept rules S event (wanted_flock p n look mode)
-flock_mode_kept rules S event p n look mode outcome grants others queue sets is are told =
-    let wanted : Wait = wanted_flock p n look mode in
-    elim (known_mode (flock_mode_in S.flock_changes look.file look.desc)) [
-      | inl nothing ↦
-          let test : FlockTestComesTo rules S false wanted [] outcome =
-          subst (λ o. FlockModeComesTo rules S look false wanted o outcome) nothing is in
-          let tested : IsTested rules S wanted [] S = rw nothing (refl, refl) in
-          flock_test_kept rules S S event wanted [] outcome grants others queue tested refl test are told
-      | inr some ↦
-          let held : Mode = some.0 in
-          let has : HasFlock S wanted held = (refl, look.desc, refl, some.1) in
-          let converts = subst (λ o. FlockModeComesTo rules S look false wanted o outcome) some.1 is in
-          ⊎_elim
-          (λ already. absurd (sets (subst (HasFlock S wanted) (same_mode held mode already.0) has)))
-          (λ converted.
-          let tested : IsTested rules S wanted converted.0 converted.1 = rw some.1 converted.2 in
-          let passes = Settles-passes rules.policy (with_flock_mode S look.file look.desc None) converted.0 converted.1 queue converted.2 in
-          flock_test_kept rules S converted.1 event wanted converted.0 outcome grants others queue tested passes converted.3 are told)
-          (known_bool (is_same_mode held mode) converts)
-    ]
-  where
-    known_mode : (o : Option Mode) → (o ≡ None) ⊎ ((m : Mode) × (o ≡ Some m))
-    known_mode None = inl refl
-    known_mode (Some m) = inr (m, refl)
+  flock_op_kept : (look : Look) (op : FlockOp) (mode : Mode) → Some mode ≡ flock_wanted_mode op → ¬ HasFlock S (wanted_flock p n look mode) mode
+      → FlockOpComesTo rules S p n look op false outcome → IsTurnKept rules S event (wanted_flock p n look mode)
+  flock_op_kept look Un mode of_op sets is = cc
+  flock_op_kept look Sh mode of_op sets is =
+      let e : mode ≡ Read = cc in flock_mode_kept look mode sets (rw e is)
+  flock_op_kept look Ex mode of_op sets is =
+      let e : mode ≡ Write = cc in flock_mode_kept look mode sets (rw e is)
 
-flock_op_kept : (rules : Rules) (S : State) (event : Event) (p n : ℕ) (look : Look) (op : FlockOp) (mode : Mode) (outcome : Outcome)
-    (grants others : List Note) → rules.policy ≡ Queue → Some mode ≡ flock_wanted_mode op → ¬ HasFlock S (wanted_flock p n look mode) mode
-    → FlockOpComesTo rules S p n look op false outcome → event.notes ≡ outcome.told ++ grants → event.notes ≡ Answer p n replies.Ok ∷ others
-    → IsTurnKept rules S event (wanted_flock p n look mode)
-flock_op_kept rules S event p n look Un mode outcome grants others queue of_op sets is are told = cc
-flock_op_kept rules S event p n look Sh mode outcome grants others queue of_op sets is are told =
-    let e : Read ≡ mode = cc in
-    flock_mode_kept rules S event p n look mode outcome grants others queue sets
-    (subst (λ m. FlockModeComesTo rules S look false (wanted_flock p n look m) (flock_mode_in S.flock_changes look.file look.desc) outcome) e is) are told
-flock_op_kept rules S event p n look Ex mode outcome grants others queue of_op sets is are told =
-    let e : Write ≡ mode = cc in
-    flock_mode_kept rules S event p n look mode outcome grants others queue sets
-    (subst (λ m. FlockModeComesTo rules S look false (wanted_flock p n look m) (flock_mode_in S.flock_changes look.file look.desc) outcome) e is) are told
+  flock_kept : (fd : ℕ) (op : FlockOp) (nb : Bool) (wanted : Wait) → IsFalse nb → AsksForWhole S p n fd op wanted
+      → ¬ HasFlock S wanted wanted.mode → FlockComesTo rules S p n fd op nb outcome → IsTurnKept rules S event wanted
+  flock_kept fd op nb wanted waits asks sets is =
+      let look = asks.look in
+      let waiting : FlockComesTo rules S p n fd op false outcome = subst (λ b. FlockComesTo rules S p n fd op b outcome) waits is in
+      let opened : FlockOpComesTo rules S p n look op false outcome =
+      subst (λ o. MatchOption o (outcome ≡ refused S p n EBADF) (λ look. FlockOpComesTo rules S p n look op false outcome)) asks.of_open waiting in
+      subst (IsTurnKept rules S event) (sym asks.is)
+      (flock_op_kept look op asks.mode (sym asks.of_op) (subst (λ (x : Wait). ¬ HasFlock S x x.mode) asks.is sets) opened)
 
-flock_kept : (rules : Rules) (S : State) (event : Event) (p n fd : ℕ) (op : FlockOp) (nb : Bool) (wanted : Wait) (outcome : Outcome)
-    (grants others : List Note) → rules.policy ≡ Queue → IsFalse nb → AsksForWhole S p n fd op wanted → ¬ HasFlock S wanted wanted.mode
-    → FlockComesTo rules S p n fd op nb outcome → event.notes ≡ outcome.told ++ grants → event.notes ≡ Answer p n replies.Ok ∷ others
-    → IsTurnKept rules S event wanted
-flock_kept rules S event p n fd op nb wanted outcome grants others queue waits asks sets is are told =
-    let look = asks.look in
-    let waiting : FlockComesTo rules S p n fd op false outcome = subst (λ b. FlockComesTo rules S p n fd op b outcome) waits is in
-    let opened : FlockOpComesTo rules S p n look op false outcome =
-    subst (λ o. MatchOption o (outcome ≡ refused S p n EBADF) (λ look. FlockOpComesTo rules S p n look op false outcome)) asks.of_open waiting in
-    subst (IsTurnKept rules S event) (sym asks.is)
-    (flock_op_kept rules S event p n look op asks.mode outcome grants others queue (sym asks.of_op)
-    (subst (λ (x : Wait). ¬ HasFlock S x x.mode) asks.is sets) opened are told)
-
--- whatever the request
-request_kept : (rules : Rules) (processes : ℕ) (S : State) (event : Event) (p n : ℕ) (request : Request) (wanted : Wait) (outcome : Outcome)
-    (grants others : List Note) → rules.policy ≡ Queue → WouldWaitAs S p n request wanted → ¬ HasFlock S wanted wanted.mode
-    → ComesTo rules processes S p n request outcome → event.notes ≡ outcome.told ++ grants → event.notes ≡ Answer p n replies.Ok ∷ others
-    → IsTurnKept rules S event wanted
-request_kept rules processes S event p n (Lk fd cmd lock) wanted outcome grants others queue asks sets is are told =
-    lock_kept rules S event p n fd cmd lock wanted outcome grants others queue asks.0 asks.1 is are told
-request_kept rules processes S event p n (Flock fd op nb) wanted outcome grants others queue asks sets is are told =
-    flock_kept rules S event p n fd op nb wanted outcome grants others queue asks.0 asks.1 sets is are told
-request_kept rules processes S event p n (OpenFile file access) wanted outcome grants others queue asks sets is are told = absurd asks
-request_kept rules processes S event p n (Dup fd) wanted outcome grants others queue asks sets is are told = absurd asks
-request_kept rules processes S event p n (DupTo fd to) wanted outcome grants others queue asks sets is are told = absurd asks
-request_kept rules processes S event p n (CloseFd fd) wanted outcome grants others queue asks sets is are told = absurd asks
-request_kept rules processes S event p n (Seek fd offset) wanted outcome grants others queue asks sets is are told = absurd asks
-request_kept rules processes S event p n (Resize fd size) wanted outcome grants others queue asks sets is are told = absurd asks
-request_kept rules processes S event p n (Fork child) wanted outcome grants others queue asks sets is are told = absurd asks
-request_kept rules processes S event p n Exit wanted outcome grants others queue asks sets is are told = absurd asks
-request_kept rules processes S event p n (Signal target) wanted outcome grants others queue asks sets is are told = absurd asks
-request_kept rules processes S event p n (Kill target) wanted outcome grants others queue asks sets is are told = absurd asks
+  -- whatever the request
+  request_kept : (processes : ℕ) (request : Request) (wanted : Wait) → WouldWaitAs S p n request wanted → ¬ HasFlock S wanted wanted.mode
+      → ComesTo rules processes S p n request outcome → IsTurnKept rules S event wanted
+  request_kept processes (Lk fd cmd lock) wanted asks sets is =
+      lock_kept rules S event p n fd cmd lock wanted outcome grants others queue asks.0 asks.1 is are told
+  request_kept processes (Flock fd op nb) wanted asks sets is = flock_kept fd op nb wanted asks.0 asks.1 sets is
+  request_kept processes (OpenFile file access) wanted asks sets is = absurd asks
+  request_kept processes (Dup fd) wanted asks sets is = absurd asks
+  request_kept processes (DupTo fd to) wanted asks sets is = absurd asks
+  request_kept processes (CloseFd fd) wanted asks sets is = absurd asks
+  request_kept processes (Seek fd offset) wanted asks sets is = absurd asks
+  request_kept processes (Resize fd size) wanted asks sets is = absurd asks
+  request_kept processes (Fork child) wanted asks sets is = absurd asks
+  request_kept processes Exit wanted asks sets is = absurd asks
+  request_kept processes (Signal target) wanted asks sets is = absurd asks
+  request_kept processes (Kill target) wanted asks sets is = absurd asks
 
 -- the step of the event, from the state before it
 event_kept : StepHasOneOutcome → (rules : Rules) (processes : ℕ) (before : List Event) (event : Event) (after : List Event) (S T : State)
@@ -237,8 +222,8 @@ event_kept one rules processes before event after S T wanted queue run leads ask
     let (U, led, rest) = Leads-split rules processes opening_state before (event ∷ after) T run.leads in
     let same : U ≡ S = Leads-unique one rules processes opening_state before U S led leads in
     let step : IsStep rules processes S event rest.0 = subst (λ X. IsStep rules processes X event rest.0) same rest.1 in
-    request_kept rules processes S event event.p event.n event.request wanted step.outcome step.grants sets.others queue asks sets.sets
-    step.comes_to step.are_notes sets.told
+    request_kept rules S event event.p event.n step.outcome step.grants sets.others queue step.are_notes sets.told processes event.request wanted
+    asks sets.sets step.comes_to
 
 -- who was told to wait, and isn't over, stands in the list; where it leaves the list before the test it was granted
 none_told_passed : StepHasOneOutcome → (rules : Rules) (processes : ℕ) (before : List Event) (event : Event) (after : List Event) (S T : State)

@@ -74,21 +74,7 @@ counted_below : (q m : ℕ) (reply : Reply) (last : ℕ) (notes : List Note) →
 counted_below q m reply last [] h = tt
 counted_below q m reply last (Waits p k ∷ notes) h = ((λ e. cc), counted_below q m reply last notes h)
 counted_below q m reply last (Answer p k other ∷ notes) h =
-    ⊎_elim
-    (λ same.
-    let first : numbers_in q (Answer p k other ∷ notes) ≡ k ∷ numbers_in q notes = rw (eq-eqb p q same) refl in
-    let counted : AreCountedFrom last (k ∷ numbers_in q notes) = subst (AreCountedFrom last) first h in
-    subst (λ l. Each (λ note. note ≡ Answer q m reply → m ≤ last + length l) (Answer p k other ∷ notes)) (sym first) (
-      (λ e. let number : k ≡ m = cc in omega (arith, counted.0)),
-      Each-map (λ note. note ≡ Answer q m reply → m ≤ last + 1 + length (numbers_in q notes))
-          (λ note. note ≡ Answer q m reply → m ≤ last + length (k ∷ numbers_in q notes)) notes
-          (λ note below e. let bound = below e in omega arith) (counted_below q m reply (last + 1) notes counted.1),
-    ))
-    (λ differs.
-    let later : numbers_in q (Answer p k other ∷ notes) ≡ numbers_in q notes = rw (ne_eqb p q differs) refl in
-    subst (λ l. Each (λ note. note ≡ Answer q m reply → m ≤ last + length l) (Answer p k other ∷ notes)) (sym later)
-    ((λ e. absurd (differs cc)), counted_below q m reply last notes (subst (AreCountedFrom last) later h)))
-    (cases_eq p q)
+    grind (arith, common_steps, counted_below q m reply last notes, counted_below q m reply (last + 1) notes, Each-map, cases_eq)
 
 -- no step answers a number that wasn't taken
 answered_below : (processes : ℕ) (states : ℕ → ProcState) (counts : ℕ → ℕ) (notes : List Note) (T : State) (taken : ℕ → ℕ)

@@ -3,7 +3,7 @@ use Rattle.std.proofs.lemmas.Grind.{common_steps}
 use Rattle.std.proofs.Common.{ℕ, suc, ◌≡◌, ◌≢◌, ◌⊎◌, inl, inr, refl, sym, ◌∙◌, ap, subst, arith, List, [], ◌∷◌, ◌++◌, ⊎_elim, Some, length}
 use Rattle.std.specs.List.{Contains, AllByRecursion as Each}
 use Rattle.std.proofs.lemmas.Bool.{cases_eq}
-use Rattle.std.proofs.lemmas.List.Elements.{All-contains, All-from_recursion, Contains-append_left, Contains-append_right}
+use Rattle.std.proofs.lemmas.List.Elements.{Contains-append_left, Contains-append_right}
 use Rattle.wait_core.specs.declared.Wait.{Wait}
 use Rattle.wait_core.specs.Blocking.{WaitsConflict}
 use Rattle.wait_core.specs.WaitsView.{wait_of, without_wait_of}
@@ -17,11 +17,11 @@ use Rattle.lock_manager.specs.State.{State}
 use Rattle.session_core.specs.Event.{Event}
 use Rattle.session_core.specs.Headline.{EndsProcess}
 use Rattle.session_core.specs.QueuePolicy.{WouldWaitAs, IsOver}
-use Rattle.session_core.proofs.tallies.Tally.{IsLastTaken}
+use Rattle.session_core.proofs.tallies.Tally.{IsLastTaken, Each-append, None-contains}
 use Rattle.session_core.proofs.tallies.Moves.{found_wait}
 use Rattle.session_core.proofs.queue.AnyLemmas.{Any-here, Any-weaker}
 use Rattle.session_core.proofs.queue.WaitPlaces.{Anything, Each-anything, StandsIn, StandsIn-push, StandsIn-last, StandsIn-middle, StandsIn-where, StandsIn-without, StandsIn-each, Passes}
-use Rattle.session_core.proofs.queue.WaitMoves.{Joins, Ends, WaitsMove, answers, joins, interrupts, ends}
+use Rattle.session_core.proofs.queue.WaitMoves.{Joins, IsToldOf, Ends, WaitsMove, answers, joins, interrupts, ends}
 
 pub Contains-here : {X : Type 0} (x y : X) (xs : List X) → x ≡ y → Contains (x ∷ xs) y
 Contains-here x y xs same = (0, (let n = length xs in omega arith), same)
@@ -33,30 +33,22 @@ pub Contains-middle : {X : Type 0} (before : List X) (x : X) (after : List X) �
 Contains-middle [] x after = Contains-here x x after refl
 Contains-middle (y ∷ before) x after = Contains-there y x (before ++ x ∷ after) (Contains-middle before x after)
 
--- a list with another head goes on behind it
-split_head : {X : Type 0} (x y : X) (xs told others : List X) → x ≢ y → x ∷ xs ≡ told ++ y ∷ others
-    → (rest : List X) × (told ≡ x ∷ rest) × (xs ≡ rest ++ y ∷ others)
-split_head x y xs [] others differs is = absurd (differs cc)
-split_head x y xs (t ∷ told) others differs is =
+-- a list that begins with others goes on behind them
+split_front : {X : Type 0} (y : X) (front xs told others : List X) → Each (λ x. x ≢ y) front → front ++ xs ≡ told ++ y ∷ others
+    → (rest : List X) × (told ≡ front ++ rest) × (xs ≡ rest ++ y ∷ others)
+split_front y [] xs told others differ is = (told, refl, is)
+split_front y (x ∷ front) xs [] others differ is = absurd (differ.0 cc)
+split_front y (x ∷ front) xs (t ∷ told) others differ is =
     let head : x ≡ t = cc in
-    let tail : xs ≡ told ++ y ∷ others = cc in (told, ap (λ z. z ∷ told) (sym head), tail)
-
--- and with two others
-split_two : {X : Type 0} (x x' y : X) (xs told others : List X) → x ≢ y → x' ≢ y → x ∷ x' ∷ xs ≡ told ++ y ∷ others
-    → (rest : List X) × (told ≡ x ∷ x' ∷ rest) × (xs ≡ rest ++ y ∷ others)
-split_two x x' y xs told others differs also is = grind (arith, common_steps, split_head)
+    let tail : front ++ xs ≡ told ++ y ∷ others = cc in
+    let (rest, first, later) = split_front y front xs told others differ.1 tail in (rest, (λ i. sym head i ∷ first i), later)
 
 -- one of two lists that are one has it
 pub split_append : {X : Type 0} (xs ys before : List X) (x : X) (after : List X) → xs ++ ys ≡ before ++ x ∷ after
     → ((rest : List X) × (xs ≡ before ++ x ∷ rest)) ⊎ ((rest : List X) × (before ≡ xs ++ rest) × (ys ≡ rest ++ x ∷ after))
 split_append [] ys before x after is = inr (before, refl, is)
 split_append (z ∷ xs) ys [] x after is = let head : z ≡ x = cc in inl (xs, ap (λ y. y ∷ xs) head)
-split_append (z ∷ xs) ys (b ∷ before) x after is =
-    let head : z ≡ b = cc in
-    let tail : xs ++ ys ≡ before ++ x ∷ after = cc in
-    ⊎_elim (λ left. inl (left.0, (ap (λ y. y ∷ xs) head ∙ ap (λ l. b ∷ l) left.1)))
-    (λ right. inr (right.0, ap (λ l. b ∷ l) right.1 ∙ ap (λ y. y ∷ (xs ++ right.0)) (sym head), right.2))
-    (split_append xs ys before x after tail)
+split_append (z ∷ xs) ys (b ∷ before) x after is = grind (arith, common_steps, split_append xs ys before x after)
 
 -- the two waits are of one request
 abbrev pub SameRequest : Wait → Wait → Type 0
@@ -120,29 +112,32 @@ Passes-turn v w waits (note ∷ notes) left (t ∷ told) others differ conflict 
     (Passes-turn v w (h.0 ++ h.2) notes left told others differ conflict h.6 stays tail))
     (StandsIn-middle (NotOf w) (OnlyAs w) v h.0 h.1 h.2 (subst (StandsIn (NotOf w) (OnlyAs w) v) h.3 stands))
 
+-- a kill tells its caller that it was done, and nothing else
+told_apart : (p n : ℕ) (request : Request) (target : ℕ) (told : List Note) (x : Note) → Answer p n replies.Ok ≢ x
+    → IsToldOf p n request target told → Each (λ note. note ≢ x) told
+told_apart p n request target told x differs (inl own) = subst (Each (λ note. note ≢ x)) (sym own.2) tt
+told_apart p n request target told x differs (inr other) = subst (Each (λ note. note ≢ x)) (sym other.2) (differs, tt)
+
+-- behind notes that are none of waiting no grant is one
+no_waits : (q m : ℕ) (waits : List Wait) (front grants : List Note) (left : List Wait) (notes : List Note) → Each (λ note. note ≢ Waits q m) front
+    → Passes waits grants left → notes ≡ front ++ grants → ¬ Contains notes (Waits q m)
+no_waits q m waits front grants left notes apart passes are among =
+    None-contains (front ++ grants) (Waits q m) (Each-append (λ note. note ≢ Waits q m) front grants apart (Passes-answers q m waits grants left passes))
+    (subst (λ l. Contains l (Waits q m)) are among)
+
 -- who is told to wait joins the list
 pub Waits-join : (S : State) (p n : ℕ) (request : Request) (notes : List Note) (left : List Wait) (q m : ℕ)
     → WaitsMove S p n request notes left → Contains notes (Waits q m) → Joins S p n request notes left
 Waits-join S p n request notes left q m (joins h) among = h
 Waits-join S p n request notes left q m (answers h) among =
-    absurd
-    (All-contains (λ note. note ≢ Waits q m) notes (Waits q m)
-    (All-from_recursion (λ note. note ≢ Waits q m) notes
-    (subst (Each (λ note. note ≢ Waits q m)) (sym h.are) ((λ e. cc), Passes-answers q m S.waits h.grants left h.passes))) among refl)
+    absurd (no_waits q m S.waits (Answer p n h.reply ∷ []) h.grants left notes ((λ e. cc), tt) h.passes h.are among)
 Waits-join S p n request notes left q m (interrupts h) among =
     absurd
-    (All-contains (λ note. note ≢ Waits q m) notes (Waits q m)
-    (All-from_recursion (λ note. note ≢ Waits q m) notes
-    (subst (Each (λ note. note ≢ Waits q m)) (sym h.are)
-    ((λ e. cc), ((λ e. cc), Passes-answers q m (without_wait_of S.waits h.target) h.grants left h.passes)))) among refl)
+    (no_waits q m (without_wait_of S.waits h.target) (Answer p n replies.Ok ∷ Answer h.target h.wait.n (replies.Err EINTR) ∷ []) h.grants left notes
+    ((λ e. cc), ((λ e. cc), tt)) h.passes h.are among)
 Waits-join S p n request notes left q m (ends h) among =
-    let grants = Passes-answers q m (without_wait_of S.waits h.target) h.grants left h.passes in
-    let all : Each (λ note. note ≢ Waits q m) (h.told ++ h.grants) =
-    ⊎_elim (λ own. subst (λ l. Each (λ note. note ≢ Waits q m) (l ++ h.grants)) (sym own.2) grants)
-    (λ other. subst (λ l. Each (λ note. note ≢ Waits q m) (l ++ h.grants)) (sym other.2) ((λ e. cc), grants)) h.how in
-    absurd
-    (All-contains (λ note. note ≢ Waits q m) notes (Waits q m)
-    (All-from_recursion (λ note. note ≢ Waits q m) notes (subst (Each (λ note. note ≢ Waits q m)) (sym h.are) all)) among refl)
+    let apart = told_apart p n request h.target h.told (Waits q m) (λ e. cc) h.how in
+    absurd (no_waits q m (without_wait_of S.waits h.target) h.told h.grants left notes apart h.passes h.are among)
 
 -- the event that ends a process does so in the words of the headline
 ends_process : (event : Event) (waits left : List Wait) → (h : Ends waits event.p event.n event.request event.notes left) → EndsProcess event h.target
@@ -154,77 +149,53 @@ interrupted : (states : ℕ → ProcState) (taken : ℕ → ℕ) (P Q : Wait →
     → Answer target wait.n (replies.Err EINTR) ≡ Answer v.p v.n (replies.Err EINTR)
 interrupted states taken P Q v waits target wait lasts stands found same = grind (arith, common_steps, found_wait, StandsIn-each)
 
+-- by the grants behind these notes of an event a wait is over, or stays
+Passes-over : (P Q : Wait → Type 0) (v : Wait) (event : Event) (waits : List Wait) (front grants : List Note) (left : List Wait)
+    → event.notes ≡ front ++ grants → Passes waits grants left → StandsIn P Q v waits
+    → IsOver (event ∷ []) event.notes v ⊎ StandsIn P Q v left
+Passes-over P Q v event waits front grants left are passes stands =
+    let mine : Note = Answer v.p v.n replies.Ok in
+    ⊎_elim (λ granted. inl (inl (replies.Ok, subst (λ l. Contains l mine) (sym are) (Contains-append_right front grants mine granted))))
+    (λ stays. inr stays) (Passes-stands P Q v waits grants left passes stands)
+
 -- a wait in the list is over by an event, or stays
 pub Move-stands : (P Q : Wait → Type 0) (v : Wait) (S : State) (taken : ℕ → ℕ) (event : Event) (left : List Wait)
     → Each (IsLastTaken S.states taken) S.waits → ((x : Wait) → WouldWaitAs S event.p event.n event.request x → Q x)
     → WaitsMove S event.p event.n event.request event.notes left → StandsIn P Q v S.waits
     → IsOver (event ∷ []) event.notes v ⊎ StandsIn P Q v left
 Move-stands P Q v S taken event left lasts joined (answers h) stands =
+    Passes-over P Q v event S.waits (Answer event.p event.n h.reply ∷ []) h.grants left h.are h.passes stands
+Move-stands P Q v S taken event left lasts joined (joins h) stands =
+    let mine : Note = Answer v.p v.n replies.Ok in
+    let caller : Note = Waits event.p event.n in
     ⊎_elim
     (λ granted.
-    inl
-    (inl (
-      replies.Ok,
-      subst (λ l. Contains l (Answer v.p v.n replies.Ok)) (sym h.are)
-          (Contains-there (Answer event.p event.n h.reply) (Answer v.p v.n replies.Ok) h.grants granted),
-    )))
-    (λ stays. inr stays) (Passes-stands P Q v S.waits h.grants left h.passes stands)
-Move-stands P Q v S taken event left lasts joined (joins h) stands =
-    let all : Contains (h.inner ++ h.outer) (Answer v.p v.n replies.Ok) → IsOver (event ∷ []) event.notes v =
-    λ granted.
-    inl (
-      replies.Ok,
-      subst (λ l. Contains l (Answer v.p v.n replies.Ok)) (sym h.are)
-          (Contains-there (Waits event.p event.n) (Answer v.p v.n replies.Ok) (h.inner ++ h.outer) granted),
-    ) in
-    ⊎_elim (λ granted. inl (all (Contains-append_left h.inner h.outer (Answer v.p v.n replies.Ok) granted)))
+    let early = Contains-append_left (caller ∷ h.inner) h.outer mine (Contains-there caller mine h.inner granted) in
+    inl (inl (replies.Ok, subst (λ l. Contains l mine) (sym h.are) early)))
     (λ stays.
-    ⊎_elim (λ granted. inl (all (Contains-append_right h.inner h.outer (Answer v.p v.n replies.Ok) granted))) (λ still. inr still)
-    (Passes-stands P Q v (h.middle ++ h.wait ∷ []) h.outer left h.second
-    (StandsIn-push P Q v h.middle h.wait (joined h.wait h.asks) stays)))
+    Passes-over P Q v event (h.middle ++ h.wait ∷ []) (caller ∷ h.inner) h.outer left h.are h.second
+    (StandsIn-push P Q v h.middle h.wait (joined h.wait h.asks) stays))
     (Passes-stands P Q v S.waits h.inner h.middle h.first stands)
 Move-stands P Q v S taken event left lasts joined (interrupts h) stands =
+    let caller : Note = Answer event.p event.n replies.Ok in
+    let eintr : Note = Answer h.target h.wait.n (replies.Err EINTR) in
     ⊎_elim
     (λ same.
+    let mine : Note = Answer v.p v.n (replies.Err EINTR) in
     let note = interrupted S.states taken P Q v S.waits h.target h.wait lasts stands h.found same in
-    let caller : Note = Answer event.p event.n replies.Ok in
-    inl
-    (inl (
-      replies.Err EINTR,
-      subst (λ l. Contains l (Answer v.p v.n (replies.Err EINTR))) (sym h.are)
-          (Contains-there caller (Answer v.p v.n (replies.Err EINTR)) (Answer h.target h.wait.n (replies.Err EINTR) ∷ h.grants)
-          (Contains-here (Answer h.target h.wait.n (replies.Err EINTR)) (Answer v.p v.n (replies.Err EINTR)) h.grants note)),
-    )))
+    let among = Contains-there caller mine (eintr ∷ h.grants) (Contains-here eintr mine h.grants note) in
+    inl (inl (replies.Err EINTR, subst (λ l. Contains l mine) (sym h.are) among)))
     (λ differs.
-    let eintr : Note = Answer h.target h.wait.n (replies.Err EINTR) in
-    let caller : Note = Answer event.p event.n replies.Ok in
-    ⊎_elim
-    (λ granted.
-    inl
-    (inl (
-      replies.Ok,
-      subst (λ l. Contains l (Answer v.p v.n replies.Ok)) (sym h.are)
-          (Contains-there caller (Answer v.p v.n replies.Ok) (eintr ∷ h.grants)
-          (Contains-there eintr (Answer v.p v.n replies.Ok) h.grants granted)),
-    )))
-    (λ stays. inr stays)
-    (Passes-stands P Q v (without_wait_of S.waits h.target) h.grants left h.passes (StandsIn-without P Q v h.target S.waits differs stands)))
+    Passes-over P Q v event (without_wait_of S.waits h.target) (caller ∷ eintr ∷ []) h.grants left h.are h.passes
+    (StandsIn-without P Q v h.target S.waits differs stands))
     (cases_eq v.p h.target)
 Move-stands P Q v S taken event left lasts joined (ends h) stands =
     ⊎_elim
     (λ same.
     inl (inr (Any-here (λ e. EndsProcess e v.p) event [] (subst (EndsProcess event) (sym same) (ends_process event S.waits left h)))))
     (λ differs.
-    ⊎_elim
-    (λ granted.
-    inl
-    (inl (
-      replies.Ok,
-      subst (λ l. Contains l (Answer v.p v.n replies.Ok)) (sym h.are)
-          (Contains-append_right h.told h.grants (Answer v.p v.n replies.Ok) granted),
-    )))
-    (λ stays. inr stays)
-    (Passes-stands P Q v (without_wait_of S.waits h.target) h.grants left h.passes (StandsIn-without P Q v h.target S.waits differs stands)))
+    Passes-over P Q v event (without_wait_of S.waits h.target) h.told h.grants left h.are h.passes
+    (StandsIn-without P Q v h.target S.waits differs stands))
     (cases_eq v.p h.target)
 
 -- a wait that joins stands in the list, or is granted at once
@@ -232,18 +203,8 @@ pub Joins-stands : (S : State) (event : Event) (left : List Wait) (v : Wait)
     → (h : Joins S event.p event.n event.request event.notes left) → h.wait ≡ v
     → IsOver (event ∷ []) event.notes v ⊎ StandsIn Anything Anything v left
 Joins-stands S event left v h same =
-    let mine : Note = Answer v.p v.n replies.Ok in
-    let second : Passes (h.middle ++ v ∷ []) h.outer left = subst (λ x. Passes (h.middle ++ x ∷ []) h.outer left) same h.second in
-    ⊎_elim
-    (λ granted.
-    inl (inl (
-      replies.Ok,
-      subst (λ l. Contains l mine) (sym h.are)
-          (Contains-there (Waits event.p event.n) mine (h.inner ++ h.outer) (Contains-append_right h.inner h.outer mine granted)),
-    )))
-    (λ stays. inr stays)
-    (Passes-stands Anything Anything v (h.middle ++ v ∷ []) h.outer left second
-    (StandsIn-last Anything Anything v h.middle (Each-anything h.middle)))
+    Passes-over Anything Anything v event (h.middle ++ v ∷ []) (Waits event.p event.n ∷ h.inner) h.outer left h.are
+    (subst (λ x. Passes (h.middle ++ x ∷ []) h.outer left) same h.second) (StandsIn-last Anything Anything v h.middle (Each-anything h.middle))
 
 -- in the event by which it joins, too, w is granted only after v
 pub Joins-turn : (v w : Wait) (S : State) (event : Event) (left : List Wait) (told others : List Note)
@@ -254,23 +215,30 @@ Joins-turn v w S event left told others joined differ conflict h stands is =
     let ok : Note = Answer w.p w.n replies.Ok in
     let mine : Note = Answer v.p v.n replies.Ok in
     let caller : Note = Waits event.p event.n in
-    let whole : caller ∷ (h.inner ++ h.outer) ≡ told ++ ok ∷ others = sym h.are ∙ is in
-    let (rest, first, later) = split_head caller ok (h.inner ++ h.outer) told others (λ e. cc) whole in
-    let all : Contains rest mine → IsOver (event ∷ []) told v =
-    λ granted. inl (replies.Ok, subst (λ l. Contains l mine) (sym first) (Contains-there caller mine rest granted)) in
-    ⊎_elim
-    (λ within. all (Passes-turn v w S.waits h.inner h.middle rest within.0 differ conflict h.first stands within.1))
+    let (rest, first, later) = split_front ok (caller ∷ []) (h.inner ++ h.outer) told others ((λ e. cc), tt) (sym h.are ∙ is) in
+    let granted : Contains rest mine =
+    ⊎_elim (λ within. Passes-turn v w S.waits h.inner h.middle rest within.0 differ conflict h.first stands within.1)
     (λ behind.
-    ⊎_elim
-    (λ granted. all (subst (λ l. Contains l mine) (sym behind.1) (Contains-append_left h.inner behind.0 mine granted)))
+    subst (λ l. Contains l mine) (sym behind.1)
+    (⊎_elim (λ early. Contains-append_left h.inner behind.0 mine early)
     (λ stays.
-    all
-    (subst (λ l. Contains l mine) (sym behind.1)
-    (Contains-append_right h.inner behind.0 mine
+    Contains-append_right h.inner behind.0 mine
     (Passes-turn v w (h.middle ++ h.wait ∷ []) h.outer left behind.0 others differ conflict h.second
-    (StandsIn-push (NotOf w) (OnlyAs w) v h.middle h.wait (joined h.wait h.asks) stays) behind.2))))
-    (Passes-stands (NotOf w) (OnlyAs w) v S.waits h.inner h.middle h.first stands))
-    (split_append h.inner h.outer rest ok others later)
+    (StandsIn-push (NotOf w) (OnlyAs w) v h.middle h.wait (joined h.wait h.asks) stays) behind.2))
+    (Passes-stands (NotOf w) (OnlyAs w) v S.waits h.inner h.middle h.first stands)))
+    (split_append h.inner h.outer rest ok others later) in
+    inl (replies.Ok, subst (λ l. Contains l mine) (sym first) (Contains-there caller mine rest granted))
+
+-- among the grants behind these notes of an event too
+Passes-turn-over : (v w : Wait) (event : Event) (waits : List Wait) (front grants : List Note) (left : List Wait) (told others : List Note)
+    → NotOf w v → WaitsConflict v w → Each (λ note. note ≢ Answer w.p w.n replies.Ok) front → event.notes ≡ front ++ grants
+    → Passes waits grants left → StandsIn (NotOf w) (OnlyAs w) v waits → event.notes ≡ told ++ Answer w.p w.n replies.Ok ∷ others
+    → IsOver (event ∷ []) told v
+Passes-turn-over v w event waits front grants left told others differ conflict apart are passes stands is =
+    let mine : Note = Answer v.p v.n replies.Ok in
+    let (rest, first, later) = split_front (Answer w.p w.n replies.Ok) front grants told others apart (sym are ∙ is) in
+    let granted = Passes-turn v w waits grants left rest others differ conflict passes stands later in
+    inl (replies.Ok, subst (λ l. Contains l mine) (sym first) (Contains-append_right front rest mine granted))
 
 -- in an event of another request w is granted only after v is over
 pub Move-turn : (v w : Wait) (S : State) (taken : ℕ → ℕ) (event : Event) (left : List Wait) (told others : List Note)
@@ -279,61 +247,31 @@ pub Move-turn : (v w : Wait) (S : State) (taken : ℕ → ℕ) (event : Event) (
     → WaitsMove S event.p event.n event.request event.notes left → StandsIn (NotOf w) (OnlyAs w) v S.waits
     → event.notes ≡ told ++ Answer w.p w.n replies.Ok ∷ others → IsOver (event ∷ []) told v
 Move-turn v w S taken event left told others lasts joined differ conflict own (answers h) stands is =
-    let ok : Note = Answer w.p w.n replies.Ok in
-    let mine : Note = Answer v.p v.n replies.Ok in
-    let caller : Note = Answer event.p event.n h.reply in
-    let whole : caller ∷ h.grants ≡ told ++ ok ∷ others = sym h.are ∙ is in
-    let (rest, first, later) = split_head caller ok h.grants told others (λ e. own (cc, cc)) whole in
-    inl (
-      replies.Ok,
-      subst (λ l. Contains l mine) (sym first)
-          (Contains-there caller mine rest (Passes-turn v w S.waits h.grants left rest others differ conflict h.passes stands later)),
-    )
+    Passes-turn-over v w event S.waits (Answer event.p event.n h.reply ∷ []) h.grants left told others differ conflict
+    ((λ e. own (cc, cc)), tt) h.are h.passes stands is
 Move-turn v w S taken event left told others lasts joined differ conflict own (joins h) stands is =
     Joins-turn v w S event left told others joined differ conflict h stands is
 Move-turn v w S taken event left told others lasts joined differ conflict own (interrupts h) stands is =
-    let ok : Note = Answer w.p w.n replies.Ok in
-    let mine : Note = Answer v.p v.n replies.Ok in
     let caller : Note = Answer event.p event.n replies.Ok in
     let eintr : Note = Answer h.target h.wait.n (replies.Err EINTR) in
-    let whole : caller ∷ eintr ∷ h.grants ≡ told ++ ok ∷ others = sym h.are ∙ is in
-    let (rest, told_is, later) = split_two caller eintr ok h.grants told others (λ e. own (cc, cc)) (λ e. cc) whole in
+    let ok : Note = Answer w.p w.n replies.Ok in
+    let apart : Each (λ note. note ≢ ok) (caller ∷ eintr ∷ []) = ((λ e. own (cc, cc)), ((λ e. cc), tt)) in
     ⊎_elim
     (λ same.
+    let mine : Note = Answer v.p v.n (replies.Err EINTR) in
     let note = interrupted S.states taken (NotOf w) (OnlyAs w) v S.waits h.target h.wait lasts stands h.found same in
-    inl (
-      replies.Err EINTR,
-      subst (λ l. Contains l (Answer v.p v.n (replies.Err EINTR))) (sym told_is)
-          (Contains-there caller (Answer v.p v.n (replies.Err EINTR)) (eintr ∷ rest)
-          (Contains-here eintr (Answer v.p v.n (replies.Err EINTR)) rest note)),
-    ))
+    let (rest, first, later) = split_front ok (caller ∷ eintr ∷ []) h.grants told others apart (sym h.are ∙ is) in
+    let among = Contains-there caller mine (eintr ∷ rest) (Contains-here eintr mine rest note) in
+    inl (replies.Err EINTR, subst (λ l. Contains l mine) (sym first) among))
     (λ differs.
-    inl (
-      replies.Ok,
-      subst (λ l. Contains l mine) (sym told_is)
-          (Contains-there caller mine (eintr ∷ rest)
-          (Contains-there eintr mine rest
-          (Passes-turn v w (without_wait_of S.waits h.target) h.grants left rest others differ conflict h.passes
-          (StandsIn-without (NotOf w) (OnlyAs w) v h.target S.waits differs stands) later))),
-    ))
+    Passes-turn-over v w event (without_wait_of S.waits h.target) (caller ∷ eintr ∷ []) h.grants left told others differ conflict apart h.are
+    h.passes (StandsIn-without (NotOf w) (OnlyAs w) v h.target S.waits differs stands) is)
     (cases_eq v.p h.target)
 Move-turn v w S taken event left told others lasts joined differ conflict own (ends h) stands is =
-    let ok : Note = Answer w.p w.n replies.Ok in
-    let mine : Note = Answer v.p v.n replies.Ok in
-    let caller : Note = Answer event.p event.n replies.Ok in
+    let apart = told_apart event.p event.n event.request h.target h.told (Answer w.p w.n replies.Ok) (λ e. own (cc, cc)) h.how in
     ⊎_elim
     (λ same. inr (Any-here (λ e. EndsProcess e v.p) event [] (subst (EndsProcess event) (sym same) (ends_process event S.waits left h))))
     (λ differs.
-    let stays = StandsIn-without (NotOf w) (OnlyAs w) v h.target S.waits differs stands in
-    let turn : (rest : List Note) → h.grants ≡ rest ++ ok ∷ others → Contains rest mine =
-    λ rest later. Passes-turn v w (without_wait_of S.waits h.target) h.grants left rest others differ conflict h.passes stays later in
-    ⊎_elim
-    (λ silent.
-    let whole : h.grants ≡ told ++ ok ∷ others = sym (h.are ∙ ap (λ l. l ++ h.grants) silent.2) ∙ is in
-    inl (replies.Ok, turn told whole))
-    (λ heard.
-    let whole : caller ∷ h.grants ≡ told ++ ok ∷ others = sym (h.are ∙ ap (λ l. l ++ h.grants) heard.2) ∙ is in
-    let (rest, first, later) = split_head caller ok h.grants told others (λ e. own (cc, cc)) whole in
-    inl (replies.Ok, subst (λ l. Contains l mine) (sym first) (Contains-there caller mine rest (turn rest later))))
-    h.how)
+    Passes-turn-over v w event (without_wait_of S.waits h.target) h.told h.grants left told others differ conflict apart h.are h.passes
+    (StandsIn-without (NotOf w) (OnlyAs w) v h.target S.waits differs stands) is)
     (cases_eq v.p h.target)

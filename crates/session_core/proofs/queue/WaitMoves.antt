@@ -1,5 +1,5 @@
 -- What each event does to the list of waits, under the queue policy.
-use Rattle.std.proofs.Common.{arith, rules, ℕ, ◌≡◌, ◌≢◌, ◌⊎◌, inl, inr, refl, sym, ap, subst, append-nil, append_assoc, eq-eqb, ne_eqb, Bool, List, [], ◌∷◌, ◌++◌, ⊎_elim, Any, Option, Some, None, Result, Ok, Err, MatchBool, MatchOption, MatchResult}
+use Rattle.std.proofs.Common.{arith, rules, ℕ, ◌≡◌, ◌≢◌, ◌⊎◌, inl, inr, refl, sym, ap, subst, append-nil, append_assoc, eq-eqb, ne_eqb, Bool, true, false, List, [], ◌∷◌, ◌++◌, ⊎_elim, Any, Option, Some, None, Result, Ok, Err, MatchBool, MatchOption, MatchResult}
 use Rattle.std.proofs.lemmas.Grind.{common_steps}
 use Rattle.std.specs.Prelude.{IsTrue, IsFalse, ◌||◌}
 use Rattle.std.proofs.lemmas.Bool.{cases_eq}
@@ -37,8 +37,8 @@ use Rattle.lock_manager.specs.State.{State, with_lock, with_flock_mode, with_pro
 use Rattle.lock_manager.specs.Settling.{Settles, granted}
 use Rattle.lock_manager.specs.Outcomes.{Outcome, answered, answered_then, refused, waits_then, IsRefusal}
 use Rattle.lock_manager.specs.DescriptorCalls.{with_released}
-use Rattle.lock_manager.specs.LockWords.{is_get, may_wait, wanted_mode, permits, held_reply, wanted_lock}
-use Rattle.lock_manager.specs.LockCommands.{LockComesTo, DescribedComesTo, RangeComesTo, ModeComesTo, CommandComesTo}
+use Rattle.lock_manager.specs.LockWords.{is_get, may_wait, wanted_mode, permits, wanted_lock}
+use Rattle.lock_manager.specs.LockCommands.{GetComesTo, LockComesTo, DescribedComesTo, RangeComesTo, ModeComesTo, CommandComesTo}
 use Rattle.lock_manager.specs.FlockCalls.{FlockComesTo, FlockOpComesTo, FlockModeComesTo, FlockTestComesTo, is_same_mode, wanted_flock}
 use Rattle.lock_manager.specs.ProcessCalls.{EndComesTo, SignalComesTo, KillOtherComesTo, KillComesTo}
 use Rattle.lock_manager.specs.Step.{ComesTo, Step}
@@ -125,31 +125,28 @@ Settles-passes policy S (grant ∷ grants) T is h = (
 abbrev Comes : State → ℕ → ℕ → Request → Outcome → Type 0
 Comes S p n request outcome = WaitsMove S p n request outcome.told outcome.after.waits
 
--- the caller is answered, behind grants of a conversion or none
-comes_answer_then : (S T : State) (p n : ℕ) (request : Request) (reply : Reply) (grants : List Note) (outcome : Outcome)
-    → Passes S.waits grants T.waits → outcome ≡ answered_then T p n reply grants → Comes S p n request outcome
-comes_answer_then S T p n request reply grants outcome passes is =
-    subst (Comes S p n request) (sym is) (answers (record { reply = reply; grants = grants; are = refl; passes = passes }))
+module _ (S : State) (p n : ℕ) (request : Request) (outcome : Outcome) where
+  -- the caller is answered, behind grants of a conversion or none
+  comes_answer_then : (T : State) (reply : Reply) (grants : List Note) → Passes S.waits grants T.waits → outcome ≡ answered_then T p n reply grants
+      → Comes S p n request outcome
+  comes_answer_then T reply grants passes is =
+      subst (Comes S p n request) (sym is) (answers (record { reply = reply; grants = grants; are = refl; passes = passes }))
 
-comes_answer : (S T : State) (p n : ℕ) (request : Request) (reply : Reply) (outcome : Outcome) → T.waits ≡ S.waits
-    → outcome ≡ answered T p n reply → Comes S p n request outcome
-comes_answer S T p n request reply outcome same is = comes_answer_then S T p n request reply [] outcome same is
+  comes_answer : (T : State) (reply : Reply) → T.waits ≡ S.waits → outcome ≡ answered T p n reply → Comes S p n request outcome
+  comes_answer T reply same is = comes_answer_then T reply [] same is
 
-comes_refused : (S : State) (p n : ℕ) (request : Request) (error : Errno) (outcome : Outcome) → outcome ≡ refused S p n error
-    → Comes S p n request outcome
-comes_refused S p n request error outcome is = comes_answer S S p n request (replies.Err error) outcome refl is
+  comes_refused : (error : Errno) → outcome ≡ refused S p n error → Comes S p n request outcome
+  comes_refused error is = comes_answer S (replies.Err error) refl is
 
-comes_refusal : (S : State) (p n : ℕ) (request : Request) (fault : FdFault) (outcome : Outcome) → IsRefusal S p n fault outcome
-    → Comes S p n request outcome
-comes_refusal S p n request fault outcome h = grind (arith, common_steps, comes_refused)
+  comes_refusal : (fault : FdFault) → IsRefusal S p n fault outcome → Comes S p n request outcome
+  comes_refusal fault h = grind (arith, common_steps, comes_refused)
 
--- a call that moves no wait
-comes_call : {X : Type 0} (S : State) (p n : ℕ) (request : Request) (T : X → State) (reply : X → Reply) (result : Result X FdFault)
-    (outcome : Outcome) → ((x : X) → (T x).waits ≡ S.waits)
-    → MatchResult result (λ x. outcome ≡ answered (T x) p n (reply x)) (λ fault. IsRefusal S p n fault outcome)
-    → Comes S p n request outcome
-comes_call S p n request T reply (Ok x) outcome same is = comes_answer S (T x) p n request (reply x) outcome (same x) is
-comes_call S p n request T reply (Err fault) outcome same is = comes_refusal S p n request fault outcome is
+  -- a call that moves no wait
+  comes_call : {X : Type 0} (T : X → State) (reply : X → Reply) (result : Result X FdFault) → ((x : X) → (T x).waits ≡ S.waits)
+      → MatchResult result (λ x. outcome ≡ answered (T x) p n (reply x)) (λ fault. IsRefusal S p n fault outcome)
+      → Comes S p n request outcome
+  comes_call T reply (Ok x) same is = comes_answer (T x) (reply x) (same x) is
+  comes_call T reply (Err fault) same is = comes_refusal fault is
 
 -- the caller waits
 comes_wait : (S settled : State) (request : Request) (wanted : Wait) (grants : List Note) (outcome : Outcome)
@@ -172,31 +169,33 @@ known_result : {X E : Type 0} (Ok' : X → Type 0) (Err' : E → Type 0) (r : Re
 known_result Ok' Err' (Ok x) h = inl (x, refl, h)
 known_result Ok' Err' (Err e) h = inr (e, h)
 
+-- the test of a request, behind the grants of its conversion or none
+comes_test : (rules : Rules) (S settled : State) (request : Request) (nb : Bool) (wanted : Wait) (grants : List Note) (outcome : Outcome)
+    → (IsFalse nb → WouldWaitAs S wanted.p wanted.n request wanted) → Passes S.waits grants settled.waits
+    → FlockTestComesTo rules settled nb wanted grants outcome → Comes S wanted.p wanted.n request outcome
+comes_test rules S settled request nb wanted grants outcome h h2 h3 = grind (arith, common_steps, comes_answer_then, locked_waits, cases_fact, comes_wait)
+
+-- a get command moves no wait
+comes_get : (S : State) (request : Request) (wanted : Wait) (outcome : Outcome) → GetComesTo S wanted outcome
+    → Comes S wanted.p wanted.n request outcome
+comes_get S request wanted outcome is = grind (arith, common_steps, comes_answer, cases_fact)
+
 -- a lock command on a range, with a mode
 comes_command : (rules : Rules) (S : State) (request : Request) (cmd : LkCmd) (wanted : Wait) (outcome : Outcome)
     → (IsTrue (may_wait cmd) → WouldWaitAs S wanted.p wanted.n request wanted) → CommandComesTo rules S cmd wanted outcome
     → Comes S wanted.p wanted.n request outcome
-comes_command rules S request GetLk wanted outcome asks is =
-    ⊎_elim (λ held. comes_answer S S wanted.p wanted.n request (held_reply held.0) outcome refl held.2)
-    (λ free. comes_answer S S wanted.p wanted.n request replies.Free outcome refl free) (cases_fact is)
-comes_command rules S request OGetLk wanted outcome asks is =
-    ⊎_elim (λ held. comes_answer S S wanted.p wanted.n request (held_reply held.0) outcome refl held.2)
-    (λ free. comes_answer S S wanted.p wanted.n request replies.Free outcome refl free) (cases_fact is)
-comes_command rules S request SetLk wanted outcome asks is =
-    ⊎_elim (λ no. comes_refused S wanted.p wanted.n request _ outcome no)
-    (λ yes. comes_answer S (with_lock S wanted) wanted.p wanted.n request _ outcome (locked_waits S wanted) yes) (cases_fact is)
-comes_command rules S request OSetLk wanted outcome asks is =
-    ⊎_elim (λ no. comes_refused S wanted.p wanted.n request _ outcome no)
-    (λ yes. comes_answer S (with_lock S wanted) wanted.p wanted.n request _ outcome (locked_waits S wanted) yes) (cases_fact is)
+comes_command rules S request GetLk wanted outcome asks is = comes_get S request wanted outcome is
+comes_command rules S request OGetLk wanted outcome asks is = comes_get S request wanted outcome is
+comes_command rules S request SetLk wanted outcome asks is = comes_test rules S S request true wanted [] outcome (λ no. cc) refl is
+comes_command rules S request OSetLk wanted outcome asks is = comes_test rules S S request true wanted [] outcome (λ no. cc) refl is
+comes_command rules S request OSetLkW wanted outcome asks is =
+    comes_test rules S S request false wanted [] outcome (λ waits. asks refl) refl is
 comes_command rules S request SetLkW wanted outcome asks is =
     ⊎_elim
     (λ blocked.
-    ⊎_elim (λ no. comes_refused S wanted.p wanted.n request _ outcome no)
+    ⊎_elim (λ no. comes_refused S wanted.p wanted.n request outcome _ no)
     (λ waits. comes_wait S S request wanted [] outcome (asks refl) refl waits) (cases_fact blocked))
-    (λ yes. comes_answer S (with_lock S wanted) wanted.p wanted.n request _ outcome (locked_waits S wanted) yes) (cases_fact is)
-comes_command rules S request OSetLkW wanted outcome asks is =
-    ⊎_elim (λ waits. comes_wait S S request wanted [] outcome (asks refl) refl waits)
-    (λ yes. comes_answer S (with_lock S wanted) wanted.p wanted.n request _ outcome (locked_waits S wanted) yes) (cases_fact is)
+    (λ yes. comes_answer S wanted.p wanted.n request outcome (with_lock S wanted) _ (locked_waits S wanted) yes) (cases_fact is)
 
 comes_mode : (rules : Rules) (S : State) (p n fd : ℕ) (cmd : LkCmd) (lock : Lock) (look : Look) (span : Span) (mode : Mode) (outcome : Outcome)
     → look_at S.descriptors p fd ≡ Some look → resolution lock.whence lock.start lock.len look.offset look.size ≡ Ok span
@@ -206,7 +205,7 @@ comes_mode rules S p n fd cmd lock look span mode outcome opened ranged moded is
     (λ yes.
     comes_command rules S (Lk fd cmd lock) cmd (wanted_lock cmd p n look span mode) outcome
     (λ may. (may, record { look = look; of_open = opened; span = span; of_range = ranged; mode = mode; of_kind = moded; is = refl })) yes)
-    (λ no. comes_refused S p n (Lk fd cmd lock) _ outcome no) (cases_bool (is_get cmd || permits look.access mode) is)
+    (λ no. comes_refused S p n (Lk fd cmd lock) outcome _ no) (cases_bool (is_get cmd || permits look.access mode) is)
 
 comes_range : (rules : Rules) (S : State) (p n fd : ℕ) (cmd : LkCmd) (lock : Lock) (look : Look) (span : Span) (outcome : Outcome)
     → look_at S.descriptors p fd ≡ Some look → resolution lock.whence lock.start lock.len look.offset look.size ≡ Ok span
@@ -221,28 +220,22 @@ comes_lock : (rules : Rules) (S : State) (p n fd : ℕ) (cmd : LkCmd) (lock : Lo
     → LockComesTo rules S p n fd cmd lock outcome → Comes S p n (Lk fd cmd lock) outcome
 comes_lock rules S p n fd cmd lock outcome is = grind (arith, common_steps, comes_refused, comes_described, known_option)
 
--- the test of a flock request, behind the grants of its conversion or none
-comes_flock_test : (rules : Rules) (S settled : State) (request : Request) (nb : Bool) (wanted : Wait) (grants : List Note) (outcome : Outcome)
-    → (IsFalse nb → WouldWaitAs S wanted.p wanted.n request wanted) → Passes S.waits grants settled.waits
-    → FlockTestComesTo rules settled nb wanted grants outcome → Comes S wanted.p wanted.n request outcome
-comes_flock_test rules S settled request nb wanted grants outcome h h2 h3 = grind (arith, common_steps, comes_answer_then, locked_waits, cases_fact, comes_wait)
-
 comes_flock_mode : (rules : Rules) (S : State) (request : Request) (look : Look) (nb : Bool) (wanted : Wait) (mode : Option Mode) (outcome : Outcome)
     → rules.policy ≡ Queue → (IsFalse nb → WouldWaitAs S wanted.p wanted.n request wanted)
     → FlockModeComesTo rules S look nb wanted mode outcome → Comes S wanted.p wanted.n request outcome
 comes_flock_mode rules S request look nb wanted None outcome queue asks is =
-    comes_flock_test rules S S request nb wanted [] outcome asks refl is
+    comes_test rules S S request nb wanted [] outcome asks refl is
 comes_flock_mode rules S request look nb wanted (Some held) outcome queue asks is =
-    ⊎_elim (λ already. comes_answer S S wanted.p wanted.n request _ outcome refl already)
+    ⊎_elim (λ already. comes_answer S wanted.p wanted.n request outcome S _ refl already)
     (λ converted.
-    comes_flock_test rules S converted.1 request nb wanted converted.0 outcome asks
+    comes_test rules S converted.1 request nb wanted converted.0 outcome asks
     (Settles-passes rules.policy (with_flock_mode S look.file look.desc None) converted.0 converted.1 queue converted.2) converted.3)
     (cases_bool (is_same_mode held wanted.mode) is)
 
 comes_flock_op : (rules : Rules) (S : State) (p n fd : ℕ) (look : Look) (op : FlockOp) (nb : Bool) (outcome : Outcome) → rules.policy ≡ Queue
     → look_at S.descriptors p fd ≡ Some look → FlockOpComesTo rules S p n look op nb outcome → Comes S p n (Flock fd op nb) outcome
 comes_flock_op rules S p n fd look Un nb outcome queue opened is =
-    comes_answer S (with_flock_mode S look.file look.desc None) p n (Flock fd Un nb) replies.Ok outcome refl is
+    comes_answer S p n (Flock fd Un nb) outcome (with_flock_mode S look.file look.desc None) replies.Ok refl is
 comes_flock_op rules S p n fd look Sh nb outcome queue opened is =
     comes_flock_mode rules S (Flock fd Sh nb) look nb (wanted_flock p n look Read) (flock_mode_in S.flock_changes look.file look.desc) outcome
     queue (λ waits. (waits, record { look = look; of_open = opened; mode = Read; of_op = refl; is = refl })) is
@@ -265,12 +258,10 @@ comes_signal S p n target state outcome h = grind (arith, common_steps, comes_re
 
 comes_kill_other : (S : State) (p n target : ℕ) (state : ProcState) (outcome : Outcome) → p ≢ target
     → KillOtherComesTo S p n target state outcome → Comes S p n (Kill target) outcome
-comes_kill_other S p n target Unborn outcome other is = comes_refused S p n (Kill target) _ outcome is
-comes_kill_other S p n target Ended outcome other is = comes_refused S p n (Kill target) _ outcome is
-comes_kill_other S p n target Live outcome other is =
-    comes_end S p n target (Kill target) (Answer p n replies.Ok ∷ []) outcome (inr (other, refl, refl)) is
-comes_kill_other S p n target Waiting outcome other is =
-    comes_end S p n target (Kill target) (Answer p n replies.Ok ∷ []) outcome (inr (other, refl, refl)) is
+comes_kill_other S p n target Unborn outcome other is = comes_refused S p n (Kill target) outcome _ is
+comes_kill_other S p n target Ended outcome other is = comes_refused S p n (Kill target) outcome _ is
+comes_kill_other S p n target Live outcome other is = comes_end S p n target (Kill target) _ outcome (inr (other, refl, refl)) is
+comes_kill_other S p n target Waiting outcome other is = comes_end S p n target (Kill target) _ outcome (inr (other, refl, refl)) is
 
 comes_kill : (S : State) (p n target : ℕ) (outcome : Outcome) → KillComesTo S p n target outcome → Comes S p n (Kill target) outcome
 comes_kill S p n target outcome is =
@@ -285,30 +276,29 @@ comes_kill S p n target outcome is =
     comes_kill_other S p n target (S.states target) outcome (λ e. differs (sym e)) other)
     (cases_eq target p)
 
--- whatever the request: one case for each that is served
-comes_request : (rules : Rules) (processes : ℕ) (S : State) (p n : ℕ) (request : Request) (outcome : Outcome) → rules.policy ≡ Queue
-    → ComesTo rules processes S p n request outcome → Comes S p n request outcome
-comes_request rules processes S p n (OpenFile file access) outcome queue is =
-    comes_call S p n (OpenFile file access) (λ fd. record S { descriptors = is.1 }) (λ fd. replies.Fd fd) is.0 outcome (λ fd. refl) is.3
-comes_request rules processes S p n (Dup fd) outcome queue is =
-    comes_call S p n (Dup fd) (λ free. record S { descriptors = is.1 }) (λ free. replies.Fd free) is.0 outcome (λ free. refl) is.3
-comes_request rules processes S p n (DupTo fd to) outcome queue is =
-    comes_call S p n (DupTo fd to) (λ answer. with_released S is.1 p answer.1) (λ answer. replies.Fd answer.0) is.0 outcome (λ answer. refl) is.3
-comes_request rules processes S p n (CloseFd fd) outcome queue is =
-    comes_call S p n (CloseFd fd) (λ released. with_released S is.1 p released) (λ released. replies.Ok) is.0 outcome (λ released. refl) is.3
-comes_request rules processes S p n (Seek fd offset) outcome queue is =
-    comes_call S p n (Seek fd offset) (λ done. record S { descriptors = is.1 }) (λ done. replies.Ok) is.0 outcome (λ done. refl) is.3
-comes_request rules processes S p n (Resize fd size) outcome queue is =
-    comes_call S p n (Resize fd size) (λ done. record S { descriptors = is.1 }) (λ done. replies.Ok) is.0 outcome (λ done. refl) is.3
-comes_request rules processes S p n (Lk fd cmd lock) outcome queue is = comes_lock rules S p n fd cmd lock outcome is
-comes_request rules processes S p n (Flock fd op nb) outcome queue is = comes_flock rules S p n fd op nb outcome queue is
-comes_request rules processes S p n (Fork child) outcome queue is =
-    comes_call S p n (Fork child) (λ done. with_process (record S { descriptors = is.1 }) child Live) (λ done. replies.Ok) is.0 outcome
-    (λ done. refl) is.3
-comes_request rules processes S p n Exit outcome queue is =
-    comes_end S p n p Exit [] outcome (inl (refl, inl refl, refl)) is
-comes_request rules processes S p n (Signal target) outcome queue is = comes_signal S p n target (S.states target) outcome is
-comes_request rules processes S p n (Kill target) outcome queue is = comes_kill S p n target outcome is
+module _ (rules : Rules) (processes : ℕ) (S : State) (p n : ℕ) (outcome : Outcome) (queue : rules.policy ≡ Queue) where
+  -- whatever the request: one case for each that is served
+  comes_request : (request : Request) → ComesTo rules processes S p n request outcome → Comes S p n request outcome
+  comes_request (OpenFile file access) is =
+      comes_call S p n (OpenFile file access) outcome (λ fd. record S { descriptors = is.1 }) (λ fd. replies.Fd fd) is.0 (λ fd. refl) is.3
+  comes_request (Dup fd) is =
+      comes_call S p n (Dup fd) outcome (λ free. record S { descriptors = is.1 }) (λ free. replies.Fd free) is.0 (λ free. refl) is.3
+  comes_request (DupTo fd to) is =
+      comes_call S p n (DupTo fd to) outcome (λ answer. with_released S is.1 p answer.1) (λ answer. replies.Fd answer.0) is.0 (λ answer. refl) is.3
+  comes_request (CloseFd fd) is =
+      comes_call S p n (CloseFd fd) outcome (λ released. with_released S is.1 p released) (λ released. replies.Ok) is.0 (λ released. refl) is.3
+  comes_request (Seek fd offset) is =
+      comes_call S p n (Seek fd offset) outcome (λ done. record S { descriptors = is.1 }) (λ done. replies.Ok) is.0 (λ done. refl) is.3
+  comes_request (Resize fd size) is =
+      comes_call S p n (Resize fd size) outcome (λ done. record S { descriptors = is.1 }) (λ done. replies.Ok) is.0 (λ done. refl) is.3
+  comes_request (Lk fd cmd lock) is = comes_lock rules S p n fd cmd lock outcome is
+  comes_request (Flock fd op nb) is = comes_flock rules S p n fd op nb outcome queue is
+  comes_request (Fork child) is =
+      comes_call S p n (Fork child) outcome (λ done. with_process (record S { descriptors = is.1 }) child Live) (λ done. replies.Ok) is.0
+      (λ done. refl) is.3
+  comes_request Exit is = comes_end S p n p Exit [] outcome (inl (refl, inl refl, refl)) is
+  comes_request (Signal target) is = comes_signal S p n target (S.states target) outcome is
+  comes_request (Kill target) is = comes_kill S p n target outcome is
 
 -- each step moves the list so
 pub Step-moves : (rules : Rules) (processes : ℕ) (S : State) (p n : ℕ) (request : Request) (notes : List Note) (T : State)
@@ -316,5 +306,5 @@ pub Step-moves : (rules : Rules) (processes : ℕ) (S : State) (p n : ℕ) (requ
 Step-moves rules processes S p n request notes T queue step =
     subst (λ l. WaitsMove S p n request l T.waits) (sym step.are_notes)
     (WaitsMove-then S p n request step.outcome.told step.outcome.after.waits step.grants T.waits
-    (comes_request rules processes S p n request step.outcome queue step.comes_to)
+    (comes_request rules processes S p n step.outcome queue request step.comes_to)
     (Settles-passes rules.policy step.outcome.after step.grants T queue step.settles))

@@ -1,5 +1,6 @@
 -- A wait in the list of waits: what stands before it and behind it, while others join and leave.
-use Rattle.std.proofs.Common.{ℕ, ◌≡◌, ◌≢◌, ◌⊎◌, inl, inr, refl, sym, ◌∙◌, ap, subst, eq-eqb, ne_eqb, List, [], ◌∷◌, ◌++◌, ⊎_elim, Any}
+use Rattle.std.proofs.Common.{arith, ℕ, ◌≡◌, ◌≢◌, ◌⊎◌, inl, inr, refl, sym, ◌∙◌, ap, subst, ne_eqb, List, [], ◌∷◌, ◌++◌, ⊎_elim, Any}
+use Rattle.std.proofs.lemmas.Grind.{common_steps}
 use Rattle.std.specs.List.{AllByRecursion as Each}
 use Rattle.std.proofs.lemmas.Bool.{cases_eq}
 use Rattle.wait_core.specs.declared.Wait.{Wait}
@@ -9,6 +10,7 @@ use Rattle.lock_manager.specs.declared.request.Note.{Note}
 use Rattle.lock_manager.specs.declared.request.Note.TheVariants.{Answer}
 use Rattle.lock_manager.specs.declared.request.Reply.TheVariants as replies
 use Rattle.session_core.proofs.tallies.Tally.{Each-append, Each-map, Each-middle}
+use Rattle.session_core.proofs.tallies.Moves.{without_wait-each}
 use Rattle.session_core.proofs.queue.AnyLemmas.{Any-here, Any-there}
 
 -- v stands in the list, waits of which P holds before it, and waits of which Q holds behind it
@@ -34,8 +36,7 @@ module _ (P Q : Wait → Type 0) (v : Wait) where
   StandsIn-middle [] x after (inl h) = inl h.0
   StandsIn-middle [] x after (inr h) = inr h.1
   StandsIn-middle (y ∷ before) x after (inl h) = inr (inl (h.0, (Each-middle Q before x after h.1).1))
-  StandsIn-middle (y ∷ before) x after (inr h) =
-      ⊎_elim (λ same. inl same) (λ rest. inr (inr (h.0, rest))) (StandsIn-middle before x after h.1)
+  StandsIn-middle (y ∷ before) x after (inr h) = grind (arith, common_steps, StandsIn-middle before x after)
 
   -- one of the list is it, or stands before it, or stands behind it
   pub StandsIn-where : (before : List Wait) (x : Wait) (after : List Wait) → StandsIn P Q v (before ++ x ∷ after)
@@ -53,16 +54,8 @@ module _ (P Q : Wait → Type 0) (v : Wait) where
   pub StandsIn-without : (q : ℕ) (waits : List Wait) → v.p ≢ q → StandsIn P Q v waits → StandsIn P Q v (without_wait_of waits q)
   StandsIn-without q [] other h = absurd h
   StandsIn-without q (x ∷ waits) other (inl h) =
-      rw (ne_eqb x.p q (λ e. other (sym (ap (λ (w : Wait). w.p) h.0) ∙ e))) (inl (h.0, without_each q waits h.1))
-    where
-      without_each : (p : ℕ) (xs : List Wait) → Each Q xs → Each Q (without_wait_of xs p)
-      without_each p [] k = tt
-      without_each p (y ∷ ys) k =
-          ⊎_elim (λ same. rw (eq-eqb y.p p same) (without_each p ys k.1))
-          (λ differs. rw (ne_eqb y.p p differs) (k.0, without_each p ys k.1)) (cases_eq y.p p)
-  StandsIn-without q (x ∷ waits) other (inr h) =
-      ⊎_elim (λ same. rw (eq-eqb x.p q same) (StandsIn-without q waits other h.1))
-      (λ differs. rw (ne_eqb x.p q differs) (inr (h.0, StandsIn-without q waits other h.1))) (cases_eq x.p q)
+      rw (ne_eqb x.p q (λ e. other (sym (ap (λ (w : Wait). w.p) h.0) ∙ e))) (inl (h.0, without_wait-each Q q waits h.1))
+  StandsIn-without q (x ∷ waits) other (inr h) = grind (arith, common_steps, StandsIn-without q waits, cases_eq)
 
   -- what holds of each in the list holds of it
   pub StandsIn-each : (R : Wait → Type 0) (waits : List Wait) → Each R waits → StandsIn P Q v waits → R v

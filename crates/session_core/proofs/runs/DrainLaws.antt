@@ -48,14 +48,8 @@ DrainsMail-unique : StepHasOneOutcome
     → List Request) (events : List Event) (S : State) (more : List Event) (T : State) (others : List Event) (U : State)
     → DrainsMail rules processes sent events S more T → DrainsMail rules processes sent events S others U → (more ≡ others) × (T ≡ U)
 DrainsMail-unique one rules processes sent events S [] T [] U h k = (refl, h.0 ∙ sym k.0)
-DrainsMail-unique one rules processes sent events S [] T (next ∷ others) U h k =
-    let drained : IsDrained S.states sent events =
-    subst (λ l. IsDrained S.states sent l) (append-nil events) (subst (λ X. IsDrained X.states sent (events ++ [])) h.0 h.1) in
-    absurd (no_mail (next_untaken sent events next.p) next.request k.0.0.request (drained next.p k.0.0.live))
-DrainsMail-unique one rules processes sent events S (event ∷ more) T [] U h k =
-    let drained : IsDrained S.states sent events =
-    subst (λ l. IsDrained S.states sent l) (append-nil events) (subst (λ X. IsDrained X.states sent (events ++ [])) k.0 k.1) in
-    absurd (no_mail (next_untaken sent events event.p) event.request h.0.0.request (drained event.p h.0.0.live))
+DrainsMail-unique one rules processes sent events S [] T (next ∷ others) U h k = grind (arith, common_steps, no_mail, append-nil)
+DrainsMail-unique one rules processes sent events S (event ∷ more) T [] U h k = grind (arith, common_steps, no_mail, append-nil)
 DrainsMail-unique one rules processes sent events S (event ∷ more) T (next ∷ others) U h k =
     let same : (event ≡ next) × (h.0.1 ≡ k.0.1) =
     next_event one rules processes sent events S event next h.0.1 k.0.1 h.0.0 h.0.2 k.0.0 k.0.2 in

@@ -1,6 +1,6 @@
 -- Draining: one more event taken, how much mail is left, and one more arrival; for `drain`, `drain_of` and `run_all`.
 use Rattle.std.proofs.lemmas.Grind.{common_steps}
-use Rattle.std.proofs.Common.{rules, ℕ, zero, suc, ◌≡◌, ◌≢◌, ◌+◌, ◌-◌, ◌<◌, ◌≤◌, refl, sym, ◌∙◌, ap, subst, arith, eq-eqb, ne_eqb, length, length-append, List, [], ◌∷◌, ◌++◌, ⊎_elim, true, false, Option, Some, None, Result, Err, is_some, slice_get, get_or, take, drop}
+use Rattle.std.proofs.Common.{rules, ℕ, zero, suc, ◌≡◌, ◌≢◌, ◌+◌, ◌-◌, ◌<◌, ◌≤◌, refl, sym, ◌∙◌, ap, subst, arith, eq-eqb, length, length-append, List, [], ◌∷◌, ◌++◌, ⊎_elim, true, false, Option, Some, None, Result, Err, is_some, slice_get, get_or, take, drop}
 use Rattle.std.specs.Prelude.{◌==◌, if◌then◌else◌, IsNone}
 use Rattle.std.proofs.lemmas.Bool.{cases_eq}
 use Rattle.std.proofs.lemmas.List.{append-nil, append_assoc, map-append, take-append-drop, drop_more, take_more}
@@ -96,31 +96,14 @@ mail_left-past : (sent : ℕ → List Request) (events : List Event) (event : Ev
     → mail_left sent (events ++ event ∷ []) k ≡ mail_left sent events k
 mail_left-past sent events event zero past = refl
 mail_left-past sent events event (suc k) past =
-    let rest = mail_left-past sent events event k (omega arith) in
-    let other : suc k ≢ event.p = λ e. absurd (omega arith) in
-    let same : length (events_of (suc k) (events ++ event ∷ [])) ≡ length (events_of (suc k) events) =
-    length-events_of-push (suc k) events event ∙ rw (ne_eqb (suc k) event.p other) refl in
-    omega arith
+    grind (arith, common_steps, mail_left-past sent events event k, length-events_of-push)
 
 mail_left-push : (sent : ℕ → List Request) (events : List Event) (event : Event) (k : ℕ) → 1 ≤ event.p → event.p ≤ k
     → length (events_of event.p events) < length (sent event.p)
     → mail_left sent (events ++ event ∷ []) k < mail_left sent events k
 mail_left-push sent events event zero low high within = absurd (omega arith)
 mail_left-push sent events event (suc k) low high within =
-    ⊎_elim
-    (λ here.
-    let rest = mail_left-past sent events event k (omega arith) in
-    let more : length (events_of (suc k) (events ++ event ∷ [])) ≡ length (events_of (suc k) events) + 1 =
-    length-events_of-push (suc k) events event ∙ rw (eq-eqb (suc k) event.p here) refl in
-    let some : length (events_of (suc k) events) < length (sent (suc k)) =
-    subst (λ p. length (events_of p events) < length (sent p)) (sym here) within in
-    omega arith)
-    (λ other.
-    let rest = mail_left-push sent events event k low (omega arith) within in
-    let same : length (events_of (suc k) (events ++ event ∷ [])) ≡ length (events_of (suc k) events) =
-    length-events_of-push (suc k) events event ∙ rw (ne_eqb (suc k) event.p other) refl in
-    omega arith)
-    (cases_eq (suc k) event.p)
+    grind (arith, common_steps, mail_left-past sent events event k, mail_left-push sent events event k, length-events_of-push, cases_eq)
 
 mailbox_within : (mailboxes : List Mailbox) (k : ℕ) (mailbox : Option Mailbox) (request : Request)
     → slice_get mailboxes k ≡ mailbox → slice_get (waiting_in mailbox) 0 ≡ Some request → (1 ≤ suc k) × (suc k ≤ length mailboxes)

@@ -1,12 +1,11 @@
 -- A journal with one more event: for `Session::arrive`, `Session::new`, `Session::take` and `Session::withdraw`.
-use Rattle.std.proofs.Common.{rules, ℕ, zero, suc, ◌≡◌, ◌≢◌, ◌+◌, ◌<◌, ◌≤◌, refl, sym, ◌∙◌, ap, subst, arith, eq-eqb, ne_eqb, length, length-append, set, List, [], ◌∷◌, ◌++◌, ⊎_elim, Option, Some, None, IfSome, All, map, slice_get, drop}
+use Rattle.std.proofs.Common.{rules, ℕ, zero, suc, ◌≡◌, ◌≢◌, ◌+◌, ◌<◌, ◌≤◌, refl, sym, ◌∙◌, ap, subst, arith, eq-eqb, ne_eqb, length, length-append, set, List, [], ◌∷◌, ◌++◌, ⊎_elim, Option, Some, None, IfSome, All, slice_get, drop}
 use Rattle.std.proofs.lemmas.Grind.{common_steps}
 use Rattle.std.specs.Prelude.{◌==◌, if◌then◌else◌}
 use Rattle.std.specs.List.{AllByRecursion as Each}
 use Rattle.std.proofs.lemmas.Bool.{cases_eq}
 use Rattle.std.proofs.lemmas.List.{length-map, length-set, map-append, append_assoc, append-nil}
 use Rattle.std.proofs.lemmas.List.Elements.{filter-append, recursion_from_All}
-use Rattle.lock_manager.specs.declared.request.Rules.{Rules}
 use Rattle.lock_manager.specs.declared.request.Request.{Request}
 use Rattle.lock_manager.specs.declared.manager.Manager.{Manager}
 use Rattle.lock_manager.specs.State.{State, opening_state}
@@ -14,7 +13,7 @@ use Rattle.lock_manager.specs.ManagerView.{StandsFor, SameManager, IsSafeManager
 use Rattle.session_core.specs.declared.mailbox.Mailbox.{Mailbox}
 use Rattle.session_core.specs.Event.{Event}
 use Rattle.session_core.specs.Mailboxes.{mail_waiting, mail_sent, mail_taken, waiting_in, taken_in, IsMailKept, IsEmptyMailbox}
-use Rattle.session_core.specs.Runs.{IsStep, Leads, IsRun, AreNumbered, events_of}
+use Rattle.session_core.specs.Runs.{IsStep, IsRun, AreNumbered, events_of}
 use Rattle.session_core.specs.Mail.{IsPrefixOf, requests_taken}
 use Rattle.session_core.specs.Draining.{IsReplayed, next_untaken}
 use Rattle.session_core.specs.Headline.{AreWithinLimits, Holds, request_limit}
@@ -39,22 +38,22 @@ pub length-events_of-push : (q : ℕ) (journal : List Event) (event : Event)
     → length (events_of q (journal ++ event ∷ [])) ≡ (if q == event.p then length (events_of q journal) + 1 else length (events_of q journal))
 length-events_of-push q journal event = grind (arith, common_steps, eq-eqb, events_of-push_own, length-append, events_of-push_other, cases_eq)
 
+-- and which requests were taken of it
+requests_taken-push_own : (q : ℕ) (journal : List Event) (event : Event) → event.p ≡ q
+    → requests_taken q (journal ++ event ∷ []) ≡ requests_taken q journal ++ event.request ∷ []
+requests_taken-push_own q journal event own = grind (arith, common_steps, events_of-push_own, map-append)
+
+requests_taken-push_other : (q : ℕ) (journal : List Event) (event : Event) → event.p ≢ q
+    → requests_taken q (journal ++ event ∷ []) ≡ requests_taken q journal
+requests_taken-push_other q journal event other = grind (arith, common_steps, events_of-push_other)
+
 -- what is at a place of a list with one more item
-IfSome-push : {X : Type 0} (P : X → ℕ → Type 0) (xs : List X) (x : X) (first : ℕ)
-    → ((place : ℕ) → IfSome (slice_get xs place) (λ y. P y (first + place))) → P x (first + length xs)
-    → (place : ℕ) → IfSome (slice_get (xs ++ x ∷ []) place) (λ y. P y (first + place))
-IfSome-push P [] x first h here zero = here
-IfSome-push P [] x first h here (suc place) = tt
-IfSome-push P (y ∷ ys) x first h here zero = h zero
-IfSome-push P (y ∷ ys) x first h here (suc place) =
-    let e : first + suc place ≡ first + 1 + place = omega arith in
-    let last : first + suc (length ys) ≡ first + 1 + length ys = omega arith in
-    subst (λ n. IfSome (slice_get (ys ++ x ∷ []) place) (λ z. P z n)) (sym e)
-    (IfSome-push P ys x (first + 1)
-    (λ k.
-    let step : first + suc k ≡ first + 1 + k = omega arith in
-    subst (λ n. IfSome (slice_get ys k) (λ z. P z n)) step (h (suc k)))
-    (subst (λ n. P x n) last here) place)
+IfSome-push : {X : Type 0} (P : X → ℕ → Type 0) (xs : List X) (x : X) → ((place : ℕ) → IfSome (slice_get xs place) (λ y. P y place))
+    → P x (length xs) → (place : ℕ) → IfSome (slice_get (xs ++ x ∷ []) place) (λ y. P y place)
+IfSome-push P [] x h here zero = here
+IfSome-push P [] x h here (suc place) = tt
+IfSome-push P (y ∷ ys) x h here zero = h zero
+IfSome-push P (y ∷ ys) x h here (suc place) = IfSome-push (λ z n. P z (suc n)) ys x (λ k. h (suc k)) here place
 
 -- the numbers by process, with one more event that has the next number of its process
 pub AreNumbered-push : (journal : List Event) (event : Event) → event.n ≡ length (events_of event.p journal) + 1 → AreNumbered journal
@@ -62,15 +61,9 @@ pub AreNumbered-push : (journal : List Event) (event : Event) → event.n ≡ le
 AreNumbered-push journal event number numbered q place =
     ⊎_elim
     (λ own.
-    let last : event.n ≡ 0 + length (events_of q journal) + 1 = number ∙ ap (λ r. length (events_of r journal) + 1) own ∙ omega arith in
-    let zero_place : 0 + place ≡ place = omega arith in
+    let last : event.n ≡ length (events_of q journal) + 1 = number ∙ ap (λ r. length (events_of r journal) + 1) own in
     subst (λ l. IfSome (slice_get l place) (λ e. e.n ≡ place + 1)) (sym (events_of-push_own q journal event own))
-    (subst (λ n. IfSome (slice_get (events_of q journal ++ event ∷ []) place) (λ e. e.n ≡ n + 1)) zero_place
-    (IfSome-push (λ e n. e.n ≡ n + 1) (events_of q journal) event 0
-    (λ k.
-    let zero_k : k ≡ 0 + k = omega arith in
-    subst (λ n. IfSome (slice_get (events_of q journal) k) (λ e. e.n ≡ n + 1)) zero_k (numbered q k))
-    last place)))
+    (IfSome-push (λ e n. e.n ≡ n + 1) (events_of q journal) event (numbered q) last place))
     (λ other.
     subst (λ l. IfSome (slice_get l place) (λ e. e.n ≡ place + 1)) (sym (events_of-push_other q journal event other)) (numbered q place))
     (cases_eq event.p q)
@@ -103,15 +96,11 @@ taken_in_order-push sent journal event next h p =
     ap (λ l. slice_get l (length taken)) (sym (h p).1) ∙ ap (λ n. slice_get (sent p) n) (sym many)
     ∙ ap (λ q. next_untaken sent journal q) (sym own) ∙ next in
     let split = next_of_prefix taken rest event.request at in
-    let pushed : requests_taken p (journal ++ event ∷ []) ≡ taken ++ event.request ∷ [] =
-    ap (λ l. map (λ e. e.request) l) (events_of-push_own p journal event own) ∙ map-append (λ e. e.request) (events_of p journal) (event ∷ []) in (
+    let pushed = requests_taken-push_own p journal event own in (
       split.0,
       (h p).1 ∙ ap (λ l. taken ++ l) split.1 ∙ sym (append_assoc taken (event.request ∷ []) split.0) ∙ ap (λ l. l ++ split.0) (sym pushed),
     ))
-    (λ other.
-    let same : requests_taken p (journal ++ event ∷ []) ≡ requests_taken p journal =
-    ap (λ l. map (λ e. e.request) l) (events_of-push_other p journal event other) in
-    ((h p).0, (h p).1 ∙ ap (λ l. l ++ (h p).0) (sym same)))
+    (λ other. ((h p).0, (h p).1 ∙ ap (λ l. l ++ (h p).0) (sym (requests_taken-push_other p journal event other))))
     (cases_eq event.p p)
 
 -- under the same rules, with as many processes, all is within the limits still
@@ -172,18 +161,14 @@ mail_sent-taken mailboxes place p before after journal event at own first q =
     ⊎_elim
     (λ same.
     let rest : mail_waiting (set mailboxes place after) q ≡ after.waiting.items = written ∙ rw (eq-eqb q p same) refl in
-    let more : requests_taken q (journal ++ event ∷ []) ≡ requests_taken q journal ++ event.request ∷ [] =
-    ap (λ l. map (λ e. e.request) l) (events_of-push_own q journal event (own ∙ sym same))
-    ∙ map-append (λ e. e.request) (events_of q journal) (event ∷ []) in
-    ap (λ l. l ++ mail_waiting (set mailboxes place after) q) more
+    ap (λ l. l ++ mail_waiting (set mailboxes place after) q) (requests_taken-push_own q journal event (own ∙ sym same))
     ∙ ap (λ l. (requests_taken q journal ++ event.request ∷ []) ++ l) rest
     ∙ append_assoc (requests_taken q journal) (event.request ∷ []) after.waiting.items
     ∙ ap (λ l. requests_taken q journal ++ l) (sym first ∙ sym there ∙ ap (mail_waiting mailboxes) (sym same)))
     (λ other.
     let rest : mail_waiting (set mailboxes place after) q ≡ mail_waiting mailboxes q = written ∙ rw (ne_eqb q p other) refl in
-    let as_before : requests_taken q (journal ++ event ∷ []) ≡ requests_taken q journal =
-    ap (λ l. map (λ e. e.request) l) (events_of-push_other q journal event (λ e. other (sym e ∙ own))) in
-    ap (λ l. l ++ mail_waiting (set mailboxes place after) q) as_before ∙ ap (λ l. requests_taken q journal ++ l) rest)
+    ap (λ l. l ++ mail_waiting (set mailboxes place after) q) (requests_taken-push_other q journal event (λ e. other (sym e ∙ own)))
+    ∙ ap (λ l. requests_taken q journal ++ l) rest)
     (cases_eq q p)
 
 -- the mail is kept where one more was taken of the process of one more event

@@ -17,7 +17,7 @@ use Rattle.lock_manager.specs.OneOutcome.{StepHasOneOutcome}
 use Rattle.lock_manager.specs.ManagerView.{StandsFor, rules_of, processes_of}
 use Rattle.session_core.specs.declared.check.Replay.{Replay}
 use Rattle.session_core.specs.Event.{Event}
-use Rattle.session_core.specs.Runs.{IsStep, IsRun, Leads, AreNumbered, events_of}
+use Rattle.session_core.specs.Runs.{IsStep, IsRun, AreNumbered, events_of}
 use Rattle.session_core.specs.declared.check.Expected.{Expected}
 use Rattle.session_core.specs.declared.check.Expected.TheVariants.{Notes}
 use Rattle.session_core.specs.Legality.{WouldHave}
@@ -30,6 +30,7 @@ use Rattle.session_core.proofs.LeadsLemmas.{Leads-split, Leads-unique}
 use Rattle.session_core.proofs.runs.RunLaws.{counted_answers}
 use Rattle.session_core.proofs.runs.HeadlineLaws.{replayed_tallied, answers_counted, before_birth}
 use Rattle.session_core.proofs.LastLemmas.{AreNumberedFrom, AreLastAnswers-push, last_past, latest_number, number_in}
+use Rattle.session_core.proofs.MailLemmas.{slice_get-behind}
 use Rattle.session_core.proofs.runs.JournalLemmas.{events_of-push_own, events_of-push_other, IsReplayed-push}
 
 IfSome-front : {X : Type 0} (P : X → Type 0) (xs ys : List X) (place : ℕ) → IfSome (slice_get (xs ++ ys) place) P
@@ -50,10 +51,6 @@ IsRun-front rules processes xs ys T run =
     let split = Leads-split rules processes opening_state xs ys T run.leads in
     (split.0, record { leads = split.1; numbered = AreNumbered-front xs ys run.numbered })
 
-get_last : {X : Type 0} (xs : List X) (x : X) → slice_get (xs ++ x ∷ []) (length xs) ≡ Some x
-get_last [] x = refl
-get_last (y ∷ xs) x = get_last xs x
-
 -- the last event of a run is a step from the state that the others leave, and has the next number of its process
 record IsLastStep (rules : Rules) (processes : ℕ) (S : State) (events : List Event) (event : Event) (T : State) : Type 0 where
   step : IsStep rules processes S event T
@@ -67,7 +64,7 @@ IsRun-last one rules processes events S event T before run =
     let last : IsStep rules processes split.0 event split.2.0 = split.2.1 in
     let place = length (events_of event.p events) in
     let found : slice_get (events_of event.p (events ++ event ∷ [])) place ≡ Some event =
-    ap (λ l. slice_get l place) (events_of-push_own event.p events event refl) ∙ get_last (events_of event.p events) event in
+    ap (λ l. slice_get l place) (events_of-push_own event.p events event refl) ∙ slice_get-behind (events_of event.p events) (event ∷ []) in
     record {
       step = subst (λ X. IsStep rules processes X event T) same (subst (λ X. IsStep rules processes split.0 event X) (sym split.2.2) last);
       number = subst (λ o. IfSome o (λ e. e.n ≡ place + 1)) found (run.numbered event.p place);

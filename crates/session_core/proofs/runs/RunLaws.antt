@@ -1,8 +1,8 @@
 -- What holds of every run: numbers, answers in turn, and quiet after an end; for `Replay::answered`, `check_journal`, `JournalChecker::manager` and
 -- others.
 use Rattle.std.proofs.lemmas.Grind.{common_steps}
-use Rattle.std.proofs.Common.{ℕ, zero, suc, ◌≡◌, ◌≢◌, ◌+◌, ◌<◌, ◌≤◌, refl, sym, ◌∙◌, ap, subst, arith, true, false, eq-eqb, ne_eqb, length, length-append, List, [], ◌∷◌, ◌++◌, ⊎_elim, Some, IfSome, map, find, slice_get, get_or}
-use Rattle.std.specs.Prelude.{◌==◌, if◌then◌else◌}
+use Rattle.std.proofs.Common.{ℕ, zero, suc, ◌≡◌, ◌≢◌, ◌+◌, ◌<◌, ◌≤◌, refl, sym, ◌∙◌, ap, subst, arith, eq-eqb, length, length-append, List, [], ◌∷◌, ◌++◌, Some, IfSome, map, find, slice_get, get_or}
+use Rattle.std.specs.Prelude.{◌==◌}
 use Rattle.std.specs.List.{AllByRecursion as Each}
 use Rattle.std.specs.List.Sorted.{IsStrictlyIncreasing}
 use Rattle.std.proofs.lemmas.Bool.{cases_eq}
@@ -32,6 +32,12 @@ abbrev pub AreNext : (ℕ → ℕ) → List Event → Type 0
 AreNext taken [] = Unit {0}
 AreNext taken (event ∷ events) = (event.n ≡ taken event.p + 1) × AreNext (one_more event.p taken) events
 
+-- the numbers by process behind the first event
+numbered_behind : (taken : ℕ → ℕ) (event : Event) (events : List Event)
+    → ((q place : ℕ) → IfSome (slice_get (events_of q (event ∷ events)) place) (λ e. e.n ≡ taken q + place + 1)) → (q place : ℕ)
+    → IfSome (slice_get (events_of q events) place) (λ e. e.n ≡ one_more event.p taken q + place + 1)
+numbered_behind taken event events h q place = grind (arith, common_steps, h q (suc place), h q place, cases_eq)
+
 -- the numbers by process are numbers one after another
 pub AreNext-numbered : (taken : ℕ → ℕ) (events : List Event)
     → ((q place : ℕ) → IfSome (slice_get (events_of q events) place) (λ event. event.n ≡ taken q + place + 1)) → AreNext taken events
@@ -40,21 +46,7 @@ AreNext-numbered taken (event ∷ events) h =
     let here : IfSome (Some event) (λ e. e.n ≡ taken event.p + 0 + 1) =
     let mine : events_of event.p (event ∷ events) ≡ event ∷ events_of event.p events = rw (eq-eqb event.p event.p refl) refl in
     subst (λ l. IfSome (slice_get l 0) (λ e. e.n ≡ taken event.p + 0 + 1)) mine (h event.p 0) in
-    let later : (q place : ℕ) → IfSome (slice_get (events_of q events) place) (λ e. e.n ≡ one_more event.p taken q + place + 1) =
-    λ q place.
-    ⊎_elim
-    (λ same.
-    let mine : events_of q (event ∷ events) ≡ event ∷ events_of q events = rw (eq-eqb event.p q same) refl in
-    let k : IfSome (slice_get (events_of q events) place) (λ e. e.n ≡ taken q + suc place + 1) =
-    subst (λ l. IfSome (slice_get l (suc place)) (λ e. e.n ≡ taken q + suc place + 1)) mine (h q (suc place)) in
-    IfSome_then (slice_get (events_of q events) place) k (λ e number. rw (eq-eqb event.p q same) (omega arith)))
-    (λ other.
-    let mine : events_of q (event ∷ events) ≡ events_of q events = rw (ne_eqb event.p q other) refl in
-    let k : IfSome (slice_get (events_of q events) place) (λ e. e.n ≡ taken q + place + 1) =
-    subst (λ l. IfSome (slice_get l place) (λ e. e.n ≡ taken q + place + 1)) mine (h q place) in
-    IfSome_then (slice_get (events_of q events) place) k (λ e number. rw (ne_eqb event.p q other) number))
-    (cases_eq event.p q) in
-    (omega arith, AreNext-numbered (one_more event.p taken) events later)
+    (omega arith, AreNext-numbered (one_more event.p taken) events (numbered_behind taken event events h))
 
 -- what events leave: the tallies, the numbers of the answers, and whom they tell
 pub record IsTallied (processes : ℕ) (taken counts : ℕ → ℕ) (events : List Event) (T : State) : Type 0 where
@@ -64,8 +56,7 @@ pub record IsTallied (processes : ℕ) (taken counts : ℕ → ℕ) (events : Li
 
 taken_more : (event : Event) (events : List Event) (taken : ℕ → ℕ) (q : ℕ)
     → one_more event.p taken q + length (events_of q events) ≡ taken q + length (events_of q (event ∷ events))
-taken_more event events taken q =
-    ⊎_elim (λ same. rw (eq-eqb event.p q same) (omega arith)) (λ other. rw (ne_eqb event.p q other) refl) (cases_eq event.p q)
+taken_more event events taken q = grind (arith, common_steps, cases_eq)
 
 pub Leads-tallied : (rules : Rules) (processes : ℕ) (S : State) (events : List Event) (T : State) (taken counts : ℕ → ℕ)
     → Tallies processes S taken counts → AreNext taken events → Leads rules processes S events T
@@ -129,9 +120,7 @@ opening_tallies processes some = grind (arith, common_steps, cases_eq, eq-eqb)
 -- the numbers of the answers are those of the notes
 answers_in-numbers : (p place : ℕ) (notes : List Note) → map (λ answer. answer.0) (answers_in p place notes) ≡ numbers_in p notes
 answers_in-numbers p place [] = refl
-answers_in-numbers p place (Answer q n reply ∷ notes) =
-    elim (q == p) as (λ b. map (λ answer. answer.0) (if b then (n, reply, place) ∷ answers_in p place notes else answers_in p place notes) ≡ (if b then n ∷ numbers_in p notes else numbers_in p notes))
-    [ true ↦ ap (λ l. n ∷ l) (answers_in-numbers p place notes) | false ↦ answers_in-numbers p place notes ]
+answers_in-numbers p place (Answer q n reply ∷ notes) = grind (arith, common_steps, answers_in-numbers p place notes)
 answers_in-numbers p place (Waits q n ∷ notes) = answers_in-numbers p place notes
 
 pub answers_from-numbers : (p place : ℕ) (events : List Event) → map (λ answer. answer.0) (answers_from p place events) ≡ numbers_of p events
@@ -163,7 +152,4 @@ pub found_answer : (last : ℕ) (answers : List (ℕ × Reply × ℕ)) (place n 
 found_answer last [] place n h is within = absurd (omega arith)
 found_answer last (a ∷ answers) zero n h is within =
     let same : a.0 ≡ n = omega (arith, h.0) in (a, rw (eq-eqb a.0 n same) refl)
-found_answer last (a ∷ answers) (suc place) n h is within =
-    let other : a.0 ≢ n = λ e. absurd (omega (arith, h.0)) in
-    let rest = found_answer (last + 1) answers place n h.1 (omega arith) (omega arith) in
-    (rest.0, rw (ne_eqb a.0 n other) rest.1)
+found_answer last (a ∷ answers) (suc place) n h is within = grind (arith, common_steps, found_answer (last + 1) answers place n)

@@ -49,63 +49,45 @@ ResizeGives-alive : (old : Descriptors) (p fd : ℕ) (size : ℤ) (result : Resu
 ResizeGives-alive old p fd size (Ok done) new h = h.4.ever_alive
 ResizeGives-alive old p fd size (Err fault) new h = tt
 
--- a call that leaves other descriptors
-told_call : {X : Type 0} (processes : ℕ) (S : State) (taken counts : ℕ → ℕ) (p n : ℕ) (reply : X → Reply) (result : Result X FdFault)
-    (descriptors : Descriptors) (outcome : Outcome) → IsAtHand processes S taken counts p n
-    → OnOk result (SameAlive descriptors S.descriptors)
-    → MatchResult result (λ x. outcome ≡ answered (record S { descriptors = descriptors }) p n (reply x)) (λ fault. IsRefusal S p n fault outcome)
-    → IsTold processes S taken counts p outcome
-told_call processes S taken counts p n reply (Ok x) descriptors outcome h alive is =
-    told_answer processes S (record S { descriptors = descriptors }) taken counts p n (reply x) outcome h
-    (record { states = refl; waits = refl; alive = alive }) is
-told_call processes S taken counts p n reply (Err fault) descriptors outcome h alive is =
-    told_refusal processes S taken counts p n fault outcome h is
+module _ (processes : ℕ) (S : State) (taken counts : ℕ → ℕ) (p n : ℕ) (outcome : Outcome) (h : IsAtHand processes S taken counts p n) where
+  -- a call that leaves other descriptors
+  told_call : {X : Type 0} (reply : X → Reply) (result : Result X FdFault) (descriptors : Descriptors)
+      → OnOk result (SameAlive descriptors S.descriptors)
+      → MatchResult result (λ x. outcome ≡ answered (record S { descriptors = descriptors }) p n (reply x)) (λ fault. IsRefusal S p n fault outcome)
+      → IsTold processes S taken counts p outcome
+  told_call reply (Ok x) descriptors alive is =
+      told_answer processes S taken counts p n outcome h (record S { descriptors = descriptors }) (reply x)
+      (record { states = refl; waits = refl; alive = alive }) is
+  told_call reply (Err fault) descriptors alive is = told_refusal processes S taken counts p n outcome h fault is
 
--- a call that leaves other descriptors, and releases locks
-told_release : {X : Type 0} (processes : ℕ) (S : State) (taken counts : ℕ → ℕ) (p n : ℕ) (reply : X → Reply) (released : X → Released)
-    (result : Result X FdFault) (descriptors : Descriptors) (outcome : Outcome) → IsAtHand processes S taken counts p n
-    → OnOk result (SameAlive descriptors S.descriptors)
-    → MatchResult result (λ x. outcome ≡ answered (with_released S descriptors p (released x)) p n (reply x)) (λ fault. IsRefusal S p n fault outcome)
-    → IsTold processes S taken counts p outcome
-told_release processes S taken counts p n reply released (Ok x) descriptors outcome h alive is =
-    told_answer processes S (with_released S descriptors p (released x)) taken counts p n (reply x) outcome h
-    (record { states = refl; waits = refl; alive = alive }) is
-told_release processes S taken counts p n reply released (Err fault) descriptors outcome h alive is =
-    told_refusal processes S taken counts p n fault outcome h is
+  -- a call that leaves other descriptors, and releases locks
+  told_release : {X : Type 0} (reply : X → Reply) (released : X → Released) (result : Result X FdFault) (descriptors : Descriptors)
+      → OnOk result (SameAlive descriptors S.descriptors)
+      → MatchResult result (λ x. outcome ≡ answered (with_released S descriptors p (released x)) p n (reply x)) (λ fault. IsRefusal S p n fault outcome)
+      → IsTold processes S taken counts p outcome
+  told_release reply released (Ok x) descriptors alive is =
+      told_answer processes S taken counts p n outcome h (with_released S descriptors p (released x)) (reply x)
+      (record { states = refl; waits = refl; alive = alive }) is
+  told_release reply released (Err fault) descriptors alive is = told_refusal processes S taken counts p n outcome h fault is
 
-pub told_open : (rules : Rules) (processes : ℕ) (S : State) (taken counts : ℕ → ℕ) (p n file : ℕ) (access : Access) (outcome : Outcome)
-    → IsAtHand processes S taken counts p n → OpenComesTo rules S p n file access outcome
-    → IsTold processes S taken counts p outcome
-told_open rules processes S taken counts p n file access outcome h is =
-    told_call processes S taken counts p n (λ fd. replies.Fd fd) is.0 is.1 outcome h
-    (OpenGives-alive rules.limits S.descriptors p file access is.0 is.1 is.2) is.3
+  pub told_open : (rules : Rules) (file : ℕ) (access : Access) → OpenComesTo rules S p n file access outcome → IsTold processes S taken counts p outcome
+  told_open rules file access is =
+      told_call (λ fd. replies.Fd fd) is.0 is.1 (OpenGives-alive rules.limits S.descriptors p file access is.0 is.1 is.2) is.3
 
-pub told_dup : (rules : Rules) (processes : ℕ) (S : State) (taken counts : ℕ → ℕ) (p n fd : ℕ) (outcome : Outcome)
-    → IsAtHand processes S taken counts p n → DupComesTo rules S p n fd outcome → IsTold processes S taken counts p outcome
-told_dup rules processes S taken counts p n fd outcome h is =
-    told_call processes S taken counts p n (λ free. replies.Fd free) is.0 is.1 outcome h
-    (DupGives-alive rules.limits S.descriptors p fd is.0 is.1 is.2) is.3
+  pub told_dup : (rules : Rules) (fd : ℕ) → DupComesTo rules S p n fd outcome → IsTold processes S taken counts p outcome
+  told_dup rules fd is = told_call (λ free. replies.Fd free) is.0 is.1 (DupGives-alive rules.limits S.descriptors p fd is.0 is.1 is.2) is.3
 
-pub told_dup_to : (rules : Rules) (processes : ℕ) (S : State) (taken counts : ℕ → ℕ) (p n fd to : ℕ) (outcome : Outcome)
-    → IsAtHand processes S taken counts p n → DupToComesTo rules S p n fd to outcome → IsTold processes S taken counts p outcome
-told_dup_to rules processes S taken counts p n fd to outcome h is =
-    told_release processes S taken counts p n (λ answer. replies.Fd answer.0) (λ answer. answer.1) is.0 is.1 outcome h
-    (DupToGives-alive rules.limits S.descriptors p fd to is.0 is.1 is.2) is.3
+  pub told_dup_to : (rules : Rules) (fd to : ℕ) → DupToComesTo rules S p n fd to outcome → IsTold processes S taken counts p outcome
+  told_dup_to rules fd to is =
+      told_release (λ answer. replies.Fd answer.0) (λ answer. answer.1) is.0 is.1
+      (DupToGives-alive rules.limits S.descriptors p fd to is.0 is.1 is.2) is.3
 
-pub told_close : (processes : ℕ) (S : State) (taken counts : ℕ → ℕ) (p n fd : ℕ) (outcome : Outcome)
-    → IsAtHand processes S taken counts p n → CloseComesTo S p n fd outcome → IsTold processes S taken counts p outcome
-told_close processes S taken counts p n fd outcome h is =
-    told_release processes S taken counts p n (λ released. replies.Ok) (λ released. released) is.0 is.1 outcome h
-    (CloseGives-alive S.descriptors p fd is.0 is.1 is.2) is.3
+  pub told_close : (fd : ℕ) → CloseComesTo S p n fd outcome → IsTold processes S taken counts p outcome
+  told_close fd is =
+      told_release (λ released. replies.Ok) (λ released. released) is.0 is.1 (CloseGives-alive S.descriptors p fd is.0 is.1 is.2) is.3
 
-pub told_seek : (processes : ℕ) (S : State) (taken counts : ℕ → ℕ) (p n fd : ℕ) (offset : ℤ) (outcome : Outcome)
-    → IsAtHand processes S taken counts p n → SeekComesTo S p n fd offset outcome → IsTold processes S taken counts p outcome
-told_seek processes S taken counts p n fd offset outcome h is =
-    told_call processes S taken counts p n (λ done. replies.Ok) is.0 is.1 outcome h
-    (SeekGives-alive S.descriptors p fd offset is.0 is.1 is.2) is.3
+  pub told_seek : (fd : ℕ) (offset : ℤ) → SeekComesTo S p n fd offset outcome → IsTold processes S taken counts p outcome
+  told_seek fd offset is = told_call (λ done. replies.Ok) is.0 is.1 (SeekGives-alive S.descriptors p fd offset is.0 is.1 is.2) is.3
 
-pub told_resize : (processes : ℕ) (S : State) (taken counts : ℕ → ℕ) (p n fd : ℕ) (size : ℤ) (outcome : Outcome)
-    → IsAtHand processes S taken counts p n → ResizeComesTo S p n fd size outcome → IsTold processes S taken counts p outcome
-told_resize processes S taken counts p n fd size outcome h is =
-    told_call processes S taken counts p n (λ done. replies.Ok) is.0 is.1 outcome h
-    (ResizeGives-alive S.descriptors p fd size is.0 is.1 is.2) is.3
+  pub told_resize : (fd : ℕ) (size : ℤ) → ResizeComesTo S p n fd size outcome → IsTold processes S taken counts p outcome
+  told_resize fd size is = told_call (λ done. replies.Ok) is.0 is.1 (ResizeGives-alive S.descriptors p fd size is.0 is.1 is.2) is.3

@@ -26,15 +26,15 @@ use Rattle.lock_manager.specs.Outcomes.{Outcome, answered, answered_then, waits_
 use Rattle.lock_manager.specs.FlockCalls.{FlockComesTo, FlockOpComesTo, FlockModeComesTo, FlockTestComesTo, is_same_mode, wanted_flock}
 use Rattle.session_core.proofs.tallies.Tally.{numbers_in, Tallies, Tells, MovesOne-tells, Tells-then, Tallies-along, numbers_in-append, one_more, Each-middle}
 use Rattle.session_core.proofs.tallies.Moves.{SameProcesses, SameProcesses-refl, SameProcesses-lock, Settles-tells, nothing_told, tallies_kept, wait_moves}
-use Rattle.session_core.proofs.tallies.OutcomeLaws.{IsAtHand, IsTold, told_answer, told_refused, cases_fact, cases_bool, cases_option}
+use Rattle.session_core.proofs.tallies.OutcomeLaws.{IsAtHand, IsTold, told_answer, told_here, cases_fact, cases_bool, cases_option}
 
 -- from the state S these grants lead to the state T, whatever was taken and answered before, and the caller still lives
-record Grants (processes : ℕ) (S : State) (p : ℕ) (grants : List Note) (T : State) : Type 0 where
+pub record Grants (processes : ℕ) (S : State) (p : ℕ) (grants : List Note) (T : State) : Type 0 where
   pub tells : (taken counts : ℕ → ℕ) → Tallies processes S taken counts → Tells processes S.states counts grants T taken
   pub live : T.states p ≡ Live
 
 -- no grants
-no_grants : (processes : ℕ) (S : State) (p : ℕ) → S.states p ≡ Live → Grants processes S p [] S
+pub no_grants : (processes : ℕ) (S : State) (p : ℕ) → S.states p ≡ Live → Grants processes S p [] S
 no_grants processes S p live =
     record { tells = λ taken counts t. nothing_told processes S S taken counts (SameProcesses-refl S) t; live = live }
 
@@ -72,7 +72,7 @@ told_answer_then : (processes : ℕ) (S settled T : State) (taken counts : ℕ �
     → outcome ≡ answered_then T p n reply grants → IsTold processes S taken counts p outcome
 told_answer_then processes S settled T taken counts p n reply grants outcome h made same is =
     let told : List Note = Answer p n reply ∷ [] in
-    let first = told_answer processes S S taken counts p n reply (answered S p n reply) h (SameProcesses-refl S) refl in
+    let first = told_here processes S taken counts p n (answered S p n reply) h reply refl in
     let second = made.tells (one_more p taken) (λ q. counts q + length (numbers_in q told)) first.tallies in
     subst (IsTold processes S taken counts p) (sym is)
     (Tells-same processes S.states counts (Answer p n reply ∷ grants) settled T (one_more p taken) same
@@ -87,74 +87,66 @@ waits_first : (processes : ℕ) (states : ℕ → ProcState) (counts : ℕ → �
     → Tells processes states counts (notes ++ Waits p n ∷ []) T taken → Tells processes states counts (Waits p n ∷ notes) T taken
 waits_first processes states counts p n notes T taken h = grind (arith, common_steps, numbers_in, numbers_in-append, append-nil, Tallies-along, Each-last)
 
--- the caller waits, and then the grants are told
-told_waits_then : (processes : ℕ) (S settled : State) (taken counts : ℕ → ℕ) (wanted : Wait) (grants : List Note) (outcome : Outcome)
-    → IsAtHand processes S taken counts wanted.p wanted.n → Grants processes S wanted.p grants settled
-    → outcome ≡ waits_then settled wanted grants → IsTold processes S taken counts wanted.p outcome
-told_waits_then processes S settled taken counts wanted grants outcome h made is =
-    let T : State = with_process (record settled { waits = settled.waits ++ wanted ∷ [] }) wanted.p Waiting in
-    let counts' : ℕ → ℕ = λ q. counts q + length (numbers_in q grants) in
-    let told : List Note = Waits wanted.p wanted.n ∷ [] in
-    let first = made.tells taken counts h.tallies in
-    let second : Tells processes settled.states counts' told T (one_more wanted.p taken) =
-    MovesOne-tells processes settled taken counts' wanted.p told T (one_more wanted.p taken) first.tallies
-    (wait_moves processes settled T taken counts' wanted first.tallies made.live h.number (λ q. refl) refl (λ q e. e)) in
-    subst (IsTold processes S taken counts wanted.p) (sym is)
-    (waits_first processes S.states counts wanted.p wanted.n grants T (one_more wanted.p taken)
-    (Tells-then processes S.states counts grants settled taken told T (one_more wanted.p taken) first second))
+module _ (rules : Rules) (processes : ℕ) (S : State) (taken counts : ℕ → ℕ) (wanted : Wait) (outcome : Outcome)
+    (h : IsAtHand processes S taken counts wanted.p wanted.n) where
+  -- the caller waits, and then the grants are told
+  pub told_waits : (settled : State) (grants : List Note) → Grants processes S wanted.p grants settled → outcome ≡ waits_then settled wanted grants
+      → IsTold processes S taken counts wanted.p outcome
+  told_waits settled grants made is =
+      let T : State = with_process (record settled { waits = settled.waits ++ wanted ∷ [] }) wanted.p Waiting in
+      let counts' : ℕ → ℕ = λ q. counts q + length (numbers_in q grants) in
+      let told : List Note = Waits wanted.p wanted.n ∷ [] in
+      let first = made.tells taken counts h.tallies in
+      let second : Tells processes settled.states counts' told T (one_more wanted.p taken) =
+      MovesOne-tells processes settled taken counts' wanted.p told T (one_more wanted.p taken) first.tallies
+      (wait_moves processes settled T taken counts' wanted first.tallies made.live h.number (λ q. refl) refl (λ q e. e)) in
+      subst (IsTold processes S taken counts wanted.p) (sym is)
+      (waits_first processes S.states counts wanted.p wanted.n grants T (one_more wanted.p taken)
+      (Tells-then processes S.states counts grants settled taken told T (one_more wanted.p taken) first second))
 
--- the test of a request, behind the grants of a conversion, if there was one
-told_flock_test : (rules : Rules) (processes : ℕ) (S settled : State) (taken counts : ℕ → ℕ) (nb : Bool) (wanted : Wait) (grants : List Note)
-    (outcome : Outcome) → IsAtHand processes S taken counts wanted.p wanted.n → Grants processes S wanted.p grants settled
-    → FlockTestComesTo rules settled nb wanted grants outcome → IsTold processes S taken counts wanted.p outcome
-told_flock_test rules processes S settled taken counts true wanted grants outcome h made is =
-    ⊎_elim
-    (λ no.
-    told_answer_then processes S settled settled taken counts wanted.p wanted.n (replies.Err EAGAIN) grants outcome h made
-    (SameProcesses-refl settled) no)
-    (λ yes.
-    told_answer_then processes S settled (with_lock settled wanted) taken counts wanted.p wanted.n replies.Ok grants outcome h made
-    (SameProcesses-lock settled wanted) yes)
-    (cases_fact is)
-told_flock_test rules processes S settled taken counts false wanted grants outcome h made is =
-    ⊎_elim (λ waits. told_waits_then processes S settled taken counts wanted grants outcome h made waits)
-    (λ yes.
-    told_answer_then processes S settled (with_lock settled wanted) taken counts wanted.p wanted.n replies.Ok grants outcome h made
-    (SameProcesses-lock settled wanted) yes)
-    (cases_fact is)
+  -- the lock is set, and then the grants are told
+  pub told_locked : (settled : State) (grants : List Note) → Grants processes S wanted.p grants settled
+      → outcome ≡ answered_then (with_lock settled wanted) wanted.p wanted.n replies.Ok grants → IsTold processes S taken counts wanted.p outcome
+  told_locked settled grants made is =
+      told_answer_then processes S settled (with_lock settled wanted) taken counts wanted.p wanted.n replies.Ok grants outcome h made
+      (SameProcesses-lock settled wanted) is
 
--- a lock is asked for, of a description that has this mode or none
-told_flock_mode : (rules : Rules) (processes : ℕ) (S : State) (taken counts : ℕ → ℕ) (look : Look) (nb : Bool) (wanted : Wait)
-    (mode : Option Mode) (outcome : Outcome) → IsAtHand processes S taken counts wanted.p wanted.n
-    → FlockModeComesTo rules S look nb wanted mode outcome → IsTold processes S taken counts wanted.p outcome
-told_flock_mode rules processes S taken counts look nb wanted None outcome h is =
-    told_flock_test rules processes S S taken counts nb wanted [] outcome h (no_grants processes S wanted.p h.live) is
-told_flock_mode rules processes S taken counts look nb wanted (Some held) outcome h is =
-    ⊎_elim (λ already. told_answer processes S S taken counts wanted.p wanted.n replies.Ok outcome h (SameProcesses-refl S) already)
-    (λ converted.
-    let U : State = with_flock_mode S look.file look.desc None in
-    told_flock_test rules processes S converted.1 taken counts nb wanted converted.0 outcome h
-    (settled_grants processes rules.policy S U wanted.p converted.0 converted.1 (record { states = refl; waits = refl; alive = λ q. refl })
-    h.live converted.2) converted.3)
-    (cases_bool (is_same_mode held wanted.mode) is)
+  -- the test of a request, behind the grants of a conversion, if there was one
+  pub told_test : (nb : Bool) (settled : State) (grants : List Note) → Grants processes S wanted.p grants settled
+      → FlockTestComesTo rules settled nb wanted grants outcome → IsTold processes S taken counts wanted.p outcome
+  told_test true settled grants made is =
+      ⊎_elim
+      (λ no.
+      told_answer_then processes S settled settled taken counts wanted.p wanted.n (replies.Err EAGAIN) grants outcome h made
+      (SameProcesses-refl settled) no)
+      (λ yes. told_locked settled grants made yes) (cases_fact is)
+  told_test false settled grants made is =
+      ⊎_elim (λ waits. told_waits settled grants made waits) (λ yes. told_locked settled grants made yes) (cases_fact is)
 
-told_flock_op : (rules : Rules) (processes : ℕ) (S : State) (taken counts : ℕ → ℕ) (p n : ℕ) (look : Look) (op : FlockOp) (nb : Bool)
-    (outcome : Outcome) → IsAtHand processes S taken counts p n → FlockOpComesTo rules S p n look op nb outcome
-    → IsTold processes S taken counts p outcome
-told_flock_op rules processes S taken counts p n look Un nb outcome h is =
-    told_answer processes S (with_flock_mode S look.file look.desc None) taken counts p n replies.Ok outcome h
-    (record { states = refl; waits = refl; alive = λ q. refl }) is
-told_flock_op rules processes S taken counts p n look Sh nb outcome h is =
-    told_flock_mode rules processes S taken counts look nb (wanted_flock p n look Read) (flock_mode_in S.flock_changes look.file look.desc)
-    outcome h is
-told_flock_op rules processes S taken counts p n look Ex nb outcome h is =
-    told_flock_mode rules processes S taken counts look nb (wanted_flock p n look Write) (flock_mode_in S.flock_changes look.file look.desc)
-    outcome h is
+  -- a lock is asked for, of a description that has this mode or none
+  told_flock_mode : (look : Look) (nb : Bool) (mode : Option Mode) → FlockModeComesTo rules S look nb wanted mode outcome
+      → IsTold processes S taken counts wanted.p outcome
+  told_flock_mode look nb None is = told_test nb S [] (no_grants processes S wanted.p h.live) is
+  told_flock_mode look nb (Some held) is =
+      ⊎_elim (λ already. told_here processes S taken counts wanted.p wanted.n outcome h replies.Ok already)
+      (λ converted.
+      let U : State = with_flock_mode S look.file look.desc None in
+      told_test nb converted.1 converted.0
+      (settled_grants processes rules.policy S U wanted.p converted.0 converted.1 (record { states = refl; waits = refl; alive = λ q. refl })
+      h.live converted.2) converted.3)
+      (cases_bool (is_same_mode held wanted.mode) is)
 
-pub told_flock : (rules : Rules) (processes : ℕ) (S : State) (taken counts : ℕ → ℕ) (p n fd : ℕ) (op : FlockOp) (nb : Bool)
-    (outcome : Outcome) → IsAtHand processes S taken counts p n → FlockComesTo rules S p n fd op nb outcome
-    → IsTold processes S taken counts p outcome
-told_flock rules processes S taken counts p n fd op nb outcome h is =
-    ⊎_elim (λ no. told_refused processes S taken counts p n _ outcome h no)
-    (λ opened. told_flock_op rules processes S taken counts p n opened.0 op nb outcome h opened.1)
-    (cases_option (λ look. FlockOpComesTo rules S p n look op nb outcome) (look_at S.descriptors p fd) is)
+module _ (rules : Rules) (processes : ℕ) (S : State) (taken counts : ℕ → ℕ) (p n : ℕ) (outcome : Outcome) (h : IsAtHand processes S taken counts p n) where
+  told_flock_op : (look : Look) (op : FlockOp) (nb : Bool) → FlockOpComesTo rules S p n look op nb outcome → IsTold processes S taken counts p outcome
+  told_flock_op look Un nb is =
+      told_answer processes S taken counts p n outcome h (with_flock_mode S look.file look.desc None) replies.Ok
+      (record { states = refl; waits = refl; alive = λ q. refl }) is
+  told_flock_op look Sh nb is =
+      told_flock_mode rules processes S taken counts (wanted_flock p n look Read) outcome h look nb (flock_mode_in S.flock_changes look.file look.desc) is
+  told_flock_op look Ex nb is =
+      told_flock_mode rules processes S taken counts (wanted_flock p n look Write) outcome h look nb (flock_mode_in S.flock_changes look.file look.desc) is
+
+  pub told_flock : (fd : ℕ) (op : FlockOp) (nb : Bool) → FlockComesTo rules S p n fd op nb outcome → IsTold processes S taken counts p outcome
+  told_flock fd op nb is =
+      ⊎_elim (λ no. told_here processes S taken counts p n outcome h _ no) (λ opened. told_flock_op opened.0 op nb opened.1)
+      (cases_option (λ look. FlockOpComesTo rules S p n look op nb outcome) (look_at S.descriptors p fd) is)

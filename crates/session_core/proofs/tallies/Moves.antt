@@ -1,6 +1,6 @@
 -- What one process may do in a step, each with the tallies that it leaves.
 use Rattle.std.proofs.lemmas.Grind.{common_steps}
-use Rattle.std.proofs.Common.{ℕ, ◌≡◌, ◌≢◌, ◌+◌, refl, sym, ◌∙◌, ap, subst, arith, true, eq-eqb, ne_eqb, length, List, [], ◌∷◌, ◌++◌, ⊎_elim, Some}
+use Rattle.std.proofs.Common.{ℕ, ◌≡◌, ◌≢◌, ◌+◌, refl, sym, ◌∙◌, ap, subst, arith, true, eq-eqb, ne_eqb, length, List, [], ◌∷◌, ◌++◌, Some}
 use Rattle.std.specs.Prelude.{◌==◌, if◌then◌else◌}
 use Rattle.std.specs.List.{AllByRecursion as Each}
 use Rattle.std.proofs.lemmas.Bool.{cases_eq}
@@ -175,39 +175,23 @@ wait_moves processes S T taken answered wait t live number now waits_are alive =
     }
 
 -- the waits of all other processes
-without_wait-each : (P : Wait → Type 0) (p : ℕ) (waits : List Wait) → Each P waits → Each P (without_wait_of waits p)
+pub without_wait-each : (P : Wait → Type 0) (p : ℕ) (waits : List Wait) → Each P waits → Each P (without_wait_of waits p)
 without_wait-each P p [] h = tt
-without_wait-each P p (wait ∷ waits) h =
-    ⊎_elim (λ same. rw (eq-eqb wait.p p same) (without_wait-each P p waits h.1))
-    (λ other. rw (ne_eqb wait.p p other) (h.0, without_wait-each P p waits h.1)) (cases_eq wait.p p)
+without_wait-each P p (wait ∷ waits) h = grind (arith, common_steps, without_wait-each P p waits, cases_eq)
 
 without_wait-others : (p : ℕ) (waits : List Wait) → Each (λ wait. wait.p ≢ p) (without_wait_of waits p)
 without_wait-others p [] = tt
-without_wait-others p (wait ∷ waits) =
-    ⊎_elim (λ same. rw (eq-eqb wait.p p same) (without_wait-others p waits))
-    (λ other. rw (ne_eqb wait.p p other) (other, without_wait-others p waits)) (cases_eq wait.p p)
+without_wait-others p (wait ∷ waits) = grind (arith, common_steps, without_wait-others p waits, cases_eq)
 
 without_wait-apart : (p : ℕ) (waits : List Wait) → AreApart waits → AreApart (without_wait_of waits p)
 without_wait-apart p [] h = tt
-without_wait-apart p (wait ∷ waits) h =
-    ⊎_elim (λ same. rw (eq-eqb wait.p p same) (without_wait-apart p waits h.1))
-    (λ other.
-    rw (ne_eqb wait.p p other) (without_wait-each (λ v. v.p ≢ wait.p) p waits h.0, without_wait-apart p waits h.1)) (cases_eq wait.p p)
+without_wait-apart p (wait ∷ waits) h = grind (arith, common_steps, without_wait-each, without_wait-apart p waits, cases_eq)
 
 -- the wait that is found for a process is one of the list, and of the process
 pub found_wait : (P : Wait → Type 0) (p : ℕ) (waits : List Wait) (wait : Wait) → wait_of waits p ≡ Some wait → Each P waits
     → (wait.p ≡ p) × P wait
 found_wait P p [] wait found h = cc
-found_wait P p (v ∷ waits) wait found h =
-    ⊎_elim
-    (λ same.
-    let first : wait_of (v ∷ waits) p ≡ Some v = rw (eq-eqb v.p p same) refl in
-    let is : v ≡ wait = cc in
-    subst (λ w. (w.p ≡ p) × P w) is (same, h.0))
-    (λ other.
-    let later : wait_of (v ∷ waits) p ≡ wait_of waits p = rw (ne_eqb v.p p other) refl in
-    found_wait P p waits wait (sym later ∙ found) h.1)
-    (cases_eq v.p p)
+found_wait P p (v ∷ waits) wait found h = grind (arith, common_steps, found_wait P p waits wait, cases_eq)
 
 -- a process that waits is told that its wait has ended, and lives
 pub signal_tells : (processes : ℕ) (S : State) (taken answered : ℕ → ℕ) (target : ℕ) (wait : Wait) (reply : Reply)

@@ -17,8 +17,8 @@ use Rattle.lock_manager.specs.DescriptorCalls.{with_released}
 use Rattle.lock_manager.specs.ProcessCalls.{ForkComesTo, EndComesTo, SignalComesTo, KillOtherComesTo, KillComesTo, without_wait}
 use Rattle.session_core.specs.Headline.{IsEnded}
 use Rattle.session_core.proofs.tallies.Tally.{numbers_in, TallyAt, IsBorn, Tallies, Tells, MovesOne-tells, Tells-then, one_more, one_more-same, one_more-other}
-use Rattle.session_core.proofs.tallies.Moves.{SameProcesses-refl, Live≢Unborn, begin_moves, end_moves, signal_tells}
-use Rattle.session_core.proofs.tallies.OutcomeLaws.{IsAtHand, IsTold, told_answer, told_refused, told_refusal, cases_bool}
+use Rattle.session_core.proofs.tallies.Moves.{Live≢Unborn, begin_moves, end_moves, signal_tells}
+use Rattle.session_core.proofs.tallies.OutcomeLaws.{IsAtHand, IsTold, told_here, told_refusal, cases_bool}
 
 -- a process is unborn, or it isn't
 unborn_or_not : (state : ProcState) → (state ≡ Unborn) ⊎ (state ≢ Unborn)
@@ -59,27 +59,24 @@ child_begins processes S taken counts p child descriptors t free same =
     (begin_moves processes S T taken counts child t (unborn processes S taken counts t child free.2) (λ q. refl) refl
     (others_alive S.descriptors descriptors p child same) born)
 
-told_fork_as : (processes : ℕ) (S : State) (taken counts : ℕ → ℕ) (p n child : ℕ) (result : Result (Unit {0}) FdFault)
-    (descriptors : Descriptors) (outcome : Outcome) → IsAtHand processes S taken counts p n
-    → ForkGives processes S.descriptors p child result descriptors
-    → MatchResult result (λ done. outcome ≡ answered (with_live_child S descriptors child) p n replies.Ok) (λ fault. IsRefusal S p n fault outcome)
-    → IsTold processes S taken counts p outcome
-told_fork_as processes S taken counts p n child (Ok done) descriptors outcome h gives is =
-    let T : State = with_live_child S descriptors child in
-    let first = child_begins processes S taken counts p child descriptors h.tallies gives.0 gives.1 in
-    let counts' : ℕ → ℕ = λ q. counts q + 0 in
-    let at : IsAtHand processes T taken counts' p n =
-    record { tallies = first.tallies; live = lives child p S.states h.live; number = h.number } in
-    let second = told_answer processes T T taken counts' p n replies.Ok outcome at (SameProcesses-refl T) is in
-    Tells-then processes S.states counts [] T taken outcome.told outcome.after (one_more p taken) first second
-told_fork_as processes S taken counts p n child (Err fault) descriptors outcome h gives is =
-    told_refusal processes S taken counts p n fault outcome h is
+module _ (processes : ℕ) (S : State) (taken counts : ℕ → ℕ) (p n : ℕ) (outcome : Outcome) (h : IsAtHand processes S taken counts p n) where
+  told_fork_as : (child : ℕ) (result : Result (Unit {0}) FdFault) (descriptors : Descriptors)
+      → ForkGives processes S.descriptors p child result descriptors
+      → MatchResult result (λ done. outcome ≡ answered (with_live_child S descriptors child) p n replies.Ok) (λ fault. IsRefusal S p n fault outcome)
+      → IsTold processes S taken counts p outcome
+  told_fork_as child (Ok done) descriptors gives is =
+      let T : State = with_live_child S descriptors child in
+      let first = child_begins processes S taken counts p child descriptors h.tallies gives.0 gives.1 in
+      let counts' : ℕ → ℕ = λ q. counts q + 0 in
+      let at : IsAtHand processes T taken counts' p n =
+      record { tallies = first.tallies; live = lives child p S.states h.live; number = h.number } in
+      Tells-then processes S.states counts [] T taken outcome.told outcome.after (one_more p taken) first
+      (told_here processes T taken counts' p n outcome at replies.Ok is)
+  told_fork_as child (Err fault) descriptors gives is = told_refusal processes S taken counts p n outcome h fault is
 
--- fork: the child begins to live, and then the parent is answered
-pub told_fork : (processes : ℕ) (S : State) (taken counts : ℕ → ℕ) (p n child : ℕ) (outcome : Outcome)
-    → IsAtHand processes S taken counts p n → ForkComesTo processes S p n child outcome → IsTold processes S taken counts p outcome
-told_fork processes S taken counts p n child outcome h is =
-    told_fork_as processes S taken counts p n child is.0 is.1 outcome h is.2 is.3
+  -- fork: the child begins to live, and then the parent is answered
+  pub told_fork : (child : ℕ) → ForkComesTo processes S p n child outcome → IsTold processes S taken counts p outcome
+  told_fork child is = told_fork_as child is.0 is.1 is.2 is.3
 
 -- a process that is at hand in the tallies, and hasn't ended, ends, which tells nothing
 end_tells : (processes : ℕ) (S : State) (taken counts taken' : ℕ → ℕ) (p : ℕ) (outcome : Outcome) → Tallies processes S taken counts
@@ -91,67 +88,60 @@ end_tells processes S taken counts taken' p outcome t tally goes_on born others 
     (MovesOne-tells processes S taken counts p [] T taken' t
     (end_moves processes S T taken counts taken' p t tally goes_on born others (λ q. refl) refl (λ q e. is.2.0.ever_alive q ∙ e)))
 
--- exit: the process ends, and nothing is told
-pub told_exit : (processes : ℕ) (S : State) (taken counts : ℕ → ℕ) (p n : ℕ) (outcome : Outcome)
-    → IsAtHand processes S taken counts p n → EndComesTo S p [] outcome → IsTold processes S taken counts p outcome
-told_exit processes S taken counts p n outcome h is =
-    let even : counts p ≡ taken p = subst (λ s. TallyAt s (taken p) (counts p)) h.live (h.tallies.tally p) in
-    let ends = end_tells processes S taken counts (one_more p taken) p outcome h.tallies
-    (inl (one_more-same p taken ∙ ap (λ k. k + 1) (sym even))) (λ e. subst IsEnded h.live e) (λ e. Live≢Unborn (sym h.live ∙ e))
-    (λ q other. one_more-other p q taken other) [] is in
-    subst (λ notes. Tells processes S.states counts notes outcome.after (one_more p taken)) (sym (ap (λ o. o.told) is.3)) ends
+module _ (processes : ℕ) (S : State) (taken counts : ℕ → ℕ) (p n : ℕ) (outcome : Outcome) (h : IsAtHand processes S taken counts p n) where
+  -- exit: the process ends, and nothing is told
+  pub told_exit : EndComesTo S p [] outcome → IsTold processes S taken counts p outcome
+  told_exit is =
+      let even : counts p ≡ taken p = subst (λ s. TallyAt s (taken p) (counts p)) h.live (h.tallies.tally p) in
+      let ends = end_tells processes S taken counts (one_more p taken) p outcome h.tallies
+      (inl (one_more-same p taken ∙ ap (λ k. k + 1) (sym even))) (λ e. subst IsEnded h.live e) (λ e. Live≢Unborn (sym h.live ∙ e))
+      (λ q other. one_more-other p q taken other) [] is in
+      subst (λ notes. Tells processes S.states counts notes outcome.after (one_more p taken)) (sym (ap (λ o. o.told) is.3)) ends
 
--- signal: the caller is answered, and then the target's wait has ended, if it has one
-pub told_signal : (processes : ℕ) (S : State) (taken counts : ℕ → ℕ) (p n target : ℕ) (state : ProcState) (outcome : Outcome)
-    → IsAtHand processes S taken counts p n → SignalComesTo S p n target state outcome → IsTold processes S taken counts p outcome
-told_signal processes S taken counts p n target Unborn outcome h is = told_refused processes S taken counts p n ESRCH outcome h is
-told_signal processes S taken counts p n target Ended outcome h is = told_refused processes S taken counts p n ESRCH outcome h is
-told_signal processes S taken counts p n target Live outcome h is =
-    told_answer processes S S taken counts p n replies.Ok outcome h (SameProcesses-refl S) is
-told_signal processes S taken counts p n target Waiting outcome h is =
-    let first = told_answer processes S S taken counts p n replies.Ok (answered S p n replies.Ok) h (SameProcesses-refl S) refl in
-    let woken : List Note = Answer target is.0.n (replies.Err EINTR) ∷ [] in
-    let second = signal_tells processes S (one_more p taken) (λ q. counts q + length (numbers_in q (Answer p n replies.Ok ∷ []))) target is.0
-    (replies.Err EINTR) first.tallies is.1 in
-    subst (IsTold processes S taken counts p) (sym is.2)
-    (Tells-then processes S.states counts (Answer p n replies.Ok ∷ []) S (one_more p taken) woken
-    (with_process (without_wait S target) target Live) (one_more p taken) first second)
+  -- the caller is answered first, and then these notes are told
+  answered_first : (notes : List Note) (T : State)
+      → (Tallies processes S (one_more p taken) (λ q. counts q + length (numbers_in q (Answer p n replies.Ok ∷ [])))
+      → Tells processes S.states (λ q. counts q + length (numbers_in q (Answer p n replies.Ok ∷ []))) notes T (one_more p taken))
+      → Tells processes S.states counts (Answer p n replies.Ok ∷ notes) T (one_more p taken)
+  answered_first notes T rest =
+      let first = told_here processes S taken counts p n (answered S p n replies.Ok) h replies.Ok refl in
+      Tells-then processes S.states counts (Answer p n replies.Ok ∷ []) S (one_more p taken) notes T (one_more p taken) first (rest first.tallies)
 
--- a kill of another: the caller is answered, and then the target ends
-told_killed : (processes : ℕ) (S : State) (taken counts : ℕ → ℕ) (p n target : ℕ) (state : ProcState) (outcome : Outcome)
-    → IsAtHand processes S taken counts p n → S.states target ≡ state → state ≢ Unborn → ¬ IsEnded state
-    → ((k a : ℕ) → TallyAt state k a → TallyAt Ended k a) → EndComesTo S target (Answer p n replies.Ok ∷ []) outcome
-    → IsTold processes S taken counts p outcome
-told_killed processes S taken counts p n target state outcome h stands born goes_on may_end is =
-    let told : List Note = Answer p n replies.Ok ∷ [] in
-    let counts' : ℕ → ℕ = λ q. counts q + length (numbers_in q told) in
-    let first = told_answer processes S S taken counts p n replies.Ok (answered S p n replies.Ok) h (SameProcesses-refl S) refl in
-    let tally : TallyAt Ended (one_more p taken target) (counts' target) =
-    may_end (one_more p taken target) (counts' target)
-    (subst (λ s. TallyAt s (one_more p taken target) (counts' target)) stands (first.tallies.tally target)) in
-    let second = end_tells processes S (one_more p taken) counts' (one_more p taken) target outcome first.tallies tally
-    (λ e. goes_on (subst IsEnded stands e)) (λ e. born (sym stands ∙ e)) (λ q other. refl) told is in
-    subst (λ notes. Tells processes S.states counts notes outcome.after (one_more p taken)) (sym (ap (λ o. o.told) is.3))
-    (Tells-then processes S.states counts told S (one_more p taken) [] outcome.after (one_more p taken) first second)
+  -- signal: the caller is answered, and then the target's wait has ended, if it has one
+  pub told_signal : (target : ℕ) (state : ProcState) → SignalComesTo S p n target state outcome → IsTold processes S taken counts p outcome
+  told_signal target Unborn is = told_here processes S taken counts p n outcome h (replies.Err ESRCH) is
+  told_signal target Ended is = told_here processes S taken counts p n outcome h (replies.Err ESRCH) is
+  told_signal target Live is = told_here processes S taken counts p n outcome h replies.Ok is
+  told_signal target Waiting is =
+      subst (IsTold processes S taken counts p) (sym is.2)
+      (answered_first (Answer target is.0.n (replies.Err EINTR) ∷ []) (with_process (without_wait S target) target Live)
+      (λ t. signal_tells processes S (one_more p taken) _ target is.0 (replies.Err EINTR) t is.1))
 
-told_kill_other : (processes : ℕ) (S : State) (taken counts : ℕ → ℕ) (p n target : ℕ) (state : ProcState) (outcome : Outcome)
-    → IsAtHand processes S taken counts p n → S.states target ≡ state → KillOtherComesTo S p n target state outcome
-    → IsTold processes S taken counts p outcome
-told_kill_other processes S taken counts p n target Unborn outcome h stands is =
-    told_refused processes S taken counts p n ESRCH outcome h is
-told_kill_other processes S taken counts p n target Ended outcome h stands is =
-    told_refused processes S taken counts p n ESRCH outcome h is
-told_kill_other processes S taken counts p n target Live outcome h stands is =
-    told_killed processes S taken counts p n target Live outcome h stands (λ e. cc) (λ e. e) (λ k a even. inr (sym even)) is
-told_kill_other processes S taken counts p n target Waiting outcome h stands is =
-    told_killed processes S taken counts p n target Waiting outcome h stands (λ e. cc) (λ e. e) (λ k a behind. inl behind) is
+  -- a kill of another: the caller is answered, and then the target ends
+  told_killed : (target : ℕ) (state : ProcState) → S.states target ≡ state → state ≢ Unborn → ¬ IsEnded state
+      → ((k a : ℕ) → TallyAt state k a → TallyAt Ended k a) → EndComesTo S target (Answer p n replies.Ok ∷ []) outcome
+      → IsTold processes S taken counts p outcome
+  told_killed target state stands born goes_on may_end is =
+      let told : List Note = Answer p n replies.Ok ∷ [] in
+      let counts' : ℕ → ℕ = λ q. counts q + length (numbers_in q told) in
+      subst (λ notes. Tells processes S.states counts notes outcome.after (one_more p taken)) (sym (ap (λ o. o.told) is.3))
+      (answered_first [] outcome.after
+      (λ t.
+      let tally = subst (λ s. TallyAt s (one_more p taken target) (counts' target)) stands (t.tally target) in
+      end_tells processes S (one_more p taken) counts' (one_more p taken) target outcome t (may_end (one_more p taken target) (counts' target) tally)
+      (λ e. goes_on (subst IsEnded stands e)) (λ e. born (sym stands ∙ e)) (λ q other. refl) told is))
 
--- kill: of oneself it is exit
-pub told_kill : (processes : ℕ) (S : State) (taken counts : ℕ → ℕ) (p n target : ℕ) (outcome : Outcome)
-    → IsAtHand processes S taken counts p n → KillComesTo S p n target outcome → IsTold processes S taken counts p outcome
-told_kill processes S taken counts p n target outcome h is =
-    ⊎_elim (λ own. told_exit processes S taken counts p n outcome h own)
-    (λ other. told_kill_other processes S taken counts p n target (S.states target) outcome h refl other) (cases_bool (target == p) is)
+  told_kill_other : (target : ℕ) (state : ProcState) → S.states target ≡ state → KillOtherComesTo S p n target state outcome
+      → IsTold processes S taken counts p outcome
+  told_kill_other target Unborn stands is = told_here processes S taken counts p n outcome h (replies.Err ESRCH) is
+  told_kill_other target Ended stands is = told_here processes S taken counts p n outcome h (replies.Err ESRCH) is
+  told_kill_other target Live stands is = told_killed target Live stands (λ e. cc) (λ e. e) (λ k a even. inr (sym even)) is
+  told_kill_other target Waiting stands is = told_killed target Waiting stands (λ e. cc) (λ e. e) (λ k a behind. inl behind) is
+
+  -- kill: of oneself it is exit
+  pub told_kill : (target : ℕ) → KillComesTo S p n target outcome → IsTold processes S taken counts p outcome
+  told_kill target is =
+      ⊎_elim (λ own. told_exit own) (λ other. told_kill_other target (S.states target) refl other) (cases_bool (target == p) is)
 
 -- after the end of a process it has ended
 pub ended_by_end : (S : State) (p : ℕ) (told : List Note) (outcome : Outcome) → EndComesTo S p told outcome → IsEnded (outcome.after.states p)

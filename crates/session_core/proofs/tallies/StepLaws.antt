@@ -1,8 +1,8 @@
 -- What each step tells and leaves.
-use Rattle.std.proofs.Common.{ℕ, ◌≡◌, ◌≢◌, ◌+◌, ◌≤◌, inl, inr, refl, sym, ◌∙◌, ap, subst, arith, eq-eqb, ne_eqb, length, List, [], ◌∷◌, ◌++◌, ⊎_elim}
+use Rattle.std.proofs.Common.{ℕ, ◌≡◌, ◌≢◌, ◌+◌, ◌≤◌, inl, inr, refl, sym, ◌∙◌, ap, subst, arith, eq-eqb, length, List, [], ◌∷◌, ◌++◌, ⊎_elim}
+use Rattle.std.proofs.lemmas.Grind.{common_steps}
 use Rattle.std.specs.List.{Contains, AllByRecursion as Each}
 use Rattle.std.proofs.lemmas.Bool.{cases_eq}
-use Rattle.std.proofs.lemmas.List.Elements.{All-contains, All-from_recursion}
 use Rattle.lock_manager.specs.declared.request.Rules.{Rules}
 use Rattle.lock_manager.specs.declared.request.Request.{Request}
 use Rattle.lock_manager.specs.declared.request.Request.TheVariants.{OpenFile, Dup, DupTo, CloseFd, Seek, Resize, Lk, Flock, Fork, Exit, Signal, Kill}
@@ -14,12 +14,12 @@ use Rattle.lock_manager.specs.declared.request.Reply.{Reply}
 use Rattle.lock_manager.specs.declared.request.Reply.TheVariants as replies
 use Rattle.lock_manager.specs.State.{State}
 use Rattle.lock_manager.specs.Outcomes.{Outcome, refused}
-use Rattle.lock_manager.specs.ProcessCalls.{EndComesTo, KillComesTo}
+use Rattle.lock_manager.specs.ProcessCalls.{KillComesTo}
 use Rattle.lock_manager.specs.Step.{ComesTo, Step}
 use Rattle.session_core.specs.Event.{Event}
 use Rattle.session_core.specs.Runs.{IsStep}
 use Rattle.session_core.specs.Headline.{IsEnded, EndsProcess}
-use Rattle.session_core.proofs.tallies.Tally.{numbers_in, AreCountedFrom, TallyAt, Tallies, Tells, Tells-then, one_more}
+use Rattle.session_core.proofs.tallies.Tally.{None-contains, numbers_in, AreCountedFrom, TallyAt, Tallies, Tells, Tells-then, one_more}
 use Rattle.session_core.proofs.tallies.Moves.{Settles-tells}
 use Rattle.session_core.proofs.tallies.OutcomeLaws.{IsAtHand, IsTold}
 use Rattle.session_core.proofs.tallies.DescriptorLaws.{told_open, told_dup, told_dup_to, told_close, told_seek, told_resize}
@@ -28,28 +28,27 @@ use Rattle.session_core.proofs.tallies.FlockLaws.{told_flock}
 use Rattle.session_core.proofs.tallies.ProcessLaws.{told_fork, told_exit, told_signal, told_kill, ended_by_end, ended_by_own_kill, killed_or_refused}
 
 -- whatever the request, it is told what it should be: one case for each request that is served
-told_request : (rules : Rules) (processes : ℕ) (S : State) (taken counts : ℕ → ℕ) (p n : ℕ) (request : Request) (outcome : Outcome)
-    → IsAtHand processes S taken counts p n → ComesTo rules processes S p n request outcome → IsTold processes S taken counts p outcome
-told_request rules processes S taken counts p n (OpenFile file access) outcome h is = told_open rules processes S taken counts p n file access outcome h is
-told_request rules processes S taken counts p n (Dup fd) outcome h is = told_dup rules processes S taken counts p n fd outcome h is
-told_request rules processes S taken counts p n (DupTo fd to) outcome h is = told_dup_to rules processes S taken counts p n fd to outcome h is
-told_request rules processes S taken counts p n (CloseFd fd) outcome h is = told_close processes S taken counts p n fd outcome h is
-told_request rules processes S taken counts p n (Seek fd offset) outcome h is = told_seek processes S taken counts p n fd offset outcome h is
-told_request rules processes S taken counts p n (Resize fd size) outcome h is = told_resize processes S taken counts p n fd size outcome h is
-told_request rules processes S taken counts p n (Lk fd cmd lock) outcome h is = told_lock rules processes S taken counts p n fd cmd lock outcome h is
-told_request rules processes S taken counts p n (Flock fd op nb) outcome h is = told_flock rules processes S taken counts p n fd op nb outcome h is
-told_request rules processes S taken counts p n (Fork child) outcome h is = told_fork processes S taken counts p n child outcome h is
-told_request rules processes S taken counts p n Exit outcome h is = told_exit processes S taken counts p n outcome h is
-told_request rules processes S taken counts p n (Signal target) outcome h is =
-    told_signal processes S taken counts p n target (S.states target) outcome h is
-told_request rules processes S taken counts p n (Kill target) outcome h is = told_kill processes S taken counts p n target outcome h is
+module _ (rules : Rules) (processes : ℕ) (S : State) (taken counts : ℕ → ℕ) (p n : ℕ) (outcome : Outcome) (h : IsAtHand processes S taken counts p n) where
+  told_request : (request : Request) → ComesTo rules processes S p n request outcome → IsTold processes S taken counts p outcome
+  told_request (OpenFile file access) is = told_open processes S taken counts p n outcome h rules file access is
+  told_request (Dup fd) is = told_dup processes S taken counts p n outcome h rules fd is
+  told_request (DupTo fd to) is = told_dup_to processes S taken counts p n outcome h rules fd to is
+  told_request (CloseFd fd) is = told_close processes S taken counts p n outcome h fd is
+  told_request (Seek fd offset) is = told_seek processes S taken counts p n outcome h fd offset is
+  told_request (Resize fd size) is = told_resize processes S taken counts p n outcome h fd size is
+  told_request (Lk fd cmd lock) is = told_lock rules processes S taken counts p n outcome h fd cmd lock is
+  told_request (Flock fd op nb) is = told_flock rules processes S taken counts p n outcome h fd op nb is
+  told_request (Fork child) is = told_fork processes S taken counts p n outcome h child is
+  told_request Exit is = told_exit processes S taken counts p n outcome h is
+  told_request (Signal target) is = told_signal processes S taken counts p n outcome h target (S.states target) is
+  told_request (Kill target) is = told_kill processes S taken counts p n outcome h target is
 
 -- what the request of a step comes to tells what it should
 request_tells : (rules : Rules) (processes : ℕ) (S : State) (taken counts : ℕ → ℕ) (p n : ℕ) (request : Request) (notes : List Note)
     (T : State) → Tallies processes S taken counts → n ≡ taken p + 1 → (step : Step rules processes S p n request notes T)
     → IsTold processes S taken counts p step.outcome
 request_tells rules processes S taken counts p n request notes T t number step =
-    told_request rules processes S taken counts p n request step.outcome (record { tallies = t; live = step.live; number = number }) step.comes_to
+    told_request rules processes S taken counts p n step.outcome (record { tallies = t; live = step.live; number = number }) request step.comes_to
 
 -- and so do the grants after it
 grants_tell : (rules : Rules) (processes : ℕ) (S : State) (taken counts : ℕ → ℕ) (p n : ℕ) (request : Request) (notes : List Note)
@@ -76,15 +75,7 @@ not_again : (p n : ℕ) (reply : Reply) (last : ℕ) (notes : List Note) → n �
 not_again p n reply last [] low h = tt
 not_again p n reply last (Waits q m ∷ notes) low h = ((λ e. cc), not_again p n reply last notes low h)
 not_again p n reply last (Answer q m other ∷ notes) low h =
-    ⊎_elim
-    (λ same.
-    let first : numbers_in p (Answer q m other ∷ notes) ≡ m ∷ numbers_in p notes = rw (eq-eqb q p same) refl in
-    let k : AreCountedFrom last (m ∷ numbers_in p notes) = subst (λ l. AreCountedFrom last l) first h in
-    ((λ e. let number : m ≡ n = cc in absurd (omega (arith, k.0))), not_again p n reply (last + 1) notes (omega arith) k.1))
-    (λ differs.
-    let later : numbers_in p (Answer q m other ∷ notes) ≡ numbers_in p notes = rw (ne_eqb q p differs) refl in
-    ((λ e. differs cc), not_again p n reply last notes low (subst (λ l. AreCountedFrom last l) later h)))
-    (cases_eq q p)
+    grind (arith, common_steps, not_again p n reply last notes, not_again p n reply (last + 1) notes, cases_eq)
 
 -- a request that was refused isn't answered Ok as well
 refused_not_done : (rules : Rules) (processes : ℕ) (S : State) (taken counts : ℕ → ℕ) (p n : ℕ) (request : Request) (notes : List Note)
@@ -99,24 +90,16 @@ refused_not_done rules processes S taken counts p n request notes T error t numb
     ap (λ o. counts p + length (numbers_in p o.told)) is ∙ ap (λ k. counts p + k) one
     ∙ ap (λ k. k + 1) (subst (λ s. TallyAt s (taken p) (counts p)) step.live (t.tally p)) ∙ sym number in
     let others = not_again p n replies.Ok n step.grants (omega arith) (subst (λ k. AreCountedFrom k (numbers_in p step.grants)) last (later.counted p)) in
-    let none : Each (λ note. note ≢ Answer p n replies.Ok) (told ++ step.grants) = ((λ e. cc), others) in
-    All-contains (λ note. note ≢ Answer p n replies.Ok) (told ++ step.grants) (Answer p n replies.Ok)
-    (All-from_recursion (λ note. note ≢ Answer p n replies.Ok) (told ++ step.grants) none)
-    (subst (λ l. Contains l (Answer p n replies.Ok)) all among) refl
+    None-contains (told ++ step.grants) (Answer p n replies.Ok) ((λ e. cc), others) (subst (λ l. Contains l (Answer p n replies.Ok)) all among)
 
 -- before the grants of the event that ends a process it has ended
 outcome_ends : (rules : Rules) (processes : ℕ) (S : State) (taken counts : ℕ → ℕ) (event : Event) (T : State)
     → Tallies processes S taken counts → event.n ≡ taken event.p + 1 → (step : IsStep rules processes S event T) → (q : ℕ)
     → EndsProcess event q → IsEnded (step.outcome.after.states q)
 outcome_ends rules processes S taken counts event T t number step q (inl exit) =
-    let is : EndComesTo S event.p [] step.outcome =
-    subst (λ request. ComesTo rules processes S event.p event.n request step.outcome) exit.1 step.comes_to in
-    subst (λ p. IsEnded (step.outcome.after.states p)) exit.0 (ended_by_end S event.p [] step.outcome is)
+    let comes = step.comes_to in grind (arith, common_steps, ended_by_end)
 outcome_ends rules processes S taken counts event T t number step q (inr (inl kill)) =
-    let is : KillComesTo S event.p event.n q step.outcome =
-    subst (λ request. ComesTo rules processes S event.p event.n request step.outcome) kill.1 step.comes_to in
-    let own : KillComesTo S q event.n q step.outcome = subst (λ p. KillComesTo S p event.n q step.outcome) kill.0 is in
-    ended_by_own_kill S q event.n step.outcome own
+    let comes = step.comes_to in grind (arith, common_steps, ended_by_own_kill)
 outcome_ends rules processes S taken counts event T t number step q (inr (inr kill)) =
     let is : KillComesTo S event.p event.n q step.outcome =
     subst (λ request. ComesTo rules processes S event.p event.n request step.outcome) kill.1 step.comes_to in

@@ -1,8 +1,9 @@
 -- How much was taken of each process and answered to it: what each state of a run keeps, and what moves one process.
 use Rattle.std.proofs.lemmas.Grind.{common_steps}
-use Rattle.std.proofs.Common.{ℕ, suc, ◌≡◌, ◌≢◌, ◌+◌, ◌≤◌, ◌⊎◌, refl, sym, ◌∙◌, ap, subst, arith, true, eq-eqb, ne_eqb, length, length-append, List, [], ◌∷◌, ◌++◌, ⊎_elim}
+use Rattle.std.proofs.Common.{ℕ, ◌≡◌, ◌≢◌, ◌+◌, ◌≤◌, ◌⊎◌, refl, sym, ◌∙◌, subst, arith, true, eq-eqb, ne_eqb, length, length-append, List, [], ◌∷◌, ◌++◌, ⊎_elim}
 use Rattle.std.specs.Prelude.{◌==◌, if◌then◌else◌}
-use Rattle.std.specs.List.{AllByRecursion as Each}
+use Rattle.std.specs.List.{Contains, AllByRecursion as Each}
+use Rattle.std.proofs.lemmas.List.Elements.{All-contains, All-from_recursion}
 use Rattle.std.proofs.lemmas.Bool.{cases_eq}
 use Rattle.wait_core.specs.declared.Wait.{Wait}
 use Rattle.lock_manager.specs.declared.request.Note.{Note}
@@ -80,17 +81,13 @@ Tallies-along processes S taken answered taken' answered' same_taken same_answer
 -- lists of numbers and notes, one after another
 pub numbers_in-append : (q : ℕ) (xs ys : List Note) → numbers_in q (xs ++ ys) ≡ numbers_in q xs ++ numbers_in q ys
 numbers_in-append q [] ys = refl
-numbers_in-append q (Answer p n reply ∷ xs) ys =
-    ⊎_elim (λ same. rw (eq-eqb p q same) (ap (λ l. n ∷ l) (numbers_in-append q xs ys)))
-    (λ other. rw (ne_eqb p q other) (numbers_in-append q xs ys)) (cases_eq p q)
+numbers_in-append q (Answer p n reply ∷ xs) ys = grind (arith, common_steps, numbers_in-append q xs ys)
 numbers_in-append q (Waits p n ∷ xs) ys = numbers_in-append q xs ys
 
 pub AreCountedFrom-append : (last : ℕ) (xs ys : List ℕ) → AreCountedFrom last xs → AreCountedFrom (last + length xs) ys
     → AreCountedFrom last (xs ++ ys)
 AreCountedFrom-append last [] ys h k = let e : last + 0 ≡ last = omega arith in subst (λ n. AreCountedFrom n ys) e k
-AreCountedFrom-append last (x ∷ xs) ys h k =
-    let e : last + suc (length xs) ≡ last + 1 + length xs = omega arith in
-    (h.0, AreCountedFrom-append (last + 1) xs ys h.1 (subst (λ n. AreCountedFrom n ys) e k))
+AreCountedFrom-append last (x ∷ xs) ys h k = grind (arith, common_steps, AreCountedFrom-append (last + 1) xs ys)
 
 pub Each-append : {X : Type 0} (P : X → Type 0) (xs ys : List X) → Each P xs → Each P ys → Each P (xs ++ ys)
 Each-append P [] ys h k = k
@@ -103,6 +100,10 @@ Each-map P Q (x ∷ xs) f h = (f x h.0, Each-map P Q xs f h.1)
 pub Each-both : {X : Type 0} (P Q R : X → Type 0) (xs : List X) → ((x : X) → P x → Q x → R x) → Each P xs → Each Q xs → Each R xs
 Each-both P Q R [] f h k = tt
 Each-both P Q R (x ∷ xs) f h k = (f x h.0 k.0, Each-both P Q R xs f h.1 k.1)
+
+-- what no element is doesn't stand among them
+pub None-contains : {X : Type 0} (xs : List X) (x : X) → Each (λ y. y ≢ x) xs → ¬ Contains xs x
+None-contains xs x none among = All-contains (λ y. y ≢ x) xs x (All-from_recursion (λ y. y ≢ x) xs none) among refl
 
 -- one out of the middle, and the others
 pub Each-middle : {X : Type 0} (P : X → Type 0) (xs : List X) (x : X) (ys : List X) → Each P (xs ++ x ∷ ys) → P x × Each P (xs ++ ys)

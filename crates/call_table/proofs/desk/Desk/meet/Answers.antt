@@ -39,8 +39,7 @@ load-requires c =
     c.join_seat.ensures.2 in (
       c.join_seat.ensures.0 ∙ c.requires.desk.table,
       subst (λ (n : ℕ). 0 < n) (sym hub.wide) (inside hub.setup.processes hub.setup.depth mark tt),
-      may_compare hub.table.shared.key hub.table.shared.table_id.slots c.join_seat.new.seat.id c.join_seat.new.seat.me
-          (met_desk d u) (met_client d u) (before_meeting d u) 0
+      may_compare _ _ _ _ (met_desk d u) (met_client d u) (before_meeting d u) 0
           (tables.step hub.table.shared.table_id.slots 0 0 0 none) both,
     )
 
@@ -57,8 +56,7 @@ split_seat-other-requires c =
     c.load.ensures.2.0 ∙ both in (
       c.load.ensures.0 ∙ c.join_seat.ensures.0 ∙ c.requires.desk.table,
       subst (λ (n : ℕ). 0 < n) (sym hub.wide) (inside hub.setup.processes hub.setup.depth mark tt),
-      may_part_as hub.table.shared.key c.load.new.seat.id c.load.new.seat.me (met_desk d u) (met_client d u)
-          (before_meeting d u) still,
+      may_part_as _ _ c.load.new.seat.me (met_desk d u) (met_client d u) (before_meeting d u) still,
     )
 
 pub invariant_of-result : goal.invariant_of-result

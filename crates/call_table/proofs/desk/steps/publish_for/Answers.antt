@@ -13,13 +13,12 @@ store-requires g c =
     let number : c.args.n - 1 ≡ (tally_at d.tallies c.args.process).published = omega (arith, c.requires.number) in (
       c.loop-word.invariant.table ∙ c.requires.table.0,
       search rules,
-      may_fill_next c.args.setup.now c.args.shared.now.key c.args.shared.now.table_id.slots c.loop-word.seat.id c.loop-word.seat.me
-          d c.args.process c.loop-word.word c.answer_index-index.result
-          (c.args.n, c.args.reply, c.args.place) c.spell_answer-words.result g.B.Filling.process (c.args.n - 1)
-          (tables.step c.args.shared.now.table_id.slots c.answer_index-index.result
-          (get_or c.spell_answer-words.result c.loop-word.word 0) 0 none)
-          c.requires.table.1 c.requires.named c.requires.setup.1 c.loop-word.invariant.view c.requires.next
-          c.spell_answer-words.ensures.words c.loop-word-test.true number c.answer_index-index.ensures.value,
+      may_fill_next c.args.setup.now _ _ _ _ d c.args.process c.loop-word.word _ (c.args.n, c.args.reply, c.args.place)
+          c.spell_answer-words.result g.B.Filling.process (c.args.n - 1)
+          (tables.step c.args.shared.now.table_id.slots c.answer_index-index.result (get_or c.spell_answer-words.result c.loop-word.word 0) 0 none)
+          c.requires.table.1 c.requires.named c.requires.setup.1
+          c.loop-word.invariant.view c.requires.next c.spell_answer-words.ensures.words c.loop-word-test.true number
+          c.answer_index-index.ensures.value,
     )
 
 pub loop-word-preserved : goal.loop-word-preserved
@@ -40,11 +39,9 @@ store-requires-2 g c =
     let all : c.loop-word.word ≡ 6 = omega arith in (
       c.loop-word.invariant.table ∙ c.requires.table.0,
       search rules,
-      may_publish_as c.args.setup.now c.args.shared.now.key c.args.shared.now.table_id.slots c.loop-word.seat.id c.loop-word.seat.me
-          d c.args.process c.loop-word.word c.answered_index.result c.args.n
-          (c.args.n, c.args.reply, c.args.place) c.spell_answer-words.result (tables.step c.args.shared.now.table_id.slots
-          c.answered_index.result c.args.n 0 none)
-          c.requires.table.1 c.requires.setup.1 all c.loop-word.invariant.view c.requires.next c.spell_answer-words.ensures.words
+      may_publish_as c.args.setup.now _ _ _ _ d c.args.process c.loop-word.word _ _ (c.args.n, c.args.reply, c.args.place)
+          c.spell_answer-words.result (tables.step c.args.shared.now.table_id.slots c.answered_index.result c.args.n 0 none) c.requires.table.1
+          c.requires.setup.1 all c.loop-word.invariant.view c.requires.next c.spell_answer-words.ensures.words
           c.spell_answer-words.ensures.fits c.requires.number c.answered_index.ensures.value,
     )
 
