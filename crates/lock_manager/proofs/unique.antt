@@ -2,8 +2,6 @@
 pub mod AtMostOneLemmas
 pub mod DescriptorCallLaws
 pub mod FirstBlockerLaws
-pub mod NextGrantLaws
-pub mod OpenCallLaws
 pub mod OutcomeLaws
 pub mod ReleaseLaws
 pub mod SettlingLaws

@@ -1,9 +1,6 @@
 -- The first of a list of which something holds: for `Manager::first_in_the_way`, clause `first`.
-use Rattle.std.proofs.Common.{rules, ℕ, suc, ◌≡◌, ◌<◌, List, ◌++◌, length, get_or, take, drop, sym, ap, subst, ◌∙◌, All, arith}
+use Rattle.std.proofs.Common.{rules, ℕ, suc, ◌≡◌, ◌<◌, List, ◌++◌, length, get_or, take, drop, sym, ap, subst, ◌∙◌, All, arith, Option, MatchOption, Some, None, slice_get, drop-cons, take-append-drop, get_or-take, length-take, get_or-append-add, length-append}
 use Rattle.std.proofs.lemmas.Grind.{common_steps}
-use Rattle.std.specs.Prelude.{Option, MatchOption, Some, None, slice_get}
-use Rattle.std.proofs.Math.Seq.{drop-cons}
-use Rattle.std.proofs.lemmas.List.{take-append-drop, get_or-take, length-take, get_or-append-add, length-append}
 use Rattle.lock_book.specs.declared.Held.{Held}
 use Rattle.lock_book.specs.declared.book.Book.{Book}
 use Rattle.lock_book.specs.Books.{byte_modes_of, flock_modes_of}

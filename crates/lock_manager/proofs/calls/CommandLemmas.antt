@@ -1,8 +1,7 @@
 -- From what a lock command finds to what it comes to: for `Machine::get_reply`, `Machine::lock_command`, `Machine::range_command` and others.
-use Rattle.std.proofs.Common.{arith, rules, ℕ, ◌≡◌, sym, subst, true, false, Some, List, [], ◌∷◌, Result, Ok, Err, IfOk}
+use Rattle.std.proofs.Common.{arith, rules, ℕ, ◌≡◌, sym, subst, true, false, Some, List, [], ◌∷◌, Result, Ok, Err, IfOk, slice_get}
 use Rattle.std.proofs.lemmas.Grind.{common_steps}
 use Rattle.std.proofs.lemmas.Option.{same_Some}
-use Rattle.std.specs.Prelude.{slice_get}
 use Rattle.range_core.specs.declared.Memory.{Memory}
 use Rattle.range_core.specs.declared.Mode.{Mode}
 use Rattle.range_core.specs.declared.Kind.{Kind}
@@ -46,11 +45,6 @@ pub tells_blocker : (modes : ByteModes) (owner : Owner) (span : Span) (mode : Mo
     → IsFirstBlocker modes owner span mode blocker → told (held_reply blocker) → GetTells modes owner span mode told
 tells_blocker modes owner span mode told blocker h told_is = grind (arith, common_steps)
 
--- what follows of what was told
-tells_map : (modes : ByteModes) (owner : Owner) (span : Span) (mode : Mode) (told also : Reply → Type 0) → ((reply : Reply) → told reply → also reply)
-    → GetTells modes owner span mode told → GetTells modes owner span mode also
-tells_map modes owner span mode told also h h2 = grind (arith, common_steps)
-
 -- who looked at a descriptor may wait for a lock on its file, for the process and for the description
 pub may_wait_looked : (tables : Tables) (p fd : ℕ) (cmd : LkCmd) (look : Look) → ((D : Descriptors) → StandFor tables D → Some look ≡ look_at D p fd)
     → MayWait tables p look.file (lock_owner cmd p look)
@@ -65,12 +59,6 @@ asks : (rules : Rules) (S : State) (cmd : LkCmd) (p n : ℕ) (look : Look) (span
     → GetComesTo S (wanted_lock cmd p n look span mode) outcome → ModeComesTo rules S p n cmd look span mode outcome
 asks rules S cmd p n look span mode outcome h h2 = grind (arith, common_steps)
 
--- a kind that has a mode
-on_mode : (rules : Rules) (S : State) (cmd : LkCmd) (p n : ℕ) (kind : Kind) (look : Look) (span : Span) (mode : Mode) (outcome : Outcome)
-    → Some mode ≡ wanted_mode kind
-    → ModeComesTo rules S p n cmd look span mode outcome → RangeComesTo rules S p n cmd kind look span outcome
-on_mode rules S cmd p n kind look span mode outcome wanted h = grind (arith, common_steps)
-
 -- in each state that old shows the command comes to this note alone on the range, and new shows the state that it leaves
 abbrev pub RangeTells : Machine → Machine → ℕ → ℕ → LkCmd → Kind → Look → Span → Note → Type 0
 RangeTells old new p n cmd kind look span note =
@@ -81,7 +69,7 @@ RangeTells old new p n cmd kind look span note =
 pub asked : (old : Machine) (p n : ℕ) (cmd : LkCmd) (kind : Kind) (look : Look) (span : Span) (mode : Mode) (owner : Owner) (reply : Reply) (note : Note)
     → Some mode ≡ wanted_mode kind → is_get cmd ≡ true → owner ≡ lock_owner cmd p look → note ≡ Answer p n reply
     → GetTells ((machine_locks old).bytes look.file) owner span mode (λ told. reply ≡ told) → RangeTells old old p n cmd kind look span note
-asked old p n cmd kind look span mode owner reply note h h2 h3 h4 h5 h6 h7 = grind (arith, common_steps, same_locks, on_mode, asks, tells_map)
+asked old p n cmd kind look span mode owner reply note h h2 h3 h4 h5 h6 h7 = grind (arith, common_steps, same_locks, asks)
 
 -- a lock command on an open descriptor and a range comes to what it comes to on the range
 on_range_tells : (old new : Machine) (p n fd : ℕ) (cmd : LkCmd) (lock : Lock) (look : Look) (span : Span) (note : Note)

@@ -1,8 +1,7 @@
 -- From a call on descriptors to what the request comes to: for `Machine::close_fd`, `Machine::dup`, `Machine::dup_to` and others.
-use Rattle.std.proofs.Common.{arith, ℕ, ◌≡◌, subst, Ok, Err, Result, IfOk, List}
+use Rattle.std.proofs.Common.{arith, ℕ, ◌≡◌, subst, Ok, Err, Result, IfOk, List, MatchResult}
 use Rattle.std.proofs.lemmas.Grind.{common_steps}
 use Rattle.std.proofs.Math.Logic.{∥∥₁_elim}
-use Rattle.std.specs.Prelude.{MatchResult}
 use Rattle.range_core.specs.declared.Memory.{Memory}
 use Rattle.fd_table.specs.declared.FdFault.{FdFault}
 use Rattle.fd_table.specs.declared.FdFault.TheVariants as faults
@@ -90,8 +89,7 @@ Opens old p file access D result E = OpenGives (limits_of old.tables) D p file a
 pub served_by_open : (old : Machine) (p file : ℕ) (access : Access)
     → IsServedBy (Opens old p file access) with_descriptors replies.Fd old p (OpenFile file access)
 unfolding machine_rules
-served_by_open old p file access S n outcome h =
-    (h.0, h.1, subst (λ limits. OpenGives limits S.descriptors p file access h.0 h.1) old.limited h.2, h.3)
+served_by_open old p file access S n outcome h = grind (arith, common_steps)
 
 -- dup
 abbrev pub Dups : Machine → ℕ → ℕ → Giving ℕ
@@ -99,8 +97,7 @@ Dups old p fd D result E = DupGives (limits_of old.tables) D p fd result E
 
 pub served_by_dup : (old : Machine) (p fd : ℕ) → IsServedBy (Dups old p fd) with_descriptors replies.Fd old p (Dup fd)
 unfolding machine_rules
-served_by_dup old p fd S n outcome h =
-    (h.0, h.1, subst (λ limits. DupGives limits S.descriptors p fd h.0 h.1) old.limited h.2, h.3)
+served_by_dup old p fd S n outcome h = grind (arith, common_steps)
 
 -- fork
 abbrev pub Forks : Machine → ℕ → ℕ → Giving (Unit {0})
@@ -111,8 +108,7 @@ with_child_alive child S E done = with_process (record S { descriptors = E }) ch
 
 pub served_by_fork : (old : Machine) (p child : ℕ) → IsServedBy (Forks old p child) (with_child_alive child) (λ done. replies.Ok) old p (Fork child)
 unfolding machine_processes
-served_by_fork old p child S n outcome h =
-    (h.0, h.1, subst (λ processes. ForkGives processes S.descriptors p child h.0 h.1) old.tabled h.2, h.3)
+served_by_fork old p child S n outcome h = grind (arith, common_steps)
 
 -- a call that is never refused for want of memory isn't
 pub never_memory : {X : Type 0} (Gives : Giving X) (old new : Tables) (locks : Locks) (waits : List Wait) (fault : FdFault)

@@ -1,21 +1,19 @@
 -- What flock comes to: at once, refused, or later; for `Machine::convert_flock`, `Machine::flock_mode`, `Machine::grant_flock` and
 -- `Machine::test_flock`.
-use Rattle.std.proofs.Common.{rules, arith, ℕ, ◌≡◌, ◌≢◌, refl, sym, ◌∙◌, ap, subst, Bool, true, false, Option, Some, None, List, [], ◌∷◌, ◌++◌, inl, inr, ◌⊎◌, IsTrue}
+use Rattle.std.proofs.Common.{rules, arith, ℕ, ◌≡◌, ◌≢◌, refl, sym, ◌∙◌, ap, subst, Bool, true, false, Option, Some, None, List, [], ◌∷◌, ◌++◌, inl, inr, ◌⊎◌, IsTrue, eq-eqb, IsFalse, IsSome, ◌↔◌, slice_get, slice_set, ◌==◌, not}
+use Rattle.std.proofs.lemmas.List.Folds.{find_at, list_any_at}
 use Rattle.std.proofs.lemmas.Grind.{common_steps}
-use Rattle.std.proofs.lemmas.Bool.{eq-eqb}
-use Rattle.std.proofs.lemmas.Option.{same_Some}
+use Rattle.std.proofs.lemmas.Option.{slice_get_within, get_or_from_slice_get}
 use Rattle.range_core.specs.declared.Mode.{Mode}
 use Rattle.lock_book.specs.Changes.{flock_mode_in}
-use Rattle.std.specs.Prelude.{IsFalse, IsSome, ◌↔◌, slice_get, slice_set, ◌==◌, ◌||◌, if◌then◌else◌, IsTrue, not}
 use Rattle.std.specs.List.{list_any}
 use Rattle.lock_book.specs.declared.Owner.TheVariants.{Description}
 use Rattle.lock_book.specs.declared.book.Book.{Book}
 use Rattle.lock_book.specs.Books.{flock_modes_of, has_flock_place}
-use Rattle.lock_book.specs.Conflicts.{FlockConflict}
 use Rattle.fd_table.specs.declared.tables.Look.{Look}
 use Rattle.wait_core.specs.declared.Family.TheVariants.{Whole}
 use Rattle.wait_core.specs.declared.Wait.{Wait}
-use Rattle.wait_core.specs.Locks.{Locks, locks_of, flock_modes_at}
+use Rattle.wait_core.specs.Locks.{Locks, flock_modes_at}
 use Rattle.wait_core.specs.Blocking.{IsBlockedByLock, IsQueued}
 use Rattle.wait_core.specs.WaitsView.{wait_of}
 use Rattle.lock_manager.specs.declared.machine.Machine.{Machine}
@@ -36,21 +34,9 @@ use Rattle.lock_manager.proofs.kept.GrantLemmas.{without_middle}
 
 -- where a wait in the list passes a test, some wait does
 pub found_asks : (test : Wait → Bool) (waits : List Wait) (p : ℕ) (wait : Wait) → wait_of waits p ≡ Some wait → test wait ≡ true → list_any test waits ≡ true
-found_asks test [] p wait found passes = absurd (cc)
-found_asks test (first ∷ rest) p wait found passes = at (first.p == p) found (λ there. found_asks test rest p wait there passes)
-  where
-    or_true : (a b : Bool) → b ≡ true → (a || b) ≡ true
-    or_true true b e = refl
-    or_true false b e = e
-
-    here : (a b : Bool) → a ≡ true → (a || b) ≡ true
-    here true b e = refl
-    here false b e = cc
-
-    at : (b : Bool) → (if b then Some first else wait_of rest p) ≡ Some wait → (wait_of rest p ≡ Some wait → list_any test rest ≡ true)
-        → list_any test (first ∷ rest) ≡ true
-    at true e later = here (test first) (list_any test rest) (ap test (same_Some first wait e) ∙ passes)
-    at false e later = or_true (test first) (list_any test rest) (later e)
+found_asks test waits p wait found passes =
+    let at = sym (find_at (λ wait. wait.p == p) waits) ∙ found in
+    list_any_at test waits _ wait (slice_get_within waits _ wait at) (ap test (get_or_from_slice_get waits _ wait wait at) ∙ passes)
 
 -- a wait for a flock lock is one for that of its description on its file
 pub is_its_own_flock : (wait : Wait) (description : ℕ) → wait.family ≡ Whole → wait.owner ≡ Description description
@@ -79,8 +65,7 @@ IsTestBlocked old nb wanted locks waits = IsBlockedByLock locks wanted ⊎ (IsFa
 pub asked : (old : Machine) (nb : Bool) (wanted : Wait)
     → (IsBlockedByLock (machine_locks old) wanted ⊎ (IsTrue (not nb) × IsQueued (machine_rules old).policy (machine_waits old) wanted))
     ↔ IsTestBlocked old nb wanted (machine_locks old) (machine_waits old)
-asked old true wanted = grind (arith, common_steps)
-asked old false wanted = grind (arith, common_steps)
+asked old nb wanted = grind (arith, common_steps)
 
 -- nothing blocks it
 pub flock_locked : (old new : Machine) (nb : Bool) (look : Look) (wanted : Wait) (note : Note) → wanted ≡ wanted_flock wanted.p wanted.n look wanted.mode
@@ -182,5 +167,4 @@ flock_converted old new nb look wanted book mode held told was is some other con
 -- a description with a mode has a place
 pub place_of_held : (books : List Book) (file description : ℕ) (book : Book) (mode : Option Mode) (held : Mode) → slice_get books file ≡ Some book
     → (IsSome mode → IsTrue (has_flock_place book description)) → mode ≡ Some held → has_place_at (slice_get books file) description ≡ true
-place_of_held books file description book (Some m) held was place is = subst (λ e. has_place_at e description ≡ true) (sym was) (place refl)
-place_of_held books file description book None held was place is = absurd (cc)
+place_of_held books file description book mode held was place is = grind (arith, common_steps)

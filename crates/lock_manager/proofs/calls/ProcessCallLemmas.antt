@@ -1,13 +1,15 @@
 -- What fork, exit, signal and kill do to the waits and to the states that a machine shows: for `Machine::grant_bytes`, `Machine::grant_flock`,
 -- `Machine::interrupt` and `Machine::kill`.
 use Rattle.std.proofs.lemmas.Grind.{common_steps}
-use Rattle.std.proofs.Common.{ℕ, suc, ◌≡◌, ◌≢◌, ◌≤◌, ◌+◌, refl, sym, ◌∙◌, ap, subst, List, [], ◌∷◌, length, Some, Bool, true, false, All, get_or, inl, inr, arith}
+use Rattle.std.proofs.Common.{ℕ, ◌≡◌, ◌≢◌, ◌≤◌, ◌+◌, refl, sym, ◌∙◌, ap, subst, List, [], ◌∷◌, length, Some, Bool, true, All, get_or, inl, inr, arith, ◌==◌, if◌then◌else◌, not}
+use Rattle.std.proofs.lemmas.List.Sums.{length-filter, count_by-le-length}
+use Rattle.std.proofs.lemmas.List.Folds.{find_at}
+use Rattle.std.proofs.lemmas.Option.{same_Some, slice_get_within, get_or_from_slice_get}
 use Rattle.std.proofs.Math.Logic.{∥∥₁_map}
 use Rattle.std.proofs.lemmas.Bool.{cases_Bool}
 use Rattle.std.proofs.lemmas.Bool.Decides.{eqb_tells}
-use Rattle.std.proofs.lemmas.List.Elements.{All-filter, filter_passes}
+use Rattle.std.proofs.lemmas.List.Elements.{All-filter, filter_passes, All-head, All-tail}
 use Rattle.std.proofs.lemmas.List.Kept.{AllPairs-filter}
-use Rattle.std.specs.Prelude.{◌==◌, if◌then◌else◌, not}
 use Rattle.std.specs.List.{filter, list_any}
 use Rattle.lock_book.specs.declared.book.Book.{Book}
 use Rattle.fd_table.specs.declared.tables.Tables.{Tables}
@@ -40,90 +42,44 @@ without_passes waits p k d within e = grind (arith, common_steps, filter_passes,
 -- a process without a wait leaves nothing
 pub without_absent : (waits : List Wait) (p : ℕ) → All (λ wait. wait.p ≢ p) waits → without_wait_of waits p ≡ waits
 without_absent [] p others = refl
-without_absent (wait ∷ waits) p others = elim (eqb_tells wait.p p) [
-  | inl same ↦ absurd (others 0 wait (let n = length waits in omega arith) same.1)
-  | inr other ↦ rw other.0 (ap (λ ws. wait ∷ ws) (without_absent waits p (λ k d within. others (suc k) d (omega (arith, within)))))
-]
+without_absent (wait ∷ waits) p others =
+    let rest = All-tail (λ wait. wait.p ≢ p) wait waits others in
+    grind (arith, common_steps, eqb_tells, All-head (λ wait. wait.p ≢ p) wait waits others, without_absent waits p rest)
 
 -- no more waits are left than there were
 length_without : (waits : List Wait) (p : ℕ) → length (without_wait_of waits p) ≤ length waits
-length_without [] p = omega arith
-length_without (wait ∷ waits) p =
-    let rest : length (without_wait_of waits p) ≤ length waits = length_without waits p in
-    elim (eqb_tells wait.p p) [
-      | inl same ↦ rw same.0 (omega (arith, rest))
-      | inr other ↦ rw other.0 (omega (arith, rest))
-    ]
+length_without waits p = grind (arith, common_steps, length-filter, count_by-le-length)
 
 -- a wait that is found is one fewer where it leaves
 pub fewer_without : (waits : List Wait) (p : ℕ) (found : Wait) → wait_of waits p ≡ Some found → length (without_wait_of waits p) + 1 ≤ length waits
 fewer_without [] p found is = absurd (cc)
-fewer_without (wait ∷ waits) p found is = elim (eqb_tells wait.p p) [
-  | inl same ↦ let rest : length (without_wait_of waits p) ≤ length waits = length_without waits p in rw same.0 (omega (arith, rest))
-  | inr other ↦
-      let rest : length (without_wait_of waits p) + 1 ≤ length waits = fewer_without waits p found (rw other.0 at is) in
-      rw other.0 (omega (arith, rest))
-]
+fewer_without (wait ∷ waits) p found is = grind (arith, common_steps, eqb_tells, length_without waits p, fewer_without waits p found)
 
 -- a wait that is found is the process' own
 pub found_of : (waits : List Wait) (p : ℕ) (found : Wait) → wait_of waits p ≡ Some found → found.p ≡ p
 found_of [] p found is = absurd (cc)
-found_of (wait ∷ waits) p found is = elim (eqb_tells wait.p p) [
-  | inl same ↦ let here : Some wait ≡ Some found = rw same.0 at is in let it : wait ≡ found = cc in ap (λ (w : Wait). w.p) (sym it) ∙ same.1
-  | inr other ↦ found_of waits p found (rw other.0 at is)
-]
+found_of (wait ∷ waits) p found is = grind (arith, common_steps, eqb_tells, same_Some, found_of waits p found)
 
 -- what holds of all waits holds of the one that is found
 pub found_holds : (P : Wait → Type 0) (waits : List Wait) (p : ℕ) (found : Wait) → wait_of waits p ≡ Some found → All P waits → P found
-found_holds P [] p found is all = absurd (cc)
-found_holds P (wait ∷ waits) p found is all = elim (eqb_tells wait.p p) [
-  | inl same ↦
-      let here : Some wait ≡ Some found = rw same.0 at is in
-      let it : wait ≡ found = cc in
-      subst P it (all 0 wait (let n = length waits in omega arith))
-  | inr other ↦ found_holds P waits p found (rw other.0 at is) (λ k d within. all (suc k) d (omega (arith, within)))
-]
+found_holds P waits p found is all =
+    let at = sym (find_at (λ wait. wait.p == p) waits) ∙ is in
+    subst P (get_or_from_slice_get waits _ found found at) (all _ found (slice_get_within waits _ found at))
 
 -- the wait of another process is found as before
 pub other_found : (waits : List Wait) (p q : ℕ) → q ≢ p → wait_of (without_wait_of waits p) q ≡ wait_of waits q
 other_found [] p q differs = refl
-other_found (wait ∷ waits) p q differs = elim (eqb_tells wait.p p) [
-  | inl gone ↦ elim (eqb_tells wait.p q) [
-    | inl same ↦ absurd (differs (sym same.1 ∙ gone.1))
-    | inr other ↦ rw (gone.0, other.0) (other_found waits p q differs)
-  ]
-  | inr stays ↦ elim (eqb_tells wait.p q) [
-    | inl same ↦ rw (stays.0, same.0) refl
-    | inr other ↦ rw (stays.0, other.0) (other_found waits p q differs)
-  ]
-]
+other_found (wait ∷ waits) p q differs = grind (arith, common_steps, eqb_tells, other_found waits p q differs)
 
 -- no more waits of a kind are left than there were
 pub counted_without : (test : Wait → Bool) (waits : List Wait) (p : ℕ) → length (filter test (without_wait_of waits p)) ≤ length (filter test waits)
 counted_without test [] p = omega arith
-counted_without test (wait ∷ waits) p =
-    let rest : length (filter test (without_wait_of waits p)) ≤ length (filter test waits) = counted_without test waits p in
-    elim (cases_Bool (test wait)) [
-      | inl hit ↦ elim (eqb_tells wait.p p) [
-        | inl gone ↦ rw (gone.0, hit) (omega (arith, rest))
-        | inr stays ↦ rw (stays.0, hit) (omega (arith, rest))
-      ]
-      | inr missed ↦ elim (eqb_tells wait.p p) [
-        | inl gone ↦ rw (gone.0, missed) rest
-        | inr stays ↦ rw (stays.0, missed) rest
-      ]
-    ]
+counted_without test (wait ∷ waits) p = grind (arith, common_steps, eqb_tells, cases_Bool, counted_without test waits p)
 
 -- nor of a kind that there wasn't
 pub found_without : (test : Wait → Bool) (waits : List Wait) (p : ℕ) → list_any test (without_wait_of waits p) ≡ true → list_any test waits ≡ true
 found_without test [] p is = is
-found_without test (wait ∷ waits) p is = elim (cases_Bool (test wait)) [
-  | inl hit ↦ rw hit refl
-  | inr missed ↦ elim (eqb_tells wait.p p) [
-    | inl gone ↦ rw missed (found_without test waits p (rw gone.0 at is))
-    | inr stays ↦ rw missed (found_without test waits p (rw (stays.0, missed) at is))
-  ]
-]
+found_without test (wait ∷ waits) p is = grind (arith, common_steps, eqb_tells, cases_Bool, found_without test waits p)
 
 -- so there is room for the waits that are left
 pub room_without : (books : List Book) (waits : List Wait) (p : ℕ) → HaveRoom books waits → HaveRoom books (without_wait_of waits p)
@@ -194,7 +150,8 @@ ends_waiting new S p told given =
     let released = given.1.0 in
     let E = given.1.1 in
     let live : State = with_process (without_wait S p) p Live in
-    let shown : Shows new (with_process (with_released (without_wait live p) E p released) p Ended) = subst (Shows new) (ap (λ (o : Outcome). o.after) given.1.3) given.2 in (
+    let shown : Shows new (with_process (with_released (without_wait live p) E p released) p Ended) =
+    subst (Shows new) (ap (λ (o : Outcome). o.after) given.1.3) given.2 in (
       with_process (with_released (without_wait S p) E p released) p Ended,
       (released, E, given.1.2, refl),
       record {
@@ -202,13 +159,9 @@ ends_waiting new S p told given =
         flocks = shown.flocks;
         descriptors = shown.descriptors;
         waits = shown.waits ∙ without_absent (without_wait_of S.waits p) p (without_passes S.waits p);
-        states = λ q. shown.states q ∙ last (q == p) (S.states q);
+        states = λ q. grind (arith, common_steps, shown.states q);
       },
     )
-  where
-    last : (b : Bool) (was : ProcState) → (if b then Ended else if b then Live else was) ≡ (if b then Ended else was)
-    last true was = refl
-    last false was = refl
 
 -- a kill of oneself is an exit, of which nothing is told
 pub kills_itself : (old new : Machine) (p n target : ℕ) → target ≡ p

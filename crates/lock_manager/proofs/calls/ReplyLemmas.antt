@@ -1,5 +1,6 @@
 -- What is told where a call gives a reply: for `Machine::serve`.
 use Rattle.std.proofs.Common.{ℕ, ◌≡◌, ◌≤◌, ◌+◌, arith, length, List, [], Result, Ok, Err, IfOk, OnOk, OnErr}
+use Rattle.std.proofs.lemmas.Grind.{common_steps}
 use Rattle.range_core.specs.declared.Memory.{Memory}
 use Rattle.lock_manager.specs.declared.machine.Machine.{Machine}
 use Rattle.lock_manager.specs.declared.request.Note.{Note}
@@ -20,11 +21,9 @@ told_by old new p n request asked (Err memory) result before after is none same 
 pub few_by : (old new : Machine) (p n capacity : ℕ) (reply : Result Reply Memory) (result : Result (Unit {0}) Memory) (before after : List Note)
     → IsReplied p n reply result before after → before ≡ [] → machine_waits new ≡ machine_waits old → length (machine_waits old) + 2 ≤ capacity
     → OnOk result (length after + length (machine_waits new) ≤ capacity)
-few_by old new p n capacity (Ok reply) result before after is none same room = rw (is.0, is.1, none, same) (omega (arith, room))
-few_by old new p n capacity (Err memory) result before after is none same room = rw is tt
+few_by old new p n capacity reply result before after is none same room = grind (arith, common_steps)
 
 -- where there is no reply nobody is told
 pub untold_by : (old new : Machine) (p n : ℕ) (reply : Result Reply Memory) (result : Result (Unit {0}) Memory) (before after : List Note)
     → IsReplied p n reply result before after → OnErr reply (SameMachine old new) → OnErr result (SameMachine old new)
-untold_by old new p n (Ok reply) result before after is same = rw (is.0) tt
-untold_by old new p n (Err memory) result before after is same = rw is same
+untold_by old new p n reply result before after is same = grind (arith, common_steps)

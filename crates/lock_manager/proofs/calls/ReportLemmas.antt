@@ -1,6 +1,5 @@
 -- The report of all files, file by file: for `Machine::held`.
-use Rattle.std.proofs.Common.{ℕ, zero, suc, ◌≡◌, ◌+◌, refl, sym, ◌∙◌, ap, subst, List, [], ◌++◌, append_assoc, append-nil, add-one, add-zero, arith, Some}
-use Rattle.std.specs.Prelude.{slice_get}
+use Rattle.std.proofs.Common.{ℕ, zero, suc, ◌≡◌, ◌+◌, refl, sym, ◌∙◌, ap, subst, List, [], ◌++◌, append_assoc, append-nil, add-one, add-zero, arith, Some, slice_get}
 use Rattle.lock_book.specs.declared.Held.{Held}
 use Rattle.lock_book.specs.declared.book.Book.{Book}
 use Rattle.lock_book.specs.Books.{byte_modes_of, flock_modes_of}

@@ -1,14 +1,10 @@
 -- What a set command comes to: at once, refused, or later; for `Machine::set_command` and `Machine::test_flock`.
-use Rattle.std.proofs.Common.{arith, ◌≡◌, refl, sym, ap, subst, Bool, true, false, Some, List, [], ◌∷◌, ◌++◌, inl, inr, ◌⊎◌, IsTrue}
+use Rattle.std.proofs.Common.{arith, ◌≡◌, refl, sym, ap, subst, true, false, Some, List, [], ◌∷◌, ◌++◌, inl, inr, ◌⊎◌, IsTrue, IsFalse}
 use Rattle.std.proofs.lemmas.Grind.{common_steps}
-use Rattle.std.specs.Prelude.{IsFalse, ◌↔◌, slice_get}
-use Rattle.lock_book.specs.declared.book.Book.{Book}
-use Rattle.lock_book.specs.Books.{byte_modes_of}
-use Rattle.lock_book.specs.Conflicts.{ByteConflict}
 use Rattle.wait_core.specs.declared.Family.TheVariants.{Bytes}
 use Rattle.wait_core.specs.declared.Policy.{Policy}
 use Rattle.wait_core.specs.declared.Wait.{Wait}
-use Rattle.wait_core.specs.Locks.{Locks, locks_of}
+use Rattle.wait_core.specs.Locks.{Locks}
 use Rattle.wait_core.specs.Blocking.{IsBlockedByLock, IsBlocked, IsQueued}
 use Rattle.wait_core.specs.Cycles.{ClosesCycle}
 use Rattle.lock_manager.specs.declared.machine.Machine.{Machine}
@@ -61,23 +57,17 @@ comes_free rules S SetLkW wanted outcome set free done =
 comes_free rules S OSetLkW wanted outcome set free done =
     inr (not_blocked rules.policy (locks_held S) S.waits wanted (λ h. free (inl h)) (λ h. free (inr (refl, h))), done)
 
--- what blocks a command that would wait would block the wait
-blocks_wait : (rules : Rules) (cmd : LkCmd) (wanted : Wait) (locks : Locks) (waits : List Wait) → IsCommandBlocked rules cmd wanted locks waits
-    → IsBlocked rules.policy locks waits wanted
-blocks_wait rules cmd wanted locks waits (inl h) = is_blocked rules.policy locks waits wanted (inl h)
-blocks_wait rules cmd wanted locks waits (inr h) = is_blocked rules.policy locks waits wanted (inr h.1)
-
 -- it would wait, and close a cycle
 comes_deadlock : (rules : Rules) (S : State) (cmd : LkCmd) (wanted : Wait) → is_get cmd ≡ false → may_wait cmd ≡ true → IsFalse (is_ofd cmd)
     → IsCommandBlocked rules cmd wanted (locks_held S) S.waits → ClosesCycle rules.policy (locks_held S) S.waits wanted
     → CommandComesTo rules S cmd wanted (refused S wanted.p wanted.n EDEADLK)
-comes_deadlock rules S cmd wanted h h2 h3 h4 h5 = grind (arith, common_steps, blocks_wait)
+comes_deadlock rules S cmd wanted h h2 h3 h4 h5 = grind (arith, common_steps, is_blocked)
 
 -- it waits
 comes_waiting : (rules : Rules) (S : State) (cmd : LkCmd) (wanted : Wait) → is_get cmd ≡ false → may_wait cmd ≡ true
     → IsCommandBlocked rules cmd wanted (locks_held S) S.waits → ¬ (IsFalse (is_ofd cmd) × ClosesCycle rules.policy (locks_held S) S.waits wanted)
     → CommandComesTo rules S cmd wanted (waits_then S wanted [])
-comes_waiting rules S cmd wanted h h2 h3 h4 = grind (arith, common_steps, blocks_wait)
+comes_waiting rules S cmd wanted h h2 h3 h4 = grind (arith, common_steps, is_blocked)
 
 -- a lock that was set
 pub locked : (old new : Machine) (cmd : LkCmd) (wanted : Wait) (note : Note) → is_get cmd ≡ false → wanted.family ≡ Bytes

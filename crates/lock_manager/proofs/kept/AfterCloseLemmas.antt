@@ -1,8 +1,7 @@
 -- What holds of the machine after it has released what a call closed: for `Machine::close_fd`, `Machine::dup_to`, `Machine::end` and `Machine::fork`.
-use Rattle.std.proofs.Common.{arith, ℕ, ◌≡◌, ◌≢◌, All, ◌==◌, refl, sym, ◌∙◌, ap, subst, List, Some, None, Option, Bool, true, false}
+use Rattle.std.proofs.Common.{arith, ℕ, ◌≡◌, ◌≢◌, All, ◌==◌, refl, sym, ◌∙◌, ap, subst, List, None, Option, Bool, true, false, ◌&&◌, ◌||◌, if◌then◌else◌}
 use Rattle.std.proofs.lemmas.Grind.{common_steps}
 use Rattle.std.proofs.Math.Logic.{∥∥₁_map}
-use Rattle.std.specs.Prelude.{◌&&◌, ◌||◌, if◌then◌else◌}
 use Rattle.range_core.specs.declared.Mode.{Mode}
 use Rattle.lock_book.specs.declared.Owner.TheVariants.{Description}
 use Rattle.fd_table.specs.declared.tables.Tables.{Tables}
@@ -24,7 +23,7 @@ use Rattle.lock_manager.specs.declared.request.Note.{Note}
 use Rattle.lock_manager.specs.DescriptorCalls.{with_released}
 use Rattle.lock_manager.specs.ProcessCalls.{EndComesTo, without_wait}
 use Rattle.lock_manager.specs.DescriptionLocks.{IsOpenOn, AreOwned, AreWithinFiles}
-use Rattle.lock_manager.specs.LockReleases.{is_one_of, is_released, ReleasesLocks}
+use Rattle.lock_manager.specs.LockReleases.{is_one_of, ReleasesLocks}
 use Rattle.lock_manager.specs.MachineView.{Shows, machine_rules, machine_state, machine_locks, machine_waits}
 use Rattle.lock_manager.proofs.kept.AfterReleaseLemmas.{bytes_after, flocks_after}
 use Rattle.lock_manager.proofs.calls.DescriptorCallLemmas.{Giving, IsServedBy}
@@ -36,26 +35,15 @@ use Rattle.lock_manager.specs.WaitsKept.{AreStanding}
 use Rattle.lock_manager.proofs.calls.ProcessCallLemmas.{without_absent}
 use Rattle.lock_manager.proofs.kept.WaitCloseLemmas.{holders_closed}
 
--- what is left was there
-left : (removed : Bool) (mode : Option Mode) (m : Mode) → (if removed then None else mode) ≡ Some m → mode ≡ Some m
-left true mode m is = cc
-left false mode m is = is
-
--- what wasn't there isn't left
-none_left : (removed : Bool) (mode : Option Mode) → mode ≡ None → (if removed then None else mode) ≡ None
-none_left true mode none = refl
-none_left false mode none = none
-
 -- without some locks the others conflict no more than before
 pub compatible_released : (old new : Locks) (p : ℕ) (files descriptions : List ℕ) → ReleasesLocks old new p files descriptions → AreCompatible old
     → AreCompatible new
-compatible_released old new p files descriptions releases before = grind (arith, common_steps, left)
+compatible_released old new p files descriptions releases before = grind (arith, common_steps)
 
 -- nor are any past the largest offset
 pub within_released : (old new : Locks) (p : ℕ) (files descriptions : List ℕ) → ReleasesLocks old new p files descriptions → AreWithinFiles old
     → AreWithinFiles new
-within_released old new p files descriptions releases within f o byte past =
-    releases.bytes f o byte ∙ none_left (is_one_of files f && is_released p descriptions o) (old.bytes f o byte) (within f o byte past)
+within_released old new p files descriptions releases within f o byte past = grind (arith, common_steps)
 
 -- a description that isn't open on the file any more has lost its locks there, or had none
 lost : (D E : Descriptors) (p : ℕ) (released : Released) (f d : ℕ) (mode : Option Mode) → Closing D E p released → (¬ IsOpenOn D f d → mode ≡ None)
@@ -148,8 +136,7 @@ after_dup2 p S E answer = with_released S E p answer.1
 
 pub served_by_dup2 : (old : Machine) (p fd to : ℕ) → IsServedBy (DupsTo old p fd to) (after_dup2 p) (λ answer. replies.Fd answer.0) old p (DupTo fd to)
 unfolding machine_rules
-served_by_dup2 old p fd to S n outcome h =
-    (h.0, h.1, subst (λ limits. DupToGives limits S.descriptors p fd to h.0 h.1) old.limited h.2, h.3)
+served_by_dup2 old p fd to S n outcome h = grind (arith, common_steps)
 
 -- the end of a process, which has no wait
 pub ended : (old new : Machine) (p : ℕ) (released : Released)

@@ -1,10 +1,10 @@
 -- The locks that a release leaves are those of the definition's state: for `Machine::close_fd`, `Machine::dup_to`, `Machine::end` and
 -- `Machine::fork`.
 use Rattle.std.proofs.lemmas.Grind.{common_steps}
-use Rattle.std.proofs.Common.{ℕ, ◌≡◌, ◌<◌, ◌==◌, refl, sym, ◌∙◌, ap, subst, List, [], ◌∷◌, ◌++◌, Some, None, Option, Bool, true, false, get_or, arith, Contains, eq-eqb}
-use Rattle.std.specs.Prelude.{◌&&◌, ◌||◌, if◌then◌else◌, option_map}
+use Rattle.std.proofs.Common.{ℕ, ◌≡◌, ◌<◌, ◌==◌, refl, sym, ◌∙◌, ap, subst, List, [], ◌∷◌, ◌++◌, Some, None, Option, Bool, true, false, get_or, arith, Contains, eq-eqb, ◌&&◌, ◌||◌, if◌then◌else◌, option_map}
+use Rattle.lock_manager.proofs.kept.BookLemmas.{mode_from-append, flock_mode_from-append}
 use Rattle.std.specs.List.{list_any, cons_option}
-use Rattle.std.proofs.lemmas.Bool.{eqb-true, cases_lt, le-leb}
+use Rattle.std.proofs.lemmas.Bool.{eqb-true, cases_lt, le-leb, and_parts, and_right}
 use Rattle.std.proofs.lemmas.Option.{same_Some}
 use Rattle.std.proofs.lemmas.List.Folds.{Any-from_list_any, list_any_at}
 use Rattle.range_core.specs.declared.TheConstants.{OFFMAX}
@@ -13,7 +13,7 @@ use Rattle.range_core.specs.Changes.{is_covered}
 use Rattle.lock_book.specs.declared.Owner.{Owner}
 use Rattle.lock_book.specs.declared.Owner.TheVariants.{Process, Description}
 use Rattle.lock_book.specs.Owners.{is_same_owner}
-use Rattle.lock_book.specs.Changes.{Change, FlockChange, whole_file, sets_byte, mode_from, mode_in, flock_mode_from, flock_mode_in}
+use Rattle.lock_book.specs.Changes.{Change, FlockChange, whole_file, mode_from, mode_in, flock_mode_from, flock_mode_in}
 use Rattle.fd_table.specs.Descriptors.{Descriptors, OpenFileDescription, description_numbered}
 use Rattle.fd_table.specs.Releases.{Released}
 use Rattle.wait_core.specs.Locks.{Locks}
@@ -22,30 +22,9 @@ use Rattle.lock_manager.specs.DescriptorCalls.{process_releases, description_rel
 use Rattle.lock_manager.specs.DescriptionLocks.{IsOpenOn, AreOfOpenDescriptions, AreWithinFiles}
 use Rattle.lock_manager.specs.LockReleases.{is_one_of, is_released, ReleasesLocks}
 use Rattle.lock_manager.proofs.kept.ClosingLemmas.{Closing, one_of, is_member, file_released}
-use Rattle.lock_manager.proofs.kept.SafetyLemmas.{both}
-
--- changes made one list after the other
-mode_from-append : (before : Option Mode) (xs ys : List Change) (f : ℕ) (o : Owner) (byte : ℕ)
-    → mode_from before (xs ++ ys) f o byte ≡ mode_from (mode_from before xs f o byte) ys f o byte
-mode_from-append before [] ys f o byte = refl
-mode_from-append before (x ∷ xs) ys f o byte = mode_from-append (if sets_byte x f o byte then x.mode else before) xs ys f o byte
-
-flock_mode_from-append : (before : Option Mode) (xs ys : List FlockChange) (f d : ℕ)
-    → flock_mode_from before (xs ++ ys) f d ≡ flock_mode_from (flock_mode_from before xs f d) ys f d
-flock_mode_from-append before [] ys f d = refl
-flock_mode_from-append before (x ∷ xs) ys f d =
-    flock_mode_from-append (if (x.file == f) && (x.description == d) then x.mode else before) xs ys f d
-
--- one removal after another
-both_release : (before now : Bool) (old : Option Mode) → (if now then None else (if before then None else old)) ≡ (if before || now then None else old)
-both_release before now old = grind (arith, common_steps)
 
 and_false : (a b : Bool) → (a && false && b) ≡ false
-and_false true b = refl
-and_false false b = refl
-
-or_and : (a b r : Bool) → ((a && r) || (b && r)) ≡ ((a || b) && r)
-or_and a b r = grind (arith, common_steps)
+and_false a b = grind (arith, common_steps)
 
 -- whether the description is of this file
 abbrev is_of_file : Option OpenFileDescription → ℕ → Bool
@@ -62,35 +41,29 @@ process_modes : (p : ℕ) (files : List ℕ) (before : Option Mode) (f : ℕ) (o
     ≡ (if is_one_of files f && is_same_owner (Process p) o && is_covered whole_file byte then None else before)
 process_modes p [] before f o byte = refl
 process_modes p (file ∷ files) before f o byte =
-    let same = is_same_owner (Process p) o in
-    let whole = is_covered whole_file byte in
-    process_modes p files (if (file == f) && same && whole then None else before) f o byte
-    ∙ both_release ((file == f) && same && whole) (is_one_of files f && same && whole) before
-    ∙ ap (λ b. if b then None else before) (or_and ((file == f) && same) (is_one_of files f && same) whole)
-    ∙ ap (λ b. if b && whole then None else before) (or_and (file == f) (is_one_of files f) same)
+    let now = if (file == f) && is_same_owner (Process p) o && is_covered whole_file byte then None else before in
+    grind (arith, common_steps, process_modes p files now f o byte)
 
 -- what the change for one description leaves, where there is such a description, and the changes for others
 one_description : (x : Option OpenFileDescription) (e : ℕ) (rest : List Change) (removed : Bool) (before : Option Mode) (f : ℕ) (o : Owner) (byte : ℕ)
     → ((mode : Option Mode) → mode_from mode rest f o byte ≡ (if removed && is_covered whole_file byte then None else mode))
     → mode_from before (cons_option (option_map (λ x. record { file = x.file; owner = Description e; span = whole_file; mode = None }) x) rest) f o byte
     ≡ (if ((is_of_file x f && is_same_owner (Description e) o) || removed) && is_covered whole_file byte then None else before)
-one_description x e rest removed before f o byte h = grind (arith, common_steps, both_release, or_and)
+one_description x e rest removed before f o byte h = grind (arith, common_steps)
 
 -- what the changes for the descriptions leave
 description_modes : (opened : List OpenFileDescription) (descriptions : List ℕ) (before : Option Mode) (f : ℕ) (o : Owner) (byte : ℕ)
     → mode_from before (description_releases opened descriptions) f o byte
     ≡ (if removes_on opened descriptions f o && is_covered whole_file byte then None else before)
 description_modes opened [] before f o byte = refl
-description_modes opened (e ∷ es) before f o byte =
-    one_description (description_numbered opened e) e (description_releases opened es) (removes_on opened es f o) before f o byte
-    (λ mode. description_modes opened es mode f o byte)
+description_modes opened (e ∷ es) before f o byte = grind (arith, common_steps, one_description, description_modes opened es)
 
 -- the same of flock locks
 one_flock : (x : Option OpenFileDescription) (e : ℕ) (rest : List FlockChange) (removed : Bool) (before : Option Mode) (f d : ℕ)
     → ((mode : Option Mode) → flock_mode_from mode rest f d ≡ (if removed then None else mode))
     → flock_mode_from before (cons_option (option_map (λ x. record { file = x.file; description = e; mode = None }) x) rest) f d
     ≡ (if (is_of_file x f && (e == d)) || removed then None else before)
-one_flock x e rest removed before f d h = grind (arith, common_steps, both_release)
+one_flock x e rest removed before f d h = grind (arith, common_steps)
 
 flock_modes : (opened : List OpenFileDescription) (descriptions : List ℕ) (before : Option Mode) (f d : ℕ)
     → flock_mode_from before (flock_releases opened descriptions) f d ≡ (if removes_on opened descriptions f (Description d) then None else before)
@@ -103,11 +76,7 @@ flock_modes opened (e ∷ es) before f d =
 removes_no_process : (opened : List OpenFileDescription) (descriptions : List ℕ) (f q : ℕ) → removes_on opened descriptions f (Process q) ≡ false
 removes_no_process opened [] f q = refl
 removes_no_process opened (e ∷ es) f q =
-    ap (λ b. b || removes_on opened es f (Process q)) (never (is_of_file (description_numbered opened e) f)) ∙ removes_no_process opened es f q
-  where
-    never : (b : Bool) → (b && false) ≡ false
-    never true = refl
-    never false = refl
+    ap (λ b. b || removes_on opened es f (Process q)) (and_right (is_of_file (description_numbered opened e) f) false refl) ∙ removes_no_process opened es f q
 
 -- past the largest offset, where there is nothing, it doesn't matter what is removed
 whole_or_not : (whole removed : Bool) (mode : Option Mode) → (whole ≡ false → mode ≡ None)
@@ -119,18 +88,13 @@ agree : (more less : Bool) (mode : Option Mode) → (more ≡ true → less ≡ 
     → (if more then None else mode) ≡ (if less then None else mode)
 agree more less mode h h2 = grind (arith, common_steps)
 
-of_file : (x : Option OpenFileDescription) (f : ℕ) → option_map (λ opened. opened.file) x ≡ Some f → is_of_file x f ≡ true
-of_file None f is = absurd (cc)
-of_file (Some x) f is = eq-eqb x.file f (same_Some x.file f is)
-
 file_of : (x : Option OpenFileDescription) (f : ℕ) → is_of_file x f ≡ true → option_map (λ opened. opened.file) x ≡ Some f
-file_of None f is = absurd (cc)
-file_of (Some x) f is = ap Some (eqb-true x.file f is)
+file_of x f is = grind (arith, common_steps, eqb-true)
 
 -- where a description that was closed for good is of the file, its locks are removed from it
 removed_there : (D E : Descriptors) (p : ℕ) (released : Released) (f d : ℕ) → Closing D E p released → IsOpenOn D f d → is_one_of released.descriptions d ≡ true
     → removes_on E.descriptions released.descriptions f (Description d) ≡ true
-removed_there D E p released f d closing is told = grind (arith, common_steps, is_member, of_file, list_any_at, eq-eqb)
+removed_there D E p released f d closing is told = grind (arith, common_steps, is_member, list_any_at, eq-eqb, same_Some)
 
 -- and where they are removed, both it and its file are released
 only_there : (D E : Descriptors) (p : ℕ) (released : Released) (f d : ℕ) → Closing D E p released
@@ -140,7 +104,7 @@ only_there D E p released f d closing removed =
     let any = Any-from_list_any (λ e. is_of_file (description_numbered E.descriptions e) f && (e == d)) released.descriptions removed in
     let e = any.1 in
     let tests : (is_of_file (description_numbered E.descriptions e) f ≡ true) × ((e == d) ≡ true) =
-    both (is_of_file (description_numbered E.descriptions e) f) (e == d) any.4 in
+    and_parts (is_of_file (description_numbered E.descriptions e) f) (e == d) any.4 in
     let same : e ≡ d = eqb-true e d tests.1 in
     let told : Contains released.descriptions d = (any.0, any.2, subst (λ n. get_or released.descriptions any.0 n ≡ n) same any.3) in
     let closed = (closing.are_released.descriptions.each d).0 told in
@@ -175,7 +139,8 @@ bytes_after old new S E p released shown owned within closing releases f o byte 
         → removes_on E.descriptions released.descriptions f (Description d) ≡ false
         → old.bytes f (Description d) byte ≡ None
     spare d told kept = owned.bytes f d
-        (λ is. let removed = removed_there S.descriptors E p released f d closing is (both (is_one_of released.files f) (is_one_of released.descriptions d) told).1 in cc)
+        (λ is. let removed = removed_there S.descriptors E p released f d closing is
+        (and_parts (is_one_of released.files f) (is_one_of released.descriptions d) told).1 in cc)
         byte
 
     at : (o : Owner) → (if is_one_of released.files f && is_released p released.descriptions o then None else old.bytes f o byte)
@@ -213,4 +178,5 @@ flocks_after old new S E p released shown owned closing releases f d =
     spare : (is_one_of released.files f && is_one_of released.descriptions d) ≡ true → removes_on E.descriptions released.descriptions f (Description d) ≡ false
         → old.flocks f d ≡ None
     spare told kept = owned.flocks f d
-        (λ is. let removed = removed_there S.descriptors E p released f d closing is (both (is_one_of released.files f) (is_one_of released.descriptions d) told).1 in cc)
+        (λ is. let removed = removed_there S.descriptors E p released f d closing is
+        (and_parts (is_one_of released.files f) (is_one_of released.descriptions d) told).1 in cc)

@@ -1,9 +1,8 @@
 -- What holds of the machine after a change of one flock lock: for `Machine::change_flock`, `Machine::place_flock` and `Machine::test_flock`.
 use Rattle.std.proofs.lemmas.Grind.{common_steps}
-use Rattle.std.proofs.Common.{ℕ, ◌≡◌, ◌≢◌, ◌<◌, ◌≤◌, refl, sym, ◌∙◌, ap, subst, List, [], ◌∷◌, ◌++◌, length, Some, None, Option, Bool, true, false, arith, Result, OnOk, OnErr}
+use Rattle.std.proofs.Common.{ℕ, ◌≡◌, ◌≢◌, ◌<◌, ◌≤◌, sym, ◌∙◌, ap, subst, List, [], ◌∷◌, ◌++◌, length, Some, None, Option, Bool, true, false, arith, Result, OnOk, OnErr, slice_get, slice_set, ◌==◌, ◌&&◌, if◌then◌else◌, is_some}
 use Rattle.std.proofs.Math.Logic.{∥∥₁_map, ∥∥₁_elim}
-use Rattle.std.proofs.lemmas.Bool.{eqb-true, eq-eqb, or_right}
-use Rattle.std.specs.Prelude.{slice_get, slice_set, ◌==◌, ◌&&◌, ◌||◌, if◌then◌else◌}
+use Rattle.std.proofs.lemmas.Bool.{eqb-true, or_right, and_parts}
 use Rattle.range_core.specs.declared.Memory.{Memory}
 use Rattle.range_core.specs.declared.Mode.{Mode}
 use Rattle.range_core.specs.Ranges.{Conflict, HeldConflicts}
@@ -28,25 +27,17 @@ use Rattle.wait_core.specs.FreeOfCycles.{FreeWhenDescriptionLocksChange}
 use Rattle.lock_manager.specs.declared.machine.Machine.{Machine}
 use Rattle.lock_manager.specs.State.{State, with_flock_mode}
 use Rattle.lock_manager.specs.Safety.{AreCompatible}
-use Rattle.lock_manager.specs.DescriptionLocks.{IsOpenOn, AreOwned, AreWithinFiles, MayLock}
+use Rattle.lock_manager.specs.DescriptionLocks.{IsOpenOn, AreOwned, MayLock}
 use Rattle.lock_manager.specs.MachineView.{Shows, machine_locks, machine_state, machine_waits}
 use Rattle.lock_manager.specs.WaitsKept.{AreKept, AreApart, HaveRoom, has_place_at, SameWaits, StayBlocked}
-use Rattle.lock_manager.proofs.kept.BookLemmas.{slice_get-set, slice_get-set_same, entry_is, same_bytes}
-use Rattle.lock_manager.proofs.kept.SafetyLemmas.{both, conflict_back, same_owner}
+use Rattle.lock_manager.proofs.kept.BookLemmas.{slice_get-set, slice_get-set_same, entry_is, same_bytes, flock_mode_from-append}
+use Rattle.lock_manager.proofs.kept.SafetyLemmas.{conflict_back, same_owner}
 use Rattle.lock_manager.proofs.kept.OwnedLemmas.{none_but_set}
 use Rattle.lock_manager.proofs.kept.WaitLemmas.{told_by_bytes, room_with, same_room, KeepsLocks, keeps_same}
 use Rattle.lock_manager.proofs.kept.SuspendLemmas.{counted}
-use Rattle.std.specs.Option.{is_some}
 use Rattle.std.proofs.lemmas.List.Folds.{list_any-append}
 use Rattle.wait_core.specs.declared.Family.{Family}
 use Rattle.wait_core.specs.declared.Family.TheVariants.{Bytes, Whole}
-
--- the flock locks of a book that was changed, or of another one
-flocks_at : (is_it : Bool) (entry : Option Book) (old new : Book) (description : ℕ) (mode : Option Mode) (d : ℕ) → (is_it ≡ true → entry ≡ Some old)
-    → SetsFlock old new description mode
-    → flock_modes_at (if is_it then Some new else entry) d ≡ (if is_it && (description == d) then mode else flock_modes_at entry d)
-flocks_at true entry old new description mode d was sets = sets.flocks d ∙ ap (λ e. if description == d then mode else flock_modes_at e d) (sym (was refl))
-flocks_at false entry old new description mode d was sets = refl
 
 -- all byte locks stay
 flock_set_bytes : (books : List Book) (file : ℕ) (old new : Book) (description : ℕ) (mode : Option Mode)
@@ -59,19 +50,17 @@ flock_set_bytes books file old new description mode within was sets f o byte =
 flock_set_flocks : (books : List Book) (file : ℕ) (old new : Book) (description : ℕ) (mode : Option Mode)
     → file < length books → slice_get books file ≡ Some old → SetsFlock old new description mode
     → (f d : ℕ) → (locks_of (slice_set books file new)).flocks f d ≡ (if (file == f) && (description == d) then mode else (locks_of books).flocks f d)
-flock_set_flocks books file old new description mode within was sets f d = grind (arith, common_steps, slice_get-set, flocks_at, entry_is)
+flock_set_flocks books file old new description mode within was sets f d = grind (arith, common_steps, slice_get-set, entry_is)
 
 -- one more change counts where it is of this description on this file
 flock_mode_from-push : (before : Option Mode) (changes : List FlockChange) (change : FlockChange) (file description : ℕ)
     → flock_mode_from before (changes ++ change ∷ []) file description
     ≡ (if (change.file == file) && (change.description == description) then change.mode else flock_mode_from before changes file description)
-flock_mode_from-push before [] change file description = refl
-flock_mode_from-push before (first ∷ changes) change file description =
-    flock_mode_from-push (if (first.file == file) && (first.description == description) then first.mode else before) changes change file description
+flock_mode_from-push before changes change file description = flock_mode_from-append before changes (change ∷ []) file description
 
 -- the file and the description that a change is of
 is_of : (file description f d : ℕ) → ((file == f) && (description == d)) ≡ true → (file ≡ f) × (description ≡ d)
-is_of file description f d e = grind (arith, common_steps, both, eqb-true)
+is_of file description f d e = grind (arith, common_steps, and_parts, eqb-true)
 
 -- of two descriptions with conflicting modes after a change, neither is the one that changed without standing against the other before
 no_conflict : (locks : Locks) (file description : ℕ) (mode : Option Mode) → AreCompatible locks
@@ -147,24 +136,20 @@ kept_by_flock all m books waits file old new description mode is within was may 
     let list = waits_of m.waits in
     let bytes = flock_set_bytes before file old new description mode within was sets in
     let flocks = flock_set_flocks before file old new description mode within was sets in
-    record {
-      compatible = subst (λ bs. AreCompatible (locks_of bs)) (sym is) (compatible_flock (locks_of before) (locks_of after) file description mode m.kept.compatible free bytes flocks);
-      owned = subst (λ bs. AreOwned m.tables (locks_of bs) (waits_of waits)) (sym is)
-          (subst (AreOwned m.tables (locks_of after)) (sym waits_same.waits)
-          (owned_flock m.tables list (locks_of before) (locks_of after) file description mode may bytes flocks m.kept.owned));
-      within = subst (λ bs. AreWithinFiles (locks_of bs)) (sym is) (λ f o byte past. bytes f o byte ∙ m.kept.within f o byte past);
-      told = subst (λ bs. ∥ AreTold waits (locks_of bs) ∥₁) (sym is)
-          (∥∥₁_map m.kept.told (λ known. told (locks_of after) (told_by_bytes m.waits (locks_of before) (locks_of after) bytes known)));
-      blocked = subst (λ bs. ∥ AreBlockedElsewhere waits (locks_of bs) ∥₁) (sym is)
-          (∥∥₁_map m.kept.blocked blocked);
+    subst (λ bs. AreKept m.rules.policy m.tables bs waits) (sym is) (record {
+      compatible = compatible_flock (locks_of before) (locks_of after) file description mode m.kept.compatible free bytes flocks;
+      owned = subst (AreOwned m.tables (locks_of after)) (sym waits_same.waits)
+          (owned_flock m.tables list (locks_of before) (locks_of after) file description mode may bytes flocks m.kept.owned);
+      within = λ f o byte past. bytes f o byte ∙ m.kept.within f o byte past;
+      told = ∥∥₁_map m.kept.told (λ known. told (locks_of after) (told_by_bytes m.waits (locks_of before) (locks_of after) bytes known));
+      blocked = ∥∥₁_map m.kept.blocked blocked;
       apart = subst AreApart (sym waits_same.waits) m.kept.apart;
-      room = subst (λ bs. HaveRoom bs (waits_of waits)) (sym is)
-          (subst (HaveRoom after) (sym waits_same.waits)
-          (room_with before list file old new within was (λ o. same_room (room_in old o) (room_in new o) (sets.rooms o)) (flock_place_kept old new description mode sets) m.kept.room));
-      free_of_cycles = subst (λ bs. IsFreeOfCycles m.rules.policy (locks_of bs) (waits_of waits)) (sym is)
-          (subst (IsFreeOfCycles m.rules.policy (locks_of after)) (sym waits_same.waits)
-          (all m.rules.policy (locks_of before) (locks_of after) list m.kept.free_of_cycles (λ f q byte. bytes f (Process q) byte)));
-    }
+      room = subst (HaveRoom after) (sym waits_same.waits)
+          (room_with before list file old new within was (λ o. same_room (room_in old o) (room_in new o) (sets.rooms o))
+          (flock_place_kept old new description mode sets) m.kept.room);
+      free_of_cycles = subst (IsFreeOfCycles m.rules.policy (locks_of after)) (sym waits_same.waits)
+          (all m.rules.policy (locks_of before) (locks_of after) list m.kept.free_of_cycles (λ f q byte. bytes f (Process q) byte));
+    })
 
 -- the machine shows the state with the changed flock lock
 pub with_flock_change : (old new : Machine) (S : State) (file : ℕ) (book changed : Book) (description : ℕ) (mode : Option Mode)
@@ -177,14 +162,12 @@ with_flock_change old new S file book changed description mode books tables stat
     grind (arith, common_steps, flock_set_bytes, flock_set_flocks, flock_mode_from-push)
 
 pub none_from_test : (mode : Option Mode) → is_some mode ≡ false → mode ≡ None
-none_from_test None test = refl
-none_from_test (Some mode) test = (let differ : true ≡ false = test in cc)
+none_from_test mode test = grind (arith, common_steps)
 
 -- a lock that conflicts stands where there was none only if it stood there before
 conflict_still : (is_it : Bool) (mode held : Option Mode) (wanted : Mode) → (is_it ≡ true → held ≡ None) → HeldConflicts held wanted
     → HeldConflicts (if is_it then mode else held) wanted
-conflict_still true mode held wanted none conflict = absurd (subst (λ h. HeldConflicts h wanted) (none refl) conflict)
-conflict_still false mode held wanted none conflict = conflict
+conflict_still is_it mode held wanted none conflict = grind (arith, common_steps)
 
 -- where a description without a flock lock gets one, or none, whoever was blocked stays so
 pub flock_frees_none : (books : List Book) (file : ℕ) (old new : Book) (description : ℕ) (mode : Option Mode)
@@ -233,17 +216,15 @@ place_taken old new description result h h2 = grind (arith, common_steps, same_r
 pub placed : (before books : List Book) (file : ℕ) (old new : Book) (description : ℕ) (result : Result (Unit {0}) Memory)
     → books ≡ slice_set before file new → file < length before
     → OnOk result (ReservesFlock old new description) → OnOk result (has_place_at (slice_get books file) description ≡ true)
-placed before books file old new description result h h2 h3 = grind (arith, common_steps, slice_get-set_same, eq-eqb)
+placed before books file old new description result h h2 h3 = grind (arith, common_steps, slice_get-set_same)
 
 -- the room for a flock lock that is waited for is its place
 pub room_joined_flock : (books : List Book) (waits : List Wait) (wait : Wait) (description : ℕ) → wait.family ≡ Whole → wait.owner ≡ Description description
     → has_place_at (slice_get books wait.file) description ≡ true → HaveRoom books waits → HaveRoom books (waits ++ wait ∷ [])
-room_joined_flock books waits wait description family owner there h = grind (arith, common_steps, counted, both, eqb-true, same_owner, list_any-append)
+room_joined_flock books waits wait description family owner there h = grind (arith, common_steps, counted, and_parts, eqb-true, same_owner, list_any-append)
 
 -- a request for a flock lock of a process that there is, on a file that there is, can be asked for
 pub well_formed_flock : {processes : ℕ} (wanted : Wait) (look : Look) → wanted ≡ wanted_flock wanted.p wanted.n look wanted.mode → 1 ≤ wanted.p
     → wanted.p ≤ processes → look.file < 64
     → IsWellFormed processes wanted
-well_formed_flock {processes} wanted look is one most file =
-    subst (λ w. IsWellFormed processes w) (sym is)
-    (record { from_one = one; process = most; file = file; range = (omega arith, omega arith); owner = refl })
+well_formed_flock wanted look is one most file = grind (arith, common_steps)

@@ -1,16 +1,14 @@
 -- What a call that closes descriptors leaves open, and what it releases: for `Machine::close_fd`, `Machine::dup_to` and `Machine::end`.
 use Rattle.std.proofs.lemmas.Grind.{common_steps}
-use Rattle.std.proofs.Common.{ℕ, ◌≡◌, ◌==◌, refl, sym, ◌∙◌, ap, List, Bool, true, false, Ok, Contains, get_or, eq-eqb, arith}
-use Rattle.std.proofs.lemmas.Bool.{eqb-true}
+use Rattle.std.proofs.Common.{ℕ, ◌≡◌, ◌==◌, refl, sym, ◌∙◌, ap, List, Bool, true, false, Ok, Contains, get_or, eq-eqb, arith, eqb-true, ◌&&◌}
+use Rattle.std.proofs.lemmas.Bool.{and_parts}
 use Rattle.std.proofs.lemmas.List.Folds.{Any-from_list_any, list_any_at}
-use Rattle.std.specs.Prelude.{◌&&◌}
 use Rattle.fd_table.specs.Releases.{Released, ClosesFile, AreReleased, nothing}
 use Rattle.fd_table.specs.declared.Limits.{Limits}
 use Rattle.fd_table.specs.Descriptors.{Descriptors, IsOpen, SameDescriptors, without_descriptors}
 use Rattle.fd_table.specs.Calls.{CloseGives, DupToGives, EndGives}
 use Rattle.lock_manager.specs.DescriptionLocks.{IsOpenOn}
 use Rattle.lock_manager.specs.LockReleases.{is_one_of}
-use Rattle.lock_manager.proofs.kept.SafetyLemmas.{both}
 
 -- a member of the list is found
 pub one_of : (numbers : List ℕ) (number : ℕ) → Contains numbers number → is_one_of numbers number ≡ true
@@ -47,13 +45,7 @@ nothing_closes D E p same =
       closed = λ k. false;
       kept = λ q k other. same.description_of q k;
       descriptions = same.descriptions;
-      are_released = record {
-        files = record { rising = λ k within. absurd (omega arith); each = λ x. (λ h. absurd (omega (arith, h.1)), λ h. absurd (let e : false ≡ true = h.is_closed in cc)) };
-        descriptions = record {
-          rising = λ k within. absurd (omega arith);
-          each = λ x. (λ h. absurd (omega (arith, h.1)), λ h. absurd (h.1 (record { process = h.0.process; fd = h.0.fd; refers = same.description_of h.0.process h.0.fd ∙ h.0.refers })));
-        };
-      };
+      are_released = grind (arith, common_steps);
     }
 
 -- dup2
@@ -77,7 +69,7 @@ file_released D E p released f d closing is gone =
     at true e =
         let q = is.is_open.process in
         let k = is.is_open.fd in
-        let place : ((q == p) ≡ true) × (closing.closed k ≡ true) = both (q == p) (closing.closed k) e in
+        let place : ((q == p) ≡ true) × (closing.closed k ≡ true) = and_parts (q == p) (closing.closed k) e in
         record {
           fd = k;
           is_closed = place.1;

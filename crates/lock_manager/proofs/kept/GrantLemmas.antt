@@ -1,12 +1,11 @@
 -- A wait that is granted leaves the list, and its owner has the lock: for `Machine::grant_bytes` and `Machine::grant_flock`.
 use Rattle.std.proofs.lemmas.Grind.{common_steps}
-use Rattle.std.proofs.Common.{ℕ, suc, ◌≡◌, ◌≢◌, ◌<◌, ◌≤◌, ◌+◌, refl, sym, ◌∙◌, ap, subst, List, [], ◌∷◌, ◌++◌, length, get_or, Some, Bool, true, false, inl, inr, arith}
+use Rattle.std.proofs.Common.{ℕ, suc, ◌≡◌, ◌<◌, ◌≤◌, ◌+◌, refl, sym, ◌∙◌, ap, subst, List, [], ◌∷◌, ◌++◌, length, Some, Bool, true, inl, inr, arith, eqb-true, eq-eqb, slice_get, slice_set, filter, length-append}
+use Rattle.std.proofs.lemmas.Bool.{cases_Bool}
+use Rattle.std.proofs.Math.Seq.{get_or-append_seam}
 use Rattle.std.proofs.Math.Logic.{∥∥₁_elim, ∥∥₁_map}
-use Rattle.std.proofs.lemmas.Bool.{eqb-true, eq-eqb}
 use Rattle.std.proofs.lemmas.Bool.Decides.{eqb_tells}
 use Rattle.std.proofs.lemmas.Option.{same_Some}
-use Rattle.std.specs.Prelude.{◌==◌, if◌then◌else◌, slice_get, slice_set}
-use Rattle.std.specs.List.{filter}
 use Rattle.lock_book.specs.declared.Owner.{Owner}
 use Rattle.lock_book.specs.declared.Owner.TheVariants.{Process, Description}
 use Rattle.lock_book.specs.declared.book.Book.{Book}
@@ -35,19 +34,7 @@ pub one_fewer : (test : Wait → Bool) (waits : List Wait) (p : ℕ) (wait : Wai
     → length (filter test (without_wait_of waits p)) + 1 ≤ length (filter test waits)
 one_fewer test [] p wait found passes = absurd (cc)
 one_fewer test (first ∷ rest) p wait found passes =
-    at (first.p == p) (test first) refl refl (λ there. one_fewer test rest p wait there passes)
-  where
-    at : (a b : Bool) → (first.p == p) ≡ a → test first ≡ b
-        → (wait_of rest p ≡ Some wait → length (filter test (without_wait_of rest p)) + 1 ≤ length (filter test rest))
-        → length (filter test (without_wait_of (first ∷ rest) p)) + 1 ≤ length (filter test (first ∷ rest))
-    at true true e k before = rw (e, k) (let n = counted_without test rest p in omega arith)
-    at true false e k before =
-        let is : first ≡ wait = same_Some first wait (subst (λ b. (if b then Some first else wait_of rest p) ≡ Some wait) e found) in
-        absurd (let no : true ≡ false = sym passes ∙ ap test (sym is) ∙ k in cc)
-    at false true e k before =
-        let fewer = before (subst (λ b. (if b then Some first else wait_of rest p) ≡ Some wait) e found) in rw (e, k) (omega (arith, fewer))
-    at false false e k before =
-        let fewer = before (subst (λ b. (if b then Some first else wait_of rest p) ≡ Some wait) e found) in rw (e, k) fewer
+    grind (arith, common_steps, eqb_tells, cases_Bool, same_Some, counted_without test rest p, one_fewer test rest p wait)
 
 -- a wait for a byte lock is one for a lock of its owner on its file
 is_its_own : (wait : Wait) → wait.family ≡ Bytes → is_byte_wait wait.file wait.owner wait ≡ true
@@ -94,26 +81,13 @@ owner_granted tables locks waits wait owned found q is = elim (eqb_tells q wait.
 -- without the wait between these others these are left
 pub without_middle : (before : List Wait) (wait : Wait) (after : List Wait) → AreApart (before ++ wait ∷ after)
     → without_wait_of (before ++ wait ∷ after) wait.p ≡ before ++ after
-without_middle [] wait after apart = elim (eqb_tells wait.p wait.p) [
-  | inl same ↦ rw same.0 (without_absent after wait.p (λ k d within e. apart 0 (suc k) d (omega arith) (omega (arith, within)) (sym e)))
-  | inr other ↦ absurd (other.1 refl)
-]
+without_middle [] wait after apart =
+    grind (arith, common_steps, eqb_tells, without_absent after wait.p (λ k d within e. apart 0 (suc k) d (omega arith) (omega (arith, within)) (sym e)))
 without_middle (first ∷ before) wait after apart = elim (eqb_tells first.p wait.p) [
-  | inl same ↦ absurd (apart_from_middle same.1)
+  | inl same ↦ absurd (apart 0 (suc (length before)) wait (omega arith) (omega (arith, length-append before (wait ∷ after)))
+      (same.1 ∙ ap (λ (w : Wait). w.p) (sym (get_or-append_seam before wait after wait))))
   | inr other ↦ rw other.0 (ap (λ ws. first ∷ ws) (without_middle before wait after (λ i j d less within. apart (suc i) (suc j) d (omega (arith, less)) (omega (arith, within)))))
 ]
-  where
-    at_middle : (bs : List Wait) (d : Wait) → get_or (bs ++ wait ∷ after) (length bs) d ≡ wait
-    at_middle [] d = refl
-    at_middle (b ∷ bs) d = at_middle bs d
-
-    inside : (bs : List Wait) → length bs < length (bs ++ wait ∷ after)
-    inside [] = omega arith
-    inside (b ∷ bs) = let rest = inside bs in omega (arith, rest)
-
-    apart_from_middle : first.p ≢ wait.p
-    apart_from_middle e =
-        apart 0 (suc (length before)) wait (omega arith) (let in_rest = inside before in omega (arith, in_rest)) (e ∙ ap (λ (w : Wait). w.p) (sym (at_middle before wait)))
 
 -- a machine that shows the state without the wait and with its lock shows what is granted
 pub shows_granted : (machine : Machine) (S : State) (before : List Wait) (wait : Wait) (after : List Wait) → wait.family ≡ Bytes → AreApart S.waits

@@ -1,9 +1,8 @@
 -- What holds of the machine at every moment, after a change of one book and after a release: for `Machine::change`, `Machine::close_fd`,
 -- `Machine::dup_to` and others.
 use Rattle.std.proofs.lemmas.Grind.{common_steps}
-use Rattle.std.proofs.Common.{ℕ, ◌≡◌, ◌≢◌, ◌<◌, ◌≤◌, sym, arith, ◌∙◌, subst, true, List, length, Some, Option, All, Result, OnOk, OnErr}
+use Rattle.std.proofs.Common.{ℕ, ◌≡◌, ◌≢◌, ◌<◌, ◌≤◌, sym, arith, ◌∙◌, subst, List, length, Some, Option, All, Result, OnOk, OnErr, ◌==◌, ◌&&◌, if◌then◌else◌, slice_get, slice_set}
 use Rattle.std.proofs.Math.Logic.{∥∥₁_map}
-use Rattle.std.specs.Prelude.{◌==◌, ◌&&◌, if◌then◌else◌, slice_get, slice_set}
 use Rattle.std.proofs.lemmas.Bool.{cases_Bool, cases_eq, eqb-true}
 use Rattle.std.proofs.lemmas.Bool.Decides.{nat_tests}
 use Rattle.range_core.specs.declared.Memory.{Memory}
@@ -32,8 +31,7 @@ use Rattle.wait_core.specs.FreeOfCycles.{FreeWhenLocksChange, FreeWhenDescriptio
 use Rattle.lock_manager.specs.declared.machine.Machine.{Machine}
 use Rattle.lock_manager.specs.declared.request.ProcState.TheVariants.{Live}
 use Rattle.lock_manager.specs.State.{state_numbered}
-use Rattle.lock_manager.specs.Safety.{AreCompatible}
-use Rattle.lock_manager.specs.DescriptionLocks.{AreOwned, AreWithinFiles, MayLock}
+use Rattle.lock_manager.specs.DescriptionLocks.{AreOwned, MayLock}
 use Rattle.lock_manager.specs.LockReleases.{ReleasesInBook, ReleasesLocks, ReleasesRoom}
 use Rattle.lock_manager.specs.WaitsKept.{AreKept, AreApart, HaveRoom, SameWaits, StayKnown}
 use Rattle.lock_manager.proofs.kept.BookLemmas.{after_set, slice_get-set_same, slice_get-set_other}
@@ -44,14 +42,10 @@ use Rattle.lock_manager.proofs.kept.AfterCloseLemmas.{compatible_released, owned
 use Rattle.lock_manager.proofs.kept.WaitLemmas.{waits_of_others, not_owned_by, agree_elsewhere, free_after, room_after}
 use Rattle.lock_manager.proofs.kept.WaitCloseLemmas.{none_of_released, room_released}
 
--- a byte that is tested to lie in a range does
-covers_by_test : (span : Span) (byte : ℕ) → is_covered span byte ≡ true → Covers span byte
-covers_by_test span byte test = (grind (arith, nat_tests), grind (arith, nat_tests))
-
 -- a set by the owner changes no other traditional lock, nor one of its own on other bytes
 set_apart : (file f q byte : ℕ) (owner : Owner) (span : Span) (mode before : Option Mode) → ¬ ((f ≡ file) × (Process q ≡ owner) × Covers span byte)
     → (if (file == f) && is_same_owner owner (Process q) && is_covered span byte then mode else before) ≡ before
-set_apart file f q byte owner span mode before apart = grind (arith, common_steps, cases_Bool, eqb-true, same_owner, covers_by_test)
+set_apart file f q byte owner span mode before apart = grind (arith, common_steps, cases_Bool, eqb-true, same_owner, nat_tests)
 
 pub owner_alone : (books : List Book) (file : ℕ) (old new : Book) (owner : Owner) (span : Span) (mode : Option Mode) (result : Result (Unit {0}) Memory)
     → file < length books → slice_get books file ≡ Some old → OnOk result (SetsOwnerMode old new owner span mode) → OnErr result (SameBook old new)
@@ -94,25 +88,24 @@ kept_in_room one all m books waits file old new owner span mode result is within
     let before = m.books.items in
     let after = slice_set before file new in
     let list = waits_of m.waits in
-    let still = known (subst (λ bs. AgreeElsewhere file (locks_of before) (locks_of bs)) (sym is) (agree_elsewhere before file new))
-    (subst (λ bs. AgreeButOwner file owner span (locks_of before) (locks_of bs)) (sym is) (owner_alone before file old new owner span mode result within was sets same)) in
+    let still : StayKnown m.waits waits (locks_of before) (locks_of after) = subst (λ bs. StayKnown m.waits waits (locks_of before) (locks_of bs)) is
+    (known (subst (λ bs. AgreeElsewhere file (locks_of before) (locks_of bs)) (sym is) (agree_elsewhere before file new))
+    (subst (λ bs. AgreeButOwner file owner span (locks_of before) (locks_of bs)) (sym is)
+    (owner_alone before file old new owner span mode result within was sets same))) in
     let idle : (p : ℕ) → owner ≡ Process p → All (λ wait. wait.owner ≢ Process p) list =
     λ p e. not_owned_by m.tables (locks_of before) list p m.kept.owned (waits_of_others m.tables m.states.items list p m.standing.suspended (live p e)) in
-    record {
-      compatible = subst (λ bs. AreCompatible (locks_of bs)) (sym is) (compatible_after before file old new owner span mode result within was free sets same m.kept.compatible);
-      owned = subst (λ bs. AreOwned m.tables (locks_of bs) (waits_of waits)) (sym is)
-          (subst (λ ws. AreOwned m.tables (locks_of after) ws) (sym waits_same.waits)
-          (owned_set m.tables list before file old new owner span mode result within was may sets same m.kept.owned));
-      within = subst (λ bs. AreWithinFiles (locks_of bs)) (sym is) (within_files_set before file old new owner span mode result within was range sets same m.kept.within);
+    subst (λ bs. AreKept m.rules.policy m.tables bs waits) (sym is) (record {
+      compatible = compatible_after before file old new owner span mode result within was free sets same m.kept.compatible;
+      owned = subst (AreOwned m.tables (locks_of after)) (sym waits_same.waits)
+          (owned_set m.tables list before file old new owner span mode result within was may sets same m.kept.owned);
+      within = within_files_set before file old new owner span mode result within was range sets same m.kept.within;
       told = ∥∥₁_map m.kept.told still.told;
       blocked = ∥∥₁_map m.kept.blocked still.blocked;
       apart = subst AreApart (sym waits_same.waits) m.kept.apart;
-      room = subst (λ bs. HaveRoom bs (waits_of waits)) (sym is)
-          (subst (HaveRoom after) (sym waits_same.waits) room);
-      free_of_cycles = subst (λ bs. IsFreeOfCycles m.rules.policy (locks_of bs) (waits_of waits)) (sym is)
-          (subst (IsFreeOfCycles m.rules.policy (locks_of after)) (sym waits_same.waits)
-          (free_after one all m.rules.policy list before file old new owner span mode result within was idle sets same m.kept.free_of_cycles));
-    }
+      room = subst (HaveRoom after) (sym waits_same.waits) room;
+      free_of_cycles = subst (IsFreeOfCycles m.rules.policy (locks_of after)) (sym waits_same.waits)
+          (free_after one all m.rules.policy list before file old new owner span mode result within was idle sets same m.kept.free_of_cycles);
+    })
 
 -- so it does where the change takes no room
 pub kept_by_change : FreeWhenLocksChange → FreeWhenDescriptionLocksChange

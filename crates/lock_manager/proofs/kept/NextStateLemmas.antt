@@ -1,7 +1,6 @@
 -- From one machine and a state that it stands for to the next: for `Machine::change`, `Machine::dup`, `Machine::fork` and others.
-use Rattle.std.proofs.Common.{arith, ℕ, ◌≡◌, ◌<◌, refl, sym, ◌∙◌, ap, subst, Option, Some, length, List, [], All, true}
+use Rattle.std.proofs.Common.{arith, ℕ, ◌≡◌, ◌<◌, refl, sym, ◌∙◌, ap, subst, Option, Some, length, List, [], All, true, slice_get, slice_set, ◌==◌, if◌then◌else◌}
 use Rattle.std.proofs.lemmas.Grind.{common_steps}
-use Rattle.std.specs.Prelude.{slice_get, slice_set, ◌==◌, if◌then◌else◌}
 use Rattle.range_core.specs.declared.Mode.{Mode}
 use Rattle.range_core.specs.declared.Span.{Span}
 use Rattle.lock_book.specs.declared.Owner.{Owner}

@@ -1,18 +1,17 @@
 -- Only descriptions that some descriptor refers to have locks, each on its own file, and only processes wait for them that have them open: for
 -- `Machine::new`.
 use Rattle.std.proofs.lemmas.Grind.{common_steps}
-use Rattle.std.proofs.Common.{ℕ, ◌≡◌, ◌<◌, refl, sym, ◌∙◌, subst, List, [], length, Some, None, Option, Bool, true, false, Result, OnOk, OnErr, All, arith}
+use Rattle.std.proofs.Common.{ℕ, ◌≡◌, ◌<◌, refl, sym, ◌∙◌, subst, List, [], length, Some, None, Option, Bool, true, Result, OnOk, OnErr, All, arith, ◌==◌, ◌&&◌, if◌then◌else◌, slice_get, slice_set, option_map}
 use Rattle.std.proofs.Math.Logic.{∥∥₁_map, ∥∥₁_elim}
 use Rattle.std.proofs.lemmas.Option.{same_Some}
 use Rattle.std.proofs.lemmas.List.Elements.{All-nil}
-use Rattle.std.specs.Prelude.{◌==◌, ◌&&◌, if◌then◌else◌, slice_get, slice_set, option_map}
 use Rattle.range_core.specs.declared.Memory.{Memory}
 use Rattle.range_core.specs.declared.Mode.{Mode}
 use Rattle.range_core.specs.declared.Span.{Span}
 use Rattle.range_core.specs.Ranges.{IsByteRange}
 use Rattle.range_core.specs.Changes.{is_covered}
 use Rattle.lock_book.specs.declared.Owner.{Owner}
-use Rattle.lock_book.specs.declared.Owner.TheVariants.{Process, Description}
+use Rattle.lock_book.specs.declared.Owner.TheVariants.{Description}
 use Rattle.lock_book.specs.declared.book.Book.{Book}
 use Rattle.lock_book.specs.Owners.{is_same_owner}
 use Rattle.lock_book.specs.Books.{SetsOwnerMode, SameBook}
@@ -39,8 +38,7 @@ still_open D E stay file d is =
 -- who may wait still may, where what its process has open stays so
 pub may_wait_more : (D E : Descriptors) (wait : Wait) (owner : Owner) → ((file d : ℕ) → HasOpenOn D wait.p file d → HasOpenOn E wait.p file d)
     → MayWaitAs D wait owner → MayWaitAs E wait owner
-may_wait_more D E wait (Process q) stay may = may
-may_wait_more D E wait (Description d) stay may = stay wait.file d may
+may_wait_more D E wait owner stay may = grind (arith, common_steps)
 
 holders_more : (D E : Descriptors) (waits : List Wait) → StayOpen D E → AreOfHolders D waits → AreOfHolders E waits
 holders_more D E waits stay h k d within = grind (arith, common_steps, may_wait_more)
@@ -83,12 +81,9 @@ owned_in tables locks waits E owned stands =
 pub owned_after : (old new : Tables) (locks : Locks) (waits : List Wait) → AreOwned old locks waits
     → ((D : Descriptors) → StandFor old D → (E : Descriptors) × StayOpen D E × StandFor new E) → AreOwned new locks waits
 owned_after old new locks waits owned call =
-    ∥∥₁_map owned (λ given. let after = call given.0 given.1 in (
-      after.0,
-      after.2,
-      owned_more given.0 after.0 locks after.1 given.2,
-      holders_more given.0 after.0 waits after.1 given.3,
-    ))
+    ∥∥₁_map owned (λ given.
+    let after = call given.0 given.1 in
+    (after.0, after.2, owned_more given.0 after.0 locks after.1 given.2, holders_more given.0 after.0 waits after.1 given.3))
 
 -- who may lock the file has the file open
 may_lock_on : (tables : Tables) (file : ℕ) (owner : Owner) (D : Descriptors) (d : ℕ) → StandFor tables D → MayLock tables file owner
@@ -97,8 +92,7 @@ may_lock_on tables file owner D d h h2 h3 = grind (arith, common_steps)
 
 -- a mode that is set, or else what was none, is none
 pub none_but_set : (is_it : Bool) (mode before : Option Mode) → (is_it ≡ true → ⊥) → before ≡ None → (if is_it then mode else before) ≡ None
-none_but_set true mode before not_it none = absurd (not_it refl)
-none_but_set false mode before not_it none = none
+none_but_set is_it mode before not_it none = grind (arith, common_steps)
 
 -- one book's change by who may lock the file, refused or not
 pub owned_set : (tables : Tables) (waits : List Wait) (books : List Book) (file : ℕ) (old new : Book) (owner : Owner) (span : Span)

@@ -1,8 +1,7 @@
 -- What the loops that release locks have done so far: for `release`.
-use Rattle.std.proofs.Common.{arith, ℕ, ◌≡◌, ◌+◌, ◌<◌, refl, sym, ◌∙◌, ap, List, length, take, get_or, Some, Option, Bool, true, false}
+use Rattle.std.proofs.Common.{arith, ℕ, ◌≡◌, ◌+◌, ◌<◌, sym, ◌∙◌, ap, List, length, take, get_or, Some, ◌==◌, ◌||◌, slice_get, slice_set}
 use Rattle.std.proofs.lemmas.Grind.{common_steps}
 use Rattle.std.proofs.lemmas.List.Folds.{list_any_more}
-use Rattle.std.specs.Prelude.{◌==◌, ◌&&◌, ◌||◌, if◌then◌else◌, slice_get, slice_set}
 use Rattle.lock_book.specs.declared.book.Book.{Book}
 use Rattle.wait_core.specs.Locks.{locks_of}
 use Rattle.lock_manager.specs.LockReleases.{is_one_of, ReleasesInBook, ReleasesLocks, ReleasesRoom}
@@ -12,22 +11,6 @@ use Rattle.lock_manager.proofs.kept.BookLemmas.{slice_get-set, entry_is}
 one_more : (numbers : List ℕ) (i d number : ℕ) → i < length numbers
     → is_one_of (take (i + 1) numbers) number ≡ (is_one_of (take i numbers) number || (get_or numbers i d == number))
 one_more numbers i d number within = list_any_more (λ other. other == number) numbers i d within
-
--- what is read of the entry of one more file, or of another one
-entry_more : {X : Type 0} (read : Option Book → X) (gone : X) (is_it before now : Bool) (entry : Option Book) (book new : Book) (old : X)
-    → (is_it ≡ true → entry ≡ Some book)
-    → read (Some new) ≡ (if now then gone else read (Some book))
-    → read entry ≡ (if before && now then gone else old)
-    → read (if is_it then Some new else entry) ≡ (if (before || is_it) && now then gone else old)
-entry_more {X} read gone true before now entry book new old was releases is = at before now (releases ∙ ap (λ m. if now then gone else m) (ap read (sym (was refl)) ∙ is))
-  where
-    at : (a b : Bool) → read (Some new) ≡ (if b then gone else (if a && b then gone else old)) → read (Some new) ≡ (if (a || true) && b then gone else old)
-    at true true e = e
-    at true false e = e
-    at false true e = e
-    at false false e = e
-entry_more read gone false true now entry book new old was releases is = is
-entry_more read gone false false now entry book new old was releases is = is
 
 -- the files so far and one more
 files_more : (files : List ℕ) (i d file f : ℕ) → i < length files → get_or files i d ≡ file
@@ -40,7 +23,7 @@ pub released_file : (old books : List Book) (book new : Book) (p : ℕ) (files d
     → ReleasesLocks (locks_of old) (locks_of books) p (take i files) descriptions → ReleasesInBook book new p descriptions
     → ReleasesLocks (locks_of old) (locks_of (slice_set books file new)) p (take (i + 1) files) descriptions
 released_file old books book new p files descriptions i d file inside is within was before releases =
-    grind (arith, common_steps, slice_get-set, entry_more, entry_is, files_more)
+    grind (arith, common_steps, slice_get-set, entry_is, files_more)
 
 -- and its room
 pub released_room : (old books : List Book) (book new : Book) (p : ℕ) (files descriptions : List ℕ) (i d file : ℕ) → i < length files → get_or files i d ≡ file
@@ -48,4 +31,4 @@ pub released_room : (old books : List Book) (book new : Book) (p : ℕ) (files d
     → ReleasesRoom old books p (take i files) descriptions → ReleasesInBook book new p descriptions
     → ReleasesRoom old (slice_set books file new) p (take (i + 1) files) descriptions
 released_room old books book new p files descriptions i d file inside is within was before releases =
-    grind (arith, common_steps, slice_get-set, entry_more, entry_is, files_more)
+    grind (arith, common_steps, slice_get-set, entry_is, files_more)

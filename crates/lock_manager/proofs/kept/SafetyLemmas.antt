@@ -1,18 +1,16 @@
 -- No owners conflict after a change that nothing blocked: for `Machine::new`.
-use Rattle.std.proofs.Common.{arith, ℕ, ◌≡◌, ◌≢◌, ◌<◌, refl, sym, ◌∙◌, ap, subst, List, [], ◌∷◌, ◌++◌, Some, Option, Bool, true, false, All}
+use Rattle.std.proofs.Common.{arith, ℕ, ◌≡◌, ◌≢◌, ◌<◌, sym, ◌∙◌, ap, subst, List, [], ◌∷◌, ◌++◌, Some, Option, Bool, true, false, All, ◌==◌, ◌&&◌, if◌then◌else◌, slice_get, slice_set, Result, OnOk, OnErr, length, eqb-true, eq-eqb, leb-true}
+use Rattle.std.proofs.lemmas.Bool.{and_parts}
 use Rattle.std.proofs.lemmas.Grind.{common_steps}
-use Rattle.std.specs.Prelude.{◌==◌, ◌&&◌, if◌then◌else◌, slice_get, slice_set, Result, OnOk, OnErr, length}
 use Rattle.range_core.specs.declared.Memory.{Memory}
 use Rattle.lock_book.specs.declared.book.Book.{Book}
 use Rattle.lock_book.specs.Books.{SetsOwnerMode, SameBook}
 use Rattle.lock_manager.proofs.kept.BookLemmas.{unlocked_bytes, unlocked_flocks, changed, after_set}
-use Rattle.std.proofs.lemmas.Bool.{eqb-true, eq-eqb, leb-true}
 use Rattle.range_core.specs.declared.Mode.{Mode}
 use Rattle.range_core.specs.declared.Span.{Span}
 use Rattle.range_core.specs.Ranges.{Conflict, Covers, HeldConflicts}
 use Rattle.range_core.specs.Changes.{is_covered}
 use Rattle.lock_book.specs.declared.Owner.{Owner}
-use Rattle.lock_book.specs.declared.Owner.TheVariants.{Process, Description}
 use Rattle.lock_book.specs.Owners.{is_same_owner}
 use Rattle.lock_book.specs.Conflicts.{ByteConflict}
 use Rattle.wait_core.specs.declared.Policy.{Policy}
@@ -28,8 +26,7 @@ same_owner a b h = grind (arith, common_steps, eqb-true)
 
 -- an owner is the same as itself
 pub itself : (owner : Owner) → is_same_owner owner owner ≡ true
-itself (Process p) = eq-eqb p p refl
-itself (Description d) = eq-eqb d d refl
+itself owner = grind (arith, common_steps, eq-eqb)
 
 -- conflict is symmetric
 pub conflict_back : (m k : Mode) → Conflict m k → Conflict k m
@@ -41,13 +38,9 @@ pub record Hits (file : ℕ) (owner : Owner) (span : Span) (f : ℕ) (o : Owner)
   pub owner_is : owner ≡ o
   pub covered : Covers span byte
 
-pub both : (a b : Bool) → (a && b) ≡ true → (a ≡ true) × (b ≡ true)
-both true b e = (refl, e)
-both false b e = cc
-
 pub hit : (file : ℕ) (owner : Owner) (span : Span) (f : ℕ) (o : Owner) (byte : ℕ)
     → ((file == f) && is_same_owner owner o && is_covered span byte) ≡ true → Hits file owner span f o byte
-hit file owner span f o byte e = grind (arith, common_steps, both, eqb-true, same_owner, leb-true)
+hit file owner span f o byte e = grind (arith, common_steps, and_parts, eqb-true, same_owner, leb-true)
 
 -- no list without waits has one
 no_place : (before : List Wait) (wait : Wait) (after : List Wait) → [] ≡ before ++ wait ∷ after → ⊥

@@ -1,18 +1,15 @@
 -- What holds of the machine when one more process waits: for `Machine::join`, `Machine::keep_room`, `Machine::pending` and others.
 use Rattle.std.proofs.lemmas.Grind.{common_steps}
-use Rattle.std.proofs.Common.{ℕ, ◌≡◌, ◌≢◌, ◌<◌, ◌≤◌, ◌+◌, refl, sym, ◌∙◌, ap, subst, List, [], ◌∷◌, ◌++◌, length, Some, None, Bool, true, false, All, Result, OnOk, OnErr, inl, inr, arith}
+use Rattle.std.proofs.Common.{ℕ, ◌≡◌, ◌≢◌, ◌<◌, ◌≤◌, ◌+◌, refl, sym, ◌∙◌, ap, subst, List, [], ◌∷◌, ◌++◌, length, Some, None, Bool, All, Result, OnOk, OnErr, arith, slice_get, slice_set, if◌then◌else◌, filter, length-append}
 use Rattle.std.proofs.Math.Logic.{∥∥₁_map}
-use Rattle.std.specs.Prelude.{slice_get, slice_set, if◌then◌else◌, filter}
-use Rattle.std.proofs.lemmas.Bool.{cases_Bool, eqb-true, eq-eqb}
+use Rattle.std.proofs.lemmas.Bool.{cases_Bool, eqb-true, eq-eqb, and_parts}
 use Rattle.std.proofs.lemmas.Bool.Decides.{eqb_tells}
 use Rattle.std.proofs.lemmas.List.Elements.{All-head, All-tail, All-push, filter-append}
 use Rattle.std.proofs.lemmas.List.Folds.{find-append, list_any-append}
 use Rattle.std.proofs.lemmas.List.Quantifiers.{all_pairs_push}
 use Rattle.std.proofs.lemmas.List.Sums.{length-filter, count_by-le-length}
-use Rattle.std.proofs.lemmas.List.{length-append}
 use Rattle.range_core.specs.declared.Memory.{Memory}
 use Rattle.lock_book.specs.declared.Owner.{Owner}
-use Rattle.lock_book.specs.declared.Owner.TheVariants.{Process, Description}
 use Rattle.lock_book.specs.declared.book.Book.{Book}
 use Rattle.lock_book.specs.Books.{room_in, SameButRoom, SameBook}
 use Rattle.fd_table.specs.declared.tables.Tables.{Tables}
@@ -35,17 +32,16 @@ use Rattle.lock_manager.specs.Safety.{AreCompatible}
 use Rattle.lock_manager.specs.MachineView.{Shows, machine_state, machine_locks, machine_waits}
 use Rattle.lock_manager.specs.WaitsKept.{AreKept, AreStanding, AreApart, HaveRoom, is_byte_wait, room_at, StayKnown}
 use Rattle.lock_manager.proofs.kept.BookLemmas.{slice_get-set_same, locks_stay}
-use Rattle.lock_manager.proofs.kept.SafetyLemmas.{same_owner, itself, both}
+use Rattle.lock_manager.proofs.kept.SafetyLemmas.{same_owner, itself}
 use Rattle.lock_manager.proofs.kept.ProcessLemmas.{waiting_still, stands_set, lived_before}
 use Rattle.lock_manager.proofs.kept.WaitLemmas.{waits_of_others, suspended_after, room_with, KeepsLocks, keeps_same}
 
 -- no wait of others is the process'
 pub no_wait : (waits : List Wait) (p : ℕ) → All (λ wait. wait.p ≢ p) waits → wait_of waits p ≡ None
 no_wait [] p others = refl
-no_wait (w ∷ waits) p others = elim (eqb_tells w.p p) [
-  | inl same ↦ absurd (All-head (λ wait. wait.p ≢ p) w waits others same.1)
-  | inr other ↦ rw other.0 (no_wait waits p (All-tail (λ wait. wait.p ≢ p) w waits others))
-]
+no_wait (w ∷ waits) p others =
+    let rest = All-tail (λ wait. wait.p ≢ p) w waits others in
+    grind (arith, common_steps, eqb_tells, All-head (λ wait. wait.p ≢ p) w waits others, no_wait waits p rest)
 
 -- some of the waits are no more than all
 pub some_of : (p : Wait → Bool) (waits : List Wait) → length (filter p waits) ≤ length waits
@@ -54,8 +50,7 @@ some_of p waits = omega (arith, length-filter p waits, count_by-le-length p wait
 -- who may wait for the lock may wait as the wait says
 waits_as : (tables : Tables) (D : Descriptors) (wait : Wait) (owner : Owner) → StandFor tables D → MayWait tables wait.p wait.file owner
     → MayWaitAs D wait owner
-waits_as tables D wait (Process q) stands may = may
-waits_as tables D wait (Description d) stands may = may D stands
+waits_as tables D wait owner stands may = grind (arith, common_steps)
 
 -- one more wait of who may wait
 pub owned_joined : (tables : Tables) (locks : Locks) (waits : List Wait) (wait : Wait) → MayWait tables wait.p wait.file wait.owner
@@ -72,36 +67,23 @@ owned_joined tables locks waits wait may owned =
 pub standing_joined : (tables : Tables) (states states' : List ProcState) (waits : List Wait) (wait : Wait) → StandsSo states states' wait.p Waiting
     → state_numbered states wait.p ≡ Live → AreStanding tables states waits → AreStanding tables states' (waits ++ wait ∷ [])
 standing_joined tables states states' waits wait set live h =
-    grind (arith, common_steps, lived_before, All-push, suspended_after, stands_set, eqb_tells, eq-eqb, waiting_still, both, find-append)
+    grind (arith, common_steps, lived_before, All-push, suspended_after, stands_set, eqb_tells, eq-eqb, waiting_still, and_parts, find-append)
 
 -- one more wait counts where it passes the test
 pub counted : (p : Wait → Bool) (waits : List Wait) (wait : Wait) → length (filter p (waits ++ wait ∷ [])) ≡ length (filter p waits) + (if p wait then 1 else 0)
 counted p waits wait = grind (arith, common_steps, filter-append, length-append)
 
-one_at_most : (b : Bool) → (if b then 1 else 0) ≤ 1
-one_at_most true = omega arith
-one_at_most false = omega arith
-
--- a wait counts for the lock that it is for
-asked_by : (wait : Wait) (file : ℕ) (owner : Owner) → is_byte_wait file owner wait ≡ true → (wait.file ≡ file) × (wait.owner ≡ owner)
-asked_by wait file owner is = grind (arith, common_steps, both, eqb-true, same_owner)
-
 -- where there is room for one wait more, it may join
 pub room_joined : (books : List Book) (waits : List Wait) (wait : Wait) → wait.family ≡ Bytes
     → length (filter (is_byte_wait wait.file wait.owner) waits) + 1 ≤ room_at (slice_get books wait.file) wait.owner
     → HaveRoom books waits → HaveRoom books (waits ++ wait ∷ [])
-room_joined books waits wait family more h = grind (arith, common_steps, counted, one_at_most, asked_by, list_any-append)
-
--- where one owner's room grew, no owner has less
-no_less_room : (old new : Book) (owner : Owner) → SameButRoom old new owner → room_in old owner ≤ room_in new owner → (o : Owner)
-    → room_in old o ≤ room_in new o
-no_less_room old new owner same kept o = grind (arith, common_steps, cases_Bool, same_owner, itself)
+room_joined books waits wait family more h = grind (arith, common_steps, counted, and_parts, eqb-true, same_owner, list_any-append)
 
 -- a book in which room was asked for, refused or not, keeps its locks
 pub room_taken : (old new : Book) (owner : Owner) (result : Result (Unit {0}) Memory) → OnOk result (SameButRoom old new owner)
     → OnOk result (room_in old owner ≤ room_in new owner)
     → OnErr result (SameBook old new) → KeepsLocks old new
-room_taken old new owner result h h2 h3 = grind (arith, common_steps, no_less_room, keeps_same)
+room_taken old new owner result h h2 h3 = grind (arith, common_steps, keeps_same, cases_Bool, same_owner, itself)
 
 -- the room is there then
 pub roomy : (before books : List Book) (file : ℕ) (old new : Book) (owner : Owner) (count : ℕ) (result : Result (Unit {0}) Memory)

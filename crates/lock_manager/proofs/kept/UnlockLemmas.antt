@@ -1,11 +1,10 @@
 -- What an unlock leaves where the owner had no lock (`unlock`, the clause ok).
-use Rattle.std.proofs.Common.{arith, ℕ, ◌≡◌, refl, ◌∙◌, ap, List, Bool, true, false, Some, None, Option}
+use Rattle.std.proofs.Common.{arith, ℕ, ◌≡◌, ◌∙◌, ap, List, Some, None, Option, slice_get}
 use Rattle.std.proofs.lemmas.Grind.{common_steps}
-use Rattle.std.specs.Prelude.{if◌then◌else◌, slice_get}
 use Rattle.range_core.specs.declared.Mode.{Mode}
-use Rattle.range_core.specs.declared.Mode.TheVariants.{Read, Write}
+use Rattle.range_core.specs.declared.Mode.TheVariants.{Write}
 use Rattle.range_core.specs.declared.Span.{Span}
-use Rattle.range_core.specs.Ranges.{Covers, Conflict, HeldConflicts}
+use Rattle.range_core.specs.Ranges.{Covers, HeldConflicts}
 use Rattle.lock_book.specs.declared.Owner.{Owner}
 use Rattle.lock_book.specs.declared.Owner.TheVariants.{Process, Description}
 use Rattle.lock_book.specs.declared.book.Book.{Book}
@@ -18,20 +17,9 @@ use Rattle.lock_manager.specs.MachineView.{Shows, machine_locks}
 use Rattle.lock_manager.proofs.kept.BookLemmas.{mode_from-push}
 use Rattle.lock_manager.proofs.kept.SafetyLemmas.{hit}
 
--- what is none stays so where it is set to none
-none_still : (is_it : Bool) (mode : Option Mode) → (is_it ≡ true → mode ≡ None) → mode ≡ (if is_it then None else mode)
-none_still true mode is = is refl
-none_still false mode is = refl
-
--- each lock is in the way of one that writes
-write_conflicts : (mode : Mode) → Conflict mode Write
-write_conflicts Read = tt
-write_conflicts Write = tt
-
 -- a mode that is in nobody's way is none
 none_of_mode : (mode : Option Mode) → ¬ HeldConflicts mode Write → mode ≡ None
-none_of_mode None free = refl
-none_of_mode (Some mode) free = absurd (free (write_conflicts mode))
+none_of_mode mode free = grind (arith, common_steps)
 
 -- a process that would block no description on the range has no lock there
 pub none_held : (modes : ByteModes) (process description : ℕ) (span : Span) → ¬ ProcessBlocks modes process (Description description) span Write
@@ -51,4 +39,4 @@ none_held_at books file book process description span was free byte covers =
 pub with_no_change : (machine : Machine) (S : State) (file : ℕ) (owner : Owner) (span : Span)
     → ((byte : ℕ) → Covers span byte → (machine_locks machine).bytes file owner byte ≡ None) → Shows machine S
     → Shows machine (with_byte_mode S file owner span None)
-with_no_change machine S file owner span none h = grind (arith, common_steps, none_still, hit, mode_from-push)
+with_no_change machine S file owner span none h = grind (arith, common_steps, hit, mode_from-push)

@@ -1,10 +1,10 @@
 -- What holds of the waits stays so after a release: for `release`.
 use Rattle.std.proofs.lemmas.Grind.{common_steps}
-use Rattle.std.proofs.Common.{ℕ, suc, ◌≡◌, ◌≢◌, ◌≤◌, refl, sym, ◌∙◌, subst, List, [], ◌∷◌, length, Bool, true, false, All, get_or, arith}
+use Rattle.std.proofs.Common.{ℕ, suc, ◌≡◌, ◌≢◌, ◌≤◌, refl, sym, ◌∙◌, subst, List, [], ◌∷◌, length, Bool, true, false, All, get_or, arith, ◌==◌, ◌&&◌, if◌then◌else◌, slice_get}
+use Rattle.std.proofs.lemmas.List.Folds.{list_any_none}
 use Rattle.std.proofs.Math.Logic.{∥∥₁_elim}
 use Rattle.std.proofs.lemmas.Bool.{cases_Bool, eqb-true}
 use Rattle.std.proofs.lemmas.Bool.Decides.{eqb_tells}
-use Rattle.std.specs.Prelude.{◌==◌, ◌&&◌, if◌then◌else◌, slice_get}
 use Rattle.std.specs.List.{filter, list_any}
 use Rattle.lock_book.specs.declared.Owner.{Owner}
 use Rattle.lock_book.specs.declared.Owner.TheVariants.{Process, Description}
@@ -27,15 +27,10 @@ use Rattle.lock_manager.proofs.kept.ClosingLemmas.{Closing, is_member}
 use Rattle.lock_manager.proofs.kept.OwnedLemmas.{may_wait_more}
 use Rattle.lock_manager.proofs.kept.SafetyLemmas.{same_owner}
 
--- what another process has open stays open
-stays_of_other : (D E : Descriptors) (p : ℕ) (released : Released) → Closing D E p released → (q file d : ℕ) → q ≢ p → HasOpenOn D q file d
-    → HasOpenOn E q file d
-stays_of_other D E p released closing q file d other has = grind (arith, common_steps, eqb_tells)
-
 -- so the waits of other processes are for what these have open
 pub holders_closed : (D E : Descriptors) (p : ℕ) (released : Released) (waits : List Wait) → Closing D E p released → All (λ wait. wait.p ≢ p) waits
     → AreOfHolders D waits → AreOfHolders E waits
-holders_closed D E p released waits closing others h k d within = grind (arith, common_steps, may_wait_more, stays_of_other)
+holders_closed D E p released waits closing others h k d within = grind (arith, common_steps, may_wait_more, eqb_tells)
 
 -- and none of them is for a lock of an owner whose locks are released
 none_released : (D E : Descriptors) (p : ℕ) (released : Released) (waits : List Wait) → Closing D E p released → All (λ wait. wait.p ≢ p) waits
@@ -63,15 +58,7 @@ none_of_released old new locks waits p released call others owned owner is k d w
 -- no wait that the test fails is counted
 none_counted : (test : Wait → Bool) (waits : List Wait) → All (λ wait. test wait ≡ false) waits → length (filter test waits) ≡ 0
 none_counted test [] h = refl
-none_counted test (wait ∷ waits) h =
-    let no : test wait ≡ false = h 0 wait (let n = length waits in omega arith) in
-    rw no (none_counted test waits (λ k d within. h (suc k) d (omega (arith, within))))
-
-none_found : (test : Wait → Bool) (waits : List Wait) → All (λ wait. test wait ≡ false) waits → list_any test waits ≡ false
-none_found test [] h = refl
-none_found test (wait ∷ waits) h =
-    let no : test wait ≡ false = h 0 wait (let n = length waits in omega arith) in
-    rw no (none_found test waits (λ k d within. h (suc k) d (omega (arith, within))))
+none_counted test (wait ∷ waits) h = grind (arith, common_steps, h 0 wait, none_counted test waits (λ k d within. h (suc k) d (omega (arith, within))))
 
 -- a wait for a lock of another owner isn't one for a lock of this one
 of_other : (a : Bool) (one owner : Owner) → one ≢ owner → (a && is_same_owner one owner) ≡ false
@@ -100,7 +87,7 @@ room_released old new waits p files descriptions releases none h =
     places file d false b e asked = h.places file d asked
     places file d true false e asked = h.places file d asked
     places file d true true e asked =
-        let no_wait : list_any (is_flock_wait file d) waits ≡ false = none_found (is_flock_wait file d) waits
+        let no_wait : list_any (is_flock_wait file d) waits ≡ false = list_any_none (is_flock_wait file d) waits
         (λ k x within. let wait = get_or waits k x in of_other (is_of_whole wait.family && (wait.file == file)) wait.owner (Description d) (none (Description d) e k x within)) in
         absurd (cc)
 

@@ -1,10 +1,9 @@
 -- What holds of the waits stays so while locks, descriptors and processes change: for `Machine::change`, `Machine::change_flock`, `Machine::close_fd`
 -- and others.
 use Rattle.std.proofs.lemmas.Grind.{common_steps}
-use Rattle.std.proofs.Common.{ℕ, ◌≡◌, ◌≢◌, ◌<◌, ◌≤◌, refl, sym, ◌∙◌, ap, subst, List, [], ◌∷◌, ◌++◌, length, None, Some, Option, Bool, true, false, Result, OnOk, OnErr, All, get_or, inl, inr, arith}
+use Rattle.std.proofs.Common.{ℕ, ◌≡◌, ◌≢◌, ◌<◌, ◌≤◌, refl, ◌∙◌, List, [], ◌∷◌, ◌++◌, length, None, Some, Option, Bool, true, false, Result, OnOk, OnErr, All, arith, ◌==◌, if◌then◌else◌, slice_get, slice_set, IsFalse}
 use Rattle.std.proofs.Math.Logic.{∥∥₁_elim}
 use Rattle.std.proofs.lemmas.Bool.{cases_Bool, eqb-true}
-use Rattle.std.specs.Prelude.{◌==◌, if◌then◌else◌, slice_get, slice_set, IsFalse}
 use Rattle.std.specs.List.{list_any}
 use Rattle.std.proofs.lemmas.List.Folds.{Any-from_list_any}
 use Rattle.range_core.specs.declared.Memory.{Memory}
@@ -18,13 +17,11 @@ use Rattle.fd_table.specs.declared.tables.Tables.{Tables}
 use Rattle.fd_table.specs.Descriptors.{Descriptors}
 use Rattle.fd_table.specs.TablesView.{StandFor, ever_alive}
 use Rattle.wait_core.specs.declared.Policy.{Policy}
-use Rattle.wait_core.specs.declared.Policy.TheVariants.{Held}
 use Rattle.wait_core.specs.declared.Wait.{Wait}
 use Rattle.wait_core.specs.declared.processes.ProcessSet.{ProcessSet}
 use Rattle.wait_core.specs.Locks.{Locks, locks_of}
 use Rattle.wait_core.specs.declared.waits.Waits.{Waits}
-use Rattle.wait_core.specs.Cycles.{IsFreeOfCycles, WaitsFor}
-use Rattle.wait_core.specs.Blocking.{IsBlocked, IsBlockedByLock}
+use Rattle.wait_core.specs.Cycles.{IsFreeOfCycles}
 use Rattle.wait_core.specs.Settled.{AllBlockedWhere, AgreeElsewhere, AreBlockedElsewhere}
 use Rattle.wait_core.specs.WaitsView.{waits_of, policy_of, wait_of, AreTold}
 use Rattle.wait_core.specs.Processes.{AreThoseWaiting}
@@ -32,8 +29,8 @@ use Rattle.wait_core.specs.FreeOfCycles.{FreeWhenLocksChange, FreeWhenDescriptio
 use Rattle.lock_manager.specs.declared.request.ProcState.{ProcState}
 use Rattle.lock_manager.specs.declared.request.ProcState.TheVariants.{Live, Waiting}
 use Rattle.lock_manager.specs.State.{AreWaiting, state_numbered}
-use Rattle.lock_manager.specs.DescriptionLocks.{MayWaitAs, AreOwned}
-use Rattle.lock_manager.specs.WaitsKept.{StayBlocked, IsSuspended, AreStanding, HaveRoom, room_at, has_place_at}
+use Rattle.lock_manager.specs.DescriptionLocks.{AreOwned}
+use Rattle.lock_manager.specs.WaitsKept.{StayBlocked, IsSuspended, AreStanding, HaveRoom, has_place_at}
 use Rattle.lock_manager.proofs.kept.BookLemmas.{slice_get-set, slice_get-set_other, entry_is, after_set, changed}
 use Rattle.lock_manager.proofs.kept.SafetyLemmas.{same_owner, itself, hit}
 
@@ -48,8 +45,7 @@ suspended_after old new states states' waits born stay h k d within = grind (ari
 pub waits_of_others : (tables : Tables) (states : List ProcState) (waits : List Wait) (p : ℕ) → All (IsSuspended tables states) waits
     → state_numbered states p ≡ Live
     → All (λ wait. wait.p ≢ p) waits
-waits_of_others tables states waits p h live k d within e =
-    let both : Waiting ≡ Live = sym (h k d within).waiting ∙ ap (state_numbered states) e ∙ live in cc
+waits_of_others tables states waits p h live k d within e = grind (arith, common_steps)
 
 -- whoever stands so still does, where the same processes were ever alive and the waits are the same
 pub standing_in : (old new : Tables) (states : List ProcState) (before after : List Wait) → ((q : ℕ) → ever_alive new q ≡ ever_alive old q) → after ≡ before
@@ -60,44 +56,27 @@ standing_in old new states before after alive same h = grind (arith, common_step
 pub not_owned_by : (tables : Tables) (locks : Locks) (waits : List Wait) (p : ℕ) → AreOwned tables locks waits → All (λ wait. wait.p ≢ p) waits
     → All (λ wait. wait.owner ≢ Process p) waits
 not_owned_by tables locks waits p owned others k d within e =
-    ∥∥₁_elim owned (λ x y. absurd x)
-    (λ given.
-    let wait = get_or waits k d in
-    let may : p ≡ wait.p = subst (λ o. MayWaitAs given.0 wait o) e (given.3 k d within) in
-    others k d within (sym may))
+    ∥∥₁_elim owned (λ x y. absurd x) (λ given. let may = given.3 k d within in grind (arith, common_steps))
 
 -- a process that no descriptors count as alive was never alive
 pub never_alive : (tables : Tables) (locks : Locks) (waits : List Wait) (child : ℕ) → AreOwned tables locks waits
     → ((D : Descriptors) → StandFor tables D → IsFalse (D.ever_alive child)) → ¬ (ever_alive tables child ≡ true)
 never_alive tables locks waits child owned free e =
-    ∥∥₁_elim owned (λ x y. absurd x)
-    (λ given.
-    let no = free given.0 given.1 in
-    let same = given.1.ever_alive child in
-    cc)
+    ∥∥₁_elim owned (λ x y. absurd x) (λ given. let no = free given.0 given.1 in let same = given.1.ever_alive child in cc)
 
 -- the books but that of the file stay
 pub agree_elsewhere : (books : List Book) (file : ℕ) (new : Book) → AgreeElsewhere file (locks_of books) (locks_of (slice_set books file new))
 agree_elsewhere books file new = grind (arith, common_steps, slice_get-set_other)
 
--- a step by a lock is one where the byte locks are the same
-step_by_bytes : (old new : Locks) (waits : List Wait) (p q : ℕ)
-    → ((file : ℕ) (owner : Owner) (byte : ℕ) → new.bytes file owner byte ≡ old.bytes file owner byte)
-    → WaitsFor Held old waits p q → WaitsFor Held new waits p q
-step_by_bytes old new waits p q same step = grind (arith, common_steps)
-
 -- no pair rests on a flock lock: where the byte locks stay, what is told stays true
 pub told_by_bytes : (waits : Waits) (old new : Locks)
     → ((file : ℕ) (owner : Owner) (byte : ℕ) → new.bytes file owner byte ≡ old.bytes file owner byte) → AreTold waits old → AreTold waits new
-told_by_bytes waits old new same told = grind (arith, common_steps, step_by_bytes)
+told_by_bytes waits old new same told = grind (arith, common_steps)
 
 -- a change on a byte is of its owner alone
 changed_else : (locks : Locks) (file : ℕ) (owner : Owner) (span : Span) (mode : Option Mode) (f : ℕ) (o : Owner) (byte : ℕ) → o ≢ owner
     → changed locks file owner span mode f o byte ≡ locks.bytes f o byte
 changed_else locks file owner span mode f o byte other = grind (arith, common_steps, hit)
-
-process_not_description : (p d : ℕ) → Process p ≢ Description d
-process_not_description p d e = cc
 
 -- a change of the locks of an owner closes no cycle, where a process that is the owner doesn't wait
 free_changed : FreeWhenLocksChange → FreeWhenDescriptionLocksChange
@@ -109,8 +88,7 @@ free_changed one all policy old new waits file (Process p) span mode idle bytes 
     one policy old new waits (Process p) free
     (λ f o byte other. bytes f o byte ∙ changed_else old file (Process p) span mode f o byte other) (idle p refl)
 free_changed one all policy old new waits file (Description d) span mode idle bytes free =
-    all policy old new waits free
-    (λ f q byte. bytes f (Process q) byte ∙ changed_else old file (Description d) span mode f (Process q) byte (process_not_description q d))
+    all policy old new waits free (λ f q byte. bytes f (Process q) byte ∙ changed_else old file (Description d) span mode f (Process q) byte (λ e. cc))
 
 -- one book's change, refused or not, closes no cycle
 pub free_after : FreeWhenLocksChange → FreeWhenDescriptionLocksChange
@@ -125,34 +103,22 @@ free_after one all policy waits books file old new owner span mode result within
     (λ bytes flocks. free_changed one all policy (locks_of books) (locks_of (slice_set books file new)) waits file owner span mode idle bytes free)
     (λ bytes flocks. all policy (locks_of books) (locks_of (slice_set books file new)) waits free (λ f q byte. bytes f (Process q) byte))
 
--- of a book that was changed, or of another one
-pub rooms_at : (is_it : Bool) (entry : Option Book) (old new : Book) (owner : Owner) (count : ℕ) → (is_it ≡ true → entry ≡ Some old)
-    → room_in old owner ≤ room_in new owner
-    → count ≤ room_at entry owner → count ≤ room_at (if is_it then Some new else entry) owner
-rooms_at is_it entry old new owner count h h2 h3 = grind (arith, common_steps)
-
 pub places_at : (is_it : Bool) (entry : Option Book) (old new : Book) (d : ℕ) → (is_it ≡ true → entry ≡ Some old)
     → (has_flock_place old d ≡ true → has_flock_place new d ≡ true)
     → has_place_at entry d ≡ true → has_place_at (if is_it then Some new else entry) d ≡ true
-places_at true entry old new d was kept there = kept (subst (λ e. has_place_at e d ≡ true) (was refl) there)
-places_at false entry old new d was kept there = there
+places_at is_it entry old new d was kept there = grind (arith, common_steps)
 
 -- a book in whose place one stands that keeps its places
 pub places_kept : (books : List Book) (file : ℕ) (old new : Book) → file < length books → slice_get books file ≡ Some old
     → ((d : ℕ) → has_flock_place old d ≡ true → has_flock_place new d ≡ true)
     → (f d : ℕ) → has_place_at (slice_get books f) d ≡ true → has_place_at (slice_get (slice_set books file new) f) d ≡ true
-places_kept books file old new within was kept f d there = grind (arith, common_steps, slice_get-set, places_at, entry_is)
+places_kept books file old new within was kept f d there = grind (arith, common_steps, slice_get-set, entry_is)
 
 -- it has room for the waits, where it also has no less room
 pub room_with : (books : List Book) (waits : List Wait) (file : ℕ) (old new : Book) → file < length books → slice_get books file ≡ Some old
     → ((o : Owner) → room_in old o ≤ room_in new o) → ((d : ℕ) → has_flock_place old d ≡ true → has_flock_place new d ≡ true)
     → HaveRoom books waits → HaveRoom (slice_set books file new) waits
-room_with books waits file old new within was more kept h = grind (arith, common_steps, slice_get-set, rooms_at, entry_is, places_kept)
-
--- a set of one owner leaves at least the room that was there
-rooms_kept : (old new : Book) (owner : Owner) (span : Span) (mode : Option Mode) → SetsOwnerMode old new owner span mode → room_in old owner ≤ room_in new owner
-    → (o : Owner) → room_in old o ≤ room_in new o
-rooms_kept old new owner span mode sets kept o = grind (arith, common_steps, cases_Bool, same_owner, itself)
+room_with books waits file old new within was more kept h = grind (arith, common_steps, slice_get-set, entry_is, places_kept)
 
 pub same_room : (n m : ℕ) → m ≡ n → n ≤ m
 same_room n m e = omega (arith, e)
@@ -166,7 +132,7 @@ pub record KeepsLocks (old new : Book) : Type 0 where
 
 -- so it is after a refusal
 pub keeps_same : (old new : Book) → SameBook old new → KeepsLocks old new
-keeps_same old new same = grind (arith, common_steps, same_room)
+keeps_same old new same = grind (arith, common_steps)
 
 -- one book's set, refused or not, leaves room for the waits
 pub room_after : (waits : List Wait) (books : List Book) (file : ℕ) (old new : Book) (owner : Owner) (span : Span) (mode : Option Mode)
@@ -174,21 +140,18 @@ pub room_after : (waits : List Wait) (books : List Book) (file : ℕ) (old new :
     → file < length books → slice_get books file ≡ Some old
     → OnOk result (SetsOwnerMode old new owner span mode) → OnOk result (room_in old owner ≤ room_in new owner) → OnErr result (SameBook old new)
     → HaveRoom books waits → HaveRoom (slice_set books file new) waits
-room_after waits books file old new owner span mode result h h2 h3 h4 h5 h6 = grind (arith, common_steps, room_with, rooms_kept, keeps_same)
+room_after waits books file old new owner span mode result h h2 h3 h4 h5 h6 =
+    grind (arith, common_steps, room_with, keeps_same, cases_Bool, same_owner, itself)
 
 -- where nobody waits no room is wanted
 pub room_for_none : (books : List Book) → HaveRoom books []
-room_for_none books = record { rooms = λ file owner. omega arith; places = λ file d asked. absurd (cc) }
-
-blocked_still : (policy : Policy) (old new : Locks) (earlier : List Wait) (wait : Wait) → (IsBlockedByLock old wait → IsBlockedByLock new wait)
-    → IsBlocked policy old earlier wait → IsBlocked policy new earlier wait
-blocked_still policy old new earlier wait h h2 = grind (arith, common_steps)
+room_for_none books = grind (arith, common_steps)
 
 all_blocked_still : (Holds : Wait → Type 0) (policy : Policy) (old new : Locks) → StayBlocked old new → (earlier waits : List Wait)
     → AllBlockedWhere Holds policy old earlier waits → AllBlockedWhere Holds policy new earlier waits
 all_blocked_still Holds policy old new still earlier [] all = tt
 all_blocked_still Holds policy old new still earlier (wait ∷ waits) all =
-    (λ holds. blocked_still policy old new earlier wait (still wait) (all.0 holds), all_blocked_still Holds policy old new still (earlier ++ wait ∷ []) waits all.1)
+    grind (arith, common_steps, all_blocked_still Holds policy old new still (earlier ++ wait ∷ []) waits)
 
 -- each wait that was known to be blocked is, where no lock went that blocked one
 pub elsewhere_still : (waits : Waits) (old new : Locks) → StayBlocked old new → AreBlockedElsewhere waits old → AreBlockedElsewhere waits new
@@ -197,10 +160,7 @@ elsewhere_still waits old new still known = record { blocked = all_blocked_still
 -- where the list has no wait of a process, none is found
 none_found : (waits : List Wait) (p : ℕ) → list_any (λ w. w.p == p) waits ≡ false → wait_of waits p ≡ None
 none_found [] p none = refl
-none_found (w ∷ waits) p none = elim (cases_Bool (w.p == p)) [
-  | inl there ↦ absurd (let no : true ≡ false = rw there at none in cc)
-  | inr missing ↦ rw missing (none_found waits p (rw missing at none))
-]
+none_found (w ∷ waits) p none = grind (arith, common_steps, cases_Bool, none_found waits p)
 
 -- the processes of the waits are those that wait
 pub those_waiting : (tables : Tables) (states : List ProcState) (waits : List Wait) (set : ProcessSet) → AreThoseWaiting set waits

@@ -1,24 +1,21 @@
 -- Where a lock is blocked there is one that a get command reports.
 use Rattle.std.proofs.lemmas.Grind.{common_steps}
-use Rattle.std.proofs.Common.{◌≡◌, ◌≢◌, ℕ, suc, ◌+◌, ◌-◌, ◌<◌, ◌≤◌, ◌==◌, ◌&&◌, ◌⊎◌, refl, sym, ◌∙◌, ap, subst, arith, Bool, true, false, nat_le, if◌then◌else◌, List, [], ◌∷◌, Option, Some, None}
-use Rattle.std.proofs.lemmas.Bool.{cases_lt, lt-leb}
+use Rattle.std.proofs.Common.{◌≡◌, ◌≢◌, ℕ, suc, ◌+◌, ◌-◌, ◌<◌, ◌≤◌, refl, arith, false, nat_le, List, [], ◌∷◌, Option, Some, None}
+use Rattle.std.proofs.lemmas.Bool.{cases_lt, lt-leb, and_right}
 use Rattle.range_core.specs.declared.Mode.{Mode}
 use Rattle.range_core.specs.declared.Span.{Span}
 use Rattle.range_core.specs.Changes.{is_covered}
 use Rattle.range_core.specs.Ranges.{Modes, Covers, HeldConflicts, IsRun}
 use Rattle.lock_book.specs.declared.Owner.{Owner}
 use Rattle.lock_book.specs.declared.Owner.TheVariants.{Process, Description}
-use Rattle.lock_book.specs.Changes.{Change, sets_byte, mode_from, mode_in}
-use Rattle.lock_book.specs.Owners.{IsBefore, is_same_owner}
+use Rattle.lock_book.specs.Changes.{Change, mode_from, mode_in}
+use Rattle.lock_book.specs.Owners.{IsBefore}
 use Rattle.lock_book.specs.Conflicts.{ByteModes, Blocks, ByteConflict, IsFirstBlocker}
 use Rattle.lock_manager.proofs.some.AtLeastOneLemmas.{AtLeastOne, IsLeast, by_cases, some_least}
 
 -- no byte from this one on has a mode
 abbrev pub AreBelow : ℕ → Modes → Type 0
 AreBelow bound modes = (byte : ℕ) → bound ≤ byte → modes byte ≡ None
-
-is_or_not : (held : Option Mode) (mode : Mode) → (held ≡ Some mode) ⊎ (held ≢ Some mode)
-is_or_not held mode = grind (arith, common_steps)
 
 -- from this byte on up to the other one each has the mode
 record HasModeFrom (modes : Modes) (byte : ℕ) (mode : Mode) (first : ℕ) : Type 0 where
@@ -33,17 +30,14 @@ record LacksModeBehind (modes : Modes) (byte : ℕ) (mode : Mode) (past : ℕ) :
 -- between the least byte from which on each has the mode and the least one behind that hasn't is the run
 run_between : (modes : Modes) (byte first past : ℕ) (mode : Mode) → modes byte ≡ Some mode → IsLeast (HasModeFrom modes byte mode) first
     → IsLeast (LacksModeBehind modes byte mode) past → IsRun modes byte mode (record { first = first; last = past - 1 })
-run_between modes byte first past mode is left right = grind (arith, common_steps, cases_lt, is_or_not)
+run_between modes byte first past mode is left right = grind (arith, common_steps, cases_lt)
 
 -- round a byte with a mode there is a run
 run_some : (modes : Modes) (bound byte : ℕ) (mode : Mode) → AreBelow bound modes → modes byte ≡ Some mode → AtLeastOne (IsRun modes byte mode)
 run_some modes bound byte mode within is none =
-    let last : ℕ = bound + 1 + byte in
-    some_least (HasModeFrom modes byte mode) byte
-    (record { before = omega arith; each = λ x from up_to. let same : x ≡ byte = omega arith in subst (λ b. modes b ≡ Some mode) (sym same) is })
+    some_least (HasModeFrom modes byte mode) byte (grind (arith, common_steps))
     (λ first left.
-    some_least (LacksModeBehind modes byte mode) last
-    (record { behind = omega arith; lacks = λ e. let nothing : modes last ≡ None = within last (omega arith) in cc })
+    some_least (LacksModeBehind modes byte mode) (bound + 1 + byte) (grind (arith, common_steps))
     (λ past right. none (record { first = first; last = past - 1 }) (run_between modes byte first past mode is left right)))
 
 -- a number above the bytes of all these changes
@@ -51,12 +45,8 @@ pub bytes_below : List Change → ℕ
 bytes_below [] = 0
 bytes_below (change ∷ changes) = suc change.span.last + bytes_below changes
 
-never : (b : Bool) → (b && false) ≡ false
-never true = refl
-never false = refl
-
 not_covered : (span : Span) (byte : ℕ) → span.last < byte → is_covered span byte ≡ false
-not_covered span byte past = rw (lt-leb byte span.last past) (never (nat_le span.first byte))
+not_covered span byte past = rw (lt-leb byte span.last past) (and_right (nat_le span.first byte) false refl)
 
 -- from it on they set no byte
 AreBelow-from : (before : Option Mode) (changes : List Change) (file : ℕ) (owner : Owner) (byte : ℕ) → before ≡ None → bytes_below changes ≤ byte
@@ -64,11 +54,7 @@ AreBelow-from : (before : Option Mode) (changes : List Change) (file : ℕ) (own
 unfolding bytes_below
 AreBelow-from before [] file owner byte nothing past = nothing
 AreBelow-from before (change ∷ changes) file owner byte nothing past =
-    let outside : is_covered change.span byte ≡ false = not_covered change.span byte (omega arith) in
-    let unset : sets_byte change file owner byte ≡ false =
-    ap (λ covered. (change.file == file) && is_same_owner change.owner owner && covered) outside
-    ∙ never ((change.file == file) && is_same_owner change.owner owner) in
-    AreBelow-from (if sets_byte change file owner byte then change.mode else before) changes file owner byte (rw unset nothing) (omega arith)
+    grind (arith, common_steps, not_covered, and_right, AreBelow-from None changes file owner byte refl)
 
 pub AreBelow-changes : (changes : List Change) (file : ℕ) (owner : Owner) → AreBelow (bytes_below changes) (mode_in changes file owner)
 AreBelow-changes changes file owner byte past = AreBelow-from None changes file owner byte refl past
@@ -79,13 +65,11 @@ record IsFirstOwner (P : Owner → Type 0) (owner : Owner) : Type 0 where
   least : (other : Owner) → IsBefore other owner → ¬ P other
 
 first_process : (P : Owner → Type 0) (p : ℕ) → IsLeast (λ q. P (Process q)) p → (other : Owner) → IsBefore other (Process p) → ¬ P other
-first_process P p h (Process q) before = h.least q before
-first_process P p h (Description d) before = absurd before
+first_process P p h other before = grind (arith, common_steps)
 
 first_description : (P : Owner → Type 0) (d : ℕ) → ¬ ((p : ℕ) × P (Process p)) → IsLeast (λ e. P (Description e)) d → (other : Owner)
     → IsBefore other (Description d) → ¬ P other
-first_description P d none_first h (Process q) before = λ holds. none_first (q, holds)
-first_description P d none_first h (Description e) before = h.least e before
+first_description P d none_first h other before = grind (arith, common_steps)
 
 some_description : (P : Owner → Type 0) (owner : Owner) → P owner → ¬ ((p : ℕ) × P (Process p)) → AtLeastOne (IsFirstOwner P)
 some_description P (Process p) h none_first none = none_first (p, h)
@@ -103,8 +87,7 @@ some_first_owner P owner h none =
 
 -- what conflicts is a mode
 held_mode : (held : Option Mode) (wanted : Mode) → HeldConflicts held wanted → (mode : Mode) × (held ≡ Some mode)
-held_mode None wanted h = absurd h
-held_mode (Some mode) wanted h = (mode, refl)
+held_mode held wanted h = grind (arith, common_steps)
 
 -- on this byte of the range some owner blocks
 abbrev IsBlockedAt : ByteModes → Owner → Span → Mode → ℕ → Type 0

@@ -1,5 +1,7 @@
 -- Each call on descriptors answers something and leaves some descriptors, where those that are open refer to descriptions that were made.
 use Rattle.std.proofs.Common.{◌≡◌, ℕ, zero, suc, ◌+◌, ◌<◌, ◌≤◌, ◌==◌, Bool, true, false, MatchBool, Option, Some, None, IsSome, Result, Ok, Err, ℤ, pos, negsuc, ◌<ℤ◌, refl, subst, ◌⊎◌, inl, inr, arith, List, [], ◌∷◌, length, option_map, get_or, Contains}
+use Rattle.std.proofs.lemmas.Grind.{common_steps}
+use Rattle.std.proofs.lemmas.Option.{slice_get_cases}
 use Rattle.std.proofs.lemmas.Bool.{cases_lt}
 use Rattle.std.proofs.lemmas.Int.{ints}
 use Rattle.std.proofs.lemmas.List.Elements.{Contains-get_or, Contains-append_left, Contains-append_right, Contains-append_cases, Contains-push, Contains-push_cases}
@@ -34,10 +36,7 @@ one_more Fact low high numbers within holds h = record {
   ];
   each = λ x. (
     λ there. elim (Contains-append_cases (low ∷ []) numbers x there) [
-      | inl first ↦ elim (Contains-push_cases [] low x first) [
-        | inl none ↦ absurd (let inside = none.1 in omega arith)
-        | inr is ↦ (omega (arith, is), omega (arith, is, within), subst Fact is holds)
-      ]
+      | inl first ↦ grind (arith, common_steps, Contains-push_cases [] low x first)
       | inr later ↦ let at = (h.each x).0 later in (omega (arith, at.0), at.1, at.2)
     ],
     λ fact. elim (cases_lt low x) [
@@ -54,13 +53,7 @@ none_more : (Fact : ℕ → Type 0) (low high : ℕ) (numbers : List ℕ) → ¬
     → AreBetween Fact low high numbers
 none_more Fact low high numbers fails h = record {
   rising = h.rising;
-  each = λ x. (
-    λ there. let at = (h.each x).0 there in (omega (arith, at.0), at.1, at.2),
-    λ fact. elim (cases_lt low x) [
-      | inl above ↦ (h.each x).1 (omega (arith, above), fact.1, fact.2)
-      | inr first ↦ let is : x ≡ low = omega (arith, fact.0) in absurd (fails (subst Fact is fact.2))
-    ],
-  );
+  each = λ x. (λ there. grind (arith, common_steps, h.each x), λ fact. grind (arith, common_steps, cases_lt, h.each x));
 }
 
 -- the numbers in a range of which a fact holds are some list
@@ -101,10 +94,7 @@ file_below (opened ∷ descriptions) (suc (suc k)) file e = let h = file_below d
 
 -- the number of a description that was made
 number_below : (descriptions : List OpenFileDescription) (number : ℕ) → IsSome (description_numbered descriptions number) → number < length descriptions + 1
-number_below descriptions zero h = omega arith
-number_below [] (suc k) h = cc
-number_below (opened ∷ descriptions) (suc zero) h = omega arith
-number_below (opened ∷ descriptions) (suc (suc k)) h = let more = number_below descriptions (suc k) h in omega arith
+number_below descriptions number h = grind (arith, common_steps, slice_get_cases)
 
 -- a closing releases something
 closing_some : (D E : Descriptors) (p : ℕ) (closed : ℕ → Bool) → AreMade D → AtLeastOne (AreReleased D E p closed)
@@ -129,10 +119,7 @@ lowest_none at (suc bound) = elim (lowest_none at bound) [
   | inl lowest ↦ inl (lowest.0, (let h = lowest.1 in omega arith), lowest.2, lowest.3)
   | inr full ↦ elim (some_or_none (at bound)) [
     | inr free ↦ inl (bound, omega arith, free, full)
-    | inl taken ↦ inr (λ n within. elim (cases_lt n bound) [
-      | inl before ↦ full n before
-      | inr last ↦ (let is : n ≡ bound = omega arith in rw (is, taken.1) refl)
-    ])
+    | inl taken ↦ inr (λ n within. grind (arith, common_steps, cases_lt, full))
   ]
 ]
 

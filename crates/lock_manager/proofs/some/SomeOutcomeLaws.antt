@@ -1,10 +1,12 @@
 -- A request comes to some outcome, settling ends, and so there is a step.
 use Rattle.std.proofs.Common.{◌≡◌, ℕ, ℤ, zero, suc, ◌<◌, List, [], ◌∷◌, ◌++◌, length, length-append, append-nil, append_assoc, ◌==◌, Bool, true, false, Option, Some, None, Result, Ok, Err, inl, inr, refl, sym, ◌∙◌, subst, arith, MatchResult}
+use Rattle.range_core.specs.declared.Memory.{Memory as MemoryFault}
 use Rattle.range_core.specs.declared.Mode.{Mode}
 use Rattle.fd_table.specs.declared.Access.{Access}
 use Rattle.fd_table.specs.declared.FdFault.{FdFault}
 use Rattle.fd_table.specs.declared.FdFault.TheVariants.{BadFd, TooMany, Invalid, Taken, Memory}
 use Rattle.fd_table.specs.declared.tables.Look.{Look}
+use Rattle.fd_table.specs.Descriptors.{Descriptors}
 use Rattle.fd_table.specs.Calls.{HadMemory, OpenGives, DupGives, DupToGives, CloseGives, SeekGives, ResizeGives, ForkGives, EndGives}
 use Rattle.wait_core.specs.declared.Policy.{Policy}
 use Rattle.wait_core.specs.declared.Wait.{Wait}
@@ -49,57 +51,49 @@ answer_some S p n done (Err Invalid) never = this_value _ (refused S p n EINVAL)
 answer_some S p n done (Err Taken) never = this_value _ (refused S p n EAGAIN) refl
 answer_some S p n done (Err (Memory memory)) never = absurd (never memory refl)
 
+-- so some outcome comes of a call that gives something
+call_some : {R : Type 0} (S : State) (p n : ℕ) (Gives : Result R FdFault → Descriptors → Type 0) (done : Descriptors → R → Outcome)
+    → ((descriptors : Descriptors) (memory : MemoryFault) → ¬ Gives (Err (Memory memory)) descriptors) → SomePair Gives
+    → AtLeastOne (λ outcome. (result : Result R FdFault) × (descriptors : Descriptors) × Gives result descriptors
+    × MatchResult result (λ r. outcome ≡ done descriptors r) (λ fault. IsRefusal S p n fault outcome))
+call_some S p n Gives done never given =
+    some_by_two Gives _ given
+    (λ result descriptors h. answer_some S p n (done descriptors) result (λ memory e. never descriptors memory (subst (λ r. Gives r descriptors) e h)))
+
 OpenComesTo-some : (rules : Rules) (S : State) (p n file : ℕ) (access : Access) → AtLeastOne (OpenComesTo rules S p n file access)
 OpenComesTo-some rules S p n file access =
-    some_by_two (OpenGives rules.limits S.descriptors p file access) _ (OpenGives-some rules.limits S.descriptors p file access)
-    (λ result descriptors h.
-    answer_some S p n (λ fd. answered (record S { descriptors = descriptors }) p n (replies.Fd fd)) result
-    (λ memory e. subst (λ r. OpenGives rules.limits S.descriptors p file access r descriptors) e h))
+    call_some S p n (OpenGives rules.limits S.descriptors p file access) (λ E fd. answered (record S { descriptors = E }) p n (replies.Fd fd))
+    (λ E memory h. h) (OpenGives-some rules.limits S.descriptors p file access)
 
 DupComesTo-some : (rules : Rules) (S : State) (p n fd : ℕ) → AtLeastOne (DupComesTo rules S p n fd)
 DupComesTo-some rules S p n fd =
-    some_by_two (DupGives rules.limits S.descriptors p fd) _ (DupGives-some rules.limits S.descriptors p fd)
-    (λ result descriptors h.
-    answer_some S p n (λ free. answered (record S { descriptors = descriptors }) p n (replies.Fd free)) result
-    (λ memory e. subst (λ r. DupGives rules.limits S.descriptors p fd r descriptors) e h))
+    call_some S p n (DupGives rules.limits S.descriptors p fd) (λ E free. answered (record S { descriptors = E }) p n (replies.Fd free))
+    (λ E memory h. h) (DupGives-some rules.limits S.descriptors p fd)
 
 DupToComesTo-some : (rules : Rules) (S : State) (p n fd to : ℕ) → IsWhole S → AtLeastOne (DupToComesTo rules S p n fd to)
 DupToComesTo-some rules S p n fd to whole =
-    some_by_two (DupToGives rules.limits S.descriptors p fd to) _ (DupToGives-some rules.limits S.descriptors p fd to whole.made)
-    (λ result descriptors h.
-    answer_some S p n (λ answer. answered (with_released S descriptors p answer.1) p n (replies.Fd answer.0)) result
-    (λ memory e. subst (λ r. DupToGives rules.limits S.descriptors p fd to r descriptors) e h))
+    call_some S p n (DupToGives rules.limits S.descriptors p fd to) (λ E answer. answered (with_released S E p answer.1) p n (replies.Fd answer.0))
+    (λ E memory h. h) (DupToGives-some rules.limits S.descriptors p fd to whole.made)
 
 CloseComesTo-some : (S : State) (p n fd : ℕ) → IsWhole S → AtLeastOne (CloseComesTo S p n fd)
 CloseComesTo-some S p n fd whole =
-    some_by_two (CloseGives S.descriptors p fd) _ (CloseGives-some S.descriptors p fd whole.made)
-    (λ result descriptors h.
-    answer_some S p n (λ released. answered (with_released S descriptors p released) p n replies.Ok) result
-    (λ memory e. subst (λ r. CloseGives S.descriptors p fd r descriptors) e h))
-
--- a call that answers nothing but that it is done
-done_some : (S T : State) (p n : ℕ) (result : Result (Unit {0}) FdFault) → HadMemory result
-    → AtLeastOne (λ outcome. MatchResult result (λ done. outcome ≡ answered T p n replies.Ok) (λ fault. IsRefusal S p n fault outcome))
-done_some S T p n result never = answer_some S p n (λ done. answered T p n replies.Ok) result never
+    call_some S p n (CloseGives S.descriptors p fd) (λ E released. answered (with_released S E p released) p n replies.Ok)
+    (λ E memory h. h) (CloseGives-some S.descriptors p fd whole.made)
 
 SeekComesTo-some : (S : State) (p n fd : ℕ) (offset : ℤ) → IsWhole S → AtLeastOne (SeekComesTo S p n fd offset)
 SeekComesTo-some S p n fd offset whole =
-    some_by_two (SeekGives S.descriptors p fd offset) _ (SeekGives-some S.descriptors p fd offset whole.made)
-    (λ result descriptors h.
-    done_some S (record S { descriptors = descriptors }) p n result (λ memory e. subst (λ r. SeekGives S.descriptors p fd offset r descriptors) e h))
+    call_some S p n (SeekGives S.descriptors p fd offset) (λ E done. answered (record S { descriptors = E }) p n replies.Ok)
+    (λ E memory h. h) (SeekGives-some S.descriptors p fd offset whole.made)
 
 ResizeComesTo-some : (S : State) (p n fd : ℕ) (size : ℤ) → IsWhole S → AtLeastOne (ResizeComesTo S p n fd size)
 ResizeComesTo-some S p n fd size whole =
-    some_by_two (ResizeGives S.descriptors p fd size) _ (ResizeGives-some S.descriptors p fd size whole.made)
-    (λ result descriptors h.
-    done_some S (record S { descriptors = descriptors }) p n result (λ memory e. subst (λ r. ResizeGives S.descriptors p fd size r descriptors) e h))
+    call_some S p n (ResizeGives S.descriptors p fd size) (λ E done. answered (record S { descriptors = E }) p n replies.Ok)
+    (λ E memory h. h) (ResizeGives-some S.descriptors p fd size whole.made)
 
 ForkComesTo-some : (processes : ℕ) (S : State) (p n child : ℕ) → AtLeastOne (ForkComesTo processes S p n child)
 ForkComesTo-some processes S p n child =
-    some_by_two (ForkGives processes S.descriptors p child) _ (ForkGives-some processes S.descriptors p child)
-    (λ result descriptors h.
-    done_some S (with_process (record S { descriptors = descriptors }) child Live) p n result
-    (λ memory e. subst (λ r. ForkGives processes S.descriptors p child r descriptors) e h))
+    call_some S p n (ForkGives processes S.descriptors p child) (λ E done. answered (with_process (record S { descriptors = E }) child Live) p n replies.Ok)
+    (λ E memory h. h) (ForkGives-some processes S.descriptors p child)
 
 EndComesTo-some : (S : State) (p : ℕ) (told : List Note) → IsWhole S → AtLeastOne (EndComesTo S p told)
 EndComesTo-some S p told whole =

@@ -1,18 +1,15 @@
 -- A step keeps what a step needs: open descriptors refer to descriptions that were made, and who waits has a wait in the list.
 use Rattle.std.proofs.lemmas.Grind.{common_steps}
-use Rattle.std.proofs.Common.{rules, ◌≡◌, ◌≢◌, ℕ, ℤ, zero, suc, ◌+◌, ◌==◌, ◌||◌, Bool, true, false, Option, Some, None, IsSome, Result, Ok, Err, MatchBool, MatchOption, MatchResult, inl, inr, refl, sym, ◌∙◌, subst, arith, List, [], ◌∷◌, ◌++◌, length, pred}
-use Rattle.std.specs.Prelude.{if◌then◌else◌, slice_get, slice_set}
-use Rattle.std.proofs.lemmas.Bool.{cases_Bool, eq-eqb}
+use Rattle.std.proofs.Common.{rules, ◌≡◌, ◌≢◌, ℕ, ℤ, zero, suc, ◌+◌, ◌==◌, ◌||◌, Bool, true, false, Option, Some, None, IsSome, Result, Ok, Err, MatchBool, MatchOption, MatchResult, inl, inr, refl, sym, ◌∙◌, subst, arith, List, [], ◌∷◌, ◌++◌, length, pred, if◌then◌else◌, slice_get, slice_set, length-set, length-append}
+use Rattle.std.proofs.lemmas.List.Folds.{find-append}
+use Rattle.std.proofs.lemmas.Bool.{cases_Bool}
 use Rattle.std.proofs.lemmas.Bool.Decides.{eqb_tells}
-use Rattle.std.proofs.lemmas.Option.{same_Some}
+use Rattle.std.proofs.lemmas.Option.{same_Some, slice_get_cases}
 use Rattle.range_core.specs.Facts.{MatchFact}
-use Rattle.range_core.specs.declared.Mode.{Mode}
 use Rattle.range_core.specs.Resolving.{resolution}
 use Rattle.fd_table.specs.declared.Access.{Access}
-use Rattle.fd_table.specs.declared.FdFault.{FdFault}
 use Rattle.fd_table.specs.declared.tables.Look.{Look}
-use Rattle.fd_table.specs.Releases.{Released, nothing}
-use Rattle.fd_table.specs.Descriptors.{Descriptors, OpenFileDescription, SameDescriptors, opening_descriptors, description_numbered, look_at, with_description, with_descriptor, without_descriptors, with_child, with_offset}
+use Rattle.fd_table.specs.Descriptors.{Descriptors, OpenFileDescription, SameDescriptors, opening_descriptors, description_numbered, look_at, with_description, with_descriptor, with_offset}
 use Rattle.wait_core.specs.declared.Policy.{Policy}
 use Rattle.wait_core.specs.declared.Wait.{Wait}
 use Rattle.wait_core.specs.WaitsView.{wait_of, without_wait_of}
@@ -28,11 +25,11 @@ use Rattle.lock_manager.specs.declared.request.ProcState.{ProcState}
 use Rattle.lock_manager.specs.declared.request.ProcState.TheVariants.{Unborn, Live, Waiting, Ended}
 use Rattle.lock_manager.specs.State.{State, opening_state, with_lock, with_process}
 use Rattle.lock_manager.specs.Settling.{Settles, granted}
-use Rattle.lock_manager.specs.Outcomes.{Outcome, IsRefusal}
+use Rattle.lock_manager.specs.Outcomes.{Outcome}
 use Rattle.lock_manager.specs.DescriptorCalls.{OpenComesTo, DupComesTo, DupToComesTo, CloseComesTo, SeekComesTo, ResizeComesTo}
 use Rattle.lock_manager.specs.LockWords.{is_get, is_bad_argument, wanted_mode, permits, wanted_lock}
 use Rattle.lock_manager.specs.LockCommands.{CommandComesTo, LockComesTo}
-use Rattle.lock_manager.specs.FlockCalls.{FlockTestComesTo, FlockModeComesTo, FlockOpComesTo}
+use Rattle.lock_manager.specs.FlockCalls.{FlockTestComesTo, FlockOpComesTo}
 use Rattle.lock_manager.specs.ProcessCalls.{ForkComesTo, EndComesTo, SignalComesTo, KillOtherComesTo}
 use Rattle.lock_manager.specs.Step.{ComesTo, Step}
 use Rattle.lock_manager.specs.SomeOutcome.{AreMade, AreAwaitedIn, IsWhole}
@@ -49,21 +46,14 @@ made_with D p fd d there made q k number is = grind (arith, common_steps, cases_
 
 -- what was made stays so
 numbered_longer : (xs ys : List OpenFileDescription) (number : ℕ) → IsSome (description_numbered xs number) → IsSome (description_numbered (xs ++ ys) number)
-numbered_longer xs ys zero h = cc
-numbered_longer [] ys (suc k) h = cc
-numbered_longer (x ∷ xs) ys (suc zero) h = refl
-numbered_longer (x ∷ xs) ys (suc (suc k)) h = numbered_longer xs ys (suc k) h
+numbered_longer xs ys number h = grind (arith, common_steps, slice_get_cases, length-append)
 
 numbered_last : (xs : List OpenFileDescription) (x : OpenFileDescription) → IsSome (slice_get (xs ++ x ∷ []) (length xs))
 numbered_last [] x = refl
 numbered_last (y ∷ xs) x = numbered_last xs x
 
 set_still : (xs : List OpenFileDescription) (i : ℕ) (x : OpenFileDescription) (k : ℕ) → IsSome (slice_get xs k) → IsSome (slice_get (slice_set xs i x) k)
-set_still [] i x k h = cc
-set_still (y ∷ xs) zero x zero h = refl
-set_still (y ∷ xs) zero x (suc k) h = h
-set_still (y ∷ xs) (suc i) x zero h = refl
-set_still (y ∷ xs) (suc i) x (suc k) h = set_still xs i x k h
+set_still xs i x k h = grind (arith, common_steps, slice_get_cases, length-set)
 
 made_opened : (D : Descriptors) (p file : ℕ) (access : Access) (fd : ℕ) → AreMade D
     → AreMade (with_descriptor (with_description D file access) p fd (length D.descriptions + 1))
@@ -74,44 +64,9 @@ made_opened D p file access fd made =
     (subst (λ n. IsSome (description_numbered (D.descriptions ++ opened ∷ []) n)) next (numbered_last D.descriptions opened))
     (λ q k number is. numbered_longer D.descriptions (opened ∷ []) number (made q k number is))
 
-made_without : (D : Descriptors) (p : ℕ) (closed : ℕ → Bool) → AreMade D → AreMade (without_descriptors D p closed)
-made_without D p closed made q k number is = grind (arith, common_steps, cases_Bool)
-
-made_child : (D : Descriptors) (p child : ℕ) → AreMade D → AreMade (with_child D p child)
-made_child D p child made q k number is = grind (arith, common_steps, cases_Bool)
-
 made_offset : (D : Descriptors) (number : ℕ) (opened : OpenFileDescription) (offset : ℕ) → AreMade D → AreMade (with_offset D number opened offset)
-made_offset D number opened offset made q k n is = still n (made q k n is)
-  where
-    still : (m : ℕ) → IsSome (description_numbered D.descriptions m)
-        → IsSome (description_numbered (slice_set D.descriptions (pred number) (record opened { offset = offset })) m)
-    still zero h = cc
-    still (suc m) h = set_still D.descriptions (pred number) (record opened { offset = offset }) m h
-
--- the wait of another process is found still
-find_longer : (xs ys : List Wait) (q : ℕ) → wait_of xs q ≢ None → wait_of (xs ++ ys) q ≢ None
-find_longer [] ys q h = λ e. h refl
-find_longer (x ∷ xs) ys q h = elim (eqb_tells x.p q) [
-  | inl own ↦ rw own.0 (λ e. cc)
-  | inr other ↦ rw other.0 (find_longer xs ys q (rw other.0 at h))
-]
-
-find_last : (xs : List Wait) (w : Wait) (q : ℕ) → w.p ≡ q → wait_of (xs ++ w ∷ []) q ≢ None
-find_last [] w q own = rw (eq-eqb w.p q own) (λ e. cc)
-find_last (x ∷ xs) w q own = elim (eqb_tells x.p q) [
-  | inl here ↦ rw here.0 (λ e. cc)
-  | inr other ↦ rw other.0 (find_last xs w q own)
-]
-
-find_without : (before : List Wait) (w : Wait) (after : List Wait) (q : ℕ) → w.p ≢ q → wait_of (before ++ w ∷ after) q ≡ wait_of (before ++ after) q
-find_without [] w after q differs = elim (eqb_tells w.p q) [
-  | inl own ↦ absurd (differs own.1)
-  | inr other ↦ rw other.0 refl
-]
-find_without (x ∷ before) w after q differs = elim (eqb_tells x.p q) [
-  | inl own ↦ rw own.0 refl
-  | inr other ↦ rw other.0 (find_without before w after q differs)
-]
+made_offset D number opened offset made q k zero is = made q k zero is
+made_offset D number opened offset made q k (suc m) is = set_still D.descriptions (pred number) (record opened { offset = offset }) m (made q k (suc m) is)
 
 -- where one process no longer waits, the others' waits are what counts
 awaited_moved : (waits left : List Wait) (states : ℕ → ProcState) (p : ℕ) (state : ProcState) → state ≢ Waiting
@@ -119,20 +74,10 @@ awaited_moved : (waits left : List Wait) (states : ℕ → ProcState) (p : ℕ) 
     → AreAwaitedIn left (λ q. if q == p then state else states q)
 awaited_moved waits left states p state differs keep awaited q is = grind (arith, common_steps, eqb_tells)
 
-awaited_joined : (waits : List Wait) (states : ℕ → ProcState) (wait : Wait) → AreAwaitedIn waits states
-    → AreAwaitedIn (waits ++ wait ∷ []) (λ q. if q == wait.p then Waiting else states q)
-awaited_joined waits states wait awaited q is = grind (arith, common_steps, eqb_tells, find_last, find_longer)
-
-Live≢Waiting : Live ≢ Waiting
-Live≢Waiting e = cc
-
-Ended≢Waiting : Ended ≢ Waiting
-Ended≢Waiting e = cc
-
 -- at the opening
 pub whole_opening : IsWhole opening_state
 unfolding opening_state opening_descriptors
-whole_opening = grind (arith, common_steps, Live≢Waiting)
+whole_opening = grind (arith, common_steps)
 
 -- the state of this outcome is whole
 abbrev Stays : Outcome → Type 0
@@ -144,10 +89,10 @@ locked_whole S wait h = grind (arith, common_steps)
 
 granted_whole : (S : State) (before : List Wait) (wait : Wait) (after : List Wait) → S.waits ≡ before ++ wait ∷ after → IsWhole S
     → IsWhole (granted S before wait after)
-granted_whole S before wait after place h = grind (arith, common_steps, locked_whole, awaited_moved, Live≢Waiting, find_without)
+granted_whole S before wait after place h = grind (arith, common_steps, locked_whole, awaited_moved, find-append, eqb_tells)
 
 settled_whole : (policy : Policy) (S : State) (grants : List Note) (T : State) → Settles policy S grants T → IsWhole S → IsWhole T
-settled_whole policy S [] T h whole = subst IsWhole (sym h.1) whole
+settled_whole policy S [] T h whole = grind (arith, common_steps)
 settled_whole policy S (grant ∷ grants) T h whole =
     settled_whole policy (granted S h.0 h.1 h.2) grants T h.5 (granted_whole S h.0 h.1 h.2 h.3.place whole)
 
@@ -155,40 +100,31 @@ settled_whole policy S (grant ∷ grants) T h whole =
 stays_as : (given outcome : Outcome) → outcome ≡ given → Stays given → Stays outcome
 stays_as given outcome is h = subst Stays (sym is) h
 
-refusal_stays : (S : State) (p n : ℕ) (fault : FdFault) (outcome : Outcome) → IsRefusal S p n fault outcome → IsWhole S → Stays outcome
-refusal_stays S p n fault outcome h h2 = grind (arith, common_steps, stays_as)
-
 -- the descriptors are others
 with_made : (S : State) (E : Descriptors) → AreMade E → IsWhole S → IsWhole (record S { descriptors = E })
 with_made S E made h = record { made = made; awaited = h.awaited }
 
 open_stays : (rules : Rules) (S : State) (p n file : ℕ) (access : Access) (outcome : Outcome) → OpenComesTo rules S p n file access outcome
     → IsWhole S → Stays outcome
-open_stays rules S p n file access outcome h h2 = grind (arith, common_steps, stays_as, with_made, made_same, made_opened, refusal_stays)
+open_stays rules S p n file access outcome h h2 = grind (arith, common_steps, stays_as, with_made, made_same, made_opened)
 
 dup_stays : (rules : Rules) (S : State) (p n fd : ℕ) (outcome : Outcome) → DupComesTo rules S p n fd outcome → IsWhole S → Stays outcome
-dup_stays rules S p n fd outcome h h2 = grind (arith, common_steps, stays_as, with_made, made_same, made_with, refusal_stays)
-
-moved_made : (D E : Descriptors) (p to d : ℕ) (onto_itself : Bool) (released : Released) (Released' : Type 0)
-    → MatchBool onto_itself ((released ≡ nothing) × SameDescriptors E D) (SameDescriptors E (with_descriptor D p to d) × Released')
-    → IsSome (description_numbered D.descriptions d) → AreMade D → AreMade E
-moved_made D E p to d true released Released' h there made = made_same D E h.1 made
-moved_made D E p to d false released Released' h there made = made_same _ E h.0 (made_with D p to d there made)
+dup_stays rules S p n fd outcome h h2 = grind (arith, common_steps, stays_as, with_made, made_same, made_with)
 
 dup_to_stays : (rules : Rules) (S : State) (p n fd to : ℕ) (outcome : Outcome) → DupToComesTo rules S p n fd to outcome → IsWhole S → Stays outcome
-dup_to_stays rules S p n fd to outcome h h2 = grind (arith, common_steps, moved_made, stays_as, refusal_stays)
+dup_to_stays rules S p n fd to outcome h h2 = grind (arith, common_steps, made_same, made_with, stays_as)
 
 close_stays : (S : State) (p n fd : ℕ) (outcome : Outcome) → CloseComesTo S p n fd outcome → IsWhole S → Stays outcome
-close_stays S p n fd outcome h h2 = grind (arith, common_steps, stays_as, made_same, made_without, refusal_stays)
+close_stays S p n fd outcome h h2 = grind (arith, common_steps, stays_as, made_same, cases_Bool)
 
 seek_stays : (S : State) (p n fd : ℕ) (offset : ℤ) (outcome : Outcome) → SeekComesTo S p n fd offset outcome → IsWhole S → Stays outcome
-seek_stays S p n fd offset outcome h h2 = grind (arith, common_steps, stays_as, with_made, made_same, made_offset, refusal_stays)
+seek_stays S p n fd offset outcome h h2 = grind (arith, common_steps, stays_as, with_made, made_same, made_offset)
 
 resize_stays : (S : State) (p n fd : ℕ) (size : ℤ) (outcome : Outcome) → ResizeComesTo S p n fd size outcome → IsWhole S → Stays outcome
-resize_stays S p n fd size outcome h h2 = grind (arith, common_steps, stays_as, with_made, made_same, refusal_stays)
+resize_stays S p n fd size outcome h h2 = grind (arith, common_steps, stays_as, with_made, made_same)
 
 fork_stays : (processes : ℕ) (S : State) (p n child : ℕ) (outcome : Outcome) → ForkComesTo processes S p n child outcome → IsWhole S → Stays outcome
-fork_stays processes S p n child outcome h h2 = grind (arith, common_steps, stays_as, made_same, made_child, awaited_moved, Live≢Waiting, refusal_stays)
+fork_stays processes S p n child outcome h h2 = grind (arith, common_steps, stays_as, made_same, awaited_moved, cases_Bool)
 
 -- without its wait a process waits no more
 awaited_left : (S : State) (target : ℕ) (state : ProcState) → state ≢ Waiting → IsWhole S
@@ -196,11 +132,11 @@ awaited_left : (S : State) (target : ℕ) (state : ProcState) → state ≢ Wait
 awaited_left S target state differs h = grind (arith, common_steps, awaited_moved, other_found)
 
 end_stays : (S : State) (p : ℕ) (told : List Note) (outcome : Outcome) → EndComesTo S p told outcome → IsWhole S → Stays outcome
-end_stays S p told outcome h h2 = grind (arith, common_steps, stays_as, made_same, made_without, awaited_left, Ended≢Waiting)
+end_stays S p told outcome h h2 = grind (arith, common_steps, stays_as, made_same, awaited_left, cases_Bool)
 
 signal_stays : (S : State) (p n target : ℕ) (state : ProcState) (outcome : Outcome) → SignalComesTo S p n target state outcome → IsWhole S
     → Stays outcome
-signal_stays S p n target state outcome h h2 = grind (arith, common_steps, stays_as, awaited_left, Live≢Waiting)
+signal_stays S p n target state outcome h h2 = grind (arith, common_steps, stays_as, awaited_left)
 
 kill_other_stays : (S : State) (p n target : ℕ) (state : ProcState) (outcome : Outcome) → KillOtherComesTo S p n target state outcome
     → IsWhole S → Stays outcome
@@ -230,7 +166,7 @@ result_stays (Err e) P Q outcome h first second = second e h
 
 -- the caller waits
 waits_whole : (S : State) (wanted : Wait) → IsWhole S → IsWhole (with_process (record S { waits = S.waits ++ wanted ∷ [] }) wanted.p Waiting)
-waits_whole S wanted h = record { made = h.made; awaited = awaited_joined S.waits S.states wanted h.awaited }
+waits_whole S wanted h = grind (arith, common_steps, eqb_tells, find-append)
 
 command_stays : (rules : Rules) (S : State) (cmd : LkCmd) (wanted : Wait) (outcome : Outcome) → CommandComesTo rules S cmd wanted outcome
     → IsWhole S → Stays outcome
@@ -275,13 +211,9 @@ flock_test_stays rules S false wanted grants outcome is h =
     fact_stays _ _ _ outcome is (λ waits. stays_as _ outcome waits (waits_whole S wanted h))
     (λ set. stays_as _ outcome set (locked_whole S wanted h).0)
 
-flock_mode_stays : (rules : Rules) (S : State) (look : Look) (nb : Bool) (wanted : Wait) (held : Option Mode) (outcome : Outcome)
-    → FlockModeComesTo rules S look nb wanted held outcome → IsWhole S → Stays outcome
-flock_mode_stays rules S look nb wanted held outcome h h2 = grind (arith, common_steps, flock_test_stays, bool_stays, stays_as, settled_whole)
-
 flock_op_stays : (rules : Rules) (S : State) (p n : ℕ) (look : Look) (op : FlockOp) (nb : Bool) (outcome : Outcome)
     → FlockOpComesTo rules S p n look op nb outcome → IsWhole S → Stays outcome
-flock_op_stays rules S p n look op nb outcome h h2 = grind (arith, common_steps, stays_as, flock_mode_stays)
+flock_op_stays rules S p n look op nb outcome h h2 = grind (arith, common_steps, stays_as, flock_test_stays, bool_stays, settled_whole)
 
 -- whatever the request
 request_stays : (rules : Rules) (processes : ℕ) (S : State) (p n : ℕ) (request : Request) (outcome : Outcome)

@@ -1,16 +1,34 @@
--- What the other calls on descriptors answer and leave is determined.
+-- What the calls on descriptors answer and leave is determined.
 use Rattle.std.proofs.lemmas.Grind.{common_steps}
-use Rattle.std.proofs.Common.{◌≡◌, ℕ, ◌<◌, ◌≤◌, ◌==◌, Bool, true, false, MatchBool, Some, None, Result, Ok, Err, ℤ, pos, ◌<ℤ◌, refl, sym, ◌∙◌, ap, ◌⊎◌, inl, inr, arith}
+use Rattle.std.proofs.Common.{◌≡◌, ℕ, ◌==◌, Bool, true, false, MatchBool, Some, None, Result, Ok, Err, ℤ, pos, ◌<ℤ◌, sym, ◌∙◌, ap, arith, IsSome, subst}
 use Rattle.std.proofs.lemmas.Int.{ints}
 use Rattle.std.proofs.lemmas.Option.{same_Some}
 use Rattle.fd_table.specs.declared.Limits.{Limits}
 use Rattle.fd_table.specs.declared.FdFault.{FdFault}
-use Rattle.fd_table.specs.declared.FdFault.TheVariants.{BadFd, TooMany, Invalid, Taken, Memory}
 use Rattle.fd_table.specs.Releases.{Released, AreReleased, nothing}
-use Rattle.fd_table.specs.Descriptors.{Descriptors, OpenFileDescription, SameDescriptors, descriptor_limit, with_descriptor, without_descriptors}
-use Rattle.fd_table.specs.Calls.{DupGives, DupToGives, CloseGives, EndGives, ForkGives, Refers, SeekGives, ResizeGives}
-use Rattle.lock_manager.proofs.unique.OpenCallLaws.{same_everywhere, both_same, open_not_free, IsLowestFree-unique, IsFull-none}
-use Rattle.lock_manager.proofs.unique.ReleaseLaws.{closing-unique}
+use Rattle.fd_table.specs.Descriptors.{Descriptors, OpenFileDescription, SameDescriptors, with_descriptor, without_descriptors, IsFull, IsLowestFree}
+use Rattle.fd_table.specs.Calls.{DupGives, DupToGives, CloseGives, EndGives, ForkGives, Refers, SeekGives, ResizeGives, OpenGives}
+use Rattle.lock_manager.proofs.unique.ReleaseLaws.{closing-unique, same_everywhere, both_same}
+use Rattle.std.proofs.lemmas.Bool.{cases_lt}
+use Rattle.fd_table.specs.declared.Access.{Access}
+
+-- a descriptor that is open isn't free
+open_not_free : (D : Descriptors) (p fd : ℕ) → IsSome (D.description_of p fd) → D.description_of p fd ≡ None → ⊥
+open_not_free D p fd there free = let h : IsSome {T = ℕ} None = subst IsSome free there in cc
+
+-- the lowest free number is determined
+IsLowestFree-unique : (limits : Limits) (D : Descriptors) (p fd other : ℕ) → IsLowestFree limits D p fd → IsLowestFree limits D p other → fd ≡ other
+IsLowestFree-unique limits D p fd other h k = grind (arith, common_steps, cases_lt, open_not_free)
+
+-- where each number is taken none is free
+IsFull-none : (limits : Limits) (D : Descriptors) (p fd : ℕ) → IsFull limits D p → ¬ IsLowestFree limits D p fd
+IsFull-none limits D p fd full h = open_not_free D p fd (full fd h.within) h.free
+
+-- what an open answers and leaves is determined
+pub OpenGives-unique : (limits : Limits) (old : Descriptors) (p file : ℕ) (access : Access) (result : Result ℕ FdFault) (D : Descriptors)
+    (other : Result ℕ FdFault) (E : Descriptors)
+    → OpenGives limits old p file access result D → OpenGives limits old p file access other E → (result ≡ other) × (D ≡ E)
+OpenGives-unique limits old p file access result D other E h h2 = grind (arith, common_steps, both_same, IsLowestFree-unique, same_everywhere, IsFull-none)
 
 -- a descriptor refers to one description
 one_description : (old : Descriptors) (p fd description other : ℕ) → old.description_of p fd ≡ Some description
@@ -33,30 +51,15 @@ MovesTo-unique old p fd to description true released D other E h k = (h.0 ∙ sy
 MovesTo-unique old p fd to description false released D other E h k =
     closing-unique old (with_descriptor old p to description) p (λ n. n == to) released D other E h.0 h.1 k.0 k.1
 
--- where the descriptor is open and the number is in range, dup2 isn't refused
-not_bad_fd : (limits : Limits) (old : Descriptors) (p fd to description : ℕ) → old.description_of p fd ≡ Some description → to < descriptor_limit limits
-    → (old.description_of p fd ≡ None) ⊎ (descriptor_limit limits ≤ to) → ⊥
-not_bad_fd limits old p fd to description refers within (inl closed) = cc
-not_bad_fd limits old p fd to description refers within (inr past) = omega arith
-
 pub DupToGives-unique : (limits : Limits) (old : Descriptors) (p fd to : ℕ) (result : Result (ℕ
     × Released) FdFault) (D : Descriptors) (other : Result (ℕ × Released) FdFault) (E : Descriptors)
     → DupToGives limits old p fd to result D → DupToGives limits old p fd to other E → (result ≡ other) × (D ≡ E)
-DupToGives-unique limits old p fd to result D other E h h2 = grind (arith, common_steps, both_same, not_bad_fd, one_description, MovesTo-unique)
+DupToGives-unique limits old p fd to result D other E h h2 = grind (arith, common_steps, both_same, one_description, MovesTo-unique)
 
 pub CloseGives-unique : (old : Descriptors) (p fd : ℕ) (result : Result Released FdFault) (D : Descriptors) (other : Result Released FdFault) (E : Descriptors)
     → CloseGives old p fd result D → CloseGives old p fd other E → (result ≡ other) × (D ≡ E)
-CloseGives-unique old p fd (Err TooMany) D other E h k = absurd h
-CloseGives-unique old p fd (Err Invalid) D other E h k = absurd h
-CloseGives-unique old p fd (Err Taken) D other E h k = absurd h
-CloseGives-unique old p fd (Err (Memory memory)) D other E h k = absurd h
-CloseGives-unique old p fd result D (Err TooMany) E h k = absurd k
-CloseGives-unique old p fd result D (Err Invalid) E h k = absurd k
-CloseGives-unique old p fd result D (Err Taken) E h k = absurd k
-CloseGives-unique old p fd result D (Err (Memory memory)) E h k = absurd k
-CloseGives-unique old p fd (Err BadFd) D (Err BadFd) E h k = (refl, both_same D E old h.1 k.1)
-CloseGives-unique old p fd (Err BadFd) D (Ok other) E h k = absurd (open_not_free old p fd k.0 h.0)
-CloseGives-unique old p fd (Ok released) D (Err BadFd) E h k = absurd (open_not_free old p fd h.0 k.0)
+CloseGives-unique old p fd (Err fault) D other E h k = grind (arith, common_steps, both_same, open_not_free)
+CloseGives-unique old p fd (Ok released) D (Err fault) E h k = grind (arith, common_steps, open_not_free)
 CloseGives-unique old p fd (Ok released) D (Ok other) E h k =
     let closed : (released ≡ other) × (D ≡ E) =
     closing-unique old (without_descriptors old p (λ n. n == fd)) p (λ n. n == fd) released D other E h.1 h.2 k.1 k.2 in

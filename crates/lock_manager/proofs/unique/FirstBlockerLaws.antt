@@ -1,33 +1,24 @@
 -- The lock that a get command reports is determined.
 use Rattle.std.proofs.lemmas.Grind.{common_steps}
-use Rattle.std.proofs.Common.{◌≡◌, ℕ, ◌<◌, sym, ◌∙◌, ◌⊎◌, arith}
-use Rattle.std.proofs.lemmas.Bool.{cases_lt}
+use Rattle.std.proofs.Common.{◌≡◌, ℕ, sym, ◌∙◌, arith}
+use Rattle.std.proofs.lemmas.Bool.{cases_order}
 use Rattle.std.proofs.lemmas.Option.{same_Some}
 use Rattle.range_core.specs.declared.Mode.{Mode}
 use Rattle.range_core.specs.declared.Span.{Span}
 use Rattle.range_core.specs.Ranges.{Modes, IsRun}
 use Rattle.lock_book.specs.declared.Owner.{Owner}
-use Rattle.lock_book.specs.Owners.{IsBefore}
 use Rattle.lock_book.specs.Conflicts.{ByteModes, IsFirstBlocked, IsFirstBlocker}
 use Rattle.lock_manager.proofs.unique.AtMostOneLemmas.{AtMostOne}
-
--- of two numbers, either they are one or one is less
-compare : (a b : ℕ) → (a ≡ b) ⊎ ((a < b) ⊎ (b < a))
-compare a b = grind (arith, common_steps, cases_lt)
-
--- of two owners, either they are one or one comes first
-compare_owners : (one other : Owner) → (one ≡ other) ⊎ (IsBefore one other ⊎ IsBefore other one)
-compare_owners one other = grind (arith, common_steps, compare)
 
 -- the least byte that is blocked is one
 one_byte : (modes : ByteModes) (owner : Owner) (span : Span) (wanted : Mode) (b c : ℕ) (one other : Owner)
     → IsFirstBlocked modes owner span wanted b one → IsFirstBlocked modes owner span wanted c other → b ≡ c
-one_byte modes owner span wanted b c one other h k = grind (arith, common_steps, compare)
+one_byte modes owner span wanted b c one other h k = grind (arith, common_steps, cases_order)
 
 -- the least owner that blocks there is one
 one_owner : (modes : ByteModes) (owner : Owner) (span : Span) (wanted : Mode) (b : ℕ) (one other : Owner)
     → IsFirstBlocked modes owner span wanted b one → IsFirstBlocked modes owner span wanted b other → one ≡ other
-one_owner modes owner span wanted b one other h k = grind (arith, common_steps, compare_owners)
+one_owner modes owner span wanted b one other h k = grind (arith, common_steps, cases_order)
 
 -- the mode on the byte is one
 one_mode : (modes : Modes) (byte : ℕ) (m k : Mode) (s t : Span) → IsRun modes byte m s → IsRun modes byte k t → m ≡ k

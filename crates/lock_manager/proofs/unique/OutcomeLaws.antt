@@ -1,8 +1,7 @@
 -- What a request comes to is determined, and so is the step.
-use Rattle.std.proofs.Common.{arith, rules, ◌≡◌, ℕ, ℤ, List, [], ◌∷◌, ◌==◌, Bool, true, false, Option, sym, ◌∙◌, Some, Result}
+use Rattle.std.proofs.Common.{arith, rules, ◌≡◌, ℕ, ℤ, List, [], ◌∷◌, ◌==◌, Bool, true, false, Option, sym, ◌∙◌, Some, Result, MatchResult}
 use Rattle.std.proofs.lemmas.Grind.{common_steps}
 use Rattle.std.proofs.lemmas.Option.{same_Some}
-use Rattle.std.specs.Prelude.{MatchResult}
 use Rattle.range_core.specs.declared.Mode.{Mode}
 use Rattle.fd_table.specs.declared.Access.{Access}
 use Rattle.fd_table.specs.declared.FdFault.{FdFault}
@@ -35,8 +34,7 @@ use Rattle.lock_manager.specs.OneOutcome.{StepHasOneOutcome}
 use Rattle.lock_manager.proofs.unique.AtMostOneLemmas.{AtMostOne, one_value, MatchFact-unique, by_one, by_two}
 use Rattle.lock_manager.proofs.ChoiceLemmas.{MatchBool-by, MatchResult-by, LockComesTo-by, FlockComesTo-by}
 use Rattle.lock_manager.proofs.unique.FirstBlockerLaws.{IsFirstBlocker-unique}
-use Rattle.lock_manager.proofs.unique.DescriptorCallLaws.{DupGives-unique, DupToGives-unique, CloseGives-unique, SeekGives-unique, ResizeGives-unique, ForkGives-unique, EndGives-unique}
-use Rattle.lock_manager.proofs.unique.OpenCallLaws.{OpenGives-unique}
+use Rattle.lock_manager.proofs.unique.DescriptorCallLaws.{DupGives-unique, DupToGives-unique, CloseGives-unique, SeekGives-unique, ResizeGives-unique, ForkGives-unique, EndGives-unique, OpenGives-unique}
 use Rattle.lock_manager.proofs.unique.SettlingLaws.{Settles-unique}
 
 -- each refusal is one outcome

@@ -1,10 +1,17 @@
 -- What the closing of descriptors releases is determined.
 use Rattle.std.proofs.lemmas.Grind.{common_steps}
-use Rattle.std.proofs.Common.{◌≡◌, ℕ, zero, suc, ◌<◌, List, [], ◌∷◌, Contains, AllPairs, refl, sym, subst, ◌⊎◌, inl, inr, ⊎_elim, Bool, arith}
+use Rattle.std.proofs.Common.{◌≡◌, ℕ, zero, suc, ◌<◌, List, [], ◌∷◌, Contains, AllPairs, refl, sym, subst, ◌⊎◌, inl, inr, Bool, arith, ◌∙◌}
 use Rattle.std.proofs.lemmas.List.Kept.{AllPairs-from_increasing}
 use Rattle.fd_table.specs.Releases.{Released, AreExactly, ClosesFile, ClosesDescription, AreReleased}
 use Rattle.fd_table.specs.Descriptors.{Descriptors, SameDescriptors}
-use Rattle.lock_manager.proofs.unique.OpenCallLaws.{both_same}
+
+-- descriptors that say the same at each place are the same
+pub same_everywhere : (D E : Descriptors) → SameDescriptors D E → D ≡ E
+same_everywhere D E h = grind (arith, common_steps)
+
+-- those that agree with the same ones are the same
+pub both_same : (D E old : Descriptors) → SameDescriptors D old → SameDescriptors E old → D ≡ E
+both_same D E old h k = same_everywhere D old h ∙ sym (same_everywhere E old k)
 
 -- each number is below all later ones
 abbrev Rise : List ℕ → Type 0
@@ -27,13 +34,11 @@ first_or_later x xs z h = grind (arith, common_steps)
 
 -- a member of a rising list is the first number or lies above it
 first_or_above : (x : ℕ) (xs : List ℕ) (z : ℕ) → Rise (x ∷ xs) → Contains (x ∷ xs) z → (x ≡ z) ⊎ (x < z)
-first_or_above x xs z rising h = ⊎_elim (λ same. inl same) (λ later. inr (first_below x xs z rising later)) (first_or_later x xs z h)
+first_or_above x xs z rising h = grind (arith, common_steps, first_or_later, first_below x xs z rising)
 
 -- where each member of one list is one of the other, and both begin with the same number, so is each member of the rest
 rest_within : (x : ℕ) (xs ys : List ℕ) → Rise (x ∷ xs) → ((z : ℕ) → Contains (x ∷ xs) z → Contains (x ∷ ys) z) → (z : ℕ) → Contains xs z → Contains ys z
-rest_within x xs ys rising within z h =
-    ⊎_elim (λ same. absurd (let below : x < z = first_below x xs z rising h in omega arith)) (λ later. later)
-    (first_or_later x ys z (within z (contains_later x xs z h)))
+rest_within x xs ys rising within z h = grind (arith, common_steps, first_below x xs z rising h, within z (contains_later x xs z h), first_or_later x ys z)
 
 -- rising lists with the same members are the same
 rising_unique : (xs ys : List ℕ) → Rise xs → Rise ys → ((z : ℕ) → Contains xs z → Contains ys z) → ((z : ℕ) → Contains ys z → Contains xs z) → xs ≡ ys

@@ -1,8 +1,7 @@
-use Rattle.std.proofs.Common.{◌<◌, sym, ap, subst, refl, length, arith}
-use Rattle.std.specs.Prelude.{slice_set}
-use Rattle.lock_manager.specs.WaitsKept.{AreStanding}
+use Rattle.std.proofs.Common.{◌<◌, ap, refl, length, arith, slice_set}
+use Rattle.std.proofs.lemmas.Result.{on_ok_weaker, on_err_weaker}
 use Rattle.lock_manager.specs.MachineView.{machine_locks, machine_state}
-use Rattle.lock_manager.proofs.kept.BookLemmas.{book_at, OnOk-map, OnErr-map}
+use Rattle.lock_manager.proofs.kept.BookLemmas.{book_at}
 use Rattle.lock_manager.proofs.kept.KeptLemmas.{kept_by_change, stays_known}
 use Rattle.lock_manager.proofs.kept.WaitLemmas.{keeps_same}
 use Rattle.lock_manager.proofs.kept.NextStateLemmas.{with_change, same_by_book}
@@ -24,25 +23,24 @@ invariant_of-self-clause-kept c =
     (λ agree alone. stays_known machine.waits c.refresh_owner.new.self books (slice_set books c.from.result c.set-done.new.self) c.deref.result.now c.args.file c.args.owner c.args.span c.deref.ensures.value c.requires.file
     c.refresh_owner.ensures.told c.refresh_owner.ensures.blocked agree alone)
 
-pub invariant_of-self-clause-standing : goal.invariant_of-self-clause-standing
-invariant_of-self-clause-standing c = subst (AreStanding c.args.self.now.tables c.args.self.now.states.items) (sym c.refresh_owner.ensures.waits) c.args.self.now.standing
-
 pub returns-clause-ok : goal.returns-clause-ok
 returns-clause-ok c =
     let machine = c.args.self.now in
     let books = machine.books.items in
     let within : c.args.file < length books = omega arith in
-    OnOk-map _ _ c.set-done.result c.set-done.ensures.ok
+    on_ok_weaker c.set-done.result
     (λ sets S h. with_change machine _ S c.args.file c.index_mut.result.now c.set-done.new.self c.args.owner c.args.span c.args.mode
     (ap (λ i. slice_set books i c.set-done.new.self) c.from.ensures) refl refl within
     (book_at books c.from.result c.args.file _ c.from.ensures within c.index_mut.ensures.value) sets c.refresh_owner.ensures.waits h)
+    c.set-done.ensures.ok
 
 pub returns-clause-memory : goal.returns-clause-memory
 returns-clause-memory c =
     let machine = c.args.self.now in
     let books = machine.books.items in
     let within : c.args.file < length books = omega arith in
-    OnErr-map _ _ c.set-done.result c.set-done.ensures.err
+    on_err_weaker c.set-done.result
     (λ same. same_by_book machine _ c.args.file c.index_mut.result.now c.set-done.new.self
     (ap (λ i. slice_set books i c.set-done.new.self) c.from.ensures) refl refl refl refl c.refresh_owner.ensures.waits within
     (book_at books c.from.result c.args.file _ c.from.ensures within c.index_mut.ensures.value) (keeps_same c.index_mut.result.now c.set-done.new.self same))
+    c.set-done.ensures.err

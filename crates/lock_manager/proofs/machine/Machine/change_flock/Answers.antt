@@ -1,7 +1,6 @@
-use Rattle.std.proofs.Common.{◌≡◌, ◌<◌, ◌∙◌, sym, ap, subst, refl, length, true, arith}
-use Rattle.std.specs.Prelude.{slice_get, slice_set}
+use Rattle.std.proofs.Common.{◌≡◌, ◌<◌, ◌∙◌, sym, ap, subst, refl, length, true, arith, slice_get, slice_set}
 use Rattle.lock_book.specs.Books.{SetsFlock}
-use Rattle.lock_manager.specs.WaitsKept.{has_place_at, AreStanding}
+use Rattle.lock_manager.specs.WaitsKept.{has_place_at}
 use Rattle.lock_manager.specs.MachineView.{machine_locks, machine_state}
 use Rattle.wait_core.specs.Locks.{locks_of}
 use Rattle.lock_manager.proofs.kept.WaitLemmas.{agree_elsewhere, places_kept}
@@ -26,9 +25,6 @@ invariant_of-self-clause-kept c =
     (agree_elsewhere books c.args.file c.flock_set_reserved.new.self)
     (λ none. flock_frees_none books c.args.file c.index_mut-book.result.now c.flock_set_reserved.new.self c.args.description c.args.mode within was sets
     (sym c.flock_mode.ensures.mode ∙ none_from_test c.flock_mode.result (sym c.is_some-had.ensures ∙ none))))
-
-pub invariant_of-self-clause-standing : goal.invariant_of-self-clause-standing
-invariant_of-self-clause-standing c = subst (AreStanding c.args.self.now.tables c.args.self.now.states.items) (sym c.touch_freed.ensures.same.waits) c.args.self.now.standing
 
 pub returns-clause-shows : goal.returns-clause-shows
 returns-clause-shows c S h =

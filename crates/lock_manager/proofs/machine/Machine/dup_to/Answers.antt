@@ -1,11 +1,11 @@
 use Rattle.std.proofs.Common.{arith, refl}
+use Rattle.std.proofs.lemmas.Result.{on_err_weaker}
 use Rattle.std.proofs.lemmas.Grind.{common_steps}
 use Rattle.fd_table.specs.TablesView.{limits_of}
 use Rattle.wait_core.specs.Locks.{locks_of}
 use Rattle.wait_core.specs.WaitsView.{waits_of}
 use Rattle.lock_manager.specs.declared.request.Reply.TheVariants as replies
 use Rattle.lock_manager.specs.declared.request.Request.TheVariants.{DupTo}
-use Rattle.lock_manager.proofs.kept.BookLemmas.{OnErr-map}
 use Rattle.lock_manager.proofs.calls.DescriptorCallLemmas.{done_by, refused_by, never_memory}
 use Rattle.lock_manager.proofs.kept.ClosingLemmas.{dup2_closes}
 use Rattle.lock_manager.proofs.kept.AfterCloseLemmas.{DupsTo, after_dup2, served_by_dup2, with_release}
@@ -51,5 +51,6 @@ returns-in-Err-clause-answers c =
 pub returns-in-Err-clause-sure : goal.returns-in-Err-clause-sure
 returns-in-Err-clause-sure c =
     let machine = c.args.self.now in
-    OnErr-map _ _ c.refusal.result c.refusal.ensures.memory
+    on_err_weaker c.refusal.result
     (never_memory (DupsTo machine c.args.p c.args.fd c.args.to) machine.tables c.dup2.new.self (locks_of machine.books.items) (waits_of machine.waits) c.in-Err.fault machine.kept.owned (λ D E memory gives. gives) c.in-Err.ensures.step)
+    c.refusal.ensures.memory

@@ -13,9 +13,6 @@ use Rattle.lock_manager.proofs.kept.StayOpenLemmas.{forked_stays, kept_by_call, 
 use Rattle.lock_manager.proofs.kept.WaitLemmas.{never_alive, standing_in}
 use Rattle.lock_manager.proofs.machine.Machine.fork.Goals as goal
 
-pub stand-requires : goal.stand-requires
-stand-requires c = let child = c.in-Ok.ensures.child in (child.0, omega (arith, child))
-
 pub invariant_of-self-clause-kept : goal.invariant_of-self-clause-kept
 invariant_of-self-clause-kept c =
     let machine = c.args.self.now in

@@ -1,6 +1,5 @@
-use Rattle.std.proofs.Common.{refl, ◌≡◌, ◌<◌, sym, ◌∙◌, ap, subst, length, Some, Ok, arith, true}
+use Rattle.std.proofs.Common.{refl, ◌≡◌, ◌<◌, sym, ◌∙◌, ap, subst, length, Some, Ok, arith, true, slice_get, slice_set}
 use Rattle.std.proofs.lemmas.Option.{same_Some}
-use Rattle.std.specs.Prelude.{slice_get, slice_set}
 use Rattle.lock_manager.specs.DescriptionLocks.{MayLock}
 use Rattle.lock_book.specs.Conflicts.{ByteConflict}
 use Rattle.wait_core.specs.Blocking.{IsBlockedIn}
@@ -9,7 +8,7 @@ use Rattle.wait_core.specs.WaitsView.{waits_of}
 use Rattle.lock_manager.specs.State.{with_process}
 use Rattle.lock_manager.specs.ProcessCalls.{without_wait}
 use Rattle.lock_manager.specs.declared.request.ProcState.TheVariants.{Live}
-use Rattle.lock_manager.specs.WaitsKept.{AreApart, IsSuspended, AreStanding, HaveRoom, has_place_at}
+use Rattle.lock_manager.specs.WaitsKept.{AreApart, IsSuspended, HaveRoom, has_place_at}
 use Rattle.lock_manager.specs.MachineView.{machine_locks, machine_state, machine_waits, machine_rules, machine_processes}
 use Rattle.lock_manager.proofs.kept.BookLemmas.{book_at}
 use Rattle.lock_manager.proofs.kept.GrantLemmas.{room_for_grant, room_granted, may_lock_granted, owner_granted, shows_granted}
@@ -65,9 +64,6 @@ invariant_of-self-clause-kept c =
     (record { waits = c.refresh_owner.ensures.waits; policy = c.refresh_owner.ensures.policy; processes = c.refresh_owner.ensures.processes })
     (λ agree alone. stays_known machine.waits c.refresh_owner.new.self books (slice_set books c.from.result c.set_reserved.new.self) c.deref.result.now wait.file wait.owner wait.span c.deref.ensures.value c.requires.grantable.well_formed.file
     c.refresh_owner.ensures.told c.refresh_owner.ensures.blocked agree alone)
-
-pub invariant_of-self-clause-standing : goal.invariant_of-self-clause-standing
-invariant_of-self-clause-standing c = subst (AreStanding c.interrupt.new.self.tables c.interrupt.new.self.states.items) (sym c.refresh_owner.ensures.waits) c.interrupt.new.self.standing
 
 pub returns : goal.returns
 unfolding machine_waits machine_state machine_rules machine_processes

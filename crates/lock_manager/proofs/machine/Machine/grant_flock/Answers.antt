@@ -1,6 +1,5 @@
-use Rattle.std.proofs.Common.{arith, ◌≡◌, ◌∙◌, sym, subst, true}
+use Rattle.std.proofs.Common.{arith, ◌≡◌, ◌∙◌, sym, subst, true, slice_get}
 use Rattle.std.proofs.lemmas.Grind.{common_steps}
-use Rattle.std.specs.Prelude.{slice_get}
 use Rattle.wait_core.specs.WaitsView.{waits_of}
 use Rattle.lock_manager.specs.State.{state_numbered}
 use Rattle.lock_manager.specs.declared.request.ProcState.TheVariants.{Live}

@@ -14,10 +14,6 @@ pub join_blocked-requires-clause-none : goal.join_blocked-requires-clause-none
 unfolding machine_state
 join_blocked-requires-clause-none c = grind (arith, common_steps, no_wait, waits_of_others)
 
-pub join_blocked-requires-clause-blocked : goal.join_blocked-requires-clause-blocked
-unfolding machine_rules machine_locks machine_waits
-join_blocked-requires-clause-blocked c = grind (arith, common_steps)
-
 pub stand-requires : goal.stand-requires
 unfolding machine_state
 stand-requires c = grind (arith, common_steps, place_of_live)

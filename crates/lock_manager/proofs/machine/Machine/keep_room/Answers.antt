@@ -1,6 +1,5 @@
 use Rattle.std.proofs.lemmas.Grind.{common_steps}
-use Rattle.std.proofs.Common.{◌<◌, ◌∙◌, ap, refl, length, arith}
-use Rattle.std.specs.Prelude.{slice_set}
+use Rattle.std.proofs.Common.{◌<◌, ◌∙◌, ap, refl, length, arith, slice_set}
 use Rattle.wait_core.specs.Locks.{locks_of}
 use Rattle.lock_manager.specs.MachineView.{machine_locks}
 use Rattle.lock_manager.proofs.kept.BookLemmas.{book_at, locks_stay}

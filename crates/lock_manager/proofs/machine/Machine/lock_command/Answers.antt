@@ -1,5 +1,4 @@
-use Rattle.std.proofs.Common.{sym, ◌∙◌, ap, rules, FitsSigned, to_z, of_z, w64}
-use Rattle.std.proofs.lemmas.Int.{to_z-of_z}
+use Rattle.std.proofs.Common.{sym, ◌∙◌, ap, rules, FitsSigned, to_z, of_z, w64, to_z-of_z}
 use Rattle.range_core.specs.Resolving.{resolution}
 use Rattle.lock_manager.proofs.calls.CommandLemmas.{on_range, may_wait_looked}
 use Rattle.lock_manager.proofs.machine.Machine.lock_command.Goals as goal
@@ -17,6 +16,6 @@ returns-in-Ok-clause-told c =
     on_range c.args.self.now c.range_command.new.self c.args.p c.args.n c.args.fd c.args.cmd lock look c.in-Ok.span c.range_command.result
     c.in-Some.ensures.look (sym c.refuses.ensures ∙ c.if-refuses.false)
     (c.in-Ok.ensures.resolution
-    ∙ ap (λ start. resolution lock.whence start (to_z w64 (of_z w64 lock.len)) look.offset look.size) (to_z-of_z w64 lock.start start_fits)
-    ∙ ap (λ len. resolution lock.whence lock.start len look.offset look.size) (to_z-of_z w64 lock.len len_fits))
+    ∙ ap (λ start. resolution lock.whence start (to_z w64 (of_z w64 lock.len)) look.offset look.size) (to_z-of_z start_fits)
+    ∙ ap (λ len. resolution lock.whence lock.start len look.offset look.size) (to_z-of_z len_fits))
     c.range_command.ensures.told

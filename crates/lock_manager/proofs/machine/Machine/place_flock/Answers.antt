@@ -1,6 +1,5 @@
 use Rattle.std.proofs.lemmas.Grind.{common_steps}
-use Rattle.std.proofs.Common.{◌<◌, ap, refl, length, arith}
-use Rattle.std.specs.Prelude.{slice_set}
+use Rattle.std.proofs.Common.{◌<◌, ap, refl, length, arith, slice_set}
 use Rattle.lock_manager.proofs.kept.BookLemmas.{book_at}
 use Rattle.lock_manager.proofs.kept.ChangedFlockLemmas.{place_taken, placed}
 use Rattle.lock_manager.proofs.kept.NextStateLemmas.{same_by_book}

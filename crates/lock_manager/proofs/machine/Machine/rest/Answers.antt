@@ -1,5 +1,5 @@
-use Rattle.std.proofs.Common.{arith, [], sym, subst}
-use Rattle.std.proofs.lemmas.Grind.{common_steps}
+use Rattle.std.proofs.Common.{[], sym, subst, refl}
+use Rattle.lock_manager.proofs.kept.NextStateLemmas.{with_tables}
 use Rattle.wait_core.specs.Blocking.{AllBlocked}
 use Rattle.wait_core.specs.Locks.{locks_of}
 use Rattle.wait_core.specs.WaitsView.{waits_of}
@@ -16,5 +16,5 @@ invariant_of-self-clause-kept c =
     kept_at_rest machine c.forget_changes.new.self now.waits (now.told locks)
     (now.blocked locks (subst (λ policy. AllBlocked policy locks [] (waits_of machine.waits)) (sym machine.policy) c.requires))
 
-pub invariant_of-self-clause-standing : goal.invariant_of-self-clause-standing
-invariant_of-self-clause-standing c = grind (arith, common_steps)
+pub returns-clause-shows : goal.returns-clause-shows
+returns-clause-shows c S h = with_tables c.args.self.now _ S S.descriptors refl refl c.forget_changes.ensures.waits h h.descriptors

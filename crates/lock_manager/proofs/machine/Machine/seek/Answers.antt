@@ -1,7 +1,6 @@
-use Rattle.std.proofs.Common.{arith, refl, subst, Ok, Err, rules, FitsSigned, to_z, of_z, w64}
+use Rattle.std.proofs.Common.{arith, refl, subst, Ok, Err, rules, FitsSigned, to_z, of_z, w64, to_z-of_z}
 use Rattle.std.proofs.lemmas.Grind.{common_steps}
 use Rattle.lock_manager.proofs.kept.WaitLemmas.{standing_in}
-use Rattle.std.proofs.lemmas.Int.{to_z-of_z}
 use Rattle.fd_table.specs.Calls.{SeekGives}
 use Rattle.lock_manager.specs.declared.request.Reply.TheVariants as replies
 use Rattle.lock_manager.specs.declared.request.Request.TheVariants.{Seek}
@@ -27,7 +26,7 @@ returns-in-Ok-clause-answers c =
     done_by (λ D result E. SeekGives D c.args.p c.args.fd c.args.offset result E) with_descriptors (λ done. replies.Ok) machine _ c.args.p (Seek c.args.fd c.args.offset) tt
     (λ S n outcome h. h)
     (λ S E h gives tables. with_tables machine _ S E refl refl refl h tables)
-    (subst (λ offset. Gave (λ D result E. SeekGives D c.args.p c.args.fd offset result E) machine.tables c.seek.new.self (Ok tt)) (to_z-of_z w64 c.args.offset fits) c.in-Ok.ensures.step)
+    (subst (λ offset. Gave (λ D result E. SeekGives D c.args.p c.args.fd offset result E) machine.tables c.seek.new.self (Ok tt)) (to_z-of_z fits) c.in-Ok.ensures.step)
 
 pub returns-in-Err-clause-answers : goal.returns-in-Err-clause-answers
 returns-in-Err-clause-answers c =
@@ -36,5 +35,5 @@ returns-in-Err-clause-answers c =
     refused_by (λ D result E. SeekGives D c.args.p c.args.fd c.args.offset result E) with_descriptors (λ done. replies.Ok) machine _ c.args.p (Seek c.args.fd c.args.offset) c.in-Err.fault c.refusal.result
     (λ S n outcome h. h)
     refl refl refl
-    (λ other. subst (λ offset. Gave (λ D result E. SeekGives D c.args.p c.args.fd offset result E) machine.tables c.seek.new.self (Err c.in-Err.fault)) (to_z-of_z w64 c.args.offset fits) c.in-Err.ensures.step)
+    (λ other. subst (λ offset. Gave (λ D result E. SeekGives D c.args.p c.args.fd offset result E) machine.tables c.seek.new.self (Err c.in-Err.fault)) (to_z-of_z fits) c.in-Err.ensures.step)
     c.in-Err.ensures.refused c.refusal.ensures.refused

@@ -5,8 +5,7 @@ use Rattle.lock_manager.proofs.calls.SetLemmas.{is_blocked, locked, deadlocked, 
 use Rattle.lock_manager.proofs.machine.Machine.set_command.Goals as goal
 
 pub change-requires-clause-owner : goal.change-requires-clause-owner
-change-requires-clause-owner c =
-    may_lock_waiting c.args.self.now.tables c.args.wanted.p c.args.wanted.file c.args.wanted.owner c.requires.may_wait
+change-requires-clause-owner c = grind (arith, common_steps, may_lock_waiting)
 
 pub returns-then-not-is_blocked-clause-told : goal.returns-then-not-is_blocked-clause-told
 returns-then-not-is_blocked-clause-told c =
@@ -17,10 +16,6 @@ pub returns-then-would_deadlock-clause-told : goal.returns-then-would_deadlock-c
 returns-then-would_deadlock-clause-told c =
     deadlocked c.args.self.now c.args.cmd c.args.wanted c.refused-then-would_deadlock.result c.requires.set (sym c.may_wait-may_wait.ensures ∙ c.if-not-may_wait.false) c.refused-then-would_deadlock.ensures
     ((rw c.may_wait-may_wait.ensures at c.is_blocked.ensures).0 c.if-not-is_blocked.false) (c.would_deadlock.ensures.0 c.if-would_deadlock.true)
-
-pub suspend-requires-clause-free_of_cycles : goal.suspend-requires-clause-free_of_cycles
-suspend-requires-clause-free_of_cycles c traditional cycle =
-    let is = c.would_deadlock.ensures.1 (c.requires.traditional.1 traditional, cycle) in cc
 
 pub suspend-requires-clause-blocked : goal.suspend-requires-clause-blocked
 suspend-requires-clause-blocked c = grind (arith, common_steps, is_blocked)

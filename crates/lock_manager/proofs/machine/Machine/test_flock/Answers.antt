@@ -1,7 +1,6 @@
 use Rattle.std.proofs.lemmas.Grind.{common_steps}
-use Rattle.std.proofs.Common.{◌≡◌, ◌∙◌, sym, ap, subst, arith}
+use Rattle.std.proofs.Common.{◌≡◌, ◌∙◌, sym, ap, arith}
 use Rattle.wait_core.specs.declared.Wait.{Wait}
-use Rattle.lock_manager.specs.DescriptionLocks.{MayWait}
 use Rattle.lock_manager.proofs.kept.ChangedFlockLemmas.{room_joined_flock, well_formed_flock}
 use Rattle.lock_manager.proofs.kept.ProcessLemmas.{place_of_live}
 use Rattle.lock_manager.specs.MachineView.{machine_processes, machine_state, machine_waits}
@@ -29,8 +28,7 @@ unfolding machine_state machine_processes
 join-requires-clause-well_formed c = grind (arith, common_steps, place_of_live, well_formed_flock)
 
 pub join-requires-clause-may_wait : goal.join-requires-clause-may_wait
-join-requires-clause-may_wait c =
-    subst (λ (w : Wait). MayWait c.args.self.now.tables w.p w.file w.owner) (sym c.requires.asked.is) c.requires.asked.may_wait
+join-requires-clause-may_wait c = grind (arith, common_steps)
 
 pub join-requires-clause-room : goal.join-requires-clause-room
 unfolding machine_waits
