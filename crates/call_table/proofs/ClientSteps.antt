@@ -7,7 +7,7 @@ use lib.ListN.{get_elem?}
 use Rattle.atomic_table.specs.Table.{State, Step, keeps, Allows}
 use Rattle.lock_manager.specs.declared.request.Request.{Request}
 use Rattle.session_core.specs.declared.TheConstants.{N_MAX}
-use Rattle.session_core.specs.Mail.{IsPrefixOf, requests_taken}
+use Rattle.session_core.specs.Mail.{requests_taken}
 use Rattle.call_table.specs.declared.setup.Setup.{Setup}
 use Rattle.call_table.specs.declared.view.View.{View}
 use Rattle.call_table.specs.declared.view.View.TheVariants.{Client}

@@ -18,7 +18,7 @@ use Rattle.call_table.specs.declared.tally.Tally.{Tally}
 use Rattle.call_table.specs.Spelling.{request_spelled, RequestFits}
 use Rattle.call_table.specs.Places.{Place, posted, index_of, IsProcess, word_at}
 use Rattle.call_table.specs.Views.{desk_of, tally_at}
-use Rattle.call_table.specs.Rule.{CellHas, BeginsRequest, request_cell, RequestsAgree, AnswersAgree, ClosingAgrees, Agrees, Kept, mark_of}
+use Rattle.call_table.specs.Rule.{request_cell, Agrees, Kept, mark_of}
 use Rattle.call_table.specs.Steps.{Seated, HasDesk, desk_looked, desk_read, Looks, Reads, IsRunOf}
 use Rattle.call_table.proofs.Pushing.{some_at, prefix_more, tally_here, tally_else}
 use Rattle.call_table.proofs.Frames.{request_six, desk_stays}

@@ -1,6 +1,6 @@
 -- The opening, and the steps by which seats are split and joined, keep the rule: for `Desk::meet` and `open_hub`.
 use Rattle.std.proofs.lemmas.Grind.{common_steps, merely}
-use Rattle.std.proofs.Common.{◌≡◌, ◌≢◌, ⊎_elim, ℕ, zero, suc, ◌+◌, ◌*◌, ◌<◌, ◌≤◌, Bool, true, true≢false, eqb, cond, eq-eqb, ne_eqb, List, [], ◌∷◌, length, get_or, set, refl, sym, ap, ◌∙◌, subst, arith, length-set}
+use Rattle.std.proofs.Common.{◌≡◌, ◌≢◌, ⊎_elim, ℕ, zero, suc, ◌+◌, ◌<◌, ◌≤◌, Bool, true, eqb, cond, eq-eqb, ne_eqb, List, [], ◌∷◌, length, get_or, set, refl, sym, ap, ◌∙◌, subst, arith, length-set}
 use Rattle.std.specs.Prelude.{replicate}
 use native.Mathlib.Decide.{ℕ_discrete}
 use mathlib.Core.Logic.{dite}
@@ -20,7 +20,8 @@ use Rattle.call_table.specs.declared.client_view.ClientView.{ClientView}
 use Rattle.call_table.specs.declared.before.Before.{Before}
 use Rattle.call_table.specs.declared.desk_view.DeskView.{DeskView}
 use Rattle.call_table.specs.declared.tally.Tally.{Tally}
-use Rattle.call_table.specs.Places.{Place, mark, posted, IsProcess, words_of, word_at}
+use Rattle.call_table.specs.Places.{Place, mark, words_of, word_at}
+use Rattle.call_table.specs.InTurn.{AreInTurn}
 use Rattle.call_table.specs.Views.{client_of, desk_of, new_client, new_desk, opening_view}
 use Rattle.call_table.specs.Rule.{Agrees, ClientStands, DeskStands, Outgrows, Stands, mark_of, Kept}
 use Rattle.call_table.specs.Steps.{Seated, Compares, met_desk, met_client, before_meeting}
@@ -240,6 +241,15 @@ may_part setup id d c before s k here =
 zeros : (n i : ℕ) → ◌≡◌ {A = ℕ} (get_or (replicate n 0) i 0) 0
 zeros n i = grind (arith, common_steps)
 
+opens_agree : (setup : Setup) (p : ℕ) → 1 ≤ p → p ≤ setup.processes
+    → Agrees setup.depth p (word_at setup.processes setup.depth (replicate (words_of setup.processes setup.depth) 0)) (new_desk setup)
+    (new_client setup p)
+opens_agree setup p low high =
+    let in_order : IsPrefixOf (requests_taken p (new_desk setup).journal) (new_client setup p).posted = ([], refl) in
+    let seen : IsPrefixOf (new_client setup p).seen (new_desk setup).journal = ([], refl) in
+    let in_turn : AreInTurn p (new_desk setup).journal = record { numbered = λ place. tt; most = omega arith } in
+    grind (arith, common_steps, zeros)
+
 pub opens : (setup : Setup) (words : List ℕ) → 1 ≤ setup.depth → words ≡ replicate (words_of setup.processes setup.depth) 0
     → Kept setup (opening {S = Unit {0}} words [] (opening_view setup))
 opens setup words deep is =
@@ -256,46 +266,7 @@ opens setup words deep is =
       deep = deep;
       run = merely (opening_state, record { leads = refl; numbered = λ p place. tt });
       marked = zeros (words_of setup.processes setup.depth) 0;
-      each = λ p a b. record {
-        requests = record {
-          posted_word = zeros (words_of setup.processes setup.depth) p;
-          taken_word = zeros (words_of setup.processes setup.depth) (setup.processes + p);
-          in_order = ([], refl);
-          looked_least = omega arith;
-          looked_most = omega arith;
-          fit = λ before r e. absurd (some-ne-none r (sym e));
-          cells = λ before r h e. absurd (some-ne-none r (sym e));
-          few = omega arith;
-          room = omega arith;
-          filled = λ i x e. absurd (some-ne-none x (sym e));
-          filled_most = omega arith;
-          reads = λ e. absurd (omega arith);
-          reads_some = λ e. absurd (omega arith);
-        };
-        answers = record {
-          answered_word = zeros (words_of setup.processes setup.depth) (2 * setup.processes + p);
-          collected_most = omega arith;
-          known_most = omega arith;
-          published_most = omega arith;
-          in_turn = record { numbered = λ place. tt; most = omega arith };
-          fit = λ before x h. absurd (omega arith);
-          cells = λ before x h k. absurd (omega arith);
-          seen = ([], refl);
-          seen_known = omega arith;
-          reads = λ x e. absurd (some-ne-none x (sym e));
-          reads_known = λ h. absurd (omega arith);
-          filled = λ e. absurd (omega arith);
-          fills = λ e. absurd (omega arith);
-          filled_most = λ e. absurd (omega arith);
-          fills_some = λ e. absurd (omega arith);
-        };
-        closing = record {
-          all_published = λ _. refl;
-          over_closed = λ h. absurd (true≢false (sym h));
-          drained_over = λ h. absurd (true≢false (sym h));
-          drained_all = λ _. refl;
-        };
-      };
+      each = opens_agree setup;
     }
   where
     one : (id : ℕ) (v : View) → get_elem? (opening_view setup ∷ []) id ≡ some v

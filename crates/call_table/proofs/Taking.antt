@@ -1,7 +1,7 @@
 -- The step by which the desk takes a request keeps the rule: for `Desk::close`, `find_next`, `publish_for` and others.
 use Rattle.std.proofs.lemmas.Grind.{common_steps}
 use Rattle.std.proofs.lemmas.List.Elements.{filter-append}
-use Rattle.std.proofs.Common.{◌≡◌, ◌≢◌, ℕ, ◌+◌, ◌<◌, ◌≤◌, true, false, true≢false, eq-eqb, List, [], ◌∷◌, ◌++◌, length, set, refl, sym, ap, ◌∙◌, subst, arith, length-append, length-set, append_assoc, append-nil}
+use Rattle.std.proofs.Common.{◌≡◌, ◌≢◌, ℕ, ◌+◌, ◌<◌, ◌≤◌, true, false, true≢false, eq-eqb, List, [], ◌∷◌, ◌++◌, length, set, refl, sym, ap, ◌∙◌, subst, arith, length-append, length-set, append-nil}
 use Rattle.std.proofs.lemmas.List.{map-append}
 use native.Mathlib.Decide.{ℕ_discrete}
 use Rattle.std.proofs.Math.Decide.{dec_lt}
@@ -14,7 +14,7 @@ use Rattle.lock_manager.specs.declared.request.Request.{Request}
 use Rattle.lock_manager.specs.declared.request.Reply.{Reply}
 use Rattle.session_core.specs.Event.{Event}
 use Rattle.session_core.specs.Runs.{IsRun}
-use Rattle.session_core.specs.Mail.{IsPrefixOf, requests_taken, answers_in, answers_from, answers_to}
+use Rattle.session_core.specs.Mail.{IsPrefixOf, requests_taken, answers_to}
 use Rattle.call_table.specs.declared.setup.Setup.{Setup}
 use Rattle.call_table.specs.declared.view.View.TheVariants.{Desk}
 use Rattle.call_table.specs.declared.client_view.ClientView.{ClientView}

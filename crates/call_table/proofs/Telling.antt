@@ -1,6 +1,6 @@
 -- The answers among the notes of one more event, in the order in which they are published: for `publish_notes`.
 use Rattle.std.proofs.lemmas.Grind.{common_steps}
-use Rattle.std.proofs.Common.{◌≡◌, ◌≢◌, ℕ, ◌+◌, ◌<◌, get_or, take, drop, length-append, eqb, cond, eq-eqb, ne_eqb, Bool, true, false, List, [], ◌∷◌, ◌++◌, length, refl, sym, ap, ◌∙◌, subst, arith, append_assoc, append-nil}
+use Rattle.std.proofs.Common.{◌≡◌, ◌≢◌, ℕ, ◌+◌, ◌<◌, get_or, take, drop, length-append, eq-eqb, ne_eqb, List, [], ◌∷◌, ◌++◌, length, refl, sym, ap, ◌∙◌, subst, arith, append_assoc, append-nil}
 use mathlib.Core.Option.{some}
 use lib.ListN.{get_elem?}
 use Rattle.lock_manager.specs.declared.request.Reply.{Reply}
@@ -24,39 +24,27 @@ use Rattle.call_table.proofs.InTurnLaws.{number_at}
 exact_from : (q place : ℕ) (H : List Event) (e : Event) → answers_from q place (H ++ e ∷ []) ≡ answers_from q place H ++ answers_in
     q (place + length H) e.notes
 exact_from q place [] e = append-nil (answers_in q place e.notes) ∙ ap (λ (n : ℕ). answers_in q n e.notes) (omega arith)
-exact_from q place (x ∷ xs) e =
-    ap (λ (l : List (ℕ × Reply × ℕ)). answers_in q place x.notes ++ l)
-    (exact_from q (place + 1) xs e ∙ ap (λ (n : ℕ). answers_from q (place + 1) xs ++ answers_in q n e.notes) (omega arith))
-    ∙ sym (append_assoc (answers_in q place x.notes) (answers_from q (place + 1) xs)
-    (answers_in q (place + length (x ∷ xs)) e.notes))
+exact_from q place (x ∷ xs) e = grind (arith, common_steps, exact_from q (place + 1) xs e, append_assoc)
 
 -- what one more event answers to a process
 pub answers_exact : (q : ℕ) (H : List Event) (e : Event)
     → answers_to q (H ++ e ∷ []) ≡ answers_to q H ++ answers_in q (length H + 1) e.notes
 answers_exact q H e = exact_from q 1 H e ∙ ap (λ (n : ℕ). answers_to q H ++ answers_in q n e.notes) (omega arith)
 
-cond_append : (b : Bool) (a : ℕ × Reply × ℕ) (x y : List (ℕ × Reply × ℕ)) → cond b (a ∷ (x ++ y)) (x ++ y) ≡ cond b (a ∷ x) x ++ y
-cond_append true a x y = refl
-cond_append false a x y = refl
-
 pub answers_in-append : (q place : ℕ) (xs ys : List Note)
     → answers_in q place (xs ++ ys) ≡ answers_in q place xs ++ answers_in q place ys
 answers_in-append q place [] ys = refl
-answers_in-append q place (Answer p n reply ∷ xs) ys =
-    ap (λ (l : List (ℕ × Reply × ℕ)). cond (eqb p q) ((n, reply, place) ∷ l) l) (answers_in-append q place xs ys)
-    ∙ cond_append (eqb p q) (n, reply, place) (answers_in q place xs) (answers_in q place ys)
+answers_in-append q place (Answer p n reply ∷ xs) ys = grind (arith, common_steps, answers_in-append q place xs ys)
 answers_in-append q place (Waits p n ∷ xs) ys = answers_in-append q place xs ys
 
 -- the answer of the next note: to its process one more, to others none
 pub answer_here : (q place n : ℕ) (reply : Reply) (notes : List Note)
     → answers_in q place (Answer q n reply ∷ notes) ≡ (n, reply, place) ∷ answers_in q place notes
-answer_here q place n reply notes =
-    ap (λ (b : Bool). cond b ((n, reply, place) ∷ answers_in q place notes) (answers_in q place notes)) (eq-eqb q q refl)
+answer_here q place n reply notes = grind (arith, common_steps, eq-eqb)
 
 pub answer_else : (q p place n : ℕ) (reply : Reply) (notes : List Note) → p ≢ q
     → answers_in q place (Answer p n reply ∷ notes) ≡ answers_in q place notes
-answer_else q p place n reply notes other =
-    ap (λ (b : Bool). cond b ((n, reply, place) ∷ answers_in q place notes) (answers_in q place notes)) (ne_eqb p q other)
+answer_else q p place n reply notes other = grind (arith, common_steps, ne_eqb)
 
 at_middle : {A : Type 0} (xs : List A) (y : A) (ys : List A) → get_elem? (xs ++ y ∷ ys) (length xs) ≡ some y
 at_middle [] y ys = refl
