@@ -1,15 +1,13 @@
 -- What a status tells, from what the server's call says of its answer: for the exports of the calls that are answered.
-use Rattle.std.proofs.Common.{◌≡◌, ◌≢◌, ℕ, refl, sym, ap, ◌∙◌, subst, inl, inr}
+use Rattle.std.proofs.Common.{arith, ◌↔◌, Option, Some, None, Result, Err, IfOk, IsOk, OnErr, ◌≡◌, ◌≢◌, ℕ, sym, ◌∙◌}
+use Rattle.std.proofs.lemmas.Grind.{common_steps}
 use lib.Dec.{T}
-use Rattle.std.specs.Prelude.{◌↔◌, ◌==◌, Option, Some, None, Result, Ok, Err, IfOk, IsOk, OnErr}
 use Rattle.std.proofs.lemmas.Bool.{false≢true}
 use Rattle.range_core.specs.declared.Mode.{Mode}
 use Rattle.range_core.specs.declared.Span.{Span}
 use Rattle.range_core.specs.declared.memory.Memory.{Memory}
 use Rattle.lock_server.specs.declared.Answer.{Answer}
-use Rattle.lock_server.specs.declared.Answer.TheVariants.{Done, Blocked}
 use Rattle.lock_server.specs.declared.WaitAnswer.{WaitAnswer}
-use Rattle.lock_server.specs.declared.WaitAnswer.TheVariants as told
 use Rattle.lock_server.specs.declared.WaitFault.{WaitFault}
 use Rattle.lock_server.specs.declared.WaitFault.TheVariants as fault
 use Rattle.wait_core.specs.declared.Policy.{Policy}
@@ -17,21 +15,17 @@ use Rattle.lock_server.specs.declared.server.LockServer.{LockServer}
 use Rattle.lock_server.specs.ServerView.{policy_of, state_of}
 use Rattle.lock_server.specs.States.{State, SameState, IsTaken}
 use Rattle.lock_server_c.specs.declared.handle.Handle.{Handle}
-use Rattle.lock_server_c.specs.declared.status.TheConstants.{DONE, BLOCKED, WAITS, DEADLOCK, TICKET_TAKEN, NO_MEMORY}
-use Rattle.lock_server_c.specs.Owned.{BothHave, Has}
+use Rattle.lock_server_c.specs.declared.status.TheConstants.{TICKET_TAKEN, NO_MEMORY}
+use Rattle.lock_server_c.specs.Owned.{Has}
 use Rattle.lock_server_c.specs.Told.{AnswerTold, WaitTold, AnswersWait, SplitsLock, status_of, wait_status_of}
 
 pub answer_told : (answer : Result Answer Memory) (S T : State) (comes_to : Answer → Type 0)
     → IfOk answer comes_to → OnErr answer (SameState S T) → AnswerTold (status_of answer) S T comes_to
-answer_told (Ok Done) S T comes_to ok err = inl (refl, ok)
-answer_told (Ok Blocked) S T comes_to ok err = inr (inl (refl, ok))
-answer_told (Err memory) S T comes_to ok err = inr (inr (refl, err))
+answer_told answer S T comes_to ok err = grind (arith, common_steps)
 
 -- an answer isn't told as no memory
 answered : (answer : Result Answer Memory) → IsOk answer → status_of answer ≡ NO_MEMORY → ⊥
-answered (Ok Done) ok e = absurd (subst (λ (n : ℕ). T (n == DONE)) e tt)
-answered (Ok Blocked) ok e = absurd (subst (λ (n : ℕ). T (n == BLOCKED)) e tt)
-answered (Err memory) ok e = false≢true ok
+answered answer ok e = grind (arith, common_steps, false≢true)
 
 pub removal_told : (answer : Result Answer Memory) (status : ℕ) (mode : Option Mode) → status ≡ status_of answer → (mode ≡ None → IsOk answer) → mode ≡ None
     → status ≢ NO_MEMORY
@@ -40,33 +34,21 @@ removal_told answer status mode told_by ok unlock e = answered answer (ok unlock
 pub unlock_told : (handle : Option LockServer) (server : LockServer) (answer : Result Answer Memory) (status file owner : ℕ) (span : Span) (mode : Option Mode)
     → handle ≡ Some server → status ≡ status_of answer → (mode ≡ None → (¬ SplitsLock server file owner span) → IsOk answer)
     → Has handle (λ held. mode ≡ None → (¬ SplitsLock held file owner span) → status ≢ NO_MEMORY)
-unlock_told handle server answer status file owner span mode before told_by ok =
-    subst (λ (o : Option LockServer). Has o (λ held. mode ≡ None → (¬ SplitsLock held file owner span) → status ≢ NO_MEMORY)) (sym before)
-    (λ unlock whole e. answered answer (ok unlock whole) (sym told_by ∙ e))
+unlock_told handle server answer status file owner span mode before told_by ok = grind (arith, common_steps, answered)
 
 pub wait_told : (answer : Result WaitAnswer WaitFault) (S T : State) (comes_to : WaitAnswer → Type 0)
     → IfOk answer comes_to → OnErr answer (SameState S T) → WaitTold (wait_status_of answer) S T comes_to
-wait_told (Ok told.Done) S T comes_to ok err = inl (refl, ok)
-wait_told (Ok told.Waits) S T comes_to ok err = inr (inl (refl, ok))
-wait_told (Ok told.Deadlock) S T comes_to ok err = inr (inr (inl (refl, ok)))
-wait_told (Err fault.TicketTaken) S T comes_to ok err = inr (inr (inr (inl refl, err)))
-wait_told (Err (fault.Memory memory)) S T comes_to ok err = inr (inr (inr (inr refl, err)))
+wait_told answer S T comes_to ok err = grind (arith, common_steps)
 
 -- the status that says that the ticket is taken is that of no other answer
 taken_alone : (answer : Result WaitAnswer WaitFault) → wait_status_of answer ≡ TICKET_TAKEN → answer ≡ Err fault.TicketTaken
-taken_alone (Ok told.Done) e = absurd (subst (λ (n : ℕ). T (n == DONE)) e tt)
-taken_alone (Ok told.Waits) e = absurd (subst (λ (n : ℕ). T (n == WAITS)) e tt)
-taken_alone (Ok told.Deadlock) e = absurd (subst (λ (n : ℕ). T (n == DEADLOCK)) e tt)
-taken_alone (Err fault.TicketTaken) e = refl
-taken_alone (Err (fault.Memory memory)) e = absurd (subst (λ (n : ℕ). T (n == NO_MEMORY)) e tt)
+taken_alone answer e = grind (arith, common_steps)
 
 -- so it says just what the answer says, of the server in the handle
 pub taken_told : (handle : Option LockServer) (server : LockServer) (answer : Result WaitAnswer WaitFault) (status ticket : ℕ)
     → handle ≡ Some server → status ≡ wait_status_of answer → (answer ≡ Err fault.TicketTaken) ↔ IsTaken (state_of server) ticket
     → Has handle (λ held. (status ≡ TICKET_TAKEN) ↔ IsTaken (state_of held) ticket)
-taken_told handle server answer status ticket before told_by known =
-    subst (λ (o : Option LockServer). Has o (λ held. (status ≡ TICKET_TAKEN) ↔ IsTaken (state_of held) ticket)) (sym before)
-    (λ e. known.0 (taken_alone answer (sym told_by ∙ e)), λ is_taken. told_by ∙ ap wait_status_of (known.1 is_taken))
+taken_told handle server answer status ticket before told_by known = grind (arith, common_steps, taken_alone)
 
 -- what a request that may wait tells, of the servers in the handle before and after
 pub wait_goes : (old new : Handle) (server next : LockServer) (answer : Result WaitAnswer WaitFault) (status : ℕ)
@@ -74,9 +56,4 @@ pub wait_goes : (old new : Handle) (server next : LockServer) (answer : Result W
     → old.server ≡ Some server → new.server ≡ Some next → status ≡ wait_status_of answer → policy_of next ≡ policy_of server
     → IfOk answer (λ a. comes_to (policy_of server) (state_of server) a (state_of next)) → OnErr answer (SameState (state_of server) (state_of next))
     → AnswersWait old new status comes_to
-wait_goes old new server next answer status comes_to before after told_by policy ok err =
-    let S = state_of server in let U = state_of next in let comes : WaitAnswer → Type 0 = λ a. comes_to (policy_of server) S a U in
-    let holds : LockServer → LockServer → Type 0 = λ s n. (policy_of n ≡ policy_of s) × WaitTold status (state_of s) (state_of n) (λ a. comes_to (policy_of s) (state_of s) a (state_of n)) in
-    subst (λ (o : Option LockServer). BothHave o new.server holds) (sym before)
-    (subst (λ (n : Option LockServer). BothHave (Some server) n holds) (sym after)
-    (policy, subst (λ (k : ℕ). WaitTold k S U comes) (sym told_by) (wait_told answer S U comes ok err)))
+wait_goes old new server next answer status comes_to before after told_by policy ok err = grind (arith, common_steps, wait_told)

@@ -1,6 +1,5 @@
 -- What clap states of the program's command: for `options`.
-use Rattle.std.proofs.Common.{◌≡◌, ◌≢◌, ◌∙◌, ap, ap₂, refl, Bool, true, false, ℕ, ◌==◌, ◌&&◌, ◌||◌, codes, List, [], ◌∷◌, Option, Some, None, Result, subst, sym, inl, inr, arith}
-use Rattle.std.specs.Prelude.{if◌then◌else◌, is_some, length, option_and_then, option_map, IfOk, IsErr, Ok, Err}
+use Rattle.std.proofs.Common.{◌≡◌, ◌≢◌, ◌∙◌, ap, ap₂, refl, Bool, true, false, ℕ, ◌==◌, ◌&&◌, ◌||◌, codes, List, [], ◌∷◌, Option, Some, None, Result, subst, sym, inl, inr, arith, if◌then◌else◌, is_some, length, option_and_then, option_map, IfOk, IsErr, Ok, Err}
 use Rattle.std.proofs.lemmas.Bool.Decides.{eqb_tells}
 use Rattle.clap.specs.Lexer.{long_of, long_of_rest, short_of, short_of_rest, strip_byte}
 use Rattle.clap.specs.Walk.{Held, Row, Rule, Step, Waiting, Walk, after_step, finished, idle, long_or_other, nothing_held, option, plain_word, positional, reacted, settled, short_or_plain, subcommand_met, subcommand_or_other, trailing, value, walk, walked, word_met}

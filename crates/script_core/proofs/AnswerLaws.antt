@@ -1,6 +1,6 @@
 -- A line of a journal has one answer: one meaning, and one text of what is there in its place; for `lines_have_one_answer`.
 use Rattle.std.proofs.lemmas.Grind.{common_steps}
-use Rattle.std.proofs.Common.{rules, ◌≡◌, ℕ, ◌+◌, ◌≤◌, ◌==◌, List, [], ◌∷◌, ◌++◌, length, drop, inl, inr, codes, decimal, Some, IfSome, slice_get, refl, sym, ap, ◌∙◌, subst, arith, eq-eqb}
+use Rattle.std.proofs.Common.{rules, ◌≡◌, ℕ, ◌+◌, ◌≤◌, ◌==◌, List, [], ◌∷◌, ◌++◌, length, drop, inl, inr, codes, Some, IfSome, slice_get, refl, sym, ap, ◌∙◌, subst, arith, eq-eqb}
 use Rattle.std.proofs.lemmas.List.{length-drop}
 use Rattle.std.proofs.lemmas.List.Elements.{filter-append}
 use Rattle.lock_book.specs.OneReport.{LocksHaveOneReport}
@@ -16,8 +16,7 @@ use Rattle.session_core.specs.Legality.{IsIllegal, WouldHave}
 use Rattle.script_core.specs.declared.place.Place.{Place}
 use Rattle.script_core.specs.declared.place.JournalLine.TheVariants as lines
 use Rattle.script_core.specs.declared.report.ReportLine.{ReportLine}
-use Rattle.script_core.specs.EntryText.{tag, entry_text}
-use Rattle.script_core.specs.ReportText.{state_word}
+use Rattle.script_core.specs.EntryText.{entry_text}
 use Rattle.script_core.specs.ExpectedText.{expected_text, due_text}
 use Rattle.script_core.specs.ReportReading.{AreTextsOf, first_due}
 use Rattle.script_core.specs.JournalReading.{LinesHaveOneMeaning, rules_at, processes_at}
@@ -43,8 +42,7 @@ one_state one rules processes S (event ∷ events) T U h k =
 last_step : (rules : Rules) (processes : ℕ) (S : State) (events : List Event) (event : Event) (T : State) → Leads rules processes S (events ++ event ∷ []) T
     → (U : State) × Leads rules processes S events U × (V : State) × IsStep rules processes U event V
 last_step rules processes S [] event T h = (S, refl, h.0, h.1)
-last_step rules processes S (first ∷ events) event T h =
-    let rest = last_step rules processes h.0 events event T h.2 in (rest.0, (h.0, h.1, rest.1), rest.2, rest.3)
+last_step rules processes S (first ∷ events) event T h = grind (arith, common_steps, last_step rules processes h.0 events)
 
 -- which is that state
 last_step_at : StepHasOneOutcome → (rules : Rules) (processes : ℕ) (events : List Event) (event : Event) (S T : State)
@@ -69,22 +67,14 @@ last_number rules processes events event T run =
 expected_as : StepHasOneOutcome → (rules : Rules) (processes : ℕ) (events : List Event) (event : Event) (S : State) (a b : Expected)
     → IsRun rules processes events S → WouldHave rules processes events S event a → WouldHave rules processes events S event b
     → expected_text event a ≡ expected_text event b
-expected_as one rules processes events event S (NoRequest state) (NoRequest other) run h k =
-    ap (λ s. codes "process " ++ decimal event.p ++ codes " is " ++ state_word s) (sym h.0 ∙ k.0)
+expected_as one rules processes events event S (NoRequest state) (NoRequest other) run h k = grind (arith, common_steps)
 expected_as one rules processes events event S (NoRequest state) (NumberAfter taken) run h k = absurd (h.1 (sym h.0 ∙ k.0))
-expected_as one rules processes events event S (NoRequest state) (Notes notes) run h k =
-    let step = last_step_at one rules processes events (record event { notes = notes.items }) S k.1.0 run k.1.1 in
-    absurd (h.1 (sym h.0 ∙ step.1.live))
+expected_as one rules processes events event S (NoRequest state) (Notes notes) run h k = grind (arith, common_steps, last_step_at)
 expected_as one rules processes events event S (NumberAfter taken) (NoRequest state) run h k = absurd (k.1 (sym k.0 ∙ h.0))
-expected_as one rules processes events event S (NumberAfter taken) (NumberAfter other) run h k =
-    ap (λ n. tag event.p (n + 1) ++ codes " expected") (h.1 ∙ sym k.1)
-expected_as one rules processes events event S (NumberAfter taken) (Notes notes) run h k =
-    absurd (h.2 (last_number rules processes events (record event { notes = notes.items }) k.1.0 k.1.1 ∙ ap (λ n. n + 1) (sym h.1)))
-expected_as one rules processes events event S (Notes notes) (NoRequest state) run h k =
-    let step = last_step_at one rules processes events (record event { notes = notes.items }) S h.1.0 run h.1.1 in
-    absurd (k.1 (sym k.0 ∙ step.1.live))
-expected_as one rules processes events event S (Notes notes) (NumberAfter taken) run h k =
-    absurd (k.2 (last_number rules processes events (record event { notes = notes.items }) h.1.0 h.1.1 ∙ ap (λ n. n + 1) (sym k.1)))
+expected_as one rules processes events event S (NumberAfter taken) (NumberAfter other) run h k = grind (arith, common_steps)
+expected_as one rules processes events event S (NumberAfter taken) (Notes notes) run h k = grind (arith, common_steps, last_number)
+expected_as one rules processes events event S (Notes notes) (NoRequest state) run h k = grind (arith, common_steps, last_step_at)
+expected_as one rules processes events event S (Notes notes) (NumberAfter taken) run h k = grind (arith, common_steps, last_number)
 expected_as one rules processes events event S (Notes notes) (Notes others) run h k =
     let first = last_step_at one rules processes events (record event { notes = notes.items }) S h.1.0 run h.1.1 in
     let second = last_step_at one rules processes events (record event { notes = others.items }) S k.1.0 run k.1.1 in

@@ -27,8 +27,7 @@ five_texts xs d h h2 = grind (arith, common_steps)
 
 pub six_texts : (xs : List (Bor (List ℕ))) (d : Bor (List ℕ)) → 6 ≤ length xs → length xs < 7
     → texts xs ≡ (get_or xs 0 d).now ∷ (get_or xs 1 d).now ∷ (get_or xs 2 d).now ∷ (get_or xs 3 d).now ∷ (get_or xs 4 d).now ∷ (get_or xs 5 d).now ∷ []
-six_texts [] d at_least below = absurd (omega (arith, at_least))
-six_texts (a ∷ xs) d at_least below = ap (λ ws. a.now ∷ ws) (five_texts xs d (omega (arith, at_least)) (omega (arith, below)))
+six_texts xs d at_least below = grind (arith, common_steps, five_texts)
 
 -- what is first bad stays so with more words behind it
 pub IsFirstBad-append : (arguments more : List Argument) (words others : List (List ℕ)) (cause : Cause)
@@ -42,14 +41,12 @@ IsFirstBad-append (argument ∷ arguments) more (word ∷ words) others cause (i
 pub bad_bare_lock : (limits : Limits) (name fd kind whence start len : List ℕ) (cause : Cause)
     → IsFirstBad lock_arguments (fd ∷ kind ∷ whence ∷ start ∷ len ∷ []) cause
     → CommandGives limits (name ∷ fd ∷ kind ∷ whence ∷ start ∷ len ∷ []) (lock_command name) (fd ∷ kind ∷ whence ∷ start ∷ len ∷ []) (Err cause)
-bad_bare_lock limits name fd kind whence start len cause bad =
-    inl (cause, IsFirstBad-append lock_arguments (AnyNumber ∷ []) (fd ∷ kind ∷ whence ∷ start ∷ len ∷ []) [] cause bad, refl)
+bad_bare_lock limits name fd kind whence start len cause bad = grind (arith, common_steps, IsFirstBad-append)
 
 pub bad_lock : (limits : Limits) (name fd kind whence start len pid : List ℕ) (cause : Cause)
     → IsFirstBad lock_arguments (fd ∷ kind ∷ whence ∷ start ∷ len ∷ []) cause
     → CommandGives limits (name ∷ fd ∷ kind ∷ whence ∷ start ∷ len ∷ pid ∷ []) (lock_command name) (fd ∷ kind ∷ whence ∷ start ∷ len ∷ pid ∷ []) (Err cause)
-bad_lock limits name fd kind whence start len pid cause bad =
-    inl (cause, IsFirstBad-append lock_arguments (AnyNumber ∷ []) (fd ∷ kind ∷ whence ∷ start ∷ len ∷ []) (pid ∷ []) cause bad, refl)
+bad_lock limits name fd kind whence start len pid cause bad = grind (arith, common_steps, IsFirstBad-append)
 
 pub bad_pid : (limits : Limits) (name : List ℕ) (words : List (List ℕ)) (pid : List ℕ) (fd : ℕ) (lock : Lock) (cause : Cause) → words ≡ lock_words fd lock
     → fd < 2 ^ 32 → FitsSigned w64 lock.start → FitsSigned w64 lock.len → IsBad AnyNumber pid cause
@@ -69,8 +66,7 @@ written_zero z e = subst (λ z. signed_decimal z ∷ [] ≡ pid_words z ++ codes
 
 says_lock : (cmd : LkCmd) (fd : ℕ) (lock : Lock) → (lock.pid ≡ pos 0) ⊎ (signed_decimal lock.pid ∷ [] ≡ pid_words lock.pid)
     → Says (lock_command_word cmd ∷ (lock_words fd lock ++ signed_decimal lock.pid ∷ [])) (Lk fd cmd lock)
-says_lock cmd fd lock (inl none) = inr (none, ap (λ ws. lock_command_word cmd ∷ (lock_words fd lock ++ ws)) (written_zero lock.pid none))
-says_lock cmd fd lock (inr written) = inl (ap (λ ws. lock_command_word cmd ∷ (lock_words fd lock ++ ws)) written)
+says_lock cmd fd lock h = grind (arith, common_steps, written_zero)
 
 pub good_lock : (limits : Limits) (cmd : LkCmd) (words : List (List ℕ)) (pid : List ℕ) (fd : ℕ) (lock : Lock) (z : ℤ) → words ≡ lock_words fd lock
     → pid ≡ signed_decimal z

@@ -1,18 +1,15 @@
 -- Which lines begin with `#` and which don't, and which texts go with the lines that do: for `explanations_are_comments`.
 use Rattle.std.proofs.lemmas.Grind.{common_steps}
-use Rattle.std.proofs.Common.{rules, ℕ, zero, suc, ◌≡◌, ◌+◌, ◌==◌, ◌/◌, ◌%◌, Bool, true, false, not, ◌&&◌, cond, Option, Some, None, List, [], ◌∷◌, ◌++◌, flat_map, codes, decimal, ℤ, pos, negsuc, refl, sym, ap, subst, ◌∙◌, arith, append_assoc, inl, inr}
+use Rattle.std.proofs.Common.{rules, ℕ, zero, suc, ◌≡◌, ◌+◌, ◌==◌, ◌/◌, ◌%◌, Bool, true, false, not, ◌&&◌, cond, Option, Some, None, List, [], ◌∷◌, ◌++◌, flat_map, codes, decimal, ℤ, refl, sym, ap, subst, ◌∙◌, arith, append_assoc, inl, inr}
 use Rattle.std.specs.List.{list_all, slice_split, join_with_byte}
 use Rattle.std.specs.Fmt.{signed_decimal, digits, digits_onto, digit_glyph}
 use Rattle.std.proofs.lemmas.Bool.{cases_Bool}
 use Rattle.std.proofs.lemmas.Bool.Decides.{nat_tests}
 use Rattle.std.proofs.lemmas.List.Folds.{list_all-append}
 use Rattle.range_core.specs.declared.Mode.{Mode}
-use Rattle.range_core.specs.declared.Mode.TheVariants as modes
 use Rattle.range_core.specs.declared.Kind.{Kind}
 use Rattle.range_core.specs.declared.Whence.{Whence}
-use Rattle.range_core.specs.declared.Span.{Span}
 use Rattle.lock_book.specs.declared.Owner.{Owner}
-use Rattle.lock_book.specs.declared.Owner.TheVariants as owners
 use Rattle.lock_book.specs.declared.Held.{Held}
 use Rattle.fd_table.specs.declared.Access.{Access}
 use Rattle.wait_core.specs.declared.Family.{Family}
@@ -20,10 +17,8 @@ use Rattle.wait_core.specs.declared.Wait.{Wait}
 use Rattle.lock_manager.specs.declared.request.Rules.{Rules}
 use Rattle.lock_manager.specs.declared.request.LkCmd.{LkCmd}
 use Rattle.lock_manager.specs.declared.request.FlockOp.{FlockOp}
-use Rattle.lock_manager.specs.declared.request.Errno.{Errno}
 use Rattle.lock_manager.specs.declared.request.Reply.{Reply}
 use Rattle.lock_manager.specs.declared.request.Note.{Note}
-use Rattle.lock_manager.specs.declared.request.Note.TheVariants.{Answer, Waits}
 use Rattle.lock_manager.specs.declared.request.InTheWay.{InTheWay}
 use Rattle.lock_manager.specs.declared.request.InTheWay.TheVariants as obstacles
 use Rattle.lock_manager.specs.declared.request.Request.{Request}
@@ -32,9 +27,9 @@ use Rattle.lock_manager.specs.State.{State}
 use Rattle.session_core.specs.Event.{Event}
 use Rattle.script_core.specs.declared.report_text.ProcessLine.{ProcessLine}
 use Rattle.script_core.specs.Words.{lines_of, without_empty_end}
-use Rattle.script_core.specs.RequestText.{access_word, mode_word, kind_word, whence_word, op_word, lock_command_word, pid_words, nb_words, request_words, request_text}
-use Rattle.script_core.specs.EntryText.{error_name, reply_words, reply_text, tag, note_text, entry_text, entry_line}
-use Rattle.script_core.specs.ReportText.{owner_text, flock_word, byte_lock_text, flock_text, held_text, held_line, wanted_text, wait_line, state_word, counts_text, process_line, reported_line, process_lines, line_of, IsReport}
+use Rattle.script_core.specs.RequestText.{access_word, mode_word, kind_word, whence_word, op_word, lock_command_word, pid_words, nb_words, request_text}
+use Rattle.script_core.specs.EntryText.{reply_words, tag, note_text, entry_text, entry_line}
+use Rattle.script_core.specs.ReportText.{owner_text, flock_word, held_text, held_line, wanted_text, wait_line, state_word, counts_text, process_line, reported_line, process_lines, line_of, IsReport}
 use Rattle.script_core.specs.declared.deadlock.Link.{Link}
 use Rattle.script_core.specs.Deadlocks.{step_text, first_step_text, next_step_text}
 use Rattle.script_core.specs.Explaining.{comment, obstacle_line, deadlock_line, word_of_loss, loss_line, loss_lines, Explains, more_text, never_born_line, unborn_line, unborn_lines, is_comment_line, without_comments}
@@ -52,18 +47,7 @@ both one other h k = list_all-append goes_on one other ∙ ap (λ b. b && list_a
 -- a line is the first, where others follow
 split_end : (line rest : List ℕ) → InLine line → slice_split (λ byte. byte == 10) (line ++ 10 ∷ rest) ≡ line ∷ slice_split (λ byte. byte == 10) rest
 split_end [] rest is = refl
-split_end (byte ∷ line) rest is =
-    let on : (byte == 10) ≡ false = first_on (byte == 10) (list_all goes_on line) is in
-    let later : InLine line = later_on (byte == 10) (list_all goes_on line) is in
-    rw (on, split_end line rest later) refl
-  where
-    first_on : (ends others : Bool) → (not ends && others) ≡ true → ends ≡ false
-    first_on true others e = absurd (cc)
-    first_on false others e = refl
-
-    later_on : (ends others : Bool) → (not ends && others) ≡ true → others ≡ true
-    later_on true others e = absurd (cc)
-    later_on false others e = e
+split_end (byte ∷ line) rest is = grind (arith, common_steps, split_end line)
 
 -- what is split has a piece
 piece_first : (bytes : List ℕ) → (piece : List ℕ) × (pieces : List (List ℕ)) × (slice_split (λ byte. byte == 10) bytes ≡ piece ∷ pieces)
@@ -76,8 +60,7 @@ piece_first (byte ∷ bytes) =
     ]
 
 keeps_first : (line piece : List ℕ) (pieces : List (List ℕ)) → without_empty_end (line ∷ piece ∷ pieces) ≡ line ∷ without_empty_end (piece ∷ pieces)
-keeps_first [] piece pieces = refl
-keeps_first (byte ∷ line) piece pieces = refl
+keeps_first line piece pieces = grind (arith, common_steps)
 
 pub lines_first : (line rest : List ℕ) → InLine line → lines_of (line ++ 10 ∷ rest) ≡ line ∷ lines_of rest
 lines_first line rest is =
@@ -96,14 +79,11 @@ IsComment text = (rest : List ℕ) → without_comments (text ++ rest) ≡ witho
 abbrev pub ended : List ℕ → List ℕ
 ended line = line ++ 10 ∷ []
 
-rest_behind : (line rest : List ℕ) → ended line ++ rest ≡ line ++ 10 ∷ rest
-rest_behind line rest = append_assoc line (10 ∷ []) rest
-
 plain_line : (line : List ℕ) → InLine line → is_comment_line line ≡ false → IsPlain (ended line)
-plain_line line is plain rest = grind (arith, common_steps, rest_behind, lines_first)
+plain_line line is plain rest = grind (arith, common_steps, append_assoc, lines_first)
 
 pub comment_line : (line : List ℕ) → InLine line → is_comment_line line ≡ true → IsComment (ended line)
-comment_line line is begins rest = grind (arith, common_steps, rest_behind, lines_first)
+comment_line line is begins rest = grind (arith, common_steps, append_assoc, lines_first)
 
 plain_none : IsPlain []
 plain_none rest = refl
@@ -131,21 +111,14 @@ glyph_on n = grind (arith, common_steps, nat_tests)
 
 digits_on : (k n : ℕ) (behind : List ℕ) → InLine behind → InLine (digits_onto k 10 false n behind)
 digits_on zero n behind is = is
-digits_on (suc k) n behind is =
-    let glyph = digit_glyph false (n % 10) in
-    let more : InLine (glyph ∷ behind) = ap (λ b. b && list_all goes_on behind) (glyph_on n) ∙ is in
-    elim (n / 10 == 0) as (λ last. InLine (cond last (glyph ∷ behind) (digits_onto k 10 false (n / 10) (glyph ∷ behind)))) [
-      | true ↦ more
-      | false ↦ digits_on k (n / 10) (glyph ∷ behind) more
-    ]
+digits_on (suc k) n behind is = grind (arith, common_steps, glyph_on, digits_on k)
 
 pub number : (n : ℕ) → InLine (decimal n)
 unfolding digits
 number n = digits_on 64 n [] refl
 
 integer : (z : ℤ) → InLine (signed_decimal z)
-integer (pos n) = number n
-integer (negsuc n) = number (suc n)
+integer z = grind (arith, common_steps, number)
 
 -- a number begins with a digit
 abbrev Starts : List ℕ → Type 0
@@ -199,8 +172,7 @@ pub in_access : (access : Access) → InLine (access_word access)
 in_access access = grind (arith, common_steps)
 
 in_mode : (mode : Mode) → InLine (mode_word mode)
-in_mode modes.Read = refl
-in_mode modes.Write = refl
+in_mode mode = grind (arith, common_steps)
 
 in_kind : (kind : Kind) → InLine (kind_word kind)
 in_kind kind = grind (arith, common_steps)
@@ -215,35 +187,28 @@ in_command : (cmd : LkCmd) → InLine (lock_command_word cmd)
 in_command cmd = grind (arith, common_steps)
 
 in_pid : (pid : ℤ) → InWords (pid_words pid)
-in_pid pid = grind (arith, common_steps, number, integer)
+in_pid pid = grind (arith, common_steps, number)
 
 in_nb : (nb : Bool) → InWords (nb_words nb)
-in_nb true = (refl, tt)
-in_nb false = tt
-
-in_request : (request : Request) → InWords (request_words request)
-in_request request = grind (arith, common_steps, number, in_access, integer, in_command, words_both, in_kind, in_whence, in_pid, in_op, in_nb)
-
-in_error : (error : Errno) → InLine (error_name error)
-in_error error = grind (arith, common_steps)
+in_nb nb = grind (arith, common_steps)
 
 in_reply : (reply : Reply) → InWords (reply_words reply)
-in_reply reply = grind (arith, common_steps, number, in_mode, integer, in_error)
+in_reply reply = grind (arith, common_steps, number)
 
 -- entries
 in_tag : (p n : ℕ) → InLine (tag p n)
 in_tag p n = both (decimal p ++ codes "#") (decimal n) (both (decimal p) (codes "#") (number p) refl) (number n)
 
 in_note : (note : Note) → InLine (note_text note)
-in_note (Answer p n reply) = both (tag p n ++ codes " ") (reply_text reply) (both (tag p n) (codes " ") (in_tag p n) refl) (joined (reply_words reply) (in_reply reply))
-in_note (Waits p n) = both (tag p n) (codes " waits") (in_tag p n) refl
+in_note note = grind (arith, common_steps, both, in_tag, joined, in_reply)
 
 in_notes : (notes : List Note) → InLine (flat_map note_text notes)
 in_notes [] = refl
 in_notes (note ∷ notes) = both (note_text note) (flat_map note_text notes) (in_note note) (in_notes notes)
 
 in_entry : (event : Event) → InLine (entry_text event)
-in_entry event = grind (arith, common_steps, both, in_tag, joined, in_request, in_notes)
+in_entry event =
+    grind (arith, common_steps, both, in_tag, joined, number, in_access, integer, in_command, words_both, in_kind, in_whence, in_pid, in_op, in_nb, in_notes)
 
 starts_entry : (event : Event) → Starts (entry_text event)
 starts_entry event =
@@ -257,34 +222,25 @@ plain_entry event = plain_line (entry_text event) (in_entry event) (starts_plain
 
 -- the report
 in_owner : (owner : Owner) → InLine (owner_text owner)
-in_owner (owners.Process p) = number p
-in_owner (owners.Description d) = number d
+in_owner owner = grind (arith, common_steps, number)
 
 in_flock_word : (mode : Mode) → InLine (flock_word mode)
-in_flock_word modes.Read = refl
-in_flock_word modes.Write = refl
-
-in_byte_lock : (file : ℕ) (owner : Owner) (mode : Mode) (span : Span) → InLine (byte_lock_text file owner mode span)
-in_byte_lock file owner mode span = search (rules, both, number, in_owner, in_mode)
-
-in_flock : (owner : Owner) (mode : Mode) → InLine (flock_text owner mode)
-in_flock owner mode = both (owner_text owner ++ codes " ") (flock_word mode) (both (owner_text owner) (codes " ") (in_owner owner) refl) (in_flock_word mode)
+in_flock_word mode = grind (arith, common_steps)
 
 pub in_held : (held : Held) → InLine (held_text held)
-in_held held = search (rules, both, number, in_flock, in_byte_lock)
+in_held held = search (rules, both, number, in_owner, in_flock_word, in_mode)
 
 plain_held : (held : Held) → IsPlain (held_line held)
 plain_held held = search (rules, plain_line, in_held)
 
 in_wanted : (family : Family) (wait : Wait) → InLine (wanted_text family wait)
-in_wanted family wait = grind (arith, common_steps, in_byte_lock, both, number, in_flock)
+in_wanted family wait = grind (arith, common_steps, both, number, in_owner, in_mode, in_flock_word)
 
 abbrev wait_text : Wait → List ℕ
 wait_text wait = codes "wait " ++ tag wait.p wait.n ++ codes " " ++ wanted_text wait.family wait
 
 pub in_wait : (wait : Wait) → InLine (wait_text wait)
-in_wait wait =
-    both (tag wait.p wait.n ++ codes " ") (wanted_text wait.family wait) (both (tag wait.p wait.n) (codes " ") (in_tag wait.p wait.n) refl) (in_wanted wait.family wait)
+in_wait wait = grind (arith, common_steps, both, in_tag, in_wanted)
 
 plain_wait : (wait : Wait) → IsPlain (wait_line wait)
 plain_wait wait = plain_line (wait_text wait) (in_wait wait) refl
@@ -335,11 +291,10 @@ comment_obstacle event (Some (obstacles.Wait wait)) = comment_behind event.p eve
 
 -- a step of a cycle
 in_what : (step : InTheWay) → InLine (step_text step)
-in_what (obstacles.Lock held) = in_held held
-in_what (obstacles.Wait wait) = in_wait wait
+in_what step = grind (arith, common_steps, in_held, in_wait)
 
 in_first : (link : Link) → InLine (first_step_text link)
-in_first link = grind (arith, common_steps, both, number, in_what)
+in_first link = grind (arith, common_steps, both, number, in_held, in_wait)
 
 in_next : (link : Link) → InLine (next_step_text link)
 unfolding next_step_text
@@ -368,8 +323,7 @@ pub comment_own : (rules : Rules) (S : State) (event : Event) (T : State) (own :
 comment_own rules S event T own h = grind (arith, common_steps, comment_both, comment_losses, comment_obstacle, comment_deadlock)
 
 in_more : (more : ℕ) → InLine (more_text more)
-in_more zero = refl
-in_more (suc more) = both (decimal (suc more)) (codes " more") (number (suc more)) refl
+in_more more = grind (arith, common_steps, both, number)
 
 comment_never_born : (p sent : ℕ) → IsComment (never_born_line p sent)
 comment_never_born p zero = comment_none
@@ -387,5 +341,4 @@ comment_unborn state p sent = grind (arith, common_steps, comment_never_born, co
 pub comment_all_unborn : (states : ℕ → ProcState) (sent : ℕ → ℕ) (p n : ℕ) → IsComment (unborn_lines states sent p n)
 unfolding unborn_lines
 comment_all_unborn states sent p zero = comment_none
-comment_all_unborn states sent p (suc n) =
-    comment_both (unborn_line (states p) p (sent p)) (unborn_lines states sent (p + 1) n) (comment_unborn (states p) p (sent p)) (comment_all_unborn states sent (p + 1) n)
+comment_all_unborn states sent p (suc n) = grind (arith, common_steps, comment_both, comment_unborn, comment_all_unborn states sent (p + 1) n)

@@ -1,7 +1,6 @@
 -- The shortest cycle that a wait would close: for `cycle_of`.
 use Rattle.std.proofs.lemmas.Grind.{common_steps}
-use Rattle.std.proofs.Common.{ℕ, zero, suc, ◌≡◌, ◌+◌, ◌-◌, ◌<◌, ◌≤◌, ◌⊎◌, inl, inr, Bool, true, false, not, Option, Some, None, List, [], ◌∷◌, ◌++◌, Any, length, get_or, set, replicate, take, drop, refl, sym, ap, subst, ◌∙◌, arith}
-use Rattle.std.specs.Prelude.{is_some, IsFalse, IsTrue, MatchOption, count_by, slice_get}
+use Rattle.std.proofs.Common.{ℕ, zero, suc, ◌≡◌, ◌+◌, ◌-◌, ◌<◌, ◌≤◌, ◌⊎◌, inl, inr, Bool, true, false, not, Option, Some, List, [], ◌∷◌, ◌++◌, Any, length, get_or, set, replicate, take, drop, refl, sym, ap, subst, ◌∙◌, arith, is_some, IsFalse, IsTrue, MatchOption, count_by, slice_get}
 use Rattle.std.proofs.Math.Seq.{drop-cons, get_or-append_seam}
 use Rattle.std.proofs.lemmas.List.{take-append-drop, get_or-take, length-take, get_or-set_other, get_or-set_same, get_or_past, get_or-replicate, length-replicate, length-set, get_or_append_left, length-append}
 use Rattle.std.proofs.lemmas.List.Sums.{sum_by-set}
@@ -28,9 +27,7 @@ first_at Holds xs i x within none holds = record {
   after = drop (suc i) xs;
   place = sym (take-append-drop i xs) ∙ ap (λ (l : List _). take i xs ++ l) (drop-cons xs i x within);
   holds = holds;
-  none = λ k d below.
-      let short : k < i = omega (arith, length-take i xs) in
-      subst (λ y. ¬ Holds y) (sym (get_or-take i xs k d short)) (none k d short);
+  none = grind (arith, common_steps, length-take, get_or-take);
 }
 
 -- of the first it holds
@@ -92,8 +89,7 @@ GoOn policy report waits a i start (link ∷ links) end j =
 go_on : (policy : Policy) (report : List Held) (waits : List Wait) (a i : ℕ) (start : Start) (links : List Link) (end : Start) (j : ℕ) (link : Link)
     → GoOn policy report waits a i start links end (suc j) → IsNextLink policy report waits a j end link
     → GoOn policy report waits a i start (links ++ link ∷ []) (Waiting link.process) j
-go_on policy report waits a i start [] end j link h next =
-    (j, h.1, subst (λ (s : Start). IsNextLink policy report waits a j s link) (sym h.0) next, (refl, refl))
+go_on policy report waits a i start [] end j link h next = grind (arith, common_steps)
 go_on policy report waits a i start (first ∷ links) end j link h next =
     (h.0, h.1, h.2, go_on policy report waits a h.0 (Waiting first.process) links end j link h.3 next)
 
@@ -156,16 +152,11 @@ pub record HaveGoneOn (policy : Policy) (report : List Held) (waits : List Wait)
   pub tight : (k : ℕ) → length layers ≡ suc k → IsTight (LeadsInReport policy report waits start) (WaitsInReport policy report waits) wait.p k
   pub first : IsTight (LeadsInReport policy report waits (Wanted wait)) (WaitsInReport policy report waits) wait.p last
 
--- there is a step into the last set
-leads_last : (Leads : ℕ → Type 0) (R : ℕ → ℕ → Type 0) (a k : ℕ) → IsTight Leads R a k → LeadsNear Leads R a k
-leads_last Leads R a zero tight = tight
-leads_last Leads R a (suc k) tight = tight.0
-
--- so there is a link
+-- a step leads into the last set, so there is a link
 pub never_none : (policy : Policy) (report : List Held) (waits : List Wait) (a k : ℕ) (start : Start) (layer : List Bool)
     → IsLayer (WaitsInReport policy report waits) a k layer → IsTight (LeadsInReport policy report waits start) (WaitsInReport policy report waits) a k
     → ¬ ((q : ℕ) → LeadsInReport policy report waits start q → IsFalse (get_or layer q false))
-never_none policy report waits a k start layer is tight none = grind (arith, common_steps, leads_last)
+never_none policy report waits a k start layer is tight none = grind (arith, common_steps)
 
 next_tight : (policy : Policy) (report : List Held) (waits : List Wait) (a k : ℕ) (start : Start) (q : ℕ) → LeadsInReport policy report waits start q
     → IsTight (LeadsInReport policy report waits start) (WaitsInReport policy report waits) a (suc k) → IsNear (WaitsInReport policy report waits) a (suc k) q
@@ -209,8 +200,7 @@ gone_more policy report waits wait layers rest layer links start link h is least
     record {
       last = h.last;
       each = λ k other at. h.each k other (front_at rest layer layers is k other at);
-      go_on = go_on policy report waits wait.p (suc h.last) (Wanted wait) links start (length rest) link
-          (subst (GoOn policy report waits wait.p (suc h.last) (Wanted wait) links start) count h.go_on) next;
+      go_on = grind (arith, common_steps, go_on);
       tight = λ k fewer.
           next_tight policy report waits wait.p k start link.process (link_leads policy report waits start link least.is_link)
           (subst (IsTight (LeadsInReport policy report waits start) R wait.p) fewer (h.tight (length rest) count))
@@ -239,10 +229,7 @@ all_told policy report waits wait layers links start own h empty =
         → IsTight (LeadsInReport policy report waits (Wanted wait)) (WaitsInReport policy report waits) wait.p last
         → TellsCycleIfAny policy report waits wait links
     by_links [] last goes tight = absurd (let no = goes.1 in omega (arith, no))
-    by_links (link ∷ links) zero (m, is, next, rest) tight =
-        let none : m ≡ 0 = omega (arith, is) in
-        let same : link.process ≡ wait.p = subst (λ (k : ℕ). IsNear (WaitsInReport policy report waits) wait.p k link.process) none next.near in
-        absurd (own_free policy report waits wait own (subst (IsBlockedInReport policy report waits wait) same (link_leads policy report waits (Wanted wait) link next.is_link)))
+    by_links (link ∷ links) zero (m, is, next, rest) tight = grind (arith, common_steps, own_free, link_leads)
     by_links (link ∷ links) (suc last) (m, is, next, rest) tight =
         let count : m ≡ suc last = omega (arith, is) in
         let goes = subst (λ (k : ℕ). GoOn policy report waits wait.p k (Waiting link.process) links start zero) count rest in
@@ -284,8 +271,7 @@ all_told policy report waits wait layers links start own h empty =
             let count : suc (length by) ≤ suc last = let e = behind.long in omega arith in
             let le = near.least other cycle.0 (near_up R wait.p other (suc (length by)) (suc last) count close) in
             omega (arith, le, less)
-        least_of link links last behind near other by cycle long (inr (same, less)) =
-            behind.least by (subst (λ (n : ℕ). IsChain (WaitsInReport policy report waits) n by wait.p) same cycle.1) long less
+        least_of link links last behind near other by cycle long (inr (same, less)) = grind (arith, common_steps)
 
 -- one more place is false no longer
 pub fewer_left : (xs : List Bool) (i : ℕ) → i < length xs → get_or xs i false ≡ false → count_by not (set xs i true) < count_by not xs
@@ -307,21 +293,6 @@ pub record HasGrown (policy : Policy) (report : List Held) (waits : List Wait) (
   pub bounded : count_by not next ≤ count_by not layer
   pub long : length next ≡ length layer
 
--- where the process of the next wait joins the set
-pub grown_more : (policy : Policy) (report : List Held) (waits : List Wait) (layer next : List Bool) (index : ℕ) (has_grown : Bool) (wait : Wait)
-    → HasGrown policy report waits layer next index has_grown → slice_get waits index ≡ Some wait → wait.p < length next → get_or next wait.p false ≡ false
-    → (q : ℕ) × WaitsInReport policy report waits wait.p q × IsTrue (get_or layer q false)
-    → HasGrown policy report waits layer (set next wait.p true) (index + 1) true
-grown_more policy report waits layer next index has_grown wait h h2 h3 h4 h5 =
-    grind (arith, common_steps, fewer_left, length-set, get_or-set_same, get_or-set_other, cases_lt, some_one)
-
--- where it doesn't: it is in it, or waits for none of the layer
-pub grown_same : (policy : Policy) (report : List Held) (waits : List Wait) (layer next : List Bool) (index : ℕ) (has_grown : Bool) (wait : Wait)
-    → HasGrown policy report waits layer next index has_grown → slice_get waits index ≡ Some wait
-    → (get_or next wait.p false ≡ true) ⊎ ((q : ℕ) → WaitsInReport policy report waits wait.p q → IsFalse (get_or layer q false))
-    → HasGrown policy report waits layer next (index + 1) has_grown
-grown_same policy report waits layer next index has_grown wait h h2 h3 = grind (arith, common_steps, cases_lt, some_one)
-
 -- the next wait, whose process joins the set
 pub process_joins : (policy : Policy) (report : List Held) (waits : List Wait) (layer next after : List Bool) (index : ℕ)
     → (has_grown grown : Bool) (d : Wait) (p : ℕ)
@@ -330,7 +301,7 @@ pub process_joins : (policy : Policy) (report : List Held) (waits : List Wait) (
     → (q : ℕ) × WaitsInReport policy report waits (get_or waits index d).p q × IsTrue (get_or layer q false) → after ≡ set next p true → grown ≡ true
     → HasGrown policy report waits layer after (index + 1) grown
 process_joins policy report waits layer next after index has_grown grown d p h within few same none leads is grows =
-    grind (arith, common_steps, grown_more, slice_get-get_or)
+    grind (arith, common_steps, fewer_left, length-set, get_or-set_same, get_or-set_other, cases_lt, some_one, slice_get-get_or)
 
 -- the next wait, whose process doesn't
 pub process_stays : (policy : Policy) (report : List Held) (waits : List Wait) (layer next after : List Bool) (index : ℕ)
@@ -339,7 +310,7 @@ pub process_stays : (policy : Policy) (report : List Held) (waits : List Wait) (
     → (get_or next p false ≡ true) ⊎ ((q : ℕ) → WaitsInReport policy report waits (get_or waits index d).p q → IsFalse (get_or layer q false))
     → after ≡ next → grown ≡ has_grown → HasGrown policy report waits layer after (index + 1) grown
 process_stays policy report waits layer next after index has_grown grown d p h within same why is grows =
-    grind (arith, common_steps, grown_same, slice_get-get_or)
+    grind (arith, common_steps, cases_lt, some_one, slice_get-get_or)
 
 -- each process that waits for one of the layer is in the set
 pub all_covered : (policy : Policy) (report : List Held) (waits : List Wait) (layer next : List Bool) (index : ℕ) (has_grown : Bool)
@@ -374,13 +345,7 @@ layers_more policy report waits wait layers after layer next h none members is =
   count = let sum = length-append layers (next ∷ []) in let whole = ap length is in let e = h.count in omega arith;
   each = each_of;
   here = here_of;
-  none = λ k same near.
-      let before : h.last ≡ k = omega (arith, same) in
-      let close : IsNear (WaitsInReport policy report waits) wait.p h.last near.0 = subst (λ (n : ℕ). IsNear (WaitsInReport policy report waits) wait.p n near.0) (sym before) near.2 in
-      let is_in : get_or layer near.0 false ≡ true = (h.here near.0).1 close in
-      let no : get_or layer near.0 false ≡ false = none near.0 near.1 in
-      let differ : true ≡ false = sym is_in ∙ no in
-      absurd (cc);
+  none = grind (arith, common_steps);
 }
   where
     layer_one : {x y : List Bool} → Some x ≡ Some y → x ≡ y
@@ -423,8 +388,7 @@ layers_end policy report waits wait layers layer link h least = record {
   last = h.last;
   count = h.count;
   each = h.each;
-  tight = tight_at h.last h.none
-      (link.process, link_leads policy report waits (Wanted wait) link least.is_link, (h.here link.process).0 least.member);
+  tight = grind (arith, common_steps, link_leads, tight_at);
 }
   where
     tight_at : (last : ℕ)
@@ -457,13 +421,11 @@ FindsLink policy report waits start layer found =
 pub no_link : (policy : Policy) (report : List Held) (waits : List Wait) (start : Start) (layer : List Bool) (found : Option Link)
     → FindsLink policy report waits start layer found → is_some found ≡ false → (q : ℕ) → LeadsInReport policy report waits start q
     → IsFalse (get_or layer q false)
-no_link policy report waits start layer None h is = h
-no_link policy report waits start layer (Some link) h is = absurd (cc)
+no_link policy report waits start layer found h is = grind (arith, common_steps)
 
 pub some_link : (policy : Policy) (report : List Held) (waits : List Wait) (start : Start) (layer : List Bool) (found : Option Link)
     → FindsLink policy report waits start layer found → is_some found ≡ true → (link : Link) × IsLeastLink policy report waits start layer link
-some_link policy report waits start layer None h is = absurd (cc)
-some_link policy report waits start layer (Some link) h is = (link, h)
+some_link policy report waits start layer found h is = grind (arith, common_steps)
 
 -- a link that was found leads into the set
 pub leads_some : (policy : Policy) (report : List Held) (waits : List Wait) (p : ℕ) (layer : List Bool) (found : Option Link)

@@ -1,7 +1,6 @@
 -- The report of the locks and the list of waits tell who waits for whom: for `write_explained`, clause `ok`.
-use Rattle.std.proofs.Common.{rules, ℕ, zero, suc, ◌≡◌, ◌+◌, ◌<◌, ◌≤◌, inl, inr, Option, Some, None, List, [], ◌∷◌, ◌++◌, All, Any, length, get_or, take, drop, refl, sym, ap, subst, ◌∙◌, arith}
+use Rattle.std.proofs.Common.{rules, ℕ, zero, suc, ◌≡◌, ◌+◌, ◌<◌, ◌≤◌, inl, inr, Option, Some, None, List, [], ◌∷◌, ◌++◌, All, Any, length, get_or, take, drop, refl, sym, ap, subst, ◌∙◌, arith, IsFalse}
 use Rattle.std.proofs.lemmas.Grind.{common_steps}
-use Rattle.std.specs.Prelude.{IsFalse}
 use Rattle.std.proofs.Math.Seq.{drop-cons, get_or-append_seam, take-append_seam}
 use Rattle.std.proofs.lemmas.Bool.{cases_lt}
 use Rattle.std.proofs.lemmas.List.{take-append-drop, get_or_append_left, get_or-append-add, length-append}
@@ -165,8 +164,7 @@ waits_in_report policy locks report waits p q told few for =
         at = slice_get-get_or waits (length for.before) for.wait within ∙ ap (λ (x : Wait). Some x) here;
         of_p = for.of_p;
         traditional = for.traditional;
-        blocked = subst (λ (l : List Wait). IsBlockedInReport policy report l for.wait q) (sym front)
-            (blocked_in_report policy locks report for.before for.wait q told low for.blocked);
+        blocked = grind (arith, common_steps, blocked_in_report);
       },
     )
 

@@ -1,20 +1,17 @@
 -- What a step that is refused with EDEADLK has found: for `write_explained`, clause `ok`.
 use Rattle.script_core.proofs.FitLemmas.{blocked_at}
 use Rattle.script_core.proofs.OutcomeFitLemmas.{by_bool}
-use Rattle.std.proofs.Common.{arith, rules, ℕ, ◌≡◌, ◌==◌, ◌||◌, inl, inr, Bool, true, false, Option, Some, None, Result, Ok, List, [], ◌∷◌, ◌++◌, refl, sym, ap, subst, ◌∙◌}
+use Rattle.std.proofs.Common.{arith, rules, ℕ, ◌≡◌, ◌||◌, Bool, true, false, Option, Some, Result, Ok, List, [], ◌∷◌, ◌++◌, refl, MatchOption, MatchResult}
 use Rattle.std.proofs.lemmas.Grind.{common_steps}
-use Rattle.std.specs.Prelude.{Err, MatchOption, MatchResult}
 use Rattle.range_core.specs.declared.Mode.{Mode}
 use Rattle.range_core.specs.declared.Span.{Span}
 use Rattle.range_core.specs.declared.RangeFault.{RangeFault}
-use Rattle.range_core.specs.declared.RangeFault.TheVariants as range_faults
 use Rattle.range_core.specs.Resolving.{resolution}
 use Rattle.fd_table.specs.declared.FdFault.{FdFault}
 use Rattle.fd_table.specs.declared.tables.Look.{Look}
 use Rattle.fd_table.specs.Descriptors.{look_at}
 use Rattle.wait_core.specs.declared.Policy.{Policy}
 use Rattle.wait_core.specs.declared.Wait.{Wait}
-use Rattle.wait_core.specs.Blocking.{AllBlocked}
 use Rattle.wait_core.specs.Cycles.{IsTraditional, ClosesCycle}
 use Rattle.lock_manager.specs.declared.request.Rules.{Rules}
 use Rattle.lock_manager.specs.declared.request.Lock.{Lock}
@@ -29,8 +26,8 @@ use Rattle.lock_manager.specs.State.{State, locks_held, opening_state}
 use Rattle.lock_manager.specs.Settling.{IsSettled, Settles}
 use Rattle.lock_manager.specs.Outcomes.{Outcome, IsRefusal, answered, refused, range_error}
 use Rattle.lock_manager.specs.LockWords.{is_get, is_bad_argument, wanted_mode, permits, wanted_lock}
-use Rattle.lock_manager.specs.LockCommands.{CommandComesTo, DescribedComesTo, GetTells}
-use Rattle.lock_manager.specs.FlockCalls.{FlockTestComesTo, FlockModeComesTo, FlockOpComesTo}
+use Rattle.lock_manager.specs.LockCommands.{CommandComesTo, DescribedComesTo}
+use Rattle.lock_manager.specs.FlockCalls.{FlockTestComesTo, FlockOpComesTo}
 use Rattle.lock_manager.specs.ProcessCalls.{SignalComesTo, KillOtherComesTo}
 use Rattle.lock_manager.specs.Asking.{AsksFor, AsksForBytes}
 use Rattle.lock_manager.specs.Step.{ComesTo, Step}
@@ -39,9 +36,7 @@ use Rattle.script_core.specs.Explaining.{is_edeadlk, is_deadlock}
 -- a settled state stays
 stays_settled : (policy : Policy) (S : State) (grants : List Note) (T : State) → IsSettled policy S → Settles policy S grants T → T ≡ S
 stays_settled policy S [] T settled h = h.1
-stays_settled policy S (grant ∷ grants) T settled (before, wait, after, next, is, rest) =
-    absurd (next.ready (blocked_at policy (locks_held S) [] before wait after
-    (subst (AllBlocked policy (locks_held S) []) next.place settled)))
+stays_settled policy S (grant ∷ grants) T settled (before, wait, after, next, is, rest) = grind (arith, common_steps, blocked_at)
 
 -- the opening is settled
 pub opening_settled : (policy : Policy) → IsSettled policy opening_state
@@ -67,8 +62,7 @@ TellsOnly rules S p n request outcome = is_deadlock outcome.told ≡ true → Is
 
 other_told : (rules : Rules) (S : State) (p n : ℕ) (request : Request) (outcome other : Outcome) → outcome ≡ other → is_deadlock other.told ≡ false
     → TellsOnly rules S p n request outcome
-other_told rules S p n request outcome other is none told =
-    absurd (let same = ap (λ (o : Outcome). is_deadlock o.told) is in let differ : true ≡ false = sym told ∙ same ∙ none in cc)
+other_told rules S p n request outcome other is none told = grind (arith, common_steps)
 
 refusal_told : (rules : Rules) (S : State) (p n : ℕ) (request : Request) (fault : FdFault) (outcome : Outcome) → IsRefusal S p n fault outcome
     → TellsOnly rules S p n request outcome
@@ -79,8 +73,7 @@ call_told : {X : Type 0} (rules : Rules) (S : State) (p n : ℕ) (request : Requ
     → ((x : X) → is_edeadlk (reply x) ≡ false)
     → MatchResult result (λ x. outcome ≡ answered (after x) p n (reply x)) (λ fault. IsRefusal S p n fault outcome)
     → TellsOnly rules S p n request outcome
-call_told rules S p n request (Ok x) after reply outcome none h = other_told rules S p n request outcome _ h (none x)
-call_told rules S p n request (Err fault) after reply outcome none h = refusal_told rules S p n request fault outcome h
+call_told rules S p n request result after reply outcome none h = grind (arith, common_steps, other_told, refusal_told)
 
 signal_told : (rules : Rules) (S : State) (p n target : ℕ) (request : Request) (state : ProcState) (outcome : Outcome)
     → SignalComesTo S p n target state outcome
@@ -99,38 +92,25 @@ test_told rules S U p n request nb wanted grants outcome h = grind (arith, commo
 
 -- by cases
 pub if_option : {Y : Type 0} (o : Option Y) (P : Type 0) (Q : Y → Type 0) (X : Type 0) → MatchOption o P Q → (P → X) → ((y : Y) → o ≡ Some y → Q y → X) → X
-if_option None P Q X h one other = one h
-if_option (Some y) P Q X h one other = other y refl h
+if_option o P Q X h one other = grind (arith, common_steps)
 
 pub if_result : {Y E : Type 0} (r : Result Y E) (P : Y → Type 0) (Q : E → Type 0) (X : Type 0) → MatchResult r P Q → ((y : Y) → r ≡ Ok y → P y → X)
     → ((e : E) → Q e → X) → X
-if_result (Ok y) P Q X h one other = one y refl h
-if_result (Err e) P Q X h one other = other e h
-
-mode_told : (rules : Rules) (S : State) (p n : ℕ) (request : Request) (look : Look) (nb : Bool) (wanted : Wait) (held : Option Mode) (outcome : Outcome)
-    → FlockModeComesTo rules S look nb wanted held outcome → TellsOnly rules S p n request outcome
-mode_told rules S p n request look nb wanted held outcome h = grind (arith, common_steps, test_told, by_bool, other_told)
+if_result r P Q X h one other = grind (arith, common_steps)
 
 op_told : (rules : Rules) (S : State) (p n : ℕ) (request : Request) (look : Look) (op : FlockOp) (nb : Bool) (outcome : Outcome)
     → FlockOpComesTo rules S p n look op nb outcome → TellsOnly rules S p n request outcome
-op_told rules S p n request look op nb outcome h = grind (arith, common_steps, other_told, mode_told)
+op_told rules S p n request look op nb outcome h = grind (arith, common_steps, other_told, test_told, by_bool)
 
 -- the lock commands
-get_told : (rules : Rules) (S : State) (p n : ℕ) (request : Request) (wanted : Wait) (outcome : Outcome)
-    → GetTells ((locks_held S).bytes wanted.file) wanted.owner wanted.span wanted.mode (λ reply. outcome ≡ answered S wanted.p wanted.n reply)
-    → TellsOnly rules S p n request outcome
-get_told rules S p n request wanted outcome (inl h) = other_told rules S p n request outcome _ h.1.2 refl
-get_told rules S p n request wanted outcome (inr h) = other_told rules S p n request outcome _ h.1 refl
-
 command_told : (rules : Rules) (S : State) (p n fd : ℕ) (cmd : LkCmd) (lock : Lock) (look : Look) (span : Span) (mode : Mode) (outcome : Outcome)
     → AsksForBytes S p n fd cmd lock (wanted_lock cmd p n look span mode)
     → CommandComesTo rules S cmd (wanted_lock cmd p n look span mode) outcome → TellsOnly rules S p n (Lk fd cmd lock) outcome
-command_told rules S p n fd cmd lock look span mode outcome h h2 = grind (arith, common_steps, get_told, other_told)
+command_told rules S p n fd cmd lock look span mode outcome h h2 = grind (arith, common_steps, other_told)
 
 range_told : (rules : Rules) (S : State) (p n : ℕ) (request : Request) (fault : RangeFault) (outcome : Outcome) → outcome ≡ refused S p n (range_error fault)
     → TellsOnly rules S p n request outcome
-range_told rules S p n request range_faults.Invalid outcome h = other_told rules S p n request outcome _ h refl
-range_told rules S p n request range_faults.Overflow outcome h = other_told rules S p n request outcome _ h refl
+range_told rules S p n request fault outcome h = grind (arith, common_steps, other_told)
 
 described_told : (rules : Rules) (S : State) (p n fd : ℕ) (cmd : LkCmd) (lock : Lock) (look : Look) (outcome : Outcome)
     → look_at S.descriptors p fd ≡ Some look
@@ -150,8 +130,7 @@ described_told rules S p n fd cmd lock look outcome opened h =
 -- each request
 outcome_told : (rules : Rules) (processes : ℕ) (S : State) (p n : ℕ) (request : Request) (outcome : Outcome) → ComesTo rules processes S p n request outcome
     → TellsOnly rules S p n request outcome
-outcome_told rules processes S p n (OpenFile file access) outcome h =
-    call_told rules S p n (OpenFile file access) h.0 _ _ outcome (λ x. refl) h.3
+outcome_told rules processes S p n (OpenFile file access) outcome h = grind (arith, common_steps, call_told)
 outcome_told rules processes S p n (Dup fd) outcome h = call_told rules S p n (Dup fd) h.0 _ _ outcome (λ x. refl) h.3
 outcome_told rules processes S p n (DupTo fd to) outcome h = call_told rules S p n (DupTo fd to) h.0 _ _ outcome (λ x. refl) h.3
 outcome_told rules processes S p n (CloseFd fd) outcome h = call_told rules S p n (CloseFd fd) h.0 _ _ outcome (λ x. refl) h.3
@@ -162,16 +141,10 @@ outcome_told rules processes S p n (Lk fd cmd lock) outcome h =
     if_option (look_at S.descriptors p fd) _ _ (TellsOnly rules S p n (Lk fd cmd lock) outcome) h
     (λ closed. other_told rules S p n (Lk fd cmd lock) outcome _ closed refl)
     (λ look opened described. described_told rules S p n fd cmd lock look outcome opened described)
-outcome_told rules processes S p n (Flock fd op nb) outcome h =
-    if_option (look_at S.descriptors p fd) _ _ (TellsOnly rules S p n (Flock fd op nb) outcome) h
-    (λ closed. other_told rules S p n (Flock fd op nb) outcome _ closed refl)
-    (λ look opened done. op_told rules S p n (Flock fd op nb) look op nb outcome done)
+outcome_told rules processes S p n (Flock fd op nb) outcome h = grind (arith, common_steps, if_option, other_told, op_told)
 outcome_told rules processes S p n Exit outcome h = other_told rules S p n Exit outcome _ h.3 refl
 outcome_told rules processes S p n (Signal target) outcome h = signal_told rules S p n target (Signal target) (S.states target) outcome h
-outcome_told rules processes S p n (Kill target) outcome h =
-    by_bool (target == p) h
-    (λ own. other_told rules S p n (Kill target) outcome _ own.3 refl)
-    (λ others. kill_told rules S p n target (Kill target) (S.states target) outcome others)
+outcome_told rules processes S p n (Kill target) outcome h = grind (arith, common_steps, by_bool, other_told, kill_told)
 
 -- what a step that was refused with EDEADLK has found, from a settled state: it leaves that state
 pub record HasClosed (rules : Rules) (p n : ℕ) (request : Request) (T : State) : Type 0 where

@@ -1,9 +1,8 @@
 -- The line of an entry is read in one way: for `parse_entry`, `read_notes`, `read_pieces` and `tag_of`.
-use Rattle.std.proofs.Common.{rules, ◌≡◌, ◌≢◌, ℕ, ◌+◌, ◌<◌, ◌^◌, ◌==◌, true, false, cond, List, [], ◌∷◌, ◌++◌, length, take, drop, get_or, codes, decimal, Option, Some, None, MatchOption, MatchResult, Result, Ok, Err, Bor, ◌⊎◌, inl, inr, refl, sym, ap, ◌∙◌, subst, lit<, ne_eqb, append_assoc, drop-cons, add-one}
-use Rattle.std.specs.Prelude.{All, bytes_eq}
+use Rattle.std.proofs.Common.{arith, rules, ◌≡◌, ◌≢◌, ℕ, ◌+◌, ◌<◌, ◌^◌, ◌==◌, true, false, cond, List, [], ◌∷◌, ◌++◌, length, take, drop, get_or, codes, decimal, Option, Some, None, MatchOption, MatchResult, Result, Ok, Err, Bor, ◌⊎◌, inl, inr, refl, sym, ap, ◌∙◌, subst, lit<, ne_eqb, append_assoc, drop-cons, add-one, All, bytes_eq}
+use Rattle.std.proofs.lemmas.Grind.{common_steps, get_or_default_zero}
 use Rattle.std.specs.List.{slice_split}
 use Rattle.std.proofs.lemmas.Fmt.{decimal_injective, decimal_is_IsNumeral}
-use Rattle.std.proofs.lemmas.Grind.{get_or_default_zero}
 use Rattle.std.proofs.lemmas.List.{map-append, take-append-drop}
 use Rattle.std.proofs.lemmas.List.Splits.{slice_split_none, slice_split_at}
 use Rattle.std.proofs.lemmas.Str.Parse.{digit_at}
@@ -87,8 +86,7 @@ TagGives-unique : (limits : Limits) (word : List ℕ) (a b : Result (ℕ × ℕ)
 TagGives-unique limits word a b h h2 = search (rules, IsTag-unique)
 
 RequestIsTaken-unique : (p n : ℕ) (next : Result Request Cause) (a b : Result Taken Cause) → RequestIsTaken p n next a → RequestIsTaken p n next b → a ≡ b
-RequestIsTaken-unique p n (Ok request) a b first second = first ∙ sym second
-RequestIsTaken-unique p n (Err cause) a b first second = first ∙ sym second
+RequestIsTaken-unique p n next a b first second = grind (arith, common_steps)
 
 -- what follows a word that should be a tag
 abbrev TaggedGives : Limits → List (List ℕ) → Result (ℕ × ℕ) Cause → Result Taken Cause → Type 0
@@ -127,8 +125,7 @@ reply_in words =
 
 mode_in-word : (mode : Mode) → mode_in (mode_word mode) ≡ mode
 unfolding mode_in
-mode_in-word modes.Read = refl
-mode_in-word modes.Write = refl
+mode_in-word mode = grind (arith, common_steps)
 
 error_read : (error : Errno) → reply_in (error_name error ∷ []) ≡ replies.Err error
 unfolding reply_in error_in
@@ -139,8 +136,7 @@ unfolding reply_in natural_at number_at
 reply_read reply h = search (rules, digits_value-spelled, mode_in-word, number_in-spelled, error_read)
 
 IsReply-unique : (words : List (List ℕ)) (a b : Reply) → IsReply words a → IsReply words b → a ≡ b
-IsReply-unique words a b first second =
-    sym (reply_read a first.1) ∙ ap reply_in (sym first.0 ∙ second.0) ∙ reply_read b second.1
+IsReply-unique words a b first second = grind (arith, common_steps, reply_read, reply_in)
 
 -- the arguments that a reply has
 reply_arguments : Reply → List Argument
@@ -154,12 +150,9 @@ reply_arguments (replies.Err error) = []
 abbrev AreExpected : Option Command → List Argument → Type 0
 AreExpected found arguments = MatchOption found (arguments ≡ []) (λ form. arguments ≡ form.required)
 
-error_unnamed : (error : Errno) → reply_named (error_name error) ≡ None
-error_unnamed error = search (rules)
-
 reply_expected : (reply : Reply) → AreExpected (reply_named (get_or (reply_words reply) 0 [])) (reply_arguments reply)
 unfolding reply_arguments
-reply_expected reply = search (rules, error_unnamed)
+reply_expected reply = search (rules)
 
 -- the words of a reply aren't refused
 reply_spelled : (reply : Reply) → IsWritableReply reply → (cause : Cause) → AreRefused (reply_arguments reply) (drop 1 (reply_words reply)) cause → ⊥
@@ -175,8 +168,7 @@ not_refused expected name arguments reply cause are is refused =
 ReplyWordsGive-unique : (expected : List Argument) (name : List ℕ) (arguments : List (List ℕ))
     → ((reply : Reply) → IsReply (name ∷ arguments) reply → reply_arguments reply ≡ expected)
     → (a b : Result Reply Cause) → ReplyWordsGive expected name arguments a → ReplyWordsGive expected name arguments b → a ≡ b
-ReplyWordsGive-unique expected name arguments has a b (inl first) (inl second) =
-    first.2 ∙ ap Err (AreRefused-unique expected arguments first.0 second.0 first.1 second.1) ∙ sym second.2
+ReplyWordsGive-unique expected name arguments has a b (inl first) (inl second) = grind (arith, common_steps, AreRefused-unique)
 ReplyWordsGive-unique expected name arguments has a b (inl first) (inr second) =
     absurd (not_refused expected name arguments second.0 first.0 (has second.0 second.1) second.1 first.1)
 ReplyWordsGive-unique expected name arguments has a b (inr first) (inl second) =
@@ -211,12 +203,10 @@ abbrev AnswerGives : ℕ → ℕ → Result Reply Cause → Result Note Cause �
 AnswerGives p n next result = MatchResult next (λ reply. result ≡ Ok (Answer p n reply)) (λ cause. result ≡ Err cause)
 
 AnswerGives-unique : (p n : ℕ) (next : Result Reply Cause) (a b : Result Note Cause) → AnswerGives p n next a → AnswerGives p n next b → a ≡ b
-AnswerGives-unique p n (Ok reply) a b first second = first ∙ sym second
-AnswerGives-unique p n (Err cause) a b first second = first ∙ sym second
+AnswerGives-unique p n next a b first second = grind (arith, common_steps)
 
 WaitGives-unique : (p n : ℕ) (words : List (List ℕ)) (a b : Result Note Cause) → WaitGives p n words a → WaitGives p n words b → a ≡ b
-WaitGives-unique p n [] a b first second = first ∙ sym second
-WaitGives-unique p n (word ∷ words) a b first second = first ∙ sym second
+WaitGives-unique p n words a b first second = grind (arith, common_steps)
 
 -- a word that isn't `waits`, with what follows it
 abbrev RepliedGives : ℕ → ℕ → List ℕ → List (List ℕ) → Result Note Cause → Type 0
@@ -238,8 +228,7 @@ TaggedTells rest tagged result = MatchResult tagged (λ pair. ToldGives pair.0 p
 
 TaggedTells-unique : (rest : List (List ℕ)) (tagged : Result (ℕ × ℕ) Cause) (a b : Result Note Cause) → TaggedTells rest tagged a
     → TaggedTells rest tagged b → a ≡ b
-TaggedTells-unique rest (Ok pair) a b first second = ToldGives-unique pair.0 pair.1 rest a b first second
-TaggedTells-unique rest (Err cause) a b first second = first ∙ sym second
+TaggedTells-unique rest tagged a b first second = grind (arith, common_steps, ToldGives-unique)
 
 NoteGives-unique : (limits : Limits) (words : List (List ℕ)) (a b : Result Note Cause) → NoteGives limits words a → NoteGives limits words b → a ≡ b
 NoteGives-unique limits words a b h h2 = search (rules, same_value, TagGives-unique, TaggedTells-unique)
@@ -252,8 +241,7 @@ later_unique : (limits : Limits) (notes : List Note) (pieces : List (List ℕ))
     → ((more : List Note) (a b : Result (List Note) Cause) → NotesGive limits more pieces a → NotesGive limits more pieces b → a ≡ b)
     → (next : Result Note Cause) (a b : Result (List Note) Cause) → LaterNotesGive limits notes pieces next a
     → LaterNotesGive limits notes pieces next b → a ≡ b
-later_unique limits notes pieces later (Ok note) a b first second = later (notes ++ note ∷ []) a b first second
-later_unique limits notes pieces later (Err cause) a b first second = first ∙ sym second
+later_unique limits notes pieces later next a b first second = grind (arith, common_steps)
 
 NotesGive-unique : (limits : Limits) (notes : List Note) (pieces : List (List ℕ)) (a b : Result (List Note) Cause)
     → NotesGive limits notes pieces a → NotesGive limits notes pieces b → a ≡ b
@@ -263,8 +251,7 @@ NotesGive-unique limits notes (piece ∷ pieces) a b first second =
     later_unique limits notes pieces (λ more. NotesGive-unique limits more pieces) second.0 a b (subst (λ next. LaterNotesGive limits notes pieces next a) next first.2) second.2
 
 EventGives-unique : (taken : Taken) (notes : Result (List Note) Cause) (a b : Result Event Cause) → EventGives taken notes a → EventGives taken notes b → a ≡ b
-EventGives-unique taken (Ok notes) a b first second = first ∙ sym second
-EventGives-unique taken (Err cause) a b first second = first ∙ sym second
+EventGives-unique taken notes a b first second = grind (arith, common_steps)
 
 -- the pieces behind a first one that gives this
 abbrev BehindGives : Limits → List (List ℕ) → Result Taken Cause → Result Event Cause → Type 0
@@ -285,9 +272,7 @@ one_entry limits line = search (rules, MatchBool-unique, same_value, PiecesGive-
 -- behind notes that were read, the later pieces go on
 pub notes_then : (limits : Limits) (start : List Note) (pieces : List (List ℕ)) (notes : List Note) (more : List (List ℕ)) (result : Result (List Note) Cause)
     → NotesGive limits start pieces (Ok notes) → NotesGive limits notes more result → NotesGive limits start (pieces ++ more) result
-notes_then limits start [] notes more result read later =
-    let same : notes ≡ start = cc in
-    subst (λ (l : List Note). NotesGive limits l more result) same later
+notes_then limits start [] notes more result read later = grind (arith, common_steps)
 notes_then limits start (piece ∷ pieces) notes more result read later =
     (read.0, read.1, then (λ note rest. notes_then limits (start ++ note ∷ []) pieces notes more result rest later) read.0 read.2)
   where

@@ -1,8 +1,7 @@
 -- The line that is written of an entry is read as that entry: for `write_entry`.
 use Rattle.std.proofs.lemmas.List.Elements.{All-head, All-tail}
 use Rattle.std.proofs.lemmas.Grind.{common_steps}
-use Rattle.std.proofs.Common.{◌≡◌, ℕ, ◌*◌, ◌^◌, ◌<◌, ◌≤◌, ◌==◌, ◌&&◌, nat_le, true, false, not, List, [], ◌∷◌, ◌++◌, length, filter, flat_map, codes, decimal, Ok, inr, refl, sym, ap, ◌∙◌, subst, arith, lit<, lit≤, length-append, append_assoc, append-nil, tests}
-use Rattle.std.specs.Prelude.{All, bytes_eq}
+use Rattle.std.proofs.Common.{◌≡◌, ℕ, ◌*◌, ◌^◌, ◌<◌, ◌≤◌, ◌==◌, ◌&&◌, nat_le, true, false, not, List, [], ◌∷◌, ◌++◌, length, filter, flat_map, codes, decimal, Ok, inr, refl, sym, ap, ◌∙◌, subst, arith, lit<, lit≤, length-append, append_assoc, append-nil, All, bytes_eq}
 use Rattle.std.specs.List.{slice_split, join_with_byte, list_all}
 use Rattle.std.proofs.lemmas.Fmt.{length-decimal-le}
 use Rattle.std.proofs.lemmas.Bool.{le-ltb}
@@ -46,9 +45,7 @@ AreSpoken-space bytes are = (lit≤ tt, lit≤ tt, are)
 AreSpoken-join : (word : List ℕ) (words : List (List ℕ)) → AreWords (word ∷ words) → AreSpoken (join_with_byte 32 (word ∷ words))
 unfolding AreWords
 AreSpoken-join word [] are = AreSpoken-word word are.0.visible
-AreSpoken-join word (next ∷ words) are =
-    AreSpoken-append word (32 ∷ join_with_byte 32 (next ∷ words)) (AreSpoken-word word are.0.visible)
-    (AreSpoken-space (join_with_byte 32 (next ∷ words)) (AreSpoken-join next words are.1))
+AreSpoken-join word (next ∷ words) are = grind (arith, common_steps, AreSpoken-append, AreSpoken-word, AreSpoken-space, AreSpoken-join next words)
 
 -- a space behind such bytes
 AreSpoken-end : (bytes : List ℕ) → AreSpoken bytes → AreSpoken (bytes ++ 32 ∷ [])
@@ -87,8 +84,7 @@ printable_spoken (byte ∷ bytes) are = rw (printable_byte byte are.0 are.1) (pr
 pub AreSpoken-tested : (bytes : List ℕ) → list_all (λ byte. nat_le 32 byte && nat_le byte 122) bytes ≡ true → AreSpoken bytes
 unfolding AreSpoken
 AreSpoken-tested [] tested = tt
-AreSpoken-tested (byte ∷ bytes) tested =
-    (grind (arith, tests), grind (arith, tests), AreSpoken-tested bytes (grind (arith, tests)))
+AreSpoken-tested (byte ∷ bytes) tested = grind (arith, common_steps, AreSpoken-tested bytes)
 
 -- the words of a note
 note_words : Note → List (List ℕ)
@@ -145,8 +141,7 @@ IsWord-mode modes.Read = IsWord-tested (mode_word modes.Read) refl
 IsWord-mode modes.Write = IsWord-tested (mode_word modes.Write) refl
 
 length-mode : (mode : Mode) → length (mode_word mode) ≤ 1
-length-mode modes.Read = lit≤ tt
-length-mode modes.Write = lit≤ tt
+length-mode mode = grind (arith, common_steps)
 
 AreWords-reply : (reply : Reply) → IsWritableReply reply → AreWords (reply_words reply)
 unfolding AreWords
@@ -187,9 +182,7 @@ split_end : (word : List ℕ) (words : List (List ℕ)) → AreWords (word ∷ w
     → slice_split (λ byte. byte == 32) (join_with_byte 32 (word ∷ words) ++ 32 ∷ []) ≡ word ∷ (words ++ [] ∷ [])
 unfolding AreWords
 split_end word [] are = slice_split-words word [] are.0.visible
-split_end word (next ∷ words) are =
-    ap (slice_split (λ byte. byte == 32)) (append_assoc word (32 ∷ join_with_byte 32 (next ∷ words)) (32 ∷ []))
-    ∙ slice_split-words word (join_with_byte 32 (next ∷ words) ++ 32 ∷ []) are.0.visible ∙ ap (λ (ws : List (List ℕ)). word ∷ ws) (split_end next words are.1)
+split_end word (next ∷ words) are = grind (arith, common_steps, append_assoc, slice_split-words, split_end next words)
 
 filter_end : (words : List (List ℕ)) → AreWords words → filter (λ word. not (length word == 0)) (words ++ [] ∷ []) ≡ words
 unfolding AreWords
@@ -203,13 +196,11 @@ words_end word words are =
 -- the words of a piece that is a note, and with a space behind it
 words_of_note : (limits : Limits) (note : Note) → IsWritableNote limits note → words_of (32 ∷ note_body note) ≡ note_words note
 unfolding note_body note_words
-words_of_note limits (Answer p n reply) writable = words_of-join (tag p n) (reply_words reply) (AreWords-note limits (Answer p n reply) writable)
-words_of_note limits (Waits p n) writable = words_of-join (tag p n) (codes "waits" ∷ []) (AreWords-note limits (Waits p n) writable)
+words_of_note limits note writable = grind (arith, common_steps, words_of-join, AreWords-note)
 
 words_of_middle : (limits : Limits) (note : Note) → IsWritableNote limits note → words_of ((32 ∷ note_body note) ++ 32 ∷ []) ≡ note_words note
 unfolding note_body note_words
-words_of_middle limits (Answer p n reply) writable = words_end (tag p n) (reply_words reply) (AreWords-note limits (Answer p n reply) writable)
-words_of_middle limits (Waits p n) writable = words_end (tag p n) (codes "waits" ∷ []) (AreWords-note limits (Waits p n) writable)
+words_of_middle limits note writable = grind (arith, common_steps, words_end, AreWords-note)
 
 -- the words of a reply are read as it
 error_gives : (error : Errno) → ReplyGives (error_name error) [] (Ok (replies.Err error))

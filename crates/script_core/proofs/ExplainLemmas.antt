@@ -1,7 +1,6 @@
 -- The run that is made again, step by step: for `write_explained` and `write_unborn`, clauses `ok`.
 use Rattle.std.proofs.lemmas.Grind.{common_steps}
-use Rattle.std.proofs.Common.{rules, ℕ, zero, suc, ◌≡◌, ◌+◌, ◌-◌, ◌<◌, ◌≤◌, Option, Some, Ok, List, [], ◌∷◌, ◌++◌, length, All, inl, inr, take, drop, get_or, refl, sym, ap, subst, ◌∙◌, arith, append_assoc, append-nil, add-one, Result, Bool, true}
-use Rattle.std.specs.Prelude.{IfOk, Err, MatchResult, OnErr, OnOk, codes, decimal, slice_index}
+use Rattle.std.proofs.Common.{rules, ℕ, zero, suc, ◌≡◌, ◌+◌, ◌-◌, ◌<◌, ◌≤◌, Option, List, [], ◌∷◌, ◌++◌, length, All, inl, inr, take, drop, get_or, refl, sym, ap, subst, ◌∙◌, arith, append_assoc, append-nil, add-one, Result, Bool, true, IfOk, MatchResult, OnErr, OnOk, codes, decimal, slice_index}
 use Rattle.std.proofs.Math.Seq.{drop-cons, take-append_seam}
 use Rattle.std.proofs.lemmas.List.{take_more, take_all, length-take}
 use Rattle.std.proofs.lemmas.Bool.{cases_Bool}
@@ -18,7 +17,6 @@ use Rattle.lock_manager.specs.declared.request.LkCmd.{LkCmd}
 use Rattle.lock_manager.specs.declared.request.FlockOp.{FlockOp}
 use Rattle.lock_manager.specs.declared.request.Note.{Note}
 use Rattle.lock_manager.specs.declared.request.InTheWay.{InTheWay}
-use Rattle.lock_manager.specs.declared.request.Request.{Request}
 use Rattle.lock_manager.specs.declared.request.ProcState.{ProcState}
 use Rattle.lock_manager.specs.declared.manager.Manager.{Manager}
 use Rattle.lock_manager.specs.State.{State, opening_state, locks_held}
@@ -40,32 +38,23 @@ use Rattle.script_core.specs.Deadlocks.{TellsCycleIfAny}
 use Rattle.script_core.specs.Explaining.{comment, is_deadlock, obstacle_line, deadlock_line, TellsDeadlock, IsCycleOf, word_of_loss, loss_lines, StandsInTheWay, Explains, ExplainsRun, more_text, never_born_line, unborn_line, unborn_lines}
 use Rattle.script_core.proofs.TextLemmas.{kept_behind}
 use Rattle.script_core.proofs.DeadlockLocksLemmas.{told_of_state, none_of_state}
-use Rattle.script_core.proofs.DeadlockStepLemmas.{HasClosed, step_closes, opening_settled}
+use Rattle.script_core.proofs.DeadlockStepLemmas.{HasClosed, step_closes}
 use Rattle.script_core.proofs.FitLemmas.{settles_settled}
-use Rattle.script_core.proofs.FilesLemmas.{opening_files, step_files, asks_file}
+use Rattle.script_core.proofs.FilesLemmas.{step_files, asks_file}
 
 -- a request asks for one lock
-Some-one : {X : Type 0} {o : Option X} {x y : X} → o ≡ Some x → o ≡ Some y → x ≡ y
-Some-one e k = cc
-
-Ok-one : {X E : Type 0} {r : Result X E} {x y : X} → r ≡ Ok x → r ≡ Ok y → x ≡ y
-Ok-one e k = cc
-
 one_of_bytes : (S : State) (p n fd : ℕ) (cmd : LkCmd) (lock : Lock) (v w : Wait) → AsksForBytes S p n fd cmd lock v → AsksForBytes S p n fd cmd lock w → v ≡ w
-one_of_bytes S p n fd cmd lock v w h k = grind (arith, common_steps, Some-one, Ok-one)
+one_of_bytes S p n fd cmd lock v w h k = grind (arith, common_steps)
 
 one_of_whole : (S : State) (p n fd : ℕ) (op : FlockOp) (v w : Wait) → AsksForWhole S p n fd op v → AsksForWhole S p n fd op w → v ≡ w
-one_of_whole S p n fd op v w h k = grind (arith, common_steps, Some-one)
-
-asks_one : (S : State) (p n : ℕ) (request : Request) (v w : Wait) → AsksFor S p n request v → AsksFor S p n request w → v ≡ w
-asks_one S p n request v w h h2 = grind (arith, common_steps, one_of_bytes, one_of_whole)
+one_of_whole S p n fd op v w h k = grind (arith, common_steps)
 
 -- the cycle of the lock that the request asks for is that of the event
 pub found_cycle : (policy : Policy) (T : State) (report : List Held) (event : Event) (wait : Wait) (waits : List Wait) (links : List Link)
     → is_deadlock event.notes ≡ true
     → AsksFor T event.p event.n event.request wait → waits ≡ T.waits → (IsTraditional wait → TellsCycleIfAny policy report waits wait links)
     → IsCycleOf policy T report event links
-found_cycle policy T report event wait waits links is asks same found = grind (arith, common_steps, asks_one)
+found_cycle policy T report event wait waits links is asks same found = grind (arith, common_steps, one_of_bytes, one_of_whole)
 
 pub cycle_found : {X E : Type 0} (items : X → List Link) (policy : Policy) (manager : Manager) (report : List Held) (event : Event) (wait : Wait)
     → (waits : List Wait) (result : Result X E)
@@ -150,12 +139,10 @@ explains_step one policy old next event notes before after obstacle links t0 t1 
 
 -- what follows where a piece was appended, and where it was refused
 pub if_pushed : {A E : Type 0} (r : Result A E) (P Q X : Type 0) → MatchResult r (λ unit. P) (λ error. Q) → (P → X) → OnOk r X
-if_pushed (Ok unit) P Q X h gives = gives h
-if_pushed (Err error) P Q X h gives = tt
+if_pushed r P Q X h gives = grind (arith, common_steps)
 
 pub if_refused : {A E : Type 0} (r : Result A E) (P Q X : Type 0) → MatchResult r (λ unit. P) (λ error. Q) → (Q → X) → OnErr r X
-if_refused (Ok unit) P Q X h gives = tt
-if_refused (Err error) P Q X h gives = gives h
+if_refused r P Q X h gives = grind (arith, common_steps)
 
 -- one more piece
 pub and_then : (old mid new front piece : List ℕ) → mid ≡ old ++ front → new ≡ mid ++ piece → new ≡ old ++ (front ++ piece)
@@ -165,8 +152,7 @@ and_then old mid new front piece is pushed = pushed ∙ ap (λ (l : List ℕ). l
 pub begun : {A E : Type 0} (r : Result A E) (old front new told : List ℕ)
     → MatchResult r (λ unit. new ≡ old ++ front ++ told) (λ error. Extends (old ++ front) new)
     → MatchResult r (λ unit. new ≡ old ++ (front ++ told)) (λ error. Extends old new)
-begun (Ok unit) old front new told is = is ∙ append_assoc old front told
-begun (Err error) old front new told kept = kept_behind old (old ++ front) new front refl kept
+begun r old front new told is = grind (arith, common_steps, append_assoc, kept_behind)
 
 -- what is said of an obstacle behind the words of a comment
 pub told_behind : {A E : Type 0} (r : Result A E) (old mid new : List ℕ) (p n : ℕ) (words line told : List ℕ) → mid ≡ old ++ comment p n words
@@ -199,13 +185,6 @@ pub record HasExplained (states : States) (rules : Rules) (processes : ℕ) (jou
   pub is : new ≡ old ++ more
   pub rules_are : rules_of manager ≡ rules
   pub processes_are : processes_of manager ≡ processes
-
--- nothing yet
-pub none_explained : (states : States) (rules : Rules) (processes : ℕ) (journal : List Event) (manager : Manager) (old : List ℕ)
-    → ((T : State) × Leads rules processes opening_state journal T) → StandsFor manager opening_state → rules_of manager ≡ rules
-    → processes_of manager ≡ processes → HasExplained states rules processes journal 0 manager old old
-none_explained states rules processes journal manager old run stands rules_are processes_are =
-    grind (arith, common_steps, opening_files, opening_settled, append-nil)
 
 -- one more event is explained
 run_more : (states : States) (rules : Rules) (processes number : ℕ) (first S : State) (events : List Event) (event : Event) (T : State)
@@ -241,8 +220,7 @@ run_more states rules processes number first S (one ∷ events) event T text own
 
 next_of : (journal : List Event) (index : ℕ) (event : Event) → index < length journal → event ≡ get_or journal index event
     → drop index journal ≡ event ∷ drop (suc index) journal
-next_of journal index event within is =
-    drop-cons journal index event within ∙ ap (λ (e : Event). e ∷ drop (suc index) journal) (sym is)
+next_of journal index event within is = grind (arith, common_steps, drop-cons)
 
 -- what is told of the state that the manager stands for, behind the text
 abbrev pub StateTold : Bool → Rules → Manager → List ℕ → List ℕ → Type 0
@@ -302,10 +280,7 @@ explained_more states rules processes journal index number manager next old mid 
       explains = subst (λ (l : List Event). ExplainsRun states rules processes 1 opening_state l step.0 (h.more ++ piece)) (sym front)
           (run_more states rules processes 1 opening_state h.state (take index journal) event step.0 h.more step.4 told.0 h.explains step.1 step.5
           (subst (λ (n : ℕ). TellsStateIf (is_told states n) rules processes step.0 told.0) place told_is));
-      is = told.2 ∙ ap (λ (l : List ℕ). l ++ told.0) (step.6 ∙ ap (λ (l : List ℕ). l ++ (entry_line event ++ step.4)) h.is)
-          ∙ ap (λ (l : List ℕ). l ++ told.0) (append_assoc old h.more (entry_line event ++ step.4))
-          ∙ append_assoc old (h.more ++ (entry_line event ++ step.4)) told.0
-          ∙ ap (λ (l : List ℕ). old ++ l) (append_assoc h.more (entry_line event ++ step.4) told.0);
+      is = grind (arith, common_steps, append_assoc);
       rules_are = rules_stay ∙ h.rules_are;
       processes_are = processes_stay ∙ h.processes_are;
     }
@@ -329,16 +304,8 @@ all_explained one states rules processes journal index manager old new h past T 
 unborn_lines-more : (states : ℕ → ProcState) (sent : ℕ → ℕ) (p n : ℕ)
     → unborn_lines states sent p (suc n) ≡ unborn_lines states sent p n ++ unborn_line (states (p + n)) (p + n) (sent (p + n))
 unfolding unborn_lines
-unborn_lines-more states sent p zero =
-    let here : p + 0 ≡ p = omega arith in
-    rw here (append-nil (unborn_line (states p) p (sent p)))
-unborn_lines-more states sent p (suc n) =
-    let place : p + 1 + n ≡ p + suc n = omega arith in
-    let first = unborn_line (states p) p (sent p) in
-    let line = λ (q : ℕ). unborn_line (states q) q (sent q) in
-    ap (λ (l : List ℕ). first ++ l) (unborn_lines-more states sent (p + 1) n)
-    ∙ sym (append_assoc first (unborn_lines states sent (p + 1) n) (line (p + 1 + n)))
-    ∙ ap (λ (q : ℕ). first ++ unborn_lines states sent (p + 1) n ++ line q) place
+unborn_lines-more states sent p zero = grind (arith, common_steps, append-nil)
+unborn_lines-more states sent p (suc n) = grind (arith, common_steps, append_assoc, unborn_lines-more states sent (p + 1) n)
 
 -- no lines of no processes
 pub none_unborn : (states : ℕ → ProcState) (sent : ℕ → ℕ) (old : List ℕ) → old ≡ old ++ unborn_lines states sent 1 0

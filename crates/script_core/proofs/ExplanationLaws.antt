@@ -1,7 +1,8 @@
 -- An explained run without the lines that begin with `#` is the run: for `explanations_are_comments`.
-use Rattle.std.proofs.Common.{ℕ, ◌≡◌, ◌+◌, List, [], ◌∷◌, ◌++◌, length, flat_map, sym, ap, ◌∙◌, append_assoc, append-nil}
+use Rattle.std.proofs.Common.{arith, ℕ, ◌≡◌, ◌+◌, List, [], ◌∷◌, ◌++◌, length, flat_map, sym, ap, ◌∙◌, append_assoc, append-nil}
+use Rattle.std.proofs.lemmas.Grind.{common_steps}
 use Rattle.lock_manager.specs.declared.request.Rules.{Rules}
-use Rattle.lock_manager.specs.State.{State, opening_state}
+use Rattle.lock_manager.specs.State.{State}
 use Rattle.session_core.specs.Event.{Event}
 use Rattle.session_core.specs.Mail.{requests_sent}
 use Rattle.script_core.specs.declared.states.States.{States}
@@ -47,7 +48,5 @@ explanations_are_comments states bytes text h =
       drained = h.drained;
       report = h.report;
       is_report = h.is_report;
-      is = ap without_comments (h.is ∙ append_assoc h.explained h.report born)
-          ∙ run_without states h.script.rules (processes_in h.script) 1 opening_state h.journal h.state h.explained h.explains (h.report ++ born)
-          ∙ ap (λ (l : List ℕ). lines ++ l) reported;
+      is = grind (arith, common_steps, append_assoc, run_without);
     }

@@ -1,18 +1,18 @@
 -- The words of a line, and of the pieces of an entry's line, are never refused for want of memory: for `Reader::parse_line`, `read_notes` and
 -- `read_pieces`.
-use Rattle.std.proofs.Common.{arith, ◌≡◌, ℕ, ◌==◌, ◌∙◌, sym, subst, inl, inr, List, [], ◌∷◌, length, Option, Some, None, Result, Ok, Err, IfErr, MatchOption, MatchResult, ◌⊎◌}
+use Rattle.std.proofs.Common.{arith, ◌≡◌, ℕ, ◌∙◌, sym, subst, inl, inr, List, [], ◌∷◌, length, Option, Some, None, Result, Ok, Err, IfErr, MatchOption, MatchResult, ◌⊎◌}
 use Rattle.std.proofs.lemmas.Grind.{common_steps}
 use Rattle.fd_table.specs.declared.Limits.{Limits}
 use Rattle.lock_manager.specs.declared.request.Request.{Request}
 use Rattle.lock_manager.specs.declared.request.Reply.{Reply}
 use Rattle.lock_manager.specs.declared.request.Note.{Note}
-use Rattle.lock_manager.specs.declared.request.Note.TheVariants.{Answer, Waits}
+use Rattle.lock_manager.specs.declared.request.Note.TheVariants.{Answer}
 use Rattle.script_core.specs.declared.entry.Taken.{Taken}
 use Rattle.script_core.specs.declared.line.Line.{Line}
 use Rattle.script_core.specs.declared.line.Line.TheVariants as lines
 use Rattle.script_core.specs.declared.script.Cause.{Cause}
-use Rattle.script_core.specs.declared.script.Cause.TheVariants.{Word, Count, Process, Memory, Tag}
-use Rattle.script_core.specs.Arguments.{Argument, ErrorWord, PolicyWord, LimitsWord, cause_of, Spells, IsFirstBad, AreRefused, Command, command_named, has_count}
+use Rattle.script_core.specs.declared.script.Cause.TheVariants.{Word, Count, Memory, Tag}
+use Rattle.script_core.specs.Arguments.{Argument, ErrorWord, cause_of, Spells, IsFirstBad, AreRefused, Command, command_named, has_count}
 use Rattle.script_core.specs.Reading.{Reading, limits_of, is_comment, says_policy, says_limits, PolicyGives, LimitsGive, ArgumentsGive, CommandGives, RequestGives, ArrivalGives, ProcessGives, WordsGive, IsOfScript}
 use Rattle.script_core.specs.EntryReading.{TagGives, RequestIsTaken, TakenGives, ReplyWordsGive, WaitGives, ToldGives, NoteGives}
 use Rattle.script_core.proofs.HeaderLemmas.{MatchBool-join}
@@ -38,24 +38,20 @@ of_count : (cause : Cause) → cause ≡ Count → IsOfScript cause
 of_count cause is memory e = absurd (let other : Count ≡ Memory memory = sym is ∙ e in cc)
 
 pub of_refused : (arguments : List Argument) (words : List (List ℕ)) (cause : Cause) → AreRefused arguments words cause → IsOfScript cause
-of_refused arguments words cause refused =
-    MatchBool-join (length words == length arguments) _ _ (IsOfScript cause) (of_first_bad arguments words cause) (of_count cause) refused
+of_refused arguments words cause refused = grind (arith, common_steps, MatchBool-join, of_first_bad, of_count)
 
 of_policy : (words : List (List ℕ)) (result : Result Line Cause) → PolicyGives words result → IsSaid result
 unfolding IsSaid
-of_policy words result (inl (cause, refused, is)) = said_by (Err cause) result (of_refused (PolicyWord ∷ []) words cause refused) is
-of_policy words result (inr (policy, words_are, is)) = said_by (Ok (lines.Policy policy)) result tt is
+of_policy words result h = grind (arith, common_steps, said_by, of_refused)
 
 of_limits : (words : List (List ℕ)) (result : Result Line Cause) → LimitsGive words result → IsSaid result
 unfolding IsSaid
-of_limits words result (inl (cause, refused, is)) = said_by (Err cause) result (of_refused (LimitsWord ∷ []) words cause refused) is
-of_limits words result (inr (limits, words_are, is)) = said_by (Ok (lines.Limits limits)) result tt is
+of_limits words result h = grind (arith, common_steps, said_by, of_refused)
 
 of_arguments : (limits : Limits) (words : List (List ℕ)) (command : Command) (arguments : List (List ℕ)) (result : Result Request Cause)
     → ArgumentsGive limits words command arguments result → IsSaid result
 unfolding IsSaid
-of_arguments limits words command arguments result (inl (cause, bad, is)) = said_by (Err cause) result (of_first_bad _ arguments cause bad) is
-of_arguments limits words command arguments result (inr (request, are, is)) = said_by (Ok request) result tt is
+of_arguments limits words command arguments result h = grind (arith, common_steps, said_by, of_first_bad)
 
 of_command : (limits : Limits) (words arguments : List (List ℕ)) (result : Result Request Cause) (command : Option Command)
     → MatchOption command (result ≡ Err Word) (λ command. CommandGives limits words command arguments result) → IsSaid result
@@ -71,13 +67,11 @@ of_request limits (name ∷ arguments) result gives = of_command limits (name �
 
 of_arrival : (p : ℕ) (next : Result Request Cause) (result : Result Line Cause) → IsSaid next → ArrivalGives p next result → IsSaid result
 unfolding IsSaid
-of_arrival p (Ok request) result said is = said_by (Ok (lines.Arrival p request)) result tt is
-of_arrival p (Err cause) result said is = said_by (Err cause) result said is
+of_arrival p next result said is = grind (arith, common_steps, said_by)
 
 of_process : (limits : Limits) (first : List ℕ) (rest : List (List ℕ)) (result : Result Line Cause) → ProcessGives limits first rest result → IsSaid result
 unfolding IsSaid
-of_process limits first rest result (inl arrival) = of_arrival arrival.0 arrival.3 result (of_request limits rest arrival.3 arrival.4) arrival.5
-of_process limits first rest result (inr fault) = said_by (Err Process) result (λ memory e. cc) fault.1
+of_process limits first rest result h = grind (arith, common_steps, of_arrival, of_request, said_by)
 
 of_words : (reading : Reading) (words : List (List ℕ)) (result : Result Line Cause) → WordsGive reading words result → IsSaid result
 unfolding IsSaid
@@ -91,35 +85,30 @@ of_words reading (first ∷ rest) result gives =
 -- no words of a line are refused for want of memory
 pub never_memory : (reading : Reading) (words : List (List ℕ)) (result : Result Line Cause) → WordsGive reading words result → IfErr result IsOfScript
 unfolding IsSaid
-never_memory reading words (Ok said) gives = tt
-never_memory reading words (Err cause) gives = of_words reading words (Err cause) gives
+never_memory reading words result gives = grind (arith, common_steps, of_words)
 
 of_tag : (limits : Limits) (word : List ℕ) (cause : Cause) → TagGives limits word (Err cause) → IsOfScript cause
 of_tag limits word cause gives memory e = absurd (let other : Tag ≡ Memory memory = sym gives.1 ∙ e in cc)
 
 of_request_taken : (p n : ℕ) (next : Result Request Cause) (result : Result Taken Cause) → IsSaid next → RequestIsTaken p n next result → IsSaid result
 unfolding IsSaid
-of_request_taken p n (Ok request) result said is = said_by (Ok (record { p = p; n = n; request = request })) result tt is
-of_request_taken p n (Err cause) result said is = said_by (Err cause) result said is
+of_request_taken p n next result said is = grind (arith, common_steps, said_by)
 
 of_tagged : (limits : Limits) (word : List ℕ) (rest : List (List ℕ)) (tagged : Result (ℕ × ℕ) Cause) (result : Result Taken Cause) → TagGives limits word tagged
     → MatchResult tagged (λ pair. (next : Result Request Cause) × RequestGives limits rest next
     × RequestIsTaken pair.0 pair.1 next result) (λ cause. result ≡ Err cause)
     → IsSaid result
 unfolding IsSaid
-of_tagged limits word rest (Ok pair) result tag given = of_request_taken pair.0 pair.1 given.0 result (of_request limits rest given.0 given.1) given.2
-of_tagged limits word rest (Err cause) result tag is = said_by (Err cause) result (of_tag limits word cause tag) is
+of_tagged limits word rest tagged result tag given = grind (arith, common_steps, of_request_taken, of_request, said_by, of_tag)
 
 of_taken : (limits : Limits) (words : List (List ℕ)) (result : Result Taken Cause) → TakenGives limits words result → IsSaid result
 unfolding IsSaid
-of_taken limits [] result is = said_by (Err Count) result (λ memory e. cc) is
-of_taken limits (first ∷ rest) result gives = of_tagged limits first rest gives.0 result gives.1 gives.2
+of_taken limits words result is = grind (arith, common_steps, said_by, of_tagged)
 
 of_reply_words : (expected : List Argument) (name : List ℕ) (arguments : List (List ℕ)) (result : Result Reply Cause)
     → ReplyWordsGive expected name arguments result → IsSaid result
 unfolding IsSaid
-of_reply_words expected name arguments result (inl (cause, refused, is)) = said_by (Err cause) result (of_refused expected arguments cause refused) is
-of_reply_words expected name arguments result (inr (reply, are, is)) = said_by (Ok reply) result tt is
+of_reply_words expected name arguments result h = grind (arith, common_steps, said_by, of_refused)
 
 of_found : (name : List ℕ) (arguments : List (List ℕ)) (found : Option Command) (result : Result Reply Cause)
     → MatchOption found ((Spells ErrorWord name × ReplyWordsGive [] name arguments result) ⊎ ((¬ (Spells ErrorWord name)) × (result ≡ Err Word)))
@@ -133,13 +122,11 @@ of_found name arguments (Some form) result given = of_reply_words form.required 
 of_answer : (p n : ℕ) (next : Result Reply Cause) (result : Result Note Cause) → IsSaid next
     → MatchResult next (λ reply. result ≡ Ok (Answer p n reply)) (λ cause. result ≡ Err cause) → IsSaid result
 unfolding IsSaid
-of_answer p n (Ok reply) result said is = said_by (Ok (Answer p n reply)) result tt is
-of_answer p n (Err cause) result said is = said_by (Err cause) result said is
+of_answer p n next result said is = grind (arith, common_steps, said_by)
 
 of_wait : (p n : ℕ) (words : List (List ℕ)) (result : Result Note Cause) → WaitGives p n words result → IsSaid result
 unfolding IsSaid
-of_wait p n [] result is = said_by (Ok (Waits p n)) result tt is
-of_wait p n (word ∷ words) result is = said_by (Err Count) result (λ memory e. cc) is
+of_wait p n words result is = grind (arith, common_steps, said_by)
 
 of_told : (p n : ℕ) (words : List (List ℕ)) (result : Result Note Cause) → ToldGives p n words result → IsSaid result
 unfolding IsSaid
@@ -148,13 +135,11 @@ of_told p n words result h = grind (arith, common_steps, said_by, MatchBool-join
 of_noted : (limits : Limits) (word : List ℕ) (rest : List (List ℕ)) (tagged : Result (ℕ × ℕ) Cause) (result : Result Note Cause) → TagGives limits word tagged
     → MatchResult tagged (λ pair. ToldGives pair.0 pair.1 rest result) (λ cause. result ≡ Err cause) → IsSaid result
 unfolding IsSaid
-of_noted limits word rest (Ok pair) result tag given = of_told pair.0 pair.1 rest result given
-of_noted limits word rest (Err cause) result tag is = said_by (Err cause) result (of_tag limits word cause tag) is
+of_noted limits word rest tagged result tag given = grind (arith, common_steps, of_told, said_by, of_tag)
 
 of_note : (limits : Limits) (words : List (List ℕ)) (result : Result Note Cause) → NoteGives limits words result → IsSaid result
 unfolding IsSaid
-of_note limits [] result is = said_by (Err Count) result (λ memory e. cc) is
-of_note limits (first ∷ rest) result gives = of_noted limits first rest gives.0 result gives.1 gives.2
+of_note limits words result is = grind (arith, common_steps, said_by, of_noted)
 
 -- no request behind its tag is refused for want of memory
 pub taken_never_memory : (limits : Limits) (words : List (List ℕ)) (cause : Cause) → TakenGives limits words (Err cause) → IsOfScript cause

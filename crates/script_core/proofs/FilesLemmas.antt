@@ -1,8 +1,7 @@
 -- Each description and each wait is of one of the files, and each step keeps that: for `write_explained`, clause `ok`.
 use Rattle.std.proofs.lemmas.List.Elements.{All-head, All-tail, All-cons, All-append, All-set, All-filter}
 use Rattle.std.proofs.lemmas.Grind.{common_steps}
-use Rattle.std.proofs.Common.{rules, ℕ, zero, suc, ◌≡◌, ◌==◌, ◌<◌, inl, inr, ◌||◌, not, Bool, Option, Some, Result, List, [], ◌∷◌, ◌++◌, All, sym, subst, arith}
-use Rattle.std.specs.Prelude.{pred, slice_get}
+use Rattle.std.proofs.Common.{rules, ℕ, zero, suc, ◌≡◌, ◌==◌, ◌<◌, ◌||◌, not, Bool, Option, Some, List, [], ◌∷◌, ◌++◌, All, sym, subst, arith, slice_get}
 use Rattle.std.proofs.lemmas.Option.{get_or_from_slice_get, slice_get_within}
 use Rattle.range_core.specs.declared.Mode.{Mode}
 use Rattle.range_core.specs.Resolving.{resolution}
@@ -10,8 +9,6 @@ use Rattle.lock_book.specs.declared.Owner.{Owner}
 use Rattle.fd_table.specs.declared.TheConstants.{FILES}
 use Rattle.fd_table.specs.declared.FdFault.{FdFault}
 use Rattle.fd_table.specs.declared.tables.Look.{Look}
-use Rattle.fd_table.specs.Releases.{Released}
-use Rattle.fd_table.specs.Calls.{OpenGives, DupGives, DupToGives, CloseGives, SeekGives, ResizeGives, ForkGives}
 use Rattle.fd_table.specs.Descriptors.{Descriptors, OpenFileDescription, SameDescriptors, description_numbered, look_at, opening_descriptors}
 use Rattle.wait_core.specs.declared.Family.{Family}
 use Rattle.wait_core.specs.declared.Policy.{Policy}
@@ -25,12 +22,12 @@ use Rattle.lock_manager.specs.declared.request.Request.{Request}
 use Rattle.lock_manager.specs.declared.request.Request.TheVariants.{OpenFile, Dup, DupTo, CloseFd, Seek, Resize, Lk, Flock, Fork, Exit, Signal, Kill}
 use Rattle.lock_manager.specs.declared.request.ProcState.{ProcState}
 use Rattle.lock_manager.specs.declared.request.ProcState.TheVariants.{Unborn, Live, Waiting, Ended}
-use Rattle.lock_manager.specs.State.{State, locks_held, opening_state, with_lock_of}
+use Rattle.lock_manager.specs.State.{State, opening_state, with_lock_of}
 use Rattle.lock_manager.specs.Settling.{Settles, granted}
-use Rattle.lock_manager.specs.Outcomes.{Outcome, IsRefusal, answered, waits_then}
+use Rattle.lock_manager.specs.Outcomes.{Outcome, IsRefusal, waits_then}
 use Rattle.lock_manager.specs.LockWords.{is_get, is_bad_argument, wanted_mode, permits, wanted_lock}
-use Rattle.lock_manager.specs.LockCommands.{CommandComesTo, DescribedComesTo, GetTells}
-use Rattle.lock_manager.specs.FlockCalls.{FlockTestComesTo, FlockModeComesTo, FlockOpComesTo}
+use Rattle.lock_manager.specs.LockCommands.{CommandComesTo, DescribedComesTo}
+use Rattle.lock_manager.specs.FlockCalls.{FlockModeComesTo, FlockOpComesTo}
 use Rattle.lock_manager.specs.ProcessCalls.{EndComesTo, SignalComesTo, KillOtherComesTo}
 use Rattle.lock_manager.specs.Asking.{AsksFor}
 use Rattle.lock_manager.specs.Step.{ComesTo, Step}
@@ -46,8 +43,7 @@ WaitInFiles wait = wait.file < FILES
 
 -- lists, an item more or less
 all_one : {X : Type 0} (P : X → Type 0) (x : X) → P x → All P (x ∷ [])
-all_one P x holds zero d within = holds
-all_one P x holds (suc k) d within = absurd (omega (arith, within))
+all_one P x holds h2 d within = grind (arith, common_steps)
 
 all_without : {X : Type 0} (P : X → Type 0) (before : List X) (x : X) (after : List X) → All P (before ++ x ∷ after) → All P (before ++ after)
 all_without P [] x after h = All-tail P x after h
@@ -125,29 +121,18 @@ waits_leave : (S : State) (wait : Wait) (grants : List Note) (outcome : Outcome)
     → IsWithinFiles outcome.after
 waits_leave S wait grants outcome is low within = grind (arith, common_steps, leaves, All-append, all_one)
 
-test_leaves : (rules : Rules) (S : State) (nb : Bool) (wanted : Wait) (grants : List Note) (outcome : Outcome)
-    → FlockTestComesTo rules S nb wanted grants outcome
-    → wanted.file < FILES → IsWithinFiles S → IsWithinFiles outcome.after
-test_leaves rules S nb wanted grants outcome h h2 h3 = grind (arith, common_steps, leaves, lock_within, waits_leave)
-
 mode_leaves : (rules : Rules) (S : State) (look : Look) (nb : Bool) (wanted : Wait) (held : Option Mode) (outcome : Outcome)
     → FlockModeComesTo rules S look nb wanted held outcome
     → wanted.file < FILES → IsWithinFiles S → IsWithinFiles outcome.after
-mode_leaves rules S look nb wanted held outcome h h2 h3 = grind (arith, common_steps, test_leaves, by_bool, leaves, settles_within)
+mode_leaves rules S look nb wanted held outcome h h2 h3 = grind (arith, common_steps, leaves, lock_within, waits_leave, by_bool, settles_within)
 
 op_leaves : (rules : Rules) (S : State) (p n : ℕ) (look : Look) (op : FlockOp) (nb : Bool) (outcome : Outcome) → FlockOpComesTo rules S p n look op nb outcome
     → look.file < FILES → IsWithinFiles S → IsWithinFiles outcome.after
 op_leaves rules S p n look op nb outcome h h2 h3 = grind (arith, common_steps, leaves, mode_leaves)
 
-get_leaves : (S : State) (wanted : Wait) (outcome : Outcome)
-    → GetTells ((locks_held S).bytes wanted.file) wanted.owner wanted.span wanted.mode (λ reply. outcome ≡ answered S wanted.p wanted.n reply)
-    → IsWithinFiles S → IsWithinFiles outcome.after
-get_leaves S wanted outcome (inl h) within = leaves outcome _ h.1.2 within
-get_leaves S wanted outcome (inr h) within = leaves outcome _ h.1 within
-
 command_leaves : (rules : Rules) (S : State) (cmd : LkCmd) (wanted : Wait) (outcome : Outcome) → CommandComesTo rules S cmd wanted outcome
     → wanted.file < FILES → IsWithinFiles S → IsWithinFiles outcome.after
-command_leaves rules S cmd wanted outcome h h2 h3 = grind (arith, common_steps, get_leaves, leaves, lock_within, waits_leave)
+command_leaves rules S cmd wanted outcome h h2 h3 = grind (arith, common_steps, leaves, lock_within, All-append, all_one)
 
 described_leaves : (rules : Rules) (S : State) (p n : ℕ) (cmd : LkCmd) (lock : Lock) (look : Look) (outcome : Outcome)
     → DescribedComesTo rules S p n cmd lock look outcome
@@ -164,55 +149,19 @@ described_leaves rules S p n cmd lock look outcome h low within =
 outcome_leaves : (rules : Rules) (processes : ℕ) (S : State) (p n : ℕ) (request : Request) (outcome : Outcome) → ComesTo rules processes S p n request outcome
     → IsWithinFiles S → IsWithinFiles outcome.after
 outcome_leaves rules processes S p n (OpenFile file access) outcome (result, descriptors, gives, comes) within =
-    if_result result _ _ (IsWithinFiles outcome.after) comes
-    (λ fd was is.
-    let given = subst (λ (r : Result ℕ FdFault). OpenGives rules.limits S.descriptors p file access r descriptors) was gives in
-    leaves outcome _ is (with_files S descriptors
-    (subst InFiles (sym given.3.descriptions)
-    (All-append (λ (o : OpenFileDescription). o.file < FILES) S.descriptors.descriptions _ within.descriptions (all_one (λ (o : OpenFileDescription). o.file < FILES) _ given.0))) within))
-    (λ fault refused. refusal_leaves S p n fault outcome refused within)
+    grind (arith, common_steps, if_result, leaves, with_files, All-append, all_one, refusal_leaves)
 outcome_leaves rules processes S p n (Dup fd) outcome (result, descriptors, gives, comes) within =
-    if_result result _ _ (IsWithinFiles outcome.after) comes
-    (λ free was is.
-    let given = subst (λ (r : Result ℕ FdFault). DupGives rules.limits S.descriptors p fd r descriptors) was gives in
-    leaves outcome _ is (with_files S descriptors (same_files descriptors _ given.3 within.descriptions) within))
-    (λ fault refused. refusal_leaves S p n fault outcome refused within)
+    grind (arith, common_steps, if_result, leaves, with_files, same_files, refusal_leaves)
 outcome_leaves rules processes S p n (DupTo fd to) outcome (result, descriptors, gives, comes) within =
-    if_result result _ _ (IsWithinFiles outcome.after) comes
-    (λ answer was is.
-    let given = subst (λ (r : Result (ℕ × Released) FdFault). DupToGives rules.limits S.descriptors p fd to r descriptors) was gives in
-    let files : InFiles descriptors.descriptions =
-    by_bool (to == fd) given.4 (λ still. same_files descriptors _ still.1 within.descriptions)
-    (λ moved. same_files descriptors _ moved.0 within.descriptions) in
-    leaves outcome _ is (record { descriptions = files; waits = within.waits }))
-    (λ fault refused. refusal_leaves S p n fault outcome refused within)
+    grind (arith, common_steps, if_result, by_bool, same_files, leaves, refusal_leaves)
 outcome_leaves rules processes S p n (CloseFd fd) outcome (result, descriptors, gives, comes) within =
-    if_result result _ _ (IsWithinFiles outcome.after) comes
-    (λ released was is.
-    let given = subst (λ (r : Result Released FdFault). CloseGives S.descriptors p fd r descriptors) was gives in
-    leaves outcome _ is (record { descriptions = same_files descriptors _ given.1 within.descriptions; waits = within.waits }))
-    (λ fault refused. refusal_leaves S p n fault outcome refused within)
+    grind (arith, common_steps, if_result, leaves, same_files, refusal_leaves)
 outcome_leaves rules processes S p n (Seek fd offset) outcome (result, descriptors, gives, comes) within =
-    if_result result _ _ (IsWithinFiles outcome.after) comes
-    (λ done was is.
-    let given = subst (λ (r : Result (Unit {0}) FdFault). SeekGives S.descriptors p fd offset r descriptors) was gives in
-    let low : given.0.file < FILES = numbered_file S.descriptors.descriptions given.1.number given.0 within.descriptions given.1.numbered in
-    leaves outcome _ is (with_files S descriptors
-    (subst InFiles (sym given.4.descriptions)
-    (All-set (λ (o : OpenFileDescription). o.file < FILES) S.descriptors.descriptions (pred given.1.number) _ low within.descriptions)) within))
-    (λ fault refused. refusal_leaves S p n fault outcome refused within)
+    grind (arith, common_steps, if_result, numbered_file, leaves, with_files, All-set, refusal_leaves)
 outcome_leaves rules processes S p n (Resize fd size) outcome (result, descriptors, gives, comes) within =
-    if_result result _ _ (IsWithinFiles outcome.after) comes
-    (λ done was is.
-    let given = subst (λ (r : Result (Unit {0}) FdFault). ResizeGives S.descriptors p fd size r descriptors) was gives in
-    leaves outcome _ is (with_files S descriptors (same_files descriptors _ given.4 within.descriptions) within))
-    (λ fault refused. refusal_leaves S p n fault outcome refused within)
+    grind (arith, common_steps, if_result, leaves, with_files, same_files, refusal_leaves)
 outcome_leaves rules processes S p n (Fork child) outcome (result, descriptors, gives, comes) within =
-    if_result result _ _ (IsWithinFiles outcome.after) comes
-    (λ done was is.
-    let given = subst (λ (r : Result (Unit {0}) FdFault). ForkGives processes S.descriptors p child r descriptors) was gives in
-    leaves outcome _ is (record { descriptions = same_files descriptors _ given.1 within.descriptions; waits = within.waits }))
-    (λ fault refused. refusal_leaves S p n fault outcome refused within)
+    grind (arith, common_steps, if_result, leaves, same_files, refusal_leaves)
 outcome_leaves rules processes S p n (Lk fd cmd lock) outcome h within =
     if_option (look_at S.descriptors p fd) _ _ (IsWithinFiles outcome.after) h (λ closed. leaves outcome _ closed within)
     (λ look opened described.

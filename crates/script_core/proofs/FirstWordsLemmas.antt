@@ -1,7 +1,6 @@
 -- A line's first words: what they say, the whole line says; for `Reader::parse_text`.
 use Rattle.std.proofs.lemmas.Grind.{common_steps}
-use Rattle.std.proofs.Common.{◌≡◌, ℕ, ◌+◌, ◌<◌, ◌≤◌, Bool, true, false, Option, Some, IfSome, MatchOption, Result, Err, List, [], ◌∷◌, length, take, find, refl, ap, subst, inl, inr, arith, ne_eqb, ⊎_elim, MatchBool}
-use Rattle.std.specs.Prelude.{if◌then◌else◌, bytes_eq}
+use Rattle.std.proofs.Common.{◌≡◌, ℕ, ◌+◌, ◌<◌, ◌≤◌, Bool, false, Option, IfSome, MatchOption, Result, Err, List, [], ◌∷◌, length, take, find, subst, inl, inr, arith, ⊎_elim, MatchBool, bytes_eq}
 use Rattle.std.specs.List.{AllByRecursion as Each}
 use Rattle.std.proofs.lemmas.Bool.{cases_lt}
 use Rattle.std.proofs.lemmas.List.{length-take-le, take_all}
@@ -10,13 +9,12 @@ use Rattle.lock_manager.specs.declared.request.Request.{Request}
 use Rattle.script_core.specs.declared.line.Line.{Line}
 use Rattle.script_core.specs.declared.script.Cause.{Cause}
 use Rattle.script_core.specs.declared.script.Cause.TheVariants.{Word}
-use Rattle.script_core.specs.Arguments.{Argument, Command, PolicyWord, LimitsWord, AreRefused, commands, command_named, has_count}
+use Rattle.script_core.specs.Arguments.{Argument, Command, AreRefused, commands, command_named, has_count}
 use Rattle.script_core.specs.Reading.{Reading, PolicyGives, LimitsGive, CommandGives, RequestGives, ProcessGives, WordsGive, is_comment, says_policy, says_limits, limits_of}
 
 -- one of two facts for another
 pub MatchBool-map : (b : Bool) (P Q P' Q' : Type 0) → (P → P') → (Q → Q') → MatchBool b P Q → MatchBool b P' Q'
-MatchBool-map true P Q P' Q' f g h = f h
-MatchBool-map false P Q P' Q' f g h = g h
+MatchBool-map b P Q P' Q' f g h = grind (arith, common_steps)
 
 -- of words that are too many for a header line, others that are say the same
 pub many_refused : (argument : Argument) (words others : List (List ℕ)) (cause : Cause) → 1 < length words → 1 < length others
@@ -25,13 +23,11 @@ many_refused argument words others cause many more refused = grind (arith, commo
 
 many_policy : (words others : List (List ℕ)) (result : Result Line Cause) → 1 < length words → 1 < length others
     → PolicyGives words result → PolicyGives others result
-many_policy words others result many more (inl refused) = inl (refused.0, many_refused PolicyWord words others refused.0 many more refused.1, refused.2)
-many_policy words others result many more (inr read) = absurd (let one = ap length read.1 in omega (arith, one))
+many_policy words others result many more h3 = grind (arith, common_steps, many_refused)
 
 many_limits : (words others : List (List ℕ)) (result : Result Line Cause) → 1 < length words → 1 < length others
     → LimitsGive words result → LimitsGive others result
-many_limits words others result many more (inl refused) = inl (refused.0, many_refused LimitsWord words others refused.0 many more refused.1, refused.2)
-many_limits words others result many more (inr read) = absurd (let one = ap length read.1 in omega (arith, one))
+many_limits words others result many more h3 = grind (arith, common_steps, many_refused)
 
 -- the command has six arguments at most
 abbrev HasFew : Command → Type 0
@@ -42,13 +38,11 @@ each_has_few limits = grind (arith, common_steps)
 
 pub found_has : {X : Type 0} (P : X → Type 0) (test : X → Bool) (xs : List X) → Each P xs → IfSome (find test xs) P
 found_has P test [] all = tt
-found_has P test (x ∷ xs) all =
-    elim (test x) as (λ b. IfSome (if b then Some x else find test xs) P) [ true ↦ all.0 | false ↦ found_has P test xs all.1 ]
+found_has P test (x ∷ xs) all = grind (arith, common_steps, found_has P test xs)
 
 -- it hasn't more
 too_many : (command : Command) (count : ℕ) → HasFew command → 6 < count → has_count command count ≡ false
-too_many command count few many =
-    rw (ne_eqb count (length command.required) (λ e. omega (arith, e)), ne_eqb count (length command.required + length command.optional) (λ e. omega (arith, e))) refl
+too_many command count few many = grind (arith, common_steps)
 
 -- of arguments that are too many for any command, others that are say the same
 many_found : (limits : Limits) (name : List ℕ) (arguments others : List (List ℕ)) (result : Result Request Cause) (found : Option Command)

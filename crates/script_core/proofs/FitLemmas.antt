@@ -1,9 +1,9 @@
 -- What a request comes to has numbers that a line may have: its notes, and the waits and locks that it leaves; and the notes are few; for
 -- `deadlock_of`, `outputs_are_legal`, `push_all_unborn` and others.
-use Rattle.std.proofs.Common.{rules, ◌≡◌, ◌≢◌, ℕ, zero, suc, pred, slice_get, ◌+◌, ◌^◌, ◌<◌, ◌≤◌, ◌==◌, ◌||◌, true, false, List, [], ◌∷◌, ◌++◌, length, length-append, map, filter_map, Option, Some, None, option_map, ⊎_elim, refl, sym, ap, ◌∙◌, subst, arith, eq-eqb, ne_eqb, append_assoc, append-nil}
+use Rattle.std.proofs.Common.{rules, ◌≡◌, ◌≢◌, ℕ, zero, suc, pred, slice_get, ◌+◌, ◌^◌, ◌<◌, ◌≤◌, ◌==◌, ◌||◌, true, false, List, [], ◌∷◌, ◌++◌, length, map, filter_map, Option, Some, None, option_map, ⊎_elim, refl, sym, ap, ◌∙◌, subst, arith, eq-eqb, ne_eqb, append_assoc, append-nil}
 use Rattle.std.proofs.lemmas.Grind.{common_steps}
 use Rattle.std.specs.Prelude.{⊤, IfSome, slice_set, option_and_then}
-use Rattle.std.specs.List.{AllByRecursion as Each, IsDistinct, list_any, cons_option}
+use Rattle.std.specs.List.{AllByRecursion as Each, IsDistinct, list_any}
 use Rattle.std.proofs.lemmas.Bool.{cases_eq}
 use Rattle.std.proofs.lemmas.Option.{slice_get_within}
 use Rattle.std.proofs.lemmas.Map.Steps.{length-le_from_distinct_below}
@@ -14,7 +14,6 @@ use Rattle.lock_book.specs.Changes.{Change, FlockChange, whole_file}
 use Rattle.fd_table.specs.declared.TheConstants.{FILES}
 use Rattle.fd_table.specs.declared.tables.Look.{Look}
 use Rattle.fd_table.specs.declared.Limits.{Limits}
-use Rattle.fd_table.specs.declared.Limits.TheVariants.{Small, Wide}
 use Rattle.fd_table.specs.Descriptors.{Descriptors, OpenFileDescription, description_limit, description_numbered, look_of}
 use Rattle.fd_table.specs.Releases.{Released}
 use Rattle.wait_core.specs.declared.Policy.{Policy}
@@ -24,7 +23,7 @@ use Rattle.wait_core.specs.Blocking.{IsBlocked, AllBlocked}
 use Rattle.lock_manager.specs.declared.request.Note.{Note}
 use Rattle.lock_manager.specs.declared.request.ProcState.{ProcState}
 use Rattle.lock_manager.specs.declared.request.ProcState.TheVariants.{Unborn, Live, Waiting}
-use Rattle.lock_manager.specs.State.{State, locks_held, with_lock}
+use Rattle.lock_manager.specs.State.{State, with_lock}
 use Rattle.lock_manager.specs.Settling.{Settles, IsSettled, granted}
 use Rattle.lock_manager.specs.DescriptorCalls.{with_released, process_releases, description_releases, flock_releases}
 use Rattle.script_core.specs.ScriptText.{IsProcess}
@@ -115,21 +114,16 @@ apart_middle (first ∷ before) wait after apart =
 
 pub apart_push : (waits : List Wait) (wait : Wait) → AreApart waits → Each (λ other. other.p ≢ wait.p) waits → AreApart (waits ++ wait ∷ [])
 apart_push [] wait apart others = (tt, tt)
-apart_push (first ∷ waits) wait apart others = (
-  each_append (λ (other : Wait). other.p ≢ first.p) waits (wait ∷ []) apart.0 ((λ e. others.0 (sym e)), tt),
-  apart_push waits wait apart.1 others.1,
-)
+apart_push (first ∷ waits) wait apart others = grind (arith, common_steps, each_append, apart_push waits)
 
 -- ---- who waits
 
 -- a process that lives has no wait
 pub others_wait : (limits : Limits) (S : State) (p : ℕ) → S.states p ≢ Waiting → Fits limits S → Each (λ wait. wait.p ≢ p) S.waits
-others_wait limits S p idle fits =
-    each_map (FitsWait limits S.states) (λ (wait : Wait). wait.p ≢ p) S.waits (λ wait is e. idle (ap S.states (sym e) ∙ is.waiting)) fits.waits
+others_wait limits S p idle fits = grind (arith, common_steps, each_map)
 
 pub few_processes : (limits : Limits) (p : ℕ) → IsProcess limits p → p ≤ 64
-few_processes Small p is = let high = is.1 in omega (arith, high)
-few_processes Wide p is = is.1
+few_processes limits p is = grind (arith, common_steps)
 
 numbers_of : List Wait → List ℕ
 numbers_of waits = map (λ wait. wait.p) waits
@@ -147,8 +141,7 @@ distinct (wait ∷ waits) apart = (each_number waits wait.p apart.0, distinct wa
 no_zero : (limits : Limits) (states : ℕ → ProcState) (waits : List Wait) → Each (FitsWait limits states) waits → Each (λ q. (0 == q) ≡ false) (numbers_of waits)
 unfolding numbers_of
 no_zero limits states [] fits = tt
-no_zero limits states (wait ∷ waits) fits =
-    (ne_eqb 0 wait.p (λ e. let low = fits.0.process.0 in omega (arith, e, low)), no_zero limits states waits fits.1)
+no_zero limits states (wait ∷ waits) fits = grind (arith, common_steps, no_zero limits states waits)
 
 below : (limits : Limits) (states : ℕ → ProcState) (waits : List Wait) → Each (FitsWait limits states) waits → (q : ℕ)
     → list_any (λ p. q == p) (numbers_of waits) ≡ true → q < 65
@@ -224,16 +217,11 @@ released_files p (file ∷ files) few = (record { owner = few; last = omega arit
 
 each_filtered : {X Y : Type 0} (P : Y → Type 0) (f : X → Option Y) (xs : List X) → ((x : X) → IfSome (f x) P) → Each P (filter_map f xs)
 each_filtered P f [] is = tt
-each_filtered {Y = Y} P f (x ∷ xs) is = first (f x) (is x) (each_filtered P f xs is)
-  where
-    first : (y : Option Y) → IfSome y P → Each P (filter_map f xs) → Each P (cons_option y (filter_map f xs))
-    first None is rest = rest
-    first (Some y) is rest = (is, rest)
+each_filtered {Y = Y} P f (x ∷ xs) is = grind (arith, common_steps, each_filtered P f xs)
 
 -- a description that was made has a number of those
 numbered_within : (opened : List OpenFileDescription) (d : ℕ) (x : OpenFileDescription) → description_numbered opened d ≡ Some x → d ≤ length opened
-numbered_within opened zero x is = absurd (let bad : None ≡ Some x = is in cc)
-numbered_within opened (suc k) x is = let below = slice_get_within opened k x is in omega (arith, below)
+numbered_within opened d x is = grind (arith, common_steps, below, slice_get_within)
 
 released_descriptions : (opened : List OpenFileDescription) (descriptions : List ℕ) → length opened ≤ description_limit
     → Each FitsChange (description_releases opened descriptions)
@@ -278,28 +266,16 @@ look_by D number found look h h2 h3 = grind (arith, common_steps, numbered_withi
 
 pub look_fits : (D : Descriptors) (found : Option ℕ) (look : Look) → FitsFiles D
     → option_and_then (λ number. option_map (look_of D number) (description_numbered D.descriptions number)) found ≡ Some look → FitsLook look
-look_fits D None look fits is = absurd (let bad : None ≡ Some look = is in cc)
-look_fits D (Some number) look fits is = look_by D number (description_numbered D.descriptions number) look fits refl is
+look_fits D found look fits is = grind (arith, common_steps, look_by)
 
 -- the same descriptions
 pub same_files : (old new : Descriptors) → new.descriptions ≡ old.descriptions → FitsFiles old → FitsFiles new
 same_files old new same fits = grind (arith, common_steps)
 
--- one more, of a file that there is
-pub one_more_file : (old new : Descriptors) (x : OpenFileDescription) → new.descriptions ≡ old.descriptions ++ x ∷ [] → x.file < FILES
-    → length old.descriptions < description_limit → FitsFiles old → FitsFiles new
-one_more_file old new x same file room fits = grind (arith, common_steps, length-append, each_append)
-
-each_set : {X : Type 0} (P : X → Type 0) (xs : List X) (k : ℕ) (x : X) → Each P xs → P x → Each P (slice_set xs k x)
-each_set P xs k x h h2 = grind (arith, common_steps)
-
-length_set : {X : Type 0} (xs : List X) (k : ℕ) (x : X) → length (slice_set xs k x) ≡ length xs
-length_set xs k x = grind (arith, common_steps)
-
 -- one with another offset
 pub moved_file : (old new : Descriptors) (number offset : ℕ) (x : OpenFileDescription) → description_numbered old.descriptions number ≡ Some x
     → new.descriptions ≡ slice_set old.descriptions (pred number) (record x { offset = offset }) → FitsFiles old → FitsFiles new
-moved_file old new number offset x h h2 h3 = grind (arith, common_steps, length_set, each_set, file_of)
+moved_file old new number offset x h h2 h3 = grind (arith, common_steps, file_of)
 
 -- ---- settling
 
@@ -317,8 +293,7 @@ pub record SettlesFit (limits : Limits) (S : State) (grants : List Note) (T : St
 
 pub settles_fit : (limits : Limits) (policy : Policy) (S : State) (grants : List Note) (T : State) → Fits limits S → Settles policy S grants T
     → SettlesFit limits S grants T
-settles_fit limits policy S [] T fits settles =
-    record { after = subst (Fits limits) (sym settles.1) fits; told = tt; count = (let same = ap (λ (X : State). length X.waits) settles.1 in omega (arith, same)); live = λ p live. ap (λ (X : State). X.states p) settles.1 ∙ live }
+settles_fit limits policy S [] T fits settles = grind (arith, common_steps)
 settles_fit limits policy S (grant ∷ grants) T fits (before, wait, after, next, is, rest) =
     let U = granted S before wait after in
     let later = settles_fit limits policy U grants T (granted_fits limits S before wait after next.place fits) rest in
@@ -348,22 +323,16 @@ pub blocked_at : (policy : Policy) (locks : Locks) (earlier before : List Wait) 
     → AllBlocked policy locks earlier (before ++ wait ∷ after) → IsBlocked policy locks (earlier ++ before) wait
 blocked_at policy locks earlier [] wait after all = subst (λ (l : List Wait). IsBlocked policy locks l wait) (sym (append-nil earlier)) all.0
 blocked_at policy locks earlier (first ∷ before) wait after all =
-    subst (λ (l : List Wait). IsBlocked policy locks l wait) (append_assoc earlier (first ∷ []) before)
-    (blocked_at policy locks (earlier ++ first ∷ []) before wait after all.1)
+    grind (arith, common_steps, append_assoc, blocked_at policy locks (earlier ++ first ∷ []) before)
 
 -- in a settled state it grants nothing
 pub nothing_granted : (policy : Policy) (S : State) (grants : List Note) (T : State) → IsSettled policy S → Settles policy S grants T → grants ≡ []
 nothing_granted policy S [] T settled settles = refl
-nothing_granted policy S (grant ∷ grants) T settled (before, wait, after, next, is, rest) =
-    absurd (next.ready (blocked_at policy (locks_held S) [] before wait after
-    (subst (λ (l : List Wait). AllBlocked policy (locks_held S) [] l) next.place settled)))
+nothing_granted policy S (grant ∷ grants) T settled (before, wait, after, next, is, rest) = grind (arith, common_steps, blocked_at)
 
 -- a blocked wait behind blocked ones is blocked there
 pub blocked_more : (policy : Policy) (locks : Locks) (earlier waits : List Wait) (wait : Wait) → AllBlocked policy locks earlier waits
     → IsBlocked policy locks (earlier ++ waits) wait → AllBlocked policy locks earlier (waits ++ wait ∷ [])
 blocked_more policy locks earlier [] wait all is = (subst (λ (l : List Wait). IsBlocked policy locks l wait) (append-nil earlier) is, tt)
-blocked_more policy locks earlier (first ∷ waits) wait all is = (
-  all.0,
-  blocked_more policy locks (earlier ++ first ∷ []) waits wait all.1
-      (subst (λ (l : List Wait). IsBlocked policy locks l wait) (sym (append_assoc earlier (first ∷ []) waits)) is),
-)
+blocked_more policy locks earlier (first ∷ waits) wait all is =
+    grind (arith, common_steps, append_assoc, blocked_more policy locks (earlier ++ first ∷ []) waits)

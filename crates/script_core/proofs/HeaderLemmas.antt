@@ -2,7 +2,7 @@
 use Rattle.std.proofs.lemmas.Bool.{or_parts}
 use Rattle.script_core.proofs.FirstWordsLemmas.{MatchBool-map}
 use Rattle.std.proofs.lemmas.Grind.{common_steps}
-use Rattle.std.proofs.Common.{◌≡◌, ℕ, ◌+◌, ◌<◌, ◌^◌, ◌⊎◌, Bool, true, false, List, [], ◌∷◌, ◌++◌, length, get_or, codes, decimal, None, Result, Ok, Err, is_ok, MatchBool, IfSome, slice_get, zero, suc, inl, inr, refl, sym, ap, subst, arith, lit<, nat_lt}
+use Rattle.std.proofs.Common.{◌≡◌, ℕ, ◌+◌, ◌<◌, ◌^◌, ◌⊎◌, Bool, true, false, List, [], ◌∷◌, ◌++◌, get_or, codes, decimal, None, Result, Ok, Err, is_ok, MatchBool, IfSome, slice_get, zero, suc, inl, inr, refl, sym, ap, subst, arith, lit<}
 use Rattle.std.specs.Bool.{IsFalse}
 use Rattle.std.specs.Str.{bytes_eq}
 use Rattle.fd_table.specs.declared.Limits.{Limits}
@@ -11,9 +11,8 @@ use Rattle.lock_manager.specs.declared.request.Request.{Request}
 use Rattle.script_core.specs.declared.line.Line.{Line}
 use Rattle.script_core.specs.declared.line.Line.TheVariants as lines
 use Rattle.script_core.specs.declared.script.Cause.{Cause}
-use Rattle.script_core.specs.declared.script.Cause.TheVariants.{Process}
 use Rattle.script_core.specs.declared.script.ScriptFault.{ScriptFault}
-use Rattle.script_core.specs.Words.{lines_of, words_of, script_limit}
+use Rattle.script_core.specs.Words.{lines_of, words_of}
 use Rattle.script_core.specs.ScriptText.{Meaning}
 use Rattle.script_core.specs.Reading.{Reading, Reads, LinesGive, LineGives, WordsGive, ProcessGives, ArrivalGives, is_comment}
 use Rattle.script_core.specs.WithoutHeaders.{PlainReads, PlainLinesGive, PlainLineGives, PlainWordsGive, HeadersChangeNothingElse, is_header, plain_rules}
@@ -51,21 +50,18 @@ IsPlain (Err cause) = Unit {0}
 
 -- a choice by a test, each side passed on
 pub MatchBool-join : (test : Bool) (P Q R : Type 0) → (P → R) → (Q → R) → MatchBool test P Q → R
-MatchBool-join true P Q R f g h = f h
-MatchBool-join false P Q R f g h = g h
+MatchBool-join test P Q R f g h = grind (arith, common_steps)
 
 plain_by : (expected result : Result Line Cause) → IsPlain expected → result ≡ expected → IsPlain result
 plain_by expected result is e = subst IsPlain (sym e) is
 
 plain_arrival : (p : ℕ) (next : Result Request Cause) (result : Result Line Cause) → ArrivalGives p next result → IsPlain result
 unfolding IsPlain
-plain_arrival p (Ok request) result is = plain_by (Ok (lines.Arrival p request)) result tt is
-plain_arrival p (Err cause) result is = plain_by (Err cause) result tt is
+plain_arrival p next result is = grind (arith, common_steps, plain_by)
 
 plain_process : (limits : Limits) (first : List ℕ) (rest : List (List ℕ)) (result : Result Line Cause) → ProcessGives limits first rest result → IsPlain result
 unfolding IsPlain
-plain_process limits first rest result (inl arrival) = plain_arrival arrival.0 arrival.3 result arrival.5
-plain_process limits first rest result (inr fault) = plain_by (Err Process) result tt fault.1
+plain_process limits first rest result h = grind (arith, common_steps, plain_arrival, plain_by)
 
 plain_words : (words : List (List ℕ)) (result : Result Line Cause) → PlainWordsGive words result → IsPlain result
 unfolding IsPlain
@@ -137,8 +133,7 @@ lines_same number arrivals (line ∷ rest) result same (Err cause, gives, more) 
 reads_same : (bytes : List ℕ) (result : Result (List (ℕ × Request)) ScriptFault) → AreSame 1 (lines_of bytes) result → PlainReads bytes result
     → Reads bytes (told result)
 unfolding told
-reads_same bytes result same reads =
-    MatchBool-map (nat_lt script_limit (length bytes)) _ _ _ _ (λ long. ap told long) (lines_same 1 [] (lines_of bytes) result same) reads
+reads_same bytes result same reads = grind (arith, common_steps, MatchBool-map, told, lines_same)
 
 -- header lines change nothing else
 pub headers_only : HeadersChangeNothingElse

@@ -1,15 +1,13 @@
 -- The texts of events, line by line, are read as a journal of these events: for `journals_are_read_back`.
+use Rattle.std.proofs.Common.{rules, ◌≡◌, ℕ, zero, suc, ◌+◌, ◌<◌, ◌≤◌, ◌==◌, None, Ok, Err, List, [], ◌∷◌, ◌++◌, length, map, get_or, slice_get, IfSome, flat_map, refl, sym, ap, ◌∙◌, subst, inl, arith, append_assoc, append-nil, All, nat_lt}
 use Rattle.std.proofs.lemmas.List.Elements.{All-head, All-tail, filter-append}
 use Rattle.std.proofs.lemmas.Grind.{common_steps}
-use Rattle.std.proofs.Common.{◌≡◌, ℕ, zero, suc, ◌+◌, ◌<◌, ◌≤◌, ◌==◌, false, None, Ok, Err, List, [], ◌∷◌, ◌++◌, length, map, get_or, slice_get, IfSome, flat_map, refl, sym, ap, ◌∙◌, subst, inl, arith, append_assoc, append-nil, ne_eqb}
-use Rattle.std.specs.Prelude.{All, bytes_eq, nat_lt}
 use Rattle.std.specs.List.{slice_split}
 use Rattle.fd_table.specs.declared.Limits.{Limits}
 use Rattle.lock_manager.specs.declared.request.Rules.{Rules}
 use Rattle.lock_manager.specs.State.{State, opening_state}
 use Rattle.session_core.specs.Event.{Event}
 use Rattle.session_core.specs.Runs.{Leads, events_of}
-use Rattle.script_core.specs.declared.place.Stage.{Stage}
 use Rattle.script_core.specs.declared.place.Place.{Place}
 use Rattle.script_core.specs.declared.place.JournalLine.TheVariants as lines
 use Rattle.script_core.specs.declared.script.Cause.TheVariants.{Byte, TooLong}
@@ -17,9 +15,8 @@ use Rattle.script_core.specs.RequestText.{request_text}
 use Rattle.script_core.specs.EntryText.{tag, note_text, entry_text}
 use Rattle.script_core.specs.Words.{words_of, is_printable}
 use Rattle.script_core.specs.ScriptText.{IsProcess}
-use Rattle.script_core.specs.Reading.{is_comment}
 use Rattle.script_core.specs.EntryReading.{entry_limit, IsWritableEvent}
-use Rattle.script_core.specs.JournalReading.{OtherGives, HeadGives, JournalLineGives, JournalReading, Legal, JournalGives, JournalsAreReadBack, EntriesAreReadBack, IsBeforeReport, AreLegal, reading_behind, limits_at, rules_at, processes_at}
+use Rattle.script_core.specs.JournalReading.{HeadGives, JournalLineGives, JournalReading, Legal, JournalGives, JournalsAreReadBack, EntriesAreReadBack, IsBeforeReport, AreLegal, reading_behind, limits_at, rules_at, processes_at}
 use Rattle.script_core.proofs.NumberLemmas.{BeginsPlainly-decimal}
 use Rattle.script_core.proofs.ReadingLemmas.{small_process}
 use Rattle.script_core.proofs.FirstWordsLemmas.{MatchBool-map}
@@ -36,30 +33,18 @@ record IsDigitWord (word : List ℕ) : Type 0 where
   high : first ≤ 57
 
 digit_front : (bytes more : List ℕ) → 0 < length bytes → 48 ≤ get_or bytes 0 0 → get_or bytes 0 0 ≤ 57 → IsDigitWord (bytes ++ more)
-digit_front [] more some low high = absurd (omega arith)
-digit_front (byte ∷ bytes) more some low high = record { first = byte; rest = bytes ++ more; is = refl; low = low; high = high }
+digit_front bytes more some low high = grind (arith, common_steps)
 
 digit_tag : (limits : Limits) (p n : ℕ) → IsProcess limits p → IsDigitWord (tag p n)
 digit_tag limits p n process = grind (arith, common_steps, small_process, BeginsPlainly-decimal, append_assoc, digit_front, IsWord-decimal)
-
--- it isn't one that begins with a letter
-not_letters : (word name : List ℕ) → IsDigitWord word → 57 < get_or name 0 0 → bytes_eq word name ≡ false
-not_letters word name digit letter = grind (arith, common_steps, not_named)
-
--- nor a comment
-no_comment : (word : List ℕ) → IsDigitWord word → is_comment word ≡ false
-no_comment word digit = ap is_comment digit.is ∙ ne_eqb digit.first 35 (λ e. omega (arith, e, digit.low))
 
 -- the first word of an entry's text is its tag
 first_word : (word rest : List ℕ) → slice_split (λ byte. byte == 32) (word ++ 32 ∷ rest) ≡ word ∷ slice_split (λ byte. byte == 32) rest
     → 0 < length word → words_of (word ++ 32 ∷ rest) ≡ word ∷ words_of rest
 first_word word rest cut some = rw (cut, not_empty (length word) some) refl
 
-other_given : (stage : Stage) → IsBeforeReport stage → OtherGives stage (Ok None)
-other_given stage h = grind (arith, common_steps)
-
 head_given : (place : Place) (word : List ℕ) (rest : List (List ℕ)) → IsDigitWord word → IsBeforeReport place.stage → HeadGives place (word ∷ rest) (Ok None)
-head_given place word rest digit before = grind (arith, common_steps, no_comment, not_letters, other_given)
+head_given place word rest digit before = grind (arith, common_steps, not_named)
 
 -- the text of an event, behind its tag
 text_cut : (event : Event) → entry_text event ≡ tag event.p event.n ++ 32 ∷ (request_text event.request ++ flat_map note_text event.notes)
@@ -88,9 +73,7 @@ line_of_entry place event writable before =
 leads_front : (rules : Rules) (processes : ℕ) (S : State) (front rest : List Event) (T : State) → Leads rules processes S (front ++ rest) T
     → (between : State) × Leads rules processes S front between
 leads_front rules processes S [] rest T leads = (S, refl)
-leads_front rules processes S (event ∷ front) rest T leads =
-    let more = leads_front rules processes leads.0 front rest T leads.2 in
-    (more.0, (leads.0, leads.1, more.1))
+leads_front rules processes S (event ∷ front) rest T leads = grind (arith, common_steps, leads_front rules processes leads.0 front)
 
 -- what stands in a front stands there in the whole
 front_some : {X : Type 0} (P : X → Type 0) (xs more : List X) (place : ℕ) → IfSome (slice_get (xs ++ more) place) P → IfSome (slice_get xs place) P

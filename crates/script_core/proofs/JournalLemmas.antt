@@ -1,6 +1,6 @@
 -- The lines of a journal: what their first words say, that each has one meaning, and that a journal has one end; for `journals_have_one_end`,
 -- `JournalReader::next` and `Place::parse_head`.
-use Rattle.std.proofs.Common.{rules, ◌≡◌, ℕ, ◌+◌, ◌<◌, true, Option, Some, Result, Ok, Err, List, [], ◌∷◌, length, take, refl, sym, ap, ◌∙◌, subst, inl, inr, arith, MatchResult}
+use Rattle.std.proofs.Common.{rules, ◌≡◌, ℕ, ◌+◌, ◌<◌, true, Option, Some, Result, Ok, Err, List, [], ◌∷◌, length, take, refl, sym, ◌∙◌, subst, arith, MatchResult}
 use Rattle.std.proofs.lemmas.Grind.{common_steps}
 use Rattle.std.proofs.lemmas.Bool.{cases_lt}
 use Rattle.std.proofs.lemmas.List.{length-take-le, take_all}
@@ -26,17 +26,12 @@ use Rattle.script_core.proofs.EntryLemmas.{PiecesGive-unique}
 many_values : {A : Type 0} (argument : Argument) (word : A → List ℕ) (said : A
     → JournalLine) (words others : List (List ℕ)) (result : Result (Option JournalLine) Cause)
     → 1 < length words → 1 < length others → ValueGives argument word said words result → ValueGives argument word said others result
-many_values argument word said words others result many more (inl refused) = inl (refused.0, many_refused argument words others refused.0 many more refused.1, refused.2)
-many_values argument word said words others result many more (inr read) = absurd (let one = ap length read.1 in omega (arith, one))
-
-many_heads : (place : Place) (first : List ℕ) (words others : List (List ℕ)) (result : Result (Option JournalLine) Cause)
-    → 1 < length words → 1 < length others → HeadGives place (first ∷ words) result → HeadGives place (first ∷ others) result
-many_heads place first words others result many more given = grind (arith, common_steps, MatchBool-map, many_values)
+many_values argument word said words others result many more h3 = grind (arith, common_steps, many_refused)
 
 -- the head of a line is that of its first nine words
 pub head_of_first : (place : Place) (words : List (List ℕ)) (result : Result (Option JournalLine) Cause) → HeadGives place (take 9 words) result
     → HeadGives place words result
-head_of_first place words result h = grind (arith, common_steps, many_heads, length-take-le, take_all, cases_lt)
+head_of_first place words result h = grind (arith, common_steps, MatchBool-map, many_values, length-take-le, take_all, cases_lt)
 
 -- a comment says nothing
 pub head_of_comment : (place : Place) (line : List ℕ) → begins_with_hash line ≡ true → HeadGives place (words_of line) (Ok (Some lines.Skipped))
@@ -66,8 +61,7 @@ HeadGives-unique place (word ∷ rest) a b first second =
 entry_unique : (next : Result Event Cause) (a b : Result JournalLine Cause)
     → MatchResult next (λ event. a ≡ Ok (lines.Entry event)) (λ cause. a ≡ Err cause)
     → MatchResult next (λ event. b ≡ Ok (lines.Entry event)) (λ cause. b ≡ Err cause) → a ≡ b
-entry_unique (Ok event) a b first second = first ∙ sym second
-entry_unique (Err cause) a b first second = first ∙ sym second
+entry_unique next a b first second = grind (arith, common_steps)
 
 BodyGives-unique : (limits : Limits) (line : List ℕ) (head : Result (Option JournalLine) Cause) (a b : Result JournalLine Cause)
     → BodyGives limits line head a → BodyGives limits line head b → a ≡ b

@@ -1,7 +1,6 @@
 -- The lines of a report in a journal, for `JournalReader`: whether it may go on with one, and whether it may end.
-use Rattle.std.proofs.Common.{arith, ◌≡◌, ℕ, ◌+◌, Bool, true, false, List, [], ◌∷◌, ◌++◌, Option, Some, None, MatchOption, inl, ⊎_elim, refl, sym, ap, ◌∙◌, subst, lit<, append_assoc, append-nil, drop, suc, length}
+use Rattle.std.proofs.Common.{arith, ◌≡◌, ℕ, Bool, true, List, [], ◌∷◌, ◌++◌, Option, Some, None, MatchOption, inl, refl, sym, ap, subst, lit<, append_assoc, append-nil, suc, length}
 use Rattle.std.proofs.lemmas.Grind.{common_steps}
-use Rattle.std.specs.Prelude.{if◌then◌else◌}
 use Rattle.std.proofs.lemmas.List.{drop-drop}
 use Rattle.lock_book.specs.OneReport.{LocksHaveOneReport}
 use Rattle.lock_manager.specs.State.{State}
@@ -57,8 +56,7 @@ behind reported texts text more are = subst (λ l. AreTextsOf reported l) (appen
 
 -- the last of the last lines are the last
 last_of_last : (reported old new : List ReportLine) → AreLastOf reported old → AreLastOf old new → AreLastOf reported new
-last_of_last reported old new first next =
-    (first.0 + next.0, next.1 ∙ ap (drop next.0) first.1 ∙ drop-drop next.0 first.0 reported)
+last_of_last reported old new first next = grind (arith, common_steps, drop-drop)
 
 -- one more line came
 pub AreLeft-more : (place : Place) (entries : List Event) (texts : List (List ℕ)) (old new : List ReportLine) (text : List ℕ) → AreLeft place entries texts old
@@ -85,7 +83,7 @@ front_more place entries texts left T run are =
 -- it doesn't go on with a line with which what is left doesn't
 pub no_front : LocksHaveOneReport → (place : Place) (entries : List Event) (texts : List (List ℕ)) (left : List ReportLine) (text : List ℕ)
     → AreLeft place entries texts left → ((more : List (List ℕ)) → AreTextsOf left (text ∷ more) → ⊥) → IsReportFront place entries (texts ++ text ∷ []) → ⊥
-no_front one place entries texts left text are none front = grind (arith, common_steps, one_report, behind)
+no_front one place entries texts left text are none front = grind (arith, common_steps, behind)
 
 -- where a line is due something is left, and where none is nothing has to come
 out_as_told : (line : ReportLine) → (may_be_left_out line ≡ true → MayBeLeftOut line) × (MayBeLeftOut line → may_be_left_out line ≡ true)
@@ -97,29 +95,16 @@ first_due-none (line ∷ more) are = rw ((out_as_told line).1 are.0) (first_due-
 
 pub first_due-some : (left : List ReportLine) (line : ReportLine) → IsFirstDue left line → first_due left ≡ Some line
 first_due-some [] line is = absurd is
-first_due-some (first ∷ more) line is =
-    ⊎_elim (λ out. rw ((out_as_told first).1 out.0) (first_due-some more line out.1))
-    (λ due. by_test (may_be_left_out first) refl due.0 due.1) is
-  where
-    by_test : (b : Bool) → may_be_left_out first ≡ b → (MayBeLeftOut first → ⊥) → line ≡ first
-        → (if may_be_left_out first then first_due more else Some first) ≡ Some line
-    by_test true is_out due same = absurd (due ((out_as_told first).0 is_out))
-    by_test false isnt due same = rw isnt (ap (λ l. Some l) (sym same))
+first_due-some (first ∷ more) line is = grind (arith, common_steps, out_as_told, first_due-some more)
 
 -- what a reader tells as due is the first that is
 pub due_is : (left : List ReportLine) (due : Option ReportLine) → MatchOption due (AreTextsOf left []) (λ line. IsFirstDue left line) → due ≡ first_due left
-due_is left None are = sym (first_due-none left are)
-due_is left (Some line) is = sym (first_due-some left line is)
+due_is left due are = grind (arith, common_steps, first_due-none, first_due-some)
 
--- a whole report has nothing due, and where nothing is due it is whole
-pub whole_ends : LocksHaveOneReport → (place : Place) (entries : List Event) (texts : List (List ℕ)) (left : List ReportLine) → AreLeft place entries texts left
-    → IsWholeReport place entries texts → AreTextsOf left []
-whole_ends one place entries texts left are whole = grind (arith, common_steps, one_report, append-nil)
-
+-- a report of which nothing is due is whole
 pub ends_whole : (place : Place) (entries : List Event) (texts : List (List ℕ)) (left : List ReportLine) (T : State)
     → IsRun (rules_at place) (processes_at place) entries T → AreLeft place entries texts left → AreTextsOf left [] → IsWholeReport place entries texts
-ends_whole place entries texts left T run are end =
-    (are.reported, record { state = T; run = run; lines = are.lines T run }, subst (λ l. AreTextsOf are.reported l) (append-nil texts) ((are.goes_on []).1 end))
+ends_whole place entries texts left T run are end = grind (arith, common_steps, append-nil)
 
 -- where nothing is due, all that is left may be left out
 nothing_due_first : (line : ReportLine) (more : List ReportLine) (out : Bool) → may_be_left_out line ≡ out → (first_due more ≡ None → AreTextsOf more [])

@@ -1,12 +1,12 @@
 -- What a `JournalReader` has read once a header line, an entry or a line of the report was taken down, and whether it may end.
-use Rattle.std.proofs.Common.{rules, arith, ◌≡◌, ◌≢◌, ℕ, true, false, List, [], ◌∷◌, ◌++◌, Option, Some, None, MatchOption, Result, Ok, Err, inr, refl, sym, ap, ap₂, ◌∙◌, subst}
+use Rattle.script_core.proofs.JournalReportLemmas.{one_report, AreLeft-first, AreLeft-more, front_more, no_front, due_is, nothing_due, ends_whole, first_due-none}
+use Rattle.std.proofs.Common.{append-nil, rules, arith, ◌≡◌, ◌≢◌, ℕ, true, false, List, [], ◌∷◌, ◌++◌, Option, Some, None, MatchOption, Result, Ok, Err, inr, refl, sym, ap, ap₂, ◌∙◌, subst, is_some}
 use Rattle.std.proofs.lemmas.Grind.{common_steps}
-use Rattle.std.specs.Prelude.{is_some, if◌then◌else◌}
 use Rattle.fd_table.specs.declared.Limits.{Limits}
 use Rattle.lock_book.specs.OneReport.{LocksHaveOneReport}
 use Rattle.lock_manager.specs.declared.request.Rules.{Rules}
 use Rattle.lock_manager.specs.State.{State}
-use Rattle.session_core.specs.Checking.{HasAccepted, expected_by}
+use Rattle.session_core.specs.Checking.{HasAccepted}
 use Rattle.session_core.specs.Event.{Event}
 use Rattle.session_core.specs.Runs.{IsRun}
 use Rattle.script_core.specs.declared.place.Stage.{Stage}
@@ -22,12 +22,7 @@ use Rattle.script_core.specs.declared.report.ReportLine.{ReportLine}
 use Rattle.script_core.specs.ExpectedText.{due_text}
 use Rattle.script_core.specs.ReportReading.{AreTextsOf, IsFirstDue, first_due, GoesOn, AreLastOf, AreReportLines}
 use Rattle.script_core.specs.JournalReading.{JournalReading, AreLegal, IsBeforeReport, MayEnd, rules_at, processes_at}
-use Rattle.script_core.specs.JournalView.{HasRead, HasChecked, HasReported, ReportsAt, AreLeft, IsStageOf, IsAtOpening, TakesSaid, Finishes, place_of, is_spent, is_cut, cuts, expected_in, text_expected, report_expected, report_fault_of}
-use Rattle.script_core.proofs.JournalReportLemmas.{AreLeft-first, AreLeft-more, front_more, no_front, due_is, nothing_due, whole_ends, ends_whole, first_due-none}
-
--- before the report no line of it came
-none_before : (stage : Stage) (entries : List Event) (report : List (List ℕ)) → IsBeforeReport stage → IsStageOf stage entries report → report ≡ []
-none_before stage entries report h h2 = grind (arith, common_steps)
+use Rattle.script_core.specs.JournalView.{HasRead, HasChecked, HasReported, AreLeft, IsAtOpening, TakesSaid, Finishes, place_of, is_spent, is_cut, cuts, expected_in, report_fault_of}
 
 -- an entry was taken down
 pub entry_taken : (old new : JournalReader) (reading : JournalReading) (line : List ℕ) (event : Event) → HasRead old reading
@@ -37,7 +32,7 @@ pub entry_taken : (old new : JournalReader) (reading : JournalReading) (line : L
     → new.place ≡ record old.place { stage = stages.Entries } → new.illegal ≡ old.illegal → new.report ≡ None
     → TakesSaid new reading line (lines.Entry event) (Ok tt)
 unfolding place_of is_spent HasChecked HasReported
-entry_taken old new reading line event read before accepts placed illegal report = search (rules, none_before)
+entry_taken old new reading line event read before accepts placed illegal report = search (rules)
 
 -- a header line was taken down
 pub limits_taken : (old new : JournalReader) (reading : JournalReading) (line : List ℕ) (limits : Limits) (result : Result Unit JournalFault)
@@ -55,8 +50,7 @@ expected_due reader left due illegal report told = grind (arith, common_steps, d
 unspent_expects : (reader : JournalReader) (left : List ReportLine) → is_spent reader ≡ false → reader.report ≡ Some left
     → expected_in reader ≡ due_text (first_due left)
 unfolding expected_in is_spent
-unspent_expects reader left unspent report =
-    ap (λ b. if b then text_expected reader.illegal (expected_by reader.checker) else report_expected reader.report) unspent ∙ ap report_expected report
+unspent_expects reader left unspent report = grind (arith, common_steps)
 
 -- whether a report is cut
 pub cut_is : (reader : JournalReader) (left : List ReportLine) (due : Option ReportLine) → reader.place.stage ≡ stages.Report → reader.report ≡ Some left
@@ -68,12 +62,10 @@ cut_is reader left due stage report told = ap is_some (due_is left due told) ∙
 pub left_first : (place : Place) (entries : List Event) (texts : List (List ℕ)) (now report : List ReportLine) → texts ≡ [] → AreLegal place entries
     → ((T : State) → IsRun (rules_at place) (processes_at place) entries T → AreReportLines (processes_at place) T entries report) → now ≡ report
     → AreLeft place entries texts now
-left_first place entries texts now report none legal are same =
-    subst (λ t. AreLeft place entries t now) (sym none) (subst (λ l. AreLeft place entries [] l) (sym same) (AreLeft-first place entries report legal are))
+left_first place entries texts now report none legal are same = grind (arith, common_steps, AreLeft-first)
 
 some_line : (texts : List (List ℕ)) (text : List ℕ) → texts ++ text ∷ [] ≢ []
-some_line [] text none = cc
-some_line (first ∷ texts) text none = cc
+some_line texts text none = grind (arith, common_steps)
 
 -- a line of the report was taken down
 pub report_taken : (old new : JournalReader) (reading : JournalReading) (text : List ℕ) (before now : List ReportLine) → HasRead old reading
@@ -130,18 +122,12 @@ cut_at stage report h = grind (arith, common_steps)
 pub finish_cut : LocksHaveOneReport → (reader : JournalReader) (reading : JournalReading) → HasRead reader reading → cuts reader ≡ true
     → Finishes reader reading (Err faults.Illegal)
 unfolding cuts place_of HasReported
-finish_cut one reader reading read cut = grind (arith, common_steps, cut_at, first_due-none, whole_ends, unspent_expects)
+finish_cut one reader reading read cut = grind (arith, common_steps, first_due-none, one_report, append-nil, unspent_expects)
 
 not_some : {X : Type 0} (o : Option X) → is_some o ≡ false → o ≡ None
-not_some None e = refl
-not_some (Some x) e = absurd (let bad : true ≡ false = e in cc)
-
-whole_at : (place : Place) (entries : List Event) (texts : List (List ℕ)) (stage : Stage) (report : Option (List ReportLine)) (T : State)
-    → IsRun (rules_at place) (processes_at place) entries T → IsStageOf stage entries texts → ReportsAt place entries texts report → is_cut stage report ≡ false
-    → MayEnd (record { place = place; entries = entries; report = texts })
-whole_at place entries texts stage report T h h2 h3 h4 = grind (arith, common_steps, ends_whole, nothing_due, not_some)
+not_some o e = grind (arith, common_steps)
 
 -- the report is whole, or wasn't begun
 pub finish_whole : (reader : JournalReader) (reading : JournalReading) → HasRead reader reading → cuts reader ≡ false → MayEnd reading
 unfolding cuts place_of HasReported HasChecked
-finish_whole reader reading read whole = search (rules, whole_at)
+finish_whole reader reading read whole = search (rules, ends_whole, nothing_due, not_some)

@@ -39,8 +39,7 @@ fault_by reader reading line cause h h2 h3 h4 = grind (arith, common_steps, gram
 pub line_given : (place at : Place) (line text : List ℕ) (result : Result JournalLine Cause) → text ≡ line
     → ((said : Result JournalLine Cause) → TextGives at line said → JournalLineGives at line said) → place ≡ at → TextGives place text result
     → JournalLineGives at line result
-line_given place at line text result same gives is given =
-    gives result (subst (λ p. TextGives p line result) is (subst (λ t. TextGives place t result) same given))
+line_given place at line text result same gives is given = grind (arith, common_steps)
 
 -- and want of memory as that
 pub text_fault : (reader : JournalReader) (reading : JournalReading) (line : List ℕ) (cause : Cause) (place : Place) (text : List ℕ) → text ≡ line

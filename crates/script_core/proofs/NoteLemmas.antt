@@ -1,7 +1,6 @@
 -- A piece's first words: what they say, the whole piece says; for `read_note` and `read_taken`.
 use Rattle.std.proofs.lemmas.Grind.{common_steps}
 use Rattle.std.proofs.Common.{◌≡◌, ℕ, ◌<◌, ◌≤◌, Option, IfSome, MatchOption, MatchResult, Result, Ok, Err, List, [], ◌∷◌, length, take, subst, arith, lit≤, ⊎_elim, take_all, ◌⊎◌}
-use Rattle.std.specs.Prelude.{bytes_eq}
 use Rattle.std.specs.List.{AllByRecursion as Each}
 use Rattle.std.proofs.lemmas.Bool.{cases_lt}
 use Rattle.std.proofs.lemmas.List.{length-take-le}
@@ -13,7 +12,7 @@ use Rattle.script_core.specs.declared.script.Cause.{Cause}
 use Rattle.script_core.specs.declared.script.Cause.TheVariants.{Word}
 use Rattle.script_core.specs.EntryText.{reply_words}
 use Rattle.script_core.specs.Arguments.{Argument, ErrorWord, Spells, AreRefused, Command}
-use Rattle.script_core.specs.EntryReading.{RequestIsTaken, TakenGives, reply_forms, reply_named, ReplyWordsGive, ReplyGives, WaitGives, ToldGives, NoteGives}
+use Rattle.script_core.specs.EntryReading.{RequestIsTaken, TakenGives, reply_forms, ReplyWordsGive, ReplyGives, WaitGives, ToldGives, NoteGives}
 use Rattle.script_core.specs.Reading.{RequestGives}
 use Rattle.script_core.proofs.FirstWordsLemmas.{MatchBool-map, found_has, many_arguments}
 
@@ -24,10 +23,6 @@ refused_so expected words others cause many more refused = grind (arith, common_
 
 length-reply_words : (reply : Reply) → length (reply_words reply) ≤ 5
 length-reply_words reply = grind (arith, common_steps)
-
-many_reply_words : (expected : List Argument) (name : List ℕ) (arguments others : List (List ℕ)) (result : Result Reply Cause) → length expected ≤ 4
-    → 6 < length arguments → 6 < length others → ReplyWordsGive expected name arguments result → ReplyWordsGive expected name others result
-many_reply_words expected name arguments others result h h2 h3 h4 = grind (arith, common_steps, refused_so, length-reply_words)
 
 -- the reply has four arguments at most
 abbrev HasFour : Command → Type 0
@@ -42,12 +37,11 @@ many_found : (name : List ℕ) (arguments others : List (List ℕ)) (result : Re
     (λ form. ReplyWordsGive form.required name arguments result)
     → MatchOption found ((Spells ErrorWord name × ReplyWordsGive [] name others result) ⊎ ((¬ (Spells ErrorWord name)) × (result ≡ Err Word)))
     (λ form. ReplyWordsGive form.required name others result)
-many_found name arguments others result found h h2 h3 h4 = grind (arith, common_steps, many_reply_words)
+many_found name arguments others result found h h2 h3 h4 = grind (arith, common_steps, refused_so, length-reply_words)
 
 many_reply : (name : List ℕ) (arguments others : List (List ℕ)) (result : Result Reply Cause) → 6 < length arguments → 6 < length others
     → ReplyGives name arguments result → ReplyGives name others result
-many_reply name arguments others result many more given =
-    many_found name arguments others result (reply_named name) many more (found_has HasFour (λ form. bytes_eq form.name name) reply_forms each_has_four) given
+many_reply name arguments others result many more given = grind (arith, common_steps, many_found, found_has, each_has_four)
 
 many_wait : (p n : ℕ) (words others : List (List ℕ)) (result : Result Note Cause) → 6 < length words → 6 < length others
     → WaitGives p n words result → WaitGives p n others result
@@ -61,8 +55,7 @@ many_tagged : (tagged : Result (ℕ × ℕ) Cause) (name : List ℕ) (arguments 
     → 6 < length others
     → MatchResult tagged (λ pair. ToldGives pair.0 pair.1 (name ∷ arguments) result) (λ cause. result ≡ Err cause)
     → MatchResult tagged (λ pair. ToldGives pair.0 pair.1 (name ∷ others) result) (λ cause. result ≡ Err cause)
-many_tagged (Ok pair) name arguments others result many more given = many_told pair.0 pair.1 name arguments others result many more given
-many_tagged (Err cause) name arguments others result many more given = given
+many_tagged tagged name arguments others result many more given = grind (arith, common_steps, many_told)
 
 -- a note says what its first nine words say
 pub note_first_words : (limits : Limits) (words : List (List ℕ)) (result : Result Note Cause) → NoteGives limits (take 9 words) result

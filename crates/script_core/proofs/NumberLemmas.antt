@@ -1,5 +1,5 @@
 -- Words that spell numbers: for `integer_of`, `natural_of`, `read_descriptor` and others.
-use Rattle.std.proofs.Common.{rules, ◌≡◌, ◌≢◌, ◌∙◌, ℕ, ◌<◌, ◌≤◌, ◌^◌, zero, suc, ◌==◌, false, cond, List, [], ◌∷◌, length, get_or, codes, decimal, Option, None, Result, Ok, Err, MatchOption, ℤ, pos, negsuc, ◌-ℤ◌, neg_ℤ, FitsSigned, refl, sym, ap, arith}
+use Rattle.std.proofs.Common.{rules, ◌≡◌, ◌≢◌, ◌∙◌, ℕ, ◌<◌, ◌≤◌, ◌^◌, ◌==◌, false, cond, List, [], ◌∷◌, length, get_or, codes, decimal, Option, None, Result, Ok, Err, MatchOption, ℤ, pos, ◌-ℤ◌, neg_ℤ, FitsSigned, refl, sym, ap, arith}
 use Rattle.std.proofs.lemmas.Grind.{common_steps}
 use Rattle.std.specs.Fmt.{digits, signed_decimal}
 use Rattle.std.specs.Option.{SomeIff}
@@ -19,12 +19,8 @@ first_of_zero : (1 < length (decimal 0)) → 48 < get_or (decimal 0) 0 0
 unfolding digits
 first_of_zero h = omega (arith, h)
 
-first_of_decimal : (n : ℕ) → n < 2 ^ 64 → 1 < length (decimal n) → 48 < get_or (decimal n) 0 0
-first_of_decimal zero small h = first_of_zero h
-first_of_decimal (suc n) small h = first_decimal (suc n) (omega arith) small
-
 pub BeginsPlainly-decimal : (n : ℕ) → n < 2 ^ 64 → BeginsPlainly (decimal n)
-BeginsPlainly-decimal n small = grind (arith, common_steps, decimal_is_IsNumeral, digit_at, first_of_decimal)
+BeginsPlainly-decimal n small = grind (arith, common_steps, decimal_is_IsNumeral, digit_at, first_of_zero, first_decimal)
 
 plain_zero : (bs : List ℕ) → BeginsPlainly bs → 0 < length bs → get_or bs 0 0 ≡ 48 → length bs ≡ 1
 plain_zero bs plain some e = grind (arith, plain.no_leading_zero)
@@ -50,26 +46,21 @@ no_minus n rest small e =
     omega (arith, first, plain.at_least)
 
 pub unsigned_none : (word : List ℕ) → ((rest : List ℕ) → word ≢ 45 ∷ rest) → ((n : ℕ) → n < 2 ^ 64 → word ≢ decimal n) → IsIntegerOf word None
-unsigned_none word sign none (pos n) fits = none n (omega (arith, fits.sfits))
-unsigned_none word sign none (negsuc n) fits = sign (decimal (suc n))
+unsigned_none word sign none h3 fits = grind (arith, common_steps)
 
 pub unsigned_some : {E : Type 0} (word : List ℕ) (n : ℕ) (r : Result ℤ E) → ((rest : List ℕ) → word ≢ 45 ∷ rest) → n < 2 ^ 64 → word ≡ decimal n
     → OkIff r (FitsSigned w64 (pos n)) (pos n) → IsIntegerOf word (result_ok r)
 unsigned_some word n r h h2 h3 h4 = grind (arith, common_steps, decimal_injective)
 
 pub signed_none : (word digits : List ℕ) → word ≡ 45 ∷ digits → ((n : ℕ) → n < 2 ^ 64 → digits ≢ decimal n) → IsIntegerOf word None
-signed_none word digits split none (pos n) fits is = no_minus n digits (omega (arith, fits.sfits)) (sym split ∙ is)
-signed_none word digits split none (negsuc n) fits is = none (suc n) (omega (arith, fits.sfits)) (let same = sym split ∙ is in cc)
+signed_none word digits split none h3 fits is = grind (arith, common_steps, no_minus)
 
 pub signed_zero : (word digits : List ℕ) → word ≡ 45 ∷ digits → digits ≡ decimal 0 → IsIntegerOf word None
 signed_zero word digits h h2 h3 h4 h5 = grind (arith, common_steps, no_minus, decimal_injective)
 
-negated : (n : ℕ) → pos 0 -ℤ pos (suc n) ≡ negsuc n
-negated n = omega (arith, ints)
-
 pub signed_some : (word digits : List ℕ) (n : ℕ) (r : Option ℤ) → word ≡ 45 ∷ digits → n < 2 ^ 64 → (n ≡ 0 → ⊥) → digits ≡ decimal n
     → SomeIff r (FitsSigned w64 (pos 0 -ℤ pos n)) (pos 0 -ℤ pos n) → IsIntegerOf word r
-signed_some word digits n r h h2 h3 h4 h5 = grind (arith, common_steps, negated, no_minus, decimal_injective)
+signed_some word digits n r h h2 h3 h4 h5 = grind (arith, common_steps, ints, no_minus, decimal_injective)
 
 -- a word spells one natural number
 pub one_number : (word : List ℕ) (m n : ℕ) → word ≡ decimal m → word ≡ decimal n → m < 2 ^ 64 → n < 2 ^ 64 → m ≡ n
@@ -88,8 +79,7 @@ no_sign byte digit = grind (arith, nat_tests)
 
 number_in-plain : (bytes : List ℕ) → 48 ≤ get_or bytes 0 0 → number_in bytes ≡ pos (digits_value 10 bytes)
 unfolding number_in
-number_in-plain [] digit = absurd (omega (arith, digit))
-number_in-plain (byte ∷ bytes) digit = rw (no_sign byte digit) refl
+number_in-plain bytes digit = grind (arith, common_steps, no_sign)
 
 pub number_in-zero : number_in (codes "0") ≡ pos 0
 unfolding number_in

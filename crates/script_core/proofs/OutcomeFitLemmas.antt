@@ -1,26 +1,21 @@
 -- Whatever a request comes to fits, one case for each request: the notes can be written, and there is no more than one for each process; for
 -- `outputs_are_legal`.
+use Rattle.std.proofs.Common.{length-append, rules, ◌≡◌, ◌≢◌, ℕ, ◌+◌, ◌^◌, ◌<◌, ◌≤◌, ◌==◌, ◌&&◌, ◌⊎◌, Bool, true, false, List, [], ◌∷◌, length, Option, Some, None, Result, Ok, Err, MatchBool, MatchOption, MatchResult, inl, ⊎_elim, refl, sym, ap, ◌∙◌, subst, arith, eq-eqb, ne_eqb, ℤ, pos, if◌then◌else◌, int_lt}
 use Rattle.std.proofs.lemmas.Grind.{common_steps}
 use Rattle.std.proofs.lemmas.List.Sums.{length-filter, count_by-le-length}
-use Rattle.std.proofs.Common.{rules, ◌≡◌, ◌≢◌, ℕ, ◌+◌, ◌-◌, ◌^◌, ◌<◌, ◌≤◌, ◌==◌, ◌&&◌, ◌⊎◌, Bool, true, false, not, nat_le, List, [], ◌∷◌, length, Option, Some, None, Result, Ok, Err, MatchBool, MatchOption, MatchResult, inl, ⊎_elim, refl, sym, ap, ◌∙◌, subst, arith, lit<, eq-eqb, ne_eqb, ℤ, pos, negsuc}
-use Rattle.std.specs.Prelude.{if◌then◌else◌, FitsSigned, int_lt, nat_abs}
-use Rattle.std.specs.Int.{w64}
 use Rattle.std.specs.List.{AllByRecursion as Each}
 use Rattle.std.proofs.lemmas.Int.{ints}
 use Rattle.std.proofs.lemmas.Bool.{cases_eq, eqb-true, leb-true, ltb-false}
 use Rattle.range_core.specs.declared.TheConstants.{OFFMAX}
 use Rattle.range_core.specs.declared.Kind.{Kind}
 use Rattle.range_core.specs.declared.Mode.{Mode}
-use Rattle.range_core.specs.declared.Mode.TheVariants as modes
 use Rattle.range_core.specs.declared.Span.{Span}
 use Rattle.range_core.specs.declared.RangeFault.{RangeFault}
-use Rattle.range_core.specs.Changes.{is_covered}
-use Rattle.range_core.specs.Resolving.{resolution, range_between, first_byte, last_byte}
+use Rattle.range_core.specs.Resolving.{resolution, range_between}
 use Rattle.lock_book.specs.declared.Owner.{Owner}
-use Rattle.lock_book.specs.declared.Owner.TheVariants.{Process, Description}
 use Rattle.lock_book.specs.declared.Blocker.{Blocker}
 use Rattle.lock_book.specs.Owners.{is_same_owner}
-use Rattle.lock_book.specs.Changes.{Change, mode_from, sets_byte, flock_mode_in}
+use Rattle.lock_book.specs.Changes.{Change, mode_from}
 use Rattle.lock_book.specs.Conflicts.{IsFirstBlocker}
 use Rattle.fd_table.specs.declared.Access.{Access}
 use Rattle.fd_table.specs.declared.FdFault.{FdFault}
@@ -51,14 +46,14 @@ use Rattle.lock_manager.specs.State.{State, locks_held, with_lock, with_byte_mod
 use Rattle.lock_manager.specs.Settling.{IsSettled}
 use Rattle.lock_manager.specs.Outcomes.{Outcome, answered, answered_then, refused, waits_then, range_error, IsRefusal}
 use Rattle.lock_manager.specs.DescriptorCalls.{with_released, OpenComesTo, DupComesTo, DupToComesTo, CloseComesTo, SeekComesTo, ResizeComesTo}
-use Rattle.lock_manager.specs.LockWords.{is_bad_argument, is_ofd, wanted_mode, held_reply, reported_pid, lock_owner}
+use Rattle.lock_manager.specs.LockWords.{is_bad_argument, wanted_mode, held_reply, lock_owner}
 use Rattle.lock_manager.specs.LockCommands.{DescribedComesTo, RangeComesTo, ModeComesTo, CommandComesTo, GetComesTo, SetComesTo, SetOrWaitComesTo, WaitOrDeadlockComesTo}
-use Rattle.lock_manager.specs.FlockCalls.{FlockOpComesTo, FlockModeComesTo, FlockTestComesTo, ConversionComesTo, is_same_mode, wanted_flock}
+use Rattle.lock_manager.specs.FlockCalls.{FlockOpComesTo, FlockModeComesTo, FlockTestComesTo, ConversionComesTo, is_same_mode}
 use Rattle.lock_manager.specs.ProcessCalls.{ForkComesTo, EndComesTo, SignalComesTo, KillOtherComesTo, without_wait}
 use Rattle.lock_manager.specs.Step.{ComesTo}
 use Rattle.script_core.specs.ScriptText.{IsProcess, IsWritable}
 use Rattle.script_core.specs.EntryReading.{IsWritableNote, IsWritableReply}
-use Rattle.script_core.proofs.FitLemmas.{IsSmallOwner, FitsChange, FitsFlock, FitsFiles, FitsLocks, FitsWanted, FitsWait, FitsLook, AreApart, Fits, SameProcesses, each_append, each_both, still_waits, apart_push, others_wait, few_processes, few_wait, lock_locks, same_locked, fits_same, released_locks, look_fits, same_files, one_more_file, moved_file, settles_fit, settles_settled, blocked_more}
+use Rattle.script_core.proofs.FitLemmas.{IsSmallOwner, FitsChange, FitsFiles, FitsLocks, FitsWanted, FitsWait, FitsLook, AreApart, Fits, SameProcesses, each_append, each_both, apart_push, others_wait, few_processes, few_wait, same_locked, fits_same, released_locks, look_fits, same_files, moved_file, settles_fit, settles_settled, blocked_more}
 
 -- a process of the limits, which lives, makes a request with such a number in a state that fits and is settled
 pub record IsAtHand (rules : Rules) (S : State) (p n : ℕ) : Type 0 where
@@ -115,11 +110,11 @@ with_files S D locks files = record { changes = locks.changes; flocks = locks.fl
 
 open_fits : (rules : Rules) (S : State) (p n file : ℕ) (access : Access) (outcome : Outcome) → IsAtHand rules S p n
     → OpenComesTo rules S p n file access outcome → OutcomeFits rules outcome
-open_fits rules S p n file access outcome h h2 = grind (arith, common_steps, answers_fit, same_but, with_files, one_more_file, small_descriptor, refusal_fits)
+open_fits rules S p n file access outcome h h2 = grind (arith, common_steps, answers_fit, length-append, each_append, small_descriptor, refusal_fits)
 
 dup_fits : (rules : Rules) (S : State) (p n fd : ℕ) (outcome : Outcome) → IsAtHand rules S p n → DupComesTo rules S p n fd outcome
     → OutcomeFits rules outcome
-dup_fits rules S p n fd outcome h h2 = grind (arith, common_steps, answers_fit, same_but, with_files, same_files, small_descriptor, refusal_fits)
+dup_fits rules S p n fd outcome h h2 = grind (arith, common_steps, answers_fit, same_files, small_descriptor, refusal_fits)
 
 -- what is released leaves the processes
 same_released : (S : State) (D : Descriptors) (p : ℕ) (released : Released) → ((q : ℕ) → D.ever_alive q ≡ S.descriptors.ever_alive q)
@@ -130,15 +125,13 @@ moved_alive : (old : Descriptors) (p fd to description : ℕ) (released : Releas
     → MatchBool same ((released ≡ nothing) × SameDescriptors new old)
     (SameDescriptors new (with_descriptor old p to description) × AreReleased old new p (λ k. k == to) released)
     → (q : ℕ) → new.ever_alive q ≡ old.ever_alive q
-moved_alive old p fd to description released new true is q = is.1.ever_alive q
-moved_alive old p fd to description released new false is q = is.0.ever_alive q
+moved_alive old p fd to description released new same is q = grind (arith, common_steps)
 
 moved_descriptions : (old : Descriptors) (p fd to description : ℕ) (released : Released) (new : Descriptors) (same : Bool)
     → MatchBool same ((released ≡ nothing) × SameDescriptors new old)
     (SameDescriptors new (with_descriptor old p to description) × AreReleased old new p (λ k. k == to) released)
     → new.descriptions ≡ old.descriptions
-moved_descriptions old p fd to description released new true is = is.1.descriptions
-moved_descriptions old p fd to description released new false is = is.0.descriptions
+moved_descriptions old p fd to description released new same is = grind (arith, common_steps)
 
 dup_to_fits : (rules : Rules) (S : State) (p n fd to : ℕ) (outcome : Outcome) → IsAtHand rules S p n → DupToComesTo rules S p n fd to outcome
     → OutcomeFits rules outcome
@@ -164,7 +157,7 @@ seek_fits rules S p n fd offset outcome h h2 = grind (arith, common_steps, answe
 
 resize_fits : (rules : Rules) (S : State) (p n fd : ℕ) (size : ℤ) (outcome : Outcome) → IsAtHand rules S p n → ResizeComesTo S p n fd size outcome
     → OutcomeFits rules outcome
-resize_fits rules S p n fd size outcome h h2 = grind (arith, common_steps, answers_fit, same_but, with_files, same_files, refusal_fits)
+resize_fits rules S p n fd size outcome h h2 = grind (arith, common_steps, answers_fit, same_files, refusal_fits)
 
 -- ---- waits
 
@@ -174,14 +167,14 @@ waits_fit : (rules : Rules) (S U : State) (wait : Wait) (grants : List Note) (ou
     → FitsWanted wait → IsBlocked rules.policy (locks_held U) U.waits wait → outcome ≡ waits_then U wait grants
     → OutcomeFits rules outcome
 waits_fit rules S U wait grants outcome h fits settled live told few fit blocked is =
-    grind (arith, common_steps, others_wait, each_append, each_both, still_waits, eq-eqb, apart_push, cases_eq, blocked_more)
+    grind (arith, common_steps, others_wait, each_append, each_both, eq-eqb, apart_push, cases_eq, blocked_more)
 
 -- the caller's lock is set, behind these grants
 locked_fits : (rules : Rules) (S U : State) (wait : Wait) (grants : List Note) (outcome : Outcome) → IsAtHand rules S wait.p wait.n
     → Fits rules.limits U → Each (IsWritableNote rules.limits) grants → length grants + length U.waits ≤ 63
     → FitsWanted wait → outcome ≡ answered_then (with_lock U wait) wait.p wait.n replies.Ok grants
     → OutcomeFits rules outcome
-locked_fits rules S U wait grants outcome h fits told few fit is = grind (arith, common_steps, same_locked, fits_same, lock_locks)
+locked_fits rules S U wait grants outcome h fits told few fit is = grind (arith, common_steps, same_locked, fits_same, each_append)
 
 -- ---- lock commands
 
@@ -200,34 +193,11 @@ pub mode_fits : (changes : List Change) (before : Option Mode) (file : ℕ) (own
     → mode_from before changes file owner byte ≡ Some mode → (before ≡ Some mode → IsSmallOwner owner × (byte ≤ OFFMAX))
     → IsSmallOwner owner × (byte ≤ OFFMAX)
 mode_fits [] before file owner byte mode fits is start = start is
-mode_fits (change ∷ changes) before file owner byte mode fits is start =
-    by_set (sets_byte change file owner byte) refl is (mode_fits changes change.mode file owner byte mode fits.1) (λ given. mode_fits changes before file owner byte mode fits.1 given start)
-  where
-    by_set : (b : Bool) → sets_byte change file owner byte ≡ b → mode_from (if b then change.mode else before) changes file owner byte ≡ Some mode
-        → (mode_from change.mode changes file owner byte ≡ Some mode → (change.mode ≡ Some mode → IsSmallOwner owner × (byte ≤ OFFMAX))
-        → IsSmallOwner owner × (byte ≤ OFFMAX))
-        → (mode_from before changes file owner byte ≡ Some mode → IsSmallOwner owner × (byte ≤ OFFMAX))
-        → IsSmallOwner owner × (byte ≤ OFFMAX)
-    by_set true sets is own other =
-        let first = both_true ((change.file == file) && is_same_owner change.owner owner) (is_covered change.span byte) sets in
-        let second = both_true (change.file == file) (is_same_owner change.owner owner) first.0 in
-        let third = both_true (nat_le change.span.first byte) (nat_le byte change.span.last) first.1 in
-        let within = leb-true byte change.span.last third.1 in
-        let last = fits.0.last in
-        own is (λ e. (same_owner change.owner owner second.1 fits.0.owner, omega (arith, within, last)))
-    by_set false sets is own other = other is
-
-pid_fits : (owner : Owner) → IsSmallOwner owner → FitsSigned w64 (reported_pid owner)
-pid_fits (Process p) small = record { sfits = omega (arith, small) }
-pid_fits (Description d) small = record { sfits = omega arith }
-
-length_fits : (span : Span) → span.last ≤ OFFMAX → (b : Bool) → (if b then 0 else (span.last - span.first + 1)) < 2 ^ 64
-length_fits span last true = lit< tt
-length_fits span last false = omega (arith, last)
+mode_fits (change ∷ changes) before file owner byte mode fits is start = grind (arith, common_steps, both_true, leb-true, same_owner, mode_fits changes)
 
 held_fits : (S : State) (wanted : Wait) (blocker : Blocker) → Each FitsChange S.changes
     → IsFirstBlocker ((locks_held S).bytes wanted.file) wanted.owner wanted.span wanted.mode blocker → IsWritableReply (held_reply blocker)
-held_fits S wanted blocker changes is = grind (arith, common_steps, mode_fits, length_fits, pid_fits)
+held_fits S wanted blocker changes is = grind (arith, common_steps, mode_fits)
 
 get_fits : (rules : Rules) (S : State) (wanted : Wait) (outcome : Outcome) → IsAtHand rules S wanted.p wanted.n → GetComesTo S wanted outcome
     → OutcomeFits rules outcome
@@ -276,12 +246,10 @@ command_fits rules S SetLkW wanted outcome h fit is = wait_or_deadlock_fits rule
 command_fits rules S OSetLkW wanted outcome h fit is = set_or_wait_fits rules S wanted outcome h fit is
 
 owner_fits : (cmd : LkCmd) (p : ℕ) (look : Look) → p ≤ 64 → FitsLook look → IsSmallOwner (lock_owner cmd p look)
-owner_fits cmd p look few fit =
-    elim (is_ofd cmd) as (λ b. IsSmallOwner (if b then Description look.desc else Process p)) [ true ↦ fit.1 | false ↦ few ]
+owner_fits cmd p look few fit = grind (arith, common_steps)
 
 pub by_bool : {Yes No R : Type 0} (b : Bool) → MatchBool b Yes No → (Yes → R) → (No → R) → R
-by_bool true is hit miss = hit is
-by_bool false is hit miss = miss is
+by_bool b is hit miss = grind (arith, common_steps)
 
 mode_comes_fit : (rules : Rules) (S : State) (p n : ℕ) (cmd : LkCmd) (look : Look) (span : Span) (mode : Mode) (outcome : Outcome) → IsAtHand rules S p n
     → FitsLook look → IsWithin span → ModeComesTo rules S p n cmd look span mode outcome → OutcomeFits rules outcome
@@ -305,28 +273,17 @@ range_fits rules S p n cmd kind look span (Some mode) outcome h fit within is = 
 -- ---- a range lies within files
 
 not_negative : (z : ℤ) → int_lt z (pos 0) ≡ false → (n : ℕ) × (z ≡ pos n)
-not_negative (pos n) is = (n, refl)
-not_negative (negsuc n) is = absurd (let bad : true ≡ false = is in cc)
+not_negative z is = grind (arith, common_steps)
 
 within_file : (n : ℕ) → int_lt (pos OFFMAX) (pos n) ≡ false → n ≤ OFFMAX
 within_file n is = ltb-false OFFMAX n is
 
--- where the first byte of a description isn't before the file, the last is none before it
-last_not_negative : (start len : ℤ) → int_lt (first_byte start len) (pos 0) ≡ false → (n : ℕ) × (last_byte start len ≡ pos n)
-last_not_negative start len h = grind (arith, common_steps, not_negative, ints)
-
--- what the range of two such bytes is
-is_range : (first last : ℤ) (span : Span) → ((n : ℕ) × (first ≡ pos n)) → ((n : ℕ) × (last ≡ pos n)) → int_lt (pos OFFMAX) first ≡ false
-    → int_lt (pos OFFMAX) last ≡ false
-    → ◌≡◌ {A = Result Span RangeFault} (Ok (record { first = nat_abs first; last = nat_abs last })) (Ok span) → IsWithin span
-is_range first last span h h2 h3 h4 h5 = grind (arith, common_steps, within_file)
-
 between : (first last : ℤ) (span : Span) (low high far : Bool) → int_lt first (pos 0) ≡ low → int_lt (pos OFFMAX) first ≡ high → int_lt (pos OFFMAX) last ≡ far
     → (int_lt first (pos 0) ≡ false → (n : ℕ) × (last ≡ pos n)) → range_between first last ≡ Ok span → IsWithin span
-between first last span low high far h h2 h3 h4 h5 = grind (arith, common_steps, is_range, not_negative)
+between first last span low high far h h2 h3 h4 h5 = grind (arith, common_steps, within_file)
 
 resolved_within : (lock : Lock) (look : Look) (span : Span) → resolution lock.whence lock.start lock.len look.offset look.size ≡ Ok span → IsWithin span
-resolved_within lock look span is = grind (arith, common_steps, between, last_not_negative)
+resolved_within lock look span is = grind (arith, common_steps, between, not_negative, ints)
 
 described_fits : (rules : Rules) (S : State) (p n : ℕ) (cmd : LkCmd) (lock : Lock) (look : Look) (outcome : Outcome) → IsAtHand rules S p n
     → FitsLook look → DescribedComesTo rules S p n cmd lock look outcome → OutcomeFits rules outcome
@@ -352,8 +309,7 @@ lock_comes_fit rules S p n fd cmd lock (Some look) outcome h at is =
 -- with another flock mode of a description that may have been made
 flock_locks : (S : State) (file description : ℕ) (mode : Option Mode) → description ≤ description_limit → FitsLocks S
     → FitsLocks (with_flock_mode S file description mode)
-flock_locks S file description mode small locks =
-    record { changes = locks.changes; flocks = each_append FitsFlock S.flock_changes _ locks.flocks (small, tt); files = locks.files }
+flock_locks S file description mode small locks = grind (arith, common_steps, each_append)
 
 same_flock : (S : State) (file description : ℕ) (mode : Option Mode) → SameProcesses S (with_flock_mode S file description mode)
 same_flock S file description mode = record { states = refl; waits = refl; alive = λ p. refl }
@@ -363,11 +319,7 @@ test_fits : (rules : Rules) (S U : State) (nb : Bool) (wanted : Wait) (grants : 
     → Fits rules.limits U → IsSettled rules.policy U → U.states wanted.p ≡ Live → Each (IsWritableNote rules.limits) grants
     → length grants + length U.waits ≤ 63 → FitsWanted wanted
     → FlockTestComesTo rules U nb wanted grants outcome → OutcomeFits rules outcome
-test_fits rules S U true wanted grants outcome h fits settled live told few fit is =
-    ⊎_elim
-    (λ no. subst (OutcomeFits rules) (sym no.1)
-    (record { after = fits; told = ((h.process, h.number, tt), told); few = inl (omega (arith, few)) }))
-    (λ yes. locked_fits rules S U wanted grants outcome h fits told few fit yes.1) is
+test_fits rules S U true wanted grants outcome h fits settled live told few fit is = grind (arith, common_steps, locked_fits)
 test_fits rules S U false wanted grants outcome h fits settled live told few fit is =
     ⊎_elim
     (λ waits. waits_fit rules S U wanted grants outcome h fits settled live told (omega (arith, few)) fit waits.0 waits.1)
@@ -404,12 +356,8 @@ flock_op_fits : (rules : Rules) (S : State) (p n : ℕ) (look : Look) (op : Floc
 flock_op_fits rules S p n look Un nb outcome h fit is =
     answers_fit rules S (with_flock_mode S look.file look.desc None) p n replies.Ok outcome h (same_flock S look.file look.desc None)
     (flock_locks S look.file look.desc None fit.1 h.fits.locks) tt is
-flock_op_fits rules S p n look Sh nb outcome h fit is =
-    flock_mode_fits rules S look nb (wanted_flock p n look modes.Read) (flock_mode_in S.flock_changes look.file look.desc) outcome h fit
-    (record { owner = fit.1; first = omega arith; last = omega arith; file = fit.0 }) is
-flock_op_fits rules S p n look Ex nb outcome h fit is =
-    flock_mode_fits rules S look nb (wanted_flock p n look modes.Write) (flock_mode_in S.flock_changes look.file look.desc) outcome h fit
-    (record { owner = fit.1; first = omega arith; last = omega arith; file = fit.0 }) is
+flock_op_fits rules S p n look Sh nb outcome h fit is = grind (arith, common_steps, flock_mode_fits)
+flock_op_fits rules S p n look Ex nb outcome h fit is = grind (arith, common_steps, flock_mode_fits)
 
 flock_fits : (rules : Rules) (S : State) (p n fd : ℕ) (op : FlockOp) (nb : Bool) (look : Option Look) (outcome : Outcome) → IsAtHand rules S p n
     → look_at S.descriptors p fd ≡ look
@@ -421,30 +369,20 @@ flock_fits rules S p n fd op nb look outcome h h2 h3 = grind (arith, common_step
 -- a process that is born lives, and no wait was of it
 fork_fits : (rules : Rules) (processes : ℕ) (S : State) (p n child : ℕ) (outcome : Outcome) → IsAtHand rules S p n
     → ForkComesTo processes S p n child outcome → OutcomeFits rules outcome
-fork_fits rules processes S p n child outcome h h2 = grind (arith, common_steps, others_wait, few_wait, same_files, each_both, still_waits, eq-eqb, cases_eq, refusal_fits)
+fork_fits rules processes S p n child outcome h h2 = grind (arith, common_steps, others_wait, few_wait, same_files, each_both, eq-eqb, cases_eq, refusal_fits)
 
 -- the waits of all others
 each_other : (P : Wait → Type 0) (waits : List Wait) (p : ℕ) → Each P waits → Each P (without_wait_of waits p)
 each_other P [] p all = tt
-each_other P (wait ∷ waits) p all =
-    elim (wait.p == p) as (λ b. Each P (if not b then wait ∷ without_wait_of waits p else without_wait_of waits p)) [
-      | true ↦ each_other P waits p all.1
-      | false ↦ (all.0, each_other P waits p all.1)
-    ]
+each_other P (wait ∷ waits) p all = grind (arith, common_steps, each_other P waits)
 
 others_left : (waits : List Wait) (p : ℕ) → Each (λ wait. wait.p ≢ p) (without_wait_of waits p)
 others_left [] p = tt
-others_left (wait ∷ waits) p = ⊎_elim
-    (λ same. rw (eq-eqb wait.p p same) (others_left waits p))
-    (λ differs. rw (ne_eqb wait.p p differs) (differs, others_left waits p)) (cases_eq wait.p p)
+others_left (wait ∷ waits) p = grind (arith, common_steps, eq-eqb, cases_eq, others_left waits)
 
 apart_left : (waits : List Wait) (p : ℕ) → AreApart waits → AreApart (without_wait_of waits p)
 apart_left [] p apart = tt
-apart_left (wait ∷ waits) p apart =
-    elim (wait.p == p) as (λ b. AreApart (if not b then wait ∷ without_wait_of waits p else without_wait_of waits p)) [
-      | true ↦ apart_left waits p apart.1
-      | false ↦ (each_other (λ other. other.p ≢ wait.p) waits p apart.0, apart_left waits p apart.1)
-    ]
+apart_left (wait ∷ waits) p apart = grind (arith, common_steps, each_other, apart_left waits)
 
 pub fewer_left : (waits : List Wait) (p : ℕ) → length (without_wait_of waits p) ≤ length waits
 fewer_left waits p = grind (arith, common_steps, length-filter, count_by-le-length)
@@ -479,7 +417,7 @@ left_fits : (limits : Limits) (S T : State) (p : ℕ) (state : ProcState) → Fi
     → T.states ≡ (λ q. if q == p then state else S.states q) → T.waits ≡ without_wait_of S.waits p
     → ((q : ℕ) → T.descriptors.ever_alive q ≡ S.descriptors.ever_alive q) → FitsLocks T → Fits limits T
 left_fits limits S T p state fits there states waits alive locks =
-    grind (arith, common_steps, each_both, still_waits, others_left, each_other, apart_left, cases_eq)
+    grind (arith, common_steps, each_both, others_left, each_other, apart_left, cases_eq)
 
 -- a process ends, and this was told: of that and of the others' waits there are 64 at most
 end_fits : (rules : Rules) (S : State) (p : ℕ) (told : List Note) (outcome : Outcome) → Fits rules.limits S → S.states p ≢ Unborn → p ≤ 64

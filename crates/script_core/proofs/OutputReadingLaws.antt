@@ -1,15 +1,12 @@
 -- Outputs are legal journals: for `outputs_are_legal`.
 use Rattle.std.proofs.lemmas.List.Elements.{All-head, All-tail}
 use Rattle.std.proofs.lemmas.Grind.{common_steps}
-use Rattle.std.proofs.Common.{◌≡◌, ℕ, ◌+◌, ◌≤◌, ◌&&◌, Bool, true, false, nat_le, nat_lt, List, [], ◌∷◌, ◌++◌, map, flat_map, length, All, MatchBool, Result, Ok, Err, inl, inr, refl, sym, ap, ◌∙◌, subst, arith, lit≤, append_assoc, append-nil}
-use Rattle.std.specs.Prelude.{unwrap_or}
+use Rattle.std.proofs.Common.{◌≡◌, ℕ, ◌+◌, ◌≤◌, Bool, true, false, nat_lt, List, [], ◌∷◌, ◌++◌, map, flat_map, length, All, MatchBool, Result, Ok, Err, inl, inr, refl, sym, ap, ◌∙◌, subst, arith, append_assoc, append-nil}
 use Rattle.std.specs.List.{AllByRecursion as Each}
 use Rattle.std.proofs.lemmas.Bool.Decides.{eqb_tells}
 use Rattle.lock_book.specs.OneReport.{LocksHaveOneReport}
 use Rattle.fd_table.specs.Descriptors.{process_limit}
 use Rattle.fd_table.specs.declared.Limits.{Limits}
-use Rattle.fd_table.specs.declared.Limits.TheVariants.{Small, Wide}
-use Rattle.wait_core.specs.declared.Policy.TheVariants.{Held}
 use Rattle.lock_manager.specs.declared.request.Rules.{Rules}
 use Rattle.session_core.specs.Event.{Event}
 use Rattle.session_core.specs.Runs.{IsRun}
@@ -42,16 +39,12 @@ use Rattle.script_core.proofs.ReportFitLemmas.{IsReportText, report_reads, sent_
 -- what is printable ends no line
 in_line : (line : List ℕ) → is_printable line ≡ true → InLine line
 in_line [] is = refl
-in_line (byte ∷ line) is = elim (eqb_tells byte 10) [
-  | inl ends ↦ absurd (let bad : false ≡ true = subst (λ (b : ℕ). is_printable (b ∷ line) ≡ true) ends.1 is in cc)
-  | inr goes ↦ rw goes.0 (in_line line (both_true (nat_le 32 byte && nat_le byte 126) (is_printable line) is).1)
-]
+in_line (byte ∷ line) is = grind (arith, common_steps, eqb_tells, both_true, in_line line)
 
 -- texts, each with its line feed, are the lines
 lines_joined : (texts : List (List ℕ)) → Each InLine texts → lines_of (joined texts) ≡ texts
 lines_joined [] all = refl
-lines_joined (text ∷ texts) all =
-    ap lines_of (append_assoc text (10 ∷ []) (joined texts)) ∙ lines_first text (joined texts) all.0 ∙ ap (λ (l : List (List ℕ)). text ∷ l) (lines_joined texts all.1)
+lines_joined (text ∷ texts) all = grind (arith, common_steps, append_assoc, lines_first, lines_joined texts)
 
 joined_both : (texts more : List (List ℕ)) → joined (texts ++ more) ≡ joined texts ++ joined more
 joined_both texts more = grind (arith, common_steps, append_assoc)
@@ -124,12 +117,10 @@ entries_give number reading (event ∷ events) texts before none writable legal 
 -- ---- an output
 
 pub small_limit : (limits : Limits) → process_limit limits ≤ 64
-small_limit Small = lit≤ tt
-small_limit Wide = lit≤ tt
+small_limit limits = grind (arith, common_steps)
 
 rules_behind : (place behind : Place) → behind.policy ≡ place.policy → behind.limits ≡ place.limits → rules_at behind ≡ rules_at place
-rules_behind place behind policy limits =
-    λ i. record { policy = unwrap_or (policy i) Held; limits = unwrap_or (limits i) Small }
+rules_behind place behind policy limits = grind (arith, common_steps)
 
 text_printable : (texts : List (List ℕ)) → Each IsReportText texts → Each InLine texts
 text_printable texts all = each_map IsReportText InLine texts (λ text is. in_line text is.printable) all

@@ -1,5 +1,5 @@
 -- The arrivals of a script: each is of one of its processes, and is said by the words of its line; for `parse`.
-use Rattle.std.proofs.Common.{arith, ℕ, ◌≡◌, refl, sym, subst, Bool, true, false, List, [], ◌∷◌, inl, inr, Option, MatchOption, Result, Ok, Err, All}
+use Rattle.std.proofs.Common.{arith, ℕ, ◌≡◌, sym, subst, Bool, true, List, [], ◌∷◌, Option, MatchOption, Result, Ok, Err, All, MatchBool, ◌+◌, ◌&&◌, decimal}
 use Rattle.std.proofs.lemmas.Grind.{common_steps}
 use Rattle.std.proofs.lemmas.List.Elements.{All-push, All-nil, All-weaker}
 use Rattle.fd_table.specs.declared.Limits.{Limits}
@@ -13,7 +13,6 @@ use Rattle.script_core.specs.ScriptText.{Meaning, IsProcess, IsWritable, IsReque
 use Rattle.script_core.specs.Reading.{Reading, limits_of, meaning_of, reading_after, is_comment, is_empty, says_policy, says_limits, ArgumentsGive, CommandGives, RequestGives, ArrivalGives, PolicyGives, LimitsGive, ProcessGives, WordsGive, LineGives, LinesGive, Reads}
 use Rattle.script_core.specs.Arguments.{Command, command_named}
 use Rattle.script_core.specs.Words.{words_of}
-use Rattle.std.specs.Prelude.{MatchBool, ◌+◌, ◌&&◌, codes, decimal, bytes_eq, is_none}
 
 -- the arrival is of a process that the limits have, and its request is one that they have
 abbrev pub IsArrivalOf : Limits → ℕ × Request → Type 0
@@ -48,8 +47,7 @@ read_as request = Ok request
 
 -- a choice by a test, each side leading to the same
 join_by : (test : Bool) (P Q R : Type 0) → (test ≡ true → P → R) → (Q → R) → MatchBool test P Q → R
-join_by true P Q R f g h = f refl h
-join_by false P Q R f g h = g h
+join_by test P Q R f g h = grind (arith, common_steps)
 
 -- words that are read as a request are one of the limits
 of_arguments : (limits : Limits) (words : List (List ℕ)) (command : Command) (arguments : List (List ℕ)) (request : Request)
@@ -59,7 +57,7 @@ of_arguments limits words command arguments request h = grind (arith, common_ste
 of_command : (limits : Limits) (words : List (List ℕ)) (arguments : List (List ℕ)) (request : Request) (command : Option Command)
     → MatchOption command (read_as request ≡ Err Word) (λ command. CommandGives limits words command arguments (Ok request))
     → IsRequest limits words request
-of_command limits words arguments request command h = grind (arith, common_steps, join_by, of_arguments)
+of_command limits words arguments request command h = grind (arith, common_steps, join_by)
 
 of_request : (limits : Limits) (words : List (List ℕ)) (request : Request) → RequestGives limits words (Ok request) → IsRequest limits words request
 of_request limits [] request gives = absurd (cc)
@@ -78,25 +76,21 @@ keeps_process reading first rest result h = grind (arith, common_steps, keeps_ar
 
 keeps_policy : (reading : Reading) (words rest : List (List ℕ)) (result : Result Line Cause) → PolicyGives rest result → Keeps reading words result
 unfolding Keeps
-keeps_policy reading words rest result (inl fault) = keeps_by reading words (Err fault.0) result tt fault.2
-keeps_policy reading words rest result (inr policy) = keeps_by reading words (Ok (lines.Policy policy.0)) result tt policy.2
+keeps_policy reading words rest result h = grind (arith, common_steps, keeps_by)
 
 keeps_limits : (reading : Reading) (words rest : List (List ℕ)) (result : Result Line Cause) → reading.arrivals ≡ [] → LimitsGive rest result
     → Keeps reading words result
 unfolding Keeps
-keeps_limits reading words rest result none (inl fault) = keeps_by reading words (Err fault.0) result tt fault.2
-keeps_limits reading words rest result none (inr limits) = keeps_by reading words (Ok (lines.Limits limits.0)) result none limits.2
+keeps_limits reading words rest result none h2 = grind (arith, common_steps, keeps_by)
 
 empty_is : (arrivals : List (ℕ × Request)) → is_empty arrivals ≡ true → arrivals ≡ []
-empty_is [] e = refl
-empty_is (arrival ∷ arrivals) e = absurd (cc)
+empty_is arrivals e = grind (arith, common_steps)
 
 last_of_three : (a b c : Bool) → (a && (b && c)) ≡ true → c ≡ true
 last_of_three a b c h = grind (arith, common_steps)
 
 before_arrivals : (reading : Reading) (first : List ℕ) → says_limits reading first ≡ true → reading.arrivals ≡ []
-before_arrivals reading first says =
-    empty_is reading.arrivals (last_of_three (bytes_eq first (codes "limits")) (is_none reading.limits) (is_empty reading.arrivals) says)
+before_arrivals reading first says = grind (arith, common_steps, empty_is, last_of_three)
 
 keeps_words : (reading : Reading) (words : List (List ℕ)) (result : Result Line Cause) → WordsGive reading words result → Keeps reading words result
 unfolding Keeps
@@ -129,8 +123,7 @@ unfolding Keeps
 kept reading words lines.Skipped is before = before
 kept reading words (lines.Policy policy) is before = before
 kept reading words (lines.Limits limits) is before = none_yet limits reading.arrivals is
-kept reading words (lines.Arrival p request) is before =
-    All-push (IsArrivalOf (limits_of reading)) reading.arrivals (p, request) before (is.process, is.is_request.writable)
+kept reading words (lines.Arrival p request) is before = grind (arith, common_steps, All-push)
 
 -- a script that is accepted
 abbrev pub accepted : Meaning → Result Meaning ScriptFault
@@ -154,5 +147,4 @@ arrivals_read bytes meaning reads = grind (arith, common_steps, join_by, of_line
 
 pub processes_read : (bytes : List ℕ) (meaning : Meaning) → Reads bytes (Ok meaning)
     → All (λ arrival. IsProcess meaning.rules.limits arrival.0) meaning.arrivals
-processes_read bytes meaning reads =
-    All-weaker (IsArrivalOf meaning.rules.limits) (λ arrival. IsProcess meaning.rules.limits arrival.0) (λ arrival is. is.0) meaning.arrivals (arrivals_read bytes meaning reads)
+processes_read bytes meaning reads = grind (arith, common_steps, All-weaker, arrivals_read)

@@ -1,5 +1,6 @@
 -- A script has one reading: for `parse` and `read_named`.
-use Rattle.std.proofs.Common.{rules, ◌≡◌, ℕ, ◌+◌, ◌<◌, ◌^◌, ◌==◌, ◌⊎◌, Bool, true, false, cond, List, [], ◌∷◌, ◌++◌, length, drop, get_or, codes, ℤ, pos, FitsSigned, w64, MatchBool, MatchOption, MatchResult, Option, Some, None, unwrap_or, Result, Ok, Err, inl, inr, refl, sym, ap, ◌∙◌, subst, arith, nat_lt}
+use Rattle.std.proofs.lemmas.Grind.{common_steps}
+use Rattle.std.proofs.Common.{rules, ◌≡◌, ℕ, ◌+◌, ◌<◌, ◌^◌, ◌⊎◌, Bool, true, false, cond, List, [], ◌∷◌, ◌++◌, length, drop, get_or, codes, ℤ, pos, FitsSigned, w64, MatchBool, MatchOption, MatchResult, Option, Some, None, unwrap_or, Result, Ok, Err, inl, inr, refl, sym, ap, ◌∙◌, subst, arith, nat_lt}
 use Rattle.std.specs.Fmt.{digits, signed_decimal}
 use Rattle.std.specs.Str.{bytes_eq}
 use Rattle.std.specs.Str.Parse.{digits_value}
@@ -41,8 +42,7 @@ same_value value a b first second = first ∙ sym second
 -- a choice by a test is settled where both sides are
 pub MatchBool-unique : {X : Type 0} (P Q : X → Type 0) (test : Bool) → ((a b : X) → P a → P b → a ≡ b) → ((a b : X) → Q a → Q b → a ≡ b)
     → (a b : X) → MatchBool test (P a) (Q a) → MatchBool test (P b) (Q b) → a ≡ b
-MatchBool-unique P Q true here there a b first second = here a b first second
-MatchBool-unique P Q false here there a b first second = there a b first second
+MatchBool-unique P Q test here there a b first second = grind (arith, common_steps)
 
 -- the first bad argument has one cause
 IsFirstBad-unique : (arguments : List Argument) (words : List (List ℕ)) (a b : Cause) → IsFirstBad arguments words a → IsFirstBad arguments words b → a ≡ b
@@ -74,8 +74,7 @@ record SaysLock (words : List (List ℕ)) (fd : ℕ) (cmd : LkCmd) (lock : Lock)
   follows : PidFollows lock.pid rest
 
 SaysLock-from_says : (words : List (List ℕ)) (fd : ℕ) (cmd : LkCmd) (lock : Lock) → Says words (Lk fd cmd lock) → SaysLock words fd cmd lock
-SaysLock-from_says words fd cmd lock (inl says) = record { rest = pid_words lock.pid; are = says; follows = PidFollows-pid_words lock.pid }
-SaysLock-from_says words fd cmd lock (inr says) = record { rest = pid_words lock.pid ++ codes "0" ∷ []; are = says.1; follows = PidFollows-zero lock.pid says.0 }
+SaysLock-from_says words fd cmd lock h = grind (arith, common_steps, PidFollows-pid_words, PidFollows-zero)
 
 -- the word of an access mode, a kind, a whence or an operation of flock, read back
 access_in : List ℕ → Access
@@ -162,8 +161,7 @@ said_lock cmd arguments = search (rules)
 
 pid_said : (pid : ℤ) (rest : List (List ℕ)) → PidFollows pid rest → FitsSigned w64 pid → number_at 0 rest ≡ pid
 unfolding number_at
-pid_said pid rest (inl none) fits = ap (λ words. number_in (get_or words 0 (codes "0"))) none.1 ∙ (number_in-zero ∙ sym none.0)
-pid_said pid rest (inr is) fits = ap (λ words. number_in (get_or words 0 (codes "0"))) is ∙ number_in-spelled pid fits
+pid_said pid rest h fits = grind (arith, common_steps, number_in, number_in-zero, number_in-spelled)
 
 -- what the words of a lock command say is what they were written of
 lock_said : (name : List ℕ) (fd : ℕ) (lock : Lock) (rest : List (List ℕ)) → PidFollows lock.pid rest
@@ -179,8 +177,7 @@ lock_said name fd lock rest follows start len pid = λ i. record {
 
 -- a request in which no pid of 0 may be written has just its words
 has_words : (words : List (List ℕ)) (request : Request) → (HasZeroPid request → ⊥) → Says words request → words ≡ request_words request
-has_words words request none (inl says) = says
-has_words words request none (inr says) = absurd (none says.0)
+has_words words request none h2 = grind (arith, common_steps)
 
 pub small_process : (limits : Limits) (p : ℕ) → IsProcess limits p → p < 2 ^ 64
 small_process Small p is = omega (arith, is.1)
@@ -238,27 +235,21 @@ not_bad (argument ∷ arguments) (word ∷ words) cause all (inr bad) = bad.0 al
 
 pid_spelled : (pid : ℤ) (rest : List (List ℕ)) → PidFollows pid rest → FitsSigned w64 pid → AllSpell (AnyNumber ∷ []) rest
 unfolding AllSpell
-pid_spelled pid rest (inl none) fits = subst (AllSpell (AnyNumber ∷ [])) (sym none.1) tt
-pid_spelled pid rest (inr is) fits = subst (AllSpell (AnyNumber ∷ [])) (sym is) ((pid, fits, refl), tt)
+pid_spelled pid rest h fits = grind (arith, common_steps)
 
 nb_spelled : (nb : Bool) → AllSpell (NbWord ∷ []) (nb_words nb)
 unfolding AllSpell
-nb_spelled true = (refl, tt)
-nb_spelled false = tt
+nb_spelled nb = grind (arith, common_steps)
 
 command_is : (command known : Command) → Some known ≡ Some command → known ≡ command
 command_is command known e = ap (λ o. unwrap_or o known) e
-
--- a lock command is known by its word
-pub lock_named : (limits : Limits) (cmd : LkCmd) → command_named limits (lock_command_word cmd) ≡ Some (lock_command (lock_command_word cmd))
-lock_named limits cmd = search (rules)
 
 -- what it makes of its arguments is what the request is
 pub lock_gives : (limits : Limits) (command : CommandName) (cmd : LkCmd) (arguments : List (List ℕ)) (result : Result Request Cause)
     → command ≡ names.Lock cmd
     → CommandGives limits (lock_command_word cmd ∷ arguments) (lock_command (lock_command_word cmd)) arguments result
     → RequestGives limits (command_word command ∷ arguments) result
-lock_gives limits command cmd arguments result is gives = search (rules, lock_named)
+lock_gives limits command cmd arguments result is gives = search (rules)
 
 -- the arguments that the command of a request may have
 arguments_of : Limits → Request → List Argument
@@ -283,19 +274,13 @@ names_by : (limits : Limits) (known : Command) (words : List (List ℕ)) → com
     → Names limits (known.required ++ known.optional) words
 names_by limits known words named = λ command found. ap (λ (c : Command). c.required ++ c.optional) (command_is command known (sym named ∙ found))
 
-names_so : (limits : Limits) (known : Command) (words : List (List ℕ)) (request : Request) → (HasZeroPid request → ⊥) → Says words request
-    → command_named limits (get_or (request_words request) 0 []) ≡ Some known → Names limits (known.required ++ known.optional) words
-names_so limits known words request none says named =
-    names_by limits known words (ap (λ ws. command_named limits (get_or ws 0 [])) (has_words words request none says) ∙ named)
-
 request_named : (limits : Limits) (words : List (List ℕ)) (request : Request) → Says words request → Names limits (arguments_of limits request) words
 unfolding arguments_of
-request_named limits words request h = search (rules, names_so, SaysLock-from_says, names_by, lock_named)
+request_named limits words request h = search (rules, names_by, has_words, SaysLock-from_says)
 
 spells_so : (arguments : List Argument) (words : List (List ℕ)) (request : Request) → (HasZeroPid request → ⊥) → Says words request
     → AllSpell arguments (drop 1 (request_words request)) → AllSpell arguments (drop 1 words)
-spells_so arguments words request none says all =
-    subst (λ ws. AllSpell arguments (drop 1 ws)) (sym (has_words words request none says)) all
+spells_so arguments words request none says all = grind (arith, common_steps, has_words)
 
 -- the words behind the name of a request spell its arguments
 request_spelled : (limits : Limits) (words : List (List ℕ)) (request : Request) → Says words request → IsWritable limits request
@@ -312,8 +297,7 @@ request_spelled limits words (Lk fd cmd lock) says fits =
     let pid = pid_spelled lock.pid spelled.rest spelled.follows fits.3 in
     subst (λ ws. AllSpell (lock_arguments ++ AnyNumber ∷ []) (drop 1 ws)) (sym spelled.are)
     ((fd, fits.0, refl), ((lock.kind, refl), ((lock.whence, refl), ((lock.start, fits.1, refl), ((lock.len, fits.2, refl), pid)))))
-request_spelled limits words (Flock fd op nb) says fits =
-    spells_so (DescriptorNumber ∷ OpWord ∷ NbWord ∷ []) words (Flock fd op nb) (λ zero. zero) says ((fd, fits, refl), ((op, refl), nb_spelled nb))
+request_spelled limits words (Flock fd op nb) says fits = grind (arith, common_steps, spells_so, nb_spelled)
 request_spelled limits words (Fork child) says fits = spells_so (ProcessNumber limits ∷ []) words (Fork child) (λ zero. zero) says ((child, fits.0, fits.1, refl), tt)
 request_spelled limits words Exit says fits = spells_so [] words Exit (λ zero. zero) says tt
 request_spelled limits words (Signal target) says fits = spells_so (ProcessNumber limits ∷ []) words (Signal target) (λ zero. zero) says ((target, fits.0, fits.1, refl), tt)
@@ -353,8 +337,7 @@ RequestGives-unique limits [] a b first second = same_value (Err Count) a b firs
 RequestGives-unique limits (name ∷ arguments) a b first second = named_unique limits name arguments (command_named limits name) refl a b first second
 
 ArrivalGives-unique : (p : ℕ) (next : Result Request Cause) (a b : Result Line Cause) → ArrivalGives p next a → ArrivalGives p next b → a ≡ b
-ArrivalGives-unique p (Ok request) a b first second = first ∙ sym second
-ArrivalGives-unique p (Err cause) a b first second = first ∙ sym second
+ArrivalGives-unique p next a b first second = grind (arith, common_steps)
 
 ProcessGives-unique : (limits : Limits) (word : List ℕ) (rest : List (List ℕ)) (a b : Result Line Cause) → ProcessGives limits word rest a
     → ProcessGives limits word rest b → a ≡ b
@@ -362,15 +345,13 @@ ProcessGives-unique limits word rest a b h h2 = search (rules, decimal_injective
 
 -- words that are refused have one cause
 pub AreRefused-unique : (arguments : List Argument) (words : List (List ℕ)) (a b : Cause) → AreRefused arguments words a → AreRefused arguments words b → a ≡ b
-AreRefused-unique arguments words a b first second =
-    MatchBool-unique (IsFirstBad arguments words) (λ cause. cause ≡ Count) (length words == length arguments) (IsFirstBad-unique arguments words) (same_value Count) a b first second
+AreRefused-unique arguments words a b first second = grind (arith, common_steps, MatchBool-unique, IsFirstBad-unique, same_value)
 
 -- one word that spells its argument isn't refused
 pub one_spelled : (argument : Argument) (word : List ℕ) (words : List (List ℕ)) (cause : Cause) → words ≡ word ∷ [] → Spells argument word
     → AreRefused (argument ∷ []) words cause → ⊥
 unfolding AllSpell
-one_spelled argument word words cause are spells refused =
-    not_bad (argument ∷ []) (word ∷ []) cause (spells, tt) (subst (λ ws. AreRefused (argument ∷ []) ws cause) are refused)
+one_spelled argument word words cause are spells refused = grind (arith, common_steps, not_bad)
 
 -- the word of a policy, or of limits, read back
 pub policy_in : List ℕ → Policy
@@ -381,13 +362,11 @@ limits_in word = cond (bytes_eq word (codes "small")) Small Wide
 
 pub policy_in-word : (policy : Policy) → policy_in (policy_word policy) ≡ policy
 unfolding policy_in
-policy_in-word Held = refl
-policy_in-word Queue = refl
+policy_in-word policy = grind (arith, common_steps)
 
 pub limits_in-word : (limits : Limits) → limits_in (limits_word limits) ≡ limits
 unfolding limits_in
-limits_in-word Small = refl
-limits_in-word Wide = refl
+limits_in-word limits = grind (arith, common_steps)
 
 PolicyGives-unique : (words : List (List ℕ)) (a b : Result Line Cause) → PolicyGives words a → PolicyGives words b → a ≡ b
 PolicyGives-unique words a b h h2 = search (rules, AreRefused-unique, one_spelled, policy_in, policy_in-word)
@@ -429,8 +408,7 @@ after_unique : (number : ℕ) (reading : Reading) (rest : List (List ℕ))
     → (next : Result Line Cause) (a b : Result Meaning ScriptFault)
     → MatchResult next (λ said. LinesGive (number + 1) (reading_after reading said) rest a) (λ cause. a ≡ Err (record { line = number; cause = cause }))
     → MatchResult next (λ said. LinesGive (number + 1) (reading_after reading said) rest b) (λ cause. b ≡ Err (record { line = number; cause = cause })) → a ≡ b
-after_unique number reading rest later (Ok said) a b first second = later (reading_after reading said) a b first second
-after_unique number reading rest later (Err cause) a b first second = first ∙ sym second
+after_unique number reading rest later next a b first second = grind (arith, common_steps, said)
 
 LinesGive-unique : (number : ℕ) (reading : Reading) (rest : List (List ℕ)) (a b : Result Meaning ScriptFault) → LinesGive number reading rest a
     → LinesGive number reading rest b → a ≡ b

@@ -1,8 +1,7 @@
 -- The report of an output: its numbers are such as its lines may have, and each line is read as one of the report; for `outputs_are_legal` and
 -- `outputs_are_short`.
 use Rattle.std.proofs.lemmas.Grind.{common_steps}
-use Rattle.std.proofs.Common.{◌≡◌, ◌≢◌, ℕ, zero, suc, ◌+◌, ◌*◌, ◌^◌, ◌<◌, ◌≤◌, ◌==◌, ◌&&◌, Bool, true, false, not, nat_le, List, [], ◌∷◌, ◌++◌, length, length-append, map, filter, Option, Some, None, Ok, IfSome, slice_get, inl, inr, ⊎_elim, refl, sym, ap, ◌∙◌, subst, arith, lit<, lit≤, eq-eqb, ne_eqb, codes, decimal}
-use Rattle.std.specs.Prelude.{if◌then◌else◌, IsFalse}
+use Rattle.std.proofs.Common.{◌≡◌, ℕ, zero, suc, ◌+◌, ◌*◌, ◌^◌, ◌<◌, ◌≤◌, ◌==◌, ◌&&◌, Bool, true, false, not, nat_le, List, [], ◌∷◌, ◌++◌, length, length-append, map, filter, Option, Some, None, Ok, IfSome, slice_get, inl, inr, refl, sym, ap, ◌∙◌, subst, arith, lit<, lit≤, eq-eqb, codes, decimal, if◌then◌else◌, IsFalse}
 use Rattle.std.specs.List.{AllByRecursion as Each, list_all}
 use Rattle.std.proofs.lemmas.Bool.{cases_eq, eqb-true, le-ltb}
 use Rattle.std.proofs.lemmas.Fmt.{length-decimal-le}
@@ -10,7 +9,6 @@ use Rattle.std.proofs.lemmas.List.Elements.{recursion_from_All}
 use Rattle.std.proofs.lemmas.List.Filters.{length-filter_both}
 use Rattle.range_core.specs.declared.TheConstants.{OFFMAX}
 use Rattle.range_core.specs.declared.Mode.{Mode}
-use Rattle.range_core.specs.declared.Mode.TheVariants.{Read, Write}
 use Rattle.range_core.specs.declared.Span.{Span}
 use Rattle.lock_book.specs.declared.Held.{Held}
 use Rattle.lock_book.specs.declared.Owner.{Owner}
@@ -129,11 +127,7 @@ numbered_few base limit (x ∷ xs) low numbered small =
 
 each_filtered : {X : Type 0} (P : X → Type 0) (test : X → Bool) (xs : List X) → Each P xs → Each P (filter test xs)
 each_filtered P test [] all = tt
-each_filtered P test (x ∷ xs) all =
-    elim (test x) as (λ b. Each P (if b then x ∷ filter test xs else filter test xs)) [
-      | true ↦ (all.0, each_filtered P test xs all.1)
-      | false ↦ each_filtered P test xs all.1
-    ]
+each_filtered P test (x ∷ xs) all = grind (arith, common_steps, each_filtered P test xs)
 
 pub taken_few : (events : List Event) (p : ℕ) → AreNumbered events → Each (λ event. event.n ≤ script_limit + 1) events
     → length (events_of p events) ≤ script_limit + 1
@@ -153,29 +147,12 @@ all_of (suc more) few = all_of more few + few
 
 fewer : {X : Type 0} (test other : X → Bool) (xs : List X) → length (filter test (filter other xs)) ≤ length (filter test xs)
 fewer test other [] = omega arith
-fewer test other (x ∷ xs) =
-    let rest = fewer test other xs in
-    elim (other x) as (λ b. length (filter test (if b then x ∷ filter other xs else filter other xs)) ≤ length (filter test (x ∷ xs))) [
-      | true ↦ elim (test x) as (λ b. length (if b then x ∷ filter test (filter other xs) else filter test (filter other xs)) ≤ length (if b then x ∷ filter test xs else filter test xs)) [
-        | true ↦ omega (arith, rest)
-        | false ↦ rest
-      ]
-      | false ↦ elim (test x) as (λ b. length (filter test (filter other xs)) ≤ length (if b then x ∷ filter test xs else filter test xs)) [
-        | true ↦ omega (arith, rest)
-        | false ↦ rest
-      ]
-    ]
+fewer test other (x ∷ xs) = grind (arith, common_steps, fewer test other xs)
 
 others_below : (n : ℕ) (events : List Event) → Each (λ event. (1 ≤ event.p) × (event.p ≤ suc n)) events
     → Each (λ event. (1 ≤ event.p) × (event.p ≤ n)) (filter (λ event. not (event.p == suc n)) events)
 others_below n [] all = tt
-others_below n (event ∷ events) all =
-    ⊎_elim (λ same. rw (eq-eqb event.p (suc n) same) (others_below n events all.1))
-    (λ differs. rw (ne_eqb event.p (suc n) differs)
-    ((all.0.0, (let high = all.0.1 in not_last event.p n high differs)), others_below n events all.1)) (cases_eq event.p (suc n))
-  where
-    not_last : (p n : ℕ) → p ≤ suc n → p ≢ suc n → p ≤ n
-    not_last p n high differs = omega (arith, high, differs)
+others_below n (event ∷ events) all = grind (arith, common_steps, eq-eqb, cases_eq, others_below n events)
 
 all_few : (n few : ℕ) (events : List Event) → Each (λ event. (1 ≤ event.p) × (event.p ≤ n)) events → ((p : ℕ) → length (events_of p events) ≤ few)
     → length events ≤ all_of n few
@@ -199,36 +176,20 @@ few_events limits events writable each =
 
 few_answers_in : (p place : ℕ) (told : List Note) → length (answers_in p place told) ≤ length told
 few_answers_in p place [] = omega arith
-few_answers_in p place (notes.Answer q n reply ∷ told) =
-    let rest = few_answers_in p place told in
-    elim (q == p) as (λ b. length (if b then (n, reply, place) ∷ answers_in p place told else answers_in p place told) ≤ length (notes.Answer q n reply ∷ told)) [
-      | true ↦ omega (arith, rest)
-      | false ↦ omega (arith, rest)
-    ]
+few_answers_in p place (notes.Answer q n reply ∷ told) = grind (arith, common_steps, few_answers_in p place told)
 few_answers_in p place (notes.Waits q n ∷ told) = let rest = few_answers_in p place told in omega (arith, rest)
 
 few_answers : (limits : Limits) (p place : ℕ) (events : List Event) → Each (IsWritableEvent limits) events
     → length (answers_from p place events) ≤ 64 * length events
 few_answers limits p place [] writable = omega arith
-few_answers limits p place (event ∷ events) writable =
-    let rest = few_answers limits p (place + 1) events writable.1 in
-    let own = few_answers_in p place event.notes in
-    let few = writable.0.few in
-    let size = length-append (answers_in p place event.notes) (answers_from p (place + 1) events) in
-    omega (arith, rest, own, few, size)
+few_answers limits p place (event ∷ events) writable = grind (arith, common_steps, few_answers_in, length-append, few_answers limits p (place + 1) events)
 
 pub sent_small : (arrivals : List (ℕ × Request)) → length arrivals ≤ script_limit + 1 → AreSmall (λ p. length (requests_sent p arrivals))
 sent_small arrivals few p = let less = sent_few p arrivals in omega (arith, few, less)
   where
     sent_few : (p : ℕ) (arrivals : List (ℕ × Request)) → length (requests_sent p arrivals) ≤ length arrivals
     sent_few p [] = omega arith
-    sent_few p (arrival ∷ arrivals) =
-        let rest = sent_few p arrivals in
-        elim (arrival.0 == p) as
-        (λ b. length (map (λ (a : ℕ × Request). a.1) (if b then arrival ∷ filter (λ a. a.0 == p) arrivals else filter (λ a. a.0 == p) arrivals)) ≤ length (arrival ∷ arrivals)) [
-          | true ↦ omega (arith, rest)
-          | false ↦ omega (arith, rest)
-        ]
+    sent_few p (arrival ∷ arrivals) = grind (arith, common_steps, sent_few p arrivals)
 
 -- ---- texts
 
@@ -250,12 +211,10 @@ number : (n : ℕ) → n < 2 ^ 64 → Said 20 (decimal n)
 number n small = record { spoken = AreSpoken-word (decimal n) (IsWord-decimal n small).visible; short = length-decimal-le 20 n (lit< tt) (omega (arith, small)) (omega (arith, small)) }
 
 said_mode : (mode : Mode) → Said 1 (mode_word mode)
-said_mode Read = given 1 (codes "r") refl (lit≤ tt)
-said_mode Write = given 1 (codes "w") refl (lit≤ tt)
+said_mode mode = grind (arith, common_steps, given)
 
 said_flock_word : (mode : Mode) → Said 2 (flock_word mode)
-said_flock_word Read = given 2 (codes "sh") refl (lit≤ tt)
-said_flock_word Write = given 2 (codes "ex") refl (lit≤ tt)
+said_flock_word mode = grind (arith, common_steps, given)
 
 said_owner : (owner : Owner) → IsSmallOwner owner → Said 32 (owner_text owner)
 said_owner (Process p) small =

@@ -1,12 +1,10 @@
 -- The text of the report: for `push_processes` and `write_report`.
 use Rattle.std.proofs.lemmas.Grind.{common_steps}
-use Rattle.std.proofs.Common.{◌≡◌, ℕ, zero, suc, ◌+◌, ◌-◌, ◌<◌, List, ◌++◌, Result, Ok, Err, length, flat_map, OnOk, refl, sym, ap, ◌∙◌, arith, append_assoc, append-nil, add-one}
-use Rattle.std.specs.Prelude.{slice_index}
+use Rattle.std.proofs.Common.{◌≡◌, ℕ, zero, suc, ◌+◌, ◌-◌, ◌<◌, List, ◌++◌, length, flat_map, refl, sym, ap, ◌∙◌, arith, append_assoc, append-nil, add-one, slice_index}
 use Rattle.std.proofs.lemmas.List.{append_cancel_left}
 use Rattle.lock_book.specs.declared.Held.{Held}
 use Rattle.lock_book.specs.Changes.{mode_in, flock_mode_in}
 use Rattle.lock_book.specs.Reports.{IsHeldReport}
-use Rattle.lock_book.specs.OneReport.{LocksHaveOneReport}
 use Rattle.wait_core.specs.declared.Wait.{Wait}
 use Rattle.lock_manager.specs.declared.request.ProcState.{ProcState}
 use Rattle.lock_manager.specs.declared.manager.Manager.{Manager}
@@ -24,13 +22,7 @@ unfolding process_lines
 process_lines-more states events sent p zero =
     let here : p + 0 ≡ p = omega arith in
     rw here (append-nil (reported_line (line_of states events sent p)))
-process_lines-more states events sent p (suc n) =
-    let place : p + 1 + n ≡ p + suc n = omega arith in
-    let rest = process_lines-more states events sent (p + 1) n in
-    let first = reported_line (line_of states events sent p) in
-    ap (λ l. first ++ l) rest
-    ∙ sym (append_assoc first (process_lines states events sent (p + 1) n) (reported_line (line_of states events sent (p + 1 + n))))
-    ∙ ap (λ q. first ++ process_lines states events sent (p + 1) n ++ reported_line (line_of states events sent q)) place
+process_lines-more states events sent p (suc n) = grind (arith, common_steps, append_assoc, process_lines-more states events sent (p + 1) n)
 
 -- the text of so many processes, and of one more, whose count stands at its place
 pub more_processes : (states : ℕ → ProcState) (events : List Event) (counts : List ℕ) (sent : ℕ → ℕ) (old before after : List ℕ) (index count : ℕ)
@@ -63,16 +55,6 @@ pub report_in_state : (manager : Manager) (S : State) (processes : ℕ) (events 
     → text ≡ flat_map held_line locks ++ flat_map wait_line waits ++ process_lines (state_at manager) events sent 1 processes
     → IsReport processes S events sent text
 report_in_state manager S processes events sent locks waits text h held wait is = grind (arith, common_steps)
-
--- a state after these events has one report
-pub IsReport-unique : LocksHaveOneReport → (processes : ℕ) (S : State) (events : List Event) (sent : ℕ → ℕ) (text other : List ℕ)
-    → IsReport processes S events sent text → IsReport processes S events sent other → text ≡ other
-IsReport-unique one processes S events sent text other h k = grind (arith, common_steps)
-
--- what follows of a fact of a value
-pub OnOk-map : {T E : Type 0} (P Q : Type 0) (result : Result T E) → (P → Q) → OnOk result P → OnOk result Q
-OnOk-map P Q (Ok value) follows fact = follows fact
-OnOk-map P Q (Err error) follows fact = tt
 
 -- what is written of the locks, the waits and the processes is one text, which is the report of each state that the manager stands for
 pub report_written : (session : Session) (sent : List ℕ) (locks : List Held) (waits : List Wait) (old new : List ℕ)

@@ -1,7 +1,6 @@
 -- Reports are read back, for `reports_are_read_back`: texts are those of the lines of a report just where they are its lines.
 use Rattle.std.proofs.lemmas.Grind.{common_steps}
-use Rattle.std.proofs.Common.{◌≡◌, ℕ, zero, suc, ◌+◌, ◌^◌, ◌<◌, ◌≤◌, ◌==◌, Bool, true, false, List, [], ◌∷◌, ◌++◌, map, flat_map, inl, inr, ⊎_elim, refl, sym, ap, ap₂, ◌∙◌, subst, arith, lit<, eq-eqb, ne_eqb, append_assoc}
-use Rattle.std.specs.Prelude.{if◌then◌else◌}
+use Rattle.std.proofs.Common.{◌≡◌, ℕ, zero, suc, ◌+◌, ◌^◌, ◌<◌, ◌≤◌, ◌==◌, Bool, true, false, List, [], ◌∷◌, ◌++◌, map, flat_map, inl, inr, ⊎_elim, refl, sym, ap, ap₂, ◌∙◌, subst, arith, lit<, eq-eqb, ne_eqb, append_assoc, if◌then◌else◌}
 use Rattle.lock_book.specs.Changes.{mode_in, flock_mode_in}
 use Rattle.lock_book.specs.OneReport.{LocksHaveOneReport}
 use Rattle.lock_manager.specs.declared.request.ProcState.{ProcState}
@@ -10,7 +9,7 @@ use Rattle.session_core.specs.Event.{Event}
 use Rattle.script_core.specs.declared.report_text.ProcessLine.{ProcessLine}
 use Rattle.script_core.specs.declared.report.ReportLine.{ReportLine}
 use Rattle.script_core.specs.declared.report.ReportLine.TheVariants as lines
-use Rattle.script_core.specs.ReportText.{held_text, held_line, wait_text, wait_line, process_text, process_line, line_of, is_reported, reported_line, process_lines}
+use Rattle.script_core.specs.ReportText.{held_text, held_line, wait_text, wait_line, process_text, line_of, is_reported, reported_line, process_lines}
 use Rattle.script_core.specs.ReportReading.{IsLineOf, MayBeLeftOut, AreTextsOf, least_line, lines_from, AreSmall, joined, ReportsAreReadBack}
 use Rattle.script_core.proofs.ReportReadingLemmas.{one_process}
 
@@ -75,8 +74,7 @@ counts_behind p n sent q behind = rw (ne_eqb q p (λ e. omega arith)) refl
 
 counts_small : (p n : ℕ) (sent : ℕ → ℕ) → n < 2 ^ 64 → AreSmall sent → AreSmall (counts_with p n sent)
 unfolding counts_with
-counts_small p n sent small are q =
-    let P : Bool → Type 0 = λ b. (if b then n else sent q) < 2 ^ 64 in elim (q == p) as P [ true ↦ small | false ↦ are q ]
+counts_small p n sent small are q = grind (arith, common_steps)
 
 -- lines of processes tell nothing of the counts of those before
 lines_same : (states : ℕ → ProcState) (events : List Event) (sent sent' : ℕ → ℕ) (p more : ℕ) → ((q : ℕ) → p ≤ q → sent q ≡ sent' q)
@@ -95,8 +93,7 @@ unfolding process_lines
 one_more states events sent p more n = grind (arith, common_steps, counts_own, lines_same, counts_with, counts_behind)
 
 no_line : (states : ℕ → ProcState) (events : List Event) (p : ℕ) → states p ≡ Unborn → reported_line (line_of states events (λ q. 0) p) ≡ []
-no_line states events p unborn =
-    ap (λ state. if is_reported state 0 then process_line (line_of states events (λ q. 0) p) else []) unborn
+no_line states events p unborn = grind (arith, common_steps)
 
 -- texts of the lines of processes are theirs with some counts
 processes_read : (states : ℕ → ProcState) (events : List Event) (p more : ℕ) (texts : List (List ℕ)) → AreTextsOf (lines_from states events p more) texts
@@ -135,8 +132,7 @@ FirstIsFrom p (text ∷ texts) = (told : ProcessLine) × (p ≤ told.p) × (told
 
 FirstIsFrom-before : (p : ℕ) (texts : List (List ℕ)) → FirstIsFrom (p + 1) texts → FirstIsFrom p texts
 unfolding FirstIsFrom
-FirstIsFrom-before p [] first = tt
-FirstIsFrom-before p (text ∷ texts) first = (first.0, omega (arith, first.1), first.2, first.3)
+FirstIsFrom-before p texts first = grind (arith, common_steps)
 
 not_reported : (state : ProcState) (n : ℕ) → is_reported state n ≡ false → state ≡ Unborn
 not_reported state n h = grind (arith, common_steps)
@@ -174,22 +170,13 @@ AreTold-more states events sent small p more few true reported rest =
       are = inl ((sent p, small p, reported, refl), rest.are);
       first = (told, omega arith, few, refl);
     }
-AreTold-more states events sent small p more few false unreported rest =
-    let own : reported_line (line_of states events sent p) ≡ [] = rw unreported refl in
-    record {
-      texts = rest.texts;
-      is = ap₂ (λ l m. l ++ m) own rest.is;
-      are = left_out states events p more rest.texts few (not_reported (states p) (sent p) unreported) rest.first rest.are;
-      first = FirstIsFrom-before p rest.texts rest.first;
-    }
+AreTold-more states events sent small p more few false unreported rest = grind (arith, common_steps, left_out, not_reported, FirstIsFrom-before)
 
 processes_told : (states : ℕ → ProcState) (events : List Event) (sent : ℕ → ℕ) → AreSmall sent → (p more : ℕ) → p + more ≤ 2 ^ 64
     → AreTold states events sent p more
 unfolding lines_from process_lines FirstIsFrom
 processes_told states events sent small p zero few = record { texts = []; is = refl; are = refl; first = tt }
-processes_told states events sent small p (suc more) few =
-    AreTold-more states events sent small p more (omega arith) (is_reported (states p) (sent p)) refl
-    (processes_told states events sent small (p + 1) more (omega arith))
+processes_told states events sent small p (suc more) few = grind (arith, common_steps, AreTold-more, processes_told states events sent small (p + 1) more)
 
 -- ---- reports
 
@@ -209,21 +196,5 @@ reports_read_back one = record {
             ∙ ap (λ l. locks ++ (waiting ++ l)) own.is ∙ ap (λ l. locks ++ l) waits.1 ∙ held.1,
         subst (λ l. AreTextsOf l held.0) (sym these) held.2,
       );
-  is_report = λ processes S events reported texts are told.
-      let these = are.is ∙ append_assoc (map lines.Held are.held) (map lines.Waits S.waits) (lines_from S.states events 1 processes) in
-      let held = fixed_read lines.Held held_text held_fixed are.held (map lines.Waits S.waits ++ lines_from S.states events 1 processes) texts
-      (subst (λ l. AreTextsOf l texts) these told) in
-      let waits = fixed_read lines.Waits wait_text waits_fixed S.waits (lines_from S.states events 1 processes) held.0 held.2 in
-      let own = processes_read S.states events 1 processes waits.0 waits.2 in
-      let locks = flat_map held_line are.held in
-      let waiting = flat_map wait_line S.waits in (
-        own.0,
-        own.1,
-        record {
-          held = are.held;
-          is_held = are.is_held;
-          is = held.1 ∙ ap (λ l. locks ++ l) waits.1 ∙ ap (λ l. locks ++ (waiting ++ l)) own.2
-              ∙ sym (append_assoc locks waiting (process_lines S.states events own.0 1 processes));
-        },
-      );
+  is_report = grind (arith, common_steps, append_assoc, fixed_read, held_fixed, waits_fixed, processes_read);
 }

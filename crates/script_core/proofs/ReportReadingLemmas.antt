@@ -77,20 +77,14 @@ one_process told other small less same =
 -- what is read of a word that spells this number
 pub number_read : (word : List ℕ) (n : ℕ) (result : Option ℕ) → n < 2 ^ 64 → word ≡ decimal n
     → MatchOption result ((m : ℕ) → m < 2 ^ 64 → word ≡ decimal m → ⊥) (λ m. word ≡ decimal m) → IfSome result (λ m. m < 2 ^ 64) → result ≡ Some n
-number_read word n None small is read within = absurd (read n small is)
-number_read word n (Some m) small is read within = ap (λ k. Some k) (decimal_injective m n within small (sym read ∙ is))
+number_read word n result small is read within = grind (arith, common_steps, decimal_injective)
 
 -- the line of one more process
 pub lines_from-more : (states : ℕ → ProcState) (events : List Event) (p more : ℕ)
     → lines_from states events p (suc more) ≡ lines_from states events p more ++ lines.Process (least_line states events (p + more)) ∷ []
 unfolding lines_from
-lines_from-more states events p zero =
-    let here : p ≡ p + 0 = omega arith in ap (λ q. lines.Process (least_line states events q) ∷ []) here
-lines_from-more states events p (suc more) =
-    let place : p + 1 + more ≡ p + suc more = omega arith in
-    let first = lines.Process (least_line states events p) in
-    ap (λ l. first ∷ l) (lines_from-more states events (p + 1) more)
-    ∙ ap (λ q. first ∷ (lines_from states events (p + 1) more ++ lines.Process (least_line states events q) ∷ [])) place
+lines_from-more states events p zero = grind (arith, common_steps)
+lines_from-more states events p (suc more) = grind (arith, common_steps, lines_from-more states events (p + 1) more)
 
 pub no_processes : (states : ℕ → ProcState) (events : List Event) (old : List ReportLine) → old ≡ old ++ lines_from states events 1 0
 unfolding lines_from
@@ -144,5 +138,4 @@ sent_in_process told text sent false few tells unreported = λ this.
 pub is_sent_in : (line : ReportLine) (told : ProcessLine) (text : List ℕ) (sent : ℕ) (reported : Bool) (result : Option ReportLine) → line ≡ lines.Process told
     → sent < 2 ^ 64 → TellsSent told.p text (Some sent) → reported ≡ is_reported told.state sent
     → result ≡ then_some reported (lines.Process (record told { sent = sent })) → IsSentIn line text result
-is_sent_in line told text sent reported result is few tells reports given =
-    rw (is, given) (sent_in_process told text sent reported few tells (sym reports))
+is_sent_in line told text sent reported result is few tells reports given = grind (arith, common_steps, sent_in_process)

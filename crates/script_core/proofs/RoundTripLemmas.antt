@@ -1,8 +1,7 @@
 -- The text of a request, behind its process and a space, is a line that says it: for `write_entry`.
 use Rattle.std.proofs.lemmas.Grind.{common_steps}
-use Rattle.std.proofs.Common.{◌≡◌, ℕ, zero, suc, ◌+◌, ◌^◌, ◌<◌, ◌≤◌, ◌==◌, Bool, nat_le, nat_lt, true, false, not, ◌&&◌, List, [], ◌∷◌, ◌++◌, length, drop, get_or, filter, codes, decimal, ℤ, pos, negsuc, FitsSigned, w64, Ok, Some, inl, inr, refl, ap, ◌∙◌, arith, tests, lit<, lit≤, length-append, append_assoc}
+use Rattle.std.proofs.Common.{◌≡◌, ℕ, zero, suc, ◌+◌, ◌^◌, ◌<◌, ◌≤◌, ◌==◌, Bool, nat_le, nat_lt, true, false, not, ◌&&◌, List, [], ◌∷◌, ◌++◌, length, get_or, filter, codes, decimal, ℤ, pos, negsuc, FitsSigned, w64, Ok, inl, refl, arith, tests, lit<, lit≤, length-append, append_assoc}
 use Rattle.std.specs.Fmt.{signed_decimal}
-use Rattle.std.specs.Int.{IsInRange}
 use Rattle.std.specs.Str.Parse.{AllDigits}
 use Rattle.std.specs.List.{list_all, slice_split, join_with_byte}
 use Rattle.std.proofs.lemmas.Fmt.{decimal_is_IsNumeral, length-decimal-le, length_signed_le}
@@ -13,9 +12,7 @@ use Rattle.fd_table.specs.declared.Access.{Access}
 use Rattle.fd_table.specs.declared.Access.TheVariants.{R, W, Rw}
 use Rattle.lock_manager.specs.declared.request.LkCmd.{LkCmd}
 use Rattle.lock_manager.specs.declared.request.LkCmd.TheVariants.{GetLk, SetLk, SetLkW, OGetLk, OSetLk, OSetLkW}
-use Rattle.lock_manager.specs.declared.request.Lock.{Lock}
 use Rattle.fd_table.specs.declared.Limits.{Limits}
-use Rattle.fd_table.specs.declared.Limits.TheVariants.{Small, Wide}
 use Rattle.lock_manager.specs.declared.request.FlockOp.{FlockOp}
 use Rattle.lock_manager.specs.declared.request.FlockOp.TheVariants.{Sh, Ex, Un}
 use Rattle.lock_manager.specs.declared.request.Request.{Request}
@@ -25,14 +22,13 @@ use Rattle.range_core.specs.declared.Kind.TheVariants.{Read, Write, Unlock}
 use Rattle.range_core.specs.declared.Whence.{Whence}
 use Rattle.range_core.specs.declared.Whence.TheVariants.{Set, Cur, End}
 use Rattle.script_core.specs.Words.{words_of, is_printable, line_limit}
-use Rattle.script_core.specs.RequestText.{access_word, kind_word, whence_word, op_word, nb_words, lock_command_word, pid_words, lock_words, request_words, request_text}
-use Rattle.script_core.specs.ScriptText.{IsProcess, IsDescriptor, IsWritable, IsRequest}
-use Rattle.script_core.specs.Arguments.{Command, lock_command, flock_command, command_named, has_count}
+use Rattle.script_core.specs.RequestText.{access_word, kind_word, whence_word, op_word, nb_words, lock_command_word, pid_words, request_words, request_text}
+use Rattle.script_core.specs.ScriptText.{IsProcess, IsDescriptor, IsWritable}
 use Rattle.script_core.specs.declared.line.Line.{Line}
 use Rattle.script_core.specs.declared.line.Line.TheVariants as lines
 use Rattle.script_core.specs.Reading.{Reading, RequestGives, WordsGive, LineGives, IsReadBack, is_comment, limits_of}
 use Rattle.script_core.proofs.NumberLemmas.{BeginsPlainly-decimal}
-use Rattle.script_core.proofs.ReadingLemmas.{lock_named, small_process}
+use Rattle.script_core.proofs.ReadingLemmas.{small_process}
 use Rattle.script_core.proofs.HeaderLemmas.{IsNoHeaderWord-decimal}
 
 -- each byte is one that the words of a text have: printable, no space, and none behind the letters
@@ -56,8 +52,7 @@ is_word word = nat_lt 0 (length word) && list_all (λ byte. nat_le 33 byte && na
 AreVisible-tested : (bytes : List ℕ) → list_all (λ byte. nat_le 33 byte && nat_le byte 122) bytes ≡ true → AreVisible bytes
 unfolding AreVisible
 AreVisible-tested [] tested = tt
-AreVisible-tested (byte ∷ bytes) tested =
-    (grind (arith, tests), grind (arith, tests), AreVisible-tested bytes (grind (arith, tests)))
+AreVisible-tested (byte ∷ bytes) tested = grind (arith, common_steps, AreVisible-tested bytes)
 
 pub IsWord-tested : (word : List ℕ) → is_word word ≡ true → IsWord word
 IsWord-tested word tested = record { some = grind (arith, tests); visible = AreVisible-tested word (grind (arith, tests)) }
@@ -65,9 +60,7 @@ IsWord-tested word tested = record { some = grind (arith, tests); visible = AreV
 AreVisible-digits : (bytes : List ℕ) → AllDigits 10 bytes → AreVisible bytes
 unfolding AreVisible
 AreVisible-digits [] digits = tt
-AreVisible-digits (byte ∷ bytes) digits =
-    let digit : IsInRange 48 57 byte = digit_from_value byte digits.0 in
-    (omega arith, omega arith, AreVisible-digits bytes digits.1)
+AreVisible-digits (byte ∷ bytes) digits = grind (arith, common_steps, digit_from_value, AreVisible-digits bytes)
 
 pub IsWord-decimal : (n : ℕ) → n < 2 ^ 64 → IsWord (decimal n)
 IsWord-decimal n small =
@@ -106,8 +99,7 @@ slice_split-join : (word : List ℕ) (words : List (List ℕ)) → AreWords (wor
     → slice_split (λ byte. byte == 32) (join_with_byte 32 (word ∷ words)) ≡ word ∷ words
 unfolding AreWords
 slice_split-join word [] are = slice_split-word word are.0.visible
-slice_split-join word (next ∷ words) are =
-    slice_split-words word (join_with_byte 32 (next ∷ words)) are.0.visible ∙ ap (λ ws. word ∷ ws) (slice_split-join next words are.1)
+slice_split-join word (next ∷ words) are = grind (arith, common_steps, slice_split-words, slice_split-join next words)
 
 pub not_empty : (n : ℕ) → 0 < n → not (n == 0) ≡ true
 not_empty n some = grind (arith, nat_tests)
@@ -119,8 +111,7 @@ filter-words (word ∷ words) are = rw (not_empty (length word) are.0.some, filt
 
 -- words with one space between each two are the words of their line
 pub words_of-join : (word : List ℕ) (words : List (List ℕ)) → AreWords (word ∷ words) → words_of (join_with_byte 32 (word ∷ words)) ≡ word ∷ words
-words_of-join word words are =
-    ap (λ pieces. filter (λ word. not (length word == 0)) pieces) (slice_split-join word words are) ∙ filter-words (word ∷ words) are
+words_of-join word words are = grind (arith, common_steps, slice_split-join, filter-words)
 
 printable_byte : (byte : ℕ) → 33 ≤ byte → byte ≤ 122 → (nat_le 32 byte && nat_le byte 126) ≡ true
 printable_byte byte low high = grind (arith, nat_tests)
@@ -151,8 +142,7 @@ length-join word [] = omega arith
 length-join word (next ∷ words) = omega (arith, length-append word (32 ∷ join_with_byte 32 (next ∷ words)), length-join next words)
 
 is_comment-digit : (word : List ℕ) → 48 ≤ get_or word 0 0 → is_comment word ≡ false
-is_comment-digit [] low = refl
-is_comment-digit (byte ∷ bytes) low = grind (arith, nat_tests)
+is_comment-digit word low = grind (arith, common_steps, nat_tests)
 
 IsWord-access_word : (access : Access) → IsWord (access_word access)
 IsWord-access_word R = IsWord-tested (access_word R) refl
@@ -220,27 +210,11 @@ AreWords-request_words limits (Lk fd cmd lock) writable = (
   ),
 )
 
-length-access_word : (access : Access) → length (access_word access) ≤ 2
-length-access_word access = grind (arith, common_steps)
-
-length-kind_word : (kind : Kind) → length (kind_word kind) ≤ 1
-length-kind_word kind = grind (arith, common_steps)
-
-length-whence_word : (whence : Whence) → length (whence_word whence) ≤ 3
-length-whence_word whence = grind (arith, common_steps)
-
-length-op_word : (op : FlockOp) → length (op_word op) ≤ 2
-length-op_word op = grind (arith, common_steps)
-
-length-lock_command_word : (cmd : LkCmd) → length (lock_command_word cmd) ≤ 7
-length-lock_command_word cmd = grind (arith, common_steps)
-
 pub length-descriptor : (fd : ℕ) → IsDescriptor fd → length (decimal fd) ≤ 10
 length-descriptor fd small = length-decimal-le 10 fd (lit< tt) (omega (arith, small)) (omega (arith, small))
 
 pub length-process : (limits : Limits) (p : ℕ) → IsProcess limits p → length (decimal p) ≤ 2
-length-process Small p is = length-decimal-le 2 p (lit< tt) (omega (arith, is.1)) (omega (arith, is.1))
-length-process Wide p is = length-decimal-le 2 p (lit< tt) (omega (arith, is.1)) (omega (arith, is.1))
+length-process limits p is = grind (arith, common_steps, length-decimal-le)
 
 pub length-signed_decimal : (z : ℤ) → FitsSigned w64 z → length (signed_decimal z) ≤ 20
 length-signed_decimal z fits = length_signed_le 19 z (omega (arith, fits.sfits)) (omega (arith, fits.sfits))
@@ -253,34 +227,15 @@ more_length-pid_words (negsuc n) fits = omega (arith, length-signed_decimal (neg
 
 more_length-nb_words : (nb : Bool) → more_length (nb_words nb) ≤ 3
 unfolding more_length
-more_length-nb_words true = lit≤ tt
-more_length-nb_words false = lit≤ tt
+more_length-nb_words nb = grind (arith, common_steps)
 
 pub more_length-request_words : (limits : Limits) (request : Request) → IsWritable limits request → more_length (request_words request) ≤ 118
 unfolding more_length
 more_length-request_words limits request h =
-    grind (arith, common_steps, length-decimal-le, length-access_word, length-descriptor, length-signed_decimal, length-op_word, more_length-nb_words, length-process, length-lock_command_word, length-kind_word, length-whence_word, more_length-pid_words)
-
--- words with as many arguments as their command has, which are a request, are read as it
-gives_named : (limits : Limits) (name : List ℕ) (arguments : List (List ℕ)) (command : Command) (request : Request) → command_named limits name ≡ Some command
-    → has_count command (length arguments) ≡ true → IsRequest limits (name ∷ arguments) request → RequestGives limits (name ∷ arguments) (Ok request)
-gives_named limits name arguments command request named counted is = rw (named, counted) (inr (request, is, refl))
-
--- a lock command has so many arguments, with a pid and without
-lock_counted : (name : List ℕ) (fd : ℕ) (lock : Lock) (pid : ℤ) → has_count (lock_command name) (length (lock_words fd lock ++ pid_words pid)) ≡ true
-lock_counted name fd lock pid = grind (arith, common_steps)
-
--- flock has so many arguments, with `nb` and without
-flock_counted : (fd : ℕ) (op : FlockOp) (nb : Bool) → has_count flock_command (length (drop 1 (request_words (Flock fd op nb)))) ≡ true
-flock_counted fd op true = refl
-flock_counted fd op false = refl
-
--- the words of a request are that request
-is_written : (limits : Limits) (request : Request) → IsWritable limits request → IsRequest limits (request_words request) request
-is_written limits request writable = record { says = inl refl; writable = writable }
+    grind (arith, common_steps, length-decimal-le, length-descriptor, length-signed_decimal, more_length-nb_words, length-process, more_length-pid_words)
 
 pub gives_request : (limits : Limits) (request : Request) → IsWritable limits request → RequestGives limits (request_words request) (Ok request)
-gives_request limits request h = grind (arith, common_steps, is_written, gives_named, lock_named, lock_counted, flock_counted)
+gives_request limits request h = grind (arith, common_steps)
 
 reads_words : (reading : Reading) (p : ℕ) (words : List (List ℕ)) (request : Request) → IsProcess (limits_of reading) p
     → RequestGives (limits_of reading) words (Ok request)
@@ -294,8 +249,7 @@ reads_words reading p words request process gives =
 reads_line : (reading : Reading) (line : List ℕ) (words : List (List ℕ)) (said : Line) → length line ≤ line_limit → is_printable line ≡ true
     → words_of line ≡ words
     → WordsGive reading words (Ok said) → LineGives reading line (Ok said)
-reads_line reading line words said short printable are gives =
-    rw (le-ltb line_limit (length line) short, printable, are) gives
+reads_line reading line words said short printable are gives = grind (arith, common_steps, le-ltb)
 
 -- a word, a space and the text of a request are the words in one text
 pub join_cons : (word : List ℕ) (request : Request) → word ++ codes " " ++ request_text request ≡ join_with_byte 32 (word ∷ request_words request)

@@ -1,6 +1,6 @@
 -- The entries of an output can be written, and are a run: for `outputs_are_legal` and `outputs_are_short`.
 use Rattle.std.proofs.lemmas.Grind.{common_steps}
-use Rattle.std.proofs.Common.{rules, ◌≡◌, ℕ, zero, suc, ◌+◌, ◌^◌, ◌<◌, ◌≤◌, ◌==◌, List, [], ◌∷◌, ◌++◌, length, length-append, All, Some, None, IfSome, slice_get, ⊎_elim, refl, sym, ap, ap₂, ◌∙◌, subst, arith, eq-eqb, ne_eqb, append_assoc, append-nil}
+use Rattle.std.proofs.Common.{rules, ◌≡◌, ℕ, zero, suc, ◌+◌, ◌^◌, ◌<◌, ◌≤◌, ◌==◌, List, [], ◌∷◌, ◌++◌, length, length-append, All, Some, None, IfSome, slice_get, ⊎_elim, refl, sym, ap, ◌∙◌, subst, arith, eq-eqb, ne_eqb, append_assoc, append-nil}
 use Rattle.std.specs.List.{AllByRecursion as Each}
 use Rattle.std.proofs.lemmas.Bool.{cases_eq}
 use Rattle.std.proofs.lemmas.List.Elements.{All-from_recursion, recursion_from_All, filter-append}
@@ -66,8 +66,7 @@ SentOf P p arrivals =
 
 sent_here : (P : ℕ × Request → Type 0) (p q : ℕ) (first : Request) (arrivals : List (ℕ × Request)) (k : ℕ) (request : Request) → q ≡ p
     → P (q, first) → SentOf P p arrivals → slice_get (first ∷ requests_sent p arrivals) k ≡ Some request → P (p, request) × (k < length arrivals + 1)
-sent_here P p q first arrivals zero request same own later is =
-    let this : first ≡ request = cc in (subst P (ap₂ (λ (a : ℕ) (b : Request). (a, b)) same this) own, omega arith)
+sent_here P p q first arrivals zero request same own later is = grind (arith, common_steps)
 sent_here P p q first arrivals (suc k) request same own later is =
     let rest = later k request is in let below = rest.1 in (rest.0, omega (arith, below))
 
@@ -174,9 +173,7 @@ takes_run rules processes sent events S (event ∷ more) T numbered (next, betwe
 drains_run : (rules : Rules) (processes : ℕ) (arrived : List (ℕ × Request)) (events : List Event) (S : State) (later : List (ℕ × Request))
     (journal : List Event) (T : State) → Leads rules processes opening_state events S → AreNumbered events
     → DrainsFrom rules processes arrived events S later journal T → IsRun rules processes journal T
-drains_run rules processes arrived events S [] journal T leads numbered drains =
-    subst (λ l. IsRun rules processes l T) (sym drains.0)
-    (subst (λ X. IsRun rules processes events X) (sym drains.1) (record { leads = leads; numbered = numbered }))
+drains_run rules processes arrived events S [] journal T leads numbered drains = grind (arith, common_steps)
 drains_run rules processes arrived events S (arrival ∷ later) journal T leads numbered (more, between, takes, rest) =
     let first = takes_run rules processes (λ p. requests_sent p (arrived ++ arrival ∷ [])) events S more between numbered takes.0 in
     drains_run rules processes (arrived ++ arrival ∷ []) (events ++ more) between later journal T
@@ -186,8 +183,7 @@ drains_run rules processes arrived events S (arrival ∷ later) journal T leads 
 
 pub run_of_output : (bytes text : List ℕ) (output : IsOutput bytes text)
     → IsRun output.script.rules (processes_in output.script) output.journal output.state
-run_of_output bytes text output =
-    drains_run output.script.rules (processes_in output.script) [] [] opening_state output.script.arrivals output.journal output.state refl (λ p place. tt) output.drained
+run_of_output bytes text output = grind (arith, common_steps, drains_run)
 
 opening_fits : (rules : Rules) → Fits rules.limits opening_state × IsSettled rules.policy opening_state
 unfolding opening_state opening_descriptors

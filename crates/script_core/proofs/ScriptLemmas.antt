@@ -1,6 +1,6 @@
 -- The lines of a script: for `parse` and `read_lines`.
 use Rattle.std.proofs.lemmas.Grind.{common_steps}
-use Rattle.std.proofs.Common.{◌≡◌, ◌≢◌, ℕ, ◌+◌, ◌<◌, List, [], ◌∷◌, ◌++◌, length, drop, get_or, Result, Ok, Err, Bool, true, false, cond, ◌==◌, MatchBool, MatchResult, ◌⊎◌, inl, inr, ◌≤◌, refl, sym, ap, ◌∙◌, subst, arith, add-one, drop-cons}
+use Rattle.std.proofs.Common.{◌≡◌, ◌≢◌, ℕ, ◌+◌, ◌<◌, List, [], ◌∷◌, ◌++◌, length, drop, get_or, Result, Ok, Err, Bool, true, cond, ◌==◌, MatchBool, MatchResult, ◌⊎◌, inl, inr, ◌≤◌, refl, sym, ap, ◌∙◌, subst, arith, add-one, drop-cons}
 use Rattle.std.specs.List.{slice_split, onto_first, enumerate_from}
 use Rattle.std.proofs.lemmas.List.{drop_all}
 use Rattle.std.proofs.lemmas.List.FromFn.{length-enumerate_from, get_or-enumerate_from}
@@ -49,8 +49,7 @@ pub record HasFirst (parts : List (List ℕ)) : Type 0 where
   pub is : parts ≡ first ∷ rest
 
 HasFirst-cons : (test : Bool) (byte : ℕ) (parts : List (List ℕ)) → HasFirst parts → HasFirst (cond test ([] ∷ parts) (onto_first byte parts))
-HasFirst-cons true byte parts given = record { first = []; rest = parts; is = refl }
-HasFirst-cons false byte parts given = record { first = byte ∷ given.first; rest = given.rest; is = ap (onto_first byte) given.is }
+HasFirst-cons test byte parts given = grind (arith, common_steps)
 
 pub HasFirst-slice_split : (bytes : List ℕ) → HasFirst (slice_split (λ byte. byte == 10) bytes)
 HasFirst-slice_split [] = record { first = []; rest = []; is = refl }
@@ -61,13 +60,11 @@ onto_first-append byte parts given = rw given.is refl
 
 split_more : (test : Bool) (byte : ℕ) (parts more : List (List ℕ)) → HasFirst parts → more ≡ parts ++ [] ∷ []
     → cond test ([] ∷ more) (onto_first byte more) ≡ cond test ([] ∷ parts) (onto_first byte parts) ++ [] ∷ []
-split_more true byte parts more given e = ap (λ ps. [] ∷ ps) e
-split_more false byte parts more given e = ap (onto_first byte) e ∙ onto_first-append byte parts given
+split_more test byte parts more given e = grind (arith, common_steps, onto_first-append)
 
 slice_split-feed : (bytes : List ℕ) → slice_split (λ byte. byte == 10) (bytes ++ 10 ∷ []) ≡ slice_split (λ byte. byte == 10) bytes ++ [] ∷ []
 slice_split-feed [] = refl
-slice_split-feed (byte ∷ bytes) =
-    split_more (byte == 10) byte (slice_split (λ byte. byte == 10) bytes) (slice_split (λ byte. byte == 10) (bytes ++ 10 ∷ [])) (HasFirst-slice_split bytes) (slice_split-feed bytes)
+slice_split-feed (byte ∷ bytes) = grind (arith, common_steps, split_more, HasFirst-slice_split, slice_split-feed bytes)
 
 without_empty_end-append : (parts : List (List ℕ)) → without_empty_end (parts ++ [] ∷ []) ≡ parts
 without_empty_end-append [] = refl
@@ -85,24 +82,20 @@ pub record IsFull (parts : List (List ℕ)) : Type 0 where
   pub is : without_empty_end parts ≡ parts
 
 tail_of : List (List ℕ) → List (List ℕ)
-tail_of [] = []
-tail_of (part ∷ parts) = parts
+tail_of h = grind (arith, common_steps)
 
 IsFull-empty : (parts : List (List ℕ)) → HasFirst parts → IsFull parts → IsFull ([] ∷ parts)
-IsFull-empty [] given full = absurd (let e = given.is in cc)
-IsFull-empty (part ∷ parts) given full = record { is = ap (λ ps. [] ∷ ps) full.is }
+IsFull-empty parts given full = grind (arith, common_steps)
 
 IsFull-onto_first : (byte : ℕ) (parts : List (List ℕ)) → HasFirst parts → IsFull parts → IsFull (onto_first byte parts)
 unfolding tail_of
 IsFull-onto_first byte parts h h2 = grind (arith, common_steps, tail_of)
 
 IsFull-cons : (test : Bool) (byte : ℕ) (parts : List (List ℕ)) → HasFirst parts → IsFull parts → IsFull (cond test ([] ∷ parts) (onto_first byte parts))
-IsFull-cons true byte parts given full = IsFull-empty parts given full
-IsFull-cons false byte parts given full = IsFull-onto_first byte parts given full
+IsFull-cons test byte parts given full = grind (arith, common_steps, IsFull-empty, IsFull-onto_first)
 
 single : (test : Bool) (byte : ℕ) → (test ≡ true → ⊥) → IsFull (cond test ([] ∷ [] ∷ []) ((byte ∷ []) ∷ []))
-single true byte other = absurd (other refl)
-single false byte other = record { is = refl }
+single test byte other = grind (arith, common_steps)
 
 IsFull-slice_split : (byte : ℕ) (bytes : List ℕ) → ((front : List ℕ) → byte ∷ bytes ≢ front ++ 10 ∷ [])
     → IsFull (slice_split (λ byte. byte == 10) (byte ∷ bytes))
@@ -123,8 +116,7 @@ says_arrival (Err cause) = ⊥
 -- an empty line is no arrival
 no_arrival : (at_hand : ℕ) → ComesTo 1 start ([] ∷ []) at_hand → ComesTo 1 start [] at_hand
 unfolding says_arrival
-no_arrival at_hand (said, gives, inl here) = subst says_arrival gives here.1
-no_arrival at_hand (said, gives, inr later) = later
+no_arrival at_hand h = grind (arith, common_steps, says_arrival)
 
 -- what holds of the pieces holds of the lines, if an empty line at the end says nothing of it
 of_lines : (P : List (List ℕ) → Type 0) → (P ([] ∷ []) → P []) → (bytes body : List ℕ)
@@ -132,9 +124,7 @@ of_lines : (P : List (List ℕ) → Type 0) → (P ([] ∷ []) → P []) → (by
     → P (slice_split (λ byte. byte == 10) body) → P (lines_of bytes)
 of_lines P empty bytes body (inl fed) given = rw (fed, lines_of-feed body) given
 of_lines P empty [] body (inr other) given = empty (rw other.0 at given)
-of_lines P empty (byte ∷ bytes) body (inr other) given =
-    let full = IsFull-slice_split byte bytes other.1 in
-    rw full.is (rw other.0 at given)
+of_lines P empty (byte ∷ bytes) body (inr other) given = grind (arith, common_steps, IsFull-slice_split)
 
 -- the line at hand is one of those that there are
 comes_within : (number : ℕ) (reading : Reading) (lines : List (List ℕ)) (at_hand : ℕ) → ComesTo number reading lines at_hand → at_hand < number + length lines

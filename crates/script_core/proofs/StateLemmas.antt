@@ -1,7 +1,6 @@
 -- The lines of a state, one after another: for `write_explained`, clause `ok`; and what words ask for no state: for `States::of_word`.
 use Rattle.std.proofs.lemmas.Grind.{common_steps}
-use Rattle.std.proofs.Common.{ℕ, ◌≡◌, ◌+◌, List, [], ◌++◌, sym, arith, append_assoc, append-nil, add-one, Option, decimal, flat_map}
-use Rattle.std.specs.Prelude.{OnErr, Result, Ok, Err}
+use Rattle.std.proofs.Common.{ℕ, ◌≡◌, ◌+◌, List, [], ◌++◌, sym, arith, append_assoc, append-nil, add-one, Option, decimal, flat_map, OnErr, Result}
 use Rattle.std.proofs.lemmas.Fmt.{decimal_digit, decimal_injective}
 use Rattle.fd_table.specs.declared.tables.Look.{Look}
 use Rattle.fd_table.specs.Descriptors.{Descriptors, look_at}
@@ -17,7 +16,6 @@ use Rattle.script_core.specs.ReportText.{held_line, wait_line}
 use Rattle.script_core.specs.Output.{Extends}
 use Rattle.script_core.specs.StateText.{AsksForNoState, IsStateText, told_line, standing_line, standing_lines, descriptor_line, descriptor_lines, all_descriptor_lines}
 use Rattle.script_core.proofs.ExplainLemmas.{and_then}
-use Rattle.script_core.proofs.TextLemmas.{kept_behind}
 
 -- where no process stands
 pub none_standing : (states : ℕ → ProcState) (old : List ℕ) → old ≡ old ++ standing_lines states 0
@@ -44,9 +42,6 @@ more_open D p old mid new index look h h2 h3 = grind (arith, common_steps, appen
 -- nothing was appended, and then something
 pub nothing_more : (old : List ℕ) → Extends old old
 nothing_more old = record { more = []; is = sym (append-nil old) }
-
-pub something_more : (old mid new piece : List ℕ) → Extends old mid → new ≡ mid ++ piece → Extends old new
-something_more old mid new piece kept is = kept_behind old mid new kept.more kept.is (record { more = piece; is = is })
 
 -- the lines of no process' descriptors, and of one process more
 pub none_open_anywhere : (D : Descriptors) (descriptors : ℕ) (old : List ℕ) → old ≡ old ++ all_descriptor_lines D descriptors 0
@@ -79,5 +74,4 @@ zero_asks_for_none word is = grind (arith, common_steps, decimal_digit, decimal_
 
 -- what holds anyhow holds where a call failed
 pub if_failed : {A E : Type 0} (r : Result A E) (P : Type 0) → P → OnErr r P
-if_failed (Ok unit) P holds = tt
-if_failed (Err error) P holds = holds
+if_failed r P holds = grind (arith, common_steps)

@@ -1,6 +1,6 @@
 -- Texts in pieces: for `push_all_unborn`, `push_cycle`, `push_descriptors` and others.
 use Rattle.std.proofs.lemmas.Grind.{common_steps}
-use Rattle.std.proofs.Common.{◌≡◌, ◌∙◌, ℕ, ◌+◌, ◌-◌, ◌≤◌, List, [], ◌∷◌, ◌++◌, length, take, drop, set, flat_map, Result, Ok, Err, MatchResult, sym, ap, arith, append_assoc, append-nil, length-drop}
+use Rattle.std.proofs.Common.{◌≡◌, ℕ, ◌+◌, ◌-◌, ◌≤◌, List, [], ◌∷◌, ◌++◌, length, take, drop, set, flat_map, Result, MatchResult, sym, ap, arith, append_assoc, append-nil, length-drop}
 use Rattle.std.specs.List.{join_with_byte}
 use Rattle.std.proofs.lemmas.List.{drop-set}
 use Rattle.std.proofs.Math.Seq.{take-append_seam}
@@ -13,15 +13,13 @@ join_words word (next ∷ words) = ap (λ rest. word ++ 32 ∷ rest) (join_words
 
 -- what stays where a later piece is refused
 pub kept_behind : (old mid new front : List ℕ) → mid ≡ old ++ front → Extends mid new → Extends old new
-kept_behind old mid new front is kept =
-    record { more = front ++ kept.more; is = kept.is ∙ ap (λ l. l ++ kept.more) is ∙ append_assoc old front kept.more }
+kept_behind old mid new front is kept = grind (arith, common_steps, append_assoc)
 
 -- one more piece behind a front that was appended
 pub then_pushed : {A E : Type 0} (r : Result A E) (old mid new front piece : List ℕ) → mid ≡ old ++ front
     → MatchResult r (λ unit. new ≡ mid ++ piece) (λ error. Extends mid new)
     → MatchResult r (λ unit. new ≡ old ++ (front ++ piece)) (λ error. Extends old new)
-then_pushed (Ok unit) old mid new front piece is pushed = pushed ∙ ap (λ l. l ++ piece) is ∙ append_assoc old front piece
-then_pushed (Err error) old mid new front piece is kept = kept_behind old mid new front is kept
+then_pushed r old mid new front piece is pushed = grind (arith, common_steps, append_assoc, kept_behind)
 
 -- what is cut back to the old bytes has no more of the text
 pub cut_back : (old new cut text : List ℕ) (len : ℕ) → Extends old new → len ≡ length old → cut ≡ take len new → AppendsPartOf old cut text

@@ -1,20 +1,18 @@
 -- The arrivals of a script: their lines take no more bytes than it has, and each has seven with its line feed: for `outputs_are_short`.
 use Rattle.std.proofs.lemmas.Grind.{common_steps}
-use Rattle.std.proofs.Common.{◌≡◌, ℕ, ◌+◌, ◌*◌, ◌≤◌, Bool, true, false, List, [], ◌∷◌, ◌++◌, length, filter, Ok, Err, ap, arith}
-use Rattle.std.specs.Prelude.{if◌then◌else◌}
+use Rattle.std.proofs.Common.{◌≡◌, ℕ, ◌+◌, ◌*◌, ◌≤◌, Bool, List, [], ◌∷◌, ◌++◌, length, filter, Ok, Err, ap, arith}
 use Rattle.std.specs.List.{AllByRecursion as Each, slice_split, onto_first}
 use Rattle.std.proofs.lemmas.Bool.{ltb-false}
 use Rattle.std.proofs.lemmas.List.Elements.{recursion_from_All}
 use Rattle.std.proofs.lemmas.List.Splits.{length-slice_split}
 use Rattle.fd_table.specs.declared.Limits.{Limits}
-use Rattle.lock_manager.specs.declared.request.LkCmd.{LkCmd}
 use Rattle.lock_manager.specs.declared.request.Request.{Request}
 use Rattle.script_core.specs.declared.line.Line.{Line}
 use Rattle.script_core.specs.declared.line.Line.TheVariants as lines
-use Rattle.script_core.specs.RequestText.{lock_command_word, request_words}
+use Rattle.script_core.specs.RequestText.{request_words}
 use Rattle.script_core.specs.ScriptText.{Meaning, IsWritable, Says}
 use Rattle.script_core.specs.Words.{without_empty_end, lines_of, words_of, script_limit}
-use Rattle.script_core.specs.Reading.{Reading, LineGives, LinesGive, Reads, limits_of, meaning_of, reading_after}
+use Rattle.script_core.specs.Reading.{Reading, LineGives, LinesGive, Reads, limits_of, reading_after}
 use Rattle.script_core.proofs.RoundTripLemmas.{more_length, IsWord-process, IsWord-descriptor}
 use Rattle.script_core.proofs.ProcessLemmas.{IsArrivalOf, accepted, success, arrival_said, arrivals_read}
 
@@ -23,32 +21,19 @@ use Rattle.script_core.proofs.ProcessLemmas.{IsArrivalOf, accepted, success, arr
 -- a byte more of the first piece is one more of all
 onto_length : (byte : ℕ) (pieces : List (List ℕ)) → 1 ≤ length pieces → more_length (onto_first byte pieces) ≡ more_length pieces + 1
 unfolding more_length
-onto_length byte [] some = absurd (omega (arith, some))
-onto_length byte (piece ∷ pieces) some = omega arith
+onto_length byte pieces some = grind (arith, common_steps)
 
 -- pieces, each with a byte more, have one more than what was cut
 split_length : (test : ℕ → Bool) (bytes : List ℕ) → more_length (slice_split test bytes) ≡ length bytes + 1
 unfolding more_length
 split_length test [] = omega arith
-split_length test (byte ∷ bytes) =
-    let rest = split_length test bytes in
-    let pieces = length-slice_split test bytes in
-    let more = onto_length byte (slice_split test bytes) (omega (arith, pieces)) in
-    elim (test byte) as (λ b. more_length (if b then [] ∷ slice_split test bytes else onto_first byte (slice_split test bytes)) ≡ length (byte ∷ bytes) + 1) [
-      | true ↦ omega (arith, rest)
-      | false ↦ omega (arith, rest, more)
-    ]
+split_length test (byte ∷ bytes) = grind (arith, common_steps, length-slice_split, onto_length, more_length, split_length test bytes)
 
 -- some of the words have no more bytes than all
 filter_length : (test : List ℕ → Bool) (words : List (List ℕ)) → more_length (filter test words) ≤ more_length words
 unfolding more_length
 filter_length test [] = omega arith
-filter_length test (word ∷ words) =
-    let rest = filter_length test words in
-    elim (test word) as (λ b. more_length (if b then word ∷ filter test words else filter test words) ≤ more_length (word ∷ words)) [
-      | true ↦ omega (arith, rest)
-      | false ↦ omega (arith, rest)
-    ]
+filter_length test (word ∷ words) = grind (arith, common_steps, more_length, filter_length test words)
 
 -- nor have the pieces without an empty end
 without_end_length : (pieces : List (List ℕ)) → more_length (without_empty_end pieces) ≤ more_length pieces
@@ -79,14 +64,10 @@ lines_length bytes = grind (arith, common_steps, split_length, without_end_lengt
 abbrev pub request_length : Request → ℕ
 request_length request = 2 + more_length (request_words request)
 
--- the word of a lock command has five bytes or more
-command_length : (cmd : LkCmd) → 5 ≤ length (lock_command_word cmd)
-command_length cmd = grind (arith, common_steps)
-
 -- it has seven: none is shorter than that of `1 exit`
 pub seven_bytes : (limits : Limits) (request : Request) → IsWritable limits request → 7 ≤ request_length request
 unfolding more_length
-seven_bytes limits request h = grind (arith, common_steps, IsWord-descriptor, command_length)
+seven_bytes limits request h = grind (arith, common_steps, IsWord-descriptor)
 
 -- words that say it are no shorter than its own
 said_length : (words : List (List ℕ)) (request : Request) → Says words request → more_length (request_words request) ≤ more_length words
@@ -127,27 +108,21 @@ grows reading line said h = grind (arith, common_steps, one_more_length, arrival
 in_lines : (number : ℕ) (reading : Reading) (lines : List (List ℕ)) (meaning : Meaning) → LinesGive number reading lines (Ok meaning)
     → arrivals_length meaning.arrivals ≤ arrivals_length reading.arrivals + more_length lines
 unfolding more_length
-in_lines number reading [] meaning gives =
-    let same = ap (λ (m : Meaning). arrivals_length m.arrivals) (success meaning (meaning_of reading) gives) in omega (arith, same)
+in_lines number reading [] meaning gives = grind (arith, common_steps, success)
 in_lines number reading (line ∷ rest) meaning (Ok said, gives, more) =
-    let later = in_lines (number + 1) (reading_after reading said) rest meaning more in
-    let one = grows reading line said gives in
-    omega (arith, later, one)
+    grind (arith, common_steps, grows, in_lines (number + 1) (reading_after reading said) rest meaning more)
 in_lines number reading (line ∷ rest) meaning (Err cause, gives, refused) = absurd (cc)
 
 -- the requests of an accepted script take no more bytes than it may have, and a line feed
 pub read_length : (bytes : List ℕ) (meaning : Meaning) → Reads bytes (Ok meaning) → arrivals_length meaning.arrivals ≤ script_limit + 1
 unfolding arrivals_length
-read_length bytes meaning reads = grind (arith, common_steps, accepted, ltb-false, in_lines, lines_length)
+read_length bytes meaning reads = grind (arith, common_steps, accepted, ltb-false, in_lines, split_length, without_end_length)
 
 -- each arrival takes seven
 seventh : (limits : Limits) (arrivals : List (ℕ × Request)) → Each (IsArrivalOf limits) arrivals → 7 * length arrivals ≤ arrivals_length arrivals
 unfolding arrivals_length
 seventh limits [] are = omega arith
-seventh limits (arrival ∷ arrivals) are =
-    let rest = seventh limits arrivals are.1 in
-    let own = seven_bytes limits arrival.1 are.0.1 in
-    omega (arith, rest, own)
+seventh limits (arrival ∷ arrivals) are = grind (arith, common_steps, seven_bytes, seventh limits arrivals)
 
 -- so its arrivals are no more than that
 pub few_read : (bytes : List ℕ) (meaning : Meaning) → Reads bytes (Ok meaning) → length meaning.arrivals ≤ script_limit + 1

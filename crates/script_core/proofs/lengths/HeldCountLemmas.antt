@@ -4,7 +4,6 @@ use Rattle.std.proofs.Common.{◌≡◌, ◌≢◌, ℕ, zero, suc, ◌+◌, ◌
 use Rattle.std.specs.Prelude.{⊤, IsFalse}
 use Rattle.std.specs.List.{AllByRecursion as Each}
 use Rattle.std.proofs.lemmas.List.Elements.{recursion_from_All}
-use Rattle.range_core.specs.declared.Span.{Span}
 use Rattle.range_core.specs.Ranges.{IsRun}
 use Rattle.lock_book.specs.declared.Owner.{Owner}
 use Rattle.lock_book.specs.declared.Owner.TheVariants.{Process, Description}
@@ -48,13 +47,7 @@ without (first ∷ xs) x (inr later) =
 -- lines that begin apart, each at one of these starts, are no more than these
 no_more : (lines : List Held) (starts : List Start) → BeginApart lines → Each (λ line. IsOneOf (start_of line) starts) lines → length lines ≤ length starts
 no_more [] starts apart among = omega arith
-no_more (line ∷ lines) starts apart among =
-    let rest = without starts (start_of line) among.0 in
-    let fewer = rest.1.fewer in
-    let later = no_more lines rest.0 apart.1
-    (each_both (λ (other : Held). start_of other ≢ start_of line) (λ other. IsOneOf (start_of other) starts) (λ other. IsOneOf (start_of other) rest.0) lines
-    (λ other differs is. rest.1.others (start_of other) differs is) apart.0 among.1) in
-    omega (arith, fewer, later)
+no_more (line ∷ lines) starts apart among = grind (arith, common_steps, without, each_both, no_more lines)
 
 -- ---- lines that begin apart
 
@@ -67,11 +60,7 @@ record AreBegun (starts : List Start) (Is : Held → Type 0) (lines : List Held)
 apart_append : (First Second : Held → Type 0) (xs ys : List Held) → ((x y : Held) → First x → Second y → start_of y ≢ start_of x)
     → Each First xs → Each Second ys → BeginApart xs → BeginApart ys → BeginApart (xs ++ ys)
 apart_append First Second [] ys differ firsts seconds apart later = later
-apart_append First Second (x ∷ xs) ys differ firsts seconds apart later = (
-  each_append (λ (other : Held). start_of other ≢ start_of x) xs ys apart.0
-      (each_map Second (λ (other : Held). start_of other ≢ start_of x) ys (λ y second. differ x y firsts.0 second) seconds),
-  apart_append First Second xs ys differ firsts.1 seconds apart.1 later,
-)
+apart_append First Second (x ∷ xs) ys differ firsts seconds apart later = grind (arith, common_steps, each_append, each_map, apart_append First Second xs)
 
 begun_append : (starts : List Start) (First Second Is : Held → Type 0) (xs ys : List Held) → ((x y : Held) → First x → Second y → start_of y ≢ start_of x)
     → ((x : Held) → First x → Is x) → ((y : Held) → Second y → Is y) → AreBegun starts First xs → AreBegun starts Second ys → AreBegun starts Is (xs ++ ys)
@@ -103,8 +92,7 @@ not_before_itself (Description d) before = omega (arith, before)
 
 -- another owner
 owners_differ : (x y : Held) → IsBefore x.owner y.owner → start_of y ≢ start_of x
-owners_differ x y before same =
-    not_before_itself x.owner (subst (λ (owner : Owner). IsBefore x.owner owner) (ap (λ (start : Start). start.owner) same) before)
+owners_differ x y before same = grind (arith, common_steps, not_before_itself)
 
 byte_begun : (changes : List Change) (flocks : List FlockChange) (file : ℕ) (lines : List Held) → Each FitsChange changes
     → AreByteLocks file (mode_in changes file) lines → AreBegun (starts_in changes flocks) (IsKindOn file false) lines
@@ -119,11 +107,7 @@ byte_begun changes flocks file lines fits are =
     differ : (x y : Held) → IsByteLine changes file x → IsBefore x.owner y.owner ⊎ ((x.owner ≡ y.owner) × (x.span.last < y.span.first))
         → start_of y ≢ start_of x
     differ x y is (inl before) same = owners_differ x y before same
-    differ x y is (inr behind) same =
-        let covered = is.2.covered.1 in
-        let later = behind.1 in
-        let at : y.span.first ≡ x.span.first = ap (λ (start : Start). start.byte) same in
-        omega (arith, covered, later, at)
+    differ x y is (inr behind) same = grind (arith, common_steps)
 
     at_start : (line : Held) → IsByteLine changes file line → IsOneOf (start_of line) (starts_in changes flocks)
     at_start line is =
@@ -145,12 +129,7 @@ flock_begun changes flocks file lines are =
   where
     at_start : (line : Held) → IsFlockLine file (flock_mode_in flocks file) line
         → IsOneOf (start_of line) (starts_in changes flocks)
-    at_start line is =
-        let first : line.span.first ≡ 0 = ap (λ (span : Span). span.first) is.span in
-        let same : flock_start file is.description ≡ start_of line = rw (is.same_file, is.whole, is.owner, first) refl in
-        in_back (start_of line) (flat_map starts_of changes) (flat_map flock_starts_of flocks)
-        (subst (λ (start : Start). IsOneOf start (flat_map flock_starts_of flocks)) same
-        (flock_has_start flocks file is.description line.mode is.mode))
+    at_start line is = grind (arith, common_steps, flock_start, in_back, starts_of, flock_starts_of, flock_has_start)
 
 file_begun : (changes : List Change) (flocks : List FlockChange) (file : ℕ) (report : List Held) → Each FitsChange changes
     → IsFileReport file (mode_in changes file) (flock_mode_in flocks file) report
@@ -167,9 +146,7 @@ file_begun changes flocks file report fits is =
 files_begun : (changes : List Change) (flocks : List FlockChange) (file more : ℕ) (report : List Held) → Each FitsChange changes
     → AreFileReports file more (mode_in changes) (flock_mode_in flocks) report
     → AreBegun (starts_in changes flocks) (λ line. file ≤ line.file) report
-files_begun changes flocks file zero report fits is =
-    subst (AreBegun (starts_in changes flocks) (λ (line : Held). file ≤ line.file)) (sym is)
-    (record { apart = tt; among = tt; each = tt })
+files_begun changes flocks file zero report fits is = grind (arith, common_steps, starts_in)
 files_begun changes flocks file (suc more) report fits (first, rest, is, one, others) =
     subst (AreBegun (starts_in changes flocks) (λ (line : Held). file ≤ line.file)) (sym is)
     (begun_append (starts_in changes flocks) (λ (line : Held). line.file ≡ file) (λ (line : Held). file + 1 ≤ line.file)

@@ -28,10 +28,7 @@ events_length (event ∷ events) = request_length event.request + events_length 
 pub events_seventh : (limits : Limits) (events : List Event) → Each (IsWritableEvent limits) events → 7 * length events ≤ events_length events
 unfolding events_length
 events_seventh limits [] writable = omega arith
-events_seventh limits (event ∷ events) writable =
-    let rest = events_seventh limits events writable.1 in
-    let own = seven_bytes limits event.request writable.0.request in
-    omega (arith, rest, own)
+events_seventh limits (event ∷ events) writable = grind (arith, common_steps, seven_bytes, events_seventh limits events)
 
 -- ---- what was taken
 

@@ -1,14 +1,12 @@
 -- Where held locks begin: each one at a start that some change made, and a change makes two at most: for `outputs_are_short`.
 use Rattle.std.proofs.lemmas.Grind.{common_steps}
-use Rattle.std.proofs.Common.{◌≡◌, ◌≢◌, ℕ, zero, suc, ◌+◌, ◌<◌, ◌≤◌, ◌==◌, ◌&&◌, ◌⊎◌, Bool, true, false, List, [], ◌∷◌, ◌++◌, length, length-append, flat_map, Option, Some, None, inl, inr, ⊎_elim, refl, sym, ◌∙◌, subst, arith, eq-eqb, eqb-true, leb-true, le-leb, eq-or-lt_of_le}
-use Rattle.std.specs.Prelude.{if◌then◌else◌}
+use Rattle.std.proofs.Common.{◌≡◌, ◌≢◌, ℕ, zero, suc, ◌+◌, ◌<◌, ◌≤◌, ◌==◌, ◌⊎◌, Bool, true, false, List, [], ◌∷◌, ◌++◌, length, length-append, flat_map, Option, Some, None, inl, inr, ⊎_elim, refl, sym, ◌∙◌, subst, arith, eq-eqb, eqb-true, leb-true, le-leb, eq-or-lt_of_le, if◌then◌else◌}
 use Rattle.range_core.specs.declared.TheConstants.{OFFMAX}
 use Rattle.range_core.specs.declared.Mode.{Mode}
 use Rattle.range_core.specs.declared.Span.{Span}
 use Rattle.range_core.specs.Ranges.{Covers, IsRun}
 use Rattle.lock_book.specs.declared.Owner.{Owner}
-use Rattle.lock_book.specs.declared.Owner.TheVariants.{Process, Description}
-use Rattle.lock_book.specs.Owners.{is_same_owner}
+use Rattle.lock_book.specs.declared.Owner.TheVariants.{Description}
 use Rattle.lock_book.specs.Changes.{Change, FlockChange, sets_byte, mode_from, mode_in, flock_mode_from, flock_mode_in}
 use Rattle.script_core.proofs.OutcomeFitLemmas.{both_true}
 
@@ -73,17 +71,9 @@ in_back x (y ∷ xs) ys among = inr (in_back x xs ys among)
 -- one of what the later ones give, or else what is here of the first one
 go_on : {X A P Q : Type 0} (f : X → List A) (x : X) (xs : List X) (a : A) → IsOneOf a (flat_map f xs) ⊎ P → (P → IsOneOf a (f x) ⊎ Q)
     → IsOneOf a (flat_map f (x ∷ xs)) ⊎ Q
-go_on f x xs a (inl later) here = inl (in_back a (f x) (flat_map f xs) later)
-go_on f x xs a (inr first) here = ⊎_elim (λ now. inl (in_front a (f x) (flat_map f xs) now)) (λ q. inr q) (here first)
+go_on f x xs a h here = grind (arith, common_steps, in_back, in_front)
 
 -- ---- byte locks
-
-one_owner : (one other : Owner) → is_same_owner one other ≡ true → one ≡ other
-one_owner one other h = grind (arith, common_steps, eqb-true)
-
-owner_itself : (owner : Owner) → is_same_owner owner owner ≡ true
-owner_itself (Process p) = eq-eqb p p refl
-owner_itself (Description d) = eq-eqb d d refl
 
 -- the change is of this owner on this byte of this file
 record IsOn (change : Change) (file : ℕ) (owner : Owner) (byte : ℕ) : Type 0 where
@@ -93,10 +83,10 @@ record IsOn (change : Change) (file : ℕ) (owner : Owner) (byte : ℕ) : Type 0
 
 -- the change is on the byte just where it sets it
 set_on : (change : Change) (file : ℕ) (owner : Owner) (byte : ℕ) → sets_byte change file owner byte ≡ true → IsOn change file owner byte
-set_on change file owner byte sets = grind (arith, common_steps, both_true, eqb-true, one_owner, leb-true)
+set_on change file owner byte sets = grind (arith, common_steps, both_true, eqb-true, leb-true)
 
 on_set : (change : Change) (file : ℕ) (owner : Owner) (byte : ℕ) → IsOn change file owner byte → sets_byte change file owner byte ≡ true
-on_set change file owner byte on = grind (arith, common_steps, le-leb, eq-eqb, owner_itself)
+on_set change file owner byte on = grind (arith, common_steps, le-leb, eq-eqb)
 
 -- a change that sets a mode has a start at its first byte
 first_here : (change : Change) (file : ℕ) (owner : Owner) (byte : ℕ) (mode : Mode) → IsOn change file owner byte → change.span.first ≡ byte
@@ -202,27 +192,9 @@ flock_begins : (changes : List FlockChange) (held : Option Mode) (file descripti
     → flock_mode_from held changes file description ≡ Some mode
     → IsOneOf (flock_start file description) (flat_map flock_starts_of changes) ⊎ (held ≡ Some mode)
 flock_begins [] held file description mode is = inr is
-flock_begins (change ∷ changes) held file description mode is =
-    by_set ((change.file == file) && (change.description == description)) refl is (λ was is. flock_begins changes was file description mode is)
-  where
-    here : change.file ≡ file → change.description ≡ description → change.mode ≡ Some mode → IsOneOf (flock_start file description) (flock_starts_of change)
-    here same_file same_description sets =
-        let same : flock_start change.file change.description ≡ flock_start file description = rw (same_file, same_description) refl in
-        subst (λ (m : Option Mode). IsOneOf (flock_start file description) (set_at m (flock_start change.file change.description))) (sym sets) (inl same)
-
-    by_set : (this : Bool) → (change.file == file) && (change.description == description) ≡ this
-        → flock_mode_from (if this then change.mode else held) changes file description ≡ Some mode
-        → ((was : Option Mode) → flock_mode_from was changes file description ≡ Some mode
-        → IsOneOf (flock_start file description) (flat_map flock_starts_of changes) ⊎ (was ≡ Some mode))
-        → IsOneOf (flock_start file description) (flat_map flock_starts_of (change ∷ changes)) ⊎ (held ≡ Some mode)
-    by_set true this is again =
-        let both = both_true (change.file == file) (change.description == description) this in
-        go_on flock_starts_of change changes (flock_start file description) (again change.mode is)
-        (λ sets. inl (here (eqb-true change.file file both.0) (eqb-true change.description description both.1) sets))
-    by_set false this is again = go_on flock_starts_of change changes (flock_start file description) (again held is) (λ was. inr was)
+flock_begins (change ∷ changes) held file description mode is = grind (arith, common_steps, both_true, go_on, eqb-true, flock_begins changes)
 
 -- a flock lock that is held has a start
 pub flock_has_start : (changes : List FlockChange) (file description : ℕ) (mode : Mode) → flock_mode_in changes file description ≡ Some mode
     → IsOneOf (flock_start file description) (flat_map flock_starts_of changes)
-flock_has_start changes file description mode is =
-    ⊎_elim (λ start. start) (λ bad. absurd cc) (flock_begins changes None file description mode is)
+flock_has_start changes file description mode is = grind (arith, common_steps, flock_begins)

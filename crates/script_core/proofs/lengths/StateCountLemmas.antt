@@ -30,8 +30,7 @@ leads_grow rules processes S (event ∷ events) T (between, step, rest) =
 pub few_notes : (rules : Rules) (processes : ℕ) (events : List Event) (T : State) → Leads rules processes opening_state events T
     → length (flat_map (λ event. event.notes) events) ≤ 2 * length events
 unfolding opening_state
-few_notes rules processes events T leads =
-    let notes = (leads_grow rules processes opening_state events T leads).notes in omega (arith, notes)
+few_notes rules processes events T leads = grind (arith, common_steps, leads_grow)
 
 -- the locks that are held and the waits are no more than two for each event
 pub few_locks_and_waits : (rules : Rules) (processes : ℕ) (events : List Event) (T : State) → Leads rules processes opening_state events T

@@ -1,11 +1,9 @@
 -- What an event adds: two at most to the starts with twice the waits, and two to the notes with the waits: for `outputs_are_short`.
 use Rattle.std.proofs.lemmas.Grind.{common_steps, flat_map-append}
-use Rattle.std.proofs.Common.{rules, ◌≡◌, ℕ, suc, ◌+◌, ◌*◌, ◌≤◌, ◌==◌, Bool, List, [], ◌∷◌, ◌++◌, length, length-append, filter_map, flat_map, Option, Some, None, option_map, Result, Ok, Err, MatchOption, MatchResult, ⊎_elim, refl, sym, ap, ◌∙◌, subst, arith}
-use Rattle.std.specs.List.{cons_option}
+use Rattle.std.proofs.Common.{rules, ◌≡◌, ℕ, suc, ◌+◌, ◌*◌, ◌≤◌, ◌==◌, Bool, List, [], ◌∷◌, ◌++◌, length, length-append, filter_map, flat_map, Option, None, option_map, Result, MatchOption, MatchResult, refl, sym, ap, ◌∙◌, subst, arith}
 use Rattle.range_core.specs.declared.Mode.{Mode}
 use Rattle.range_core.specs.declared.Span.{Span}
 use Rattle.range_core.specs.declared.RangeFault.{RangeFault}
-use Rattle.lock_book.specs.declared.Owner.{Owner}
 use Rattle.lock_book.specs.declared.Owner.TheVariants.{Description}
 use Rattle.lock_book.specs.Changes.{whole_file}
 use Rattle.fd_table.specs.declared.Access.{Access}
@@ -28,18 +26,18 @@ use Rattle.lock_manager.specs.declared.request.Reply.{Reply}
 use Rattle.lock_manager.specs.declared.request.Reply.TheVariants as replies
 use Rattle.lock_manager.specs.declared.request.ProcState.{ProcState}
 use Rattle.lock_manager.specs.declared.request.ProcState.TheVariants.{Unborn, Live, Waiting, Ended}
-use Rattle.lock_manager.specs.State.{State, with_lock, with_byte_mode, with_flock_mode}
+use Rattle.lock_manager.specs.State.{State, with_lock, with_byte_mode}
 use Rattle.lock_manager.specs.Settling.{Settles, granted}
 use Rattle.lock_manager.specs.Outcomes.{Outcome, answered, refused, waits_then, range_error, IsRefusal}
 use Rattle.lock_manager.specs.DescriptorCalls.{with_released, process_releases, description_releases, flock_releases, OpenComesTo, DupComesTo, DupToComesTo, CloseComesTo, DoneComesTo}
-use Rattle.lock_manager.specs.LockWords.{wanted_mode, lock_owner}
-use Rattle.lock_manager.specs.LockCommands.{DescribedComesTo, RangeComesTo, ModeComesTo, CommandComesTo, GetComesTo, SetComesTo, IsLocked}
-use Rattle.lock_manager.specs.FlockCalls.{FlockOpComesTo, FlockModeComesTo, FlockTestComesTo}
+use Rattle.lock_manager.specs.LockWords.{lock_owner}
+use Rattle.lock_manager.specs.LockCommands.{DescribedComesTo, RangeComesTo, ModeComesTo, GetComesTo, SetComesTo, IsLocked}
+use Rattle.lock_manager.specs.FlockCalls.{FlockOpComesTo, FlockTestComesTo}
 use Rattle.lock_manager.specs.ProcessCalls.{ForkComesTo, EndComesTo, SignalComesTo, KillOtherComesTo}
 use Rattle.lock_manager.specs.Step.{ComesTo, Step}
 use Rattle.script_core.proofs.FitLemmas.{same_locked}
 use Rattle.script_core.proofs.OutcomeFitLemmas.{by_bool, fewer_left}
-use Rattle.script_core.proofs.lengths.StartLemmas.{set_at, starts_of, flock_starts_of, flock_start, two_starts}
+use Rattle.script_core.proofs.lengths.StartLemmas.{starts_of, flock_starts_of, two_starts}
 
 -- ---- the starts of a state
 
@@ -50,29 +48,15 @@ starts S = length (flat_map starts_of S.changes) + length (flat_map flock_starts
 length_flat : {X A : Type 0} (f : X → List A) (xs ys : List X) → length (flat_map f (xs ++ ys)) ≡ length (flat_map f xs) + length (flat_map f ys)
 length_flat f xs ys = ap length (flat_map-append f xs ys) ∙ length-append (flat_map f xs) (flat_map f ys)
 
--- a change of byte locks adds two at most
-starts_set : (S : State) (file : ℕ) (owner : Owner) (span : Span) (mode : Option Mode) → starts (with_byte_mode S file owner span mode) ≤ starts S + 2
-starts_set S file owner span mode = grind (arith, common_steps, length_flat, starts_of, length-append, two_starts)
-
--- a change of flock locks adds one where it sets a mode, and else none
-starts_flock : (S : State) (file description : ℕ) (mode : Option Mode)
-    → starts (with_flock_mode S file description mode) ≡ starts S + length (set_at mode (flock_start file description))
-starts_flock S file description mode = grind (arith, common_steps, length_flat, flock_starts_of, length-append)
-
 -- a lock that is set for a wait adds two at most
 starts_locked : (S : State) (wait : Wait) → starts (with_lock S wait) ≤ starts S + 2
-starts_locked S wait = grind (arith, common_steps, starts_set, starts_flock)
+starts_locked S wait = grind (arith, common_steps, length_flat, starts_of, length-append, two_starts, flock_starts_of)
 
 -- what is released adds none
 none_made : {X Y A : Type 0} (f : Y → List A) (make : ℕ → X → Y) (found : ℕ → Option X) (numbers : List ℕ)
     → ((number : ℕ) (x : X) → f (make number x) ≡ []) → flat_map f (filter_map (λ number. option_map (make number) (found number)) numbers) ≡ []
 none_made f make found [] none = refl
-none_made {X} f make found (number ∷ numbers) none = first (found number) (none_made f make found numbers none)
-  where
-    first : (x : Option X) → flat_map f (filter_map (λ number. option_map (make number) (found number)) numbers) ≡ []
-        → flat_map f (cons_option (option_map (make number) x) (filter_map (λ number. option_map (make number) (found number)) numbers)) ≡ []
-    first None rest = rest
-    first (Some x) rest = rw (none number x) rest
+none_made {X} f make found (number ∷ numbers) none = grind (arith, common_steps, none_made f make found numbers)
 
 none_of_process : (p : ℕ) (files : List ℕ) → flat_map starts_of (process_releases p files) ≡ []
 none_of_process p [] = refl
@@ -137,8 +121,7 @@ OutcomeGrows S outcome = Grows S (length outcome.told) outcome.after 2
 -- this is told, and then these grants that were made before
 told_then : (S U T : State) (note : Note) (grants : List Note) (outcome : Outcome) → Grows S (length grants) U 0 → Grows U 1 T 2
     → outcome ≡ record { told = note ∷ grants; after = T } → OutcomeGrows S outcome
-told_then S U T note grants outcome before own is =
-    subst (OutcomeGrows S) (sym is) (grows_then S U T before own (omega arith) (omega arith))
+told_then S U T note grants outcome before own is = grind (arith, common_steps, grows_then)
 
 -- this alone is told
 told_now : (S T : State) (note : Note) (outcome : Outcome) → Grows S 1 T 2 → outcome ≡ record { told = note ∷ []; after = T } → OutcomeGrows S outcome
@@ -170,12 +153,10 @@ wait_grows S wait grants = grind (arith, common_steps, length-append)
 
 open_grows : (rules : Rules) (S : State) (p n file : ℕ) (access : Access) (outcome : Outcome) → OpenComesTo rules S p n file access outcome
     → OutcomeGrows S outcome
-open_grows rules S p n file access outcome (Ok fd, D, gives, is) = answer_grows S (record S { descriptors = D }) p n _ outcome refl refl is
-open_grows rules S p n file access outcome (Err fault, D, gives, is) = refusal_grows S p n fault outcome is
+open_grows rules S p n file access outcome h = grind (arith, common_steps, answer_grows, refusal_grows)
 
 dup_grows : (rules : Rules) (S : State) (p n fd : ℕ) (outcome : Outcome) → DupComesTo rules S p n fd outcome → OutcomeGrows S outcome
-dup_grows rules S p n fd outcome (Ok free, D, gives, is) = answer_grows S (record S { descriptors = D }) p n _ outcome refl refl is
-dup_grows rules S p n fd outcome (Err fault, D, gives, is) = refusal_grows S p n fault outcome is
+dup_grows rules S p n fd outcome h = grind (arith, common_steps, answer_grows, refusal_grows)
 
 dup_to_grows : (rules : Rules) (S : State) (p n fd to : ℕ) (outcome : Outcome) → DupToComesTo rules S p n fd to outcome → OutcomeGrows S outcome
 dup_to_grows rules S p n fd to outcome h = grind (arith, common_steps, answer_grows, starts_released, refusal_grows)
@@ -185,8 +166,7 @@ close_grows S p n fd outcome h = grind (arith, common_steps, answer_grows, start
 
 done_grows : (S : State) (p n : ℕ) (result : Result (Unit {0}) FdFault) (D : Descriptors) (outcome : Outcome) → DoneComesTo S p n result D outcome
     → OutcomeGrows S outcome
-done_grows S p n (Ok done) D outcome is = answer_grows S (record S { descriptors = D }) p n _ outcome refl refl is
-done_grows S p n (Err fault) D outcome is = refusal_grows S p n fault outcome is
+done_grows S p n result D outcome is = grind (arith, common_steps, answer_grows, refusal_grows)
 
 -- ---- lock commands
 
@@ -200,23 +180,18 @@ joins_grow : (S : State) (wanted : Wait) (outcome : Outcome) → outcome ≡ wai
 joins_grow S wanted outcome is = told_now S _ _ outcome (wait_grows S wanted []) is
 
 set_grows : (S : State) (wanted : Wait) (outcome : Outcome) → SetComesTo S wanted outcome → OutcomeGrows S outcome
-set_grows S wanted outcome is =
-    ⊎_elim (λ no. refused_grows S wanted.p wanted.n _ outcome no.1) (λ yes. locked_grows S wanted outcome yes.1) is
-
-command_grows : (rules : Rules) (S : State) (cmd : LkCmd) (wanted : Wait) (outcome : Outcome) → CommandComesTo rules S cmd wanted outcome
-    → OutcomeGrows S outcome
-command_grows rules S cmd wanted outcome h = grind (arith, common_steps, get_grows, set_grows, refused_grows, joins_grow, locked_grows)
+set_grows S wanted outcome is = grind (arith, common_steps, refused_grows, locked_grows)
 
 range_grows : (rules : Rules) (S : State) (p n : ℕ) (cmd : LkCmd) (look : Look) (span : Span) (wanted : Option Mode) (outcome : Outcome)
     → MatchOption wanted (outcome ≡ answered (with_byte_mode S look.file (lock_owner cmd p look) span None) p n replies.Ok)
     (λ mode. ModeComesTo rules S p n cmd look span mode outcome) → OutcomeGrows S outcome
-range_grows rules S p n cmd look span wanted outcome h = grind (arith, common_steps, told_now, answers, starts_set, by_bool, command_grows, refused_grows)
+range_grows rules S p n cmd look span wanted outcome h =
+    grind (arith, common_steps, told_now, answers, length_flat, starts_of, length-append, two_starts, by_bool, get_grows, set_grows, refused_grows, joins_grow, locked_grows)
 
 described_grows : (rules : Rules) (S : State) (p n : ℕ) (cmd : LkCmd) (lock : Lock) (look : Look) (range : Result Span RangeFault) (outcome : Outcome)
     → MatchResult range (λ span. RangeComesTo rules S p n cmd lock.kind look span outcome) (λ fault. outcome ≡ refused S p n (range_error fault))
     → OutcomeGrows S outcome
-described_grows rules S p n cmd lock look (Ok span) outcome is = range_grows rules S p n cmd look span (wanted_mode lock.kind) outcome is
-described_grows rules S p n cmd lock look (Err fault) outcome is = refused_grows S p n _ outcome is
+described_grows rules S p n cmd lock look range outcome is = grind (arith, common_steps, range_grows, refused_grows)
 
 lock_comes_grows : (rules : Rules) (S : State) (p n : ℕ) (cmd : LkCmd) (lock : Lock) (look : Option Look) (outcome : Outcome)
     → MatchOption look (outcome ≡ refused S p n EBADF) (λ look. DescribedComesTo rules S p n cmd lock look outcome) → OutcomeGrows S outcome
@@ -229,13 +204,10 @@ test_grows : (rules : Rules) (S U : State) (nb : Bool) (wanted : Wait) (grants :
     → FlockTestComesTo rules U nb wanted grants outcome → OutcomeGrows S outcome
 test_grows rules S U nb wanted grants outcome h h2 = grind (arith, common_steps, told_then, stays, lock_grows, wait_grows)
 
-flock_mode_grows : (rules : Rules) (S : State) (look : Look) (nb : Bool) (wanted : Wait) (held : Option Mode) (outcome : Outcome)
-    → FlockModeComesTo rules S look nb wanted held outcome → OutcomeGrows S outcome
-flock_mode_grows rules S look nb wanted held outcome h = grind (arith, common_steps, test_grows, grows_not, by_bool, answer_grows, starts_flock, grows_then, settles_grow)
-
 flock_grows : (rules : Rules) (S : State) (p n : ℕ) (op : FlockOp) (nb : Bool) (look : Option Look) (outcome : Outcome)
     → MatchOption look (outcome ≡ refused S p n EBADF) (λ look. FlockOpComesTo rules S p n look op nb outcome) → OutcomeGrows S outcome
-flock_grows rules S p n op nb look outcome h = grind (arith, common_steps, refused_grows, starts_flock, answer_grows, flock_mode_grows)
+flock_grows rules S p n op nb look outcome h =
+    grind (arith, common_steps, refused_grows, length_flat, flock_starts_of, length-append, answer_grows, test_grows, grows_not, by_bool, grows_then, settles_grow)
 
 -- ---- processes
 

@@ -1,5 +1,4 @@
-use Rattle.std.proofs.Common.{◌≡◌, rules, Option, subst}
-use Rattle.std.specs.Prelude.{None, IsOk}
+use Rattle.std.proofs.Common.{◌≡◌, rules, Option, subst, None, IsOk}
 use Rattle.range_core.specs.declared.Mode.{Mode}
 use Rattle.range_core.specs.declared.Span.{Span}
 use Rattle.lock_server_c.specs.Numbers.{span_of, wanted_of}

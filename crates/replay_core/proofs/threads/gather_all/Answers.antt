@@ -1,5 +1,4 @@
-use Rattle.std.proofs.Common.{◌≡◌, ◌∙◌, ap, sym, subst, ℕ, ◌≤◌, List, [], ◌∷◌, ◌++◌, map, length, vec_len, arith, append-nil}
-use Rattle.std.specs.Prelude.{vec_items}
+use Rattle.std.proofs.Common.{◌≡◌, ◌∙◌, ap, sym, subst, ℕ, ◌≤◌, List, [], ◌∷◌, ◌++◌, map, length, vec_len, arith, append-nil, vec_items}
 use Rattle.std.specs.Vec.Iter.{into_iter_items}
 use Rattle.std.proofs.lemmas.List.{length-map, map-append, nil_from_length}
 use Rattle.std.proofs.lemmas.Option.{slice_get_within}

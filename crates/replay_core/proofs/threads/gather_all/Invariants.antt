@@ -1,5 +1,4 @@
-use Rattle.std.proofs.Common.{◌≡◌, ◌≤◌, List, ◌++◌, map, vec_len}
-use Rattle.std.specs.Prelude.{vec_capacity, vec_items}
+use Rattle.std.proofs.Common.{◌≡◌, ◌≤◌, List, ◌++◌, map, vec_len, vec_capacity, vec_items}
 use Rattle.std.specs.Vec.Iter.{into_iter_items}
 use Rattle.call_table.specs.Desks.{desk_view, session_in, SameDesk}
 use Rattle.replay_core.specs.declared.caller.Caller.{Caller}

@@ -1,5 +1,4 @@
-use Rattle.std.proofs.Common.{◌≡◌, ◌∙◌, sym, subst, List, map}
-use Rattle.std.specs.Prelude.{vec_items}
+use Rattle.std.proofs.Common.{◌≡◌, ◌∙◌, sym, subst, List, map, vec_items}
 use Rattle.session_core.specs.declared.session.Session.{Session}
 use Rattle.session_core.specs.SessionView.{events_in}
 use Rattle.replay_core.specs.declared.caller.Caller.{Caller}

@@ -1,5 +1,4 @@
-use Rattle.std.proofs.Common.{not}
-use Rattle.std.specs.Prelude.{count_by}
+use Rattle.std.proofs.Common.{not, count_by}
 use Rattle.script_core.proofs.DeadlockLemmas.{AreLayersSoFar}
 use Rattle.script_core.proofs.deadlock.layers_to.Given as goal
 

@@ -1,7 +1,7 @@
-use Rattle.std.proofs.Common.{sym, ◌∙◌}
+use Rattle.std.proofs.Common.{arith}
+use Rattle.std.proofs.lemmas.Grind.{common_steps}
 use Rattle.script_core.proofs.DeadlockLemmas.{leads_some}
 use Rattle.script_core.proofs.deadlock.leads_into.Goals as goal
 
 pub returns-clause-yes : goal.returns-clause-yes
-returns-clause-yes c is =
-    leads_some c.args.policy c.args.held.now c.args.waits.now c.args.p c.args.layer.now c.least_link.result c.least_link.ensures (sym c.is_some.ensures ∙ is)
+returns-clause-yes c is = grind (arith, common_steps, leads_some)

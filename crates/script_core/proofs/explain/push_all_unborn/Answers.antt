@@ -1,5 +1,4 @@
-use Rattle.std.proofs.Common.{◌≡◌, ℕ, ◌-◌, ◌<◌, refl, length, sym, ◌∙◌, arith, rules}
-use Rattle.std.specs.Prelude.{slice_index}
+use Rattle.std.proofs.Common.{◌≡◌, ℕ, ◌-◌, ◌<◌, refl, length, sym, ◌∙◌, arith, rules, slice_index}
 use Rattle.lock_manager.specs.ManagerView.{state_at}
 use Rattle.script_core.specs.Explaining.{unborn_lines}
 use Rattle.std.proofs.lemmas.Result.{err_from_is_err_and}

@@ -1,13 +1,15 @@
-use Rattle.std.proofs.Common.{arith, ◌≡◌, ◌+◌, ℕ, Bool, ap, subst}
+use Rattle.script_core.proofs.FilesLemmas.{opening_files}
+use Rattle.script_core.proofs.DeadlockStepLemmas.{opening_settled}
+use Rattle.std.proofs.Common.{append-nil, arith, ◌≡◌, ◌+◌, ℕ, Bool, ap, subst}
 use Rattle.std.proofs.lemmas.Grind.{common_steps}
 use Rattle.std.proofs.lemmas.Result.{err_from_is_err_and}
 use Rattle.script_core.specs.StateText.{is_told}
 use Rattle.script_core.proofs.TextLemmas.{kept_behind}
-use Rattle.script_core.proofs.ExplainLemmas.{StateTold, none_explained, kept_again, explained_more, all_explained}
+use Rattle.script_core.proofs.ExplainLemmas.{StateTold, kept_again, explained_more, all_explained}
 use Rattle.script_core.proofs.explain.push_explained.Goals as goal
 
 pub loop-entry-init : goal.loop-entry-init
-loop-entry-init c = grind (arith, common_steps, none_explained)
+loop-entry-init c = grind (arith, common_steps, opening_files, opening_settled, append-nil)
 
 pub loop-entry-preserved : goal.loop-entry-preserved
 loop-entry-preserved c =

@@ -1,5 +1,4 @@
-use Rattle.std.proofs.Common.{ℕ, ◌≡◌, ◌++◌, ap, ◌∙◌}
-use Rattle.std.specs.Prelude.{codes, decimal}
+use Rattle.std.proofs.Common.{ℕ, ◌≡◌, ◌++◌, ap, ◌∙◌, codes, decimal}
 use Rattle.script_core.specs.EntryText.{tag}
 use Rattle.script_core.specs.Deadlocks.{step_text, next_step_text}
 use Rattle.script_core.proofs.TextLemmas.{then_pushed}

@@ -1,6 +1,5 @@
 use Rattle.std.proofs.lemmas.Grind.{common_steps}
-use Rattle.std.proofs.Common.{◌≡◌, ℕ, ◌-◌, ◌≤◌, [], ◌∷◌, List, length, drop, take, get_or, false, codes, Result, Ok, Err, MatchResult, Bor, sym, ap, arith, take_all}
-use Rattle.std.specs.Prelude.{bytes_eq}
+use Rattle.std.proofs.Common.{◌≡◌, ℕ, ◌-◌, ◌≤◌, [], ◌∷◌, List, length, drop, take, get_or, false, codes, Result, Ok, Err, MatchResult, Bor, arith, bytes_eq}
 use Rattle.std.proofs.lemmas.Result.{err_from_is_err_and}
 use Rattle.lock_manager.specs.declared.request.Reply.{Reply}
 use Rattle.lock_manager.specs.declared.request.Note.{Note}
@@ -15,8 +14,7 @@ nothing = record { ref_ptr = (0, 0); now = [] }
 
 -- the first of the texts, and those behind it
 first_text : (xs : List (Bor (List ℕ))) (d : Bor (List ℕ)) → 1 ≤ length xs → texts xs ≡ (get_or xs 0 d).now ∷ texts (take (length xs - 1) (drop 1 xs))
-first_text [] d some = absurd (omega (arith, some))
-first_text (x ∷ xs) d some = ap (λ (l : List (Bor (List ℕ))). x.now ∷ texts l) (sym (take_all (length (x ∷ xs) - 1) xs (omega arith)))
+first_text xs d some = grind (arith, common_steps)
 
 -- words of which the first isn't `waits` tell a reply
 tells_reply : (p n : ℕ) (words : List (List ℕ)) (name : List ℕ) (arguments : List (List ℕ)) (next : Result Reply Cause) (result : Result Note Cause)

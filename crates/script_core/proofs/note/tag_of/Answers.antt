@@ -1,4 +1,5 @@
-use Rattle.std.proofs.Common.{◌≡◌, ℕ, List, None, Some, Result, Ok, Err, MatchResult, decimal}
+use Rattle.std.proofs.Common.{arith, ◌≡◌, ℕ, List, None, Some, Result, MatchResult, decimal}
+use Rattle.std.proofs.lemmas.Grind.{common_steps}
 use Rattle.std.specs.Result.{result_ok}
 use Rattle.fd_table.specs.declared.Limits.{Limits}
 use Rattle.script_core.specs.declared.script.Cause.{Cause}
@@ -11,8 +12,7 @@ use Rattle.script_core.proofs.note.tag_of.Goals as goal
 not_process : (limits : Limits) (word : List ℕ) (r : Result ℕ Cause)
     → MatchResult r (λ p. IsProcess limits p × (word ≡ decimal p)) (IsBad (ProcessNumber limits) word)
     → None ≡ result_ok r → (p : ℕ) → IsProcess limits p → word ≡ decimal p → ⊥
-not_process limits word (Ok q) given none p is at = absurd (let other : None ≡ Some q = none in cc)
-not_process limits word (Err cause) given none p is at = given.0 (p, is.0, is.1, at)
+not_process limits word r given none p is h4 = grind (arith, common_steps)
 
 pub returns-in_err-process : goal.returns-in_err-process
 returns-in_err-process c =

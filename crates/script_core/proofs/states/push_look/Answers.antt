@@ -1,5 +1,4 @@
-use Rattle.std.proofs.Common.{rules, append_assoc, subst, sym, ap, ◌∙◌, ◌≡◌, ◌++◌, ◌∷◌, ℕ, List, codes, decimal}
-use Rattle.std.specs.Prelude.{MatchResult}
+use Rattle.std.proofs.Common.{rules, append_assoc, subst, sym, ap, ◌∙◌, ◌≡◌, ◌++◌, ◌∷◌, ℕ, List, codes, decimal, MatchResult}
 use Rattle.script_core.specs.Output.{Extends}
 use Rattle.script_core.specs.StateText.{access_text}
 use Rattle.script_core.proofs.ExplainLemmas.{and_then, begun}

@@ -1,5 +1,5 @@
-use Rattle.std.proofs.Common.{◌≡◌, ℕ, ◌+◌, ◌-◌, ◌<◌, ◌++◌, refl, length, ap, sym, ◌∙◌, arith, rules}
-use Rattle.std.specs.Prelude.{slice_index}
+use Rattle.std.proofs.lemmas.Grind.{common_steps}
+use Rattle.std.proofs.Common.{◌≡◌, ℕ, ◌+◌, ◌-◌, ◌<◌, ◌++◌, refl, length, ap, sym, ◌∙◌, arith, rules, slice_index}
 use Rattle.lock_manager.specs.ManagerView.{state_at, processes_of}
 use Rattle.session_core.specs.SessionView.{manager_of, events_in}
 use Rattle.script_core.specs.declared.report_text.ProcessLine.{ProcessLine}
@@ -10,8 +10,7 @@ use Rattle.script_core.proofs.ReportLemmas.{no_processes, more_processes}
 use Rattle.script_core.proofs.write.push_processes.Goals as goal
 
 pub loop-index-init : goal.loop-index-init
-loop-index-init c counts are =
-    no_processes (state_at (manager_of c.args.session.now)) (events_in c.args.session.now) counts c.args.text.now.items
+loop-index-init c counts are = grind (arith, common_steps, no_processes)
 
 pub loop-index-preserved : goal.loop-index-preserved
 loop-index-preserved c counts are =

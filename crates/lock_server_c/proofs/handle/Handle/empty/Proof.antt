@@ -1,7 +1,6 @@
 -- `empty` makes a handle with no server.
-use Rattle.std.proofs.Common.{List, [], ◌∷◌, refl, lit<}
+use Rattle.std.proofs.Common.{List, [], ◌∷◌, refl, lit<, None}
 use Rattle.std.proofs.raw_atomic.Walks.{proved}
-use Rattle.std.specs.Prelude.{None}
 use mir.Val.{Val, vint, vstruct, vcons, vnil}
 use mir.Syntax.{w64}
 use base.Fml.{ftrue}

@@ -1,8 +1,7 @@
 -- `into_loose` takes the pointer out of a handle that has a server.
-use Rattle.std.proofs.Common.{◌≡◌, List, [], ◌∷◌, ◌++◌, refl, sym, subst}
+use Rattle.std.proofs.Common.{◌≡◌, List, [], ◌∷◌, ◌++◌, refl, sym, subst, Option, Some, None, IsSome}
 use Rattle.std.proofs.raw_atomic.Walks.{proved_at}
 use Rattle.std.proofs.alloc.Calls.{Al, handle_tells}
-use Rattle.std.specs.Prelude.{Option, Some, None, IsSome}
 use lib.Dec.{T}
 use mir.Syntax.{impl, tnil, dnil}
 use mir.Raw.{raw as bare}

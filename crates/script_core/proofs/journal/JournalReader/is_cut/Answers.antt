@@ -1,7 +1,7 @@
-use Rattle.std.proofs.Common.{◌∙◌}
+use Rattle.std.proofs.Common.{arith}
+use Rattle.std.proofs.lemmas.Grind.{common_steps}
 use Rattle.script_core.proofs.JournalSeamLemmas.{cut_is}
 use Rattle.script_core.proofs.journal.JournalReader.is_cut.Goals as goal
 
 pub returns-in-Report-Some : goal.returns-in-Report-Some
-returns-in-Report-Some c =
-    c.is_some.ensures ∙ cut_is c.args.self.now c.in-Report-Some.report c.due.result c.in-Report-Some.is-0 c.in-Report-Some.is-1 c.due.ensures
+returns-in-Report-Some c = grind (arith, common_steps, cut_is)
