@@ -1,5 +1,6 @@
 -- The grants of a settling, one after another: for `Machine::rest` and `Machine::settle`.
-use Rattle.std.proofs.Common.{◌≡◌, refl, sym, ◌∙◌, subst, List, [], ◌∷◌, ◌++◌, append-nil, inl, append_assoc}
+use Rattle.std.proofs.Common.{◌≡◌, refl, sym, ◌∙◌, subst, List, [], ◌∷◌, ◌++◌, append-nil, append_assoc, arith}
+use Rattle.std.proofs.lemmas.Grind.{common_steps}
 use Rattle.std.proofs.Math.Logic.{∥∥₁_map}
 use Rattle.wait_core.specs.declared.Policy.{Policy}
 use Rattle.wait_core.specs.declared.Wait.{Wait}
@@ -11,7 +12,6 @@ use Rattle.wait_core.specs.WaitsView.{waits_of, AreTold}
 use Rattle.lock_manager.specs.DescriptionLocks.{AreOwned}
 use Rattle.lock_manager.specs.WaitsKept.{AreKept, AreApart, HaveRoom}
 use Rattle.wait_core.specs.Blocking.{AllBlocked, IsBlockedByLock, IsNextBetween, IsNextReady}
-use Rattle.wait_core.specs.declared.Policy.TheVariants.{Held, Queue}
 use Rattle.lock_manager.specs.declared.machine.Machine.{Machine}
 use Rattle.lock_manager.specs.declared.request.Note.{Note}
 use Rattle.lock_manager.specs.declared.request.Note.TheVariants.{Answer}
@@ -34,8 +34,7 @@ leads_nowhere machine S h = (S, h, λ rest U settles. settles)
 
 -- whoever is next isn't blocked by a lock
 pub next_is_free : (policy : Policy) (locks : Locks) (waits : List Wait) (wait : Wait) → IsNextReady policy locks waits wait → ¬ IsBlockedByLock locks wait
-next_is_free Held locks waits wait next blocked = next.is_next.ready blocked
-next_is_free Queue locks waits wait next blocked = next.is_next.ready (inl blocked)
+next_is_free policy locks waits wait next blocked = grind (arith, common_steps)
 
 -- one grant more
 pub leads_on : (old middle new : Machine) (grants : List Note) (wait : Wait) → machine_rules middle ≡ machine_rules old

@@ -68,9 +68,7 @@ one_flock x e rest removed before f d h = grind (arith, common_steps)
 flock_modes : (opened : List OpenFileDescription) (descriptions : List ℕ) (before : Option Mode) (f d : ℕ)
     → flock_mode_from before (flock_releases opened descriptions) f d ≡ (if removes_on opened descriptions f (Description d) then None else before)
 flock_modes opened [] before f d = refl
-flock_modes opened (e ∷ es) before f d =
-    one_flock (description_numbered opened e) e (flock_releases opened es) (removes_on opened es f (Description d)) before f d
-    (λ mode. flock_modes opened es mode f d)
+flock_modes opened (e ∷ es) before f d = grind (arith, common_steps, one_flock, flock_modes opened es)
 
 -- no change for a description is one of a process
 removes_no_process : (opened : List OpenFileDescription) (descriptions : List ℕ) (f q : ℕ) → removes_on opened descriptions f (Process q) ≡ false

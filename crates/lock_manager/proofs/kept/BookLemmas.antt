@@ -64,6 +64,7 @@ pub set_flocks : (books : List Book) (file : ℕ) (old new : Book)
     → (f d : ℕ) → (locks_of (slice_set books file new)).flocks f d ≡ (locks_of books).flocks f d
 set_flocks books file old new within was same f d = grind (arith, common_steps, slice_get-set, entry_is)
 
+-- so do the byte modes, where the owners have the same in the two books
 pub same_bytes : (books : List Book) (file : ℕ) (old new : Book)
     → file < length books → slice_get books file ≡ Some old → ((o : Owner) (byte : ℕ) → byte_modes_of new o byte ≡ byte_modes_of old o byte)
     → (f : ℕ) (o : Owner) (byte : ℕ) → (locks_of (slice_set books file new)).bytes f o byte ≡ (locks_of books).bytes f o byte

@@ -1,5 +1,5 @@
 -- What is open stays open in the calls that close nothing: for `Machine::close_fd`, `Machine::dup`, `Machine::dup_to` and others.
-use Rattle.std.proofs.Common.{arith, ℕ, ◌≡◌, refl, ◌∙◌, ap, List, ◌++◌, Some, None, Option, Result, Ok, Err, OnErr, ℤ, eqb-true, ◌==◌, ◌&&◌, if◌then◌else◌, slice_get, slice_set, option_map, length-append}
+use Rattle.std.proofs.Common.{arith, ℕ, ◌≡◌, refl, List, ◌++◌, Some, None, Option, Result, Ok, Err, OnErr, ℤ, eqb-true, slice_get, slice_set, option_map, length-append}
 use Rattle.std.proofs.lemmas.List.{get_or_append_left}
 use Rattle.std.proofs.lemmas.Grind.{common_steps}
 use Rattle.std.proofs.lemmas.Option.{slice_get_within, slice_get_cases}
@@ -29,24 +29,13 @@ file_kept : (xs ys : List OpenFileDescription) (d file : ℕ)
     → file_of (xs ++ ys) d ≡ Some file
 file_kept xs ys d file h = grind (arith, common_steps, slice_get_cases, length-append, get_or_append_left)
 
--- where each description keeps its file, and a free descriptor alone is given one, what was open stays open
-given_stays : (D E : Descriptors) (p fd number : ℕ) → D.description_of p fd ≡ None
-    → ((q k : ℕ) → E.description_of q k ≡ (if (q == p) && (k == fd) then Some number else D.description_of q k))
-    → ((d file : ℕ) → file_of D.descriptions d ≡ Some file → file_of E.descriptions d ≡ Some file)
-    → StayOpen D E
-given_stays D E p fd number free given files f d q is = grind (arith, common_steps, eqb-true)
-
--- the same descriptions have the same files
-same_files : (xs ys : List OpenFileDescription) → ys ≡ xs → (d file : ℕ) → file_of xs d ≡ Some file → file_of ys d ≡ Some file
-same_files xs ys same d file is = ap (λ ds. file_of ds d) same ∙ is
-
 -- an open leaves open what was open
 pub opened_stays : (limits : Limits) (D E : Descriptors) (p file : ℕ) (access : Access) (fd : ℕ) → OpenGives limits D p file access (Ok fd) E → StayOpen D E
-opened_stays limits D E p file access fd gives = grind (arith, common_steps, given_stays, file_kept)
+opened_stays limits D E p file access fd gives = grind (arith, common_steps, file_kept, eqb-true)
 
 -- so does dup
 pub dupped_stays : (limits : Limits) (D E : Descriptors) (p fd free : ℕ) → DupGives limits D p fd (Ok free) E → StayOpen D E
-dupped_stays limits D E p fd free gives = grind (arith, common_steps, given_stays, same_files)
+dupped_stays limits D E p fd free gives = grind (arith, common_steps, eqb-true)
 
 -- a description that is given an offset keeps its file
 file_with_offset : (xs : List OpenFileDescription) (i : ℕ) (opened : OpenFileDescription) (offset d file : ℕ) → slice_get xs i ≡ Some opened
@@ -59,7 +48,7 @@ sought_stays D E p fd offset gives = grind (arith, common_steps, file_with_offse
 
 -- so does a resize
 pub resized_stays : (D E : Descriptors) (p fd : ℕ) (size : ℤ) → ResizeGives D p fd size (Ok tt) E → StayOpen D E
-resized_stays D E p fd size gives = grind (arith, common_steps, same_files)
+resized_stays D E p fd size gives = grind (arith, common_steps)
 
 -- so does a fork, since the child had no descriptor before
 pub forked_stays : (processes : ℕ) (D E : Descriptors) (p child : ℕ) → ((fd : ℕ) → D.description_of child fd ≡ None)

@@ -1,5 +1,5 @@
 -- What an unlock leaves where the owner had no lock (`unlock`, the clause ok).
-use Rattle.std.proofs.Common.{arith, ℕ, ◌≡◌, ◌∙◌, ap, List, Some, None, Option, slice_get}
+use Rattle.std.proofs.Common.{arith, ℕ, ◌≡◌, List, Some, None, Option, slice_get}
 use Rattle.std.proofs.lemmas.Grind.{common_steps}
 use Rattle.range_core.specs.declared.Mode.{Mode}
 use Rattle.range_core.specs.declared.Mode.TheVariants.{Write}
@@ -10,7 +10,7 @@ use Rattle.lock_book.specs.declared.Owner.TheVariants.{Process, Description}
 use Rattle.lock_book.specs.declared.book.Book.{Book}
 use Rattle.lock_book.specs.Books.{byte_modes_of}
 use Rattle.lock_book.specs.Conflicts.{ByteModes, ProcessBlocks}
-use Rattle.wait_core.specs.Locks.{locks_of, byte_modes_at}
+use Rattle.wait_core.specs.Locks.{locks_of}
 use Rattle.lock_manager.specs.declared.machine.Machine.{Machine}
 use Rattle.lock_manager.specs.State.{State, with_byte_mode}
 use Rattle.lock_manager.specs.MachineView.{Shows, machine_locks}
@@ -32,8 +32,7 @@ none_held modes process description span free byte covers =
 pub none_held_at : (books : List Book) (file : ℕ) (book : Book) (process description : ℕ) (span : Span) → slice_get books file ≡ Some book
     → ¬ ProcessBlocks (byte_modes_of book) process (Description description) span Write
     → (byte : ℕ) → Covers span byte → (locks_of books).bytes file (Process process) byte ≡ None
-none_held_at books file book process description span was free byte covers =
-    ap (λ e. byte_modes_at e (Process process) byte) was ∙ none_held (byte_modes_of book) process description span free byte covers
+none_held_at books file book process description span was free byte covers = rw was (none_held (byte_modes_of book) process description span free byte covers)
 
 -- a machine in which the owner has no lock on the range shows the state in which it was removed
 pub with_no_change : (machine : Machine) (S : State) (file : ℕ) (owner : Owner) (span : Span)

@@ -27,7 +27,7 @@ use Rattle.lock_manager.proofs.kept.ClosingLemmas.{Closing, is_member}
 use Rattle.lock_manager.proofs.kept.OwnedLemmas.{may_wait_more}
 use Rattle.lock_manager.proofs.kept.SafetyLemmas.{same_owner}
 
--- so the waits of other processes are for what these have open
+-- what another process has open stays open, and its waits are for that
 pub holders_closed : (D E : Descriptors) (p : ℕ) (released : Released) (waits : List Wait) → Closing D E p released → All (λ wait. wait.p ≢ p) waits
     → AreOfHolders D waits → AreOfHolders E waits
 holders_closed D E p released waits closing others h k d within = grind (arith, common_steps, may_wait_more, eqb_tells)

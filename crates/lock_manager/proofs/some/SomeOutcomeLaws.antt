@@ -1,8 +1,7 @@
 -- A request comes to some outcome, settling ends, and so there is a step.
-use Rattle.std.proofs.Common.{◌≡◌, ℕ, ℤ, zero, suc, ◌<◌, List, [], ◌∷◌, ◌++◌, length, length-append, append-nil, append_assoc, ◌==◌, Bool, true, false, Option, Some, None, Result, Ok, Err, inl, inr, refl, sym, ◌∙◌, subst, arith, MatchResult}
+use Rattle.std.proofs.Common.{◌≡◌, ℕ, zero, suc, ◌<◌, List, [], ◌∷◌, ◌++◌, length, length-append, append-nil, append_assoc, ◌==◌, Bool, true, false, Option, Some, None, Result, Ok, Err, inl, inr, refl, sym, ◌∙◌, subst, arith, MatchResult}
 use Rattle.range_core.specs.declared.Memory.{Memory as MemoryFault}
 use Rattle.range_core.specs.declared.Mode.{Mode}
-use Rattle.fd_table.specs.declared.Access.{Access}
 use Rattle.fd_table.specs.declared.FdFault.{FdFault}
 use Rattle.fd_table.specs.declared.FdFault.TheVariants.{BadFd, TooMany, Invalid, Taken, Memory}
 use Rattle.fd_table.specs.declared.tables.Look.{Look}
@@ -30,10 +29,10 @@ use Rattle.lock_manager.specs.declared.request.ProcState.TheVariants.{Unborn, Li
 use Rattle.lock_manager.specs.State.{State, locks_held, with_flock_mode, with_process}
 use Rattle.lock_manager.specs.Settling.{Settles, granted}
 use Rattle.lock_manager.specs.Outcomes.{Outcome, answered, refused, IsRefusal}
-use Rattle.lock_manager.specs.DescriptorCalls.{OpenComesTo, DupComesTo, DupToComesTo, CloseComesTo, SeekComesTo, ResizeComesTo, with_released}
+use Rattle.lock_manager.specs.DescriptorCalls.{with_released}
 use Rattle.lock_manager.specs.LockCommands.{GetComesTo, SetComesTo, SetOrWaitComesTo, WaitOrDeadlockComesTo, CommandComesTo, LockComesTo}
 use Rattle.lock_manager.specs.FlockCalls.{FlockTestComesTo, FlockModeComesTo, FlockComesTo, RemovesOldLock, is_same_mode}
-use Rattle.lock_manager.specs.ProcessCalls.{ForkComesTo, EndComesTo, SignalComesTo, KillOtherComesTo, KillComesTo}
+use Rattle.lock_manager.specs.ProcessCalls.{EndComesTo, SignalComesTo, KillOtherComesTo, KillComesTo}
 use Rattle.lock_manager.specs.Step.{ComesTo, Step}
 use Rattle.lock_manager.specs.SomeOutcome.{IsWhole}
 use Rattle.lock_manager.proofs.some.AtLeastOneLemmas.{AtLeastOne, SomePair, this_value, by_cases, MatchFact-some, some_by_one, some_by_two}
@@ -59,41 +58,6 @@ call_some : {R : Type 0} (S : State) (p n : ℕ) (Gives : Result R FdFault → D
 call_some S p n Gives done never given =
     some_by_two Gives _ given
     (λ result descriptors h. answer_some S p n (done descriptors) result (λ memory e. never descriptors memory (subst (λ r. Gives r descriptors) e h)))
-
-OpenComesTo-some : (rules : Rules) (S : State) (p n file : ℕ) (access : Access) → AtLeastOne (OpenComesTo rules S p n file access)
-OpenComesTo-some rules S p n file access =
-    call_some S p n (OpenGives rules.limits S.descriptors p file access) (λ E fd. answered (record S { descriptors = E }) p n (replies.Fd fd))
-    (λ E memory h. h) (OpenGives-some rules.limits S.descriptors p file access)
-
-DupComesTo-some : (rules : Rules) (S : State) (p n fd : ℕ) → AtLeastOne (DupComesTo rules S p n fd)
-DupComesTo-some rules S p n fd =
-    call_some S p n (DupGives rules.limits S.descriptors p fd) (λ E free. answered (record S { descriptors = E }) p n (replies.Fd free))
-    (λ E memory h. h) (DupGives-some rules.limits S.descriptors p fd)
-
-DupToComesTo-some : (rules : Rules) (S : State) (p n fd to : ℕ) → IsWhole S → AtLeastOne (DupToComesTo rules S p n fd to)
-DupToComesTo-some rules S p n fd to whole =
-    call_some S p n (DupToGives rules.limits S.descriptors p fd to) (λ E answer. answered (with_released S E p answer.1) p n (replies.Fd answer.0))
-    (λ E memory h. h) (DupToGives-some rules.limits S.descriptors p fd to whole.made)
-
-CloseComesTo-some : (S : State) (p n fd : ℕ) → IsWhole S → AtLeastOne (CloseComesTo S p n fd)
-CloseComesTo-some S p n fd whole =
-    call_some S p n (CloseGives S.descriptors p fd) (λ E released. answered (with_released S E p released) p n replies.Ok)
-    (λ E memory h. h) (CloseGives-some S.descriptors p fd whole.made)
-
-SeekComesTo-some : (S : State) (p n fd : ℕ) (offset : ℤ) → IsWhole S → AtLeastOne (SeekComesTo S p n fd offset)
-SeekComesTo-some S p n fd offset whole =
-    call_some S p n (SeekGives S.descriptors p fd offset) (λ E done. answered (record S { descriptors = E }) p n replies.Ok)
-    (λ E memory h. h) (SeekGives-some S.descriptors p fd offset whole.made)
-
-ResizeComesTo-some : (S : State) (p n fd : ℕ) (size : ℤ) → IsWhole S → AtLeastOne (ResizeComesTo S p n fd size)
-ResizeComesTo-some S p n fd size whole =
-    call_some S p n (ResizeGives S.descriptors p fd size) (λ E done. answered (record S { descriptors = E }) p n replies.Ok)
-    (λ E memory h. h) (ResizeGives-some S.descriptors p fd size whole.made)
-
-ForkComesTo-some : (processes : ℕ) (S : State) (p n child : ℕ) → AtLeastOne (ForkComesTo processes S p n child)
-ForkComesTo-some processes S p n child =
-    call_some S p n (ForkGives processes S.descriptors p child) (λ E done. answered (with_process (record S { descriptors = E }) child Live) p n replies.Ok)
-    (λ E memory h. h) (ForkGives-some processes S.descriptors p child)
 
 EndComesTo-some : (S : State) (p : ℕ) (told : List Note) → IsWhole S → AtLeastOne (EndComesTo S p told)
 EndComesTo-some S p told whole =
@@ -206,15 +170,29 @@ FlockComesTo-some rules S p n fd op nb =
 
 -- a request comes to some outcome
 ComesTo-some : (rules : Rules) (processes : ℕ) (S : State) (p n : ℕ) (request : Request) → IsWhole S → AtLeastOne (ComesTo rules processes S p n request)
-ComesTo-some rules processes S p n (OpenFile file access) whole = OpenComesTo-some rules S p n file access
-ComesTo-some rules processes S p n (Dup fd) whole = DupComesTo-some rules S p n fd
-ComesTo-some rules processes S p n (DupTo fd to) whole = DupToComesTo-some rules S p n fd to whole
-ComesTo-some rules processes S p n (CloseFd fd) whole = CloseComesTo-some S p n fd whole
-ComesTo-some rules processes S p n (Seek fd offset) whole = SeekComesTo-some S p n fd offset whole
-ComesTo-some rules processes S p n (Resize fd size) whole = ResizeComesTo-some S p n fd size whole
+ComesTo-some rules processes S p n (OpenFile file access) whole =
+    call_some S p n (OpenGives rules.limits S.descriptors p file access) (λ E fd. answered (record S { descriptors = E }) p n (replies.Fd fd))
+    (λ E memory h. h) (OpenGives-some rules.limits S.descriptors p file access)
+ComesTo-some rules processes S p n (Dup fd) whole =
+    call_some S p n (DupGives rules.limits S.descriptors p fd) (λ E free. answered (record S { descriptors = E }) p n (replies.Fd free))
+    (λ E memory h. h) (DupGives-some rules.limits S.descriptors p fd)
+ComesTo-some rules processes S p n (DupTo fd to) whole =
+    call_some S p n (DupToGives rules.limits S.descriptors p fd to) (λ E answer. answered (with_released S E p answer.1) p n (replies.Fd answer.0))
+    (λ E memory h. h) (DupToGives-some rules.limits S.descriptors p fd to whole.made)
+ComesTo-some rules processes S p n (CloseFd fd) whole =
+    call_some S p n (CloseGives S.descriptors p fd) (λ E released. answered (with_released S E p released) p n replies.Ok)
+    (λ E memory h. h) (CloseGives-some S.descriptors p fd whole.made)
+ComesTo-some rules processes S p n (Seek fd offset) whole =
+    call_some S p n (SeekGives S.descriptors p fd offset) (λ E done. answered (record S { descriptors = E }) p n replies.Ok)
+    (λ E memory h. h) (SeekGives-some S.descriptors p fd offset whole.made)
+ComesTo-some rules processes S p n (Resize fd size) whole =
+    call_some S p n (ResizeGives S.descriptors p fd size) (λ E done. answered (record S { descriptors = E }) p n replies.Ok)
+    (λ E memory h. h) (ResizeGives-some S.descriptors p fd size whole.made)
 ComesTo-some rules processes S p n (Lk fd cmd lock) whole = LockComesTo-some rules S p n fd cmd lock
 ComesTo-some rules processes S p n (Flock fd op nb) whole = FlockComesTo-some rules S p n fd op nb
-ComesTo-some rules processes S p n (Fork child) whole = ForkComesTo-some processes S p n child
+ComesTo-some rules processes S p n (Fork child) whole =
+    call_some S p n (ForkGives processes S.descriptors p child) (λ E done. answered (with_process (record S { descriptors = E }) child Live) p n replies.Ok)
+    (λ E memory h. h) (ForkGives-some processes S.descriptors p child)
 ComesTo-some rules processes S p n Exit whole = EndComesTo-some S p [] whole
 ComesTo-some rules processes S p n (Signal target) whole = SignalComesTo-some S p n target (S.states target) whole refl
 ComesTo-some rules processes S p n (Kill target) whole = KillComesTo-some S p n target whole

@@ -1,6 +1,6 @@
 -- A step keeps what a step needs: open descriptors refer to descriptions that were made, and who waits has a wait in the list.
 use Rattle.std.proofs.lemmas.Grind.{common_steps}
-use Rattle.std.proofs.Common.{rules, ◌≡◌, ◌≢◌, ℕ, ℤ, zero, suc, ◌+◌, ◌==◌, ◌||◌, Bool, true, false, Option, Some, None, IsSome, Result, Ok, Err, MatchBool, MatchOption, MatchResult, inl, inr, refl, sym, ◌∙◌, subst, arith, List, [], ◌∷◌, ◌++◌, length, pred, if◌then◌else◌, slice_get, slice_set, length-set, length-append}
+use Rattle.std.proofs.Common.{rules, ◌≡◌, ◌≢◌, ℕ, zero, suc, ◌+◌, ◌==◌, ◌||◌, Bool, true, false, Option, Some, None, IsSome, Result, Ok, Err, MatchBool, MatchOption, MatchResult, inl, inr, refl, sym, ◌∙◌, subst, arith, List, [], ◌∷◌, ◌++◌, length, pred, if◌then◌else◌, slice_get, slice_set, length-set, length-append}
 use Rattle.std.proofs.lemmas.List.Folds.{find-append}
 use Rattle.std.proofs.lemmas.Bool.{cases_Bool}
 use Rattle.std.proofs.lemmas.Bool.Decides.{eqb_tells}
@@ -26,11 +26,10 @@ use Rattle.lock_manager.specs.declared.request.ProcState.TheVariants.{Unborn, Li
 use Rattle.lock_manager.specs.State.{State, opening_state, with_lock, with_process}
 use Rattle.lock_manager.specs.Settling.{Settles, granted}
 use Rattle.lock_manager.specs.Outcomes.{Outcome}
-use Rattle.lock_manager.specs.DescriptorCalls.{OpenComesTo, DupComesTo, DupToComesTo, CloseComesTo, SeekComesTo, ResizeComesTo}
 use Rattle.lock_manager.specs.LockWords.{is_get, is_bad_argument, wanted_mode, permits, wanted_lock}
 use Rattle.lock_manager.specs.LockCommands.{CommandComesTo, LockComesTo}
 use Rattle.lock_manager.specs.FlockCalls.{FlockTestComesTo, FlockOpComesTo}
-use Rattle.lock_manager.specs.ProcessCalls.{ForkComesTo, EndComesTo, SignalComesTo, KillOtherComesTo}
+use Rattle.lock_manager.specs.ProcessCalls.{EndComesTo, KillOtherComesTo}
 use Rattle.lock_manager.specs.Step.{ComesTo, Step}
 use Rattle.lock_manager.specs.SomeOutcome.{AreMade, AreAwaitedIn, IsWhole}
 use Rattle.lock_manager.proofs.calls.ProcessCallLemmas.{other_found}
@@ -100,32 +99,6 @@ settled_whole policy S (grant ∷ grants) T h whole =
 stays_as : (given outcome : Outcome) → outcome ≡ given → Stays given → Stays outcome
 stays_as given outcome is h = subst Stays (sym is) h
 
--- the descriptors are others
-with_made : (S : State) (E : Descriptors) → AreMade E → IsWhole S → IsWhole (record S { descriptors = E })
-with_made S E made h = record { made = made; awaited = h.awaited }
-
-open_stays : (rules : Rules) (S : State) (p n file : ℕ) (access : Access) (outcome : Outcome) → OpenComesTo rules S p n file access outcome
-    → IsWhole S → Stays outcome
-open_stays rules S p n file access outcome h h2 = grind (arith, common_steps, stays_as, with_made, made_same, made_opened)
-
-dup_stays : (rules : Rules) (S : State) (p n fd : ℕ) (outcome : Outcome) → DupComesTo rules S p n fd outcome → IsWhole S → Stays outcome
-dup_stays rules S p n fd outcome h h2 = grind (arith, common_steps, stays_as, with_made, made_same, made_with)
-
-dup_to_stays : (rules : Rules) (S : State) (p n fd to : ℕ) (outcome : Outcome) → DupToComesTo rules S p n fd to outcome → IsWhole S → Stays outcome
-dup_to_stays rules S p n fd to outcome h h2 = grind (arith, common_steps, made_same, made_with, stays_as)
-
-close_stays : (S : State) (p n fd : ℕ) (outcome : Outcome) → CloseComesTo S p n fd outcome → IsWhole S → Stays outcome
-close_stays S p n fd outcome h h2 = grind (arith, common_steps, stays_as, made_same, cases_Bool)
-
-seek_stays : (S : State) (p n fd : ℕ) (offset : ℤ) (outcome : Outcome) → SeekComesTo S p n fd offset outcome → IsWhole S → Stays outcome
-seek_stays S p n fd offset outcome h h2 = grind (arith, common_steps, stays_as, with_made, made_same, made_offset)
-
-resize_stays : (S : State) (p n fd : ℕ) (size : ℤ) (outcome : Outcome) → ResizeComesTo S p n fd size outcome → IsWhole S → Stays outcome
-resize_stays S p n fd size outcome h h2 = grind (arith, common_steps, stays_as, with_made, made_same)
-
-fork_stays : (processes : ℕ) (S : State) (p n child : ℕ) (outcome : Outcome) → ForkComesTo processes S p n child outcome → IsWhole S → Stays outcome
-fork_stays processes S p n child outcome h h2 = grind (arith, common_steps, stays_as, made_same, awaited_moved, cases_Bool)
-
 -- without its wait a process waits no more
 awaited_left : (S : State) (target : ℕ) (state : ProcState) → state ≢ Waiting → IsWhole S
     → AreAwaitedIn (without_wait_of S.waits target) (λ q. if q == target then state else S.states q)
@@ -133,10 +106,6 @@ awaited_left S target state differs h = grind (arith, common_steps, awaited_move
 
 end_stays : (S : State) (p : ℕ) (told : List Note) (outcome : Outcome) → EndComesTo S p told outcome → IsWhole S → Stays outcome
 end_stays S p told outcome h h2 = grind (arith, common_steps, stays_as, made_same, awaited_left, cases_Bool)
-
-signal_stays : (S : State) (p n target : ℕ) (state : ProcState) (outcome : Outcome) → SignalComesTo S p n target state outcome → IsWhole S
-    → Stays outcome
-signal_stays S p n target state outcome h h2 = grind (arith, common_steps, stays_as, awaited_left)
 
 kill_other_stays : (S : State) (p n target : ℕ) (state : ProcState) (outcome : Outcome) → KillOtherComesTo S p n target state outcome
     → IsWhole S → Stays outcome
@@ -170,14 +139,10 @@ waits_whole S wanted h = grind (arith, common_steps, eqb_tells, find-append)
 
 command_stays : (rules : Rules) (S : State) (cmd : LkCmd) (wanted : Wait) (outcome : Outcome) → CommandComesTo rules S cmd wanted outcome
     → IsWhole S → Stays outcome
-command_stays rules S GetLk wanted outcome is h =
-    fact_stays _ _ _ outcome is (λ held. stays_as _ outcome held.2 h) (λ free. stays_as _ outcome free h)
-command_stays rules S OGetLk wanted outcome is h =
-    fact_stays _ _ _ outcome is (λ held. stays_as _ outcome held.2 h) (λ free. stays_as _ outcome free h)
-command_stays rules S SetLk wanted outcome is h =
-    fact_stays _ _ _ outcome is (λ refused. stays_as _ outcome refused h) (λ set. stays_as _ outcome set (locked_whole S wanted h).0)
-command_stays rules S OSetLk wanted outcome is h =
-    fact_stays _ _ _ outcome is (λ refused. stays_as _ outcome refused h) (λ set. stays_as _ outcome set (locked_whole S wanted h).0)
+command_stays rules S GetLk wanted outcome is h = grind (arith, common_steps)
+command_stays rules S OGetLk wanted outcome is h = grind (arith, common_steps)
+command_stays rules S SetLk wanted outcome is h = grind (arith, common_steps, locked_whole)
+command_stays rules S OSetLk wanted outcome is h = grind (arith, common_steps, locked_whole)
 command_stays rules S SetLkW wanted outcome is h =
     fact_stays _ _ _ outcome is
     (λ blocked.
@@ -205,8 +170,7 @@ lock_stays rules S p n fd cmd lock outcome is h =
 
 flock_test_stays : (rules : Rules) (S : State) (nb : Bool) (wanted : Wait) (grants : List Note) (outcome : Outcome)
     → FlockTestComesTo rules S nb wanted grants outcome → IsWhole S → Stays outcome
-flock_test_stays rules S true wanted grants outcome is h =
-    fact_stays _ _ _ outcome is (λ refused. stays_as _ outcome refused h) (λ set. stays_as _ outcome set (locked_whole S wanted h).0)
+flock_test_stays rules S true wanted grants outcome is h = grind (arith, common_steps, locked_whole)
 flock_test_stays rules S false wanted grants outcome is h =
     fact_stays _ _ _ outcome is (λ waits. stays_as _ outcome waits (waits_whole S wanted h))
     (λ set. stays_as _ outcome set (locked_whole S wanted h).0)
@@ -218,19 +182,17 @@ flock_op_stays rules S p n look op nb outcome h h2 = grind (arith, common_steps,
 -- whatever the request
 request_stays : (rules : Rules) (processes : ℕ) (S : State) (p n : ℕ) (request : Request) (outcome : Outcome)
     → ComesTo rules processes S p n request outcome → IsWhole S → Stays outcome
-request_stays rules processes S p n (OpenFile file access) outcome is h = open_stays rules S p n file access outcome is h
-request_stays rules processes S p n (Dup fd) outcome is h = dup_stays rules S p n fd outcome is h
-request_stays rules processes S p n (DupTo fd to) outcome is h = dup_to_stays rules S p n fd to outcome is h
-request_stays rules processes S p n (CloseFd fd) outcome is h = close_stays S p n fd outcome is h
-request_stays rules processes S p n (Seek fd offset) outcome is h = seek_stays S p n fd offset outcome is h
-request_stays rules processes S p n (Resize fd size) outcome is h = resize_stays S p n fd size outcome is h
+request_stays rules processes S p n (OpenFile file access) outcome is h = grind (arith, common_steps, made_same, made_opened)
+request_stays rules processes S p n (Dup fd) outcome is h = grind (arith, common_steps, made_same, made_with)
+request_stays rules processes S p n (DupTo fd to) outcome is h = grind (arith, common_steps, made_same, made_with)
+request_stays rules processes S p n (CloseFd fd) outcome is h = grind (arith, common_steps, made_same, cases_Bool)
+request_stays rules processes S p n (Seek fd offset) outcome is h = grind (arith, common_steps, made_same, made_offset)
+request_stays rules processes S p n (Resize fd size) outcome is h = grind (arith, common_steps, made_same)
 request_stays rules processes S p n (Lk fd cmd lock) outcome is h = lock_stays rules S p n fd cmd lock outcome is h
-request_stays rules processes S p n (Flock fd op nb) outcome is h =
-    option_stays (look_at S.descriptors p fd) _ _ outcome is (λ refused. stays_as _ outcome refused h)
-    (λ look opened. flock_op_stays rules S p n look op nb outcome opened h)
-request_stays rules processes S p n (Fork child) outcome is h = fork_stays processes S p n child outcome is h
+request_stays rules processes S p n (Flock fd op nb) outcome is h = grind (arith, common_steps, stays_as, flock_op_stays)
+request_stays rules processes S p n (Fork child) outcome is h = grind (arith, common_steps, made_same, awaited_moved, cases_Bool)
 request_stays rules processes S p n Exit outcome is h = end_stays S p [] outcome is h
-request_stays rules processes S p n (Signal target) outcome is h = signal_stays S p n target (S.states target) outcome is h
+request_stays rules processes S p n (Signal target) outcome is h = grind (arith, common_steps, awaited_left)
 request_stays rules processes S p n (Kill target) outcome is h =
     bool_stays (target == p) _ _ outcome is (λ own. end_stays S p [] outcome own h)
     (λ other. kill_other_stays S p n target (S.states target) outcome other h)

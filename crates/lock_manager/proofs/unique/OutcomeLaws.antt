@@ -3,7 +3,6 @@ use Rattle.std.proofs.Common.{arith, rules, ◌≡◌, ℕ, ℤ, List, [], ◌�
 use Rattle.std.proofs.lemmas.Grind.{common_steps}
 use Rattle.std.proofs.lemmas.Option.{same_Some}
 use Rattle.range_core.specs.declared.Mode.{Mode}
-use Rattle.fd_table.specs.declared.Access.{Access}
 use Rattle.fd_table.specs.declared.FdFault.{FdFault}
 use Rattle.fd_table.specs.declared.tables.Look.{Look}
 use Rattle.fd_table.specs.Descriptors.{Descriptors}
@@ -24,11 +23,11 @@ use Rattle.lock_manager.specs.State.{State, locks_held}
 use Rattle.lock_manager.specs.Outcomes.{Outcome, answered, IsRefusal}
 use Rattle.lock_manager.specs.declared.request.Note.{Note}
 use Rattle.lock_manager.specs.declared.request.Note.TheVariants.{Answer}
-use Rattle.lock_manager.specs.DescriptorCalls.{OpenComesTo, DupComesTo, DupToComesTo, CloseComesTo, SeekComesTo, ResizeComesTo}
+use Rattle.lock_manager.specs.DescriptorCalls.{SeekComesTo, ResizeComesTo}
 use Rattle.lock_manager.specs.LockCommands.{GetComesTo, SetComesTo, SetOrWaitComesTo, WaitOrDeadlockComesTo, CommandComesTo, LockComesTo}
 use Rattle.lock_manager.specs.declared.request.FlockOp.{FlockOp}
 use Rattle.lock_manager.specs.FlockCalls.{FlockTestComesTo, FlockModeComesTo, FlockComesTo}
-use Rattle.lock_manager.specs.ProcessCalls.{ForkComesTo, EndComesTo, SignalComesTo, KillOtherComesTo, KillComesTo}
+use Rattle.lock_manager.specs.ProcessCalls.{EndComesTo, SignalComesTo, KillOtherComesTo, KillComesTo}
 use Rattle.lock_manager.specs.Step.{ComesTo}
 use Rattle.lock_manager.specs.OneOutcome.{StepHasOneOutcome}
 use Rattle.lock_manager.proofs.unique.AtMostOneLemmas.{AtMostOne, one_value, MatchFact-unique, by_one, by_two}
@@ -46,18 +45,6 @@ answer-unique : {R : Type 0} (S : State) (p n : ℕ) (done : R → Outcome) (res
     → AtMostOne (λ outcome. MatchResult result (λ r. outcome ≡ done r) (λ fault. IsRefusal S p n fault outcome))
 answer-unique S p n done result = MatchResult-by (λ P. AtMostOne P) result _ _ (λ r. one_value (done r)) (λ fault. IsRefusal-unique S p n fault)
 
-OpenComesTo-unique : (rules : Rules) (S : State) (p n file : ℕ) (access : Access) → AtMostOne (OpenComesTo rules S p n file access)
-OpenComesTo-unique rules S p n file access = grind (arith, common_steps, by_two, OpenGives-unique, answer-unique)
-
-DupComesTo-unique : (rules : Rules) (S : State) (p n fd : ℕ) → AtMostOne (DupComesTo rules S p n fd)
-DupComesTo-unique rules S p n fd = grind (arith, common_steps, by_two, DupGives-unique, answer-unique)
-
-DupToComesTo-unique : (rules : Rules) (S : State) (p n fd to : ℕ) → AtMostOne (DupToComesTo rules S p n fd to)
-DupToComesTo-unique rules S p n fd to = grind (arith, common_steps, by_two, DupToGives-unique, answer-unique)
-
-CloseComesTo-unique : (S : State) (p n fd : ℕ) → AtMostOne (CloseComesTo S p n fd)
-CloseComesTo-unique S p n fd = grind (arith, common_steps, by_two, CloseGives-unique, answer-unique)
-
 -- a call that answers nothing but that it is done
 done-unique : (S : State) (p n : ℕ) (descriptors : Descriptors) (result : Result (Unit {0}) FdFault)
     → AtMostOne (λ outcome. MatchResult result (λ done. outcome
@@ -71,9 +58,6 @@ SeekComesTo-unique S p n fd offset =
 ResizeComesTo-unique : (S : State) (p n fd : ℕ) (size : ℤ) → AtMostOne (ResizeComesTo S p n fd size)
 ResizeComesTo-unique S p n fd size =
     by_two (ResizeGives S.descriptors p fd size) _ (ResizeGives-unique S.descriptors p fd size) (λ result descriptors. done-unique S p n descriptors result)
-
-ForkComesTo-unique : (processes : ℕ) (S : State) (p n child : ℕ) → AtMostOne (ForkComesTo processes S p n child)
-ForkComesTo-unique processes S p n child = grind (arith, common_steps, by_two, ForkGives-unique, answer-unique)
 
 EndComesTo-unique : (S : State) (p : ℕ) (told : List Note) → AtMostOne (EndComesTo S p told)
 EndComesTo-unique S p told =
@@ -135,14 +119,14 @@ FlockComesTo-unique rules S p n fd op nb =
 
 -- a request comes to one outcome
 pub ComesTo-unique : (rules : Rules) (processes : ℕ) (S : State) (p n : ℕ) (request : Request) → AtMostOne (ComesTo rules processes S p n request)
-ComesTo-unique rules processes S p n (OpenFile file access) = OpenComesTo-unique rules S p n file access
-ComesTo-unique rules processes S p n (Dup fd) = DupComesTo-unique rules S p n fd
-ComesTo-unique rules processes S p n (DupTo fd to) = DupToComesTo-unique rules S p n fd to
-ComesTo-unique rules processes S p n (CloseFd fd) = CloseComesTo-unique S p n fd
+ComesTo-unique rules processes S p n (OpenFile file access) = grind (arith, common_steps, by_two, OpenGives-unique, answer-unique)
+ComesTo-unique rules processes S p n (Dup fd) = grind (arith, common_steps, by_two, DupGives-unique, answer-unique)
+ComesTo-unique rules processes S p n (DupTo fd to) = grind (arith, common_steps, by_two, DupToGives-unique, answer-unique)
+ComesTo-unique rules processes S p n (CloseFd fd) = grind (arith, common_steps, by_two, CloseGives-unique, answer-unique)
 ComesTo-unique rules processes S p n (Seek fd offset) = SeekComesTo-unique S p n fd offset
 ComesTo-unique rules processes S p n (Resize fd size) = ResizeComesTo-unique S p n fd size
 ComesTo-unique rules processes S p n (Flock fd op nb) = FlockComesTo-unique rules S p n fd op nb
-ComesTo-unique rules processes S p n (Fork child) = ForkComesTo-unique processes S p n child
+ComesTo-unique rules processes S p n (Fork child) = grind (arith, common_steps, by_two, ForkGives-unique, answer-unique)
 ComesTo-unique rules processes S p n Exit = EndComesTo-unique S p []
 ComesTo-unique rules processes S p n (Signal target) = SignalComesTo-unique S p n target (S.states target)
 ComesTo-unique rules processes S p n (Kill target) = KillComesTo-unique S p n target
