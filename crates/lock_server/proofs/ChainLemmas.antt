@@ -9,11 +9,6 @@ pub chain_append : (R : ℕ → ℕ → Type 0) (p : ℕ) (through : List ℕ) (
 chain_append R p [] q more r chain rest = (chain, rest)
 chain_append R p (next ∷ through) q more r chain rest = (chain.0, chain_append R next through q more r chain.1 rest)
 
--- a chain begins with a step
-pub chain_start : (R : ℕ → ℕ → Type 0) (P : ℕ → Type 0) → ((p q : ℕ) → R p q → P p) → (p : ℕ) (through : List ℕ) (q : ℕ) → IsChain R p through q → P p
-chain_start R P start p [] q chain = start p q chain
-chain_start R P start p (next ∷ through) q chain = start p next chain.0
-
 module _ (R S : ℕ → ℕ → Type 0) where
   -- steps of the one kind are steps of the other
   pub chain_weaker : ((p q : ℕ) → R p q → S p q) → (p : ℕ) (through : List ℕ) (q : ℕ) → IsChain R p through q → IsChain S p through q
@@ -28,25 +23,28 @@ module _ (R S : ℕ → ℕ → Type 0) where
       (on p next after chain.0 chain.1.0, chain_on on next (after ∷ through) q r chain.1 step)
 
 -- p is q, or is led to it
-AtOrLed : (ℕ → ℕ → Type 0) → ℕ → ℕ → Type 0
-AtOrLed R p q = (p ≡ q) ⊎ ((through : List ℕ) × IsChain R p through q)
+abbrev pub IsOrLed : (ℕ → ℕ → Type 0) → ℕ → ℕ → Type 0
+IsOrLed R p q = (p ≡ q) ⊎ ((through : List ℕ) × IsChain R p through q)
+
+pub join_led : (R : ℕ → ℕ → Type 0) (p q r : ℕ) → IsOrLed R p q → IsOrLed R q r → IsOrLed R p r
+join_led R p q r (inl same) more = subst (λ (n : ℕ). IsOrLed R n r) (sym same) more
+join_led R p q r (inr (through, chain)) (inl same) = inr (through, subst (λ (n : ℕ). IsChain R p through n) same chain)
+join_led R p q r (inr (through, chain)) (inr (more, rest)) = inr (through ++ q ∷ more, chain_append R p through q more r chain rest)
+
+-- no owner is led to itself
+abbrev pub IsFree : (ℕ → ℕ → Type 0) → Type 0
+IsFree R = (p : ℕ) → ¬ ((through : List ℕ) × IsChain R p through p)
 
 module _ (R S : ℕ → ℕ → Type 0) (from : ℕ) (Added : ℕ → Type 0) (cases : (p q : ℕ) → S p q → R p q ⊎ ((p ≡ from) × Added q)) where
   -- a chain with a new step: it comes to where the step begins, and goes on from an end of it
   record Uses (p q : ℕ) : Type 0 where
-    comes : AtOrLed R p from
+    comes : IsOrLed R p from
     next : ℕ
     added : Added next
-    goes : AtOrLed R next q
-
-  comes_first : (p next : ℕ) → R p next → AtOrLed R next from → AtOrLed R p from
-  unfolding AtOrLed
-  comes_first p next step (inl same) = inr ([], subst (λ (n : ℕ). R p n) same step)
-  comes_first p next step (inr (through, chain)) = inr (next ∷ through, (step, chain))
+    goes : IsOrLed R next q
 
   -- a chain of steps of the old kind and new ones: of old ones alone, or with a last new one
   last_added : (p : ℕ) (through : List ℕ) (q : ℕ) → IsChain S p through q → ((old : List ℕ) × IsChain R p old q) ⊎ Uses p q
-  unfolding AtOrLed
   last_added p [] q chain = elim (cases p q chain) [
     | inl step ↦ inl ([], step)
     | inr new ↦ inr (record { comes = inl new.0; next = q; added = new.1; goes = inl refl })
@@ -56,43 +54,29 @@ module _ (R S : ℕ → ℕ → Type 0) (from : ℕ) (Added : ℕ → Type 0) (c
       | inl step ↦ inl (n ∷ old, (step, rest))
       | inr new ↦ inr (record { comes = inl new.0; next = n; added = new.1; goes = inr (old, rest) })
     ]
-    | inr uses ↦ elim (cases p n chain.0) [
-      | inl step ↦ inr (record { comes = comes_first p n step uses.comes; next = uses.next; added = uses.added; goes = uses.goes })
-      | inr new ↦ inr (record { comes = inl new.0; next = uses.next; added = uses.added; goes = uses.goes })
-    ]
+    | inr uses ↦ inr (record {
+      comes = elim (cases p n chain.0) [ inl step ↦ join_led R p n from (inr ([], step)) uses.comes | inr new ↦ inl new.0 ];
+      next = uses.next;
+      added = uses.added;
+      goes = uses.goes;
+    })
   ]
 
-  join_led : (p q r : ℕ) → AtOrLed R p q → AtOrLed R q r → AtOrLed R p r
-  unfolding AtOrLed
-  join_led p q r (inl same) more = subst (λ (n : ℕ). (n ≡ r) ⊎ ((through : List ℕ) × IsChain R n through r)) (sym same) more
-  join_led p q r (inr (through, chain)) (inl same) = inr (through, subst (λ (n : ℕ). IsChain R p through n) same chain)
-  join_led p q r (inr (through, chain)) (inr (more, rest)) = inr (through ++ q ∷ more, chain_append R p through q more r chain rest)
-
-  -- without a cycle of old steps, and no way from an end of a new step to its beginning, there is no cycle
-  free_with_added : ((p : ℕ) → ¬ ((through : List ℕ) × IsChain R p through p)) → ((next : ℕ) → Added next → ¬ AtOrLed R next from) → (p : ℕ)
-      → ¬ ((through : List ℕ) × IsChain S p through p)
-  free_with_added free closes p (through, chain) = elim (last_added p through p chain) [
+  -- without a cycle of old steps, and no way from an end of a new step to its beginning, there is no cycle: so a wait that joins closes none, where
+  -- none that blocks it is its own owner or led to it
+  pub free_joined : ((next : ℕ) → Added next → ¬ IsOrLed R next from) → IsFree R → IsFree S
+  free_joined closes free p (through, chain) = elim (last_added p through p chain) [
     | inl old ↦ free p old
-    | inr uses ↦ closes uses.next uses.added (join_led uses.next p from uses.goes uses.comes)
+    | inr uses ↦ closes uses.next uses.added (join_led R uses.next p from uses.goes uses.comes)
   ]
-
--- no owner is led to itself
-abbrev pub IsFree : (ℕ → ℕ → Type 0) → Type 0
-IsFree R = (p : ℕ) → ¬ ((through : List ℕ) × IsChain R p through p)
 
 -- a chain begins with a step
 pub first_step : (S : ℕ → ℕ → Type 0) (p : ℕ) (through : List ℕ) (q : ℕ) → IsChain S p through q → (next : ℕ) × S p next
 first_step S p [] q chain = (q, chain)
 first_step S p (next ∷ through) q chain = (next, chain.0)
 
--- nor do steps to owners that go no further: so a lock that is given to an owner without a step closes none
+-- steps to owners that go no further close no cycle: so a lock that is given to an owner without a step closes none
 pub free_on : (R S : ℕ → ℕ → Type 0) → ((p q r : ℕ) → S p q → S q r → R p q) → IsFree R → IsFree S
 free_on R S on free p (through, chain) =
     let more = first_step S p through p chain in
     free p (through, chain_on S R on p through p more.0 chain more.1)
-
--- nor does a wait that joins, where none that blocks it is its own owner or led to it
-pub free_joined : (R S : ℕ → ℕ → Type 0) (from : ℕ) (Added : ℕ → Type 0) → ((p q : ℕ) → S p q → R p q ⊎ ((p ≡ from) × Added q))
-    → ((next : ℕ) → Added next → ¬ ((next ≡ from) ⊎ ((through : List ℕ) × IsChain R next through from))) → IsFree R → IsFree S
-unfolding AtOrLed
-free_joined R S from Added cases closes free = free_with_added R S from Added cases free closes

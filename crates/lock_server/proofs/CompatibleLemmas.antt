@@ -42,16 +42,12 @@ hit : (owner : Owner) (span : Span) (other : Owner) (byte : ℕ) → (is_same_ow
 hit owner span other byte e = grind (arith, common_steps, both, same_owner, leb-true)
 
 module _ (F : FileState) (wait : Pending) (before : IsCompatible F) where
-  -- of two owners with conflicting modes after a set, the one that was given its mode was blocked
-  no_conflict : ¬ IsBlockedIn Bytes (locks_on F) (as_wait wait) → (one other : Owner) (byte : ℕ) (m k : Mode) (a b : Bool) → one ≢ other
-      → (is_same_owner (Description wait.owner) one && is_covered wait.span byte) ≡ a
-      → (is_same_owner (Description wait.owner) other && is_covered wait.span byte) ≡ b
-      → (if a then Some wait.mode else F.bytes one byte) ≡ Some m → (if b then Some wait.mode else F.bytes other byte) ≡ Some k → ¬ Conflict m k
-  no_conflict free one other byte m k true true distinct a_is b_is m_is k_is conflict =
-      distinct (sym (hit (Description wait.owner) wait.span one byte a_is).is ∙ (hit (Description wait.owner) wait.span other byte b_is).is)
-  no_conflict free one other byte m k true false distinct a_is b_is m_is k_is conflict =
-      let here = hit (Description wait.owner) wait.span one byte a_is in
-      let given : Some wait.mode ≡ Some m = m_is in
+  -- the owner that a set gives its mode was blocked by each other one with a mode that conflicts
+  given_conflict : ¬ IsBlockedIn Bytes (locks_on F) (as_wait wait) → (one other : Owner) (byte : ℕ) (m k : Mode) → one ≢ other
+      → (is_same_owner (Description wait.owner) one && is_covered wait.span byte) ≡ true → Some wait.mode ≡ Some m → F.bytes other byte ≡ Some k
+      → ¬ Conflict m k
+  given_conflict free one other byte m k distinct is m_is k_is conflict =
+      let here = hit (Description wait.owner) wait.span one byte is in
       let mode : wait.mode ≡ m = cc in
       free (record {
         byte = byte;
@@ -62,44 +58,38 @@ module _ (F : FileState) (wait : Pending) (before : IsCompatible F) where
           conflicts = subst (λ (held : Option Mode). HeldConflicts held wait.mode) (sym k_is) (conflict_back wait.mode k (subst (λ (n : Mode). Conflict n k) (sym mode) conflict));
         };
       })
+
+  -- so of two owners with conflicting modes after a set none was given its own
+  no_conflict : ¬ IsBlockedIn Bytes (locks_on F) (as_wait wait) → (one other : Owner) (byte : ℕ) (m k : Mode) (a b : Bool) → one ≢ other
+      → (is_same_owner (Description wait.owner) one && is_covered wait.span byte) ≡ a
+      → (is_same_owner (Description wait.owner) other && is_covered wait.span byte) ≡ b
+      → (if a then Some wait.mode else F.bytes one byte) ≡ Some m → (if b then Some wait.mode else F.bytes other byte) ≡ Some k → ¬ Conflict m k
+  no_conflict free one other byte m k true true distinct a_is b_is m_is k_is conflict =
+      distinct (sym (hit (Description wait.owner) wait.span one byte a_is).is ∙ (hit (Description wait.owner) wait.span other byte b_is).is)
+  no_conflict free one other byte m k true false distinct a_is b_is m_is k_is conflict = given_conflict free one other byte m k distinct a_is m_is k_is conflict
   no_conflict free one other byte m k false true distinct a_is b_is m_is k_is conflict =
-      let here = hit (Description wait.owner) wait.span other byte b_is in
-      let given : Some wait.mode ≡ Some k = k_is in
-      let mode : wait.mode ≡ k = cc in
-      free (record {
-        byte = byte;
-        covered = here.covered;
-        other = one;
-        blocks = record {
-          another = λ e. distinct (e ∙ here.is);
-          conflicts = subst (λ (held : Option Mode). HeldConflicts held wait.mode) (sym m_is) (subst (λ (n : Mode). Conflict m n) (sym mode) conflict);
-        };
-      })
+      given_conflict free other one byte k m (λ same. distinct (sym same)) b_is k_is m_is (conflict_back m k conflict)
   no_conflict free one other byte m k false false distinct a_is b_is m_is k_is conflict = before.bytes one other byte m k distinct m_is k_is conflict
 
   -- and the same by flock
-  no_flock_conflict : ¬ IsBlockedIn Whole (locks_on F) (as_wait wait) → (one other : ℕ) (m k : Mode) (a b : Bool) → one ≢ other
-      → (wait.owner == one) ≡ a → (wait.owner == other) ≡ b
-      → (if a then Some wait.mode else F.flocks one) ≡ Some m → (if b then Some wait.mode else F.flocks other) ≡ Some k → ¬ Conflict m k
-  no_flock_conflict free one other m k true true distinct a_is b_is m_is k_is conflict = distinct (sym (eqb-true wait.owner one a_is) ∙ eqb-true wait.owner other b_is)
-  no_flock_conflict free one other m k true false distinct a_is b_is m_is k_is conflict =
-      let here = eqb-true wait.owner one a_is in
-      let given : Some wait.mode ≡ Some m = m_is in
+  given_flock_conflict : ¬ IsBlockedIn Whole (locks_on F) (as_wait wait) → (one other : ℕ) (m k : Mode) → one ≢ other → (wait.owner == one) ≡ true
+      → Some wait.mode ≡ Some m → F.flocks other ≡ Some k → ¬ Conflict m k
+  given_flock_conflict free one other m k distinct is m_is k_is conflict =
+      let here = eqb-true wait.owner one is in
       let mode : wait.mode ≡ m = cc in
       free (record {
         description = other;
         another = λ e. distinct (let same : Description other ≡ Description wait.owner = e in let is : other ≡ wait.owner = cc in sym here ∙ sym is);
         conflicts = subst (λ (held : Option Mode). HeldConflicts held wait.mode) (sym k_is) (conflict_back wait.mode k (subst (λ (n : Mode). Conflict n k) (sym mode) conflict));
       })
+
+  no_flock_conflict : ¬ IsBlockedIn Whole (locks_on F) (as_wait wait) → (one other : ℕ) (m k : Mode) (a b : Bool) → one ≢ other
+      → (wait.owner == one) ≡ a → (wait.owner == other) ≡ b
+      → (if a then Some wait.mode else F.flocks one) ≡ Some m → (if b then Some wait.mode else F.flocks other) ≡ Some k → ¬ Conflict m k
+  no_flock_conflict free one other m k true true distinct a_is b_is m_is k_is conflict = distinct (sym (eqb-true wait.owner one a_is) ∙ eqb-true wait.owner other b_is)
+  no_flock_conflict free one other m k true false distinct a_is b_is m_is k_is conflict = given_flock_conflict free one other m k distinct a_is m_is k_is conflict
   no_flock_conflict free one other m k false true distinct a_is b_is m_is k_is conflict =
-      let here = eqb-true wait.owner other b_is in
-      let given : Some wait.mode ≡ Some k = k_is in
-      let mode : wait.mode ≡ k = cc in
-      free (record {
-        description = one;
-        another = λ e. distinct (let same : Description one ≡ Description wait.owner = e in let is : one ≡ wait.owner = cc in is ∙ here);
-        conflicts = subst (λ (held : Option Mode). HeldConflicts held wait.mode) (sym m_is) (subst (λ (n : Mode). Conflict m n) (sym mode) conflict);
-      })
+      given_flock_conflict free other one k m (λ same. distinct (sym same)) b_is k_is m_is (conflict_back m k conflict)
   no_flock_conflict free one other m k false false distinct a_is b_is m_is k_is conflict = before.flocks one other m k distinct m_is k_is conflict
 
   gets_compatible : (family : Family) (G : FileState) → ¬ IsBlockedIn family (locks_on F) (as_wait wait)

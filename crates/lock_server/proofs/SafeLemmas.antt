@@ -17,7 +17,7 @@ use Rattle.lock_server.specs.Safety.{IsCompatible, IsSafe, AreTicketsOnce}
 use Rattle.lock_server.specs.Calls.{SetsOn, ReleasesOn, LeavesOn, FetchComesTo, ForgetsOn}
 use Rattle.lock_server.proofs.ListLemmas.{Any-nil, no_place}
 use Rattle.lock_server.proofs.LeaveLemmas.{Any-at}
-use Rattle.lock_server.proofs.ChainLemmas.{chain_start, chain_weaker, free_on}
+use Rattle.lock_server.proofs.ChainLemmas.{chain_weaker, first_step, free_on}
 use Rattle.lock_server.proofs.StateLemmas.{file_from_same, state_from_same}
 use Rattle.lock_server.proofs.StepLemmas.{LocksFrom, IsWithin, step_from, within_itself, within_left, within_then, filtered_within}
 use Rattle.lock_server.proofs.CompatibleLemmas.{free_from_open, compatible_gets, compatible_fewer, from_fewer, from_set, fewer_unset, fewer_unlocked, FewerLocks}
@@ -174,7 +174,7 @@ safe_opening policy T same =
         flocks = λ one other m k distinct m_is k_is. absurd (let h : None ≡ Some m = m_is in cc);
       };
       settled = λ file. tt;
-      free_of_cycles = λ owner through chain. chain_start (WaitsUncrossed policy opening) (λ n. ⊥) (no_step policy) owner through owner chain;
+      free_of_cycles = λ owner through chain. (let step = first_step (WaitsUncrossed policy opening) owner through owner chain in no_step policy owner step.0 step.1);
       once = record {
         on_one_file = λ file other ticket one more. absurd (Any-nil _ one);
         on_a_file = λ file i j d before within. absurd (omega (arith, within));

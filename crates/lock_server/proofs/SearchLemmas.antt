@@ -4,16 +4,11 @@ use Rattle.std.proofs.lemmas.Bool.{cases_lt}
 use Rattle.std.proofs.lemmas.List.{get_or_append_left, get_or_default, length-append}
 use Rattle.std.proofs.lemmas.List.Elements.{Contains-append_left, Contains-append_cases, Contains-get_or}
 use Rattle.wait_core.specs.Cycles.{IsChain}
-use Rattle.lock_server.proofs.ChainLemmas.{chain_append, first_step}
-
--- p is q, or is led to it
-abbrev pub IsOrLed : (ℕ → ℕ → Type 0) → ℕ → ℕ → Type 0
-IsOrLed R p q = (p ≡ q) ⊎ ((through : List ℕ) × IsChain R p through q)
+use Rattle.lock_server.proofs.ChainLemmas.{IsOrLed, first_step, join_led}
 
 -- one step more
 pub led_on : (R : ℕ → ℕ → Type 0) (p q r : ℕ) → IsOrLed R p q → R q r → IsOrLed R p r
-led_on R p q r (inl same) step = inr ([], subst (λ (n : ℕ). R n r) (sym same) step)
-led_on R p q r (inr (through, chain)) step = inr (through ++ q ∷ [], chain_append R p through q [] r chain step)
+led_on R p q r led step = join_led R p q r led (inr ([], step))
 
 module _ (R : ℕ → ℕ → Type 0) (GoesOn : ℕ → Type 0) (target : ℕ) (start : List ℕ) where
   -- of what was reached all is led to, and of the first so many each that goes on was followed

@@ -41,66 +41,41 @@ all_swept_but old new file others here swept other = elim (cases_eq other file) 
   | inr differs ↦ swept_still old new other (others other differs) (swept other)
 ]
 
--- some owner has a lock on the file
-pub record HasLock (F : FileState) : Type 0 where
-  pub lock : ((owner : Owner) × (byte : ℕ) × IsSome (F.bytes owner byte)) ⊎ ((owner : ℕ) × IsSome (F.flocks owner))
+-- nobody has a lock on the file
+pub record HasNoLock (F : FileState) : Type 0 where
+  pub bytes : (owner : Owner) (byte : ℕ) → F.bytes owner byte ≡ None
+  pub flocks : (owner : ℕ) → F.flocks owner ≡ None
 
-some_still : (test : Bool) (mode : Mode) (was : Option Mode) → IsSome was → IsSome (if test then Some mode else was)
-some_still true mode was some = refl
-some_still false mode was some = some
+none_before : (test : Bool) (mode : Mode) (was : Option Mode) → (if test then Some mode else was) ≡ None → was ≡ None
+none_before test mode was none = grind (arith, common_steps)
 
--- another lock that is set leaves one there
-lock_after_set : (family : Family) (F : FileState) (owner : ℕ) (span : Span) (mode : Mode) (G : FileState) → SetsLock family F owner span (Some mode) G
-    → HasLock F → HasLock G
-lock_after_set Bytes F owner span mode G sets has = elim has.lock [
-  | inl (other, byte, some) ↦ record {
-    lock = inl (other, byte, rw (sets.bytes other byte) (some_still (is_same_owner (Description owner) other && is_covered span byte) mode (F.bytes other byte) some));
-  }
-  | inr (other, some) ↦ record { lock = inr (other, rw (sets.flocks other) some) }
-]
-lock_after_set Whole F owner span mode G sets has = elim has.lock [
-  | inl (other, byte, some) ↦ record { lock = inl (other, byte, rw (sets.bytes other byte) some) }
-  | inr (other, some) ↦ record { lock = inr (other, rw (sets.flocks other) (some_still (owner == other) mode (F.flocks other) some)) }
-]
+-- where a lock was set and nobody has one, nobody had one
+no_lock_before : (family : Family) (F : FileState) (owner : ℕ) (span : Span) (mode : Mode) (G : FileState) → SetsLock family F owner span (Some mode) G
+    → HasNoLock G → HasNoLock F
+no_lock_before family F owner span mode G sets none = grind (arith, common_steps, none_before)
 
-pub same_lock : (F G : FileState) → SameFile F G → HasLock F → HasLock G
-same_lock F G same has = elim has.lock [
-  | inl (owner, byte, some) ↦ record { lock = inl (owner, byte, rw (same.locks.bytes owner byte) some) }
-  | inr (owner, some) ↦ record { lock = inr (owner, rw (same.locks.flocks owner) some) }
-]
-
--- and so does a settling
-lock_after_settling : (policy : Policy) (granted : List Pending) (F G : FileState) → Settles policy F granted G → HasLock F → HasLock G
-lock_after_settling policy [] F G settles has = same_lock F G settles.1 has
-lock_after_settling policy (wait ∷ granted) F G (next, grants, settles) has =
-    lock_after_settling policy granted next G settles (lock_after_set wait.family F wait.owner wait.span wait.mode next grants.gets has)
+no_lock_at_first : (policy : Policy) (granted : List Pending) (F G : FileState) → Settles policy F granted G → HasNoLock G → HasNoLock F
+no_lock_at_first policy [] F G settles none = grind (arith, common_steps)
+no_lock_at_first policy (wait ∷ granted) F G (next, grants, settles) none =
+    no_lock_before wait.family F wait.owner wait.span wait.mode next grants.gets (no_lock_at_first policy granted next G settles none)
 
 -- a lock that is set is there
-some_given : (test : Bool) (mode : Mode) (was : Option Mode) → test ≡ true → IsSome (if test then Some mode else was)
-some_given test mode was given = rw given refl
-
-pub lock_of_bytes : (F : FileState) (owner : ℕ) (span : Span) (mode : Mode) (G : FileState) → IsByteRange span → SetsBytes F owner span (Some mode) G
-    → HasLock G
-lock_of_bytes F owner span mode G range sets =
+pub bytes_set : (F : FileState) (owner : ℕ) (span : Span) (mode : Mode) (G : FileState) → IsByteRange span → SetsBytes F owner span (Some mode) G
+    → ¬ HasNoLock G
+bytes_set F owner span mode G range sets none =
     let here : (owner == owner && is_covered span span.first) ≡ true = grind (arith, nat_tests) in
-    record { lock = inl (Description owner, span.first, rw (sets.bytes (Description owner) span.first) (some_given _ mode (F.bytes (Description owner) span.first) here)) }
+    let is : None ≡ Some mode = sym (none.bytes (Description owner) span.first) ∙ sets.bytes (Description owner) span.first ∙ rw here refl in cc
 
-pub lock_of_flock : (F : FileState) (owner : ℕ) (mode : Mode) (G : FileState) → SetsFlock F owner (Some mode) G → HasLock G
-lock_of_flock F owner mode G sets =
+pub flock_set : (F : FileState) (owner : ℕ) (mode : Mode) (G : FileState) → SetsFlock F owner (Some mode) G → ¬ HasNoLock G
+flock_set F owner mode G sets none =
     let here : (owner == owner) ≡ true = grind (arith, nat_tests) in
-    record { lock = inr (owner, rw (sets.flocks owner) (some_given _ mode (F.flocks owner) here)) }
-
-not_idle : (F : FileState) → HasLock F → ¬ SameFile F untouched
-not_idle F has same = elim has.lock [
-  | inl (owner, byte, some) ↦ (let none : None ≡ F.bytes owner byte = same.locks.bytes owner byte in grind (arith, common_steps))
-  | inr (owner, some) ↦ (let none : None ≡ F.flocks owner = same.locks.flocks owner in grind (arith, common_steps))
-]
+    let is : None ≡ Some mode = sym (none.flocks owner) ∙ sets.flocks owner ∙ rw here refl in cc
 
 -- a file with a lock that was then settled has one
-pub swept_with_lock : (policy : Policy) (S : State) (file : ℕ) (table : Table) → HasLock (S.files file) → SettlesFile policy S file (table_state table)
+pub swept_with_lock : (policy : Policy) (S : State) (file : ℕ) (table : Table) → ¬ HasNoLock (S.files file) → SettlesFile policy S file (table_state table)
     → IsSwept table file
 swept_with_lock policy S file table has settles idle =
-    absurd (not_idle ((table_state table).files file) (lock_after_settling policy settles.granted (S.files file) ((table_state table).files file) settles.settles has) idle)
+    absurd (has (no_lock_at_first policy settles.granted (S.files file) ((table_state table).files file) settles.settles (grind (arith, common_steps))))
 
 -- a file on which a wait has joined has one
 pub swept_with_wait : (table : Table) (file : ℕ) (before : List Pending) (wait : Pending) → ((table_state table).files file).waits ≡ before ++ wait ∷ []

@@ -91,26 +91,28 @@ module _ (waits now : ℕ → List Pending) (waiters after : Waiters) (file : �
       ap (λ (l : List Pending). detected_waits l owner) puts.here ∙ counted_with (is_detected_of owner) (waits file) [] wait
       ∙ ap (λ (l : List Pending). detected_waits l owner + cond (is_detected_of owner wait) 1 0) (append-nil (waits file))
 
-  pub waiters_passed : wait.detect ≡ false → PutsWaits waits now file (waits file ++ wait ∷ []) → WaitersKnown now waiters
-  waiters_passed passed puts = record {
-    detected = λ owner other. elim (cases_eq other file) [
-      | inl here ↦
-          (let one = known.detected owner file in let more = joined_counts puts owner in let none = counts_none owner wait passed in
-          let same : times file (files_of waiters owner) ≡ detected_waits (now file) owner = omega arith in rw here same)
-      | inr elsewhere ↦ rw (puts.others other elsewhere) (known.detected owner other)
-    ];
-    crossed = known.crossed;
-  }
-
-  -- a detected wait joins
-  pub waiters_joined : wait.detect ≡ true → PutsWaits waits now file (waits file ++ wait ∷ []) → Begins waiters after wait.owner file → WaitersKnown now after
-  waiters_joined is_detected puts begins = record {
+  -- the owners are known after a change on the file that counts as their files do
+  known_after : (rest : List Pending) (to : Waiters) → PutsWaits waits now file rest → ((owner : ℕ) → times file (files_of to owner) ≡ detected_waits (now file) owner)
+      → ((owner other : ℕ) → other ≢ file → times other (files_of to owner) ≡ detected_waits (waits other) owner)
+      → ((owner : ℕ) → files_of to owner ≡ [] → crossed_of to owner ≡ false) → WaitersKnown now to
+  known_after rest to puts on_file off_file crossed = record {
     detected = λ owner other. elim (cases_eq other file) [
       | inl here ↦ rw here (on_file owner)
       | inr elsewhere ↦ rw (puts.others other elsewhere) (off_file owner other elsewhere)
     ];
-    crossed = λ owner none. begins.crossed owner ∙ known.crossed owner (none_before owner none);
+    crossed = crossed;
   }
+
+  pub waiters_passed : wait.detect ≡ false → PutsWaits waits now file (waits file ++ wait ∷ []) → WaitersKnown now waiters
+  waiters_passed passed puts =
+      known_after (waits file ++ wait ∷ []) waiters puts
+      (λ owner. let one = known.detected owner file in let more = joined_counts puts owner in let none = counts_none owner wait passed in omega arith)
+      (λ owner other elsewhere. known.detected owner other) known.crossed
+
+  -- a detected wait joins
+  pub waiters_joined : wait.detect ≡ true → PutsWaits waits now file (waits file ++ wait ∷ []) → Begins waiters after wait.owner file → WaitersKnown now after
+  waiters_joined is_detected puts begins =
+      known_after (waits file ++ wait ∷ []) after puts on_file off_file (λ owner none. begins.crossed owner ∙ known.crossed owner (none_before owner none))
     where
       on_file : (owner : ℕ) → times file (files_of after owner) ≡ detected_waits (now file) owner
       on_file owner = elim (cases_eq owner wait.owner) [
@@ -152,28 +154,18 @@ module _ (waits now : ℕ → List Pending) (waiters after : Waiters) (file : �
 
     -- a wait leaves that isn't detected
     pub waiters_unmoved : wait.detect ≡ false → WaitersKnown now waiters
-    waiters_unmoved passed = record {
-      detected = λ owner other. elim (cases_eq other file) [
-        | inl here ↦
-            (let one = known.detected owner file in let more = left_counts owner in let none = counts_none owner wait passed in
-            let same : times file (files_of waiters owner) ≡ detected_waits (now file) owner = omega arith in rw here same)
-        | inr elsewhere ↦ rw (puts.others other elsewhere) (known.detected owner other)
-      ];
-      crossed = known.crossed;
-    }
+    waiters_unmoved passed =
+        known_after (before ++ later) waiters puts
+        (λ owner. let one = known.detected owner file in let more = left_counts owner in let none = counts_none owner wait passed in omega arith)
+        (λ owner other elsewhere. known.detected owner other) known.crossed
 
     -- a detected wait leaves
     pub waiters_left : wait.detect ≡ true → Ends waiters after wait.owner file → WaitersKnown now after
-    waiters_left is_detected ends = record {
-      detected = λ owner other. elim (cases_eq other file) [
-        | inl here ↦ rw here (on_file owner)
-        | inr elsewhere ↦ rw (puts.others other elsewhere) (off_file owner other elsewhere)
-      ];
-      crossed = λ owner none. elim (cases_eq owner wait.owner) [
-        | inl is ↦ rw is (ends.none (ap (files_of after) (sym is) ∙ none))
-        | inr differs ↦ ends.crossed owner differs ∙ known.crossed owner (sym (ends.others owner differs) ∙ none)
-      ];
-    }
+    waiters_left is_detected ends =
+        known_after (before ++ later) after puts on_file off_file (λ owner none. elim (cases_eq owner wait.owner) [
+          | inl is ↦ rw is (ends.none (ap (files_of after) (sym is) ∙ none))
+          | inr differs ↦ ends.crossed owner differs ∙ known.crossed owner (sym (ends.others owner differs) ∙ none)
+        ])
       where
         on_file : (owner : ℕ) → times file (files_of after owner) ≡ detected_waits (now file) owner
         on_file owner = elim (cases_eq owner wait.owner) [

@@ -5,7 +5,7 @@ use Rattle.lock_server.specs.Settling.{IsHeldBack}
 use Rattle.lock_server.specs.TableView.{table_policy, table_state}
 use Rattle.lock_server.proofs.SafeLemmas.{moves_given}
 use Rattle.lock_server.proofs.ServerLemmas.{rests, safe_rested}
-use Rattle.lock_server.proofs.SweptLemmas.{lock_of_flock, swept_with_lock}
+use Rattle.lock_server.proofs.SweptLemmas.{flock_set, swept_with_lock}
 use Rattle.lock_server.proofs.converting.flock_or_refuse.Goals as goal
 
 pub returns-clause-safe : goal.returns-clause-safe
@@ -24,5 +24,5 @@ pub returns-clause-swept : goal.returns-clause-swept
 returns-clause-swept c =
     let set = c.set_flock.new.self in
     swept_with_lock (table_policy set) (table_state set) c.args.file c.settle.new.self
-    (lock_of_flock ((table_state c.args.table.now).files c.args.file) c.args.owner c.args.mode ((table_state set).files c.args.file) c.set_flock.ensures.sets.sets)
+    (flock_set ((table_state c.args.table.now).files c.args.file) c.args.owner c.args.mode ((table_state set).files c.args.file) c.set_flock.ensures.sets.sets)
     c.settle.ensures.settles

@@ -1,5 +1,6 @@
 use Rattle.std.proofs.Common.{◌≡◌, ◌∙◌, inr, refl, sym, subst, false, true}
 use Rattle.std.proofs.Math.Logic.{∥∥₁_map}
+use Rattle.lock_server.specs.Files.{FileState}
 use Rattle.lock_server.specs.Settling.{IsHeldBack, IsWaitBlocked}
 use Rattle.lock_server.specs.States.{State}
 use Rattle.lock_server.specs.TableView.{table_policy, table_state}
@@ -8,9 +9,9 @@ use Rattle.lock_server.proofs.JoinLemmas.{safe_joined}
 use Rattle.lock_server.proofs.ListLemmas.{held_back}
 use Rattle.lock_server.proofs.SafeLemmas.{moves_given}
 use Rattle.lock_server.proofs.ServerLemmas.{ComesToRest, changes_at_rest, rests, safe_at, safe_rested}
-use Rattle.lock_server.proofs.StateLemmas.{state_from_same}
+use Rattle.lock_server.proofs.StateLemmas.{file_from_same, state_from_same}
 use Rattle.lock_server.proofs.TakenLemmas.{tickets_once}
-use Rattle.lock_server.proofs.SweptLemmas.{lock_of_flock, same_lock, swept_with_lock}
+use Rattle.lock_server.proofs.SweptLemmas.{HasNoLock, flock_set, swept_with_lock}
 use Rattle.lock_server.proofs.converting.flock_or_wait.Goals as goal
 
 pub returns-then-blocks-clause-safe : goal.returns-then-blocks-clause-safe
@@ -64,6 +65,6 @@ returns-clause-swept c =
     let set = (table_state c.set_flock.new.self).files c.args.file in
     let back = c.give_back.new.self in
     swept_with_lock (table_policy back) (table_state back) c.args.file c.settle.new.self
-    (same_lock set ((table_state back).files c.args.file) (c.give_back.ensures.same.files c.args.file)
-    (lock_of_flock ((table_state c.args.table.now).files c.args.file) c.args.wanted.owner c.args.wanted.mode set c.set_flock.ensures.sets.sets))
+    (λ none. flock_set ((table_state c.args.table.now).files c.args.file) c.args.wanted.owner c.args.wanted.mode set c.set_flock.ensures.sets.sets
+    (subst (λ (F : FileState). HasNoLock F) (file_from_same set ((table_state back).files c.args.file) (c.give_back.ensures.same.files c.args.file)) none))
     c.settle.ensures.settles

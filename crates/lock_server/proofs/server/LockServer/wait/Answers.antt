@@ -1,16 +1,18 @@
 use Rattle.std.proofs.Common.{◌∙◌, inl, inr, refl, subst, sym, Some, [], ◌∷◌}
 use Rattle.wait_core.specs.declared.Family.TheVariants.{Bytes}
 use Rattle.lock_server.specs.declared.Pending.{Pending}
-use Rattle.lock_server.specs.Calls.{IsRefused, Suspends, byte_request}
+use Rattle.lock_server.specs.declared.WaitAnswer.TheVariants as told
+use Rattle.lock_server.specs.Calls.{IsRefused, Suspends, WaitComesTo, byte_request}
 use Rattle.lock_server.specs.ServerView.{policy_of, state_of}
 use Rattle.lock_server.specs.Settling.{IsWaitBlocked}
 use Rattle.lock_server.specs.States.{State}
 use Rattle.lock_server.specs.TableView.{table_policy, table_state}
 use Rattle.lock_server.proofs.CompatibleLemmas.{free_from_open}
 use Rattle.lock_server.proofs.SafeLemmas.{moves_given}
-use Rattle.lock_server.proofs.ServerLemmas.{changes_at_rest, rests, safe_after_join, safe_rested, safe_same}
+use Rattle.lock_server.proofs.ServerLemmas.{ComesToRest, changes_at_rest, rests, safe_after_join, safe_rested, safe_same}
 use Rattle.lock_server.proofs.StateLemmas.{state_from_same}
-use Rattle.lock_server.proofs.SweptLemmas.{all_swept_but, lock_of_bytes, swept_with_lock, swept_with_wait}
+use Rattle.lock_server.proofs.SweptLemmas.{all_swept_but, bytes_set, swept_with_lock, swept_with_wait}
+use Rattle.lock_server.proofs.server.LockServer.wait.Goals.{After-join, After-set, After-settle}
 use Rattle.lock_server.proofs.server.LockServer.wait.Goals as goal
 
 pub invariant_of-self : goal.invariant_of-self
@@ -22,23 +24,31 @@ invariant_of-self c =
       swept = all_swept_but table new c.args.file c.set.ensures.others (c.in_err-set.ensures.swept (c.args.self.now.swept c.args.file)) c.args.self.now.swept;
     }
 
+-- nothing blocks the request, and the file came to rest after its set
+ready : (c : After-set) → ¬ IsWaitBlocked (table_policy c.args.self.now.table) ((table_state c.args.self.now.table).files c.args.file)
+    ((table_state c.args.self.now.table).files c.args.file).waits (byte_request c.args.ticket c.args.owner c.args.span c.args.mode c.args.detect)
+ready c blocked =
+    let F = (table_state c.args.self.now.table).files c.args.file in
+    let back = c.blocks-2.ensures.1 (subst (λ (w : Pending). IsWaitBlocked (table_policy c.args.self.now.table) F F.waits w) (sym c.byte_request-wanted.ensures) blocked) in
+    let none = c.if-not-blocks.true in cc
+
+rest : (c : After-settle) → ComesToRest (table_policy c.args.self.now.table) (table_state c.set.new.self) c.args.file (table_state c.settle.new.self)
+rest c = rests _ c.set.new.self c.settle.new.self c.args.file c.set.ensures.policy c.settle.ensures.policy c.settle.ensures.settles c.settle.ensures.settled
+
 pub invariant_of-self-then-not-blocks : goal.invariant_of-self-then-not-blocks
 invariant_of-self-then-not-blocks c =
+    let at = goal.at.invariant_of-self-then-not-blocks c in
     let table = c.args.self.now.table in
-    let S = table_state table in
-    let F = S.files c.args.file in
+    let F = (table_state table).files c.args.file in
     let request = byte_request c.args.ticket c.args.owner c.args.span c.args.mode c.args.detect in
-    let ready : ¬ IsWaitBlocked (table_policy table) F F.waits request =
-    λ blocked. (let back = c.blocks-2.ensures.1 (subst (λ (w : Pending). IsWaitBlocked (table_policy table) F F.waits w) (sym c.byte_request-wanted.ensures) blocked) in
-    let none = c.if-not-blocks.true in cc) in
-    let rest = rests (table_policy table) c.set.new.self c.settle.new.self c.args.file c.set.ensures.policy c.settle.ensures.policy c.settle.ensures.settles c.settle.ensures.settled in
     record {
       safe = safe_rested table c.settle.new.self (c.args.owner ∷ []) (table_state c.set.new.self) c.args.file c.args.self.now.safe (c.settle.ensures.policy ∙ c.set.ensures.policy)
-          (moves_given S c.args.file request (table_state c.set.new.self) (free_from_open (table_policy table) F F.waits request ready) c.in_ok-set.ensures.ok) rest;
+          (moves_given (table_state table) c.args.file request (table_state c.set.new.self) (free_from_open (table_policy table) F F.waits request (ready at.After-set)) c.in_ok-set.ensures.ok)
+          (rest at.After-settle);
       swept = all_swept_but table c.settle.new.self c.args.file
           (λ other differs. c.settle.ensures.others other differs ∙ c.set.ensures.others other differs)
           (swept_with_lock (table_policy c.set.new.self) (table_state c.set.new.self) c.args.file c.settle.new.self
-          (lock_of_bytes F c.args.owner c.args.span c.args.mode ((table_state c.set.new.self).files c.args.file) c.requires c.in_ok-set.ensures.ok.sets)
+          (bytes_set F c.args.owner c.args.span c.args.mode ((table_state c.set.new.self).files c.args.file) c.requires c.in_ok-set.ensures.ok.sets)
           c.settle.ensures.settles)
           c.args.self.now.swept;
     }
@@ -46,17 +56,10 @@ invariant_of-self-then-not-blocks c =
 pub returns-then-not-blocks-clause-ok : goal.returns-then-not-blocks-clause-ok
 unfolding policy_of state_of
 returns-then-not-blocks-clause-ok c =
-    let table = c.args.self.now.table in
-    let S = table_state table in
-    let F = S.files c.args.file in
-    let request = byte_request c.args.ticket c.args.owner c.args.span c.args.mode c.args.detect in
-    let ready : ¬ IsWaitBlocked (table_policy table) F F.waits request =
-    λ blocked. (let back = c.blocks-2.ensures.1 (subst (λ (w : Pending). IsWaitBlocked (table_policy table) F F.waits w) (sym c.byte_request-wanted.ensures) blocked) in
-    let none = c.if-not-blocks.true in cc) in
-    let rest = rests (table_policy table) c.set.new.self c.settle.new.self c.args.file c.set.ensures.policy c.settle.ensures.policy c.settle.ensures.settles c.settle.ensures.settled in
+    let at = goal.at.returns-then-not-blocks-clause-ok c in
     inr (
-      ready,
-      (refl, changes_at_rest (table_policy table) S c.args.file Bytes c.args.owner c.args.span (Some c.args.mode) (table_state c.set.new.self) (table_state c.settle.new.self) c.in_ok-set.ensures.ok rest),
+      ready at.After-set,
+      (refl, changes_at_rest _ (table_state c.args.self.now.table) c.args.file Bytes c.args.owner c.args.span (Some c.args.mode) _ _ c.in_ok-set.ensures.ok (rest at.After-settle)),
     )
 
 pub invariant_of-self-in-Break-branch-3 : goal.invariant_of-self-in-Break-branch-3
@@ -68,22 +71,25 @@ invariant_of-self-in-Break-branch-3 c =
       swept = all_swept_but table new c.args.file c.reserve.ensures.others (c.in_err-reserve.ensures.swept (c.args.self.now.swept c.args.file)) c.args.self.now.swept;
     }
 
-pub invariant_of-self-2 : goal.invariant_of-self-2
+-- the request is blocked and closes no cycle, and has joined the waits
+waits : (c : After-join) → IsWaitBlocked (table_policy c.args.self.now.table) ((table_state c.args.self.now.table).files c.args.file)
+    ((table_state c.args.self.now.table).files c.args.file).waits c.byte_request-wanted.result
+    × (¬ IsRefused (table_policy c.args.self.now.table) (table_state c.args.self.now.table) c.args.file c.byte_request-wanted.result)
+    × Suspends (table_state c.args.self.now.table) c.args.file c.byte_request-wanted.result (table_state c.join.new.self)
 unfolding policy_of state_of
+waits c = (
+  c.blocks-2.ensures.0 c.if-not-blocks.false,
+  λ refused. (let back = c.in_ok-closes_cycle.ensures.1 refused in let none = c.if-branch.false in cc),
+  subst (λ (U : State). Suspends U c.args.file c.byte_request-wanted.result (table_state c.join.new.self))
+      (state_from_same (table_state c.args.self.now.table) (table_state c.reserve.new.self) c.reserve.ensures.same) c.join.ensures.suspends,
+)
+
+pub invariant_of-self-2 : goal.invariant_of-self-2
 invariant_of-self-2 c =
     let table = c.args.self.now.table in
-    let S = table_state table in
-    let F = S.files c.args.file in
-    let request = byte_request c.args.ticket c.args.owner c.args.span c.args.mode c.args.detect in
-    let suspends =
-    subst (λ (U : State). Suspends U c.args.file request (table_state c.join.new.self)) (state_from_same S (table_state c.reserve.new.self) c.reserve.ensures.same)
-    (subst (λ (w : Pending). Suspends (table_state c.reserve.new.self) c.args.file w (table_state c.join.new.self)) c.byte_request-wanted.ensures c.join.ensures.suspends) in
-    let blocked = subst (λ (w : Pending). IsWaitBlocked (table_policy table) F F.waits w) c.byte_request-wanted.ensures (c.blocks-2.ensures.0 c.if-not-blocks.false) in
-    let passed : ¬ IsRefused (table_policy table) S c.args.file request =
-    λ refused. (let back = c.in_ok-closes_cycle.ensures.1 (subst (λ (w : Pending). IsRefused (table_policy table) S c.args.file w) (sym c.byte_request-wanted.ensures) refused) in
-    let none = c.if-branch.false in cc) in
+    let (blocked, passed, suspends) = waits (goal.at.invariant_of-self-2 c).After-join in
     record {
-      safe = safe_after_join table c.join.new.self c.args.file request c.args.self.now.safe (c.join.ensures.policy ∙ c.reserve.ensures.policy) suspends blocked passed;
+      safe = safe_after_join table c.join.new.self c.args.file c.byte_request-wanted.result c.args.self.now.safe (c.join.ensures.policy ∙ c.reserve.ensures.policy) suspends blocked passed;
       swept = all_swept_but table c.join.new.self c.args.file (λ other differs. c.join.ensures.others other differs ∙ c.reserve.ensures.others other differs)
           (swept_with_wait c.join.new.self c.args.file _ _ c.join.ensures.suspends.joins.waits) c.args.self.now.swept;
     }
@@ -91,15 +97,6 @@ invariant_of-self-2 c =
 pub returns-clause-ok : goal.returns-clause-ok
 unfolding policy_of state_of
 returns-clause-ok c =
-    let table = c.args.self.now.table in
-    let S = table_state table in
-    let F = S.files c.args.file in
-    let request = byte_request c.args.ticket c.args.owner c.args.span c.args.mode c.args.detect in
-    let suspends =
-    subst (λ (U : State). Suspends U c.args.file request (table_state c.join.new.self)) (state_from_same S (table_state c.reserve.new.self) c.reserve.ensures.same)
-    (subst (λ (w : Pending). Suspends (table_state c.reserve.new.self) c.args.file w (table_state c.join.new.self)) c.byte_request-wanted.ensures c.join.ensures.suspends) in
-    let blocked = subst (λ (w : Pending). IsWaitBlocked (table_policy table) F F.waits w) c.byte_request-wanted.ensures (c.blocks-2.ensures.0 c.if-not-blocks.false) in
-    let passed : ¬ IsRefused (table_policy table) S c.args.file request =
-    λ refused. (let back = c.in_ok-closes_cycle.ensures.1 (subst (λ (w : Pending). IsRefused (table_policy table) S c.args.file w) (sym c.byte_request-wanted.ensures) refused) in
-    let none = c.if-branch.false in cc) in
-    inl (blocked, inr (passed, (refl, suspends)))
+    let (blocked, passed, suspends) = waits (goal.at.returns-clause-ok c).After-join in
+    subst (λ (w : Pending). WaitComesTo (table_policy c.args.self.now.table) (table_state c.args.self.now.table) c.args.file w told.Waits (table_state c.join.new.self)) c.byte_request-wanted.ensures
+    (inl (blocked, inr (passed, (refl, suspends))))
