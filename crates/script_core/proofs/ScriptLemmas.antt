@@ -82,7 +82,8 @@ pub record IsFull (parts : List (List ℕ)) : Type 0 where
   pub is : without_empty_end parts ≡ parts
 
 tail_of : List (List ℕ) → List (List ℕ)
-tail_of h = grind (arith, common_steps)
+tail_of [] = []
+tail_of (part ∷ parts) = parts
 
 IsFull-empty : (parts : List (List ℕ)) → HasFirst parts → IsFull parts → IsFull ([] ∷ parts)
 IsFull-empty parts given full = grind (arith, common_steps)
