@@ -1,7 +1,9 @@
 -- The texts of a run: for `explained_text`, `replay`, `replay_in_threads` and others.
 use Rattle.std.proofs.lemmas.Grind.{common_steps}
-use Rattle.std.proofs.Common.{◌≡◌, ◌≤◌, ◌∙◌, ℕ, List, [], ◌∷◌, ◌++◌, Option, sym, ap, subst, length, arith, Ok, Result}
+use Rattle.std.proofs.Common.{◌≡◌, ◌≤◌, ◌∙◌, ℕ, List, [], ◌∷◌, ◌++◌, Option, sym, ap, subst, length, filter, ◌==◌, arith, Ok, Result}
 use Rattle.std.specs.Io.KnownBytes.{IsAtEnd}
+use Rattle.std.proofs.lemmas.List.{length-map}
+use Rattle.std.proofs.lemmas.List.Sums.{length-filter, count_by-le-length}
 use Rattle.std.proofs.Math.Logic.{∥∥₁_map}
 use Rattle.lock_manager.specs.declared.request.Request.{Request}
 use Rattle.lock_manager.specs.declared.request.Rules.{Rules}
@@ -17,7 +19,7 @@ use Rattle.script_core.specs.declared.TheConstants.{SCRIPT_MAX}
 use Rattle.script_core.specs.declared.script.ScriptFault.{ScriptFault}
 use Rattle.script_core.specs.ScriptText.{Meaning}
 use Rattle.script_core.specs.ReportText.{IsReport, AreCounts}
-use Rattle.script_core.specs.Output.{IsOutput, processes_in}
+use Rattle.script_core.specs.Output.{processes_in}
 use Rattle.script_core.specs.declared.states.States.{States}
 use Rattle.script_core.specs.Explaining.{ExplainsRun, IsExplained, unborn_lines}
 use Rattle.replay_core.specs.declared.replays.Ran.{Ran}
@@ -71,22 +73,6 @@ abbrev IsExplainedOf : States → Ran → List ℕ → Type 0
 IsExplainedOf states ran text =
     (count : ℕ → ℕ) → AreCounts ran.sent.items count → (S : State) → StandsFor (manager_of ran.session) S → IsLedTo ran S
     → IsExplainedTextOf states ran count S text
-
--- it is the script's output
-pub outputs : (bytes text : List ℕ) (ran : Ran) → IsRunOf bytes ran → IsToldOf ran text → IsOutput bytes text
-outputs bytes text ran run told =
-    let count = λ (p : ℕ). length (requests_sent p run.script.arrivals) in
-    let is = told count run.counts run.state run.stands in
-    record {
-      script = run.script;
-      accepted = run.accepted;
-      journal = events_in ran.session;
-      state = run.state;
-      drained = run.drained;
-      report = is.report;
-      is_report = subst (λ (n : ℕ). IsReport n run.state (events_in ran.session) count is.report) run.processes is.is_report;
-      is = is.is;
-    }
 
 -- and so it is explained
 pub explains : (states : States) (bytes text : List ℕ) (ran : Ran) → IsRunOf bytes ran → IsExplainedOf states ran text → IsExplained states bytes text
@@ -198,3 +184,11 @@ pub writes : (Outputs : List ℕ → List ℕ → Type 0) (read_old read_new : O
     → ReadsWhole read_old read_new bytes → length bytes ≤ SCRIPT_MAX → Outputs bytes text → Written text
     → WritesOf Outputs read_old read_new Written
 writes Outputs read_old read_new Written bytes text read short out written = grind (arith, common_steps, read_to_end)
+
+-- no process sends more than arrives
+pub sent_few : (p : ℕ) (arrivals : List (ℕ × Request)) → length (requests_sent p arrivals) ≤ length arrivals
+sent_few p arrivals =
+    let sent = length-map (filter (λ (arrival : ℕ × Request). arrival.0 == p) arrivals) (λ (arrival : ℕ × Request). arrival.1) in
+    let own = length-filter (λ (arrival : ℕ × Request). arrival.0 == p) arrivals in
+    let few = count_by-le-length (λ (arrival : ℕ × Request). arrival.0 == p) arrivals in
+    omega (arith, sent, own, few)

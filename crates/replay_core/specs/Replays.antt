@@ -3,7 +3,12 @@ use Rattle.std.specs.Prelude.{◌≡◌, ℕ, ◌++◌, Option, List, Ok, Err, f
 use Rattle.std.specs.Io.KnownBytes.{Consumes, IsAtEnd, Appends}
 use Rattle.lock_manager.specs.State.{State, opening_state}
 use Rattle.lock_manager.specs.ManagerView.{StandsFor, processes_of}
+use Rattle.lock_manager.specs.declared.request.Rules.{Rules}
+use Rattle.lock_manager.specs.declared.request.Request.{Request}
 use Rattle.session_core.specs.declared.session.Session.{Session}
+use Rattle.session_core.specs.declared.sequencer.Sequencer.{Sequencer}
+use Rattle.session_core.specs.Event.{Event}
+use Rattle.session_core.specs.Deliveries.{HasRun}
 use Rattle.session_core.specs.SessionView.{manager_of, events_in}
 use Rattle.session_core.specs.Mail.{requests_sent}
 use Rattle.session_core.specs.Runs.{Leads}
@@ -55,6 +60,12 @@ pub record IsTextOf (session : Session) (sent : ℕ → ℕ) (S : State) (text :
   pub report : List ℕ
   pub is_report : IsReport (processes_of (manager_of session)) S (events_in session) sent report
   pub is : text ≡ flat_map entry_line (events_in session) ++ report
+
+-- the arrivals were run and made a journal, whose lines stand behind the text that there was
+pub record WritesRun (rules : Rules) (processes : ℕ) (arrivals : List (ℕ × Request)) (sequencer : Sequencer) (before after : List ℕ) : Type 0 where
+  pub journal : List Event
+  pub ran : HasRun rules processes arrivals sequencer journal
+  pub written : after ≡ before ++ flat_map entry_line journal
 
 -- the journal leads to the state, from the opening
 abbrev pub IsLedTo : Ran → State → Type 0

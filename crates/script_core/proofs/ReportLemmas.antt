@@ -10,9 +10,9 @@ use Rattle.lock_manager.specs.declared.request.ProcState.{ProcState}
 use Rattle.lock_manager.specs.declared.manager.Manager.{Manager}
 use Rattle.lock_manager.specs.State.{State}
 use Rattle.lock_manager.specs.ManagerView.{StandsFor, processes_of, state_at}
-use Rattle.session_core.specs.declared.session.Session.{Session}
+use Rattle.session_core.specs.declared.sequencer.Sequencer.{Sequencer}
 use Rattle.session_core.specs.Event.{Event}
-use Rattle.session_core.specs.SessionView.{manager_of, events_in}
+use Rattle.session_core.specs.SequencerView.{manager_in, HasTold}
 use Rattle.script_core.specs.ReportText.{held_line, wait_line, line_of, reported_line, process_lines, IsReport, IsReportOf, AreCounts, WritesReport}
 
 -- the lines of one more process
@@ -57,22 +57,23 @@ pub report_in_state : (manager : Manager) (S : State) (processes : ℕ) (events 
 report_in_state manager S processes events sent locks waits text h held wait is = grind (arith, common_steps)
 
 -- what is written of the locks, the waits and the processes is one text, which is the report of each state that the manager stands for
-pub report_written : (session : Session) (sent : List ℕ) (locks : List Held) (waits : List Wait) (old new : List ℕ)
-    → ((S : State) → StandsFor (manager_of session) S → IsHeldReport (mode_in S.changes) (flock_mode_in S.flock_changes) locks)
-    → ((S : State) → StandsFor (manager_of session) S → waits ≡ S.waits)
-    → WritesReport session sent locks waits old new
+pub report_written : (sequencer : Sequencer) (sent : List ℕ) (locks : List Held) (waits : List Wait) (old new : List ℕ)
+    → ((S : State) → StandsFor (manager_in sequencer) S → IsHeldReport (mode_in S.changes) (flock_mode_in S.flock_changes) locks)
+    → ((S : State) → StandsFor (manager_in sequencer) S → waits ≡ S.waits)
+    → WritesReport sequencer sent locks waits old new
+    → (journal : List Event) → HasTold sequencer journal
     → (text : List ℕ)
-    × ((S : State) → StandsFor (manager_of session) S → IsReportOf session sent S text)
+    × ((S : State) → StandsFor (manager_in sequencer) S → IsReportOf sequencer journal sent S text)
     × (new ≡ old ++ text)
-report_written session sent locks waits old new held waiting writes =
-    let manager = manager_of session in
+report_written sequencer sent locks waits old new held waiting writes journal told =
+    let manager = manager_in sequencer in
     let own : ℕ → ℕ = λ p. slice_index sent (p - 1) in
     let text_of : (ℕ → ℕ) → List ℕ =
-    λ counts. flat_map held_line locks ++ flat_map wait_line waits ++ process_lines (state_at manager) (events_in session) counts 1 (processes_of manager) in
-    let written : new ≡ old ++ text_of own = writes own (λ p first last. refl) in (
+    λ counts. flat_map held_line locks ++ flat_map wait_line waits ++ process_lines (state_at manager) journal counts 1 (processes_of manager) in
+    let written : new ≡ old ++ text_of own = writes journal own told (λ p first last. refl) in (
       text_of own,
       (λ S stands counts are.
-          report_in_state manager S (processes_of manager) (events_in session) counts locks waits (text_of own) stands (held S stands) (waiting S stands)
-          (append_cancel_left old (text_of own) (text_of counts) (sym written ∙ writes counts are))),
+          report_in_state manager S (processes_of manager) journal counts locks waits (text_of own) stands (held S stands) (waiting S stands)
+          (append_cancel_left old (text_of own) (text_of counts) (sym written ∙ writes journal counts told are))),
       written,
     )

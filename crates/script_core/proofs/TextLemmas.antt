@@ -15,6 +15,10 @@ join_words word (next ∷ words) = ap (λ rest. word ++ 32 ∷ rest) (join_words
 pub kept_behind : (old mid new front : List ℕ) → mid ≡ old ++ front → Extends mid new → Extends old new
 kept_behind old mid new front is kept = grind (arith, common_steps, append_assoc)
 
+-- and what extends it extends it still with a piece more
+pub extends_on : (old mid new piece : List ℕ) → Extends old mid → new ≡ mid ++ piece → Extends old new
+extends_on old mid new piece so_far is = grind (arith, common_steps, append_assoc)
+
 -- one more piece behind a front that was appended
 pub then_pushed : {A E : Type 0} (r : Result A E) (old mid new front piece : List ℕ) → mid ≡ old ++ front
     → MatchResult r (λ unit. new ≡ mid ++ piece) (λ error. Extends mid new)

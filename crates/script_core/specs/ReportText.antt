@@ -15,10 +15,10 @@ use Rattle.lock_manager.specs.declared.request.ProcState.{ProcState}
 use Rattle.lock_manager.specs.declared.request.ProcState.TheVariants.{Unborn, Live, Waiting, Ended}
 use Rattle.lock_manager.specs.State.{State}
 use Rattle.lock_manager.specs.ManagerView.{processes_of, state_at}
-use Rattle.session_core.specs.declared.session.Session.{Session}
+use Rattle.session_core.specs.declared.sequencer.Sequencer.{Sequencer}
 use Rattle.session_core.specs.Event.{Event}
 use Rattle.session_core.specs.Mail.{events_of, answers_to}
-use Rattle.session_core.specs.SessionView.{manager_of, events_in}
+use Rattle.session_core.specs.SequencerView.{manager_in, HasTold}
 use Rattle.script_core.specs.declared.report_text.ProcessLine.{ProcessLine}
 use Rattle.script_core.specs.RequestText.{mode_word}
 use Rattle.script_core.specs.EntryText.{tag}
@@ -117,14 +117,15 @@ pub record IsReport (processes : ℕ) (S : State) (events : List Event) (sent : 
 abbrev pub AreCounts : List ℕ → (ℕ → ℕ) → Type 0
 AreCounts counts count = (p : ℕ) → 1 ≤ p → p ≤ length counts → slice_index counts (p - 1) ≡ count p
 
--- the text is the report of the session in this state, with the counts of the list
-abbrev pub IsReportOf : Session → List ℕ → State → List ℕ → Type 0
-IsReportOf session counts S text =
-    (sent : ℕ → ℕ) → AreCounts counts sent → IsReport (processes_of (manager_of session)) S (events_in session) sent text
+-- the text is the report of the sequencer in this state, behind this journal, with the counts of the list
+abbrev pub IsReportOf : Sequencer → List Event → List ℕ → State → List ℕ → Type 0
+IsReportOf sequencer journal counts S text =
+    (sent : ℕ → ℕ) → AreCounts counts sent → IsReport (processes_of (manager_in sequencer)) S journal sent text
 
--- the new text is the old one, and behind it the lines of these locks, of these waits and of the processes, with the counts of the list
-abbrev pub WritesReport : Session → List ℕ → List Held → List Wait → List ℕ → List ℕ → Type 0
-WritesReport session counts locks waits old new =
-    let manager = manager_of session in
-    (sent : ℕ → ℕ) → AreCounts counts sent
-    → new ≡ old ++ (flat_map held_line locks ++ flat_map wait_line waits ++ process_lines (state_at manager) (events_in session) sent 1 (processes_of manager))
+-- the new text is the old one, and behind it the lines of these locks, of these waits and of the processes, behind
+-- whatever journal was told, with the counts of the list
+abbrev pub WritesReport : Sequencer → List ℕ → List Held → List Wait → List ℕ → List ℕ → Type 0
+WritesReport sequencer counts locks waits old new =
+    let manager = manager_in sequencer in
+    (journal : List Event) (sent : ℕ → ℕ) → HasTold sequencer journal → AreCounts counts sent
+    → new ≡ old ++ (flat_map held_line locks ++ flat_map wait_line waits ++ process_lines (state_at manager) journal sent 1 (processes_of manager))

@@ -2,7 +2,8 @@
 ghost use Rattle.std.specs.Prelude.{◌≡◌, ℕ, ◌≤◌, List, ◌++◌, MatchResult, OnOk, OnErr, length, flat_map};
 ghost use Rattle.lock_manager.specs.State.{State};
 ghost use Rattle.lock_manager.specs.ManagerView.{StandsFor, processes_of, state_at};
-ghost use Rattle.session_core.specs.SessionView.{manager_of, events_in};
+ghost use Rattle.session_core.specs.Event.{Event};
+ghost use Rattle.session_core.specs.SequencerView.{manager_in, HasTold};
 ghost use Rattle.script_core.specs.Reading.{IsReadBack};
 ghost use Rattle.script_core.specs.EntryText.{entry_line};
 ghost use Rattle.script_core.specs.EntryReading.{IsEntryReadBack};
@@ -15,7 +16,7 @@ use crate::report_text::{ProcessLine, push_held, push_process, push_wait};
 use lock_book::Held;
 use lock_manager::ProcState;
 use range_core::Memory;
-use session_core::{Entry, Session};
+use session_core::{Entry, Sequencer};
 use wait_core::Wait;
 
 /// Appends the line of an entry. After `Memory` the vector has its old bytes and a front of the text.
@@ -39,37 +40,38 @@ pub fn write_entry(entry: &Entry, out: &mut Vec<u8>) -> Result<(), Memory>
     Ok(())
 }
 
-/// Appends the report of a session: the locks that are held, then the requests that wait, and then each process that was
+/// Appends the report of what a sequencer ran: the locks that are held, then the requests that wait, and then each process that was
 /// ever alive or has sent something, with what it sent by the counts in `sent`, one for each process from process 1 on. After
 /// `Memory` the vector has its old bytes and a front of the text.
-pub fn write_report(session: &Session, sent: &[u64], out: &mut Vec<u8>) -> Result<(), Memory>
-    requires { length sent.now ≡ processes_of (manager_of session.now) }
+pub fn write_report(sequencer: &Sequencer, sent: &[u64], out: &mut Vec<u8>) -> Result<(), Memory>
+    requires { length sent.now ≡ processes_of (manager_in sequencer.now) }
 
-    // One text is the report of whatever state the manager stands for.
-    ensures ok { OnOk result ((text : List ℕ) × ((S : State) → StandsFor (manager_of session.now) S → IsReportOf session.now sent.now S text)
+    // One text is the report of whatever state the manager stands for, behind the journal that was told.
+    ensures ok { OnOk result ((journal : List Event) → HasTold sequencer.now journal → (text : List ℕ)
+        × ((S : State) → StandsFor (manager_in sequencer.now) S → IsReportOf sequencer.now journal sent.now S text)
         × (out.new.items ≡ out.old.items ++ text)) }
-    ensures err { OnErr result ((S : State) → StandsFor (manager_of session.now) S → (text : List ℕ) → IsReportOf session.now sent.now S text
-        → AppendsPartOf out.old.items out.new.items text) }
+    ensures err { OnErr result ((journal : List Event) → HasTold sequencer.now journal → (S : State) → StandsFor (manager_in sequencer.now) S
+        → (text : List ℕ) → IsReportOf sequencer.now journal sent.now S text → AppendsPartOf out.old.items out.new.items text) }
 {
-    let locks = session.manager().held()?;
-    let waits = session.manager().waits()?;
-    append_report(out, session, sent, &locks, &waits)
+    let locks = sequencer.manager().held()?;
+    let waits = sequencer.manager().waits()?;
+    append_report(out, sequencer, sent, &locks, &waits)
 }
 
 /// Appends those lines, or leaves the text as it was.
 fn append_report(
     text: &mut Vec<u8>,
-    session: &Session,
+    sequencer: &Sequencer,
     sent: &[u64],
     locks: &[Held],
     waits: &[Wait],
 ) -> Result<(), Memory>
-    requires { length sent.now ≡ processes_of (manager_of session.now) }
-    ensures ok { OnOk result (WritesReport session.now sent.now locks.now waits.now text.old.items text.new.items) }
+    requires { length sent.now ≡ processes_of (manager_in sequencer.now) }
+    ensures ok { OnOk result (WritesReport sequencer.now sent.now locks.now waits.now text.old.items text.new.items) }
     ensures err { OnErr result (text.new.items ≡ text.old.items) }
 {
     let len = text.len();
-    if let Err(memory) = push_report(text, session, sent, locks, waits) {
+    if let Err(memory) = push_report(text, sequencer, sent, locks, waits) {
         text.truncate(len);
         return Err(memory);
     }
@@ -79,18 +81,18 @@ fn append_report(
 /// Appends the lines of the locks that are held, of the requests that wait and of the processes.
 fn push_report(
     text: &mut Vec<u8>,
-    session: &Session,
+    sequencer: &Sequencer,
     sent: &[u64],
     locks: &[Held],
     waits: &[Wait],
 ) -> Result<(), Memory>
-    requires { length sent.now ≡ processes_of (manager_of session.now) }
-    ensures { MatchResult result (λ unit. WritesReport session.now sent.now locks.now waits.now text.old.items text.new.items)
+    requires { length sent.now ≡ processes_of (manager_in sequencer.now) }
+    ensures { MatchResult result (λ unit. WritesReport sequencer.now sent.now locks.now waits.now text.old.items text.new.items)
         (λ error. Extends text.old.items text.new.items) }
 {
     push_locks(text, locks)?;
     push_waits(text, waits)?;
-    push_processes(text, session, sent)
+    push_processes(text, sequencer, sent)
 }
 
 /// Appends a line for each lock that is held.
@@ -114,30 +116,30 @@ fn push_waits(text: &mut Vec<u8>, waits: &[Wait]) -> Result<(), Memory>
 }
 
 /// Appends a line for each process that was ever alive or has sent something.
-fn push_processes(text: &mut Vec<u8>, session: &Session, sent: &[u64]) -> Result<(), Memory>
-    requires { length sent.now ≡ processes_of (manager_of session.now) }
-    ensures { MatchResult result (λ unit. (counts : ℕ → ℕ) → AreCounts sent.now counts → text.new.items ≡ text.old.items
-        ++ process_lines (state_at (manager_of session.now)) (events_in session.now) counts 1 (processes_of (manager_of session.now)))
+fn push_processes(text: &mut Vec<u8>, sequencer: &Sequencer, sent: &[u64]) -> Result<(), Memory>
+    requires { length sent.now ≡ processes_of (manager_in sequencer.now) }
+    ensures { MatchResult result (λ unit. (journal : List Event) (counts : ℕ → ℕ) → HasTold sequencer.now journal → AreCounts sent.now counts
+        → text.new.items ≡ text.old.items ++ process_lines (state_at (manager_in sequencer.now)) journal counts 1 (processes_of (manager_in sequencer.now)))
         (λ error. Extends text.old.items text.new.items) }
 {
-    for index in 0..session.manager().processes() {
-        let line = line_of(session, index + 1, sent[usize::from(index)]);
+    for index in 0..sequencer.manager().processes() {
+        let line = line_of(sequencer, index + 1, sent[usize::from(index)]);
         push_reported(text, &line)?;
     }
     Ok(())
 }
 
 /// What there is to tell of a process that sent so much.
-fn line_of(session: &Session, p: u8, sent: u64) -> ProcessLine
-    requires { (1 ≤ p) × (p ≤ processes_of (manager_of session.now)) }
-    ensures { result ≡ spec.line_of (state_at (manager_of session.now)) (events_in session.now) (λ q. sent) p }
+fn line_of(sequencer: &Sequencer, p: u8, sent: u64) -> ProcessLine
+    requires { (1 ≤ p) × (p ≤ processes_of (manager_in sequencer.now)) }
+    ensures { (journal : List Event) → HasTold sequencer.now journal → result ≡ spec.line_of (state_at (manager_in sequencer.now)) journal (λ q. sent) p }
 {
     ProcessLine {
         p,
         sent,
-        taken: session.taken(p),
-        answered: session.answered(p),
-        state: session.manager().state_of(p),
+        taken: sequencer.taken(p),
+        answered: sequencer.answered(p),
+        state: sequencer.manager().state_of(p),
     }
 }
 

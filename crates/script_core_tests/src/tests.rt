@@ -116,10 +116,10 @@ fn write_report_without_memory(rt: HostRuntime) -> Result<(), Fail> {
     ];
     let session = run_all(rt.alloc(), 2, RULES, &arrivals)?;
     let mut out = Vec::new(rt.alloc());
-    if write_report(&session, &[3, 2], &mut out).is_err() {
+    if write_report(session.sequencer(), &[3, 2], &mut out).is_err() {
         assert!(rt; REPORT.starts_with(&out));
         out.clear();
-        let second = write_report(&session, &[3, 2], &mut out);
+        let second = write_report(session.sequencer(), &[3, 2], &mut out);
         assert!(rt; second.is_ok(), "refused again");
     }
     assert_eq!(rt; out.as_slice(), REPORT);

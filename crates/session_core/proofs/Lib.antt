@@ -3,6 +3,7 @@ pub mod queue
 pub mod runs
 pub mod LeadsLemmas
 pub mod MailLemmas
+pub mod SessionLemmas
 pub mod AnswerLemmas
 pub mod LastLemmas
 pub mod NoteLemmas

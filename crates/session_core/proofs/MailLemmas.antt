@@ -1,8 +1,8 @@
 -- Mailboxes by process: what is written to one of them, and what stays; for `Session::arrive`, `Session::new`, `Session::next_mail` and others.
-use Rattle.std.proofs.Common.{rules, ℕ, zero, suc, ◌≡◌, ◌≢◌, ◌+◌, ◌-◌, ◌<◌, ◌≤◌, refl, sym, ◌∙◌, ap, subst, arith, length, length-append, take, slice_get, set, get_or, List, [], ◌∷◌, ◌++◌, Some, Option, Result, Ok, Err, IfOk, eq-eqb, ne_eqb, ⊎_elim}
+use Rattle.std.proofs.Common.{rules, ℕ, zero, suc, ◌≡◌, ◌≢◌, ◌+◌, ◌-◌, ◌<◌, ◌≤◌, refl, sym, ◌∙◌, ap, subst, arith, length, length-append, take, drop, slice_get, set, get_or, List, [], ◌∷◌, ◌++◌, Some, Option, Result, Ok, Err, IfOk, eq-eqb, ne_eqb, ⊎_elim}
 use Rattle.std.proofs.Math.Seq.{take-append-add}
 use Rattle.std.proofs.lemmas.Grind.{common_steps}
-use Rattle.std.specs.Prelude.{◌==◌, if◌then◌else◌, IsNone, IsTrue}
+use Rattle.std.specs.Prelude.{◌==◌, if◌then◌else◌, IsNone, IsSome, IsTrue, OnErr}
 use Rattle.std.proofs.lemmas.List.{get_or-set_same, length-set, length-map, append-nil, append_assoc}
 use Rattle.std.proofs.lemmas.Option.{slice_get-get_or}
 use Rattle.std.proofs.lemmas.Bool.{cases_eq}
@@ -234,6 +234,32 @@ few_processes Small processes within = omega (arith, within)
 few_processes Wide processes within = within
 
 -- no live process of the set has a next request
-abbrev pub HaveNoMail : ProcessSet → (ℕ → ProcState) → List Mailbox → List Event → Type 0
-HaveNoMail set states mailboxes journal =
-    (q : ℕ) → q ≤ 64 → IsTrue (is_member set q) → states q ≡ Live → IsNone (next_untaken (mail_sent mailboxes journal) journal q)
+abbrev pub HaveNoMail : ProcessSet → (ℕ → ProcState) → List Mailbox → Type 0
+HaveNoMail set states mailboxes =
+    (q : ℕ) → q ≤ 64 → IsTrue (is_member set q) → states q ≡ Live → IsNone (slice_get (mail_waiting mailboxes q) 0)
+
+-- where the first request of a process is there, it stands in its mailbox
+pub some_waits : (mailboxes : List Mailbox) (place p : ℕ) (mailbox : Mailbox) → StandsAt mailboxes place p mailbox
+    → IsSome (slice_get (mail_waiting mailboxes p) 0) → 0 < length mailbox.waiting.items
+some_waits mailboxes place p mailbox at some = grind (arith, common_steps, mailbox_of-there)
+
+-- so there is one in it where it is known
+pub waits_first : (mailboxes : List Mailbox) (place p : ℕ) (mailbox : Mailbox) (request : Request) → StandsAt mailboxes place p mailbox
+    → slice_get (mail_waiting mailboxes p) 0 ≡ Some request → 0 < length mailbox.waiting.items
+waits_first mailboxes place p mailbox request at next = some_waits mailboxes place p mailbox at (subst IsSome (sym next) refl)
+
+-- what holds anyhow holds where there is a fault
+pub OnErr-always : {T E : Type 0} (result : Result T E) (P : Type 0) → P → OnErr result P
+OnErr-always (Ok x) P p = tt
+OnErr-always (Err fault) P p = p
+
+-- where the first request in a mailbox is taken, it is of the mail of its process
+pub waiting_dropped : (mailboxes : List Mailbox) (place p : ℕ) (before after : Mailbox) → StandsAt mailboxes place p before
+    → after.waiting.items ≡ drop 1 before.waiting.items → (q : ℕ)
+    → mail_waiting (set mailboxes place after) q ≡ (if q == p then drop 1 (mail_waiting mailboxes q) else mail_waiting mailboxes q)
+waiting_dropped mailboxes place p before after at rest q =
+    mail_waiting-set mailboxes place p before after at q
+    ∙ ⊎_elim
+    (λ same. rw (eq-eqb q p same, same) (rest ∙ ap (drop 1) (sym (ap waiting_in (mailbox_of-there mailboxes place p before at)))))
+    (λ other. rw (ne_eqb q p other) refl)
+    (cases_eq q p)

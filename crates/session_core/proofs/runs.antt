@@ -6,3 +6,4 @@ pub mod HeadlineLaws
 pub mod JournalLemmas
 pub mod ReplayLemmas
 pub mod RunLaws
+pub mod SequencerLemmas

@@ -1,48 +1,50 @@
--- What a session does with one arrival (the words are this project's choice).
-use Rattle.std.specs.Prelude.{◌≡◌, ◌≢◌, ℕ, ◌==◌, if◌then◌else◌, IsNone, List, [], ◌∷◌, ◌++◌}
+-- What a sequencer does with arrivals (the words are this project's choice).
+use Rattle.std.specs.Prelude.{◌≡◌, ◌≢◌, ℕ, IsNone, List, [], ◌∷◌, ◌++◌}
+use Rattle.lock_manager.specs.declared.request.Rules.{Rules}
 use Rattle.lock_manager.specs.declared.request.Request.{Request}
 use Rattle.lock_manager.specs.declared.request.ProcState.TheVariants.{Live}
 use Rattle.lock_manager.specs.State.{State}
 use Rattle.lock_manager.specs.ManagerView.{StandsFor, rules_of, processes_of, state_at}
-use Rattle.session_core.specs.declared.session.Session.{Session}
+use Rattle.session_core.specs.declared.sequencer.Sequencer.{Sequencer}
 use Rattle.session_core.specs.Event.{Event}
-use Rattle.session_core.specs.Draining.{next_untaken, IsDrained, TakesMail, DrainsMail}
-use Rattle.session_core.specs.SessionView.{SameRules, manager_of, events_in, sent_of}
+use Rattle.session_core.specs.Mail.{requests_sent}
+use Rattle.session_core.specs.Draining.{TakesMail, IsDrain}
+use Rattle.session_core.specs.SequencerView.{manager_in, sent_by, first_waiting, HasTold, HasNoMail}
 
--- from each state that old stands for these events lead, of mail so sent, and new stands for the state that they leave
-pub record GoesOn (old new : Session) (Takes : State → List Event → State → Type 0) (S : State) : Type 0 where
+-- behind this journal so much more was taken, and nothing else changed
+pub record TakesSome (old new : Sequencer) (journal more : List Event) : Type 0 where
+  pub told : HasTold new (journal ++ more)
+  pub sent : (p : ℕ) → sent_by new (journal ++ more) p ≡ sent_by old journal p
+  pub rules : rules_of (manager_in new) ≡ rules_of (manager_in old)
+  pub processes : processes_of (manager_in new) ≡ processes_of (manager_in old)
+  pub goes_on : (S : State) → StandsFor (manager_in old) S
+      → (T : State) × TakesMail (rules_of (manager_in old)) (processes_of (manager_in old)) (sent_by old journal) journal S more T
+      × StandsFor (manager_in new) T
+
+-- what was taken so far stands behind the text that there was, whatever was taken before
+pub record TellsSome (old new : Sequencer) (before after : List Event) : Type 0 where
   pub more : List Event
+  pub is : after ≡ before ++ more
+  pub takes : (journal : List Event) → HasTold old journal → TakesSome old new journal more
+
+-- none but this process has mail that wasn't taken and may be
+abbrev pub HasNoMailBut : Sequencer → ℕ → Type 0
+HasNoMailBut sequencer p = (q : ℕ) → q ≢ p → state_at (manager_in sequencer) q ≡ Live → IsNone (first_waiting sequencer q)
+
+-- these arrivals were run, under these rules and with so many processes, and made this journal; nothing more can be taken
+pub record HasRun (rules : Rules) (processes : ℕ) (arrivals : List (ℕ × Request)) (sequencer : Sequencer) (journal : List Event) : Type 0 where
+  pub rules_are : rules_of (manager_in sequencer) ≡ rules
+  pub processes_are : processes_of (manager_in sequencer) ≡ processes
+  pub told : HasTold sequencer journal
+  pub sent : (p : ℕ) → sent_by sequencer journal p ≡ requests_sent p arrivals
   pub state : State
-  pub takes : Takes S more state
-  pub journal : events_in new ≡ events_in old ++ more
-  pub stands : StandsFor (manager_of new) state
+  pub drained : IsDrain rules processes arrivals journal state
+  pub stands : StandsFor (manager_in sequencer) state
+  pub rest : HasNoMail sequencer
 
--- some mail was taken, and nothing else changed
-pub record TakesSome (old new : Session) : Type 0 where
-  pub sent : (p : ℕ) → sent_of new p ≡ sent_of old p
-  pub same_rules : SameRules old new
-  pub goes_on : (S : State) → StandsFor (manager_of old) S
-      → GoesOn old new (TakesMail (rules_of (manager_of old)) (processes_of (manager_of old)) (sent_of old) (events_in old)) S
-
--- mail was taken until there was none, and nothing else changed
-pub record Drains (old new : Session) : Type 0 where
-  pub sent : (p : ℕ) → sent_of new p ≡ sent_of old p
-  pub same_rules : SameRules old new
-  pub goes_on : (S : State) → StandsFor (manager_of old) S
-      → GoesOn old new (DrainsMail (rules_of (manager_of old)) (processes_of (manager_of old)) (sent_of old) (events_in old)) S
-
--- the request arrived, and then mail was taken until there was none
-pub record Delivers (old new : Session) (p : ℕ) (request : Request) : Type 0 where
-  pub sent : (q : ℕ) → sent_of new q ≡ (if q == p then sent_of old q ++ request ∷ [] else sent_of old q)
-  pub same_rules : SameRules old new
-  pub goes_on : (S : State) → StandsFor (manager_of old) S
-      → GoesOn old new (DrainsMail (rules_of (manager_of old)) (processes_of (manager_of old)) (sent_of new) (events_in old)) S
-
--- no live process of the session has mail that wasn't taken
-abbrev pub IsAtRest : Session → Type 0
-IsAtRest session = IsDrained (state_at (manager_of session)) (sent_of session) (events_in session)
-
--- and none but this one
-abbrev pub IsAtRestBut : Session → ℕ → Type 0
-IsAtRestBut session p =
-    (q : ℕ) → q ≢ p → state_at (manager_of session) q ≡ Live → IsNone (next_untaken (sent_of session) (events_in session) q)
+-- what was run, was run with one arrival more, and what that told stands behind what there was
+pub record RunsOn (old new : Sequencer) (before after : List Event) (p : ℕ) (request : Request) : Type 0 where
+  pub more : List Event
+  pub is : after ≡ before ++ more
+  pub runs : (rules : Rules) (processes : ℕ) (arrivals : List (ℕ × Request)) (journal : List Event) → HasRun rules processes arrivals old journal
+      → HasRun rules processes (arrivals ++ (p, request) ∷ []) new (journal ++ more)

@@ -6,6 +6,8 @@ pub mod Mailboxes
 pub mod LastAnswers
 pub mod Draining
 pub mod Headline
+pub mod Told
+pub mod SequencerView
 pub mod SessionView
 pub mod Deliveries
 pub mod OneDrain

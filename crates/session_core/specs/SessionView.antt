@@ -8,13 +8,13 @@ use Rattle.lock_manager.specs.ManagerView.{StandsFor, SameManager, rules_of, pro
 use Rattle.session_core.specs.declared.session.Session.{Session}
 use Rattle.session_core.specs.Event.{Event}
 use Rattle.session_core.specs.Runs.{IsStep, events_of}
-use Rattle.session_core.specs.Mailboxes.{mail_sent}
+use Rattle.session_core.specs.SequencerView.{manager_in, sent_by}
 use Rattle.session_core.specs.Draining.{IsNext, IsDrained}
 use Rattle.session_core.specs.Headline.{Holds}
 
 -- the manager of the session
 unfoldable pub manager_of : Session → Manager
-manager_of session = session.manager
+manager_of session = manager_in session.sequencer
 
 -- the journal
 unfoldable pub events_in : Session → List Event
@@ -22,7 +22,7 @@ events_in session = session.journal.items
 
 -- what a process sent, in order
 unfoldable pub sent_of : Session → ℕ → List Request
-sent_of session p = mail_sent session.mailboxes.items session.journal.items p
+sent_of session p = sent_by session.sequencer session.journal.items p
 
 -- the rules and the number of processes stay
 pub record SameRules (old new : Session) : Type 0 where

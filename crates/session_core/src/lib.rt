@@ -7,6 +7,7 @@ mod entry;
 mod laws;
 mod mailbox;
 mod run;
+mod sequencer;
 mod session;
 
 pub use check::{CheckFault, Expected, JournalChecker, check_journal};
@@ -15,6 +16,7 @@ pub use laws::{
     arrivals_have_one_drain, every_run_goes_on, requests_join_the_queue, waits_are_granted_in_turn,
 };
 pub use run::{RunAllFault, run_all};
+pub use sequencer::Sequencer;
 pub use session::{ArriveFault, Session};
 
 /// How many requests one process may send (this project's choice).

@@ -1,14 +1,15 @@
-//! A list of arrivals, run to its end.
-ghost use Rattle.std.specs.Prelude.{ℕ, ◌≡◌, ◌<◌, ◌≤◌, All, IfOk, OnOk, Err, length};
+//! Arrivals, one after another, or a list of them.
+ghost use Rattle.std.specs.Prelude.{ℕ, ◌≡◌, ◌<◌, ◌≤◌, List, All, IfOk, OnOk, Err, length};
 ghost use Rattle.fd_table.specs.Descriptors.{process_limit};
 ghost use Rattle.lock_manager.specs.State.{State};
 ghost use Rattle.lock_manager.specs.ManagerView.{StandsFor, rules_of, processes_of};
+ghost use Rattle.session_core.specs.Event.{Event};
 ghost use Rattle.session_core.specs.Mail.{requests_sent};
 ghost use Rattle.session_core.specs.Draining.{IsDrain};
 ghost use Rattle.session_core.specs.SessionView.{manager_of, events_in, sent_of, SessionHolds};
-ghost use Rattle.session_core.specs.Deliveries.{Drains, Delivers, IsAtRest, IsAtRestBut};
 
-use crate::{ArriveFault, N_MAX, Session};
+use crate::sequencer::Sequencer;
+use crate::{ArriveFault, Entry, N_MAX, Session};
 use lock_manager::{Request, Rules};
 use range_core::Memory;
 use std::alloc::Global;
@@ -55,46 +56,65 @@ pub fn run_all(
     ensures holds { IfOk result (λ session. SessionHolds session) }
     ensures full { result ≡ Err RunAllFault.Full → (p : ℕ) × (N_MAX < length (requests_sent p arrivals.now)) }
 {
-    let mut session = Session::new(alloc, processes, rules)?;
+    let mut sequencer = Sequencer::new(alloc, processes, rules)?;
+    let mut journal = Vec::new(alloc);
     for (p, request) in arrivals {
-        deliver(&mut session, *p, *request)?;
+        sequencer.deliver(*p, *request, &mut journal)?;
     }
-    Ok(session)
+    Ok(Session::of(sequencer, journal))
 }
 
-/// The request arrives, and then all that can be taken is taken.
-fn deliver(session: &mut Session, p: u8, request: Request) -> Result<(), RunAllFault>
-    requires process { (1 ≤ p) × (p ≤ processes_of (manager_of session.old)) }
-    requires rest { IsAtRest session.old }
-    ensures ok { OnOk result (Delivers session.old session.new p request) }
-    ensures rest { OnOk result (IsAtRest session.new) }
-    ensures full { result ≡ Err RunAllFault.Full → length (sent_of session.old p) ≡ N_MAX }
-{
-    match session.arrive(p, request) {
-        Ok(_) => Ok(drain_of(session, p)?),
-        Err(ArriveFault::Full) => Err(RunAllFault::Full),
-        Err(ArriveFault::Memory(memory)) => Err(RunAllFault::Memory(memory)),
-    }
-}
+impl Sequencer {
+    ghost use Rattle.std.specs.Prelude.{OnErr};
+    ghost use Rattle.session_core.specs.SequencerView.{manager_in, sent_by, HasTold, HasNoMail};
+    ghost use Rattle.session_core.specs.Deliveries.{TellsSome, HasNoMailBut, RunsOn};
 
-/// Takes until no able process has mail, where none but this one has any.
-fn drain_of(session: &mut Session, p: u8) -> Result<(), Memory>
-    requires { IsAtRestBut session.old p }
-    ensures drains { OnOk result (Drains session.old session.new) }
-    ensures rest { OnOk result (IsAtRest session.new) }
-{
-    // The mail of a process that waits stays, and most requests may be such mail.
-    if !session.manager().able(p) {
-        return Ok(());
+    /// The request arrives, and then all that can be taken is taken: the entries go behind those in `told`.
+    ///
+    /// `Full` where the process has sent [`N_MAX`] requests. After `Memory` what was taken stays taken, and is told.
+    pub fn deliver(
+        &mut self,
+        p: u8,
+        request: Request,
+        told: &mut Vec<Entry>,
+    ) -> Result<(), RunAllFault>
+        requires { (1 ≤ p) × (p ≤ processes_of (manager_in self.old)) }
+        ensures ok { OnOk result (RunsOn self.old self.new told.old.items told.new.items p request) }
+        ensures processes { processes_of (manager_in self.new) ≡ processes_of (manager_in self.old) }
+        ensures full { result ≡ Err RunAllFault.Full → (journal : List Event) → HasTold self.old journal → length (sent_by self.old journal p) ≡ N_MAX }
+    {
+        match self.arrive(p, request) {
+            Ok(_) => Ok(self.drain_of(p, told)?),
+            Err(ArriveFault::Full) => Err(RunAllFault::Full),
+            Err(ArriveFault::Memory(memory)) => Err(RunAllFault::Memory(memory)),
+        }
     }
-    drain(session)
-}
 
-/// Takes until no able process has mail.
-fn drain(session: &mut Session) -> Result<(), Memory>
-    ensures drains { OnOk result (Drains session.old session.new) }
-    ensures rest { OnOk result (IsAtRest session.new) }
-{
-    while session.take_next()?.is_some() {}
-    Ok(())
+    /// Takes until no able process has mail, where none but this one may have any.
+    fn drain_of(&mut self, p: u8, told: &mut Vec<Entry>) -> Result<(), Memory>
+        ensures told { TellsSome self.old self.new told.old.items told.new.items }
+        ensures rest { OnOk result (HasNoMailBut self.old p → HasNoMail self.new) }
+        ensures processes { processes_of (manager_in self.new) ≡ processes_of (manager_in self.old) }
+    {
+        // The mail of a process that waits stays, and most requests may be such mail.
+        if !self.manager().able(p) {
+            return Ok(());
+        }
+        self.drain(told)
+    }
+
+    /// Takes until no able process has mail.
+    fn drain(&mut self, told: &mut Vec<Entry>) -> Result<(), Memory>
+        ensures told { TellsSome self.old self.new told.old.items told.new.items }
+        ensures rest { OnOk result (HasNoMail self.new) }
+        ensures processes { processes_of (manager_in self.new) ≡ processes_of (manager_in self.old) }
+    {
+        while let Some((p, request)) = self.next_mail() {
+            // The place is there before the request is taken, so that nothing can fail afterwards.
+            told.reserve(1)?;
+            let entry = self.take(p, request)?;
+            told.push_reserved(entry);
+        }
+        Ok(())
+    }
 }

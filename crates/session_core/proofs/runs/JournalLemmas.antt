@@ -12,6 +12,10 @@ use Rattle.lock_manager.specs.State.{State, opening_state}
 use Rattle.lock_manager.specs.ManagerView.{StandsFor, SameManager, IsSafeManager, rules_of, processes_of}
 use Rattle.session_core.specs.declared.mailbox.Mailbox.{Mailbox}
 use Rattle.session_core.specs.Event.{Event}
+use Rattle.session_core.specs.declared.answers.LastAnswers.{LastAnswers}
+use Rattle.session_core.specs.LastAnswers.{AreLastAnswers}
+use Rattle.session_core.specs.Told.{AreTold}
+use Rattle.std.proofs.Math.Logic.{∥∥₁_map}
 use Rattle.session_core.specs.Mailboxes.{mail_waiting, mail_sent, mail_taken, waiting_in, taken_in, IsMailKept, IsEmptyMailbox}
 use Rattle.session_core.specs.Runs.{IsStep, IsRun, AreNumbered, events_of}
 use Rattle.session_core.specs.Mail.{IsPrefixOf, requests_taken}
@@ -131,6 +135,16 @@ Holds-same old new sent journal journal' some same_journal same safe h =
     subst (λ l. Holds new sent l) (sym same_journal)
     (Holds-from new sent journal (within_limits_still old new sent same.rules same.processes h.within_limits) h.taken_in_order safe
     (record { state = r.state; run = run; stands = same.stands r.state r.stands }))
+
+-- what was taken was so where the manager shows the same
+pub AreTold-same : (old new : Manager) (mailboxes : List Mailbox) (answers : LastAnswers) (journal : List Event) → SameManager old new → IsSafeManager new
+    → AreTold old mailboxes answers journal → AreTold new mailboxes answers journal
+AreTold-same old new mailboxes answers journal same safe told =
+    record {
+      mail = subst (λ n. IsMailKept n mailboxes journal) (sym same.processes) told.mail;
+      answered = subst (λ n. AreLastAnswers n answers journal) (sym same.processes) told.answered;
+      holds = ∥∥₁_map told.holds (Holds-same old new _ journal journal told.mail.some refl same safe);
+    }
 
 -- no process has sent more than it may
 pub mail_sent-few : (processes : ℕ) (mailboxes : List Mailbox) (journal : List Event) → IsMailKept processes mailboxes journal → (p : ℕ)

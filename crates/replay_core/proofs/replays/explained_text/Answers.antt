@@ -1,11 +1,11 @@
 use Rattle.std.proofs.Common.{◌≡◌, ◌∙◌, ◌++◌, ℕ, List, ap, sym, subst}
 use Rattle.lock_manager.specs.declared.manager.Manager.{Manager}
 use Rattle.lock_manager.specs.State.{opening_state}
-use Rattle.lock_manager.specs.ManagerView.{processes_of, state_at}
+use Rattle.lock_manager.specs.ManagerView.{StandsFor, processes_of, state_at}
 use Rattle.session_core.specs.Event.{Event}
 use Rattle.session_core.specs.Runs.{Leads}
 use Rattle.session_core.specs.SessionView.{manager_of, events_in}
-use Rattle.script_core.specs.ReportText.{AreCounts}
+use Rattle.script_core.specs.ReportText.{AreCounts, IsReport}
 use Rattle.script_core.specs.Explaining.{ExplainsRun, unborn_lines}
 use Rattle.replay_core.proofs.OutputLemmas.{one_behind_another}
 use Rattle.replay_core.proofs.replays.explained_text.Goals as goal
@@ -24,8 +24,8 @@ returns c = record {
       let explains : ExplainsRun c.args.states ran.rules n 1 opening_state events S told.0 =
       subst (λ (l : List Event). ExplainsRun c.args.states ran.rules n 1 opening_state l S told.0) c.journal.ensures.events
       (subst (λ (m : ℕ). ExplainsRun c.args.states ran.rules m 1 opening_state c.journal.result.now S told.0) n_is told.1) in
-      let report = c.in_ok-write_report.ensures.ok in
-      let is_report = report.1 S stands count (subst (λ (l : List ℕ). AreCounts l count) (sym c.deref.ensures.value) counts) in
+      let report = c.in_ok-write_report.ensures.ok events c.sequencer.ensures.told in
+      let is_report = subst (λ (m : Manager). IsReport (processes_of m) S events count report.0) c.sequencer.ensures.manager (report.1 S (subst (λ (m : Manager). StandsFor m S) (sym c.sequencer.ensures.manager) stands) count (subst (λ (l : List ℕ). AreCounts l count) (sym c.deref.ensures.value) counts)) in
       let unborn : c.write_unborn.new.out.items ≡ c.write_report.new.out.items ++ unborn_lines (state_at (manager_of ran.session)) count 1 n =
       c.in_ok-write_unborn.ensures.ok count (subst (λ (l : List ℕ). AreCounts l count) (sym c.deref-2.ensures.value) counts)
       ∙ ap (λ (m : Manager). c.write_report.new.out.items ++ unborn_lines (state_at m) count 1 (processes_of m)) c.manager-2.ensures in

@@ -1,10 +1,14 @@
-use Rattle.std.proofs.Common.{◌≡◌, ℕ, ◌++◌}
+use Rattle.std.proofs.Common.{◌≡◌, ℕ, List, ◌++◌}
 use Rattle.lock_manager.specs.ManagerView.{state_at}
-use Rattle.session_core.specs.SessionView.{manager_of, events_in}
+use Rattle.session_core.specs.Event.{Event}
+use Rattle.session_core.specs.SequencerView.{manager_in, HasTold}
+use Rattle.script_core.specs.Output.{Extends}
 use Rattle.script_core.specs.ReportText.{process_lines, AreCounts}
 use Rattle.script_core.proofs.write.push_processes.Given as goal
 
 abbrev pub invariant-loop-index : goal.invariant-loop-index
-invariant-loop-index l =
-    (counts : ℕ → ℕ) → AreCounts l.sent counts
-    → l.text.items ≡ l.fn.text.items ++ process_lines (state_at (manager_of l.session)) (events_in l.session) counts 1 l.index
+invariant-loop-index l = record {
+  extends : Extends l.fn.text.items l.text.items;
+  written : (journal : List Event) (counts : ℕ → ℕ) → HasTold l.sequencer journal → AreCounts l.sent counts
+      → l.text.items ≡ l.fn.text.items ++ process_lines (state_at (manager_in l.sequencer)) journal counts 1 l.index;
+}

@@ -1,10 +1,6 @@
 use Rattle.std.proofs.Common.{take}
-use Rattle.session_core.specs.Deliveries.{IsAtRest}
-use Rattle.session_core.proofs.runs.DrainLemmas.{HasRun}
+use Rattle.session_core.specs.Deliveries.{HasRun}
 use Rattle.session_core.proofs.run.run_all.Given as goal
 
 abbrev pub invariant-loop-p : goal.invariant-loop-p
-invariant-loop-p l = record {
-  ran : HasRun l.fn.rules l.processes (take l.p-index l.arrivals) l.session;
-  rest : IsAtRest l.session;
-}
+invariant-loop-p l = HasRun l.fn.rules l.processes (take l.p-index l.arrivals) l.sequencer l.journal.items

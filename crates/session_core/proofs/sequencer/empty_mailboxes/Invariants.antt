@@ -1,6 +1,6 @@
 use Rattle.std.proofs.Common.{◌≡◌, length, All}
 use Rattle.session_core.specs.Mailboxes.{IsEmptyMailbox}
-use Rattle.session_core.proofs.session.empty_mailboxes.Given as goal
+use Rattle.session_core.proofs.sequencer.empty_mailboxes.Given as goal
 
 abbrev pub invariant-loop : goal.invariant-loop
 invariant-loop l = record { each : length l.mailboxes.items ≡ l.counter; empty : All IsEmptyMailbox l.mailboxes.items }

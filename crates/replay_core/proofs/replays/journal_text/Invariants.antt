@@ -1,6 +1,0 @@
-use Rattle.std.proofs.Common.{◌≡◌, flat_map, take}
-use Rattle.script_core.specs.EntryText.{entry_line}
-use Rattle.replay_core.proofs.replays.journal_text.Given as goal
-
-abbrev pub invariant-loop-entry : goal.invariant-loop-entry
-invariant-loop-entry l = l.text.items ≡ flat_map entry_line (take l.entry-index l.entry-items)
