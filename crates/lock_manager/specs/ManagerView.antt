@@ -6,9 +6,12 @@ use Rattle.fd_table.specs.TablesView.{StandFor}
 use Rattle.wait_core.specs.declared.Wait.{Wait}
 use Rattle.wait_core.specs.Locks.{Locks}
 use Rattle.lock_manager.specs.declared.request.Rules.{Rules}
+use Rattle.lock_manager.specs.declared.request.Request.{Request}
+use Rattle.lock_manager.specs.declared.request.Note.{Note}
 use Rattle.lock_manager.specs.declared.request.ProcState.{ProcState}
 use Rattle.lock_manager.specs.declared.manager.Manager.{Manager}
 use Rattle.lock_manager.specs.State.{State}
+use Rattle.lock_manager.specs.Step.{Step}
 use Rattle.lock_manager.specs.MachineView.{machine_rules, machine_processes, machine_state, machine_locks, machine_waits}
 use Rattle.lock_manager.specs.Safety.{IsSafe}
 
@@ -46,6 +49,11 @@ pub record SameManager (old new : Manager) : Type 0 where
   pub states : (p : ℕ) → state_at new p ≡ state_at old p
   pub rules : rules_of new ≡ rules_of old
   pub processes : processes_of new ≡ processes_of old
+
+-- for whatever state old stands for, the notes are those of one step from it, and new stands for the state after that step
+abbrev pub StepsBy : Manager → Manager → ℕ → ℕ → Request → List Note → Type 0
+StepsBy old new p n request notes =
+    (S : State) → StandsFor old S → (T : State) × Step (rules_of old) (processes_of old) S p n request notes T × StandsFor new T
 
 -- no owners conflict, each wait is blocked, and no traditional waits close a cycle
 abbrev pub IsSafeManager : Manager → Type 0

@@ -1,5 +1,5 @@
 //! The lock manager: one event is one request and the settling after it.
-ghost use Rattle.std.specs.Prelude.{ℕ, ◌≡◌, ◌≢◌, ◌<◌, ◌≤◌, ◌↔◌, List, [], IfOk, IfSome, OnErr, IsTrue, MatchOption};
+ghost use Rattle.std.specs.Prelude.{ℕ, ◌≡◌, ◌≢◌, ◌<◌, ◌≤◌, ◌↔◌, List, [], IfOk, IfSome, OnOk, OnErr, IsTrue, MatchOption};
 ghost use Rattle.fd_table.specs.declared.TheConstants.{FILES};
 ghost use Rattle.range_core.specs.Ranges.{IsByteRange};
 ghost use Rattle.wait_core.specs.Blocking.{IsBlocked};
@@ -28,8 +28,7 @@ impl Manager {
     ghost use Rattle.lock_book.specs.Changes.{mode_in, flock_mode_in};
     ghost use Rattle.lock_book.specs.Reports.{IsHeldReport};
     ghost use Rattle.lock_manager.specs.State.{AreWaiting, State, locks_held, opening_state};
-    ghost use Rattle.lock_manager.specs.Step.{Step};
-    ghost use Rattle.lock_manager.specs.ManagerView.{StandsFor, SameManager, IsSafeManager, rules_of, processes_of, state_at};
+    ghost use Rattle.lock_manager.specs.ManagerView.{StandsFor, StepsBy, SameManager, IsSafeManager, rules_of, processes_of, state_at};
 
     /// Process 1 lives, and there is nothing else (this project's choice). There are `processes` processes, numbered from 1,
     /// at most [`fd_table::Limits::processes`].
@@ -53,8 +52,7 @@ impl Manager {
 
         // For whatever state the manager stands for, the notes are those of one step from it, and the manager then
         // stands for the state after that step.
-        ensures step { IfOk result (λ notes. (S : State) → StandsFor self.old S →
-            (T : State) × Step (rules_of self.old) (processes_of self.old) S p n request notes.items T × StandsFor self.new T) }
+        ensures step { IfOk result (λ notes. StepsBy self.old self.new p n request notes.items) }
         ensures safe { IsSafeManager self.new }
         ensures rules { rules_of self.new ≡ rules_of self.old }
         ensures processes { processes_of self.new ≡ processes_of self.old }
@@ -62,11 +60,33 @@ impl Manager {
         // Want of memory changes nothing.
         ensures memory { OnErr result (SameManager self.old self.new) }
     {
-        let most = self.machine.most_notes();
-        let mut notes = Vec::with_capacity(self.alloc, most)?;
-        self.machine.serve(p, n, request, &mut notes)?;
-        self.machine.settle(&mut notes);
+        let mut notes = Vec::new(self.alloc);
+        self.take_into(p, n, request, &mut notes)?;
         Ok(notes)
+    }
+
+    /// The same, where the notes take the place of those in a vector, whose room is used again.
+    ///
+    /// After `Memory` the manager is as it was, and the vector may have lost its notes.
+    pub fn take_into(
+        &mut self,
+        p: u8,
+        n: u64,
+        request: Request,
+        notes: &mut Vec<Note>,
+    ) -> Result<(), Memory>
+        requires { state_at self.old p ≡ ProcState.Live }
+        ensures step { OnOk result (StepsBy self.old self.new p n request notes.new.items) }
+        ensures safe { IsSafeManager self.new }
+        ensures rules { rules_of self.new ≡ rules_of self.old }
+        ensures processes { processes_of self.new ≡ processes_of self.old }
+        ensures memory { OnErr result (SameManager self.old self.new) }
+    {
+        notes.clear();
+        notes.reserve(self.machine.most_notes())?;
+        self.machine.serve(p, n, request, notes)?;
+        self.machine.settle(notes);
+        Ok(())
     }
 
     /// The locks that are held: by file, by owner and by first byte, one line for each largest range of one mode (the order

@@ -4,6 +4,7 @@ ghost use Rattle.session_core.specs.Mail.{answers_in, reply_of, reply_among};
 
 use lock_manager::{Note, Reply, Request};
 use std::marker::Model;
+use std::mem;
 use std::slice;
 
 /// One event: request number `n` of process `p`, and what it told (this project's choice).
@@ -58,17 +59,26 @@ impl Notes {
     pub fn of(notes: Vec<Note>) -> Notes
         ensures { result ≡ notes.items }
     {
+        let mut notes = notes;
+        Notes::taken_from(&mut notes)
+    }
+
+    /// The same, where a single note is copied, so that the vector keeps its room; several go with theirs.
+    pub(crate) fn taken_from(notes: &mut Vec<Note>) -> Notes
+        ensures { result ≡ notes.old.items }
+    {
         if let [note] = notes.as_slice() {
             return Notes {
                 kept: KeptNotes::One(*note),
             };
         }
-        let mut notes = notes;
-        if notes.len() + 1 < notes.capacity() {
-            notes.shrink_to_fit();
+        let none = Vec::new(*notes.allocator());
+        let mut several = mem::replace(notes, none);
+        if several.len() + 1 < several.capacity() {
+            several.shrink_to_fit();
         }
         Notes {
-            kept: KeptNotes::Several(notes),
+            kept: KeptNotes::Several(several),
         }
     }
 

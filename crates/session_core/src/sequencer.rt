@@ -11,7 +11,7 @@ ghost use Rattle.session_core.specs.LastAnswers.{latest};
 use crate::answers::{Answer, LastAnswers};
 use crate::mailbox::Mailbox;
 use crate::{ArriveFault, Entry, Notes};
-use lock_manager::{Manager, ProcState, Request, Rules};
+use lock_manager::{Manager, Note, ProcState, Request, Rules};
 use range_core::Memory;
 use std::alloc::Global;
 use wait_core::ProcessSet;
@@ -27,6 +27,8 @@ pub struct Sequencer {
     /// Among these are the processes that have sent what wasn't taken.
     senders: ProcessSet,
     answers: LastAnswers,
+    /// Room for the notes of the next event, so that most events take no memory for theirs.
+    notes: Vec<Note>,
     ghost few: { processes_of manager ≤ 64 },
     ghost one_each: { length mailboxes.items ≡ processes_of manager },
     ghost inside: { IsMailInside senders mailboxes.items },
@@ -50,6 +52,7 @@ impl Sequencer {
             mailboxes,
             senders: ProcessSet::empty(),
             answers,
+            notes: Vec::new(alloc),
         })
     }
 
@@ -102,15 +105,15 @@ impl Sequencer {
         ensures memory { OnErr result (SameSequencer self.old self.new) }
     {
         let n = self.taken(p) + 1;
-        let notes = self.manager.take(p, n, request)?;
-        self.answers.tell(&notes);
+        self.manager.take_into(p, n, request, &mut self.notes)?;
+        self.answers.tell(&self.notes);
         let more = self.mailboxes[usize::from(p) - 1].advance();
         self.senders = self.senders.put(p, more);
         Ok(Entry {
             p,
             n,
             request,
-            notes: Notes::of(notes),
+            notes: Notes::taken_from(&mut self.notes),
         })
     }
 

@@ -1,5 +1,5 @@
 use Rattle.lock_manager.proofs.calls.ManagerLemmas.{one_step, safe_machine}
-use Rattle.lock_manager.proofs.manager.Manager.take.Goals as goal
+use Rattle.lock_manager.proofs.manager.Manager.take_into.Goals as goal
 
 pub invariant_of-self-2 : goal.invariant_of-self-2
 invariant_of-self-2 c = record { safe = ∣ safe_machine c.settle.new.self c.settle.ensures.settled ∣₁ }
