@@ -335,22 +335,18 @@ impl Tables {
         ensures kept { SameProcesses self.old self.new }
     {
         let key = self.key_at(p, fd)?;
-        let Opened {
-            number,
-            file,
-            users,
-            ..
-        } = self.opened[key];
         set_key(&mut self.rows, p, fd, None);
-        if users == 1 {
-            self.opened.remove(key);
-            return Some(Closed {
-                file,
-                last: Some(number),
-            });
+        let opened = &mut self.opened[key];
+        let Opened { number, file, .. } = *opened;
+        if opened.users > 1 {
+            opened.users -= 1;
+            return Some(Closed { file, last: None });
         }
-        self.opened[key].users -= 1;
-        Some(Closed { file, last: None })
+        self.opened.remove(key);
+        Some(Closed {
+            file,
+            last: Some(number),
+        })
     }
 }
 
