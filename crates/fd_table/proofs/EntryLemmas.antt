@@ -1,11 +1,12 @@
 -- The entries of the slab, and what is seen of them, after each change: for `add_users`, `Tables::close_fd`, `Tables::close_one` and others.
 use Rattle.std.proofs.Common.{rules, ◌≡◌, ◌≢◌, ◌⊎◌, ℕ, ◌+◌, ◌<◌, ◌≤◌, Bool, true, false, cond, List, length, Option, Some, None, IsSome, is_some, refl, sym, ap, ◌∙◌, arith}
 use Rattle.std.proofs.lemmas.Grind.{common_steps}
+use Rattle.std.proofs.lemmas.List.{get_or-set_other}
 use Rattle.std.specs.Option.{option_map, option_and_then}
 use Rattle.std.proofs.lemmas.Bool.{cases_eq, eq-eqb, ne_eqb}
 use Rattle.std.proofs.lemmas.Option.{same_Some, none-some}
 use Rattle.range_core.specs.declared.TheConstants.{OFFMAX}
-use Rattle.slab.specs.Slab.{Slab, get, Updates}
+use Rattle.slab.specs.Slab.{Slab, get, Updates, with_value}
 use Rattle.fd_table.specs.declared.tables.Opened.{Opened}
 use Rattle.fd_table.specs.Rows.{Keys, row_at, key_at, with_key, is_place, users_of}
 use Rattle.fd_table.specs.Soundness.{IsEntry, AreEntries}
@@ -26,6 +27,11 @@ value_of_some (Some x) h = (x, refl)
 pub updated_cases : (old new : Slab Opened) (key : ℕ) (slot : Option Opened) → Updates old new key slot → (x : ℕ) (entry : Opened) → get new x ≡ Some entry
     → ((x ≡ key) × (slot ≡ Some entry)) ⊎ ((x ≢ key) × (get old x ≡ Some entry))
 updated_cases old new key slot updates x entry is = grind (arith, common_steps, cases_eq)
+
+-- an entry that was written and then removed
+pub removed_after_write : (old new : Slab Opened) (key : ℕ) (written : Opened) → Updates (with_value old key written) new key None → Updates old new key None
+removed_after_write old new key written removed =
+    record { changed = removed.changed; others = λ x apart. removed.others x apart ∙ get_or-set_other old.slots key x (Some written) None apart }
 
 -- a key that was occupied stays so, where a value is written
 pub stays_occupied : (old new : Slab Opened) (key : ℕ) (written : Opened) → Updates old new key (Some written) → (x : ℕ) → IsSome (get old x)

@@ -8,7 +8,7 @@ mod tables;
 
 pub use laws::tables_stand_for_some;
 use range_core::Memory;
-pub use releases::Releases;
+pub use releases::{Release, Releases};
 use std::alloc::{AllocError, AllocFailed};
 pub use tables::{Look, Tables};
 use thiserror::Error;

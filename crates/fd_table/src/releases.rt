@@ -13,6 +13,65 @@ pub(crate) struct Closed {
     pub(crate) last: Option<u64>,
 }
 
+/// What the closing of one descriptor released: its file, and its description if that was closed for good; nothing where it
+/// wasn't open.
+#[derive(Clone, Copy, Debug, PartialEq, Eq)]
+pub struct Release {
+    file: Option<u8>,
+    description: Option<u64>,
+}
+
+impl Model for Release {
+    ghost use Rattle.std.specs.Prelude.{◌<◌, All, option_to_list, slice_get};
+    ghost use Rattle.fd_table.specs.declared.TheConstants.{FILES};
+    ghost use Rattle.fd_table.specs.Releases.{Released};
+
+    ghost Value = { Released };
+
+    ghost view = { λ r. record { files = option_to_list r.file; descriptions = option_to_list r.description } };
+
+    ghost invariant = { λ r. All (λ file. file < FILES) (option_to_list r.file) };
+
+    ghost inverse = { λ released. record { file = slice_get released.files 0; description = slice_get released.descriptions 0 } };
+}
+
+impl Release {
+    ghost use Rattle.std.specs.Prelude.{◌≡◌, ◌<◌, All, IfSome};
+    ghost use Rattle.fd_table.specs.Releases.{released_by};
+
+    /// What was released by this closing, or by none.
+    pub(crate) fn of(closed: Option<Closed>) -> Release
+        requires { IfSome closed (λ one. one.file < FILES) }
+        ensures { result ≡ released_by closed }
+    {
+        match closed {
+            Some(closed) => Release {
+                file: Some(closed.file),
+                description: closed.last,
+            },
+            None => Release {
+                file: None,
+                description: None,
+            },
+        }
+    }
+
+    /// The file of the descriptor, if it was open.
+    pub fn files(&self) -> &[u8]
+        ensures value { result.now ≡ self.now.files }
+        ensures in_range { All (λ file. file < FILES) result.now }
+    {
+        self.file.as_slice()
+    }
+
+    /// The number of the description, if it was closed for good.
+    pub fn descriptions(&self) -> &[u64]
+        ensures { result.now ≡ self.now.descriptions }
+    {
+        self.description.as_slice()
+    }
+}
+
 /// The files of the descriptors that a call closed, and the descriptions that it closed for good.
 #[derive(Debug, Drop)]
 pub struct Releases {
@@ -34,10 +93,10 @@ impl Model for Releases {
 }
 
 impl Releases {
-    ghost use Rattle.std.specs.Prelude.{◌≡◌, ◌<◌, ◌↔◌, ℕ, length, ◌++◌, ◌∷◌, [], All, Contains, IfSome, nat_eq};
+    ghost use Rattle.std.specs.Prelude.{◌≡◌, ◌<◌, ◌↔◌, ℕ, length, ◌++◌, ◌∷◌, [], All, Contains, nat_eq};
     ghost use Rattle.std.specs.List.{IsDistinct};
     ghost use Rattle.std.specs.List.Sorted.{IsStrictlyIncreasing};
-    ghost use Rattle.fd_table.specs.Releases.{AreExactly, released_by, IsMarked, nothing};
+    ghost use Rattle.fd_table.specs.Releases.{AreExactly, IsMarked, nothing};
 
     /// Nothing is released.
     pub(crate) fn none() -> Releases
@@ -47,21 +106,6 @@ impl Releases {
             files: ArrayVec::new(),
             descriptions: ArrayVec::new(),
         }
-    }
-
-    /// What the closing of one descriptor released, if it was open.
-    pub(crate) fn of(closed: Option<Closed>) -> Releases
-        requires { IfSome closed (λ one. one.file < FILES) }
-        ensures { result ≡ released_by closed }
-    {
-        let mut released = Releases::none();
-        if let Some(closed) = closed {
-            released.push_file(closed.file);
-            if let Some(number) = closed.last {
-                released.push_description(number);
-            }
-        }
-        released
     }
 
     /// Adds a file past the last.

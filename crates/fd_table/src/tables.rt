@@ -6,7 +6,7 @@ ghost use Rattle.slab.specs.Slab.{get};
 ghost use Rattle.fd_table.specs.Rows.{users_in};
 ghost use Rattle.fd_table.specs.Soundness.{AreRows, AreEntries, AreSizes, IsBytes, with_users};
 
-use crate::releases::{Closed, Releases};
+use crate::releases::{Closed, Release, Releases};
 use crate::rows::{Row, opening_rows, set_key};
 use crate::{Access, DESCRIPTIONS, FILE_COUNT, FILES, FdFault, Limits};
 use range_core::Memory;
@@ -154,7 +154,7 @@ impl Tables {
     /// nothing (POSIX.1-2017 dup2).
     ///
     /// `BadFd` where the descriptor isn't open, or `to` is past the last that the process may have.
-    pub fn dup2(&mut self, p: u8, fd: u32, to: u32) -> Result<(u32, Releases), FdFault>
+    pub fn dup2(&mut self, p: u8, fd: u32, to: u32) -> Result<(u32, Release), FdFault>
         ensures step { (D : Descriptors) → StandFor self.old D →
             (E : Descriptors) × DupToGives (limits_of self.old) D p fd to result E × StandFor self.new E }
         ensures refused { OnErr result ((D : Descriptors) → StandFor self.old D → StandFor self.new D) }
@@ -164,9 +164,9 @@ impl Tables {
             return Err(FdFault::BadFd);
         }
         if to == fd {
-            return Ok((to, Releases::none()));
+            return Ok((to, Release::of(None)));
         }
-        let released = Releases::of(self.close_one(p, to));
+        let released = Release::of(self.close_one(p, to));
         self.share(p, fd, to);
         Ok((to, released))
     }
@@ -174,14 +174,14 @@ impl Tables {
     /// `close`: closes the descriptor, and tells what that releases (POSIX.1-2017 close).
     ///
     /// `BadFd` where the descriptor isn't open.
-    pub fn close_fd(&mut self, p: u8, fd: u32) -> Result<Releases, FdFault>
+    pub fn close_fd(&mut self, p: u8, fd: u32) -> Result<Release, FdFault>
         ensures step { (D : Descriptors) → StandFor self.old D →
             (E : Descriptors) × CloseGives D p fd result E × StandFor self.new E }
         ensures refused { OnErr result ((D : Descriptors) → StandFor self.old D → StandFor self.new D) }
         ensures kept { SameProcesses self.old self.new }
     {
         match self.close_one(p, fd) {
-            Some(closed) => Ok(Releases::of(Some(closed))),
+            Some(closed) => Ok(Release::of(Some(closed))),
             None => Err(FdFault::BadFd),
         }
     }
@@ -335,22 +335,18 @@ impl Tables {
         ensures kept { SameProcesses self.old self.new }
     {
         let key = self.key_at(p, fd)?;
-        let Opened {
-            number,
-            file,
-            users,
-            ..
-        } = self.opened[key];
         set_key(&mut self.rows, p, fd, None);
-        if users == 1 {
-            self.opened.remove(key);
-            return Some(Closed {
-                file,
-                last: Some(number),
-            });
+        let opened = &mut self.opened[key];
+        let Opened { number, file, .. } = *opened;
+        if opened.users > 1 {
+            opened.users -= 1;
+            return Some(Closed { file, last: None });
         }
-        self.opened[key].users -= 1;
-        Some(Closed { file, last: None })
+        self.opened.remove(key);
+        Some(Closed {
+            file,
+            last: Some(number),
+        })
     }
 }
 

@@ -1,7 +1,7 @@
 //! Descriptors call by call, each growth refused once, and the wide limits.
 mod worked;
 
-use fd_table::{Access, FdFault, Limits, Look, Releases, Tables};
+use fd_table::{Access, FdFault, Limits, Look, Release, Tables};
 use range_core::Memory;
 use std::alloc::Global;
 use std::process::Abort;
@@ -106,9 +106,9 @@ fn fork(rt: &impl Abort, tables: &mut Tables, p: u8, child: u8) -> Result<(), Fd
     second
 }
 
-// Whether these files and these descriptions were released.
-fn released(releases: &Releases, files: &[u8], descriptions: &[u64]) -> bool {
-    releases.files() == files && releases.descriptions() == descriptions
+// Whether a close released these files and these descriptions.
+fn released(release: Release, files: &[u8], descriptions: &[u64]) -> bool {
+    release.files() == files && release.descriptions() == descriptions
 }
 
 // The step is made, or looked at: whether it came out so.
@@ -117,19 +117,20 @@ fn comes_out(rt: &impl Abort, tables: &mut Tables, step: Step) -> Result<bool, F
         Step::Opens(p, file, answer) => open(rt, tables, p, file) == answer,
         Step::Dups(p, fd, answer) => tables.dup(p, fd) == answer,
         Step::DupsTo(p, fd, to, files, descriptions) => {
-            let (made, releases) = tables.dup2(p, fd, to)?;
-            made == to && released(&releases, files, descriptions)
+            let (made, release) = tables.dup2(p, fd, to)?;
+            made == to && released(release, files, descriptions)
         }
         Step::DupsToNone(p, fd, to) => tables.dup2(p, fd, to).is_err(),
         Step::Closes(p, fd, files, descriptions) => {
-            released(&tables.close_fd(p, fd)?, files, descriptions)
+            released(tables.close_fd(p, fd)?, files, descriptions)
         }
         Step::ClosesNone(p, fd) => tables.close_fd(p, fd).is_err(),
         Step::Seeks(p, fd, offset, answer) => tables.seek(p, fd, offset) == answer,
         Step::Resizes(p, fd, size, answer) => tables.resize(p, fd, size) == answer,
         Step::Forks(p, child, answer) => fork(rt, tables, p, child) == answer,
         Step::Ends(p, files, descriptions) => {
-            released(&tables.end_process(p), files, descriptions)
+            let releases = tables.end_process(p);
+            releases.files() == files && releases.descriptions() == descriptions
         }
         Step::Born(p, born) => tables.born(p) == born,
         Step::Refers(p, fd, file, desc, offset, size) => {

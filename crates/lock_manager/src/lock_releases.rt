@@ -1,5 +1,5 @@
 //! What the closing of descriptors does to the locks.
-ghost use Rattle.std.specs.Prelude.{ℕ, ◌≡◌, ◌≢◌, All, vec_len};
+ghost use Rattle.std.specs.Prelude.{ℕ, ◌≡◌, ◌≢◌, ◌<◌, All, vec_len};
 ghost use Rattle.fd_table.specs.declared.TheConstants.{FILES};
 ghost use Rattle.lock_book.specs.declared.Owner.TheVariants.{Process};
 ghost use Rattle.wait_core.specs.declared.Policy.{Policy};
@@ -9,18 +9,18 @@ ghost use Rattle.wait_core.specs.WaitsView.{waits_of};
 ghost use Rattle.lock_manager.specs.LockReleases.{ReleasesInBook, ReleasesLocks, ReleasesRoom};
 ghost use Rattle.lock_manager.specs.WaitsKept.{SameWaits, StayKnown};
 
-use fd_table::Releases;
 use lock_book::{Book, Owner};
 use range_core::Span;
 use wait_core::{Waits, stay_free_of_cycles};
 
-/// Removes, on each file of which the process closed a descriptor, its traditional locks (POSIX.1-2017 close), and the OFD
-/// and flock locks of the descriptions that were closed for good (fcntl_locking(2); flock(2)), and tells the waits. It
-/// takes no memory.
-pub fn release(books: &mut Vec<Book>, waits: &mut Waits, p: u8, released: &Releases)
-    requires { vec_len books.old ≡ FILES }
-    ensures locks { ReleasesLocks (locks_of books.old.items) (locks_of books.new.items) p released.now.files released.now.descriptions }
-    ensures room { ReleasesRoom books.old.items books.new.items p released.now.files released.now.descriptions }
+/// Removes, on each of these files, of which the process closed a descriptor, its traditional locks (POSIX.1-2017 close), and
+/// the OFD and flock locks of these descriptions, which were closed for good (fcntl_locking(2); flock(2)), and tells the
+/// waits. It takes no memory.
+pub fn release(books: &mut Vec<Book>, waits: &mut Waits, p: u8, files: &[u8], descriptions: &[u64])
+    requires books { vec_len books.old ≡ FILES }
+    requires in_range { All (λ file. file < FILES) files.now }
+    ensures locks { ReleasesLocks (locks_of books.old.items) (locks_of books.new.items) p files.now descriptions.now }
+    ensures room { ReleasesRoom books.old.items books.new.items p files.now descriptions.now }
     ensures count { vec_len books.new ≡ FILES }
     ensures waits { SameWaits waits.old waits.new }
     ensures known { StayKnown waits.old waits.new (locks_of books.old.items) (locks_of books.new.items) }
@@ -31,8 +31,7 @@ pub fn release(books: &mut Vec<Book>, waits: &mut Waits, p: u8, released: &Relea
 {
     // A law, and nothing to run.
     stay_free_of_cycles();
-    let descriptions = released.descriptions();
-    for file in released.files() {
+    for file in files {
         release_in(&mut books[usize::from(*file)], p, descriptions);
         waits.refresh_owner(*file, Owner::Process(p), Span::WHOLE_FILE, books);
     }

@@ -57,7 +57,13 @@ impl Machine {
     {
         match self.tables.dup2(p, fd, to) {
             Ok((number, released)) => {
-                release(&mut self.books, &mut self.waits, p, &released);
+                release(
+                    &mut self.books,
+                    &mut self.waits,
+                    p,
+                    released.files(),
+                    released.descriptions(),
+                );
                 Ok(Reply::Fd(number))
             },
             Err(fault) => refusal(fault),
@@ -75,7 +81,13 @@ impl Machine {
     {
         match self.tables.close_fd(p, fd) {
             Ok(released) => {
-                release(&mut self.books, &mut self.waits, p, &released);
+                release(
+                    &mut self.books,
+                    &mut self.waits,
+                    p,
+                    released.files(),
+                    released.descriptions(),
+                );
                 Ok(Reply::Ok)
             },
             Err(fault) => refusal(fault),

@@ -41,7 +41,13 @@ impl Machine {
         ensures waits { machine_waits self.new ≡ machine_waits self.old }
     {
         let released = self.tables.end_process(p);
-        release(&mut self.books, &mut self.waits, p, &released);
+        release(
+            &mut self.books,
+            &mut self.waits,
+            p,
+            released.files(),
+            released.descriptions(),
+        );
         stand(&mut self.states, p, ProcState::Ended);
     }
 

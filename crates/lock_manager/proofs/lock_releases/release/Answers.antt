@@ -1,4 +1,4 @@
-use Rattle.std.proofs.Common.{◌≡◌, ◌<◌, ◌∙◌, length, get_or, take, sym, ap, subst, arith, refl, take_all, slice_set}
+use Rattle.std.proofs.Common.{◌≡◌, ◌<◌, ◌∙◌, length, get_or, take, sym, subst, arith, refl, take_all, slice_set}
 use Rattle.range_core.specs.declared.TheConstants.{OFFMAX}
 use Rattle.wait_core.specs.Locks.{Locks, locks_of}
 use Rattle.wait_core.specs.Cycles.{IsFreeOfCycles}
@@ -16,18 +16,17 @@ use Rattle.lock_manager.proofs.lock_releases.release.Goals as goal
 pub loop-file-preserved : goal.loop-file-preserved
 loop-file-preserved c =
     let books = c.loop-file.books.items in
-    let files = c.args.released.now.files in
+    let files = c.args.files.now in
     let file = c.from.result in
     let i = c.loop-file.file-index in
-    let same : c.files-file-items.result.now ≡ files = c.files-file-items.ensures.value in
-    let inside : i < length files = omega (arith, ap length same) in
-    let is : get_or files i 0 ≡ file = ap (λ xs. get_or xs i 0) (sym same) ∙ sym c.from.ensures in
-    let within : file < length books = omega (arith, c.files-file-items.ensures.in_range i 0) in
+    let inside : i < length files = omega arith in
+    let is : get_or files i 0 ≡ file = sym c.from.ensures in
+    let within : file < length books = omega (arith, c.requires.in_range i 0) in
     let was = book_at books file file c.index_mut.result.now refl within c.index_mut.ensures.value in
     let before = c.loop-file.invariant in (
       before.0,
-      released_file c.args.books.now.items books c.index_mut.result.now c.release_in.new.book c.args.p files c.descriptions-descriptions.result.now i 0 file inside is within was before.1 c.release_in.ensures,
-      released_room c.args.books.now.items books c.index_mut.result.now c.release_in.new.book c.args.p files c.descriptions-descriptions.result.now i 0 file inside is within was before.2 c.release_in.ensures,
+      released_file c.args.books.now.items books c.index_mut.result.now c.release_in.new.book c.args.p files c.args.descriptions.now i 0 file inside is within was before.1 c.release_in.ensures,
+      released_room c.args.books.now.items books c.index_mut.result.now c.release_in.new.book c.args.p files c.args.descriptions.now i 0 file inside is within was before.2 c.release_in.ensures,
       record {
         waits = c.refresh_owner.ensures.waits ∙ before.3.waits;
         policy = c.refresh_owner.ensures.policy ∙ before.3.policy;
@@ -37,18 +36,17 @@ loop-file-preserved c =
           (subst (λ f. (locks : Locks) → AreTold c.loop-file.waits locks → AgreeButOwner f (Process c.args.p) (record { first = 0; last = OFFMAX }) locks (locks_of c.deref.result.now) → AreTold c.refresh_owner.new.self (locks_of c.deref.result.now)) (sym c.from.ensures) c.refresh_owner.ensures.told)
           (subst (λ f. f < 64 → (locks : Locks) → AreBlockedElsewhere c.loop-file.waits locks → AgreeElsewhere f locks (locks_of c.deref.result.now) → AreBlockedElsewhere c.refresh_owner.new.self (locks_of c.deref.result.now)) (sym c.from.ensures) c.refresh_owner.ensures.blocked)
           (agree_elsewhere books file c.release_in.new.book)
-          (process_alone books file c.index_mut.result.now c.release_in.new.book c.args.p c.descriptions-descriptions.result.now within was c.release_in.ensures) in
+          (process_alone books file c.index_mut.result.now c.release_in.new.book c.args.p c.args.descriptions.now within was c.release_in.ensures) in
           record { told = λ was. now.told (before.4.told was); blocked = λ was. now.blocked (before.4.blocked was) }),
     )
 
 pub returns-clause-free : goal.returns-clause-free
 returns-clause-free c policy others free =
-    let files = c.args.released.now.files in
-    let descriptions = c.descriptions-descriptions.result.now in
+    let files = c.args.files.now in
+    let descriptions = c.args.descriptions.now in
     let old = locks_of c.args.books.now.items in
     let new = locks_of c.loop-file.books.items in
-    let same : c.files-file-items.result.now ≡ files = c.files-file-items.ensures.value in
-    let all : take c.loop-file.file-index files ≡ files = take_all c.loop-file.file-index files (omega (arith, ap length same, c.loop-file-test.false)) in
+    let all : take c.loop-file.file-index files ≡ files = take_all c.loop-file.file-index files (omega (arith, c.loop-file-test.false)) in
     let laws = c.stay_free_of_cycles.ensures in
     let before = c.loop-file.invariant in
     subst (IsFreeOfCycles policy new) (sym before.3.waits)

@@ -15,7 +15,7 @@ returns-then-to-fd-clause-step c = λ D h.
     let t = c.args.self.now in
     let there : IsSome (key_at t.rows.items c.args.p c.args.fd) = search rules in
     let refers = value_of_some (D.description_of c.args.p c.args.fd) (open_at_key t.rows.items t.opened t.made c.args.p c.args.fd (view_of t) D t.entered (λ q k. refl) h there) in
-    (D, (refers.0, refers.1, omega arith, refl, moves_onto_itself D c.args.p c.args.fd c.args.to refers.0 c.none.result c.if-to-fd.true c.none.ensures), h)
+    (D, (refers.0, refers.1, omega arith, refl, moves_onto_itself D c.args.p c.args.fd c.args.to refers.0 c.of.result c.if-to-fd.true c.of.ensures), h)
 
 pub returns-clause-step : goal.returns-clause-step
 unfolding view_of limits_of

@@ -1,4 +1,4 @@
-use Rattle.std.proofs.Common.{arith, refl}
+use Rattle.std.proofs.Common.{arith, refl, rules}
 use Rattle.std.proofs.lemmas.Result.{on_err_weaker}
 use Rattle.std.proofs.lemmas.Grind.{common_steps}
 use Rattle.wait_core.specs.Locks.{locks_of}
@@ -22,7 +22,7 @@ invariant_of-self-clause-kept c =
     let after = c.release.ensures in
     kept_by_release machine c.close_fd.new.self c.release.new.books.items c.release.new.waits c.args.p released c.requires
     (λ D stands. let given = c.in-Ok.ensures.step D stands in (given.0, close_closes D given.0 c.args.p c.args.fd released given.1, given.2))
-    after.locks after.room after.waits after.known after.free
+    (search rules) (search rules) after.waits after.known after.free
 
 pub invariant_of-self-clause-standing : goal.invariant_of-self-clause-standing
 invariant_of-self-clause-standing c = grind (arith, common_steps, standing_in)
@@ -37,7 +37,7 @@ returns-in-Ok-clause-answers c =
     done_by (Closes c.args.p c.args.fd) (after_close c.args.p) (λ released. replies.Ok) machine _ c.args.p (CloseFd c.args.fd) c.in-Ok.released
     (served_by_close machine c.args.p c.args.fd)
     (λ S E h gives tables. with_release machine _ S E c.args.p released (close_closes S.descriptors E c.args.p c.args.fd released gives)
-    c.release.ensures.locks refl c.release.ensures.waits.waits h tables)
+    (search rules) refl c.release.ensures.waits.waits h tables)
     c.in-Ok.ensures.step
 
 pub returns-in-Err-clause-answers : goal.returns-in-Err-clause-answers

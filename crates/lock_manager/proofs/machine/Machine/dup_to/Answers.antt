@@ -1,4 +1,4 @@
-use Rattle.std.proofs.Common.{arith, refl}
+use Rattle.std.proofs.Common.{arith, refl, rules}
 use Rattle.std.proofs.lemmas.Result.{on_err_weaker}
 use Rattle.std.proofs.lemmas.Grind.{common_steps}
 use Rattle.fd_table.specs.TablesView.{limits_of}
@@ -23,7 +23,7 @@ invariant_of-self-clause-kept c =
     let after = c.release.ensures in
     kept_by_release machine c.dup2.new.self c.release.new.books.items c.release.new.waits c.args.p released c.requires
     (λ D stands. let given = c.in-Ok.ensures.step D stands in (given.0, dup2_closes (limits_of machine.tables) D given.0 c.args.p c.args.fd c.args.to (c.in-Ok.number, released) given.1, given.2))
-    after.locks after.room after.waits after.known after.free
+    (search rules) (search rules) after.waits after.known after.free
 
 pub invariant_of-self-clause-standing : goal.invariant_of-self-clause-standing
 invariant_of-self-clause-standing c = grind (arith, common_steps, standing_in)
@@ -38,7 +38,7 @@ returns-in-Ok-clause-answers c =
     done_by (DupsTo machine c.args.p c.args.fd c.args.to) (after_dup2 c.args.p) (λ answer. replies.Fd answer.0) machine _ c.args.p (DupTo c.args.fd c.args.to) (c.in-Ok.number, c.in-Ok.released)
     (served_by_dup2 machine c.args.p c.args.fd c.args.to)
     (λ S E h gives tables. with_release machine _ S E c.args.p released (dup2_closes (limits_of machine.tables) S.descriptors E c.args.p c.args.fd c.args.to (c.in-Ok.number, released) gives)
-    c.release.ensures.locks refl c.release.ensures.waits.waits h tables)
+    (search rules) refl c.release.ensures.waits.waits h tables)
     c.in-Ok.ensures.step
 
 pub returns-in-Err-clause-answers : goal.returns-in-Err-clause-answers

@@ -1,5 +1,5 @@
 use Rattle.std.proofs.lemmas.Grind.{common_steps}
-use Rattle.std.proofs.Common.{arith}
+use Rattle.std.proofs.Common.{arith, rules}
 use Rattle.wait_core.specs.WaitsView.{waits_of}
 use Rattle.lock_manager.specs.MachineView.{machine_state}
 use Rattle.lock_manager.proofs.kept.ClosingLemmas.{end_closes}
@@ -20,7 +20,7 @@ invariant_of-self-clause-kept c =
     let after = c.release.ensures in
     kept_by_release c.args.self.now c.end_process-released.new.self c.release.new.books.items c.release.new.waits c.args.p released c.requires
     (λ D stands. let given = c.end_process-released.ensures.step D stands in (given.0, end_closes D given.0 c.args.p released given.1, given.2))
-    after.locks after.room after.waits after.known after.free
+    (search rules) (search rules) after.waits after.known after.free
 
 pub invariant_of-self-clause-standing : goal.invariant_of-self-clause-standing
 unfolding machine_state
@@ -30,5 +30,5 @@ pub returns-clause-ends : goal.returns-clause-ends
 unfolding machine_state
 returns-clause-ends c =
     let machine = c.args.self.now in
-    ended machine _ c.args.p c.end_process-released.result c.end_process-released.ensures.step c.release.ensures.locks c.stand.ensures.stands c.release.ensures.waits.waits
+    ended machine _ c.args.p c.end_process-released.result c.end_process-released.ensures.step (search rules) c.stand.ensures.stands c.release.ensures.waits.waits
     (waits_of_others machine.tables machine.states.items (waits_of machine.waits) c.args.p machine.standing.suspended c.requires)
