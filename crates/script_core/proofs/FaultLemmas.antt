@@ -1,4 +1,4 @@
--- The words of a line, and of the pieces of an entry's line, are never refused for want of memory: for `Reader::parse_line`, `read_notes` and
+-- A line, and the pieces of an entry's line, are never refused for want of memory: for `ScriptReader::read_line`, `read_notes` and
 -- `read_pieces`.
 use Rattle.std.proofs.Common.{arith, ◌≡◌, ℕ, ◌∙◌, sym, subst, inl, inr, List, [], ◌∷◌, length, Option, Some, None, Result, Ok, Err, IfErr, MatchOption, MatchResult, ◌⊎◌}
 use Rattle.std.proofs.lemmas.Grind.{common_steps}
@@ -13,7 +13,7 @@ use Rattle.script_core.specs.declared.line.Line.TheVariants as lines
 use Rattle.script_core.specs.declared.script.Cause.{Cause}
 use Rattle.script_core.specs.declared.script.Cause.TheVariants.{Word, Count, Memory, Tag}
 use Rattle.script_core.specs.Arguments.{Argument, ErrorWord, cause_of, Spells, IsFirstBad, AreRefused, Command, command_named, has_count}
-use Rattle.script_core.specs.Reading.{Reading, limits_of, is_comment, says_policy, says_limits, PolicyGives, LimitsGive, ArgumentsGive, CommandGives, RequestGives, ArrivalGives, ProcessGives, WordsGive, IsOfScript}
+use Rattle.script_core.specs.Reading.{Reading, limits_of, is_comment, says_policy, says_limits, PolicyGives, LimitsGive, ArgumentsGive, CommandGives, RequestGives, ArrivalGives, ProcessGives, WordsGive, LineGives, IsOfScript}
 use Rattle.script_core.specs.EntryReading.{TagGives, RequestIsTaken, TakenGives, ReplyWordsGive, WaitGives, ToldGives, NoteGives}
 use Rattle.script_core.proofs.HeaderLemmas.{MatchBool-join}
 
@@ -82,10 +82,14 @@ of_words reading (first ∷ rest) result gives =
     (MatchBool-join (says_limits reading first) _ _ (IsSaid result) (of_limits rest result) (of_process (limits_of reading) first rest result)))
     gives
 
--- no words of a line are refused for want of memory
-pub never_memory : (reading : Reading) (words : List (List ℕ)) (result : Result Line Cause) → WordsGive reading words result → IfErr result IsOfScript
+of_line : (reading : Reading) (line : List ℕ) (result : Result Line Cause) → LineGives reading line result → IsSaid result
 unfolding IsSaid
-never_memory reading words result gives = grind (arith, common_steps, of_words)
+of_line reading line result gives = grind (arith, common_steps, MatchBool-join, said_by, of_words)
+
+-- no line is refused for want of memory
+pub never_memory : (reading : Reading) (line : List ℕ) (cause : Cause) → LineGives reading line (Err cause) → IsOfScript cause
+unfolding IsSaid
+never_memory reading line cause gives = of_line reading line (Err cause) gives
 
 of_tag : (limits : Limits) (word : List ℕ) (cause : Cause) → TagGives limits word (Err cause) → IsOfScript cause
 of_tag limits word cause gives memory e = absurd (let other : Tag ≡ Memory memory = sym gives.1 ∙ e in cc)

@@ -1,5 +1,5 @@
 -- The arrivals of a script: each is of one of its processes, and is said by the words of its line; for `parse`.
-use Rattle.std.proofs.Common.{arith, ℕ, ◌≡◌, sym, subst, Bool, true, List, [], ◌∷◌, Option, MatchOption, Result, Ok, Err, All, MatchBool, ◌+◌, ◌&&◌, decimal}
+use Rattle.std.proofs.Common.{arith, ℕ, ◌≡◌, refl, sym, subst, Bool, true, List, [], ◌∷◌, Option, MatchOption, Result, Ok, Err, All, MatchBool, ◌+◌, ◌&&◌, is_none, bytes_eq, codes, decimal}
 use Rattle.std.proofs.lemmas.Grind.{common_steps}
 use Rattle.std.proofs.lemmas.List.Elements.{All-push, All-nil, All-weaker}
 use Rattle.fd_table.specs.declared.Limits.{Limits}
@@ -29,10 +29,10 @@ pub record SayArrival (limits : Limits) (words : List (List ℕ)) (p : ℕ) (req
   pub are : words ≡ decimal p ∷ rest
   pub is_request : IsRequest limits rest request
 
--- what the words of a line say keeps it so: limits are said before all arrivals
+-- what the words of a line say keeps it so: header lines stand before all arrivals
 Keeps : Reading → List (List ℕ) → Result Line Cause → Type 0
 Keeps reading words (Ok lines.Skipped) = Unit {0}
-Keeps reading words (Ok (lines.Policy policy)) = Unit {0}
+Keeps reading words (Ok (lines.Policy policy)) = reading.arrivals ≡ []
 Keeps reading words (Ok (lines.Limits limits)) = reading.arrivals ≡ []
 Keeps reading words (Ok (lines.Arrival p request)) = SayArrival (limits_of reading) words p request
 Keeps reading words (Err cause) = Unit {0}
@@ -74,9 +74,10 @@ keeps_process : (reading : Reading) (first : List ℕ) (rest : List (List ℕ)) 
 unfolding Keeps
 keeps_process reading first rest result h = grind (arith, common_steps, keeps_arrival, keeps_by)
 
-keeps_policy : (reading : Reading) (words rest : List (List ℕ)) (result : Result Line Cause) → PolicyGives rest result → Keeps reading words result
+keeps_policy : (reading : Reading) (words rest : List (List ℕ)) (result : Result Line Cause) → reading.arrivals ≡ [] → PolicyGives rest result
+    → Keeps reading words result
 unfolding Keeps
-keeps_policy reading words rest result h = grind (arith, common_steps, keeps_by)
+keeps_policy reading words rest result none h2 = grind (arith, common_steps, keeps_by)
 
 keeps_limits : (reading : Reading) (words rest : List (List ℕ)) (result : Result Line Cause) → reading.arrivals ≡ [] → LimitsGive rest result
     → Keeps reading words result
@@ -89,8 +90,8 @@ empty_is arrivals e = grind (arith, common_steps)
 last_of_three : (a b c : Bool) → (a && (b && c)) ≡ true → c ≡ true
 last_of_three a b c h = grind (arith, common_steps)
 
-before_arrivals : (reading : Reading) (first : List ℕ) → says_limits reading first ≡ true → reading.arrivals ≡ []
-before_arrivals reading first says = grind (arith, common_steps, empty_is, last_of_three)
+no_arrivals : (a b : Bool) (reading : Reading) → (a && (b && is_empty reading.arrivals)) ≡ true → reading.arrivals ≡ []
+no_arrivals a b reading says = grind (arith, common_steps, empty_is, last_of_three)
 
 keeps_words : (reading : Reading) (words : List (List ℕ)) (result : Result Line Cause) → WordsGive reading words result → Keeps reading words result
 unfolding Keeps
@@ -98,9 +99,11 @@ keeps_words reading [] result gives = keeps_by reading [] (Ok lines.Skipped) res
 keeps_words reading (first ∷ rest) result gives =
     let words = first ∷ rest in
     join_by (is_comment first) _ _ (Keeps reading words result) (λ e. keeps_by reading words (Ok lines.Skipped) result tt)
-    (join_by (says_policy reading first) _ _ (Keeps reading words result) (λ e. keeps_policy reading words rest result)
+    (join_by (says_policy reading first) _ _ (Keeps reading words result)
+    (λ e. keeps_policy reading words rest result (no_arrivals (bytes_eq first (codes "policy")) (is_none reading.policy) reading e))
     (join_by (says_limits reading first) _ _ (Keeps reading words result)
-    (λ e. keeps_limits reading words rest result (before_arrivals reading first e)) (keeps_process reading first rest result)))
+    (λ e. keeps_limits reading words rest result (no_arrivals (bytes_eq first (codes "limits")) (is_none reading.limits) reading e))
+    (keeps_process reading first rest result)))
     gives
 
 keeps_line : (reading : Reading) (line : List ℕ) (result : Result Line Cause) → LineGives reading line result → Keeps reading (words_of line) result
@@ -112,6 +115,15 @@ pub arrival_said : (reading : Reading) (line : List ℕ) (p : ℕ) (request : Re
     → SayArrival (limits_of reading) (words_of line) p request
 unfolding Keeps
 arrival_said reading line p request gives = keeps_line reading line (Ok (lines.Arrival p request)) gives
+
+-- behind an arrival a line changes no rules
+pub rules_kept : (reading : Reading) (line : List ℕ) (said : Line) → ¬ (reading.arrivals ≡ []) → LineGives reading line (Ok said)
+    → (meaning_of (reading_after reading said)).rules ≡ (meaning_of reading).rules
+unfolding Keeps
+rules_kept reading line lines.Skipped some gives = refl
+rules_kept reading line (lines.Policy policy) some gives = absurd (some (keeps_line reading line (Ok (lines.Policy policy)) gives))
+rules_kept reading line (lines.Limits limits) some gives = absurd (some (keeps_line reading line (Ok (lines.Limits limits)) gives))
+rules_kept reading line (lines.Arrival p request) some gives = refl
 
 -- no arrivals are of processes under any limits
 none_yet : (limits : Limits) (arrivals : List (ℕ × Request)) → arrivals ≡ [] → All (IsArrivalOf limits) arrivals

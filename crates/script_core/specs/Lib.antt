@@ -6,6 +6,7 @@ pub mod HeaderText
 pub mod Arguments
 pub mod ScriptText
 pub mod Reading
+pub mod ScriptView
 pub mod WithoutHeaders
 pub mod EntryText
 pub mod EntryReading

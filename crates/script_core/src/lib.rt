@@ -8,6 +8,7 @@ mod entry;
 mod entry_text;
 mod expected;
 mod explain;
+mod heading;
 mod journal;
 mod laws;
 mod line;
@@ -33,6 +34,7 @@ pub use laws::{
     journals_have_one_end, lines_have_one_answer, outputs_are_legal, outputs_are_short,
     reports_are_read_back, scripts_have_one_output,
 };
+pub use reader::ScriptReader;
 pub use report::{ReportFault, ReportLine, ReportReader};
 pub use report_text::ProcessLine;
 pub use script::{Cause, Script, ScriptFault, parse};

@@ -1,151 +1,132 @@
-//! Reading line by line: what was said so far, and what the next line says.
-ghost use Rattle.std.specs.Prelude.{◌≡◌, OnOk, IfErr, Ok, Err};
-ghost use Rattle.script_core.specs.Words.{texts, words_of};
+//! Reading a script arrival by arrival.
+ghost use Rattle.std.specs.Prelude.{ℕ, ◌≡◌, ◌+◌, ◌<◌, ◌≤◌, ◌==◌, List, [], ◌∷◌, ◌++◌, Ok, Err, IfOk, OnOk, OnErr, IfErr, IfSome, length, position};
+ghost use Rattle.lock_manager.specs.declared.request.Request.{Request};
+ghost use Rattle.script_core.specs.declared.TheConstants.{SCRIPT_MAX};
+ghost use Rattle.script_core.specs.Words.{lines_of};
+ghost use Rattle.script_core.specs.Reading.{Reads, IsOfScript};
 
-use crate::line::{Line, read_arrival, read_limits_line, read_policy_line};
-use crate::words::{first_words, is_comment, printable_text};
-use crate::{Cause, LINE_MAX, Script};
-use fd_table::Limits;
+use crate::heading::Heading;
+use crate::{Cause, SCRIPT_MAX, ScriptFault};
 use lock_manager::{Request, Rules};
-use range_core::Memory;
-use std::alloc::Global;
-use std::marker::Model;
-use wait_core::Policy;
 
-/// Reads a script line by line: what it said so far.
+/// Reads a script and hands out its arrivals, one after another (this project's choice). It takes no memory: it keeps what the header lines
+/// said, and where it stands in the bytes.
 #[derive(Drop)]
-pub struct Reader {
-    policy: Option<Policy>,
-    limits: Option<Limits>,
-    arrivals: Vec<(u8, Request)>,
+pub struct ScriptReader<'a> {
+    heading: Heading,
+    /// How many lines were read.
+    lines: u64,
+    /// What stands behind them.
+    rest: &'a [u8],
+    ghost short: { lines + length rest.now ≤ SCRIPT_MAX },
 }
 
-impl Model for Reader {
-    ghost use Rattle.script_core.specs.Reading.{Reading};
+#[tactic(auto, unfolding(crate::specs::ScriptView::HasRead, crate::specs::ScriptView::unread_in, crate::specs::ScriptView::lines_in, crate::specs::ScriptView::rules_in))]
+impl<'a> ScriptReader<'a> {
+    ghost use Rattle.script_core.specs.ScriptView.{HasRead, HandsOut, IsNext, unread_in, lines_in, rules_in, with_next};
 
-    ghost Value = { Reading };
+    /// Nothing was read. A script of more than [`SCRIPT_MAX`] bytes is too long as a whole, whatever its lines are.
+    pub fn new(bytes: &'a [u8]) -> Result<ScriptReader<'a>, ScriptFault>
+        ensures opened { IfOk result (λ reader. HasRead bytes.now reader []) }
+        ensures refused { IfErr result (λ fault. Reads bytes.now (Err fault)) }
+        ensures told { IfErr result (λ fault. IsOfScript fault.cause) }
+    {
+        if bytes.len() > SCRIPT_MAX {
+            return Err(ScriptFault {
+                line: 0,
+                cause: Cause::TooLong,
+            });
+        }
+        Ok(ScriptReader {
+            heading: Heading::new(),
+            lines: 0,
+            rest: bytes,
+        })
+    }
 
-    ghost view = { λ reader. record { policy = reader.policy; limits = reader.limits; arrivals = reader.arrivals.items } };
+    /// Reads up to the next arrival, and hands it out with its process; `None` at the end of the script. A fault is that of the first
+    /// faulty line, and is told again by each later call. It is never want of memory.
+    pub fn next_arrival(&mut self) -> Result<Option<(u8, Request)>, ScriptFault>
+        // Whatever was read so far.
+        ensures next { (bytes : List ℕ) (arrivals : List (ℕ × Request)) → HasRead bytes self.old arrivals →
+            IfOk result (HandsOut bytes self.new arrivals) }
+        ensures refused { (bytes : List ℕ) (arrivals : List (ℕ × Request)) → HasRead bytes self.old arrivals →
+            IfErr result (λ fault. HasRead bytes self.new arrivals × Reads bytes (Err fault) × IsOfScript fault.cause) }
+
+        // From the first arrival on the rules are those of the whole script.
+        ensures rules { (bytes : List ℕ) (arrivals : List (ℕ × Request)) (arrival : ℕ × Request) → HasRead bytes self.old (arrivals ++ arrival ∷ []) →
+            rules_in self.new ≡ rules_in self.old }
+
+        // So there is an end to it.
+        ensures shorter { IfOk result (λ next. IfSome next (λ arrival. unread_in self.new < unread_in self.old)) }
+    {
+        while !self.rest.is_empty() {
+            if let Some(arrival) = self.read_line()? {
+                return Ok(Some(arrival));
+            }
+        }
+        Ok(None)
+    }
+
+    /// What the header lines said that were read: from the first arrival on, the rules of the script.
+    pub fn rules(&self) -> Rules
+        ensures { result ≡ rules_in self.now }
+    {
+        self.heading.rules()
+    }
+
+    /// The number of the line that was read last, counted from 1: that of the arrival which was handed out last.
+    pub fn line(&self) -> u64
+        ensures { result ≡ lines_in self.now }
+    {
+        self.lines
+    }
+
+    /// Reads one more line: its arrival, where it is one. A faulty line is left.
+    fn read_line(&mut self) -> Result<Option<(u8, Request)>, ScriptFault>
+        requires { 0 < length self.old.rest.now }
+        ensures read { (bytes : List ℕ) (arrivals : List (ℕ × Request)) → HasRead bytes self.old arrivals →
+            IfOk result (λ next. HasRead bytes self.new (with_next arrivals next)) }
+        ensures arrival { (bytes : List ℕ) (arrivals : List (ℕ × Request)) → HasRead bytes self.old arrivals →
+            IfOk result (λ next. IfSome next (IsNext bytes self.new arrivals)) }
+        ensures rules { (bytes : List ℕ) (arrivals : List (ℕ × Request)) (arrival : ℕ × Request) → HasRead bytes self.old (arrivals ++ arrival ∷ []) →
+            rules_in self.new ≡ rules_in self.old }
+        ensures refused { (bytes : List ℕ) (arrivals : List (ℕ × Request)) → HasRead bytes self.old arrivals →
+            IfErr result (λ fault. Reads bytes (Err fault) × IsOfScript fault.cause) }
+        ensures kept { OnErr result (self.new ≡ self.old) }
+        ensures shorter { OnOk result (unread_in self.new < unread_in self.old) }
+    {
+        let (line, rest) = first_line(self.rest);
+        match self.heading.parse_line(line) {
+            Ok(said) => {
+                self.rest = rest;
+                self.lines += 1;
+                Ok(self.heading.apply(said))
+            }
+            Err(cause) => Err(ScriptFault {
+                line: self.lines + 1,
+                cause,
+            }),
+        }
+    }
 }
 
-impl Reader {
-    ghost use Rattle.script_core.specs.declared.line.Line.{Line};
-    ghost use Rattle.script_core.specs.Reading.{start, limits_of, meaning_of, reading_after, says_policy, says_limits, WordsGive, LineGives, IsArrival, IsOfScript, IsWantOfMemory};
-
-    /// Nothing was read.
-    pub fn new(alloc: Global) -> Reader
-        ensures { result ≡ start }
-    {
-        Reader {
-            policy: None,
-            limits: None,
-            arrivals: Vec::new(alloc),
-        }
+/// The first line, and what stands behind its line feed.
+#[tactic(auto, using(crate::proofs::ScriptLemmas::lines_last))]
+fn first_line(bytes: &[u8]) -> (&[u8], &[u8])
+    requires { 0 < length bytes.now }
+    ensures lines { lines_of bytes.now ≡ result.0.now ∷ lines_of result.1.now }
+    ensures shorter { length result.1.now < length bytes.now }
+{
+    match first_feed(bytes) {
+        Some(end) => (&bytes[..end], &bytes[end + 1..]),
+        None => (bytes, &[]),
     }
+}
 
-    /// Reads one more line.
-    pub fn read_line(&mut self, line: &[u8]) -> Result<(), Cause>
-        ensures read { OnOk result ((said : Line) × LineGives self.old line.now (Ok said) × (self.new ≡ reading_after self.old said)) }
-        ensures refused { IfErr result (λ cause. IsOfScript cause → LineGives self.old line.now (Err cause)) }
-        ensures memory { IfErr result (λ cause. IsWantOfMemory cause → (said : Line) × LineGives self.old line.now (Ok said) × IsArrival said) }
-    {
-        let said = self.parse_line(line)?;
-        self.apply(said)
-    }
-
-    /// What was read, once all lines were.
-    pub fn into_script(self) -> Script
-        ensures { result ≡ meaning_of self }
-    {
-        Script {
-            rules: Rules {
-                policy: self.policy.unwrap_or(Policy::Held),
-                limits: self.limits(),
-            },
-            arrivals: self.arrivals,
-        }
-    }
-
-    /// Takes down what a line says.
-    fn apply(&mut self, said: Line) -> Result<(), Cause>
-        ensures read { OnOk result (self.new ≡ reading_after self.old said) }
-        ensures refused { IfErr result (λ cause. IsWantOfMemory cause × IsArrival said) }
-    {
-        match said {
-            Line::Skipped => Ok(()),
-            Line::Policy(policy) => {
-                self.policy = Some(policy);
-                Ok(())
-            }
-            Line::Limits(limits) => {
-                self.limits = Some(limits);
-                Ok(())
-            }
-            Line::Arrival(p, request) => {
-                self.arrivals.push((p, request)).map_err(Memory::from)?;
-                Ok(())
-            }
-        }
-    }
-
-    /// What the line says.
-    fn parse_line(&self, line: &[u8]) -> Result<Line, Cause>
-        ensures gives { LineGives self.now line.now result }
-        ensures told { IfErr result IsOfScript }
-    {
-        if line.len() > LINE_MAX {
-            return Err(Cause::TooLong);
-        }
-        let text = printable_text(line).ok_or(Cause::Byte)?;
-        self.parse_text(text)
-    }
-
-    /// What the text of a line says. Of more words than [`crate::words::WORDS_MAX`] the first ones say the same.
-    fn parse_text(&self, text: &str) -> Result<Line, Cause>
-        ensures { WordsGive self.now (words_of text.now) result }
-    {
-        if is_comment(text) {
-            return Ok(Line::Skipped);
-        }
-        self.parse_words(&first_words(text))
-    }
-
-    /// What the words of a line say.
-    fn parse_words(&self, words: &[&str]) -> Result<Line, Cause>
-        ensures { WordsGive self.now (texts words.now) result }
-    {
-        let [first, rest @ ..] = words else {
-            return Ok(Line::Skipped);
-        };
-        if first.starts_with('#') {
-            Ok(Line::Skipped)
-        } else if self.says_policy(first) {
-            read_policy_line(rest).map(Line::Policy)
-        } else if self.says_limits(first) {
-            read_limits_line(rest).map(Line::Limits)
-        } else {
-            read_arrival(self.limits(), first, rest)
-        }
-    }
-
-    /// Whether a line of this first word is the one that says the policy: it stands before all requests, and once.
-    fn says_policy(&self, first: &str) -> bool
-        ensures { result ≡ says_policy self.now first.now }
-    {
-        self.arrivals.is_empty() && self.policy.is_none() && first == "policy"
-    }
-
-    /// Whether a line of this first word is the one that says the limits: it stands before all requests, and once.
-    fn says_limits(&self, first: &str) -> bool
-        ensures { result ≡ says_limits self.now first.now }
-    {
-        self.arrivals.is_empty() && self.limits.is_none() && first == "limits"
-    }
-
-    /// The limits that hold for the next line.
-    fn limits(&self) -> Limits
-        ensures { result ≡ limits_of self.now }
-    {
-        self.limits.unwrap_or(Limits::Small)
-    }
+/// Where the first line feed stands.
+fn first_feed(bytes: &[u8]) -> Option<usize>
+    ensures { result ≡ position (λ byte. byte == 10) bytes.now }
+{
+    bytes.iter().position(|byte| *byte == b'\n')
 }

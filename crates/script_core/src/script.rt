@@ -1,12 +1,10 @@
 //! A whole script: its meaning, or its first faulty line.
-ghost use Rattle.std.specs.Prelude.{◌≡◌, ◌≢◌, ◌<◌, ◌≤◌, ◌+◌, ◌^◌, ◌⊎◌, ◌==◌, ℕ, List, [], ◌∷◌, ◌++◌, All, Ok, Err, IfOk, IfErr, length};
+ghost use Rattle.std.specs.Prelude.{◌≡◌, ◌≤◌, ◌+◌, [], ◌∷◌, ◌++◌, All, Ok, Err, IfOk, OnOk, IfErr, length};
 ghost use Rattle.script_core.specs.declared.TheConstants.{SCRIPT_MAX};
-ghost use Rattle.std.specs.List.{slice_split};
-ghost use Rattle.script_core.specs.Reading.{Reads, HasOneReading, LinesGive, IsAtHand, ComesTo, IsOfScript, IsWantOfMemory, start};
+ghost use Rattle.script_core.specs.Reading.{Reads, HasOneReading, IsAtHand, IsOfScript, IsWantOfMemory};
 ghost use Rattle.script_core.specs.ScriptText.{IsProcess};
 
-use crate::SCRIPT_MAX;
-use crate::reader::Reader;
+use crate::reader::ScriptReader;
 use lock_manager::{Request, Rules};
 use range_core::Memory;
 use std::alloc::Global;
@@ -84,7 +82,7 @@ impl Model for Script {
 /// Lines end with a line feed, and bytes after the last one are a line too. A script of more than [`SCRIPT_MAX`] bytes is
 /// too long as a whole, whatever its lines are; a line may have [`crate::LINE_MAX`] bytes. [`Cause::Memory`] may come in
 /// place of any other answer, and only where a growth was refused; its line is the one at hand, an arrival.
-#[tactic(auto, using(crate::proofs::ReadingLemmas::one_reading))]
+#[tactic(auto, using(crate::proofs::ReadingLemmas::one_reading, crate::proofs::lengths::ArrivalLengthLemmas::few_read))]
 pub fn parse(alloc: Global, bytes: &[u8]) -> Result<Script, ScriptFault>
     ensures accepted { IfOk result (λ script. Reads bytes.now (Ok script)) }
     ensures refused { IfErr result (λ fault. IsOfScript fault.cause → Reads bytes.now (Err fault)) }
@@ -101,47 +99,28 @@ pub fn parse(alloc: Global, bytes: &[u8]) -> Result<Script, ScriptFault>
     // The bytes have no other reading.
     ensures determined { HasOneReading bytes.now }
 {
-    if bytes.len() > SCRIPT_MAX {
-        return Err(ScriptFault {
-            line: 0,
-            cause: Cause::TooLong,
-        });
+    let mut reader = ScriptReader::new(bytes)?;
+    let mut arrivals = Vec::new(alloc);
+    while let Some(arrival) = reader.next_arrival()? {
+        take_down(&mut arrivals, arrival, reader.line())?;
     }
-    read_lines(alloc, without_last_feed(bytes))
+    Ok(Script {
+        rules: reader.rules(),
+        arrivals,
+    })
 }
 
-/// Reads the lines that stand before, between and behind the line feeds.
-fn read_lines(alloc: Global, bytes: &[u8]) -> Result<Script, ScriptFault>
-    ensures accepted { IfOk result (λ script. LinesGive 1 start (slice_split (λ byte. byte == 10) bytes.now) (Ok script)) }
-    ensures fault { IfErr result (λ fault.
-        (IsOfScript fault.cause → LinesGive 1 start (slice_split (λ byte. byte == 10) bytes.now) (Err fault))
-        × (IsWantOfMemory fault.cause → ComesTo 1 start (slice_split (λ byte. byte == 10) bytes.now) fault.line)) }
+/// Takes down an arrival behind the others. A fault is that of its line.
+fn take_down(
+    arrivals: &mut Vec<(u8, Request)>,
+    arrival: (u8, Request),
+    line: u64,
+) -> Result<(), ScriptFault>
+    ensures taken { OnOk result (arrivals.new.items ≡ arrivals.old.items ++ arrival ∷ []) }
+    ensures memory { IfErr result (λ fault. (fault.line ≡ line) × IsWantOfMemory fault.cause) }
 {
-    let mut reader = Reader::new(alloc);
-    for (index, line) in bytes.split(|byte| *byte == b'\n').enumerate() {
-        if let Err(cause) = reader.read_line(line) {
-            return Err(fault_at(index, cause));
-        }
-    }
-    Ok(reader.into_script())
-}
-
-/// The fault of the line behind so many others.
-fn fault_at(before: usize, cause: Cause) -> ScriptFault
-    requires { before + 1 < 2 ^ 64 }
-    ensures { result ≡ record { line = before + 1; cause = cause } }
-{
-    let line = before as u64 + 1;
-    ScriptFault { line, cause }
-}
-
-/// The bytes without the line feed that ends them, where one does.
-fn without_last_feed(bytes: &[u8]) -> &[u8]
-    ensures { (bytes.now ≡ result.now ++ 10 ∷ [])
-        ⊎ ((result.now ≡ bytes.now) × ((front : List ℕ) → bytes.now ≢ front ++ 10 ∷ [])) }
-{
-    match bytes {
-        [body @ .., b'\n'] => body,
-        body => body,
-    }
+    arrivals.push(arrival).map_err(|refused| ScriptFault {
+        line,
+        cause: Cause::Memory(Memory::from(refused)),
+    })
 }

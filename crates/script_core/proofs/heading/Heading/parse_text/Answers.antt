@@ -2,7 +2,7 @@ use Rattle.std.proofs.Common.{arith}
 use Rattle.std.proofs.lemmas.Grind.{common_steps}
 use Rattle.script_core.proofs.LineLemmas.{comment_skipped}
 use Rattle.script_core.proofs.FirstWordsLemmas.{first_words_give}
-use Rattle.script_core.proofs.reader.Reader.parse_text.Goals as goal
+use Rattle.script_core.proofs.heading.Heading.parse_text.Goals as goal
 
 pub returns-then-is_comment : goal.returns-then-is_comment
 returns-then-is_comment c = grind (arith, common_steps, comment_skipped)

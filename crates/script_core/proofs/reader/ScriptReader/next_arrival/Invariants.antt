@@ -1,0 +1,16 @@
+use Rattle.std.proofs.Common.{◌≡◌, ℕ, ◌≤◌, ◌++◌, ◌∷◌, [], List, length}
+use Rattle.lock_manager.specs.declared.request.Request.{Request}
+use Rattle.script_core.specs.ScriptView.{HasRead, unread_in, rules_in}
+use Rattle.script_core.proofs.reader.ScriptReader.next_arrival.Given as goal
+
+-- no arrival came
+abbrev pub invariant-loop-self : goal.invariant-loop-self
+invariant-loop-self l = record {
+  read : (bytes : List ℕ) (arrivals : List (ℕ × Request)) → HasRead bytes l.initial.self arrivals → HasRead bytes l.self arrivals;
+  rules : (bytes : List ℕ) (arrivals : List (ℕ × Request)) (arrival : ℕ × Request) → HasRead bytes l.initial.self (arrivals ++ arrival ∷ [])
+      → rules_in l.self ≡ rules_in l.initial.self;
+  within : unread_in l.self ≤ unread_in l.initial.self;
+}
+
+abbrev pub decreases-loop-self : goal.decreases-loop-self
+decreases-loop-self l = length l.self.rest.now
