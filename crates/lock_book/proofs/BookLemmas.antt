@@ -1,7 +1,7 @@
 -- What a change of one owner's list, or of one description's place, means to the whole book: for each call that sets, reserves or releases.
 use Rattle.std.proofs.lemmas.Grind.{common_steps}
 use Rattle.std.proofs.Common.{ℕ, ◌≡◌, ◌≢◌, ◌==◌, ◌∙◌, sym, ap, refl, subst, true, false, cond, Bool, arith, ◌≤◌, ◌+◌, Option, Some, None, Result, Ok, Err, inl, inr, List}
-use Rattle.std.specs.Prelude.{if◌then◌else◌, ◌||◌, is_some, OnOk, OnErr, IsTrue}
+use Rattle.std.specs.Prelude.{if◌then◌else◌, ◌||◌, is_some, OnOk, OnErr}
 use Rattle.std.specs.Ordering.{nat_cmp}
 use Rattle.std.specs.Option.{option_copied, option_copied_mut}
 use Rattle.std.specs.BTreeMap.{BTreeMap, UpdatesBy, WritesThrough, get}
@@ -42,16 +42,12 @@ pub flock_modes_of-place : (book : Book) (description : ℕ) (mode : Option Mode
 unfolding flock_modes_of
 flock_modes_of-place book description mode there = ap mode_in_place there
 
--- a description that no map has has no place
-pub no_place : (book : Book) (description : ℕ) → place_among book.flocks.places.entries description ≡ None → IsTrue (has_flock_place book description) → ⊥
-unfolding has_flock_place place_of
-no_place book description none there = grind (arith, common_steps)
-
+-- without a value a test says so
 pub none_from_test : {A : Type 0} (o : Option A) → is_some o ≡ false → o ≡ None
 none_from_test None test = refl
 none_from_test (Some x) test = let h : true ≡ false = test in cc
 
--- nor has one whose test says so
+-- a description has no place where its test says so
 pub place_of-none : (book : Book) (description : ℕ) → has_flock_place book description ≡ false → place_of book description ≡ None
 unfolding has_flock_place
 place_of-none book description none = none_from_test (place_of book description) none

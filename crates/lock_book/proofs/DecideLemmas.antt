@@ -7,13 +7,11 @@ use Rattle.std.specs.Map.{lookup}
 use Rattle.std.proofs.lemmas.Bool.{cases_Bool, cases_eq, eqb-true}
 use Rattle.range_core.specs.declared.Mode.{Mode}
 use Rattle.range_core.specs.declared.Span.{Span}
-use Rattle.range_core.specs.declared.list.RangeList.{RangeList}
 use Rattle.range_core.specs.Ranges.{Covers, HeldConflicts}
 use Rattle.lock_book.specs.declared.Owner.{Owner}
 use Rattle.lock_book.specs.declared.Owner.TheVariants.{Process, Description}
 use Rattle.lock_book.specs.declared.book.Book.{Book}
 use Rattle.lock_book.specs.Owners.{is_same_owner}
-use Rattle.lock_book.specs.OwnerLists.{modes_in_list}
 use Rattle.lock_book.specs.Holders.{mode_in_place}
 use Rattle.lock_book.specs.Books.{list_of, place_of, byte_modes_of, flock_modes_of}
 use Rattle.lock_book.specs.Conflicts.{ByteModes, Blocks}

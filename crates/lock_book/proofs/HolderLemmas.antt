@@ -6,8 +6,8 @@ use Rattle.std.specs.Prelude.{◌⊎◌, unwrap_or}
 use Rattle.std.specs.List.{AllByRecursion}
 use Rattle.std.specs.List.Sorted.{IsStrictlySortedBy}
 use Rattle.std.specs.Map.{keys_of, values_of, lookup, remove_entry}
-use Rattle.std.specs.BTreeMap.{BTreeMap, UpdatesBy, is_at, insert_entry}
-use Rattle.std.specs.Option.{option_map}
+use Rattle.std.specs.BTreeMap.{BTreeMap, UpdatesBy, WritesThrough, get, is_at, insert_entry}
+use Rattle.std.specs.Option.{IsSome, option_map}
 use Rattle.std.specs.Ordering.{nat_cmp, is_eq}
 use Rattle.std.specs.Cmp.{nat_cmp_total, eq_by_cmp_equiv}
 use Rattle.std.specs.declared.cmp.Ordering.TheVariants.{Less}
@@ -16,7 +16,7 @@ use Rattle.std.proofs.lemmas.List.Elements.{All-nil, All-cons, All-head, All-tai
 use Rattle.std.proofs.lemmas.List.Sums.{sum_by-cons, sum_by-le}
 use Rattle.std.proofs.lemmas.Option.{slice_get-get_or}
 use Rattle.std.proofs.lemmas.Map.{lookup-remove_entry}
-use Rattle.std.proofs.lemmas.Map.Entries.{length-values_of, lookup_from_place, sum_by-insert_entry, sum_by-remove_entry}
+use Rattle.std.proofs.lemmas.Map.Entries.{length-values_of, lookup_from_place, sum_by-insert_entry, sum_by-remove_entry, sum_by-set_value}
 use Rattle.std.proofs.lemmas.Map.Keys.{IsDistinct-from_sorted, sorted_head, sorted_tail}
 use Rattle.range_core.specs.declared.Mode.{Mode}
 use Rattle.range_core.specs.declared.Mode.TheVariants.{Read, Write}
@@ -24,6 +24,7 @@ use Rattle.range_core.specs.Ranges.{Conflict, HeldConflicts}
 use Rattle.lock_book.specs.declared.Owner.TheVariants.{Description}
 use Rattle.lock_book.specs.Conflicts.{FlockConflict}
 use Rattle.lock_book.specs.Holders.{Places, place_among, mode_in_place, flock_modes_among, locks_in, locks_among, conflicting, PutsAmong}
+use Rattle.lock_book.specs.declared.book.holders.FlockLock.{FlockLock}
 use Rattle.lock_book.specs.declared.book.holders.LockCount.{LockCount}
 use Rattle.lock_book.proofs.ListLemmas.{Any-append_right, All-at_Any}
 use Rattle.lock_book.proofs.OwnerLemmas.{is_eq-nat_cmp, less_from_nat, lookup-nat_cmp}
@@ -74,11 +75,22 @@ pub counted_others : (mode : Mode) (description : ℕ) (own : Option Mode) (plac
     → rest ≡ locks_among mode (others description places)
 counted_others mode description own places all rest is counted left = grind (arith, common_steps, count_apart)
 
--- and with what is put there that of the new places
-pub counted_put : (mode : Mode) (description : ℕ) (own lock : Option Mode) (old new : Places) (all rest : ℕ)
-    → IsStrictlySortedBy nat_cmp (keys_of old) → new ≡ insert_entry nat_cmp old description lock → own ≡ flock_modes_among old description
-    → all ≡ locks_among mode old → rest + locks_in mode own ≡ all → rest + locks_in mode lock ≡ locks_among mode new
-counted_put mode description own lock old new all rest sorted put is counted left = grind (arith, common_steps, count_put)
+-- with a lock in a place that is added it is the count of the new places
+pub counted_added : (mode : Mode) (description : ℕ) (lock : Option Mode) (old new : Places) (all : ℕ)
+    → IsStrictlySortedBy nat_cmp (keys_of old) → new ≡ insert_entry nat_cmp old description lock → place_among old description ≡ None
+    → all ≡ locks_among mode old → all + locks_in mode lock ≡ locks_among mode new
+counted_added mode description lock old new all sorted put absent counted =
+    let sum = count_put mode description lock old sorted in
+    let none : locks_in mode (flock_modes_among old description) ≡ 0 = ap (λ (place : Option (Option Mode)). locks_in mode (mode_in_place place)) absent in
+    rw put (omega (arith, sum, none, counted))
+
+-- and so it is with a lock written over one
+pub counted_written : (mode : Mode) (description : ℕ) (before lock : Option Mode) (old new : BTreeMap ℕ (Option Mode)) (all rest : ℕ)
+    → Some before ≡ get nat_cmp old description → WritesThrough nat_cmp (nat_cmp description) old lock new
+    → all ≡ locks_among mode old.entries → rest + locks_in mode before ≡ all → rest + locks_in mode lock ≡ locks_among mode new.entries
+counted_written mode description before lock old new all rest there writes counted left =
+    let sum = sum_by-set_value (locks_in mode) (is_at (nat_cmp description)) old.entries before lock (sym there) in
+    rw writes.0 (omega (arith, sum, counted, left))
 
 -- which is at most their number
 pub counted_fits : (mode : Mode) (count : ℕ) (places : Places) (number : ℕ) → count ≡ locks_among mode places → number ≡ length places
@@ -94,6 +106,12 @@ own_lock description places place lock looked is = is ∙ ap mode_in_place (look
 pub PutsAmong-updates : (old new : BTreeMap ℕ (Option Mode)) (description : ℕ) (place : Option (Option Mode))
     → UpdatesBy nat_cmp (nat_cmp description) old new place → PutsAmong old.entries new.entries description place
 PutsAmong-updates old new description place updates other = grind (arith, common_steps, lookup-nat_cmp, is_eq-nat_cmp)
+
+-- and so does a write over a place
+pub PutsAmong-writes : (old new : BTreeMap ℕ (Option Mode)) (description : ℕ) (place lock : Option Mode) → Some place ≡ get nat_cmp old description
+    → WritesThrough nat_cmp (nat_cmp description) old lock new → PutsAmong old.entries new.entries description (Some lock)
+PutsAmong-writes old new description place lock there writes =
+    PutsAmong-updates old new description (Some lock) (writes.3 (subst (λ (found : Option (Option Mode)). IsSome found) there refl))
 
 -- a lock that is counted stands in some place
 is_or_none : (mode : Mode) (lock : Option Mode) → (lock ≡ Some mode) ⊎ (locks_in mode lock ≡ 0)
@@ -179,6 +197,16 @@ conflicting_mode (Some mode) wanted conflicts = (mode, refl)
 -- descriptions with two numbers are two owners
 other_flock : (one other : ℕ) → one ≢ other → Description one ≢ Description other
 other_flock one other different same = grind (arith, common_steps)
+
+-- a lock that stands and conflicts with another description's
+pub latest_conflicts : (places : Places) (lock : FlockLock) (description : ℕ) (wanted : Mode)
+    → flock_modes_among places lock.description ≡ Some lock.mode → lock.description ≢ description → Conflict lock.mode wanted
+    → FlockConflict (flock_modes_among places) (Description description) wanted
+latest_conflicts places lock description wanted stands different conflict = record {
+  description = lock.description;
+  another = other_flock lock.description description different;
+  conflicts = rw stands conflict;
+}
 
 -- where some of the counted locks conflicts some mode does that is counted
 module _ (count : LockCount) (places : Places) (shared : count.shared ≡ locks_among Read places) (exclusive : count.exclusive ≡ locks_among Write places) where

@@ -6,6 +6,7 @@ use Rattle.std.specs.Option.{option_flatten}
 use Rattle.std.specs.Map.{lookup, values_of}
 use Rattle.range_core.specs.declared.Mode.{Mode}
 use Rattle.range_core.specs.declared.Mode.TheVariants.{Read, Write}
+use Rattle.lock_book.specs.declared.book.holders.FlockLock.{FlockLock}
 use Rattle.lock_book.specs.declared.book.holders.LockCount.{LockCount}
 use Rattle.lock_book.specs.Conflicts.{FlockModes}
 
@@ -29,6 +30,10 @@ flock_modes_among places description = mode_in_place (place_among places descrip
 abbrev pub PutsAmong : Places → Places → ℕ → Option (Option Mode) → Type 0
 PutsAmong old new description place =
     (other : ℕ) → place_among new other ≡ (if description == other then place else place_among old other)
+
+-- the lock, if it is one, stands in its place
+abbrev pub StandsAmong : Option FlockLock → Places → Type 0
+StandsAmong latest places = (lock : FlockLock) → latest ≡ Some lock → flock_modes_among places lock.description ≡ Some lock.mode
 
 -- 1 for a mode and itself, and 0 for two modes
 abbrev pub same_mode : Mode → Mode → ℕ

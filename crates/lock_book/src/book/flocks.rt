@@ -1,5 +1,6 @@
 //! Setting, reserving and releasing whole-file locks.
-ghost use Rattle.std.specs.Prelude.{◌≡◌, ◌↔◌, IsTrue, IsSome, IsOk, OnOk, OnErr};
+ghost use Rattle.std.specs.Prelude.{◌≡◌, ◌↔◌, IsTrue, IsSome, IsOk, OnOk, OnErr, is_some};
+ghost use Rattle.std.specs.Option.{option_flatten};
 ghost use Rattle.lock_book.specs.Conflicts.{FlockConflict};
 ghost use Rattle.lock_book.specs.Books.{flock_modes_of, has_flock_place, ReleasesFlock, ReservesFlock, SameBook, SetsFlock};
 
@@ -14,7 +15,16 @@ impl Book {
         ensures mode { result ≡ flock_modes_of self.now description }
         ensures place { IsSome result → IsTrue (has_flock_place self.now description) }
     {
-        self.flocks.place(description)?
+        self.flock_place(description)?
+    }
+
+    /// The place that is kept for the flock lock of the description, with the mode that stands there: what
+    /// [`Book::flock_room`] and [`Book::flock_mode`] tell, at once. It takes no memory.
+    pub fn flock_place(&self, description: u64) -> Option<Option<Mode>>
+        ensures mode { option_flatten result ≡ flock_modes_of self.now description }
+        ensures place { is_some result ≡ has_flock_place self.now description }
+    {
+        self.flocks.place(description)
     }
 
     /// Whether another description's flock lock conflicts with one of this mode (flock(2)). It takes no memory.
@@ -34,8 +44,8 @@ impl Book {
         ensures removal { mode ≡ None → IsOk result }
         ensures err { OnErr result (SameBook self.old self.new) }
     {
-        if mode.is_some() || self.flock_room(description) {
-            self.flocks.put(description, mode)?;
+        if self.flocks.replace(description, mode).is_none() && mode.is_some() {
+            self.flocks.add(description, mode)?;
         }
         Ok(())
     }
@@ -49,7 +59,7 @@ impl Book {
         ensures err { OnErr result (SameBook self.old self.new) }
     {
         if !self.flock_room(description) {
-            self.flocks.put(description, None)?;
+            self.flocks.add(description, None)?;
         }
         Ok(())
     }
@@ -58,15 +68,17 @@ impl Book {
     pub fn flock_room(&self, description: u64) -> bool
         ensures { result ≡ has_flock_place self.now description }
     {
-        self.flocks.place(description).is_some()
+        self.flock_place(description).is_some()
     }
 
-    /// Sets the flock mode in the place that is kept, or removes it, as [`Book::flock_set`] does. It takes no memory.
-    pub fn flock_set_reserved(&mut self, description: u64, mode: Option<Mode>)
+    /// Sets the flock mode in the place that is kept, or removes it, as [`Book::flock_set`] does, and hands back the mode
+    /// that stood there. It takes no memory.
+    pub fn flock_set_reserved(&mut self, description: u64, mode: Option<Mode>) -> Option<Mode>
         requires { IsSome mode → IsTrue (has_flock_place self.old description) }
-        ensures { SetsFlock self.old self.new description mode }
+        ensures sets { SetsFlock self.old self.new description mode }
+        ensures before { result ≡ flock_modes_of self.old description }
     {
-        self.flock_set(description, mode).unwrap();
+        self.flocks.replace(description, mode)?
     }
 
     /// Removes the flock lock of the description, and the place kept for it (flock(2): its last close). It takes no

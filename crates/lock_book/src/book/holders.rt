@@ -1,11 +1,11 @@
 //! The whole-file locks of a file by description, counted by mode.
-ghost use Rattle.std.specs.Prelude.{ℕ, ◌≡◌, ◌+◌, ◌^◌, ◌<◌, ◌≤◌, ◌↔◌, IsTrue, None, Some, OnOk, OnErr};
+ghost use Rattle.std.specs.Prelude.{ℕ, ◌≡◌, ◌+◌, ◌^◌, ◌<◌, ◌≤◌, ◌↔◌, IsTrue, IsSome, None, Option, Some, OnOk, OnErr};
 ghost use Rattle.std.specs.BTreeMap.{IsOrdered};
 ghost use Rattle.std.specs.Ordering.{nat_cmp};
 ghost use Rattle.std.proofs.Props.{props};
 ghost use Rattle.range_core.specs.declared.Mode.TheVariants.{Read, Write};
 ghost use Rattle.lock_book.specs.Conflicts.{FlockConflict};
-ghost use Rattle.lock_book.specs.Holders.{PutsAmong, conflicting, flock_modes_among, locks_among, locks_in, place_among};
+ghost use Rattle.lock_book.specs.Holders.{Places, PutsAmong, StandsAmong, conflicting, flock_modes_among, locks_among, locks_in, mode_in_place, place_among};
 
 use crate::Owner;
 use range_core::{Memory, Mode};
@@ -73,15 +73,24 @@ impl LockCount {
     }
 }
 
-/// The places that are kept for the flock locks on one file, by description, with the mode that stands in each, and how
-/// many locks of each mode that makes.
+/// A description's flock lock.
+#[derive(Clone, Copy)]
+pub struct FlockLock {
+    description: u64,
+    mode: Mode,
+}
+
+/// The places that are kept for the flock locks on one file, by description, with the mode that stands in each, how many
+/// locks of each mode that makes, and the lock that was set last, while it stands.
 #[derive(Drop)]
 pub struct FlockHolders {
     places: BTreeMap<u64, Option<Mode>>,
     locks: LockCount,
+    latest: Option<FlockLock>,
     ghost ordered: { IsOrdered nat_cmp places } by { Prim.hlevel props },
     ghost shared: { locks.shared ≡ locks_among Read places.entries },
     ghost exclusive: { locks.exclusive ≡ locks_among Write places.entries },
+    ghost stands: { StandsAmong latest places.entries },
 }
 
 impl FlockHolders {
@@ -95,6 +104,7 @@ impl FlockHolders {
                 shared: 0,
                 exclusive: 0,
             },
+            latest: None,
         }
     }
 
@@ -112,19 +122,36 @@ impl FlockHolders {
         &self.places
     }
 
-    /// Puts the mode into the place of the description, which is made if there is none.
+    /// Adds a place for the description, which has none, with this mode in it.
     ///
-    /// `Memory`, which never comes where the place is there, leaves the places as they were.
-    pub fn put(&mut self, description: u64, mode: Option<Mode>) -> Result<(), Memory>
+    /// `Memory` leaves the places as they were.
+    pub fn add(&mut self, description: u64, mode: Option<Mode>) -> Result<(), Memory>
+        requires { place_among self.old.places.entries description ≡ None }
         ensures ok { OnOk result (PutsAmong self.old.places.entries self.new.places.entries description (Some mode)) }
-        ensures absent { OnErr result (place_among self.old.places.entries description ≡ None) }
         ensures err { OnErr result (self.new.places.entries ≡ self.old.places.entries) }
     {
-        let old = self.places.insert(description, mode)?;
+        self.places.insert(description, mode)?;
         // A count is at most the number of places.
         prove!(self.places.len() < usize::MAX);
-        self.locks = self.locks.without(old.flatten()).with(mode);
+        self.locks = self.locks.with(mode);
+        self.latest = latest_after(self.latest, description, mode);
         Ok(())
+    }
+
+    /// Puts the mode into the place of the description, and hands back that place as it was; without a place it changes
+    /// nothing. It takes no memory.
+    pub fn replace(&mut self, description: u64, mode: Option<Mode>) -> Option<Option<Mode>>
+        ensures before { result ≡ place_among self.old.places.entries description }
+        ensures puts { IsSome result → PutsAmong self.old.places.entries self.new.places.entries description (Some mode) }
+        ensures absent { result ≡ None → self.new.places.entries ≡ self.old.places.entries }
+    {
+        let place = self.places.get_mut(&description)?;
+        let old = *place;
+        *place = mode;
+        prove!(self.places.len() < usize::MAX);
+        self.locks = self.locks.without(old).with(mode);
+        self.latest = latest_after(self.latest, description, mode);
+        Some(old)
     }
 
     /// Removes the place of the description, with the mode that stands there. It takes no memory.
@@ -133,6 +160,7 @@ impl FlockHolders {
     {
         let old = self.places.remove(&description);
         self.locks = self.locks.without(old.flatten());
+        self.latest = latest_after(self.latest, description, None);
     }
 
     /// Whether no description has a lock, however many places are kept.
@@ -149,7 +177,19 @@ impl FlockHolders {
             ↔ FlockConflict (flock_modes_among self.now.places.entries) (Owner.Description description) wanted }
     {
         self.locks.conflict_twice(wanted)
-            || self.locks.conflicts_with(wanted) && self.blocked_by_others(description, wanted)
+            || self.locks.conflicts_with(wanted)
+                && (self.latest_blocks(description, wanted) || self.blocked_by_others(description, wanted))
+    }
+
+    /// Whether the lock that was set last is another description's and conflicts with one of the wanted mode.
+    fn latest_blocks(&self, description: u64, wanted: Mode) -> bool
+        ensures { IsTrue result
+            → FlockConflict (flock_modes_among self.now.places.entries) (Owner.Description description) wanted }
+    {
+        match self.latest {
+            Some(lock) => lock.description != description && lock.mode.conflicts_with(wanted),
+            None => false,
+        }
     }
 
     /// The same, by the count of all locks but the description's own.
@@ -159,5 +199,17 @@ impl FlockHolders {
     {
         let own = self.place(description).flatten();
         self.locks.without(own).conflicts_with(wanted)
+    }
+}
+
+/// The lock that was set last, and stands, once this mode stands in the place of the description.
+fn latest_after(latest: Option<FlockLock>, description: u64, mode: Option<Mode>) -> Option<FlockLock>
+    ensures { (before after : Places) (place : Option (Option Mode)) → StandsAmong latest before
+        → PutsAmong before after description place → mode_in_place place ≡ mode → StandsAmong result after }
+{
+    match (mode, latest) {
+        (Some(mode), _) => Some(FlockLock { description, mode }),
+        (None, Some(lock)) if lock.description == description => None,
+        (None, latest) => latest,
     }
 }
