@@ -1,13 +1,14 @@
 -- The mode that a list of runs gives a byte: for `RangeList::beginning_after`, `RangeList::ending_from`, `RangeList::first_hit` and others.
 use Rattle.std.proofs.lemmas.Grind.{common_steps}
-use Rattle.std.proofs.Common.{ℕ, zero, suc, ◌≡◌, ◌<◌, true, false, refl, Option, Some, None, List, [], ◌∷◌, ◌++◌, All, AllPairs, length, get_or, arith, ◌⊎◌, inl, inr}
+use Rattle.std.proofs.Common.{ℕ, zero, suc, ◌≡◌, ◌<◌, true, false, refl, Option, Some, None, List, [], ◌∷◌, ◌++◌, All, AllPairs, length, get_or, subst, arith, ◌⊎◌, inl, inr}
 use Rattle.std.specs.Prelude.{if◌then◌else◌}
 use Rattle.std.proofs.lemmas.Bool.{cases_lt}
 use Rattle.std.proofs.lemmas.Bool.Decides.{nat_tests}
 use Rattle.std.proofs.lemmas.List.Elements.{All-tail}
 use Rattle.range_core.specs.declared.Mode.{Mode}
 use Rattle.range_core.specs.declared.Span.{Span}
-use Rattle.range_core.specs.Ranges.{Covers, IsApart}
+use Rattle.range_core.specs.declared.Mode.TheVariants.{Read}
+use Rattle.range_core.specs.Ranges.{Covers, Conflict, HeldConflicts, IsApart, AreReads}
 use Rattle.range_core.specs.Changes.{is_covered, mode_in}
 
 -- a range covers the byte, or the test says that it doesn't
@@ -78,4 +79,13 @@ held_at (run ∷ runs) d byte mode has =
       | inr uncovered ↦
           let (k, held) = held_at runs d byte mode (rw uncovered at has) in
           (suc k, record { within = omega arith; mode_is = held.mode_is; covers = held.covers })
+    ]
+
+-- read locks conflict with nobody who wants to read
+pub reads_conflict_not : (runs : List (Mode × Span)) (byte : ℕ) → AreReads runs → ¬ HeldConflicts (mode_in runs byte) Read
+reads_conflict_not [] byte reads conflicts = conflicts
+reads_conflict_not (run ∷ runs) byte reads conflicts =
+    elim (cases_covers run.1 byte) [
+      | inl covers ↦ subst (λ mode. Conflict mode Read) (reads 0 run (omega arith)) (rw (is_covered-true run.1 byte covers) at conflicts)
+      | inr uncovered ↦ reads_conflict_not runs byte (All-tail (λ (r : Mode × Span). r.0 ≡ Read) run runs reads) (rw uncovered at conflicts)
     ]

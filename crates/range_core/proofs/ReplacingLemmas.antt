@@ -1,6 +1,6 @@
 -- What stands in the place of the touched runs after a set, and the whole list with it: for `replacement`, `RangeList::set` and
 -- `RangeList::set_reserved`.
-use Rattle.std.proofs.Common.{rules, ℕ, ◌≡◌, ◌+◌, ◌-◌, ◌<◌, ◌≤◌, refl, ap, sym, ◌∙◌, ◌⊎◌, Option, Some, None, List, [], ◌∷◌, ◌++◌, All, AllPairs, length, take, drop, get_or, subst, arith, inl, inr}
+use Rattle.std.proofs.Common.{rules, ℕ, ◌≡◌, ◌≢◌, ◌+◌, ◌-◌, ◌<◌, ◌≤◌, refl, ap, sym, ◌∙◌, ◌⊎◌, Option, Some, None, List, [], ◌∷◌, ◌++◌, All, AllPairs, length, take, drop, get_or, subst, arith, inl, inr}
 use Rattle.std.proofs.lemmas.Grind.{common_steps}
 use Rattle.std.proofs.lemmas.Bool.{cases_lt, false≢true}
 use Rattle.std.proofs.lemmas.List.{length-append, get_or_append_left, get_or-append-add}
@@ -9,13 +9,13 @@ use Rattle.std.proofs.lemmas.List.Edits.{get_or-between, length-between, split_b
 use Rattle.std.proofs.lemmas.List.Elements.{All-append}
 use Rattle.range_core.specs.declared.Mode.{Mode}
 use Rattle.range_core.specs.declared.Span.{Span}
-use Rattle.range_core.specs.declared.Mode.TheVariants.{Read}
-use Rattle.range_core.specs.Ranges.{Covers, IsApart, IsByteRange, SplitsRun}
+use Rattle.range_core.specs.declared.Mode.TheVariants.{Read, Write}
+use Rattle.range_core.specs.Ranges.{AreReads, Conflict, Covers, IsApart, IsByteRange, SplitsRun}
 use Rattle.range_core.specs.Changes.{mode_in, SetsMode}
 use Rattle.range_core.specs.Replacing.{AreInOrder, AreTouched, own_run, IsInside, IsLeftEnd, IsReplacement, IsRightEnd}
 use Rattle.range_core.proofs.EndLemmas.{All-own_run}
 use Rattle.range_core.proofs.ListLemmas.{AllPairs-append, AllPairs-few, ordered_parts}
-use Rattle.range_core.proofs.ModeLemmas.{cases_covers, is_covered-true, uncovered, mode_in-append, mode_in-at, mode_in-none, mode_or, mode_or-None}
+use Rattle.range_core.proofs.ModeLemmas.{cases_covers, held_at, is_covered-true, uncovered, mode_in-append, mode_in-at, mode_in-none, mode_or, mode_or-None}
 
 -- the own run gives its mode to the bytes from its first to its last, and has two ends at most
 own_mode : (mode : Option Mode) (first last byte : ℕ) → first ≤ byte → byte ≤ last → mode_in (own_run mode first last) byte ≡ mode
@@ -205,3 +205,22 @@ splits_at runs lent put span mode start end apart lent_is touched replacement un
             constant = λ byte covers. mode_in-at runs start blank byte apart within covers;
           }
     ]
+
+-- a mode is a read lock's where it is no write lock's
+read_unless_write : (mode : Mode) → mode ≢ Write → mode ≡ Read
+read_unless_write Read other = refl
+read_unless_write Write other = absurd (other refl)
+
+-- read locks stay so where no write lock is set
+pub reads_after : (old new : List (Mode × Span)) (span : Span) (mode : Option Mode) → IsSet old new span mode → AreReads old → mode ≢ Some Write → AreReads new
+reads_after old new span mode set reads other k d within =
+    let run = get_or new k d in
+    let inside : Covers run.1 run.1.first = (omega arith, (set.in_order.ranges k d within).0) in
+    let has = mode_in-at new k d run.1.first set.in_order.apart within inside in
+    read_unless_write run.0 (λ write. elim (cases_covers span run.1.first) [
+      | inl covers ↦ other (sym (rw (is_covered-true span run.1.first covers) at (set.modes run.1.first)) ∙ has ∙ ap Some write)
+      | inr uncovered ↦
+          let before = sym (rw uncovered at (set.modes run.1.first)) ∙ has ∙ ap Some write in
+          let (j, held) = held_at old d run.1.first Write before in
+          subst (λ m. Conflict m Read) (reads j d held.within) (subst (λ m. Conflict m Read) (sym held.mode_is) tt)
+    ])

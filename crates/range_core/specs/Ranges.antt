@@ -54,6 +54,10 @@ pub record AreRuns (modes : Modes) (runs : List (Mode × Span)) : Type 0 where
   pub each : All (λ r. IsRun modes r.1.first r.0 r.1) runs
   pub every : (byte : ℕ) (mode : Mode) → modes byte ≡ Some mode → Any (λ r. (r.0 ≡ mode) × Covers r.1 byte) runs
 
+-- each run is a read lock (this project's choice)
+abbrev pub AreReads : List (Mode × Span) → Type 0
+AreReads runs = All (λ run. run.0 ≡ Read) runs
+
 -- the one run lies before the other, and where they touch their modes differ
 -- (fcntl_locking(2), "Advisory record locking", "splitting, shrinking, or coalescing")
 abbrev pub IsApart : Mode × Span → Mode × Span → Type 0

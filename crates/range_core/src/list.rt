@@ -1,8 +1,8 @@
 //! A mode for each byte of a file, as a list of runs.
-ghost use Rattle.std.specs.Prelude.{ℕ, ◌≡◌, ◌+◌, ◌*◌, ◌^◌, ◌≤◌, ◌<◌, length, drop, All, AllPairs, None, Some, IfSome, IfNone, IsOk, OnOk, OnErr};
+ghost use Rattle.std.specs.Prelude.{ℕ, ◌≡◌, ◌≢◌, ◌+◌, ◌*◌, ◌^◌, ◌≤◌, ◌<◌, length, drop, All, AllPairs, None, Some, IfSome, IfNone, IsOk, IsTrue, OnOk, OnErr};
 ghost use Rattle.std.specs.List.Sorted.{IsPartitionPoint};
 ghost use Rattle.smallvec.specs.SmallVec.{small_vec_len};
-ghost use Rattle.range_core.specs.Ranges.{IsApart, IsByteRange};
+ghost use Rattle.range_core.specs.Ranges.{IsApart, IsByteRange, AreReads};
 
 use crate::memory::doubled;
 use crate::replacement::replacement;
@@ -20,10 +20,13 @@ pub struct RangeList {
     runs: SmallVec<(Mode, Span), 4>,
     /// For how many further sets room is held, however much more there is.
     room: usize,
+    /// Whether each run is known to be a read lock: then nobody who wants to read needs to look for one in the way.
+    only_reads: bool,
     ghost ranges: { All (λ run. IsByteRange run.1) runs.items },
     ghost apart: { AllPairs IsApart runs.items },
     ghost held: { small_vec_len runs + 2 * room ≤ runs.capacity },
     ghost countable: { 2 * room < 2 ^ 64 },
+    ghost read: { IsTrue only_reads → AreReads runs.items },
 }
 
 #[tactic(auto, unfolding(crate::specs::Changes::modes_of, crate::specs::Changes::room_of))]
@@ -40,6 +43,7 @@ impl RangeList {
         RangeList {
             runs: SmallVec::new(alloc),
             room: 0,
+            only_reads: true,
         }
     }
 
@@ -58,6 +62,7 @@ impl RangeList {
         let left = replacement(&self.runs.as_slice()[start..end], span, mode);
         self.grow(end - start, left.len())?;
         splice(&mut self.runs, start, end, left.as_slice());
+        self.only_reads = stay_reads(self.only_reads, mode);
         Ok(())
     }
 
@@ -126,6 +131,7 @@ impl RangeList {
         let (start, end) = self.touched(span);
         let put = replacement(&self.runs.as_slice()[start..end], span, mode);
         splice(&mut self.runs, start, end, put.as_slice());
+        self.only_reads = stay_reads(self.only_reads, mode);
         self.room -= 1;
     }
 
@@ -135,6 +141,7 @@ impl RangeList {
         ensures room { room_of self.new ≡ room_of self.old }
     {
         self.runs.clear();
+        self.only_reads = true;
     }
 
     /// The mode of one byte.
@@ -152,6 +159,9 @@ impl RangeList {
         ensures hit { IfSome result (IsFirstHit (modes_of self.now) span against) }
         ensures none { IfNone result ((byte : ℕ) → Covers span byte → ¬ HeldConflicts (modes_of self.now byte) against) }
     {
+        if self.never_conflicts_with(against) {
+            return None;
+        }
         let place = self.ending_from(span.first);
         for run in self.from(place) {
             if span.last < run.1.first {
@@ -162,6 +172,13 @@ impl RangeList {
             }
         }
         None
+    }
+
+    /// Whether it is known at once that no byte has a mode that conflicts with a lock of this one by another owner.
+    fn never_conflicts_with(&self, against: Mode) -> bool
+        ensures { IsTrue result → (byte : ℕ) → ¬ HeldConflicts (modes_of self.now byte) against }
+    {
+        self.only_reads && against == Mode::Read
     }
 
     /// The mode of the byte, and the largest range round it on all of which there is this one mode; `None` where the byte
@@ -223,4 +240,11 @@ impl RangeList {
             .as_slice()
             .partition_point(|run| run.1.first <= byte)
     }
+}
+
+/// Whether runs that are known to be read locks are so still once this mode is set among them.
+fn stay_reads(only_reads: bool, mode: Option<Mode>) -> bool
+    ensures { IsTrue result → IsTrue only_reads × (mode ≢ Some Mode.Write) }
+{
+    only_reads && mode != Some(Mode::Write)
 }

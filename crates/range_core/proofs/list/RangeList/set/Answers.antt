@@ -1,7 +1,7 @@
 use Rattle.std.proofs.Common.{◌-◌, ◌<◌, length, arith, inl, inr}
 use Rattle.std.proofs.lemmas.Bool.{cases_lt, false≢true}
 use Rattle.range_core.specs.Changes.{modes_of}
-use Rattle.range_core.proofs.ReplacingLemmas.{set_at, splits_at}
+use Rattle.range_core.proofs.ReplacingLemmas.{reads_after, set_at, splits_at}
 use Rattle.range_core.proofs.list.RangeList.set.Goals as goal
 
 pub returns-in_err-grow-clause-unlock : goal.returns-in_err-grow-clause-unlock
@@ -29,3 +29,10 @@ pub invariant_of-self-clause-apart : goal.invariant_of-self-clause-apart
 invariant_of-self-clause-apart c =
     (set_at c.args.self.now.runs.items _ _ _ _ c.args.span c.args.mode _ _ c.args.self.now.ranges c.args.self.now.apart
     c.as_slice.ensures c.as_slice-2.ensures.value c.touched-start.ensures c.replacement-left.ensures (rw c.grow.ensures.runs at c.splice.ensures.items)).in_order.apart
+
+pub invariant_of-self-clause-read : goal.invariant_of-self-clause-read
+invariant_of-self-clause-read c only =
+    let stay = c.stay_reads-self.ensures only in
+    reads_after c.args.self.now.runs.items _ c.args.span c.args.mode
+    (set_at c.args.self.now.runs.items _ _ _ _ c.args.span c.args.mode _ _ c.args.self.now.ranges c.args.self.now.apart
+    c.as_slice.ensures c.as_slice-2.ensures.value c.touched-start.ensures c.replacement-left.ensures (rw c.grow.ensures.runs at c.splice.ensures.items)) (rw c.grow.ensures.runs at (c.grow.new.self.read stay.0)) stay.1
