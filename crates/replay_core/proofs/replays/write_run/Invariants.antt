@@ -1,23 +1,21 @@
 use Rattle.std.proofs.Common.{◌≡◌, ℕ, ◌+◌, List, [], Option, None, Some}
 use Rattle.fd_table.specs.Descriptors.{process_limit}
 use Rattle.lock_manager.specs.declared.request.Request.{Request}
-use Rattle.lock_manager.specs.declared.request.Rules.{Rules}
 use Rattle.session_core.specs.declared.sequencer.Sequencer.{Sequencer}
 use Rattle.script_core.specs.declared.reader.ScriptReader.{ScriptReader}
 use Rattle.script_core.specs.ScriptView.{HandsOut, rules_in, unread_in}
 use Rattle.replay_core.specs.Replays.{WritesRun}
 use Rattle.replay_core.proofs.replays.write_run.Given as goal
 
--- these arrivals were run, and what they told was written; the next one was read, if there is one
-pub record RunsUpTo (bytes : List ℕ) (rules : Rules) (reader : ScriptReader) (next : Option (ℕ × Request)) (sequencer : Sequencer) (before after : List ℕ) : Type 0 where
+-- these arrivals were run, and what they told was written; and this is the next one, if there is one
+pub record RunsUpTo (bytes : List ℕ) (reader : ScriptReader) (next : Option (ℕ × Request)) (sequencer : Sequencer) (before after : List ℕ) : Type 0 where
   pub arrivals : List (ℕ × Request)
-  pub run : WritesRun rules (process_limit rules.limits) arrivals sequencer before after
+  pub run : WritesRun (rules_in reader) (process_limit (rules_in reader).limits) arrivals sequencer before after
   pub hands : HandsOut bytes reader arrivals next
-  pub rules_are : rules_in reader ≡ rules
 
 abbrev pub invariant-loop-next : goal.invariant-loop-next
 invariant-loop-next l = record {
-  run : RunsUpTo l.bytes l.rules l.reader l.next l.sequencer l.fn.text.items l.text.items;
+  run : RunsUpTo l.bytes l.reader l.next l.sequencer l.fn.text.items l.text.items;
   written : l.told.items ≡ [];
 }
 
