@@ -12,10 +12,10 @@ loop-self-preserved c =
     let so_far = c.loop-self.invariant in
     record {
       read = λ bytes arrivals read. (
-        subst (λ next. HasRead bytes c.read_line.new.self (with_next arrivals next)) c.in_default.is (c.in_ok-arrival.ensures.read bytes arrivals (so_far.read bytes arrivals read))
-        );
+          subst (λ next. HasRead bytes c.read_line.new.self (with_next arrivals next)) c.in_default.is (c.in_ok-arrival.ensures.read bytes arrivals (so_far.read bytes arrivals read))
+          );
       rules = λ bytes arrivals arrival read. (
-        c.read_line.ensures.rules bytes arrivals arrival (so_far.read bytes _ read) ∙ so_far.rules bytes arrivals arrival read
-        );
+          c.read_line.ensures.rules bytes arrivals arrival (so_far.read bytes _ read) ∙ so_far.rules bytes arrivals arrival read
+          );
       within = omega (arith, c.in_ok-arrival.ensures.shorter, so_far.within);
     }

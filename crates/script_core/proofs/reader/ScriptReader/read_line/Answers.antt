@@ -23,15 +23,15 @@ returns-in-Ok-clause-arrival c bytes arrivals read =
     let more = read_more bytes old.rest.now rest old.lines line old.heading c.apply.new.self arrivals said read cut c.first_line.ensures.shorter gives
     (subst (λ next. IsHeadingOf c.apply.new.self (with_next arrivals next)) same (c.apply.ensures.heads arrivals read.heads)) after in
     rw same (some_arrival said _ (λ p request is.
-      let read_now = subst (λ s. IsReadUpTo bytes (old.lines + 1) c.apply.new.self (with_next arrivals (arrival_of s)) rest) is more in
-      let here = subst (λ s. LineGives (reading_of old.heading arrivals) line (Ok s)) is gives in
-      let kept = subst (λ s. reading_of c.apply.new.self (with_next arrivals (arrival_of s)) ≡ reading_after (reading_of old.heading arrivals) s) is after in
-      record {
-        read = read_now;
-        process = subst (λ limits. IsProcess limits p) (sym (ap limits_of kept)) (arrival_said (reading_of old.heading arrivals) line p request here).process;
-        at_hand = at_hand_next bytes old.rest.now rest old.lines line old.heading arrivals (lines.Arrival p request) read cut here tt;
-        few = omega (arith, read.few, read.fits, c.requires);
-      }))
+    let read_now = subst (λ s. IsReadUpTo bytes (old.lines + 1) c.apply.new.self (with_next arrivals (arrival_of s)) rest) is more in
+    let here = subst (λ s. LineGives (reading_of old.heading arrivals) line (Ok s)) is gives in
+    let kept = subst (λ s. reading_of c.apply.new.self (with_next arrivals (arrival_of s)) ≡ reading_after (reading_of old.heading arrivals) s) is after in
+    record {
+      read = read_now;
+      process = subst (λ limits. IsProcess limits p) (sym (ap limits_of kept)) (arrival_said (reading_of old.heading arrivals) line p request here).process;
+      at_hand = at_hand_next bytes old.rest.now rest old.lines line old.heading arrivals (lines.Arrival p request) read cut here tt;
+      few = omega (arith, read.few, read.fits, c.requires);
+    }))
 
 pub returns-in-Ok-clause-rules : goal.returns-in-Ok-clause-rules
 unfolding HasRead rules_in
