@@ -48,17 +48,6 @@ no_feed bytes is = grind (arith, common_steps, fails_before_first)
 pub lines_last : (bytes : List ℕ) → 0 < length bytes → position (λ byte. byte == 10) bytes ≡ None → lines_of bytes ≡ bytes ∷ []
 lines_last bytes some is = grind (arith, common_steps, slice_split_none, no_feed)
 
-length_next : (arrivals : List (ℕ × Request)) (next : Option (ℕ × Request)) → length (with_next arrivals next) ≤ length arrivals + 1
-length_next arrivals next = grind (arith, common_steps)
-
--- one more line was read
-pub read_more : (bytes rest more : List ℕ) (count : ℕ) (line : List ℕ) (old new : Heading) (arrivals : List (ℕ × Request)) (said : Line)
-    → IsReadUpTo bytes count old arrivals rest → lines_of rest ≡ line ∷ lines_of more → length more < length rest
-    → LineGives (reading_of old arrivals) line (Ok said) → IsHeadingOf new (with_next arrivals (arrival_of said))
-    → reading_of new (with_next arrivals (arrival_of said)) ≡ reading_after (reading_of old arrivals) said
-    → IsReadUpTo bytes (count + 1) new (with_next arrivals (arrival_of said)) more
-read_more bytes rest more count line old new arrivals said before cut shorter gives heads is = grind (arith, common_steps, length_next)
-
 -- a script that isn't too long says what its lines say
 reads_lines : (bytes : List ℕ) (result : Result Meaning ScriptFault) → length bytes ≤ script_limit → LinesGive 1 start (lines_of bytes) result → Reads bytes result
 reads_lines bytes result short given =

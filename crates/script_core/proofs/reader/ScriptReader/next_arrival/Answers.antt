@@ -1,11 +1,12 @@
-use Rattle.std.proofs.Common.{◌∙◌, IfSome, subst, arith}
-use Rattle.script_core.specs.ScriptView.{HasRead, IsNext, with_next}
+use Rattle.std.proofs.Common.{◌∙◌, subst, arith}
+use Rattle.std.proofs.lemmas.Grind.{common_steps}
+use Rattle.script_core.specs.ScriptView.{HasRead, with_next}
 use Rattle.script_core.proofs.reader.ScriptReader.next_arrival.Goals as goal
 
 pub returns-in-Some-clause-next : goal.returns-in-Some-clause-next
 returns-in-Some-clause-next c bytes arrivals read =
-    subst (λ next. IfSome next (IsNext bytes c.read_line.new.self arrivals)) c.in-Some.is
-    (c.in_ok-arrival.ensures.arrival bytes arrivals (c.loop-self.invariant.read bytes arrivals read))
+    let before = c.loop-self.invariant.read bytes arrivals read in
+    grind (arith, common_steps)
 
 pub loop-self-preserved : goal.loop-self-preserved
 loop-self-preserved c =
