@@ -90,7 +90,7 @@ impl<'a> ScriptReader<'a> {
             IfOk result (λ next. HasRead bytes self.new (with_next arrivals next)) }
         ensures arrival { (bytes : List ℕ) (arrivals : List (ℕ × Request)) → HasRead bytes self.old arrivals →
             IfOk result (λ next. IfSome next (λ arrival. IsProcess (rules_in self.new).limits arrival.0
-                × IsAtHand bytes (lines_in self.new) × (length arrivals + 1 ≤ SCRIPT_MAX))) }
+            × IsAtHand bytes (lines_in self.new) × (length arrivals + 1 ≤ SCRIPT_MAX))) }
         ensures rules { (bytes : List ℕ) (arrivals : List (ℕ × Request)) (arrival : ℕ × Request) → HasRead bytes self.old (arrivals ++ arrival ∷ []) →
             rules_in self.new ≡ rules_in self.old }
         ensures refused { (bytes : List ℕ) (arrivals : List (ℕ × Request)) → HasRead bytes self.old arrivals →
