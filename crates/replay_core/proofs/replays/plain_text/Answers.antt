@@ -1,4 +1,4 @@
-use Rattle.std.proofs.Common.{◌≡◌, ◌∙◌, ◌++◌, ℕ, List, ap, sym, subst, length, flat_map}
+use Rattle.std.proofs.Common.{◌∙◌, ◌++◌, ℕ, List, ap, sym, subst, length, flat_map}
 use Rattle.session_core.specs.Mail.{requests_sent}
 use Rattle.script_core.specs.EntryText.{entry_line}
 use Rattle.script_core.specs.ReportText.{AreCounts, IsReport}
