@@ -1,7 +1,9 @@
 -- The faults of a run, and the exit status of each.
 use Rattle.std.specs.Prelude.{◌≡◌, ℕ, Bool, IsTrue, ⊤, List, Err}
 use Rattle.range_core.specs.declared.Memory.{Memory}
-use Rattle.script_core.specs.Reading.{Reads}
+use Rattle.script_core.specs.declared.script.Cause.TheVariants as causes
+use Rattle.script_core.specs.declared.script.ScriptFault.{ScriptFault}
+use Rattle.script_core.specs.Reading.{Reads, IsOfScript}
 use Rattle.replay_core.specs.declared.replays.RunFault.{RunFault}
 use Rattle.replay_core.specs.declared.replays.RunFault.TheVariants as faults
 
@@ -12,6 +14,11 @@ status_of faults.Write = 1
 status_of (faults.Memory memory) = 1
 status_of (faults.Script fault) = 2
 status_of faults.Thread = 1
+
+-- the fault of a run whose script has this one: want of memory is the run's own
+pub record IsFaultOfScript (fault : ScriptFault) (run : RunFault) : Type 0 where
+  pub memory : (memory : Memory) → fault.cause ≡ causes.Memory memory → run ≡ faults.Memory memory
+  pub script : IsOfScript fault.cause → run ≡ faults.Script fault
 
 -- the fault is want of memory
 abbrev pub IsWantOfMemory : RunFault → Type 0

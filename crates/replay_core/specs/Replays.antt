@@ -67,6 +67,12 @@ pub record WritesRun (rules : Rules) (processes : ℕ) (arrivals : List (ℕ × 
   pub ran : HasRun rules processes arrivals sequencer journal
   pub written : after ≡ before ++ flat_map entry_line journal
 
+-- the script is accepted, and its arrivals were run under its rules
+pub record RunsScript (bytes : List ℕ) (sequencer : Sequencer) (before after : List ℕ) : Type 0 where
+  pub script : Meaning
+  pub accepted : Reads bytes (Ok script)
+  pub run : WritesRun script.rules (processes_in script) script.arrivals sequencer before after
+
 -- the journal leads to the state, from the opening
 abbrev pub IsLedTo : Ran → State → Type 0
 IsLedTo ran S = Leads ran.rules (processes_of (manager_of ran.session)) opening_state (events_in ran.session) S

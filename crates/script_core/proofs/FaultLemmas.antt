@@ -1,6 +1,6 @@
 -- A line, and the pieces of an entry's line, are never refused for want of memory: for `ScriptReader::read_line`, `read_notes` and
 -- `read_pieces`.
-use Rattle.std.proofs.Common.{arith, ◌≡◌, ℕ, ◌∙◌, sym, subst, inl, inr, List, [], ◌∷◌, length, Option, Some, None, Result, Ok, Err, IfErr, MatchOption, MatchResult, ◌⊎◌}
+use Rattle.std.proofs.Common.{arith, ◌≡◌, ℕ, ◌∙◌, sym, subst, inl, inr, List, [], ◌∷◌, length, Option, Some, None, Result, Ok, Err, MatchOption, MatchResult, ◌⊎◌}
 use Rattle.std.proofs.lemmas.Grind.{common_steps}
 use Rattle.fd_table.specs.declared.Limits.{Limits}
 use Rattle.lock_manager.specs.declared.request.Request.{Request}

@@ -1,8 +1,8 @@
 -- The lines of a script, of which a front was read: for `ScriptReader` and `parse`.
 use Rattle.std.proofs.lemmas.Grind.{common_steps}
-use Rattle.std.proofs.Common.{◌≡◌, ℕ, ◌+◌, ◌<◌, ◌≤◌, ◌==◌, List, [], ◌∷◌, ◌++◌, length, take, drop, position, Option, Some, None, IfSome, Result, Ok, Err, Bool, true, false, cond, All, MatchBool, MatchResult, inl, inr, refl, sym, ap, subst, arith, length-append}
+use Rattle.std.proofs.Common.{◌≡◌, ℕ, ◌+◌, ◌<◌, ◌≤◌, ◌==◌, List, [], ◌∷◌, ◌++◌, length, take, drop, position, Some, None, IfSome, Result, Ok, Err, Bool, false, cond, All, MatchBool, inl, inr, refl, sym, ap, subst, arith, length-append}
 use Rattle.std.specs.List.{slice_split, onto_first}
-use Rattle.std.proofs.lemmas.Bool.{le-ltb, ltb-true}
+use Rattle.std.proofs.lemmas.Bool.{le-ltb}
 use Rattle.std.proofs.lemmas.List.Splits.{slice_split_first, slice_split_none}
 use Rattle.std.proofs.lemmas.List.Sums.{fails_before_first}
 use Rattle.lock_manager.specs.declared.request.Request.{Request}
@@ -12,11 +12,10 @@ use Rattle.script_core.specs.declared.script.Cause.{Cause}
 use Rattle.script_core.specs.declared.script.Cause.TheVariants.{TooLong}
 use Rattle.script_core.specs.declared.script.ScriptFault.{ScriptFault}
 use Rattle.script_core.specs.declared.heading.Heading.{Heading}
-use Rattle.script_core.specs.ScriptText.{Meaning, IsProcess}
+use Rattle.script_core.specs.ScriptText.{Meaning}
 use Rattle.script_core.specs.Words.{without_empty_end, lines_of, script_limit}
 use Rattle.script_core.specs.Reading.{Reading, LineGives, LinesGive, IsArrival, ComesTo, IsAtHand, IsOfScript, Reads, reading_after, start}
-use Rattle.script_core.specs.ScriptView.{IsReadUpTo, IsHeadingOf, reading_of, arrival_of, with_next}
-use Rattle.script_core.proofs.ProcessLemmas.{arrival_said}
+use Rattle.script_core.specs.ScriptView.{IsReadUpTo, reading_of, arrival_of}
 use Rattle.script_core.proofs.FaultLemmas.{never_memory}
 
 -- there is always a first piece
@@ -47,17 +46,6 @@ no_feed bytes is = grind (arith, common_steps, fails_before_first)
 -- without one all bytes are the last line
 pub lines_last : (bytes : List ℕ) → 0 < length bytes → position (λ byte. byte == 10) bytes ≡ None → lines_of bytes ≡ bytes ∷ []
 lines_last bytes some is = grind (arith, common_steps, slice_split_none, no_feed)
-
-length_next : (arrivals : List (ℕ × Request)) (next : Option (ℕ × Request)) → length (with_next arrivals next) ≤ length arrivals + 1
-length_next arrivals next = grind (arith, common_steps)
-
--- one more line was read
-pub read_more : (bytes rest more : List ℕ) (count : ℕ) (line : List ℕ) (old new : Heading) (arrivals : List (ℕ × Request)) (said : Line)
-    → IsReadUpTo bytes count old arrivals rest → lines_of rest ≡ line ∷ lines_of more → length more < length rest
-    → LineGives (reading_of old arrivals) line (Ok said) → IsHeadingOf new (with_next arrivals (arrival_of said))
-    → reading_of new (with_next arrivals (arrival_of said)) ≡ reading_after (reading_of old arrivals) said
-    → IsReadUpTo bytes (count + 1) new (with_next arrivals (arrival_of said)) more
-read_more bytes rest more count line old new arrivals said before cut shorter gives heads is = grind (arith, common_steps, length_next)
 
 -- a script that isn't too long says what its lines say
 reads_lines : (bytes : List ℕ) (result : Result Meaning ScriptFault) → length bytes ≤ script_limit → LinesGive 1 start (lines_of bytes) result → Reads bytes result

@@ -3,7 +3,8 @@ ghost use Rattle.std.specs.Prelude.{ℕ, ◌≡◌, ◌+◌, ◌<◌, ◌≤◌,
 ghost use Rattle.lock_manager.specs.declared.request.Request.{Request};
 ghost use Rattle.script_core.specs.declared.TheConstants.{SCRIPT_MAX};
 ghost use Rattle.script_core.specs.Words.{lines_of};
-ghost use Rattle.script_core.specs.Reading.{Reads, IsOfScript};
+ghost use Rattle.script_core.specs.ScriptText.{IsProcess};
+ghost use Rattle.script_core.specs.Reading.{Reads, IsAtHand, IsOfScript};
 
 use crate::heading::Heading;
 use crate::{Cause, SCRIPT_MAX, ScriptFault};
@@ -23,7 +24,7 @@ pub struct ScriptReader<'a> {
 
 #[tactic(auto, unfolding(crate::specs::ScriptView::HasRead, crate::specs::ScriptView::unread_in, crate::specs::ScriptView::lines_in, crate::specs::ScriptView::rules_in))]
 impl<'a> ScriptReader<'a> {
-    ghost use Rattle.script_core.specs.ScriptView.{HasRead, HandsOut, IsNext, unread_in, lines_in, rules_in, with_next};
+    ghost use Rattle.script_core.specs.ScriptView.{HasRead, HandsOut, unread_in, lines_in, rules_in, with_next};
 
     /// Nothing was read. A script of more than [`SCRIPT_MAX`] bytes is too long as a whole, whatever its lines are.
     pub fn new(bytes: &'a [u8]) -> Result<ScriptReader<'a>, ScriptFault>
@@ -88,7 +89,8 @@ impl<'a> ScriptReader<'a> {
         ensures read { (bytes : List ℕ) (arrivals : List (ℕ × Request)) → HasRead bytes self.old arrivals →
             IfOk result (λ next. HasRead bytes self.new (with_next arrivals next)) }
         ensures arrival { (bytes : List ℕ) (arrivals : List (ℕ × Request)) → HasRead bytes self.old arrivals →
-            IfOk result (λ next. IfSome next (IsNext bytes self.new arrivals)) }
+            IfOk result (λ next. IfSome next (λ arrival. IsProcess (rules_in self.new).limits arrival.0
+            × IsAtHand bytes (lines_in self.new) × (length arrivals + 1 ≤ SCRIPT_MAX))) }
         ensures rules { (bytes : List ℕ) (arrivals : List (ℕ × Request)) (arrival : ℕ × Request) → HasRead bytes self.old (arrivals ++ arrival ∷ []) →
             rules_in self.new ≡ rules_in self.old }
         ensures refused { (bytes : List ℕ) (arrivals : List (ℕ × Request)) → HasRead bytes self.old arrivals →

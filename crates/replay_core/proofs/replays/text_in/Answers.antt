@@ -1,4 +1,5 @@
-use Rattle.std.proofs.Common.{sym, subst, IfOk}
+use Rattle.std.proofs.Common.{ℕ, List, sym, subst, IfOk}
+use Rattle.script_core.specs.Output.{IsOutput}
 use Rattle.replay_core.specs.declared.job.Detail.{Detail}
 use Rattle.replay_core.specs.Replays.{IsTextIn}
 use Rattle.replay_core.proofs.OutputLemmas.{explains, is_led}
@@ -11,7 +12,8 @@ explained_text-requires-clause-run c =
 
 pub returns-in-Plain-clause-text : goal.returns-in-Plain-clause-text
 returns-in-Plain-clause-text c =
-    subst (λ (detail : Detail). IfOk c.plain_text.result (λ text. IsTextIn detail c.args.bytes.items text.items)) (sym c.in-Plain.is) c.plain_text.ensures.text
+    subst (λ (detail : Detail). IfOk c.plain_text.result (λ text. IsTextIn detail c.args.bytes.items text.items)) (sym c.in-Plain.is)
+    (subst (λ (bytes : List ℕ). IfOk c.plain_text.result (λ text. IsOutput bytes text.items)) c.deref.ensures.value c.plain_text.ensures.text)
 
 pub returns-in_ok-explained_text-in-Explained-clause-text : goal.returns-in_ok-explained_text-in-Explained-clause-text
 returns-in_ok-explained_text-in-Explained-clause-text c =

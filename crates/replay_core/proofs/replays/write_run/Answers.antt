@@ -1,12 +1,16 @@
-use Rattle.std.proofs.Common.{◌≡◌, ◌∙◌, ℕ, List, flat_map, ap, sym, subst, length, Err, [], ◌++◌, append-nil, append_assoc, take, get_or, arith}
-use Rattle.fd_table.specs.declared.Access.TheVariants as Access
-use Rattle.lock_manager.specs.declared.request.Request.TheVariants as Request
+use Rattle.std.proofs.Common.{◌≡◌, ◌∙◌, ℕ, Option, Some, List, flat_map, ap, sym, subst, length, Err, [], ◌∷◌, ◌++◌, append-nil, append_assoc, arith}
 use Rattle.std.proofs.lemmas.Grind.{common_steps, flat_map-append}
-use Rattle.std.proofs.lemmas.List.{take_more, length-take-le}
+use Rattle.fd_table.specs.Descriptors.{process_limit}
+use Rattle.lock_manager.specs.declared.request.Request.{Request}
+use Rattle.session_core.specs.declared.sequencer.Sequencer.{Sequencer}
 use Rattle.session_core.specs.Deliveries.{HasRun}
 use Rattle.session_core.specs.Event.{Event}
 use Rattle.script_core.specs.EntryText.{entry_line}
+use Rattle.script_core.specs.declared.reader.ScriptReader.{ScriptReader}
+use Rattle.script_core.specs.ScriptView.{IsNext, HandsOut, rules_in}
+use Rattle.replay_core.specs.Replays.{WritesRun}
 use Rattle.replay_core.proofs.OutputLemmas.{sent_few}
+use Rattle.replay_core.proofs.replays.write_run.Invariants.{RunsUpTo}
 use Rattle.replay_core.proofs.replays.write_run.Goals as goal
 
 -- the lines of further entries, behind those of a journal
@@ -14,42 +18,63 @@ behind : (journal more : List Event) (old mid : List ℕ) {new : List ℕ} → m
     → new ≡ mid ++ flat_map entry_line more → new ≡ old ++ flat_map entry_line (journal ++ more)
 behind journal more old mid was is = grind (arith, common_steps, append_assoc, flat_map-append)
 
-pub loop-p-init : goal.loop-p-init
-loop-p-init c = record {
-  run = record { journal = []; ran = c.in_ok-sequencer.ensures; written = sym (append-nil _) };
-  written = c.new-told.ensures.items;
-}
+-- the next arrival, where there is one
+next_one : (bytes : List ℕ) (reader : ScriptReader) (next : Option (ℕ × Request)) (sequencer : Sequencer) (before after : List ℕ) (p : ℕ)
+    (request : Request) → next ≡ Some (p, request) → (run : RunsUpTo bytes reader next sequencer before after)
+    → IsNext bytes reader run.arrivals (p, request)
+next_one bytes reader next sequencer before after p request is run = subst (HandsOut bytes reader run.arrivals) is run.hands
 
-pub loop-p-preserved : goal.loop-p-preserved
-loop-p-preserved c =
-    let so_far = c.loop-p.invariant.run in
-    let on = c.in-Ok.ensures.ok in
-    let arrivals = c.args.arrivals.now in
+pub loop-next-init : goal.loop-next-init
+loop-next-init c =
+    let rules = c.rules-rules.result in
+    let run : WritesRun rules (process_limit rules.limits) [] c.in_ok-sequencer.sequencer c.args.text.now.items c.args.text.now.items = record {
+      journal = [];
+      ran = subst (λ n. HasRun rules n [] c.in_ok-sequencer.sequencer []) c.processes.ensures c.in_ok-sequencer.ensures;
+      written = sym (append-nil _);
+    } in
     record {
       run = record {
-        journal = so_far.journal ++ on.more;
-        ran =
-            subst (λ l. HasRun c.args.rules c.args.processes l c.deliver.new.self (so_far.journal ++ on.more)) (sym (take_more arrivals c.loop-p.p-index _ c.loop-p-test.true))
-            (on.runs c.args.rules c.args.processes (take c.loop-p.p-index arrivals) so_far.journal so_far.ran);
-        written = behind _ _ _ _ so_far.written (c.in_ok-write_entries-in-Ok.ensures ∙ ap (λ l. c.loop-p.text.items ++ flat_map entry_line l) (c.deref.ensures.value ∙ on.is ∙ ap (λ l. l ++ on.more) c.loop-p.invariant.written));
+        arrivals = [];
+        run = subst (λ rules. WritesRun rules (process_limit rules.limits) [] c.in_ok-sequencer.sequencer c.args.text.now.items c.args.text.now.items) c.rules-rules.ensures run;
+        hands = c.in_ok-next.ensures.next c.args.bytes.now [] c.in_ok-reader.ensures.opened;
+      };
+      written = c.new-told.ensures.items;
+    }
+
+pub loop-next-preserved : goal.loop-next-preserved
+loop-next-preserved c =
+    let so_far = c.loop-next.invariant.run in
+    let run = so_far.run in
+    let came = next_one _ _ _ _ _ _ _ _ c.in-Some.is so_far in
+    let on = c.in-Ok.ensures.ok in
+    let arrivals = so_far.arrivals ++ (c.in-Some.p, c.in-Some.request) ∷ [] in
+    let rules = rules_in c.loop-next.reader in
+    let more : WritesRun rules (process_limit rules.limits) arrivals c.deliver.new.self c.args.text.now.items c.write_entries.new.text.items = record {
+      journal = run.journal ++ on.more;
+      ran = on.runs _ _ so_far.arrivals run.journal run.ran;
+      written = behind _ _ _ _ run.written (c.in_ok-write_entries-in-Ok.ensures ∙ ap (λ l. c.loop-next.text.items ++ flat_map entry_line l) (c.deref.ensures.value ∙ on.is ∙ ap (λ l. l ++ on.more) c.loop-next.invariant.written));
+    } in
+    record {
+      run = record {
+        arrivals = arrivals;
+        run = subst (λ rules. WritesRun rules (process_limit rules.limits) arrivals c.deliver.new.self c.args.text.now.items c.write_entries.new.text.items) (sym (c.next_arrival-in-Some.ensures.rules c.args.bytes.now so_far.arrivals _ came.read)) more;
+        hands = c.in_ok-next-2.ensures.next c.args.bytes.now arrivals came.read;
       };
       written = c.clear.ensures.items;
     }
 
 pub deliver-requires : goal.deliver-requires
 deliver-requires c =
-    let own = c.requires.processes c.loop-p.p-index _ c.loop-p-test.true in
-    (own.0, rw c.loop-p.invariant.run.ran.processes_are own.1)
+    let so_far = c.loop-next.invariant.run in
+    let came = next_one _ _ _ _ _ _ _ _ c.in-Some.is so_far in
+    (came.process.0, rw so_far.run.ran.processes_are came.process.1)
 
 -- no process of a script sends more than it may
 pub unreachable-requires : goal.unreachable-requires
 unreachable-requires c =
-    let so_far = c.loop-p.invariant.run in
-    let arrivals = c.args.arrivals.now in
-    let full = c.deliver.ensures.full (c.in-Err-Full.is ∙ ap Err c.in-Err-Full.field-0-is) so_far.journal so_far.ran.told in
-    let p = (get_or arrivals c.loop-p.p-index (0, Request.OpenFile 0 Access.R)).0 in
-    let sent = ap length (so_far.ran.sent p) in
-    let few = sent_few p (take c.loop-p.p-index arrivals) in
-    let within = c.loop-p-test.true in
-    let taken : length (take c.loop-p.p-index arrivals) ≡ c.loop-p.p-index = length-take-le c.loop-p.p-index arrivals (omega (arith, within)) in
-    omega (arith, full, sent, few, taken, within, c.requires.few)
+    let so_far = c.loop-next.invariant.run in
+    let came = next_one _ _ _ _ _ _ _ _ c.in-Some.is so_far in
+    let full = c.deliver.ensures.full (c.in-Err-Full.is ∙ ap Err c.in-Err-Full.field-0-is) so_far.run.journal so_far.run.ran.told in
+    let sent = ap length (so_far.run.ran.sent c.in-Some.p) in
+    let few = sent_few c.in-Some.p so_far.arrivals in
+    omega (arith, full, sent, few, came.few)
