@@ -1,8 +1,8 @@
 -- Waits that are known to be blocked on all files but some, and what a change of the list or of the locks leaves of that: for
 -- `Waits::forget_changes`, `Waits::is_blocked_among`, `Waits::join` and others.
-use Rattle.std.proofs.Common.{rules, ℕ, ◌≡◌, ◌≢◌, ◌<◌, ◌≤◌, ◌∙◌, ◌⊎◌, inl, inr, sym, ap, subst, refl, arith, Bool, true, false, not, zero, suc, Option, Some, None, List, [], ◌∷◌, ◌++◌, All, Any, length, get_or, take, append_assoc, append-nil}
+use Rattle.std.proofs.Common.{rules, ℕ, ◌≡◌, ◌≢◌, ◌<◌, ◌≤◌, ◌∙◌, ◌⊎◌, inl, inr, sym, ap, subst, refl, arith, Bool, true, false, not, zero, suc, Some, List, [], ◌∷◌, ◌++◌, All, Any, length, get_or, take, append_assoc, append-nil}
 use Rattle.std.proofs.lemmas.Grind.{common_steps}
-use Rattle.std.specs.Prelude.{◌==◌, ◌||◌, IfSome, IfNone, IsTrue, IsFalse}
+use Rattle.std.specs.Prelude.{◌==◌, ◌||◌, IsTrue, IsFalse}
 use Rattle.std.specs.List.{AllPairs, filter}
 use Rattle.std.proofs.lemmas.Bool.{cases_Bool, cases_eq}
 use Rattle.std.proofs.lemmas.Bool.Decides.{nat_tests}
@@ -28,7 +28,6 @@ use Rattle.wait_core.specs.Settled.{AllBlockedBut, AllBlockedElsewhere, AllBlock
 use Rattle.wait_core.specs.WellFormed.{IsWellFormed, can_own}
 use Rattle.wait_core.specs.WaitsView.{waits_of, wait_of, AreTold, IsTold}
 use Rattle.wait_core.proofs.AnyLemmas.{Any-filter, Any-weaker}
-use Rattle.wait_core.proofs.ListLemmas.{none_of}
 use Rattle.wait_core.proofs.PairLemmas.{blocked_wait, one_wait}
 
 -- the two have the same locks on the file
@@ -157,11 +156,7 @@ file_of_found (v ∷ waits) p wait apart found = elim (cases_eq v.p p) [
       (file_of_found waits p wait (λ i j d before within. apart (suc i) (suc j) d (omega (arith, before)) (omega (arith, within))) (rw passed at found))
 ]
 
--- where a process has no wait none leaves
-pub none_leaves : (files : FileSet) (waits : List Wait) (p : ℕ) → wait_of waits p ≡ None → All (MayLeave files p) waits
-none_leaves files waits p none = All-weaker (λ v. v.p ≢ p) (MayLeave files p) (λ v other same. absurd (other same)) waits (none_of waits p none)
-
--- where it has one on one of the files, those that leave are on these
+-- where a process has a wait on one of the files, those that leave are on these
 pub one_leaves : (files : FileSet) (waits : List Wait) (p : ℕ) (wait : Wait) → AllPairs (λ v w. v.p ≢ w.p) waits → wait_of waits p ≡ Some wait
     → IsTrue (has_file files wait.file) → All (MayLeave files p) waits
 one_leaves files waits p wait apart found among = grind (arith, common_steps, All-weaker, file_of_found)
@@ -233,14 +228,10 @@ blocked_more One Other policy locks earlier (wait ∷ waits) each all =
       blocked_more One Other policy locks (earlier ++ wait ∷ []) waits (All-tail Is wait waits each) all.1,
     )
 
--- the wait of a process left, if it had one
-pub elsewhere_without : (files more : FileSet) (policy : Policy) (locks : Locks) (waits : List Wait) (p : ℕ) (wait : Option Wait)
-    → AllPairs (λ v w. v.p ≢ w.p) waits → wait ≡ wait_of waits p
-    → IfSome wait (λ some. (f : ℕ) → has_file more f ≡ (f == some.file || has_file files f)) → IfNone wait (more ≡ files)
+-- the wait of a process left
+pub elsewhere_without : (files more : FileSet) (policy : Policy) (locks : Locks) (waits : List Wait) (p : ℕ) (wait : Wait)
+    → AllPairs (λ v w. v.p ≢ w.p) waits → wait_of waits p ≡ Some wait → ((f : ℕ) → has_file more f ≡ (f == wait.file || has_file files f))
     → AllBlockedElsewhere files policy locks [] waits → AllBlockedElsewhere more policy locks [] (filter (λ w. not (w.p == p)) waits)
-elsewhere_without files more policy locks waits p (Some wait) apart found some none all =
-    elsewhere_left more p policy locks [] waits (All-nil (MayLeave more p)) (one_leaves more waits p wait apart (sym found) (among_more files more wait.file some))
-    (elsewhere_more files more policy locks wait.file some waits all)
-elsewhere_without files more policy locks waits p None apart found some none all =
-    elsewhere_left more p policy locks [] waits (All-nil (MayLeave more p)) (none_leaves more waits p (sym found))
-    (subst (λ (fs : FileSet). AllBlockedElsewhere fs policy locks [] waits) (sym none) all)
+elsewhere_without files more policy locks waits p wait apart found known all =
+    elsewhere_left more p policy locks [] waits (All-nil (MayLeave more p)) (one_leaves more waits p wait apart found (among_more files more wait.file known))
+    (elsewhere_more files more policy locks wait.file known waits all)

@@ -78,18 +78,6 @@ impl ProcessSet {
         }
     }
 
-    /// The set without the process of the wait, if there is one.
-    pub(crate) fn without_process_of(self, wait: Option<Wait>) -> ProcessSet
-        requires { IfSome wait (λ some. (1 ≤ some.p) × (some.p ≤ PROCESSES)) }
-        ensures some { IfSome wait (λ some. (q : ℕ) → q ≤ PROCESSES → is_member result q ≡ (if q == some.p then false else is_member self q)) }
-        ensures none { IfNone wait (result ≡ self) }
-    {
-        match wait {
-            Some(some) => self.without(some.p),
-            None => self,
-        }
-    }
-
     /// The processes of the two sets.
     pub(crate) fn union(self, other: ProcessSet) -> ProcessSet
         ensures { (q : ℕ) → is_member result q ≡ (is_member self q || is_member other q) }

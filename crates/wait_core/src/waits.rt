@@ -1,5 +1,6 @@
 //! The pending requests, in order of arrival.
-ghost use Rattle.std.specs.Prelude.{ℕ, ◌⊎◌, ◌≡◌, ◌≢◌, ◌<◌, ◌≤◌, ◌↔◌, List, [], ◌∷◌, ◌++◌, length, vec_capacity, IfOk, IfSome, IfNone, IsTrue, IsFalse, All, AllPairs, Any, slice_get, None, Some, false, take};
+ghost use Rattle.std.specs.Prelude.{ℕ, ◌⊎◌, ◌≡◌, ◌==◌, ◌≢◌, ◌<◌, ◌≤◌, ◌↔◌, List, [], ◌∷◌, ◌++◌, length, vec_capacity, IfOk, IfSome, IfNone, IsTrue, IsFalse, All, AllPairs, Any, slice_get, None, Some, false, not, take};
+ghost use Rattle.std.specs.List.{filter, position};
 ghost use Rattle.wait_core.specs.declared.files.TheConstants.{FILES};
 ghost use Rattle.wait_core.specs.declared.processes.TheConstants.{PROCESSES};
 ghost use Rattle.wait_core.specs.declared.Policy.TheVariants.{Queue};
@@ -140,14 +141,20 @@ impl Waits {
         ensures told { (locks : Locks) → AreTold self.old locks → AreTold self.new locks }
         ensures blocked { (locks : Locks) → AreBlockedElsewhere self.old locks → AreBlockedElsewhere self.new locks }
     {
-        let wait = self.of(p);
-        self.changed = self.changed.with_file_of(wait);
-        self.waiting = self.waiting.without_process_of(wait);
-        self.waits.retain(|wait| wait.p != p);
+        let place = self.place_of(p)?;
+        let wait = self.waits.remove(place);
+        self.changed = self.changed.with(wait.file);
+        self.waiting = self.waiting.without(p);
         self.pairs.forget(p);
-        self.queue.forget(p);
-        self.queue.forget_blocker(p);
-        wait
+        leave_queue(&mut self.queue, self.policy, p);
+        Some(wait)
+    }
+
+    /// The place of the process' wait in the order of arrival, where it has one.
+    fn place_of(&self, p: u8) -> Option<usize>
+        ensures { result ≡ position (λ wait. wait.p == p) (waits_of self.now) }
+    {
+        self.waits.iter().position(|wait| wait.p == p)
     }
 
     /// Tells the pairs anew after a change of the file's book, the other books being as they were.
@@ -361,5 +368,18 @@ impl Waits {
     {
         let wait = &self.waits[i];
         self.behind.has(wait.p) && wait.conflicts_with_any(&self.waits[..i])
+    }
+}
+
+/// A process' wait leaves the list, of which these pairs are kept under the queue policy.
+fn leave_queue(queue: &mut Pairs, policy: Policy, p: u8)
+    ensures { policy ≡ Queue → (waits : List Wait) → TellsQueue queue.old waits → TellsQueue queue.new (filter (λ wait. not (wait.p == p)) waits) }
+{
+    match policy {
+        Policy::Held => {}
+        Policy::Queue => {
+            queue.forget(p);
+            queue.forget_blocker(p);
+        }
     }
 }
