@@ -17,14 +17,12 @@ use Rattle.wait_core.specs.declared.Policy.{Policy}
 use Rattle.wait_core.specs.declared.Policy.TheVariants.{Held, Queue}
 use Rattle.wait_core.specs.declared.Wait.{Wait}
 use Rattle.wait_core.specs.declared.files.FileSet.{FileSet}
-use Rattle.wait_core.specs.declared.processes.ProcessSet.{ProcessSet}
 use Rattle.wait_core.specs.declared.waits.Waits.{Waits}
 use Rattle.wait_core.specs.Locks.{Locks}
 use Rattle.wait_core.specs.Blocking.{AllBlocked, IsBlocked, IsBlockedIn, WaitsConflict}
 use Rattle.wait_core.specs.Cycles.{IsTraditional}
 use Rattle.wait_core.specs.Files.{has_file}
-use Rattle.wait_core.specs.Processes.{is_member}
-use Rattle.wait_core.specs.Settled.{AllBlockedBut, AllBlockedElsewhere, AllBlockedWhere, AgreeElsewhere}
+use Rattle.wait_core.specs.Settled.{AllBlockedElsewhere, AllBlockedWhere, AgreeElsewhere}
 use Rattle.wait_core.specs.WellFormed.{IsWellFormed, can_own}
 use Rattle.wait_core.specs.WaitsView.{waits_of, wait_of, AreTold, IsTold}
 use Rattle.wait_core.proofs.AnyLemmas.{Any-filter, Any-weaker}
@@ -57,11 +55,6 @@ elsewhere_after files more policy old new others earlier (wait ∷ waits) all = 
 neither : (a b : Bool) → IsFalse (a || b) → (a ≡ false) × (b ≡ false)
 neither true b is = absurd (let e : true ≡ false = is in cc)
 neither false b is = (refl, is)
-
--- who isn't among the processes with one more is another one, and wasn't among them
-pub not_before : (old new : ProcessSet) (p : ℕ) → ((q : ℕ) → is_member new q ≡ (q == p || is_member old q)) → (q : ℕ) → IsFalse (is_member new q)
-    → (q ≢ p) × IsFalse (is_member old q)
-not_before old new p is q out = grind (arith, common_steps, neither, nat_tests)
 
 -- one file more
 pub elsewhere_touched : (files more : FileSet) (policy : Policy) (old new : Locks) (file : ℕ) → ((f : ℕ) → has_file more f ≡ (f == file || has_file files f))
@@ -171,17 +164,6 @@ pub all_where : (Holds : Wait → Type 0) (policy : Policy) (locks : Locks) → 
     → AllBlockedWhere Holds policy locks earlier waits → AllBlocked policy locks earlier waits
 all_where Holds policy locks each earlier [] all = tt
 all_where Holds policy locks each earlier (wait ∷ waits) all = (all.0 (each wait), all_where Holds policy locks each (earlier ++ wait ∷ []) waits all.1)
-
--- of each process: nothing is said
-pub none_but : (set : ProcessSet) (processes : ℕ) (policy : Policy) (locks : Locks) → processes ≤ 64
-    → ((p : ℕ) → 1 ≤ p → p ≤ 64 → IsTrue (is_member set p)) → (earlier waits : List Wait) → All (IsWellFormed processes) waits
-    → AllBlockedBut set policy locks earlier waits
-none_but set processes policy locks few each earlier [] well_formed = tt
-none_but set processes policy locks few each earlier (wait ∷ waits) well_formed =
-    let first = All-head (IsWellFormed processes) wait waits well_formed in (
-      λ out. absurd (let e : true ≡ false = sym (each wait.p first.from_one (omega (arith, few, first.process))) ∙ out in cc),
-      none_but set processes policy locks few each (earlier ++ wait ∷ []) waits (All-tail (IsWellFormed processes) wait waits well_formed),
-    )
 
 -- the wait at a place, if this holds of it
 pub blocked_at : (Holds : Wait → Type 0) (policy : Policy) (locks : Locks) (earlier waits : List Wait) (i : ℕ) (wait : Wait) → i < length waits

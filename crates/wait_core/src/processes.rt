@@ -22,13 +22,6 @@ impl ProcessSet {
         ProcessSet { bits: 0 }
     }
 
-    /// Each process.
-    pub(crate) fn all() -> ProcessSet
-        ensures { (p : ℕ) → 1 ≤ p → p ≤ PROCESSES → IsTrue (is_member result p) }
-    {
-        ProcessSet { bits: u64::MAX }
-    }
-
     /// Whether there is no process in the set.
     pub(crate) fn is_empty(self) -> bool
         ensures none { IsTrue result → (p : ℕ) → is_member self p ≡ false }
