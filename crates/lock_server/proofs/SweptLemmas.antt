@@ -1,7 +1,7 @@
 -- A file without a lock and a wait has no entry: for `LockServer`'s fact `swept`, `Table::forget`, `flock_or_refuse` and `flock_or_wait`.
-use Rattle.std.proofs.Common.{arith, ℕ, ◌≡◌, ◌⊎◌, ◌∙◌, inl, inr, sym, subst, refl, true, false, Bool, Option, Some, None, List, [], ◌∷◌, ◌++◌}
+use Rattle.std.proofs.Common.{arith, ℕ, ◌≡◌, ◌∙◌, inl, inr, sym, subst, refl, true, Bool, Option, Some, None, List, [], ◌∷◌, ◌++◌}
 use Rattle.std.proofs.lemmas.Grind.{common_steps}
-use Rattle.std.specs.Prelude.{◌↔◌, ◌==◌, ◌&&◌, if◌then◌else◌, IsSome}
+use Rattle.std.specs.Prelude.{◌↔◌, ◌==◌, ◌&&◌, if◌then◌else◌}
 use Rattle.std.proofs.lemmas.Bool.{cases_eq}
 use Rattle.std.proofs.lemmas.Bool.Decides.{nat_tests}
 use Rattle.range_core.specs.declared.Mode.{Mode}
@@ -10,9 +10,7 @@ use Rattle.range_core.specs.Ranges.{IsByteRange}
 use Rattle.range_core.specs.Changes.{is_covered}
 use Rattle.lock_book.specs.declared.Owner.{Owner}
 use Rattle.lock_book.specs.declared.Owner.TheVariants.{Description}
-use Rattle.lock_book.specs.Owners.{is_same_owner}
 use Rattle.wait_core.specs.declared.Family.{Family}
-use Rattle.wait_core.specs.declared.Family.TheVariants.{Bytes, Whole}
 use Rattle.wait_core.specs.declared.Policy.{Policy}
 use Rattle.lock_server.specs.declared.Pending.{Pending}
 use Rattle.lock_server.specs.declared.file.LockFile.{LockFile}

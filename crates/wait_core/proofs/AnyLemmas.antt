@@ -3,7 +3,7 @@ use Rattle.std.proofs.Common.{ℕ, ◌≡◌, ◌+◌, ◌<◌, ◌∙◌, ◌�
 use Rattle.std.specs.List.{filter}
 use Rattle.std.proofs.lemmas.Bool.{cases_Bool}
 use Rattle.std.proofs.lemmas.List.{get_or_append_left, get_or-append-add, length-append, take-append-drop}
-use Rattle.std.proofs.Math.Seq.{drop-cons, get_or-append_seam, take-append_seam}
+use Rattle.std.proofs.Math.Seq.{drop-cons, get_or-append_seam}
 
 module _ {X : Type 0} where
   pub Any-nil : (P : X → Type 0) → ¬ Any P []

@@ -1,11 +1,19 @@
--- Sets of processes that block a wait: what one process more, or one wait more, makes of them; for `Wait::blocking_by_lock` and
--- `Wait::blocking_by_wait`.
+-- Who blocks a wait: sets of processes, and what one process more, or one wait more, makes of them, and a process by its list; for
+-- `Wait::blocking_by_lock`, `Wait::blocking_by_wait` and `Wait::is_blocked_by_list`.
 use Rattle.std.proofs.lemmas.Grind.{common_steps}
-use Rattle.std.proofs.Common.{ℕ, ◌≡◌, ◌≢◌, ◌+◌, ◌<◌, ◌≤◌, ◌↔◌, ◌∙◌, inl, inr, sym, refl, arith, Bool, false, List, [], ◌∷◌, Any, length, get_or, take}
-use Rattle.std.specs.Prelude.{IsTrue, IsFalse, ◌==◌, ◌||◌}
+use Rattle.std.proofs.Common.{ℕ, ◌≡◌, ◌≢◌, ◌+◌, ◌<◌, ◌≤◌, ◌↔◌, ◌∙◌, inl, inr, sym, refl, subst, arith, Bool, true, false, Option, Some, None, List, [], ◌∷◌, Any, length, get_or, take}
+use Rattle.std.specs.Prelude.{IsTrue, IsFalse, IfSome, IfNone, is_some, ◌==◌, ◌||◌}
 use Rattle.std.proofs.lemmas.Bool.{cases_eq, eqb-true, eq-eqb, or_left, or_right}
 use Rattle.std.proofs.lemmas.Bool.Decides.{nat_tests}
 use Rattle.std.proofs.lemmas.List.{take_more}
+use Rattle.range_core.specs.declared.Mode.{Mode}
+use Rattle.range_core.specs.declared.Span.{Span}
+use Rattle.range_core.specs.declared.list.RangeList.{RangeList}
+use Rattle.range_core.specs.Changes.{modes_of}
+use Rattle.range_core.specs.Ranges.{Covers, HeldConflicts, IsFirstHit}
+use Rattle.lock_book.specs.declared.Owner.{Owner}
+use Rattle.lock_book.specs.declared.Owner.TheVariants.{Process}
+use Rattle.lock_book.specs.Conflicts.{ByteModes, ProcessBlocks}
 use Rattle.wait_core.specs.declared.Wait.{Wait}
 use Rattle.wait_core.specs.declared.processes.ProcessSet.{ProcessSet}
 use Rattle.wait_core.specs.Blocking.{WaitsConflict}
@@ -74,3 +82,21 @@ module _ (wait : Wait) (waits : List Wait) (i : ℕ) (d : Wait) (within : i < le
       → ((q : ℕ) → IsTrue (is_member set q) ↔ Any (IsConflictOf q wait) (take i waits)) → (q : ℕ)
       → IsTrue (is_member set q) ↔ Any (IsConflictOf q wait) (take (i + 1) waits)
   compatible_skipped set b test differs = skipped set (λ both. (let yes = test.1 both.1 in cc))
+
+-- a process whose modes stand in a list blocks where the list has a hit
+pub list_blocks : (modes : ByteModes) (process : ℕ) (owner : Owner) (span : Span) (wanted : Mode) (list : RangeList) (hit : Option ℕ)
+    → Process process ≢ owner → ((byte : ℕ) → modes_of list byte ≡ modes (Process process) byte)
+    → IfSome hit (IsFirstHit (modes_of list) span wanted) → IfNone hit ((byte : ℕ) → Covers span byte → ¬ HeldConflicts (modes_of list byte) wanted)
+    → IsTrue (is_some hit) ↔ ProcessBlocks modes process owner span wanted
+list_blocks modes process owner span wanted list (Some byte) different same first none = (
+  λ _. record {
+    byte = byte;
+    covered = first.covered;
+    blocks = record { another = different; conflicts = subst (λ (held : Option Mode). HeldConflicts held wanted) (same byte) first.hit };
+  },
+  λ _. refl,
+)
+list_blocks modes process owner span wanted list None different same first none = (
+  λ yes. absurd (let no : false ≡ true = yes in cc),
+  λ blocks. absurd (none blocks.byte blocks.covered (subst (λ (held : Option Mode). HeldConflicts held wanted) (sym (same blocks.byte)) blocks.blocks.conflicts)),
+)

@@ -1,23 +1,25 @@
--- The list of waits: its room, what it finds, and which of it are blocked; for `Waits::list`, `Waits::next_ready_among` and `Waits::push`.
+-- The list of waits: its room, what it finds, and which of it are blocked; for `Waits::leave`, `Waits::list`,
+-- `Waits::next_ready_among` and `Waits::push`.
 use Rattle.std.proofs.lemmas.Grind.{common_steps}
-use Rattle.std.proofs.Common.{ℕ, ◌≡◌, ◌≢◌, ◌+◌, ◌<◌, ◌≤◌, ◌∙◌, inl, inr, sym, ap, subst, refl, arith, append_assoc, append-nil, true, false, Some, None, List, [], ◌∷◌, ◌++◌, All, length, get_or, map, zero, suc, take, drop}
+use Rattle.std.proofs.Common.{ℕ, None, ◌≡◌, ◌≢◌, ◌+◌, ◌<◌, ◌≤◌, ◌∙◌, inl, inr, sym, ap, subst, refl, arith, append_assoc, append-nil, true, false, Some, None, List, [], ◌∷◌, ◌++◌, All, length, get_or, map, zero, suc, take, drop}
 use Rattle.std.specs.Prelude.{◌==◌, slice_get}
-use Rattle.std.specs.List.{AllPairs}
-use Rattle.std.proofs.lemmas.Bool.{cases_eq}
+use Rattle.std.specs.List.{AllPairs, position, remove}
+use Rattle.std.proofs.lemmas.Bool.{cases_eq, eqb-true}
 use Rattle.std.proofs.lemmas.Bool.Decides.{nat_tests, Decides-eqb}
-use Rattle.std.proofs.lemmas.List.Elements.{All-nil, All-cons, All-map, All-weaker}
-use Rattle.std.proofs.lemmas.List.Folds.{Any-from_list_any}
+use Rattle.std.proofs.lemmas.List.Elements.{All-nil, All-cons, All-head, All-tail, All-map, All-weaker}
+use Rattle.std.proofs.lemmas.List.Folds.{Any-from_list_any, find_at}
 use Rattle.std.proofs.lemmas.List.Kept.{AllPairs-cons}
+use Rattle.std.proofs.lemmas.List.Quantifiers.{position-Some}
 use Rattle.std.proofs.lemmas.List.{get_or-map, take_more}
 use Rattle.std.proofs.lemmas.Map.Made.{IsDistinct-from_AllPairs}
 use Rattle.std.proofs.lemmas.Map.Steps.{length-le_from_distinct_below}
-use Rattle.std.proofs.lemmas.Option.{slice_get-get_or, slice_get_cases}
+use Rattle.std.proofs.lemmas.Option.{slice_get-get_or, slice_get_cases, slice_get_past}
 use Rattle.wait_core.specs.declared.Policy.{Policy}
 use Rattle.wait_core.specs.declared.Wait.{Wait}
 use Rattle.wait_core.specs.Locks.{Locks}
 use Rattle.wait_core.specs.Blocking.{AllBlocked, IsBlocked, IsNextReady}
 use Rattle.wait_core.specs.WellFormed.{IsWellFormed}
-use Rattle.wait_core.specs.WaitsView.{wait_of}
+use Rattle.wait_core.specs.WaitsView.{wait_of, without_wait_of}
 use Rattle.wait_core.proofs.AnyLemmas.{split_at}
 
 -- where a process has no wait, each wait is another one's
@@ -114,3 +116,42 @@ found_itself (v ∷ waits) (suc i) wait within is apart =
     let passed : (v.p == wait.p) ≡ false = grind (arith, nat_tests) in
     rw passed (found_itself waits i wait inside is
     (λ j k d before last. apart (suc j) (suc k) d (omega (arith, before)) (omega (arith, last))))
+
+-- others than the process' waits all stay where its own goes
+all_stay : (waits : List Wait) (p : ℕ) → All (λ v. v.p ≢ p) waits → without_wait_of waits p ≡ waits
+all_stay [] p others = refl
+all_stay (w ∷ waits) p others =
+    let passed : (w.p == p) ≡ false = (let other = All-head (λ v. v.p ≢ p) w waits others in grind (arith, nat_tests)) in
+    rw passed (ap (λ ws. w ∷ ws) (all_stay waits p (All-tail (λ v. v.p ≢ p) w waits others)))
+
+others_left : (waits : List Wait) (place p : ℕ) (wait : Wait) → place < length waits → (get_or waits place wait).p ≡ p → AllPairs (λ v w. v.p ≢ w.p) waits
+    → remove waits place ≡ without_wait_of waits p
+others_left [] place p wait within is apart = absurd (omega (arith, within))
+others_left (w ∷ waits) zero p wait within is apart =
+    let found : (w.p == p) ≡ true = grind (arith, nat_tests) in
+    rw found (sym (all_stay waits p (λ k v inside same. apart 0 (suc k) v (omega arith) (omega (arith, inside)) (is ∙ sym same))))
+others_left (w ∷ waits) (suc place) p wait within is apart =
+    let passed : (w.p == p) ≡ false = (let other : w.p ≢ p = λ same. apart 0 (suc place) wait (omega arith) within (same ∙ sym is) in grind (arith, nat_tests)) in
+    rw passed (ap (λ ws. w ∷ ws) (others_left waits place p wait (omega (arith, within)) is
+    (λ j k d before last. apart (suc j) (suc k) d (omega (arith, before)) (omega (arith, last)))))
+
+-- the wait that is taken out at the place of a process is the process', and the others are left
+pub taken_at : (processes : ℕ) (waits rest : List Wait) (p place : ℕ) (wait : Wait) → All (IsWellFormed processes) waits → AllPairs (λ v w. v.p ≢ w.p) waits
+    → Some place ≡ position (λ w. w.p == p) waits → wait ≡ get_or waits place wait → rest ≡ remove waits place
+    → (wait.p ≡ p) × IsWellFormed processes wait × (wait_of waits p ≡ Some wait) × (rest ≡ without_wait_of waits p)
+taken_at processes waits rest p place wait each apart found is left =
+    let at = position-Some (λ w. w.p == p) waits place wait (sym found) in
+    let same : (get_or waits place wait).p ≡ p = eqb-true _ p at.1 in
+    let own : wait.p ≡ p = ap (λ (w : Wait). w.p) is ∙ same in (
+      own,
+      subst (IsWellFormed processes) (sym is) (each place wait at.0),
+      subst (λ (n : ℕ). wait_of waits n ≡ Some wait) own (found_itself waits place wait at.0 (sym is) apart),
+      left ∙ others_left waits place p wait at.0 same apart,
+    )
+
+-- without a place there is no wait
+pub no_wait : (waits : List Wait) (p : ℕ) → None ≡ position (λ w. w.p == p) waits → wait_of waits p ≡ None
+no_wait waits p none = grind (arith, common_steps, find_at, slice_get_past)
+
+pub none_taken : (waits : List Wait) (p : ℕ) → None ≡ position (λ w. w.p == p) waits → waits ≡ without_wait_of waits p
+none_taken waits p none = sym (all_stay waits p (none_of waits p (no_wait waits p none)))

@@ -1,4 +1,4 @@
--- Sets of processes, by their bits: for `ProcessSet::all`, `Wait::blocking_by_lock`, `Wait::blocking_by_wait` and others.
+-- Sets of processes, by their bits: for `ProcessSet::with`, `Wait::blocking_by_lock`, `Wait::blocking_by_wait` and others.
 use Rattle.std.proofs.lemmas.Grind.{common_steps}
 use Rattle.std.proofs.Common.{ℕ, ◌≡◌, ◌≢◌, ◌<◌, ◌≤◌, ◌*◌, ◌%◌, ◌^◌, ◌∙◌, ◌⊎◌, inl, inr, sym, ap, subst, refl, arith, Bool, true, false, zero, suc, w64}
 use Rattle.std.specs.Prelude.{◌==◌, ◌||◌, if◌then◌else◌, IsTrue, IsFalse, bit_and, bit_or}
@@ -6,7 +6,7 @@ use Rattle.std.specs.Int.{bit_at, bit_not, trailing_zeros}
 use Rattle.std.proofs.lemmas.Bool.{cases_eq, eqb-true, eq-eqb}
 use Rattle.std.proofs.lemmas.Bool.Decides.{nat_tests}
 use Rattle.std.proofs.lemmas.Nat.{le_or_l}
-use Rattle.std.proofs.lemmas.Nat.Bits.{bit_at-lt, bit_at-zero, bit_at_and, bit_at_or, bit_at_not, bit_at_ones, bit_at-trailing_zeros, bit_at_set_same, bit_at_set_other, bit_at_clear_same, bit_at_clear_other}
+use Rattle.std.proofs.lemmas.Nat.Bits.{bit_at-lt, bit_at-zero, bit_at_and, bit_at_or, bit_at_not, bit_at-trailing_zeros, bit_at_set_same, bit_at_set_other, bit_at_clear_same, bit_at_clear_other}
 use Rattle.wait_core.specs.declared.processes.ProcessSet.{ProcessSet}
 use Rattle.wait_core.specs.Processes.{no_process, is_member, lacking, IsFirstBeyond, IsWithin}
 
@@ -15,12 +15,6 @@ pub none_in : (q : ℕ) → is_member no_process q ≡ false
 unfolding is_member
 none_in zero = refl
 none_in (suc k) = let bit = bit_at-zero k in rw bit refl
-
--- the set of all bits has each process
-pub all_in : (p : ℕ) → 1 ≤ p → p ≤ 64 → IsTrue (is_member (record { bits = 18446744073709551615 }) p)
-unfolding is_member
-all_in zero from_one few = absurd (omega (arith, from_one))
-all_in (suc k) from_one few = eq-eqb _ _ (bit_at_ones 64 k (omega (arith, few)))
 
 -- a set that isn't that of no process has one
 pub some_in : (set : ProcessSet) → set.bits < 2 ^ 64 → set.bits ≢ 0 → (k : ℕ) × (k < 64) × IsTrue (is_member set (suc k))

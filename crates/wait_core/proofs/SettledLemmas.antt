@@ -1,8 +1,8 @@
 -- Waits that are known to be blocked on all files but some, and what a change of the list or of the locks leaves of that: for
 -- `Waits::forget_changes`, `Waits::is_blocked_among`, `Waits::join` and others.
-use Rattle.std.proofs.Common.{rules, ℕ, ◌≡◌, ◌≢◌, ◌<◌, ◌≤◌, ◌∙◌, ◌⊎◌, inl, inr, sym, ap, subst, refl, arith, Bool, true, false, not, zero, suc, Option, Some, None, List, [], ◌∷◌, ◌++◌, All, Any, length, get_or, take, append_assoc, append-nil}
+use Rattle.std.proofs.Common.{rules, ℕ, ◌≡◌, ◌≢◌, ◌<◌, ◌≤◌, ◌∙◌, ◌⊎◌, inl, inr, sym, ap, subst, refl, arith, Bool, true, false, not, zero, suc, Some, List, [], ◌∷◌, ◌++◌, All, Any, length, get_or, take, append_assoc, append-nil}
 use Rattle.std.proofs.lemmas.Grind.{common_steps}
-use Rattle.std.specs.Prelude.{◌==◌, ◌||◌, IfSome, IfNone, IsTrue, IsFalse}
+use Rattle.std.specs.Prelude.{◌==◌, ◌||◌, IsTrue, IsFalse}
 use Rattle.std.specs.List.{AllPairs, filter}
 use Rattle.std.proofs.lemmas.Bool.{cases_Bool, cases_eq}
 use Rattle.std.proofs.lemmas.Bool.Decides.{nat_tests}
@@ -17,18 +17,15 @@ use Rattle.wait_core.specs.declared.Policy.{Policy}
 use Rattle.wait_core.specs.declared.Policy.TheVariants.{Held, Queue}
 use Rattle.wait_core.specs.declared.Wait.{Wait}
 use Rattle.wait_core.specs.declared.files.FileSet.{FileSet}
-use Rattle.wait_core.specs.declared.processes.ProcessSet.{ProcessSet}
 use Rattle.wait_core.specs.declared.waits.Waits.{Waits}
 use Rattle.wait_core.specs.Locks.{Locks}
 use Rattle.wait_core.specs.Blocking.{AllBlocked, IsBlocked, IsBlockedIn, WaitsConflict}
 use Rattle.wait_core.specs.Cycles.{IsTraditional}
 use Rattle.wait_core.specs.Files.{has_file}
-use Rattle.wait_core.specs.Processes.{is_member}
-use Rattle.wait_core.specs.Settled.{AllBlockedBut, AllBlockedElsewhere, AllBlockedWhere, AgreeElsewhere}
+use Rattle.wait_core.specs.Settled.{AllBlockedElsewhere, AllBlockedWhere, AgreeElsewhere}
 use Rattle.wait_core.specs.WellFormed.{IsWellFormed, can_own}
 use Rattle.wait_core.specs.WaitsView.{waits_of, wait_of, AreTold, IsTold}
 use Rattle.wait_core.proofs.AnyLemmas.{Any-filter, Any-weaker}
-use Rattle.wait_core.proofs.ListLemmas.{none_of}
 use Rattle.wait_core.proofs.PairLemmas.{blocked_wait, one_wait}
 
 -- the two have the same locks on the file
@@ -58,11 +55,6 @@ elsewhere_after files more policy old new others earlier (wait ∷ waits) all = 
 neither : (a b : Bool) → IsFalse (a || b) → (a ≡ false) × (b ≡ false)
 neither true b is = absurd (let e : true ≡ false = is in cc)
 neither false b is = (refl, is)
-
--- who isn't among the processes with one more is another one, and wasn't among them
-pub not_before : (old new : ProcessSet) (p : ℕ) → ((q : ℕ) → is_member new q ≡ (q == p || is_member old q)) → (q : ℕ) → IsFalse (is_member new q)
-    → (q ≢ p) × IsFalse (is_member old q)
-not_before old new p is q out = grind (arith, common_steps, neither, nat_tests)
 
 -- one file more
 pub elsewhere_touched : (files more : FileSet) (policy : Policy) (old new : Locks) (file : ℕ) → ((f : ℕ) → has_file more f ≡ (f == file || has_file files f))
@@ -157,11 +149,7 @@ file_of_found (v ∷ waits) p wait apart found = elim (cases_eq v.p p) [
       (file_of_found waits p wait (λ i j d before within. apart (suc i) (suc j) d (omega (arith, before)) (omega (arith, within))) (rw passed at found))
 ]
 
--- where a process has no wait none leaves
-pub none_leaves : (files : FileSet) (waits : List Wait) (p : ℕ) → wait_of waits p ≡ None → All (MayLeave files p) waits
-none_leaves files waits p none = All-weaker (λ v. v.p ≢ p) (MayLeave files p) (λ v other same. absurd (other same)) waits (none_of waits p none)
-
--- where it has one on one of the files, those that leave are on these
+-- where a process has a wait on one of the files, those that leave are on these
 pub one_leaves : (files : FileSet) (waits : List Wait) (p : ℕ) (wait : Wait) → AllPairs (λ v w. v.p ≢ w.p) waits → wait_of waits p ≡ Some wait
     → IsTrue (has_file files wait.file) → All (MayLeave files p) waits
 one_leaves files waits p wait apart found among = grind (arith, common_steps, All-weaker, file_of_found)
@@ -176,17 +164,6 @@ pub all_where : (Holds : Wait → Type 0) (policy : Policy) (locks : Locks) → 
     → AllBlockedWhere Holds policy locks earlier waits → AllBlocked policy locks earlier waits
 all_where Holds policy locks each earlier [] all = tt
 all_where Holds policy locks each earlier (wait ∷ waits) all = (all.0 (each wait), all_where Holds policy locks each (earlier ++ wait ∷ []) waits all.1)
-
--- of each process: nothing is said
-pub none_but : (set : ProcessSet) (processes : ℕ) (policy : Policy) (locks : Locks) → processes ≤ 64
-    → ((p : ℕ) → 1 ≤ p → p ≤ 64 → IsTrue (is_member set p)) → (earlier waits : List Wait) → All (IsWellFormed processes) waits
-    → AllBlockedBut set policy locks earlier waits
-none_but set processes policy locks few each earlier [] well_formed = tt
-none_but set processes policy locks few each earlier (wait ∷ waits) well_formed =
-    let first = All-head (IsWellFormed processes) wait waits well_formed in (
-      λ out. absurd (let e : true ≡ false = sym (each wait.p first.from_one (omega (arith, few, first.process))) ∙ out in cc),
-      none_but set processes policy locks few each (earlier ++ wait ∷ []) waits (All-tail (IsWellFormed processes) wait waits well_formed),
-    )
 
 -- the wait at a place, if this holds of it
 pub blocked_at : (Holds : Wait → Type 0) (policy : Policy) (locks : Locks) (earlier waits : List Wait) (i : ℕ) (wait : Wait) → i < length waits
@@ -233,14 +210,10 @@ blocked_more One Other policy locks earlier (wait ∷ waits) each all =
       blocked_more One Other policy locks (earlier ++ wait ∷ []) waits (All-tail Is wait waits each) all.1,
     )
 
--- the wait of a process left, if it had one
-pub elsewhere_without : (files more : FileSet) (policy : Policy) (locks : Locks) (waits : List Wait) (p : ℕ) (wait : Option Wait)
-    → AllPairs (λ v w. v.p ≢ w.p) waits → wait ≡ wait_of waits p
-    → IfSome wait (λ some. (f : ℕ) → has_file more f ≡ (f == some.file || has_file files f)) → IfNone wait (more ≡ files)
+-- the wait of a process left
+pub elsewhere_without : (files more : FileSet) (policy : Policy) (locks : Locks) (waits : List Wait) (p : ℕ) (wait : Wait)
+    → AllPairs (λ v w. v.p ≢ w.p) waits → wait_of waits p ≡ Some wait → ((f : ℕ) → has_file more f ≡ (f == wait.file || has_file files f))
     → AllBlockedElsewhere files policy locks [] waits → AllBlockedElsewhere more policy locks [] (filter (λ w. not (w.p == p)) waits)
-elsewhere_without files more policy locks waits p (Some wait) apart found some none all =
-    elsewhere_left more p policy locks [] waits (All-nil (MayLeave more p)) (one_leaves more waits p wait apart (sym found) (among_more files more wait.file some))
-    (elsewhere_more files more policy locks wait.file some waits all)
-elsewhere_without files more policy locks waits p None apart found some none all =
-    elsewhere_left more p policy locks [] waits (All-nil (MayLeave more p)) (none_leaves more waits p (sym found))
-    (subst (λ (fs : FileSet). AllBlockedElsewhere fs policy locks [] waits) (sym none) all)
+elsewhere_without files more policy locks waits p wait apart found known all =
+    elsewhere_left more p policy locks [] waits (All-nil (MayLeave more p)) (one_leaves more waits p wait apart found (among_more files more wait.file known))
+    (elsewhere_more files more policy locks wait.file known waits all)

@@ -1,18 +1,16 @@
 -- The set of the processes that wait, as waits join the list and leave it: for `Waits::leave`, `Waits::new` and `Waits::push`.
 use Rattle.std.proofs.lemmas.Grind.{common_steps}
-use Rattle.std.proofs.Common.{ℕ, ◌≡◌, ◌≤◌, ◌∙◌, inl, inr, sym, ap, refl, arith, Bool, true, false, not, Option, None, Some, List, [], ◌∷◌, ◌++◌}
-use Rattle.std.specs.Prelude.{◌==◌, ◌||◌, ◌&&◌, if◌then◌else◌, IfNone, IfSome}
+use Rattle.std.proofs.Common.{ℕ, ◌≡◌, ◌≤◌, refl, arith, Bool, true, false, not, List, [], ◌∷◌, ◌++◌}
+use Rattle.std.specs.Prelude.{◌==◌, ◌||◌, ◌&&◌, if◌then◌else◌}
 use Rattle.std.specs.List.{list_any}
 use Rattle.std.proofs.lemmas.Bool.{cases_eq, eqb-true}
 use Rattle.std.proofs.lemmas.Bool.Decides.{nat_tests}
-use Rattle.std.proofs.lemmas.List.Elements.{All-weaker}
-use Rattle.std.proofs.lemmas.List.Folds.{list_any-append, list_any_none}
+use Rattle.std.proofs.lemmas.List.Folds.{list_any-append}
 use Rattle.std.proofs.lemmas.Map.Views.{any-filter_same}
 use Rattle.wait_core.specs.declared.Wait.{Wait}
 use Rattle.wait_core.specs.declared.processes.ProcessSet.{ProcessSet}
 use Rattle.wait_core.specs.Processes.{AreThoseWaiting, is_member, no_process}
-use Rattle.wait_core.specs.WaitsView.{wait_of, without_wait_of}
-use Rattle.wait_core.proofs.ListLemmas.{none_of}
+use Rattle.wait_core.specs.WaitsView.{without_wait_of}
 use Rattle.wait_core.proofs.ProcessLemmas.{none_in}
 
 -- at first nobody waits
@@ -38,21 +36,7 @@ without false other = refl
 waits_left : (waits : List Wait) (p q : ℕ) → list_any (λ w. w.p == q) (without_wait_of waits p) ≡ (not (q == p) && list_any (λ w. w.p == q) waits)
 waits_left waits p q = grind (arith, common_steps, any-filter_same, eqb-true)
 
-found_of : (waits : List Wait) (p : ℕ) (wait : Wait) → wait_of waits p ≡ Some wait → wait.p ≡ p
-found_of [] p wait found = absurd (let no = found in cc)
-found_of (w ∷ waits) p wait found = elim (cases_eq w.p p) [
-  | inl same ↦
-      let test : (w.p == p) ≡ true = grind (arith, nat_tests) in
-      let first : w ≡ wait = (let some = rw test at found in cc) in
-      sym (ap (λ (v : Wait). v.p) first) ∙ same
-  | inr other ↦ let test : (w.p == p) ≡ false = grind (arith, nat_tests) in found_of waits p wait (rw test at found)
-]
-
-none_waits : (waits : List Wait) (p q : ℕ) → wait_of waits p ≡ None → (not (q == p) && list_any (λ w. w.p == q) waits) ≡ list_any (λ w. w.p == q) waits
-none_waits waits p q none = grind (arith, common_steps, cases_eq, list_any_none, All-weaker, nat_tests, none_of)
-
--- the wait of a process left, if it had one
-pub waiting_left : (old new : ProcessSet) (waits : List Wait) (p : ℕ) (wait : Option Wait) → wait ≡ wait_of waits p
-    → IfSome wait (λ some. (q : ℕ) → q ≤ 64 → is_member new q ≡ (if q == some.p then false else is_member old q)) → IfNone wait (new ≡ old)
+-- the wait of a process left
+pub waiting_left : (old new : ProcessSet) (waits : List Wait) (p : ℕ) → ((q : ℕ) → q ≤ 64 → is_member new q ≡ (if q == p then false else is_member old q))
     → AreThoseWaiting old waits → AreThoseWaiting new (without_wait_of waits p)
-waiting_left old new waits p wait h h2 h3 h4 h5 h6 = grind (arith, common_steps, found_of, without, waits_left, none_waits)
+waiting_left old new waits p left known = grind (arith, common_steps, without, waits_left)

@@ -1,15 +1,13 @@
 -- Waits that are known to be blocked, and what a change on one file leaves of that (the words are this project's choice).
-use Rattle.std.specs.Prelude.{◌≡◌, ◌≢◌, ℕ, ⊤, List, [], ◌∷◌, ◌++◌, IsFalse}
+use Rattle.std.specs.Prelude.{◌≡◌, ◌≢◌, ◌⊎◌, ℕ, ⊤, List, [], ◌∷◌, ◌++◌, IsFalse}
 use Rattle.wait_core.specs.declared.Policy.{Policy}
 use Rattle.wait_core.specs.declared.Wait.{Wait}
 use Rattle.wait_core.specs.declared.files.FileSet.{FileSet}
-use Rattle.wait_core.specs.declared.processes.ProcessSet.{ProcessSet}
 use Rattle.wait_core.specs.declared.waits.Waits.{Waits}
 use Rattle.wait_core.specs.Locks.{Locks}
 use Rattle.wait_core.specs.Blocking.{IsBlocked}
 use Rattle.wait_core.specs.Files.{has_file}
-use Rattle.wait_core.specs.Processes.{is_member}
-use Rattle.wait_core.specs.WaitsView.{waits_of, policy_of, AgreeBut}
+use Rattle.wait_core.specs.WaitsView.{waits_of, policy_of, AgreeBut, IsTold}
 
 -- each of these waits of which this holds is blocked, where the earlier ones stand before them
 abbrev pub AllBlockedWhere : (Wait → Type 0) → Policy → Locks → List Wait → List Wait → Type 0
@@ -21,10 +19,6 @@ AllBlockedWhere Holds policy locks earlier (wait ∷ waits) =
 abbrev pub AllBlockedElsewhere : FileSet → Policy → Locks → List Wait → List Wait → Type 0
 AllBlockedElsewhere files = AllBlockedWhere (λ wait. IsFalse (has_file files wait.file))
 
--- each of these waits that is of none of the processes is blocked
-abbrev pub AllBlockedBut : ProcessSet → Policy → Locks → List Wait → List Wait → Type 0
-AllBlockedBut processes = AllBlockedWhere (λ wait. IsFalse (is_member processes wait.p))
-
 -- the files that may have a wait that isn't blocked
 unfoldable pub changed_files : Waits → FileSet
 changed_files waits = waits.changed
@@ -32,6 +26,14 @@ changed_files waits = waits.changed
 -- each wait on another file than those that count as changed is blocked
 pub record AreBlockedElsewhere (waits : Waits) (locks : Locks) : Type 0 where
   pub blocked : AllBlockedElsewhere (changed_files waits) (policy_of waits) locks [] (waits_of waits)
+
+-- the wait is known to be blocked: its file doesn't count as changed, or its process is told to wait for another by a lock
+abbrev pub IsKnown : Waits → Wait → Type 0
+IsKnown waits wait = IsFalse (has_file (changed_files waits) wait.file) ⊎ IsTold waits wait.p
+
+-- each wait that is known to be blocked is
+abbrev pub AllBlockedKnown : Waits → Locks → Type 0
+AllBlockedKnown waits locks = AllBlockedWhere (IsKnown waits) (policy_of waits) locks [] (waits_of waits)
 
 -- the two have the same locks on each file but this one
 pub record AgreeElsewhere (file : ℕ) (old new : Locks) : Type 0 where

@@ -1,18 +1,21 @@
 //! What blocks a wait, and which waits conflict.
 ghost use Rattle.std.specs.Prelude.{ℕ, ◌≡◌, ◌<◌, ◌≤◌, ◌↔◌, false, IsTrue, All, Any, length, slice_index_or};
+ghost use Rattle.std.specs.Option.{option_copied};
 ghost use Rattle.range_core.specs.Ranges.{IsByteRange};
-ghost use Rattle.lock_book.specs.Conflicts.{ProcessBlocks};
-ghost use Rattle.wait_core.specs.Locks.{locks_of};
+ghost use Rattle.lock_book.specs.declared.Owner.TheVariants.{Process};
+ghost use Rattle.lock_book.specs.Conflicts.{ByteModes, ProcessBlocks};
+ghost use Rattle.lock_book.specs.OwnerLists.{modes_in_list};
+ghost use Rattle.wait_core.specs.Locks.{Locks, locks_of};
 ghost use Rattle.wait_core.specs.Blocking.{IsBlockedByLock, Meet, WaitsConflict};
 ghost use Rattle.wait_core.specs.Cycles.{IsTraditional};
-ghost use Rattle.wait_core.specs.Pairs.{IsConflictOf, IsOn};
+ghost use Rattle.wait_core.specs.Pairs.{IsBlockedWait, IsConflictOf, IsOn};
 ghost use Rattle.wait_core.specs.Processes.{is_member};
 ghost use Rattle.wait_core.specs.WellFormed.{IsWellFormed, can_own};
 
 use crate::processes::{PROCESSES, ProcessSet};
 use crate::{Family, Wait};
 use lock_book::{Book, Owner};
-use range_core::Span;
+use range_core::{RangeList, Span};
 
 impl Wait {
     /// Whether the wait is for a traditional lock, that of its process.
@@ -86,14 +89,28 @@ impl Wait {
         books[usize::from(self.file)].blocking_processes(self.owner, self.span, self.mode)
     }
 
-    /// Whether a traditional lock of the process blocks the wait.
-    pub(crate) fn is_blocked_by_process(&self, process: u8, books: &[Book]) -> bool
-        requires file { self.now.file < length books.now }
-        requires range { IsByteRange self.now.span }
-        ensures { let locks = locks_of books.now in IsTrue result
-            ↔ ProcessBlocks (locks.bytes self.now.file) process self.now.owner self.now.span self.now.mode }
+    /// Whether a traditional lock of the process blocks the wait; the list has the modes of the process on the wait's file.
+    fn is_blocked_by_list(&self, process: u8, list: Option<&RangeList>) -> bool
+        requires { IsByteRange self.now.span }
+        ensures { (modes : ByteModes) → ((byte : ℕ) → modes_in_list (option_copied list.entry) byte ≡ modes (Process process) byte)
+            → IsTrue result ↔ ProcessBlocks modes process self.now.owner self.now.span self.now.mode }
     {
-        books[usize::from(self.file)].process_blocks(process, self.owner, self.span, self.mode)
+        match list {
+            Some(list) => {
+                self.owner != Owner::Process(process)
+                    && list.first_hit(self.span, self.mode).is_some()
+            }
+            None => false,
+        }
+    }
+
+    /// Whether the wait is traditional, and a lock of the process blocks it; the list has the modes of the process on its file.
+    pub(crate) fn waits_for(&self, process: u8, list: Option<&RangeList>) -> bool
+        requires { IsByteRange self.now.span }
+        ensures { (locks : Locks) → ((byte : ℕ) → modes_in_list (option_copied list.entry) byte ≡ locks.bytes self.now.file (Process process) byte)
+            → IsTrue result ↔ IsBlockedWait locks self.now.p process self.now }
+    {
+        self.is_traditional() && self.is_blocked_by_list(process, list)
     }
 
     /// Whether one of these waits conflicts with the wait.

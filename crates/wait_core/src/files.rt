@@ -43,18 +43,6 @@ impl FileSet {
         }
     }
 
-    /// The set with the file of the wait in it, if there is one.
-    pub fn with_file_of(self, wait: Option<Wait>) -> FileSet
-        requires { IfSome wait (λ some. some.file < FILES) }
-        ensures some { IfSome wait (λ some. (f : ℕ) → has_file result f ≡ (f == some.file || has_file self f)) }
-        ensures none { IfNone wait (result ≡ self) }
-    {
-        match wait {
-            Some(some) => self.with(some.file),
-            None => self,
-        }
-    }
-
     /// Whether there is no file in the set.
     pub fn is_empty(self) -> bool
         ensures none { IsTrue result → (f : ℕ) → has_file self f ≡ false }

@@ -2,7 +2,9 @@
 ghost use Rattle.std.specs.Prelude.{◌≡◌, ◌≢◌, ℕ, suc, ◌<◌, ◌≤◌, ◌↔◌, ◌==◌, if◌then◌else◌, false, IsFalse, All, AllPairs, IfOk, IsTrue, length, vec_len};
 ghost use Rattle.wait_core.specs.declared.pairs.TheConstants.{ROWS};
 ghost use Rattle.lock_book.specs.declared.Owner.TheVariants.{Process};
-ghost use Rattle.wait_core.specs.Locks.{locks_of};
+ghost use Rattle.std.specs.Option.{option_copied};
+ghost use Rattle.lock_book.specs.OwnerLists.{modes_in_list};
+ghost use Rattle.wait_core.specs.Locks.{Locks, locks_of};
 ghost use Rattle.wait_core.specs.Pairs.{IsBlockedWait, IsElsewhere, IsOff, IsOn};
 ghost use Rattle.wait_core.specs.Processes.{is_member};
 ghost use Rattle.wait_core.specs.WellFormed.{IsWellFormed};
@@ -10,7 +12,7 @@ ghost use Rattle.wait_core.specs.WellFormed.{IsWellFormed};
 use crate::Wait;
 use crate::processes::{PROCESSES, ProcessSet};
 use lock_book::{Book, Owner};
-use range_core::{Memory, Span};
+use range_core::{Memory, RangeList, Span};
 use std::alloc::Global;
 
 /// How many rows there are: one for each process, and a first one of no process, which stays empty.
@@ -103,23 +105,29 @@ impl Pairs {
         ensures told { All (λ wait. IsOn file span wait → TellsPair self.new (locks_of books.now) q wait) waits.now }
         ensures others { (p r : ℕ) → r ≤ PROCESSES → (r ≡ q → All (IsOff p file span) waits.now) → pair_in self.new p r ≡ pair_in self.old p r }
     {
+        let Some(book) = books.get(usize::from(file)) else {
+            // Each wait is on a file with a book.
+            return;
+        };
+        let list = book.list(Owner::Process(q));
         for waiting in waits {
             if waiting.is_on(file, span) {
-                self.tell_pair(waiting, q, books);
+                self.tell_pair(waiting, q, list);
             }
         }
     }
 
-    /// Tells anew whether the process of this wait waits for the other one by a lock.
-    fn tell_pair(&mut self, wait: &Wait, q: u8, books: &[Book])
+    /// Tells anew whether the process of this wait waits for the other one by a lock, of which the list has the modes on the wait's
+    /// file.
+    fn tell_pair(&mut self, wait: &Wait, q: u8, list: Option<&RangeList>)
         requires from_one { 1 ≤ q }
         requires few { q ≤ PROCESSES }
         requires wait { IsWellFormed PROCESSES wait.now }
-        requires books { length books.now ≡ 64 }
-        ensures told { TellsPair self.new (locks_of books.now) q wait.now }
+        ensures told { (locks : Locks) → ((byte : ℕ) → modes_in_list (option_copied list.entry) byte ≡ locks.bytes wait.now.file (Process q) byte)
+            → TellsPair self.new locks q wait.now }
         ensures others { (p r : ℕ) → r ≤ PROCESSES → (p ≡ wait.now.p → r ≢ q) → pair_in self.new p r ≡ pair_in self.old p r }
     {
-        let blocks = wait.is_traditional() && wait.is_blocked_by_process(q, books);
+        let blocks = wait.waits_for(q, list);
         let row = &mut self.rows[usize::from(wait.p)];
         *row = row.put(q, blocks);
     }

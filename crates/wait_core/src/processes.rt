@@ -22,13 +22,6 @@ impl ProcessSet {
         ProcessSet { bits: 0 }
     }
 
-    /// Each process.
-    pub(crate) fn all() -> ProcessSet
-        ensures { (p : ℕ) → 1 ≤ p → p ≤ PROCESSES → IsTrue (is_member result p) }
-    {
-        ProcessSet { bits: u64::MAX }
-    }
-
     /// Whether there is no process in the set.
     pub(crate) fn is_empty(self) -> bool
         ensures none { IsTrue result → (p : ℕ) → is_member self p ≡ false }
@@ -75,18 +68,6 @@ impl ProcessSet {
     {
         ProcessSet {
             bits: self.bits & !(1 << (p - 1)),
-        }
-    }
-
-    /// The set without the process of the wait, if there is one.
-    pub(crate) fn without_process_of(self, wait: Option<Wait>) -> ProcessSet
-        requires { IfSome wait (λ some. (1 ≤ some.p) × (some.p ≤ PROCESSES)) }
-        ensures some { IfSome wait (λ some. (q : ℕ) → q ≤ PROCESSES → is_member result q ≡ (if q == some.p then false else is_member self q)) }
-        ensures none { IfNone wait (result ≡ self) }
-    {
-        match wait {
-            Some(some) => self.without(some.p),
-            None => self,
         }
     }
 

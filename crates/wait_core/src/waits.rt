@@ -1,5 +1,6 @@
 //! The pending requests, in order of arrival.
-ghost use Rattle.std.specs.Prelude.{ℕ, ◌⊎◌, ◌≡◌, ◌≢◌, ◌<◌, ◌≤◌, ◌↔◌, List, [], ◌∷◌, ◌++◌, length, vec_capacity, IfOk, IfSome, IfNone, IsTrue, IsFalse, All, AllPairs, Any, slice_get, None, Some, false, take};
+ghost use Rattle.std.specs.Prelude.{ℕ, ◌⊎◌, ◌≡◌, ◌==◌, ◌≢◌, ◌<◌, ◌≤◌, ◌↔◌, List, [], ◌∷◌, ◌++◌, length, vec_capacity, IfOk, IfSome, IfNone, IsTrue, IsFalse, All, AllPairs, Any, slice_get, None, Some, false, not, take};
+ghost use Rattle.std.specs.List.{filter, position};
 ghost use Rattle.wait_core.specs.declared.files.TheConstants.{FILES};
 ghost use Rattle.wait_core.specs.declared.processes.TheConstants.{PROCESSES};
 ghost use Rattle.wait_core.specs.declared.Policy.TheVariants.{Queue};
@@ -54,8 +55,8 @@ pub struct Waits {
 impl Waits {
     ghost use Rattle.wait_core.specs.Locks.{Locks, locks_of};
     ghost use Rattle.wait_core.specs.Blocking.{AllBlocked, IsBlocked, IsNextReady, IsQueued, WaitsConflict};
-    ghost use Rattle.wait_core.specs.Settled.{AllBlockedBut, AreBlockedElsewhere, AgreeElsewhere, changed_files};
-    ghost use Rattle.wait_core.specs.WaitsView.{waits_of, policy_of, processes_of, wait_of, without_wait_of, AreTold, IsTold, AgreeBut, AgreeButOwner};
+    ghost use Rattle.wait_core.specs.Settled.{AllBlockedKnown, AreBlockedElsewhere, AgreeElsewhere, IsKnown, changed_files};
+    ghost use Rattle.wait_core.specs.WaitsView.{waits_of, policy_of, processes_of, wait_of, without_wait_of, AreTold, AgreeBut, AgreeButOwner};
 
     /// No wait, with room for one of each process. The processes are numbered from 1, and at most 64 of them (this
     /// project's choice).
@@ -140,14 +141,20 @@ impl Waits {
         ensures told { (locks : Locks) → AreTold self.old locks → AreTold self.new locks }
         ensures blocked { (locks : Locks) → AreBlockedElsewhere self.old locks → AreBlockedElsewhere self.new locks }
     {
-        let wait = self.of(p);
-        self.changed = self.changed.with_file_of(wait);
-        self.waiting = self.waiting.without_process_of(wait);
-        self.waits.retain(|wait| wait.p != p);
+        let place = self.place_of(p)?;
+        let wait = self.waits.remove(place);
+        self.changed = self.changed.with(wait.file);
+        self.waiting = self.waiting.without(p);
         self.pairs.forget(p);
-        self.queue.forget(p);
-        self.queue.forget_blocker(p);
-        wait
+        leave_queue(&mut self.queue, self.policy, p);
+        Some(wait)
+    }
+
+    /// The place of the process' wait in the order of arrival, where it has one.
+    fn place_of(&self, p: u8) -> Option<usize>
+        ensures { result ≡ position (λ wait. wait.p == p) (waits_of self.now) }
+    {
+        self.waits.iter().position(|wait| wait.p == p)
     }
 
     /// Tells the pairs anew after a change of the file's book, the other books being as they were.
@@ -216,7 +223,7 @@ impl Waits {
         ensures well_formed { IfSome result (IsWellFormed (processes_of self.now)) }
         ensures settled { IfNone result (AllBlocked (policy_of self.now) (locks_of books.now) [] (waits_of self.now)) }
     {
-        self.next_ready_among(ProcessSet::all(), books)
+        self.next_ready_among(true, books)
     }
 
     /// The same, where each wait on a file that doesn't count as changed is known to be blocked, and the pairs are those of the
@@ -236,39 +243,20 @@ impl Waits {
         if self.changed.is_empty() {
             return None;
         }
-        self.next_ready_among(self.unsure(), books)
+        self.next_ready_among(false, books)
     }
 
-    /// The processes whose waits are on changed files, but for those that are told to wait for a process by a lock.
-    fn unsure(&self) -> ProcessSet
-        ensures { All (λ wait. IsFalse (is_member result wait.p)
-            → IsFalse (has_file (changed_files self.now) wait.file) ⊎ IsTold self.now wait.p) (waits_of self.now) }
-    {
-        let mut unsure = ProcessSet::empty();
-        for wait in &self.waits {
-            if self.changed.has(wait.file) && !self.pairs.has_any(wait.p) {
-                unsure = unsure.with(wait.p);
-            }
-        }
-        unsure
-    }
-
-    /// The earliest wait that nothing blocks, where the waits of all but these processes are known to be blocked.
-    fn next_ready_among(&self, unsure: ProcessSet, books: &[Book]) -> Option<Wait>
+    /// The earliest wait that nothing blocks: all are asked, or but for those that are known to be blocked.
+    fn next_ready_among(&self, all: bool, books: &[Book]) -> Option<Wait>
         requires books { length books.now ≡ 64 }
-        requires others { ∥ AllBlockedBut unsure (policy_of self.now) (locks_of books.now) [] (waits_of self.now) ∥₁ }
+        requires others { IsFalse all → ∥ AllBlockedKnown self.now (locks_of books.now) ∥₁ }
         ensures ready { IfSome result (IsNextReady (policy_of self.now) (locks_of books.now) (waits_of self.now)) }
         ensures found { IfSome result (λ wait. wait_of (waits_of self.now) wait.p ≡ Some wait) }
         ensures well_formed { IfSome result (IsWellFormed (processes_of self.now)) }
         ensures settled { IfNone result (AllBlocked (policy_of self.now) (locks_of books.now) [] (waits_of self.now)) }
     {
-        // A law, and nothing to run.
-        conflicts_are_decided();
-        if unsure.is_empty() {
-            return None;
-        }
         for i in 0..self.waits.len() {
-            if !self.is_blocked_among(i, unsure, books) {
+            if !self.is_blocked_among(i, all, books) {
                 return Some(self.waits[i]);
             }
         }
@@ -328,17 +316,25 @@ impl Waits {
         &self.waits
     }
 
-    /// Whether the wait at this place is blocked, which those of all but these processes are known to be.
-    fn is_blocked_among(&self, i: usize, unsure: ProcessSet, books: &[Book]) -> bool
+    /// Whether the wait at this place is blocked, which is asked only where it isn't known, or of all.
+    fn is_blocked_among(&self, i: usize, all: bool, books: &[Book]) -> bool
         requires place { i < length (waits_of self.now) }
         requires books { length books.now ≡ 64 }
-        requires others { ∥ AllBlockedBut unsure (policy_of self.now) (locks_of books.now) [] (waits_of self.now) ∥₁ }
+        requires others { IsFalse all → ∥ AllBlockedKnown self.now (locks_of books.now) ∥₁ }
         ensures { (wait : Wait) → slice_get (waits_of self.now) i ≡ Some wait
             → IsTrue result ↔ IsBlocked (policy_of self.now) (locks_of books.now) (take i (waits_of self.now)) wait }
     {
         // A law, and nothing to run.
         conflicts_are_decided();
-        !unsure.has(self.waits[i].p) || self.is_blocked(i, books)
+        !all && self.is_known_blocked(&self.waits[i]) || self.is_blocked(i, books)
+    }
+
+    /// Whether the wait is known to be blocked: on a file that doesn't count as changed, or told to wait for a process by a lock.
+    fn is_known_blocked(&self, wait: &Wait) -> bool
+        requires { IsWellFormed (processes_of self.now) wait.now }
+        ensures { IsTrue result → IsKnown self.now wait.now }
+    {
+        !self.changed.has(wait.file) || self.pairs.has_any(wait.p)
     }
 
     /// Whether the wait at this place is blocked.
@@ -361,5 +357,18 @@ impl Waits {
     {
         let wait = &self.waits[i];
         self.behind.has(wait.p) && wait.conflicts_with_any(&self.waits[..i])
+    }
+}
+
+/// A process' wait leaves the list, of which these pairs are kept under the queue policy.
+fn leave_queue(queue: &mut Pairs, policy: Policy, p: u8)
+    ensures { policy ≡ Queue → (waits : List Wait) → TellsQueue queue.old waits → TellsQueue queue.new (filter (λ wait. not (wait.p == p)) waits) }
+{
+    match policy {
+        Policy::Held => {}
+        Policy::Queue => {
+            queue.forget(p);
+            queue.forget_blocker(p);
+        }
     }
 }

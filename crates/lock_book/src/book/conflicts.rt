@@ -1,12 +1,14 @@
 //! Who blocks a lock.
 ghost use Rattle.std.specs.Prelude.{ℕ, ◌≡◌, ◌<◌, ◌↔◌, false, nat_lt, slice_index_or, IfSome, IfNone, IsTrue, MatchOption};
+ghost use Rattle.std.specs.Option.{option_copied};
 ghost use Rattle.range_core.specs.Ranges.{IsByteRange};
 ghost use Rattle.lock_book.specs.Conflicts.{ByteConflict, IsFirstBlocked, IsFirstBlocker, ProcessBlocks};
+ghost use Rattle.lock_book.specs.OwnerLists.{modes_in_list};
 ghost use Rattle.lock_book.specs.Books.{byte_modes_of};
 
 use super::Book;
 use crate::{Blocker, Owner};
-use range_core::{Mode, Span};
+use range_core::{Mode, RangeList, Span};
 
 impl Book {
     /// Whether some other owner has a lock on some byte of the span that conflicts with one of this mode (POSIX.1-2017
@@ -24,6 +26,13 @@ impl Book {
             }
         }
         false
+    }
+
+    /// The modes that the owner has, as the runs of a list; `None` where it has none, and holds no room. It takes no memory.
+    pub fn list(&self, owner: Owner) -> Option<&RangeList>
+        ensures { (byte : ℕ) → modes_in_list (option_copied result) byte ≡ byte_modes_of self.now owner byte }
+    {
+        self.owners.get(&owner)
     }
 
     /// Whether a traditional lock of the process, if that isn't the owner, conflicts on some byte of the span

@@ -1,6 +1,6 @@
 -- What flock comes to: at once, refused, or later; for `Machine::convert_flock`, `Machine::flock_mode`, `Machine::grant_flock` and
 -- `Machine::test_flock`.
-use Rattle.std.proofs.Common.{rules, arith, ℕ, ◌≡◌, ◌≢◌, refl, sym, ◌∙◌, ap, subst, Bool, true, false, Option, Some, None, List, [], ◌∷◌, ◌++◌, inl, inr, ◌⊎◌, IsTrue, eq-eqb, IsFalse, IsSome, ◌↔◌, slice_get, slice_set, ◌==◌, not}
+use Rattle.std.proofs.Common.{rules, arith, ℕ, ◌≡◌, refl, sym, ◌∙◌, ap, subst, Bool, true, false, Option, Some, None, List, [], ◌∷◌, ◌++◌, inl, inr, ◌⊎◌, IsTrue, eq-eqb, IsFalse, ◌↔◌, slice_set, ◌==◌, not}
 use Rattle.std.proofs.lemmas.List.Folds.{find_at, list_any_at}
 use Rattle.std.proofs.lemmas.Grind.{common_steps}
 use Rattle.std.proofs.lemmas.Option.{slice_get_within, get_or_from_slice_get}
@@ -8,12 +8,10 @@ use Rattle.range_core.specs.declared.Mode.{Mode}
 use Rattle.lock_book.specs.Changes.{flock_mode_in}
 use Rattle.std.specs.List.{list_any}
 use Rattle.lock_book.specs.declared.Owner.TheVariants.{Description}
-use Rattle.lock_book.specs.declared.book.Book.{Book}
-use Rattle.lock_book.specs.Books.{flock_modes_of, has_flock_place}
 use Rattle.fd_table.specs.declared.tables.Look.{Look}
 use Rattle.wait_core.specs.declared.Family.TheVariants.{Whole}
 use Rattle.wait_core.specs.declared.Wait.{Wait}
-use Rattle.wait_core.specs.Locks.{Locks, flock_modes_at}
+use Rattle.wait_core.specs.Locks.{Locks}
 use Rattle.wait_core.specs.Blocking.{IsBlockedByLock, IsQueued}
 use Rattle.wait_core.specs.WaitsView.{wait_of}
 use Rattle.lock_manager.specs.declared.machine.Machine.{Machine}
@@ -27,8 +25,8 @@ use Rattle.lock_manager.specs.FlockCalls.{wanted_flock, FlockTestComesTo, FlockM
 use Rattle.lock_manager.specs.ProcessCalls.{without_wait}
 use Rattle.lock_manager.specs.Settling.{Settles, granted}
 use Rattle.lock_manager.specs.declared.request.Rules.{Rules}
-use Rattle.lock_manager.specs.WaitsKept.{AreApart, is_flock_wait, has_place_at}
-use Rattle.lock_manager.specs.MachineView.{Shows, machine_rules, machine_locks, machine_waits}
+use Rattle.lock_manager.specs.WaitsKept.{AreApart, is_flock_wait}
+use Rattle.lock_manager.specs.MachineView.{SameMachine, Shows, machine_rules, machine_locks, machine_waits}
 use Rattle.lock_manager.proofs.calls.SetLemmas.{at_state, is_blocked, not_blocked}
 use Rattle.lock_manager.proofs.kept.GrantLemmas.{without_middle}
 
@@ -120,51 +118,19 @@ converted old removed settled new nb look wanted note grants told first second r
 pub first_set : (a b : Note) (grants items : List Note) → items ≡ (a ∷ []) ++ grants → slice_set items 0 b ≡ b ∷ grants
 first_set a b grants items is = ap (λ notes. slice_set notes 0 b) is
 
--- the mode that the file's book has for the description is the one in each state that the machine shows
-pub flock_in_state : (machine : Machine) (S : State) (file description : ℕ) (book : Book) (mode : Option Mode)
-    → slice_get machine.books.items file ≡ Some book → mode ≡ flock_modes_of book description → Shows machine S
-    → mode ≡ flock_mode_in S.flock_changes file description
-unfolding machine_locks
-flock_in_state machine S file description book mode was is h =
-    is ∙ ap (λ e. flock_modes_at e description) (sym was) ∙ h.flocks file description
-
 -- without a lock the request is tested at once
-pub flock_tested : (old middle new : Machine) (nb : Bool) (look : Look) (wanted : Wait) (note : Note) (book : Book) (mode : Option Mode) (told : List Note)
-    → slice_get old.books.items look.file ≡ Some book → mode ≡ flock_modes_of book look.desc → mode ≡ None
-    → ((S : State) → Shows old S → Shows middle S) → machine_rules middle ≡ machine_rules old
+pub flock_tested : (old middle new : Machine) (nb : Bool) (look : Look) (wanted : Wait) (note : Note) (mode : Option Mode) (told : List Note)
+    → mode ≡ (machine_locks old).flocks look.file look.desc → mode ≡ None → SameMachine old middle
     → TestTells middle new nb wanted note → told ≡ note ∷ []
     → (S : State) → Shows old S
     → (T : State) × FlockModeComesTo (machine_rules old) S look nb wanted (flock_mode_in S.flock_changes look.file look.desc)
     (record { told = told; after = T }) × Shows new T
-flock_tested old middle new nb look wanted note book mode told was is none same rules tests told_is S h =
-    let tested = tests [] S (same S h) in (
+flock_tested old middle new nb look wanted note mode told is none same tests told_is S h =
+    let tested = tests [] S (same.shows S h) in (
       tested.0,
       subst (λ held. FlockModeComesTo (machine_rules old) S look nb wanted held (record { told = told; after = tested.0 }))
-          (sym none ∙ flock_in_state old S look.file look.desc book mode was is h)
+          (sym none ∙ is ∙ h.flocks look.file look.desc)
           (subst (λ t. FlockTestComesTo (machine_rules old) S nb wanted [] (record { told = t; after = tested.0 })) (sym told_is)
-          (subst (λ (rs : Rules). FlockTestComesTo rs S nb wanted [] (record { told = note ∷ []; after = tested.0 })) rules tested.1)),
+          (subst (λ (rs : Rules). FlockTestComesTo rs S nb wanted [] (record { told = note ∷ []; after = tested.0 })) same.rules tested.1)),
       tested.2,
     )
-
--- the mode that is held already changes nothing
-pub flock_held : (machine : Machine) (nb : Bool) (look : Look) (wanted : Wait) (book : Book) (mode : Option Mode) (held : Mode) (told : List Note)
-    → slice_get machine.books.items look.file ≡ Some book → mode ≡ flock_modes_of book look.desc → mode ≡ Some held → held ≡ wanted.mode
-    → told ≡ Answer wanted.p wanted.n replies.Ok ∷ []
-    → (S : State) → Shows machine S
-    → (T : State) × FlockModeComesTo (machine_rules machine) S look nb wanted (flock_mode_in S.flock_changes look.file look.desc)
-    (record { told = told; after = T }) × Shows machine T
-flock_held machine nb look wanted book mode held told was is some same told_is S h = grind (arith, common_steps, flock_in_state)
-
--- another mode is converted
-pub flock_converted : (old new : Machine) (nb : Bool) (look : Look) (wanted : Wait) (book : Book) (mode : Option Mode) (held : Mode) (told : List Note)
-    → slice_get old.books.items look.file ≡ Some book → mode ≡ flock_modes_of book look.desc → mode ≡ Some held → held ≢ wanted.mode
-    → ((S : State) → Shows old S → (T : State) × ConversionComesTo (machine_rules old) S look nb wanted (record { told = told; after = T }) × Shows new T)
-    → (S : State) → Shows old S
-    → (T : State) × FlockModeComesTo (machine_rules old) S look nb wanted (flock_mode_in S.flock_changes look.file look.desc)
-    (record { told = told; after = T }) × Shows new T
-flock_converted old new nb look wanted book mode held told was is some other converts S h = search (rules, flock_in_state)
-
--- a description with a mode has a place
-pub place_of_held : (books : List Book) (file description : ℕ) (book : Book) (mode : Option Mode) (held : Mode) → slice_get books file ≡ Some book
-    → (IsSome mode → IsTrue (has_flock_place book description)) → mode ≡ Some held → has_place_at (slice_get books file) description ≡ true
-place_of_held books file description book mode held was place is = grind (arith, common_steps)

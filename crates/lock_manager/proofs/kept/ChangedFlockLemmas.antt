@@ -213,10 +213,9 @@ pub place_taken : (old new : Book) (description : ℕ) (result : Result (Unit {0
 place_taken old new description result h h2 = grind (arith, common_steps, same_room, or_right, keeps_same)
 
 -- the place is there then
-pub placed : (before books : List Book) (file : ℕ) (old new : Book) (description : ℕ) (result : Result (Unit {0}) Memory)
-    → books ≡ slice_set before file new → file < length before
-    → OnOk result (ReservesFlock old new description) → OnOk result (has_place_at (slice_get books file) description ≡ true)
-placed before books file old new description result h h2 h3 = grind (arith, common_steps, slice_get-set_same)
+pub placed : (before books : List Book) (file : ℕ) (old new : Book) (description : ℕ) → books ≡ slice_set before file new → file < length before
+    → ReservesFlock old new description → has_place_at (slice_get books file) description ≡ true
+placed before books file old new description is within reserves = grind (arith, common_steps, slice_get-set_same)
 
 -- the room for a flock lock that is waited for is its place
 pub room_joined_flock : (books : List Book) (waits : List Wait) (wait : Wait) (description : ℕ) → wait.family ≡ Whole → wait.owner ≡ Description description

@@ -1,5 +1,5 @@
 //! flock.
-ghost use Rattle.std.specs.Prelude.{ℕ, ◌≡◌, ◌<◌, ◌≤◌, ◌+◌, ◌++◌, ◌↔◌, ◌⊎◌, Some, List, [], ◌∷◌, true, false, length, vec_capacity, slice_get, OnOk, OnErr, IsTrue, IsFalse, IsSome};
+ghost use Rattle.std.specs.Prelude.{ℕ, ◌≡◌, ◌<◌, ◌≤◌, ◌+◌, ◌++◌, ◌↔◌, ◌⊎◌, Some, List, [], ◌∷◌, true, false, length, vec_capacity, slice_get, IfOk, OnOk, OnErr, IsTrue, IsFalse, IsSome};
 ghost use Rattle.fd_table.specs.declared.TheConstants.{FILES};
 ghost use Rattle.range_core.specs.declared.Mode.{Mode};
 ghost use Rattle.lock_book.specs.Changes.{flock_mode_in};
@@ -74,8 +74,7 @@ impl Machine {
         ensures memory { OnErr result (SameMachine self.old self.new) }
         ensures same_rules { SameRules self.old self.new }
     {
-        let Some(held) = self.books[usize::from(look.file)].flock_mode(look.desc) else {
-            self.place_flock(look.file, look.desc)?;
+        let Some(held) = self.place_flock(look.file, look.desc)? else {
             notes.push_reserved(self.test_flock(look, nb, wanted));
             return Ok(());
         };
@@ -130,15 +129,20 @@ impl Machine {
         Note::Waits { p, n }
     }
 
-    /// Keeps a place for the flock lock of the description.
-    fn place_flock(&mut self, file: u8, description: u64) -> Result<(), Memory>
+    /// Keeps a place for the flock lock of the description, and tells the mode that stands there.
+    fn place_flock(&mut self, file: u8, description: u64) -> Result<Option<Mode>, Memory>
         requires file { file < FILES }
+        ensures mode { IfOk result (λ mode. mode ≡ (machine_locks self.old).flocks file description) }
         ensures place { OnOk result (has_place_at (slice_get self.new.books.items file) description ≡ true) }
         ensures same { SameMachine self.old self.new }
         ensures states { self.new.states ≡ self.old.states }
         ensures tables { self.new.tables ≡ self.old.tables }
     {
-        self.books[usize::from(file)].flock_reserve(description)
+        if let Some(mode) = self.books[usize::from(file)].flock_place(description) {
+            return Ok(mode);
+        }
+        self.books[usize::from(file)].flock_reserve(description)?;
+        Ok(None)
     }
 
     /// The description has this flock mode from now on, in the place that is kept, or none. It takes no memory. No process
@@ -159,8 +163,7 @@ impl Machine {
         // A law, and nothing to run.
         stay_free_of_cycles();
         let book = &mut self.books[usize::from(file)];
-        let had = book.flock_mode(description).is_some();
-        book.flock_set_reserved(description, mode);
+        let had = book.flock_set_reserved(description, mode).is_some();
         touch_freed(&mut self.waits, file, had);
     }
 }

@@ -129,7 +129,9 @@ impl LockFile {
                 let owner = Owner::Description(wait.owner);
                 self.book.set_reserved(owner, wait.span, Some(wait.mode));
             }
-            Family::Whole => self.book.flock_set_reserved(wait.owner, Some(wait.mode)),
+            Family::Whole => {
+                self.book.flock_set_reserved(wait.owner, Some(wait.mode));
+            }
         }
     }
 

@@ -16,7 +16,7 @@ invariant_of-self-clause-kept c =
     let within : c.args.file < length books = omega arith in
     let laws = c.stay_free_of_cycles.ensures in
     let was = book_at books c.from.result c.args.file c.index_mut-book.result.now c.from.ensures within c.index_mut-book.ensures.value in
-    let sets : SetsFlock c.index_mut-book.result.now c.flock_set_reserved.new.self c.args.description c.args.mode = c.flock_set_reserved.ensures in
+    let sets : SetsFlock c.index_mut-book.result.now c.flock_set_reserved.new.self c.args.description c.args.mode = c.flock_set_reserved.ensures.sets in
     kept_by_flock laws.description_locks_change machine (slice_set books c.from.result c.flock_set_reserved.new.self) c.touch_freed.new.waits
     c.args.file c.index_mut-book.result.now c.flock_set_reserved.new.self c.args.description c.args.mode
     (ap (λ i. slice_set books i c.flock_set_reserved.new.self) c.from.ensures) within was c.requires.owner c.requires.free sets
@@ -24,7 +24,7 @@ invariant_of-self-clause-kept c =
     (λ known. c.touch_freed.ensures.blocked (locks_of books) (locks_of (slice_set books c.args.file c.flock_set_reserved.new.self)) known
     (agree_elsewhere books c.args.file c.flock_set_reserved.new.self)
     (λ none. flock_frees_none books c.args.file c.index_mut-book.result.now c.flock_set_reserved.new.self c.args.description c.args.mode within was sets
-    (sym c.flock_mode.ensures.mode ∙ none_from_test c.flock_mode.result (sym c.is_some-had.ensures ∙ none))))
+    (sym c.flock_set_reserved.ensures.before ∙ none_from_test c.flock_set_reserved.result (sym c.is_some-had.ensures ∙ none))))
 
 pub returns-clause-shows : goal.returns-clause-shows
 returns-clause-shows c S h =
@@ -32,7 +32,7 @@ returns-clause-shows c S h =
     let books = machine.books.items in
     let within : c.args.file < length books = omega arith in
     let was = book_at books c.from.result c.args.file c.index_mut-book.result.now c.from.ensures within c.index_mut-book.ensures.value in
-    let sets : SetsFlock c.index_mut-book.result.now c.flock_set_reserved.new.self c.args.description c.args.mode = c.flock_set_reserved.ensures in
+    let sets : SetsFlock c.index_mut-book.result.now c.flock_set_reserved.new.self c.args.description c.args.mode = c.flock_set_reserved.ensures.sets in
     with_flock_change machine _ S c.args.file c.index_mut-book.result.now c.flock_set_reserved.new.self c.args.description c.args.mode
     (ap (λ i. slice_set books i c.flock_set_reserved.new.self) c.from.ensures) refl refl within was sets c.touch_freed.ensures.same.waits h
 
@@ -42,7 +42,7 @@ returns-clause-places c f d there =
     let books = machine.books.items in
     let within : c.args.file < length books = omega arith in
     let was = book_at books c.from.result c.args.file c.index_mut-book.result.now c.from.ensures within c.index_mut-book.ensures.value in
-    let sets : SetsFlock c.index_mut-book.result.now c.flock_set_reserved.new.self c.args.description c.args.mode = c.flock_set_reserved.ensures in
+    let sets : SetsFlock c.index_mut-book.result.now c.flock_set_reserved.new.self c.args.description c.args.mode = c.flock_set_reserved.ensures.sets in
     subst (λ i. has_place_at (slice_get (slice_set books i c.flock_set_reserved.new.self) f) d ≡ true) (sym c.from.ensures)
     (places_kept books c.args.file c.index_mut-book.result.now c.flock_set_reserved.new.self within was
     (flock_place_kept c.index_mut-book.result.now c.flock_set_reserved.new.self c.args.description c.args.mode sets) f d there)

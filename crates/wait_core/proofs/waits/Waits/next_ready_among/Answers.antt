@@ -1,14 +1,8 @@
 use Rattle.std.proofs.lemmas.Grind.{common_steps}
 use Rattle.std.proofs.Common.{arith}
-use Rattle.wait_core.specs.WaitsView.{waits_of, policy_of}
-use Rattle.wait_core.proofs.DecideLemmas.{blocked_known}
+use Rattle.wait_core.specs.WaitsView.{waits_of}
 use Rattle.wait_core.proofs.ListLemmas.{blocked_so_far, first_ready, found_itself}
-use Rattle.wait_core.proofs.SettledLemmas.{all_where}
 use Rattle.wait_core.proofs.waits.Waits.next_ready_among.Goals as goal
-
-pub returns-then-is_empty-clause-settled : goal.returns-then-is_empty-clause-settled
-unfolding waits_of policy_of
-returns-then-is_empty-clause-settled c = grind (arith, common_steps, all_where, blocked_known)
 
 pub returns-then-not-is_blocked_among-clause-ready : goal.returns-then-not-is_blocked_among-clause-ready
 unfolding waits_of

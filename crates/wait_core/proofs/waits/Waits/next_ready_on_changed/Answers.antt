@@ -5,8 +5,7 @@ use Rattle.std.proofs.lemmas.List.{get_or_default}
 use Rattle.wait_core.specs.declared.Wait.{Wait}
 use Rattle.wait_core.specs.Files.{has_file}
 use Rattle.wait_core.specs.Locks.{locks_of}
-use Rattle.wait_core.specs.Processes.{is_member}
-use Rattle.wait_core.specs.Settled.{changed_files}
+use Rattle.wait_core.specs.Settled.{IsKnown, changed_files}
 use Rattle.wait_core.specs.WaitsView.{waits_of, policy_of}
 use Rattle.wait_core.proofs.DecideLemmas.{blocked_known, told_known}
 use Rattle.wait_core.proofs.SettledLemmas.{all_where, blocked_more, told_blocked}
@@ -28,9 +27,9 @@ next_ready_among-requires-clause-others c =
     let waits = self.waits.items in
     let told = told_known c.conflicts_are_decided.ensures.processes self locks c.requires.told in
     let Elsewhere : Wait → Type 0 = λ wait. IsFalse (has_file self.changed wait.file) in
-    ∥∥₁_map c.requires.blocked (λ known.
-    blocked_more (λ wait. IsFalse (is_member c.unsure.result wait.p)) Elsewhere self.policy locks [] waits
-    (λ k d within out. elim (c.unsure.ensures k d within out) [
+    λ _. ∥∥₁_map c.requires.blocked (λ known.
+    blocked_more (IsKnown self) Elsewhere self.policy locks [] waits
+    (λ k d within one. elim one [
       | inl elsewhere ↦ inl elsewhere
       | inr is_told ↦ inr (told_blocked self locks self.processes k (get_or waits k d) self.few self.well_formed self.apart told within
           (get_or_default waits k (get_or waits k d) d within) is_told)
