@@ -243,6 +243,10 @@ conflict_counted count description wanted places sorted shared exclusive = (
       (lock_counted mode.0 description conflict.description places sorted (λ e. conflict.another (ap (λ (n : ℕ). Description n) e)) mode.1),
 )
 
+-- how many locks of each mode a description has
+abbrev own_count : Option Mode → LockCount
+own_count own = record { shared = locks_in Read own; exclusive = locks_in Write own }
+
 -- a description has one lock at most
 one_own : (own : Option Mode) → locks_in Read own + locks_in Write own ≤ 1
 one_own own = grind (arith, common_steps)
@@ -273,6 +277,43 @@ conflict_near count description wanted places sorted shared exclusive = (
         let shared_all = count_apart Read description places in
         let own = one_own (flock_modes_among places description) in
         (omega (arith, all, shared_all, exclusive, shared), omega (arith, all, shared_all, exclusive, shared, own))
+
+-- what conflicts of the locks that are counted is what does of the others' and of the own one
+conflict_apart : (count : LockCount) (description : ℕ) (places : Places) → count.shared ≡ locks_among Read places
+    → count.exclusive ≡ locks_among Write places → (wanted : Mode)
+    → conflicting (record { shared = locks_among Read (others description places); exclusive = locks_among Write (others description places) }) wanted
+    + conflicting (own_count (flock_modes_among places description)) wanted ≡ conflicting count wanted
+conflict_apart count description places shared exclusive Read = let all = count_apart Write description places in omega (arith, all, exclusive)
+conflict_apart count description places shared exclusive Write =
+    let all = count_apart Write description places in
+    let shared_all = count_apart Read description places in
+    omega (arith, all, shared_all, exclusive, shared)
+
+-- a lock that conflicts is counted
+own_conflicts : (own : Option Mode) (wanted : Mode) → HeldConflicts own wanted → 0 < conflicting (own_count own) wanted
+own_conflicts None wanted conflicts = absurd conflicts
+own_conflicts (Some Read) Read conflicts = absurd conflicts
+own_conflicts (Some Read) Write conflicts = omega arith
+own_conflicts (Some Write) Read conflicts = omega arith
+own_conflicts (Some Write) Write conflicts = omega arith
+
+-- two of the counted locks conflict exactly where each description is kept from a lock by another one's
+pub conflict_for_all : (count : LockCount) (wanted : Mode) (places : Places) → IsStrictlySortedBy nat_cmp (keys_of places)
+    → count.shared ≡ locks_among Read places → count.exclusive ≡ locks_among Write places
+    → (2 ≤ conflicting count wanted) ↔ ((description : ℕ) → FlockConflict (flock_modes_among places) (Description description) wanted)
+conflict_for_all count wanted places sorted shared exclusive = (
+  λ two description. (conflict_near count description wanted places sorted shared exclusive).1 two,
+  λ all.
+      let first = all 0 in
+      let rest : LockCount = record {
+        shared = locks_among Read (others first.description places);
+        exclusive = locks_among Write (others first.description places);
+      } in
+      let more = (conflict_counted rest first.description wanted places sorted refl refl).1 (all first.description) in
+      let own = own_conflicts (flock_modes_among places first.description) wanted first.conflicts in
+      let apart = conflict_apart count first.description places shared exclusive wanted in
+      omega (arith, more, own, apart),
+)
 
 -- no lock stands in any place where none is counted that conflicts with a write lock
 pub none_counted : (count : LockCount) (places : Places) → IsStrictlySortedBy nat_cmp (keys_of places)

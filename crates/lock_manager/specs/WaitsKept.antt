@@ -1,11 +1,14 @@
 -- What holds of the waits at every moment, also inside an event.
-use Rattle.std.specs.Prelude.{All, ◌≡◌, ◌≢◌, ℕ, ◌≤◌, ◌==◌, ◌&&◌, Bool, true, false, List, AllPairs, Option, Some, None, length, filter, slice_get}
+use Rattle.std.specs.Prelude.{All, ◌≡◌, ◌≢◌, ℕ, ◌≤◌, ◌⊎◌, ◌==◌, ◌&&◌, Bool, true, false, List, AllPairs, Option, Some, None, length, filter, slice_get}
 use Rattle.std.specs.List.{list_any}
+use Rattle.range_core.specs.declared.Mode.{Mode}
+use Rattle.range_core.specs.declared.Mode.TheVariants.{Read, Write}
 use Rattle.lock_book.specs.declared.Owner.{Owner}
 use Rattle.lock_book.specs.declared.Owner.TheVariants.{Description}
 use Rattle.lock_book.specs.declared.book.Book.{Book}
 use Rattle.lock_book.specs.Owners.{is_same_owner}
-use Rattle.lock_book.specs.Books.{room_in, has_flock_place}
+use Rattle.lock_book.specs.Books.{room_in, flock_modes_of, has_flock_place}
+use Rattle.lock_book.specs.Conflicts.{FlockConflict}
 use Rattle.fd_table.specs.declared.tables.Tables.{Tables}
 use Rattle.fd_table.specs.TablesView.{ever_alive}
 use Rattle.wait_core.specs.declared.Family.{Family}
@@ -82,6 +85,11 @@ pub record SameWaits (old new : Waits) : Type 0 where
 -- a wait that a lock blocks before is blocked by one after too
 abbrev pub StayBlocked : Locks → Locks → Type 0
 StayBlocked before after = (wait : Wait) → IsBlockedByLock before wait → IsBlockedByLock after wait
+
+-- where a flock lock of this mode, if there was one, went or became another, nobody is free who was blocked: there was none, or a shared one,
+-- which keeps nobody from a shared one, and each description is still kept from an exclusive one
+abbrev pub FreesNobody : Book → Option Mode → Type 0
+FreesNobody book had = (had ≡ None) ⊎ ((had ≡ Some Read) × ((description : ℕ) → FlockConflict (flock_modes_of book) (Description description) Write))
 
 -- what was known of the waits under the locks before is known of them under those after: which process waits for which, and that
 -- each wait is blocked on a file that doesn't count as changed

@@ -1,5 +1,5 @@
 //! Setting, reserving and releasing whole-file locks.
-ghost use Rattle.std.specs.Prelude.{◌≡◌, ◌↔◌, IsTrue, IsSome, IsOk, OnOk, OnErr, is_some};
+ghost use Rattle.std.specs.Prelude.{ℕ, ◌≡◌, ◌↔◌, IsTrue, IsSome, IsOk, OnOk, OnErr, is_some};
 ghost use Rattle.std.specs.Option.{option_flatten};
 ghost use Rattle.lock_book.specs.Conflicts.{FlockConflict};
 ghost use Rattle.lock_book.specs.Books.{flock_modes_of, has_flock_place, ReleasesFlock, ReservesFlock, SameBook, SetsFlock};
@@ -32,6 +32,14 @@ impl Book {
         ensures { IsTrue result ↔ FlockConflict (flock_modes_of self.now) (Owner.Description description) mode }
     {
         self.flocks.blocked(description, mode)
+    }
+
+    /// Whether each description is kept from a flock lock of this mode by another one's: so it is where two locks conflict with
+    /// such a one (flock(2)). It takes no memory.
+    pub fn flock_blocks_all(&self, mode: Mode) -> bool
+        ensures { IsTrue result ↔ ((description : ℕ) → FlockConflict (flock_modes_of self.now) (Owner.Description description) mode) }
+    {
+        self.flocks.blocks_all(mode)
     }
 
     /// Sets the flock mode of the description, or removes it where `mode` is `None`; a place that is kept for it stays

@@ -62,13 +62,13 @@ impl LockCount {
         }
     }
 
-    /// Whether two of these locks of one mode conflict with one of the wanted mode.
+    /// Whether two of these locks conflict with one of the wanted mode.
     fn conflict_twice(self, wanted: Mode) -> bool
-        ensures { IsTrue result → 2 ≤ conflicting self wanted }
+        ensures { IsTrue result ↔ (2 ≤ conflicting self wanted) }
     {
         match wanted {
             Mode::Read => self.exclusive > 1,
-            Mode::Write => self.exclusive > 1 || self.shared > 1,
+            Mode::Write => self.exclusive.saturating_add(self.shared) > 1,
         }
     }
 }
@@ -170,6 +170,14 @@ impl FlockHolders {
         !self.locks.conflicts_with(Mode::Write)
     }
 
+    /// Whether each description is kept from a lock of the wanted mode by another one's.
+    pub fn blocks_all(&self, wanted: Mode) -> bool
+        ensures { IsTrue result
+            ↔ ((description : ℕ) → FlockConflict (flock_modes_among self.now.places.entries) (Owner.Description description) wanted) }
+    {
+        self.locks.conflict_twice(wanted)
+    }
+
     /// Whether a lock of another description conflicts with one of the wanted mode. It looks for the description's own place only
     /// where one lock conflicts, which may be its own.
     pub fn blocked(&self, description: u64, wanted: Mode) -> bool
@@ -178,7 +186,8 @@ impl FlockHolders {
     {
         self.locks.conflict_twice(wanted)
             || self.locks.conflicts_with(wanted)
-                && (self.latest_blocks(description, wanted) || self.blocked_by_others(description, wanted))
+                && (self.latest_blocks(description, wanted)
+                    || self.blocked_by_others(description, wanted))
     }
 
     /// Whether the lock that was set last is another description's and conflicts with one of the wanted mode.
@@ -203,7 +212,11 @@ impl FlockHolders {
 }
 
 /// The lock that was set last, and stands, once this mode stands in the place of the description.
-fn latest_after(latest: Option<FlockLock>, description: u64, mode: Option<Mode>) -> Option<FlockLock>
+fn latest_after(
+    latest: Option<FlockLock>,
+    description: u64,
+    mode: Option<Mode>,
+) -> Option<FlockLock>
     ensures { (before after : Places) (place : Option (Option Mode)) → StandsAmong latest before
         → PutsAmong before after description place → mode_in_place place ≡ mode → StandsAmong result after }
 {

@@ -1,17 +1,19 @@
 -- What holds of the machine after a change of one flock lock: for `Machine::change_flock`, `Machine::place_flock` and `Machine::test_flock`.
 use Rattle.std.proofs.lemmas.Grind.{common_steps}
-use Rattle.std.proofs.Common.{ℕ, ◌≡◌, ◌≢◌, ◌<◌, ◌≤◌, sym, ◌∙◌, ap, subst, List, [], ◌∷◌, ◌++◌, length, Some, None, Option, Bool, true, false, arith, Result, OnOk, OnErr, slice_get, slice_set, ◌==◌, ◌&&◌, if◌then◌else◌, is_some}
+use Rattle.std.proofs.Common.{ℕ, ◌≡◌, ◌≢◌, ◌<◌, ◌≤◌, ◌⊎◌, inl, inr, refl, sym, ◌∙◌, ap, subst, List, [], ◌∷◌, ◌++◌, length, Some, None, Option, Bool, true, false, arith, Result, OnOk, OnErr, slice_get, slice_set, ◌==◌, ◌&&◌, if◌then◌else◌}
 use Rattle.std.proofs.Math.Logic.{∥∥₁_map, ∥∥₁_elim}
 use Rattle.std.proofs.lemmas.Bool.{eqb-true, or_right, and_parts}
+use Rattle.std.proofs.lemmas.Bool.Decides.{eqb_tells}
 use Rattle.range_core.specs.declared.Memory.{Memory}
 use Rattle.range_core.specs.declared.Mode.{Mode}
+use Rattle.range_core.specs.declared.Mode.TheVariants.{Read, Write}
 use Rattle.range_core.specs.Ranges.{Conflict, HeldConflicts}
 use Rattle.lock_book.specs.declared.Owner.{Owner}
 use Rattle.lock_book.specs.declared.Owner.TheVariants.{Process, Description}
 use Rattle.lock_book.specs.declared.book.Book.{Book}
 use Rattle.lock_book.specs.Books.{flock_modes_of, room_in, has_flock_place, SetsFlock, ReservesFlock, SameBook}
 use Rattle.lock_book.specs.Changes.{FlockChange, flock_mode_from}
-use Rattle.lock_book.specs.Conflicts.{FlockConflict}
+use Rattle.lock_book.specs.Conflicts.{FlockModes, FlockConflict}
 use Rattle.fd_table.specs.declared.tables.Tables.{Tables}
 use Rattle.wait_core.specs.declared.Wait.{Wait}
 use Rattle.wait_core.specs.declared.waits.Waits.{Waits}
@@ -29,7 +31,7 @@ use Rattle.lock_manager.specs.State.{State, with_flock_mode}
 use Rattle.lock_manager.specs.Safety.{AreCompatible}
 use Rattle.lock_manager.specs.DescriptionLocks.{IsOpenOn, AreOwned, MayLock}
 use Rattle.lock_manager.specs.MachineView.{Shows, machine_locks, machine_state, machine_waits}
-use Rattle.lock_manager.specs.WaitsKept.{AreKept, AreApart, HaveRoom, has_place_at, SameWaits, StayBlocked}
+use Rattle.lock_manager.specs.WaitsKept.{AreKept, AreApart, HaveRoom, has_place_at, FreesNobody, SameWaits, StayBlocked}
 use Rattle.lock_manager.proofs.kept.BookLemmas.{slice_get-set, slice_get-set_same, entry_is, same_bytes, flock_mode_from-append}
 use Rattle.lock_manager.proofs.kept.SafetyLemmas.{conflict_back, same_owner}
 use Rattle.lock_manager.proofs.kept.OwnedLemmas.{none_but_set}
@@ -161,19 +163,29 @@ unfolding machine_locks machine_state machine_waits
 with_flock_change old new S file book changed description mode books tables states within was sets waits h =
     grind (arith, common_steps, flock_set_bytes, flock_set_flocks, flock_mode_from-push)
 
-pub none_from_test : (mode : Option Mode) → is_some mode ≡ false → mode ≡ None
-none_from_test mode test = grind (arith, common_steps)
-
--- a lock that conflicts stands where there was none only if it stood there before
-conflict_still : (is_it : Bool) (mode held : Option Mode) (wanted : Mode) → (is_it ≡ true → held ≡ None) → HeldConflicts held wanted
+-- a lock that conflicts still stands where what changes didn't conflict
+conflict_still : (is_it : Bool) (mode held : Option Mode) (wanted : Mode) → (is_it ≡ true → ¬ HeldConflicts held wanted) → HeldConflicts held wanted
     → HeldConflicts (if is_it then mode else held) wanted
-conflict_still is_it mode held wanted none conflict = grind (arith, common_steps)
+conflict_still true mode held wanted harmless conflict = absurd (harmless refl conflict)
+conflict_still false mode held wanted harmless conflict = conflict
 
--- where a description without a flock lock gets one, or none, whoever was blocked stays so
+-- a shared lock, or none, keeps nobody from a shared one
+keeps_no_reader : (had : Option Mode) → (had ≡ None) ⊎ (had ≡ Some Read) → ¬ HeldConflicts had Read
+keeps_no_reader None one conflict = conflict
+keeps_no_reader (Some Read) one conflict = conflict
+keeps_no_reader (Some Write) one conflict = elim one [ inl none ↦ absurd (cc) | inr shared ↦ absurd (cc) ]
+
+-- where each description is kept from a lock by another one's, each owner is
+kept_from : (modes : FlockModes) (wanted : Mode) → ((description : ℕ) → FlockConflict modes (Description description) wanted) → (owner : Owner)
+    → FlockConflict modes owner wanted
+kept_from modes wanted all (Description description) = all description
+kept_from modes wanted all (Process p) = record { description = (all 0).description; another = λ same. absurd (cc); conflicts = (all 0).conflicts }
+
+-- where a change of a flock lock frees nobody, whoever was blocked stays so
 pub flock_frees_none : (books : List Book) (file : ℕ) (old new : Book) (description : ℕ) (mode : Option Mode)
-    → file < length books → slice_get books file ≡ Some old → SetsFlock old new description mode → flock_modes_of old description ≡ None
+    → file < length books → slice_get books file ≡ Some old → SetsFlock old new description mode → FreesNobody new (flock_modes_of old description)
     → StayBlocked (locks_of books) (locks_of (slice_set books file new))
-flock_frees_none books file old new description mode within was sets none wait blocked = of_family wait.family blocked
+flock_frees_none books file old new description mode within was sets frees wait blocked = of_family wait.family blocked
   where
     before : Locks
     before = locks_of books
@@ -184,8 +196,36 @@ flock_frees_none books file old new description mode within was sets none wait b
     held : ℕ → ℕ → Option Mode
     held f d = flock_modes_at (slice_get books f) d
 
-    there : held file description ≡ None
-    there = rw was none
+    there : held file description ≡ flock_modes_of old description
+    there = rw was refl
+
+    still : (wanted : Mode) → FlockConflict (before.flocks wait.file) wait.owner wanted
+        → (file ≡ wait.file → ¬ HeldConflicts (flock_modes_of old description) wanted) → FlockConflict (after.flocks wait.file) wait.owner wanted
+    still wanted h harmless = record {
+      description = h.description;
+      another = h.another;
+      conflicts = subst (λ m. HeldConflicts m wanted) (sym (flock_set_flocks books file old new description mode within was sets wait.file h.description))
+          (conflict_still ((file == wait.file) && (description == h.description)) mode (held wait.file h.description) wanted
+          (λ is conflict. let is_both = is_of file description wait.file h.description is in
+          harmless is_both.0 (subst (λ m. HeldConflicts m wanted) there
+          (subst (λ (n : ℕ). HeldConflicts (held n description) wanted) (sym is_both.0)
+          (subst (λ (n : ℕ). HeldConflicts (held wait.file n) wanted) (sym is_both.1) conflict)))) h.conflicts);
+    }
+
+    of_mode : (wanted : Mode) → FlockConflict (before.flocks wait.file) wait.owner wanted → FlockConflict (after.flocks wait.file) wait.owner wanted
+    of_mode Read h =
+        let one : (flock_modes_of old description ≡ None) ⊎ (flock_modes_of old description ≡ Some Read) =
+        elim frees [ inl none ↦ inl none | inr shared ↦ inr shared.0 ] in
+        still Read h (λ same. keeps_no_reader (flock_modes_of old description) one)
+    of_mode Write h = elim frees [
+      | inl none ↦ still Write h (λ same conflict. subst (λ m. HeldConflicts m Write) none conflict)
+      | inr shared ↦ elim (eqb_tells file wait.file) [
+        | inl same ↦ subst (λ (f : ℕ). FlockConflict (after.flocks f) wait.owner Write) same.1
+            (kept_from (after.flocks file) Write
+            (λ d. rw (slice_get-set_same books file new within) (shared.1 d)) wait.owner)
+        | inr other ↦ still Write h (λ same. absurd (other.1 same))
+      ]
+    ]
 
     of_family : (family : Family) → IsBlockedIn family before wait → IsBlockedIn family after wait
     of_family Bytes h = record {
@@ -197,14 +237,7 @@ flock_frees_none books file old new description mode within was sets none wait b
         conflicts = subst (λ m. HeldConflicts m wait.mode) (sym (flock_set_bytes books file old new description mode within was sets wait.file h.other h.byte)) h.blocks.conflicts;
       };
     }
-    of_family Whole h = record {
-      description = h.description;
-      another = h.another;
-      conflicts = subst (λ m. HeldConflicts m wait.mode) (sym (flock_set_flocks books file old new description mode within was sets wait.file h.description))
-          (conflict_still ((file == wait.file) && (description == h.description)) mode (held wait.file h.description) wait.mode
-          (λ is. let is_both = is_of file description wait.file h.description is in
-          subst (λ (n : ℕ). held n h.description ≡ None) is_both.0 (subst (λ (n : ℕ). held file n ≡ None) is_both.1 there)) h.conflicts);
-    }
+    of_family Whole h = of_mode wait.mode h
 
 -- a book in which a place was asked for, refused or not, keeps its locks
 pub place_taken : (old new : Book) (description : ℕ) (result : Result (Unit {0}) Memory) → OnOk result (ReservesFlock old new description)

@@ -9,7 +9,7 @@ ghost use Rattle.wait_core.specs.Locks.{Locks};
 ghost use Rattle.wait_core.specs.Settled.{AreBlockedElsewhere, AgreeElsewhere};
 ghost use Rattle.wait_core.specs.WaitsView.{AreTold};
 ghost use Rattle.lock_manager.specs.DescriptionLocks.{MayLock};
-ghost use Rattle.lock_manager.specs.WaitsKept.{has_place_at, SameWaits, StayBlocked};
+ghost use Rattle.lock_manager.specs.WaitsKept.{FreesNobody, has_place_at, SameWaits, StayBlocked};
 ghost use Rattle.lock_manager.specs.State.{State, with_flock_mode};
 ghost use Rattle.lock_manager.specs.FlockCalls.{flock_wanted_mode, wanted_flock as wanted_flock_of, FlockTestComesTo, FlockModeComesTo, ConversionComesTo};
 ghost use Rattle.lock_manager.specs.MachineView.{Shows, SameMachine, SameRules, IsFlockAsked, KeepPlaces, Tells, machine_rules, machine_waits, machine_state, machine_locks};
@@ -18,7 +18,7 @@ use super::Machine;
 use crate::replies::{answered, refused};
 use crate::{Errno, FlockOp, Note, ProcState, Reply, Request};
 use fd_table::{FILES, Look};
-use lock_book::Owner;
+use lock_book::{Book, Owner};
 use range_core::{Memory, Mode, Span};
 use wait_core::{Family, Wait, Waits, stay_free_of_cycles};
 
@@ -147,7 +147,7 @@ impl Machine {
 
     /// The description has this flock mode from now on, in the place that is kept, or none. It takes no memory. No process
     /// waits for another by a flock lock, so the waits are told no more than that the file has changed, and not even that where
-    /// the description had no lock, since nobody can be free then who was blocked.
+    /// nobody can be free then who was blocked: the description had no lock, or a shared one of several.
     pub(super) fn change_flock(&mut self, file: u8, description: u64, mode: Option<Mode>)
         requires file { file < FILES }
         requires owner { MayLock self.old.tables file (Owner.Description description) }
@@ -163,8 +163,9 @@ impl Machine {
         // A law, and nothing to run.
         stay_free_of_cycles();
         let book = &mut self.books[usize::from(file)];
-        let had = book.flock_set_reserved(description, mode).is_some();
-        touch_freed(&mut self.waits, file, had);
+        let had = book.flock_set_reserved(description, mode);
+        let freed = may_free(book, had);
+        touch_freed(&mut self.waits, file, freed);
     }
 }
 
@@ -178,6 +179,18 @@ impl FlockOp {
             FlockOp::Ex => Some(Mode::Write),
             FlockOp::Un => None,
         }
+    }
+}
+
+/// Whether somebody may be free who was blocked, where a lock of this mode, if there was one, went or became another: not where it was a
+/// shared one of several.
+fn may_free(book: &Book, had: Option<Mode>) -> bool
+    ensures { IsFalse result → FreesNobody book.now had }
+{
+    match had {
+        None => false,
+        Some(Mode::Read) => !book.flock_blocks_all(Mode::Write),
+        Some(Mode::Write) => true,
     }
 }
 
