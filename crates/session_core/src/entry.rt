@@ -4,8 +4,7 @@ ghost use Rattle.session_core.specs.Mail.{answers_in, reply_of, reply_among};
 
 use lock_manager::{Note, Reply, Request};
 use std::marker::Model;
-use std::mem;
-use std::slice;
+use std::{mem, slice};
 
 /// One event: request number `n` of process `p`, and what it told (this project's choice).
 #[derive(Debug, Drop)]
