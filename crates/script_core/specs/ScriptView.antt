@@ -64,7 +64,7 @@ pub record IsNext (bytes : List ℕ) (reader : ScriptReader) (arrivals : List (�
   pub at_hand : IsAtHand bytes (lines_in reader)
   pub few : length arrivals + 1 ≤ script_limit
 
--- behind these arrivals comes the next one; or there is none, and the script says just these
+-- behind these arrivals comes the next one; or there is none, the script says just these, and they are all that was read
 abbrev pub HandsOut : List ℕ → ScriptReader → List (ℕ × Request) → Option (ℕ × Request) → Type 0
-HandsOut bytes reader arrivals None = Reads bytes (Ok (record { rules = rules_in reader; arrivals = arrivals }))
+HandsOut bytes reader arrivals None = HasRead bytes reader arrivals × Reads bytes (Ok (record { rules = rules_in reader; arrivals = arrivals }))
 HandsOut bytes reader arrivals (Some arrival) = IsNext bytes reader arrivals arrival

@@ -46,7 +46,7 @@ impl<'a> ScriptReader<'a> {
     }
 
     /// Reads up to the next arrival, and hands it out with its process; `None` at the end of the script. A fault is that of the first
-    /// faulty line, and is told again by each later call. It is never want of memory.
+    /// faulty line, and never want of memory. Each later call answers the end, or the fault, again.
     pub fn next_arrival(&mut self) -> Result<Option<(u8, Request)>, ScriptFault>
         // Whatever was read so far.
         ensures next { (bytes : List ℕ) (arrivals : List (ℕ × Request)) → HasRead bytes self.old arrivals →

@@ -11,4 +11,4 @@ returns-clause-processes c =
     let arrivals = c.loop-arrivals.arrivals.items in
     processes_read bytes (record { rules = c.rules.result; arrivals = arrivals })
     (subst (λ (rules : Rules). Reads bytes (Ok (record { rules = rules; arrivals = arrivals }))) (sym c.rules.ensures)
-    (subst (HandsOut bytes c.next_arrival.new.self arrivals) c.in_default.is (c.in_ok-arrival.ensures.next bytes arrivals c.loop-arrivals.invariant)))
+    (subst (HandsOut bytes c.next_arrival.new.self arrivals) c.in_default.is (c.in_ok-arrival.ensures.next bytes arrivals c.loop-arrivals.invariant)).1)
