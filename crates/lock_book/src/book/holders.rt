@@ -178,7 +178,8 @@ impl FlockHolders {
     {
         self.locks.conflict_twice(wanted)
             || self.locks.conflicts_with(wanted)
-                && (self.latest_blocks(description, wanted) || self.blocked_by_others(description, wanted))
+                && (self.latest_blocks(description, wanted)
+                    || self.blocked_by_others(description, wanted))
     }
 
     /// Whether the lock that was set last is another description's and conflicts with one of the wanted mode.
@@ -203,7 +204,11 @@ impl FlockHolders {
 }
 
 /// The lock that was set last, and stands, once this mode stands in the place of the description.
-fn latest_after(latest: Option<FlockLock>, description: u64, mode: Option<Mode>) -> Option<FlockLock>
+fn latest_after(
+    latest: Option<FlockLock>,
+    description: u64,
+    mode: Option<Mode>,
+) -> Option<FlockLock>
     ensures { (before after : Places) (place : Option (Option Mode)) → StandsAmong latest before
         → PutsAmong before after description place → mode_in_place place ≡ mode → StandsAmong result after }
 {

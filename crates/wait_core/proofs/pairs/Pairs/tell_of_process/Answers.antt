@@ -17,18 +17,18 @@ loop-waiting-preserved c =
     let On = IsOn c.args.file c.args.span in
     elim c.if-is_on.branch [
       | then-is_on w ↦
-        let books = c.args.books.now in
-        let found = c.in-Some.ensures.lookup in
-        let book = ap (λ b. Some b) found.1 ∙ sym (slice_get-get_or books c.from.result c.in-Some.book.now found.3.0) in
-        let listed = λ (byte : ℕ). c.list-list.ensures byte ∙ ap (λ b. byte_modes_at b (Process q) byte)
-        (book ∙ ap (slice_get books) (c.from.ensures ∙ sym (c.is_on.ensures.0 w.if-is_on.true).0)) in
-        rw w.self-is (record {
-        told = before_more (TellsPair c.loop-waiting.self locks q) (TellsPair w.tell_pair.new.self locks q) On i waits _ c.requires.apart c.loop-waiting-test.true
-            c.loop-waiting.invariant.told (w.tell_pair.ensures.told locks listed)
-            (λ v another was. tells_still c.loop-waiting.self w.tell_pair.new.self locks q v (w.tell_pair.ensures.others v.p q c.requires.few (λ same. absurd (another same))) was);
-        others = λ p r few off. w.tell_pair.ensures.others p r few
-            (λ same itself. off itself i _ c.loop-waiting-test.true (sym same) (c.is_on.ensures.0 w.if-is_on.true)) ∙ c.loop-waiting.invariant.others p r few off;
-      })
+          let books = c.args.books.now in
+          let found = c.in-Some.ensures.lookup in
+          let book = ap (λ b. Some b) found.1 ∙ sym (slice_get-get_or books c.from.result c.in-Some.book.now found.3.0) in
+          let listed = λ (byte : ℕ). c.list-list.ensures byte ∙ ap (λ b. byte_modes_at b (Process q) byte)
+          (book ∙ ap (slice_get books) (c.from.ensures ∙ sym (c.is_on.ensures.0 w.if-is_on.true).0)) in
+          rw w.self-is (record {
+            told = before_more (TellsPair c.loop-waiting.self locks q) (TellsPair w.tell_pair.new.self locks q) On i waits _ c.requires.apart c.loop-waiting-test.true
+                c.loop-waiting.invariant.told (w.tell_pair.ensures.told locks listed)
+                (λ v another was. tells_still c.loop-waiting.self w.tell_pair.new.self locks q v (w.tell_pair.ensures.others v.p q c.requires.few (λ same. absurd (another same))) was);
+            others = λ p r few off. w.tell_pair.ensures.others p r few
+                (λ same itself. off itself i _ c.loop-waiting-test.true (sym same) (c.is_on.ensures.0 w.if-is_on.true)) ∙ c.loop-waiting.invariant.others p r few off;
+          })
       | else-is_on w ↦ rw w.self-is (record {
         told = before_skip (TellsPair c.loop-waiting.self locks q) On i waits _ c.loop-waiting-test.true
             (λ on. (let yes = c.is_on.ensures.1 on in let no = w.if-is_on.false in cc)) c.loop-waiting.invariant.told;
