@@ -15,7 +15,8 @@ invariant_of-self-clause-kept c =
     let was = book_at books c.from-2.result c.args.file c.index_mut.result.now c.from-2.ensures within c.index_mut.ensures.value in
     kept_by_book machine (slice_set books c.from-2.result c.flock_reserve.new.self) c.args.file c.index_mut.result.now c.flock_reserve.new.self
     (ap (λ i. slice_set books i c.flock_reserve.new.self) c.from-2.ensures) within was
-    (place_taken c.index_mut.result.now c.flock_reserve.new.self c.args.description c.flock_reserve.result c.flock_reserve.ensures.ok c.flock_reserve.ensures.err)
+    (place_taken c.index_mut.result.now c.flock_reserve.new.self c.args.description c.flock_reserve.result c.flock_reserve.ensures.ok
+    c.flock_reserve.ensures.err)
 
 pub returns-in_err-flock_reserve-clause-same : goal.returns-in_err-flock_reserve-clause-same
 returns-in_err-flock_reserve-clause-same c =
@@ -25,7 +26,8 @@ returns-in_err-flock_reserve-clause-same c =
     let was = book_at books c.from-2.result c.args.file c.index_mut.result.now c.from-2.ensures within c.index_mut.ensures.value in
     same_by_book machine _ c.args.file c.index_mut.result.now c.flock_reserve.new.self
     (ap (λ i. slice_set books i c.flock_reserve.new.self) c.from-2.ensures) refl refl refl refl refl within was
-    (place_taken c.index_mut.result.now c.flock_reserve.new.self c.args.description c.flock_reserve.result c.flock_reserve.ensures.ok c.flock_reserve.ensures.err)
+    (place_taken c.index_mut.result.now c.flock_reserve.new.self c.args.description c.flock_reserve.result c.flock_reserve.ensures.ok
+    c.flock_reserve.ensures.err)
 
 pub returns-clause-mode : goal.returns-clause-mode
 unfolding machine_locks
@@ -46,4 +48,5 @@ returns-clause-same c =
     let was = book_at books c.from-2.result c.args.file c.index_mut.result.now c.from-2.ensures within c.index_mut.ensures.value in
     same_by_book machine _ c.args.file c.index_mut.result.now c.flock_reserve.new.self
     (ap (λ i. slice_set books i c.flock_reserve.new.self) c.from-2.ensures) refl refl refl refl refl within was
-    (place_taken c.index_mut.result.now c.flock_reserve.new.self c.args.description c.flock_reserve.result c.flock_reserve.ensures.ok c.flock_reserve.ensures.err)
+    (place_taken c.index_mut.result.now c.flock_reserve.new.self c.args.description c.flock_reserve.result c.flock_reserve.ensures.ok
+    c.flock_reserve.ensures.err)
