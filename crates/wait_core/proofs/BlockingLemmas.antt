@@ -98,5 +98,6 @@ list_blocks modes process owner span wanted list (Some byte) different same firs
 )
 list_blocks modes process owner span wanted list None different same first none = (
   λ yes. absurd (let no : false ≡ true = yes in cc),
-  λ blocks. absurd (none blocks.byte blocks.covered (subst (λ (held : Option Mode). HeldConflicts held wanted) (sym (same blocks.byte)) blocks.blocks.conflicts)),
+  λ blocks. absurd (none blocks.byte blocks.covered (subst (λ (held : Option Mode). HeldConflicts held wanted) (sym
+      (same blocks.byte)) blocks.blocks.conflicts)),
 )

@@ -131,7 +131,8 @@ others_left (w ∷ waits) zero p wait within is apart =
     let found : (w.p == p) ≡ true = grind (arith, nat_tests) in
     rw found (sym (all_stay waits p (λ k v inside same. apart 0 (suc k) v (omega arith) (omega (arith, inside)) (is ∙ sym same))))
 others_left (w ∷ waits) (suc place) p wait within is apart =
-    let passed : (w.p == p) ≡ false = (let other : w.p ≢ p = λ same. apart 0 (suc place) wait (omega arith) within (same ∙ sym is) in grind (arith, nat_tests)) in
+    let passed : (w.p == p) ≡ false = (let other : w.p ≢ p = λ same. apart 0 (suc place) wait (omega arith) within (same ∙ sym is) in grind
+    (arith, nat_tests)) in
     rw passed (ap (λ ws. w ∷ ws) (others_left waits place p wait (omega (arith, within)) is
     (λ j k d before last. apart (suc j) (suc k) d (omega (arith, before)) (omega (arith, last)))))
 

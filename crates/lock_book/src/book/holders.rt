@@ -179,7 +179,7 @@ impl FlockHolders {
     }
 
     /// Whether a lock of another description conflicts with one of the wanted mode. It looks for the description's own place only
-    /// where one lock conflicts, which may be its own.
+    /// where one lock conflicts that may be its own.
     pub fn blocked(&self, description: u64, wanted: Mode) -> bool
         ensures { IsTrue result
             ↔ FlockConflict (flock_modes_among self.now.places.entries) (Owner.Description description) wanted }
@@ -201,7 +201,7 @@ impl FlockHolders {
         }
     }
 
-    /// The same, by the count of all locks but the description's own.
+    /// Whether a lock of another description conflicts with one of the wanted mode, by the count of all locks but its own.
     fn blocked_by_others(&self, description: u64, wanted: Mode) -> bool
         ensures { IsTrue result
             ↔ FlockConflict (flock_modes_among self.now.places.entries) (Owner.Description description) wanted }

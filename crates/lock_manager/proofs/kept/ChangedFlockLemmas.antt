@@ -240,7 +240,7 @@ flock_frees_none books file old new description mode within was sets frees wait 
     of_family Whole h = of_mode wait.mode h
 
 -- a book in which a place was asked for, refused or not, keeps its locks
-pub place_taken : (old new : Book) (description : ℕ) (result : Result (Unit {0}) Memory) → OnOk result (ReservesFlock old new description)
+pub place_taken : (old new : Book) (description : ℕ) (result : Result (Option Mode) Memory) → OnOk result (ReservesFlock old new description)
     → OnErr result (SameBook old new)
     → KeepsLocks old new
 place_taken old new description result h h2 = grind (arith, common_steps, same_room, or_right, keeps_same)

@@ -138,11 +138,7 @@ impl Machine {
         ensures states { self.new.states ≡ self.old.states }
         ensures tables { self.new.tables ≡ self.old.tables }
     {
-        if let Some(mode) = self.books[usize::from(file)].flock_place(description) {
-            return Ok(mode);
-        }
-        self.books[usize::from(file)].flock_reserve(description)?;
-        Ok(None)
+        self.books[usize::from(file)].flock_hold(description)
     }
 
     /// The description has this flock mode from now on, in the place that is kept, or none. It takes no memory. No process

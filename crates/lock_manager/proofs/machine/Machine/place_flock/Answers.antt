@@ -12,20 +12,20 @@ invariant_of-self-clause-kept c =
     let machine = c.args.self.now in
     let books = machine.books.items in
     let within : c.args.file < length books = omega arith in
-    let was = book_at books c.from-2.result c.args.file c.index_mut.result.now c.from-2.ensures within c.index_mut.ensures.value in
-    kept_by_book machine (slice_set books c.from-2.result c.flock_reserve.new.self) c.args.file c.index_mut.result.now c.flock_reserve.new.self
-    (ap (λ i. slice_set books i c.flock_reserve.new.self) c.from-2.ensures) within was
-    (place_taken c.index_mut.result.now c.flock_reserve.new.self c.args.description c.flock_reserve.result c.flock_reserve.ensures.ok c.flock_reserve.ensures.err)
+    let was = book_at books c.from.result c.args.file c.index_mut.result.now c.from.ensures within c.index_mut.ensures.value in
+    kept_by_book machine (slice_set books c.from.result c.flock_hold.new.self) c.args.file c.index_mut.result.now c.flock_hold.new.self
+    (ap (λ i. slice_set books i c.flock_hold.new.self) c.from.ensures) within was
+    (place_taken c.index_mut.result.now c.flock_hold.new.self c.args.description c.flock_hold.result c.flock_hold.ensures.ok c.flock_hold.ensures.err)
 
-pub returns-in_err-flock_reserve-clause-same : goal.returns-in_err-flock_reserve-clause-same
-returns-in_err-flock_reserve-clause-same c =
+pub returns-in_err-flock_hold-clause-same : goal.returns-in_err-flock_hold-clause-same
+returns-in_err-flock_hold-clause-same c =
     let machine = c.args.self.now in
     let books = machine.books.items in
     let within : c.args.file < length books = omega arith in
-    let was = book_at books c.from-2.result c.args.file c.index_mut.result.now c.from-2.ensures within c.index_mut.ensures.value in
-    same_by_book machine _ c.args.file c.index_mut.result.now c.flock_reserve.new.self
-    (ap (λ i. slice_set books i c.flock_reserve.new.self) c.from-2.ensures) refl refl refl refl refl within was
-    (place_taken c.index_mut.result.now c.flock_reserve.new.self c.args.description c.flock_reserve.result c.flock_reserve.ensures.ok c.flock_reserve.ensures.err)
+    let was = book_at books c.from.result c.args.file c.index_mut.result.now c.from.ensures within c.index_mut.ensures.value in
+    same_by_book machine _ c.args.file c.index_mut.result.now c.flock_hold.new.self
+    (ap (λ i. slice_set books i c.flock_hold.new.self) c.from.ensures) refl refl refl refl refl within was
+    (place_taken c.index_mut.result.now c.flock_hold.new.self c.args.description c.flock_hold.result c.flock_hold.ensures.ok c.flock_hold.ensures.err)
 
 pub returns-clause-mode : goal.returns-clause-mode
 unfolding machine_locks
@@ -35,15 +35,15 @@ pub returns-clause-place : goal.returns-clause-place
 returns-clause-place c =
     let books = c.args.self.now.books.items in
     let within : c.args.file < length books = omega arith in
-    placed books (slice_set books c.from-2.result c.flock_reserve.new.self) c.args.file c.index_mut.result.now c.flock_reserve.new.self c.args.description
-    (ap (λ i. slice_set books i c.flock_reserve.new.self) c.from-2.ensures) within c.in_ok-flock_reserve.ensures.ok
+    placed books (slice_set books c.from.result c.flock_hold.new.self) c.args.file c.index_mut.result.now c.flock_hold.new.self c.args.description
+    (ap (λ i. slice_set books i c.flock_hold.new.self) c.from.ensures) within c.in_ok-flock_hold.ensures.ok
 
 pub returns-clause-same : goal.returns-clause-same
 returns-clause-same c =
     let machine = c.args.self.now in
     let books = machine.books.items in
     let within : c.args.file < length books = omega arith in
-    let was = book_at books c.from-2.result c.args.file c.index_mut.result.now c.from-2.ensures within c.index_mut.ensures.value in
-    same_by_book machine _ c.args.file c.index_mut.result.now c.flock_reserve.new.self
-    (ap (λ i. slice_set books i c.flock_reserve.new.self) c.from-2.ensures) refl refl refl refl refl within was
-    (place_taken c.index_mut.result.now c.flock_reserve.new.self c.args.description c.flock_reserve.result c.flock_reserve.ensures.ok c.flock_reserve.ensures.err)
+    let was = book_at books c.from.result c.args.file c.index_mut.result.now c.from.ensures within c.index_mut.ensures.value in
+    same_by_book machine _ c.args.file c.index_mut.result.now c.flock_hold.new.self
+    (ap (λ i. slice_set books i c.flock_hold.new.self) c.from.ensures) refl refl refl refl refl within was
+    (place_taken c.index_mut.result.now c.flock_hold.new.self c.args.description c.flock_hold.result c.flock_hold.ensures.ok c.flock_hold.ensures.err)

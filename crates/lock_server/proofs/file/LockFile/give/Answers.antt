@@ -18,7 +18,11 @@ returns-in-Bytes-clause-gets c = rw c.in-Bytes.is (record { bytes = c.set_reserv
 
 pub returns-in-Whole-clause-gets : goal.returns-in-Whole-clause-gets
 unfolding file_state
-returns-in-Whole-clause-gets c = rw c.in-Whole.is (record { bytes = c.flock_set_reserved.ensures.sets.bytes; flocks = c.flock_set_reserved.ensures.sets.flocks })
+returns-in-Whole-clause-gets c = rw c.in-Whole.is (record {
+  bytes = c.flock_set_reserved.ensures.sets.bytes;
+  flocks =
+      c.flock_set_reserved.ensures.sets.flocks;
+})
 
 pub invariant_of-self : goal.invariant_of-self
 unfolding file_state

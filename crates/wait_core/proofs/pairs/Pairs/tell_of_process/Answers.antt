@@ -23,11 +23,14 @@ loop-waiting-preserved c =
           let listed = λ (byte : ℕ). c.list-list.ensures byte ∙ ap (λ b. byte_modes_at b (Process q) byte)
           (book ∙ ap (slice_get books) (c.from.ensures ∙ sym (c.is_on.ensures.0 w.if-is_on.true).0)) in
           rw w.self-is (record {
-            told = before_more (TellsPair c.loop-waiting.self locks q) (TellsPair w.tell_pair.new.self locks q) On i waits _ c.requires.apart c.loop-waiting-test.true
+            told = before_more (TellsPair c.loop-waiting.self locks q) (TellsPair w.tell_pair.new.self locks q) On i waits _ c.requires.apart
+                c.loop-waiting-test.true
                 c.loop-waiting.invariant.told (w.tell_pair.ensures.told locks listed)
-                (λ v another was. tells_still c.loop-waiting.self w.tell_pair.new.self locks q v (w.tell_pair.ensures.others v.p q c.requires.few (λ same. absurd (another same))) was);
+                (λ v another was. tells_still c.loop-waiting.self w.tell_pair.new.self locks q v (w.tell_pair.ensures.others v.p q c.requires.few
+                (λ same. absurd (another same))) was);
             others = λ p r few off. w.tell_pair.ensures.others p r few
-                (λ same itself. off itself i _ c.loop-waiting-test.true (sym same) (c.is_on.ensures.0 w.if-is_on.true)) ∙ c.loop-waiting.invariant.others p r few off;
+                (λ same itself. off itself i _ c.loop-waiting-test.true (sym same) (c.is_on.ensures.0 w.if-is_on.true)) ∙
+                c.loop-waiting.invariant.others p r few off;
           })
       | else-is_on w ↦ rw w.self-is (record {
         told = before_skip (TellsPair c.loop-waiting.self locks q) On i waits _ c.loop-waiting-test.true

@@ -30,7 +30,8 @@ pub without-self-requires-clause-from_one : goal.without-self-requires-clause-fr
 unfolding waits_of
 without-self-requires-clause-from_one c =
     let self = c.args.self.now in
-    let taken = taken_at self.processes self.waits.items c.remove-wait.new.self.items c.args.p c.in_ok-place.place c.remove-wait.result self.well_formed self.apart
+    let taken = taken_at self.processes self.waits.items c.remove-wait.new.self.items c.args.p c.in_ok-place.place
+    c.remove-wait.result self.well_formed self.apart
     c.in_ok-place.ensures c.remove-wait.ensures.value c.remove-wait.ensures.items in
     let from_one = taken.1.from_one in
     let own = taken.0 in omega arith
@@ -39,7 +40,8 @@ pub without-self-requires-clause-few : goal.without-self-requires-clause-few
 unfolding waits_of
 without-self-requires-clause-few c =
     let self = c.args.self.now in
-    let taken = taken_at self.processes self.waits.items c.remove-wait.new.self.items c.args.p c.in_ok-place.place c.remove-wait.result self.well_formed self.apart
+    let taken = taken_at self.processes self.waits.items c.remove-wait.new.self.items c.args.p c.in_ok-place.place
+    c.remove-wait.result self.well_formed self.apart
     c.in_ok-place.ensures c.remove-wait.ensures.value c.remove-wait.ensures.items in
     let process = taken.1.process in
     let few = self.few in
@@ -49,7 +51,8 @@ pub invariant_of-self : goal.invariant_of-self
 unfolding waits_of
 invariant_of-self c =
     let self = c.args.self.now in
-    let taken = taken_at self.processes self.waits.items c.remove-wait.new.self.items c.args.p c.in_ok-place.place c.remove-wait.result self.well_formed self.apart
+    let taken = taken_at self.processes self.waits.items c.remove-wait.new.self.items c.args.p c.in_ok-place.place
+    c.remove-wait.result self.well_formed self.apart
     c.in_ok-place.ensures c.remove-wait.ensures.value c.remove-wait.ensures.items in
     let rest = taken.3 in
     record {
@@ -60,14 +63,16 @@ invariant_of-self c =
       known = subst (AreThoseWaiting c.without-self.result) (sym rest)
           (waiting_left self.waiting c.without-self.result self.waits.items c.args.p c.without-self.ensures self.known);
       behind_none = (λ queue i j d before within. rw rest (AllPairs-filter (IsBehindNone self.behind) (λ (wait : Wait). not (wait.p == c.args.p)) self.waits.items (self.behind_none queue) i j d before (rw rest at within)));
-      queue_told = (λ queue. ∥∥₁_map (self.queue_told queue) (λ told. subst (TellsQueue c.leave_queue.new.queue) (sym rest) (c.leave_queue.ensures queue self.waits.items told)));
+      queue_told = (λ queue. ∥∥₁_map (self.queue_told queue) (λ told. subst (TellsQueue c.leave_queue.new.queue) (sym rest)
+          (c.leave_queue.ensures queue self.waits.items told)));
     }
 
 pub returns-clause-found : goal.returns-clause-found
 unfolding waits_of
 returns-clause-found c =
     let self = c.args.self.now in
-    let taken = taken_at self.processes self.waits.items c.remove-wait.new.self.items c.args.p c.in_ok-place.place c.remove-wait.result self.well_formed self.apart
+    let taken = taken_at self.processes self.waits.items c.remove-wait.new.self.items c.args.p c.in_ok-place.place
+    c.remove-wait.result self.well_formed self.apart
     c.in_ok-place.ensures c.remove-wait.ensures.value c.remove-wait.ensures.items in
     sym taken.2
 
@@ -75,7 +80,8 @@ pub returns-clause-rest : goal.returns-clause-rest
 unfolding waits_of
 returns-clause-rest c =
     let self = c.args.self.now in
-    let taken = taken_at self.processes self.waits.items c.remove-wait.new.self.items c.args.p c.in_ok-place.place c.remove-wait.result self.well_formed self.apart
+    let taken = taken_at self.processes self.waits.items c.remove-wait.new.self.items c.args.p c.in_ok-place.place
+    c.remove-wait.result self.well_formed self.apart
     c.in_ok-place.ensures c.remove-wait.ensures.value c.remove-wait.ensures.items in
     taken.3
 
@@ -88,9 +94,11 @@ pub returns-clause-blocked : goal.returns-clause-blocked
 unfolding waits_of policy_of changed_files
 returns-clause-blocked c locks was =
     let self = c.args.self.now in
-    let taken = taken_at self.processes self.waits.items c.remove-wait.new.self.items c.args.p c.in_ok-place.place c.remove-wait.result self.well_formed self.apart
+    let taken = taken_at self.processes self.waits.items c.remove-wait.new.self.items c.args.p c.in_ok-place.place
+    c.remove-wait.result self.well_formed self.apart
     c.in_ok-place.ensures c.remove-wait.ensures.value c.remove-wait.ensures.items in
     record {
       blocked = subst (AllBlockedElsewhere c.with-self.result self.policy locks []) (sym taken.3)
-          (elsewhere_without self.changed c.with-self.result self.policy locks self.waits.items c.args.p c.remove-wait.result self.apart taken.2 c.with-self.ensures was.blocked);
+          (elsewhere_without self.changed c.with-self.result self.policy locks self.waits.items c.args.p c.remove-wait.result self.apart taken.2
+          c.with-self.ensures was.blocked);
     }
