@@ -1,5 +1,6 @@
 use Rattle.std.proofs.lemmas.Grind.{common_steps}
 use Rattle.std.proofs.Common.{◌<◌, ap, refl, length, arith, slice_set}
+use Rattle.std.proofs.lemmas.Result.{on_ok_weaker}
 use Rattle.lock_manager.specs.MachineView.{machine_locks}
 use Rattle.lock_manager.proofs.kept.BookLemmas.{book_at}
 use Rattle.lock_manager.proofs.kept.ChangedFlockLemmas.{place_taken, placed}
@@ -17,16 +18,6 @@ invariant_of-self-clause-kept c =
     (ap (λ i. slice_set books i c.flock_hold.new.self) c.from.ensures) within was
     (place_taken c.index_mut.result.now c.flock_hold.new.self c.args.description c.flock_hold.result c.flock_hold.ensures.ok c.flock_hold.ensures.err)
 
-pub returns-in_err-flock_hold-clause-same : goal.returns-in_err-flock_hold-clause-same
-returns-in_err-flock_hold-clause-same c =
-    let machine = c.args.self.now in
-    let books = machine.books.items in
-    let within : c.args.file < length books = omega arith in
-    let was = book_at books c.from.result c.args.file c.index_mut.result.now c.from.ensures within c.index_mut.ensures.value in
-    same_by_book machine _ c.args.file c.index_mut.result.now c.flock_hold.new.self
-    (ap (λ i. slice_set books i c.flock_hold.new.self) c.from.ensures) refl refl refl refl refl within was
-    (place_taken c.index_mut.result.now c.flock_hold.new.self c.args.description c.flock_hold.result c.flock_hold.ensures.ok c.flock_hold.ensures.err)
-
 pub returns-clause-mode : goal.returns-clause-mode
 unfolding machine_locks
 returns-clause-mode c = grind (arith, common_steps, book_at)
@@ -35,8 +26,9 @@ pub returns-clause-place : goal.returns-clause-place
 returns-clause-place c =
     let books = c.args.self.now.books.items in
     let within : c.args.file < length books = omega arith in
-    placed books (slice_set books c.from.result c.flock_hold.new.self) c.args.file c.index_mut.result.now c.flock_hold.new.self c.args.description
-    (ap (λ i. slice_set books i c.flock_hold.new.self) c.from.ensures) within c.in_ok-flock_hold.ensures.ok
+    on_ok_weaker c.flock_hold.result
+    (placed books (slice_set books c.from.result c.flock_hold.new.self) c.args.file c.index_mut.result.now c.flock_hold.new.self c.args.description
+    (ap (λ i. slice_set books i c.flock_hold.new.self) c.from.ensures) within) c.flock_hold.ensures.ok
 
 pub returns-clause-same : goal.returns-clause-same
 returns-clause-same c =
