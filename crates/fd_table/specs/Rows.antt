@@ -1,5 +1,5 @@
 -- Rows of slab keys: one row for each process, one place in it for each descriptor (this project's choice).
-use Rattle.std.specs.Prelude.{◌≡◌, ℕ, ◌<◌, ◌==◌, ◌&&◌, nat_lt, IsSome, Bool, false, Option, Some, None, List, [], length, slice_index_or, slice_set, sum_by, count_by, replicate, if◌then◌else◌}
+use Rattle.std.specs.Prelude.{◌≡◌, ℕ, ◌<◌, ◌≤◌, ◌==◌, ◌&&◌, nat_lt, IsSome, Bool, false, Option, Some, None, List, [], length, slice_index_or, slice_set, sum_by, count_by, replicate, if◌then◌else◌}
 
 -- the keys that the descriptors of one process refer to, by their numbers
 abbrev pub Keys : Type 0
@@ -47,6 +47,11 @@ pub record IsLowestClosed (row : Keys) (fd : ℕ) : Type 0 where
 -- each descriptor of the row is open
 abbrev pub AreAllOpen : Keys → Type 0
 AreAllOpen row = (fd : ℕ) → fd < length row → IsSome (slice_index_or row fd None)
+
+-- the row has so many descriptors at least, and these, its lowest, are open
+pub record AreOpenBelow (row : Keys) (open_below : ℕ) : Type 0 where
+  pub within : open_below ≤ length row
+  pub opened : (fd : ℕ) → fd < open_below → IsSome (slice_index_or row fd None)
 
 -- the place is that of this descriptor
 abbrev pub is_place : ℕ → ℕ → ℕ → ℕ → Bool

@@ -1,6 +1,6 @@
 //! The descriptors of one process.
-ghost use Rattle.std.specs.Prelude.{ℕ, ◌≡◌, ◌<◌, ◌+◌, ◌==◌, IfOk, IfSome, IfNone, Some, None, [], length, slice_index_or, slice_set, replicate};
-ghost use Rattle.fd_table.specs.Rows.{row_at, with_key, opening_row, IsLowestClosed, AreAllOpen};
+ghost use Rattle.std.specs.Prelude.{ℕ, ◌≡◌, ◌<◌, ◌+◌, ◌^◌, ◌==◌, IfOk, IfSome, IfNone, Some, None, [], length, slice_index_or, slice_set, replicate};
+ghost use Rattle.fd_table.specs.Rows.{row_at, with_key, opening_row, IsLowestClosed, AreAllOpen, AreOpenBelow, Keys};
 
 use std::alloc::{AllocError, Global};
 use std::marker::Model;
@@ -10,14 +10,19 @@ use std::marker::Model;
 #[derive(Drop)]
 pub(crate) struct Row {
     keys: Vec<Option<usize>>,
+    /// The descriptors below this one are open, so the lowest closed one is looked for from here on.
+    open_below: usize,
 }
 
 impl Model for Row {
     ghost use Rattle.std.specs.Prelude.{Option, List, ℕ};
+    ghost use Rattle.fd_table.specs.Rows.{AreOpenBelow};
 
     ghost Value = { List (Option ℕ) };
 
     ghost view = { λ row. row.keys.items };
+
+    ghost invariant = { λ row. AreOpenBelow row.keys.items row.open_below };
 }
 
 impl Row {
@@ -27,6 +32,7 @@ impl Row {
     {
         Row {
             keys: Vec::new(alloc),
+            open_below: 0,
         }
     }
 
@@ -35,7 +41,10 @@ impl Row {
         ensures { IfOk result (λ row. row ≡ replicate len None) }
     {
         let keys = vec![in alloc; None; len]?;
-        Ok(Row { keys })
+        Ok(Row {
+            keys,
+            open_below: 0,
+        })
     }
 
     /// An equal row.
@@ -43,7 +52,10 @@ impl Row {
         ensures { IfOk result (λ row. row ≡ self.now) }
     {
         let keys = Vec::from_slice(*self.keys.allocator(), &self.keys)?;
-        Ok(Row { keys })
+        Ok(Row {
+            keys,
+            open_below: self.open_below,
+        })
     }
 
     pub(crate) fn len(&self) -> usize
@@ -71,6 +83,7 @@ impl Row {
         ensures { self.new ≡ slice_set self.old fd key }
     {
         self.keys[fd] = key;
+        self.open_below = open_below_after(self.open_below, fd, key);
     }
 
     /// The lowest closed descriptor, if there is one.
@@ -78,7 +91,24 @@ impl Row {
         ensures some { IfSome result (IsLowestClosed self.now) }
         ensures none { IfNone result (AreAllOpen self.now) }
     {
-        self.keys.iter().position(|key| key.is_none())
+        for fd in self.open_below..self.keys.len() {
+            if self.keys[fd].is_none() {
+                return Some(fd);
+            }
+        }
+        None
+    }
+}
+
+/// Below which descriptor all are open, once this one refers to this key or is closed.
+fn open_below_after(open_below: usize, fd: usize, key: Option<usize>) -> usize
+    requires { fd < 2 ^ 63 }
+    ensures { (row : Keys) → fd < length row → AreOpenBelow row open_below → AreOpenBelow (slice_set row fd key) result }
+{
+    match key {
+        None => open_below.min(fd),
+        Some(_) if fd == open_below => fd + 1,
+        Some(_) => open_below,
     }
 }
 
