@@ -75,14 +75,14 @@ pub counted_others : (mode : Mode) (description : ℕ) (own : Option Mode) (plac
     → rest ≡ locks_among mode (others description places)
 counted_others mode description own places all rest is counted left = grind (arith, common_steps, count_apart)
 
--- with a lock in a place that is added it is the count of the new places
-pub counted_added : (mode : Mode) (description : ℕ) (lock : Option Mode) (old new : Places) (all : ℕ)
-    → IsStrictlySortedBy nat_cmp (keys_of old) → new ≡ insert_entry nat_cmp old description lock → place_among old description ≡ None
-    → all ≡ locks_among mode old → all + locks_in mode lock ≡ locks_among mode new
-counted_added mode description lock old new all sorted put absent counted =
+-- with what is put into its place it is the count of the new places
+pub counted_put : (mode : Mode) (description : ℕ) (before lock : Option Mode) (old new : Places) (all rest : ℕ)
+    → IsStrictlySortedBy nat_cmp (keys_of old) → new ≡ insert_entry nat_cmp old description lock → before ≡ flock_modes_among old description
+    → all ≡ locks_among mode old → rest + locks_in mode before ≡ all → rest + locks_in mode lock ≡ locks_among mode new
+counted_put mode description before lock old new all rest sorted put is counted left =
     let sum = count_put mode description lock old sorted in
-    let none : locks_in mode (flock_modes_among old description) ≡ 0 = ap (λ (place : Option (Option Mode)). locks_in mode (mode_in_place place)) absent in
-    rw put (omega (arith, sum, none, counted))
+    let own : locks_in mode before ≡ locks_in mode (flock_modes_among old description) = ap (locks_in mode) is in
+    rw put (omega (arith, sum, own, counted, left))
 
 -- and so it is with a lock written over one
 pub counted_written : (mode : Mode) (description : ℕ) (before lock : Option Mode) (old new : BTreeMap ℕ (Option Mode)) (all rest : ℕ)

@@ -1,5 +1,5 @@
 //! Setting, reserving and releasing whole-file locks.
-ghost use Rattle.std.specs.Prelude.{ℕ, ◌≡◌, ◌↔◌, IsTrue, IsSome, IfOk, IsOk, OnOk, OnErr, is_some};
+ghost use Rattle.std.specs.Prelude.{ℕ, ◌≡◌, ◌↔◌, IsTrue, IsSome, IsOk, OnOk, OnErr, is_some};
 ghost use Rattle.std.specs.Option.{option_flatten};
 ghost use Rattle.lock_book.specs.Conflicts.{FlockConflict};
 ghost use Rattle.lock_book.specs.Books.{flock_modes_of, has_flock_place, ReleasesFlock, ReservesFlock, SameBook, SetsFlock};
@@ -52,8 +52,10 @@ impl Book {
         ensures removal { mode ≡ None → IsOk result }
         ensures err { OnErr result (SameBook self.old self.new) }
     {
-        if self.flocks.replace(description, mode).is_none() && mode.is_some() {
-            self.flocks.add(description, mode)?;
+        if mode.is_some() {
+            self.flocks.put(description, mode)?;
+        } else {
+            self.flocks.replace(description, None);
         }
         Ok(())
     }
@@ -66,22 +68,10 @@ impl Book {
         ensures there { IsTrue (has_flock_place self.old description) → IsOk result }
         ensures err { OnErr result (SameBook self.old self.new) }
     {
-        self.flock_hold(description)?;
-        Ok(())
-    }
-
-    /// The same, and tells the flock mode of the description, as [`Book::flock_mode`] does.
-    pub fn flock_hold(&mut self, description: u64) -> Result<Option<Mode>, Memory>
-        ensures ok { OnOk result (ReservesFlock self.old self.new description) }
-        ensures mode { IfOk result (λ mode. mode ≡ flock_modes_of self.old description) }
-        ensures there { IsTrue (has_flock_place self.old description) → IsOk result }
-        ensures err { OnErr result (SameBook self.old self.new) }
-    {
-        if let Some(mode) = self.flock_place(description) {
-            return Ok(mode);
+        if !self.flock_room(description) {
+            self.flocks.put(description, None)?;
         }
-        self.flocks.add(description, None)?;
-        Ok(None)
+        Ok(())
     }
 
     /// Whether a place is kept for the flock lock of the description. It takes no memory.

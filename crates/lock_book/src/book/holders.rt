@@ -1,5 +1,5 @@
 //! The whole-file locks of a file by description, counted by mode.
-ghost use Rattle.std.specs.Prelude.{ℕ, ◌≡◌, ◌+◌, ◌^◌, ◌<◌, ◌≤◌, ◌↔◌, IsTrue, IsSome, None, Option, Some, OnOk, OnErr};
+ghost use Rattle.std.specs.Prelude.{ℕ, ◌≡◌, ◌+◌, ◌^◌, ◌<◌, ◌≤◌, ◌↔◌, IsTrue, IsSome, IsOk, None, Option, Some, OnOk, OnErr};
 ghost use Rattle.std.specs.BTreeMap.{IsOrdered};
 ghost use Rattle.std.specs.Ordering.{nat_cmp};
 ghost use Rattle.std.proofs.Props.{props};
@@ -108,11 +108,25 @@ impl FlockHolders {
         }
     }
 
-    /// The place of the description.
+    /// The place of the description. One that is newer than all that have a place, as a description at its first lock mostly is,
+    /// isn't searched for.
     pub fn place(&self, description: u64) -> Option<Option<Mode>>
         ensures { result ≡ place_among self.now.places.entries description }
     {
+        if self.is_beyond_all(description) {
+            return None;
+        }
         self.places.get(&description).copied()
+    }
+
+    /// Whether each description that has a place is of a lower number.
+    fn is_beyond_all(&self, description: u64) -> bool
+        ensures { IsTrue result → place_among self.now.places.entries description ≡ None }
+    {
+        match self.places.last_key_value() {
+            Some((last, _)) => *last < description,
+            None => true,
+        }
     }
 
     /// All places, by description.
@@ -122,18 +136,18 @@ impl FlockHolders {
         &self.places
     }
 
-    /// Adds a place for the description, which has none, with this mode in it.
+    /// Puts the mode into the place of the description, which is made where there is none.
     ///
-    /// `Memory` leaves the places as they were.
-    pub fn add(&mut self, description: u64, mode: Option<Mode>) -> Result<(), Memory>
-        requires { place_among self.old.places.entries description ≡ None }
+    /// `Memory`, which never comes where that place is there, leaves the places as they were.
+    pub fn put(&mut self, description: u64, mode: Option<Mode>) -> Result<(), Memory>
         ensures ok { OnOk result (PutsAmong self.old.places.entries self.new.places.entries description (Some mode)) }
+        ensures there { IsSome (place_among self.old.places.entries description) → IsOk result }
         ensures err { OnErr result (self.new.places.entries ≡ self.old.places.entries) }
     {
-        self.places.insert(description, mode)?;
+        let before = self.places.insert(description, mode)?.flatten();
         // A count is at most the number of places.
         prove!(self.places.len() < usize::MAX);
-        self.locks = self.locks.with(mode);
+        self.locks = self.locks.without(before).with(mode);
         self.latest = latest_after(self.latest, description, mode);
         Ok(())
     }

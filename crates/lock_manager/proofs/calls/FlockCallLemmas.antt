@@ -93,6 +93,16 @@ pub flock_waiting : (old new : Machine) (nb : Bool) (wanted : Wait) → nb ≡ f
     → TestTells old new nb wanted (Waits wanted.p wanted.n)
 flock_waiting old new nb wanted h h2 h3 h4 h5 h6 = search (rules, at_state, is_blocked)
 
+-- a place that is kept first changes nothing of that
+pub flock_placed : (old middle new : Machine) (nb : Bool) (wanted : Wait) (note : Note) → SameMachine old middle → TestTells middle new nb wanted note
+    → TestTells old new nb wanted note
+flock_placed old middle new nb wanted note same tests grants S h =
+    let tested = tests grants S (same.shows S h) in (
+      tested.0,
+      subst (λ (rs : Rules). FlockTestComesTo rs S nb wanted grants (record { told = note ∷ grants; after = tested.0 })) same.rules tested.1,
+      tested.2,
+    )
+
 -- a conversion: what the removal, the settling and the test come to
 pub converted : (old removed settled new : Machine) (nb : Bool) (look : Look) (wanted : Wait) (note : Note) (grants told : List Note)
     → machine_rules removed ≡ machine_rules old → machine_rules settled ≡ machine_rules removed
@@ -119,18 +129,17 @@ pub first_set : (a b : Note) (grants items : List Note) → items ≡ (a ∷ [])
 first_set a b grants items is = ap (λ notes. slice_set notes 0 b) is
 
 -- without a lock the request is tested at once
-pub flock_tested : (old middle new : Machine) (nb : Bool) (look : Look) (wanted : Wait) (note : Note) (mode : Option Mode) (told : List Note)
-    → mode ≡ (machine_locks old).flocks look.file look.desc → mode ≡ None → SameMachine old middle
-    → TestTells middle new nb wanted note → told ≡ note ∷ []
+pub flock_tested : (old new : Machine) (nb : Bool) (look : Look) (wanted : Wait) (note : Note) (mode : Option Mode) (told : List Note)
+    → mode ≡ (machine_locks old).flocks look.file look.desc → mode ≡ None
+    → TestTells old new nb wanted note → told ≡ note ∷ []
     → (S : State) → Shows old S
     → (T : State) × FlockModeComesTo (machine_rules old) S look nb wanted (flock_mode_in S.flock_changes look.file look.desc)
     (record { told = told; after = T }) × Shows new T
-flock_tested old middle new nb look wanted note mode told is none same tests told_is S h =
-    let tested = tests [] S (same.shows S h) in (
+flock_tested old new nb look wanted note mode told is none tests told_is S h =
+    let tested = tests [] S h in (
       tested.0,
       subst (λ held. FlockModeComesTo (machine_rules old) S look nb wanted held (record { told = told; after = tested.0 }))
           (sym none ∙ is ∙ h.flocks look.file look.desc)
-          (subst (λ t. FlockTestComesTo (machine_rules old) S nb wanted [] (record { told = t; after = tested.0 })) (sym told_is)
-          (subst (λ (rs : Rules). FlockTestComesTo rs S nb wanted [] (record { told = note ∷ []; after = tested.0 })) same.rules tested.1)),
+          (subst (λ t. FlockTestComesTo (machine_rules old) S nb wanted [] (record { told = t; after = tested.0 })) (sym told_is) tested.1),
       tested.2,
     )

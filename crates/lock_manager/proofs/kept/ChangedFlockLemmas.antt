@@ -1,6 +1,7 @@
--- What holds of the machine after a change of one flock lock: for `Machine::change_flock`, `Machine::place_flock` and `Machine::test_flock`.
+-- What holds of the machine after a change of one flock lock: for `Machine::begin_flock`, `Machine::change_flock`, `Machine::place_flock` and
+-- `Machine::test_flock`.
 use Rattle.std.proofs.lemmas.Grind.{common_steps}
-use Rattle.std.proofs.Common.{ℕ, ◌≡◌, ◌≢◌, ◌<◌, ◌≤◌, ◌⊎◌, inl, inr, refl, sym, ◌∙◌, ap, subst, List, [], ◌∷◌, ◌++◌, length, Some, None, Option, Bool, true, false, arith, Result, OnOk, OnErr, slice_get, slice_set, ◌==◌, ◌&&◌, if◌then◌else◌}
+use Rattle.std.proofs.Common.{ℕ, ◌≡◌, ◌≢◌, ◌<◌, ◌≤◌, ◌⊎◌, inl, inr, refl, sym, ◌∙◌, ap, subst, List, [], ◌∷◌, ◌++◌, length, Some, None, Option, Bool, true, false, arith, Result, Ok, Err, OnOk, OnErr, slice_get, slice_set, ◌==◌, ◌&&◌, if◌then◌else◌}
 use Rattle.std.proofs.Math.Logic.{∥∥₁_map, ∥∥₁_elim}
 use Rattle.std.proofs.lemmas.Bool.{eqb-true, or_right, and_parts}
 use Rattle.std.proofs.lemmas.Bool.Decides.{eqb_tells}
@@ -35,8 +36,8 @@ use Rattle.lock_manager.specs.WaitsKept.{AreKept, AreApart, HaveRoom, has_place_
 use Rattle.lock_manager.proofs.kept.BookLemmas.{slice_get-set, slice_get-set_same, entry_is, same_bytes, flock_mode_from-append}
 use Rattle.lock_manager.proofs.kept.SafetyLemmas.{conflict_back, same_owner}
 use Rattle.lock_manager.proofs.kept.OwnedLemmas.{none_but_set}
-use Rattle.lock_manager.proofs.kept.WaitLemmas.{told_by_bytes, room_with, same_room, KeepsLocks, keeps_same}
-use Rattle.lock_manager.proofs.kept.SuspendLemmas.{counted}
+use Rattle.lock_manager.proofs.kept.WaitLemmas.{told_by_bytes, room_with, same_room, KeepsLocks, keeps_same, elsewhere_still}
+use Rattle.lock_manager.proofs.kept.SuspendLemmas.{counted, kept_by_book}
 use Rattle.std.proofs.lemmas.List.Folds.{list_any-append}
 use Rattle.wait_core.specs.declared.Family.{Family}
 use Rattle.wait_core.specs.declared.Family.TheVariants.{Bytes, Whole}
@@ -163,6 +164,10 @@ unfolding machine_locks machine_state machine_waits
 with_flock_change old new S file book changed description mode books tables states within was sets waits h =
     grind (arith, common_steps, flock_set_bytes, flock_set_flocks, flock_mode_from-push)
 
+-- of one mode there is one
+some_same : (mode k : Mode) → Some mode ≡ Some k → mode ≡ k
+some_same mode k same = grind (arith, common_steps)
+
 -- a lock that conflicts still stands where what changes didn't conflict
 conflict_still : (is_it : Bool) (mode held : Option Mode) (wanted : Mode) → (is_it ≡ true → ¬ HeldConflicts held wanted) → HeldConflicts held wanted
     → HeldConflicts (if is_it then mode else held) wanted
@@ -239,8 +244,28 @@ flock_frees_none books file old new description mode within was sets frees wait 
     }
     of_family Whole h = of_mode wait.mode h
 
+-- what holds of the machine holds after a description without a lock was to have one that nothing blocks, which was refused or not
+pub kept_by_first_flock : FreeWhenDescriptionLocksChange
+    → (m : Machine) (books : List Book) (file : ℕ) (old new : Book) (description : ℕ) (mode : Mode) (result : Result (Unit {0}) Memory)
+    → books ≡ slice_set m.books.items file new → file < length m.books.items → slice_get m.books.items file ≡ Some old
+    → MayLock m.tables file (Description description)
+    → ¬ FlockConflict ((locks_of m.books.items).flocks file) (Description description) mode
+    → (locks_of m.books.items).flocks file description ≡ None
+    → OnOk result (SetsFlock old new description (Some mode)) → OnErr result (SameBook old new)
+    → AreKept m.rules.policy m.tables books m.waits
+kept_by_first_flock all m books file old new description mode (Ok unit) is within was may free none sets same =
+    let before = m.books.items in
+    let absent : flock_modes_of old description ≡ None = rw was at none in
+    kept_by_flock all m books m.waits file old new description (Some mode) is within was may
+    (λ k same. subst (λ k. ¬ FlockConflict ((locks_of before).flocks file) (Description description) k) (some_same mode k same) free)
+    sets (record { waits = refl; policy = refl; processes = refl }) (λ locks told. told)
+    (elsewhere_still m.waits (locks_of before) (locks_of (slice_set before file new))
+    (flock_frees_none before file old new description (Some mode) within was sets (inl absent)))
+kept_by_first_flock all m books file old new description mode (Err memory) is within was may free none sets same =
+    kept_by_book m books file old new is within was (keeps_same old new same)
+
 -- a book in which a place was asked for, refused or not, keeps its locks
-pub place_taken : (old new : Book) (description : ℕ) (result : Result (Option Mode) Memory) → OnOk result (ReservesFlock old new description)
+pub place_taken : (old new : Book) (description : ℕ) (result : Result (Unit {0}) Memory) → OnOk result (ReservesFlock old new description)
     → OnErr result (SameBook old new)
     → KeepsLocks old new
 place_taken old new description result h h2 = grind (arith, common_steps, same_room, or_right, keeps_same)

@@ -1,5 +1,5 @@
 //! flock.
-ghost use Rattle.std.specs.Prelude.{ℕ, ◌≡◌, ◌<◌, ◌≤◌, ◌+◌, ◌++◌, ◌↔◌, ◌⊎◌, Some, List, [], ◌∷◌, true, false, length, vec_capacity, slice_get, IfOk, OnOk, OnErr, IsTrue, IsFalse, IsSome};
+ghost use Rattle.std.specs.Prelude.{ℕ, ◌≡◌, ◌<◌, ◌≤◌, ◌+◌, ◌++◌, ◌↔◌, ◌⊎◌, Some, None, List, [], ◌∷◌, true, false, length, vec_capacity, slice_get, IfOk, OnOk, OnErr, IsTrue, IsFalse, IsSome};
 ghost use Rattle.fd_table.specs.declared.TheConstants.{FILES};
 ghost use Rattle.range_core.specs.declared.Mode.{Mode};
 ghost use Rattle.lock_book.specs.Changes.{flock_mode_in};
@@ -74,8 +74,8 @@ impl Machine {
         ensures memory { OnErr result (SameMachine self.old self.new) }
         ensures same_rules { SameRules self.old self.new }
     {
-        let Some(held) = self.place_flock(look.file, look.desc)? else {
-            notes.push_reserved(self.test_flock(look, nb, wanted));
+        let Some(held) = self.held_flock(look.file, look.desc) else {
+            notes.push_reserved(self.first_flock(look, nb, wanted)?);
             return Ok(());
         };
         if held == wanted.mode {
@@ -84,6 +84,40 @@ impl Machine {
             self.convert_flock(look, nb, wanted, notes);
         }
         Ok(())
+    }
+
+    /// The request of a description that has no lock. A place is kept for the lock of one that waits.
+    fn first_flock(&mut self, look: Look, nb: bool, wanted: Wait) -> Result<Note, Memory>
+        requires asked { IsFlockAsked self.old look wanted }
+        requires none { (machine_locks self.old).flocks look.file look.desc ≡ None }
+        ensures told { IfOk result (λ note. (grants : List Note) (S : State) → Shows self.old S →
+            (T : State) × FlockTestComesTo (machine_rules self.old) S nb wanted grants (record { told = note ∷ grants; after = T }) × Shows self.new T) }
+        ensures few { length (machine_waits self.new) ≤ length (machine_waits self.old) + 1 }
+        ensures memory { OnErr result (SameMachine self.old self.new) }
+        ensures same_rules { SameRules self.old self.new }
+    {
+        if !self.is_blocked(!nb, &wanted) {
+            self.begin_flock(look.file, look.desc, wanted.mode)?;
+            return Ok(answered(wanted.p, wanted.n, Reply::Ok));
+        }
+        self.place_flock(look.file, look.desc)?;
+        Ok(self.test_flock(look, nb, wanted))
+    }
+
+    /// The description, which has no lock, has one of this mode from now on, so nobody can be free then who was blocked.
+    fn begin_flock(&mut self, file: u8, description: u64, mode: Mode) -> Result<(), Memory>
+        requires file { file < FILES }
+        requires owner { MayLock self.old.tables file (Owner.Description description) }
+        requires none { (machine_locks self.old).flocks file description ≡ None }
+        requires free { ¬ FlockConflict ((machine_locks self.old).flocks file) (Owner.Description description) mode }
+        ensures ok { OnOk result ((S : State) → Shows self.old S → Shows self.new (with_flock_mode S file description (Some mode))) }
+        ensures memory { OnErr result (SameMachine self.old self.new) }
+        ensures waits { machine_waits self.new ≡ machine_waits self.old }
+        ensures same_rules { SameRules self.old self.new }
+    {
+        // A law, and nothing to run.
+        stay_free_of_cycles();
+        self.books[usize::from(file)].flock_set(description, Some(mode))
     }
 
     /// A conversion: the old lock is removed, the waits are settled, and then the request is tested (flock(2), "converting
@@ -129,16 +163,24 @@ impl Machine {
         Note::Waits { p, n }
     }
 
-    /// Keeps a place for the flock lock of the description, and tells the mode that stands there.
-    fn place_flock(&mut self, file: u8, description: u64) -> Result<Option<Mode>, Memory>
+    /// The flock mode of the description, for whose lock a place is kept.
+    fn held_flock(&self, file: u8, description: u64) -> Option<Mode>
         requires file { file < FILES }
-        ensures mode { IfOk result (λ mode. mode ≡ (machine_locks self.old).flocks file description) }
+        ensures mode { result ≡ (machine_locks self.now).flocks file description }
+        ensures place { IsSome result → has_place_at (slice_get self.now.books.items file) description ≡ true }
+    {
+        self.books[usize::from(file)].flock_mode(description)
+    }
+
+    /// Keeps a place for the flock lock of the description.
+    fn place_flock(&mut self, file: u8, description: u64) -> Result<(), Memory>
+        requires file { file < FILES }
         ensures place { OnOk result (has_place_at (slice_get self.new.books.items file) description ≡ true) }
         ensures same { SameMachine self.old self.new }
         ensures states { self.new.states ≡ self.old.states }
         ensures tables { self.new.tables ≡ self.old.tables }
     {
-        self.books[usize::from(file)].flock_hold(description)
+        self.books[usize::from(file)].flock_reserve(description)
     }
 
     /// The description has this flock mode from now on, in the place that is kept, or none. It takes no memory. No process

@@ -1,4 +1,4 @@
-use Rattle.std.proofs.Common.{◌≡◌, ◌<◌, ◌∙◌, sym, ap, subst, refl, length, true, arith, slice_get, slice_set}
+use Rattle.std.proofs.Common.{◌≡◌, ◌<◌, sym, ap, subst, refl, length, true, arith, slice_get, slice_set}
 use Rattle.lock_book.specs.Books.{SetsFlock}
 use Rattle.lock_manager.specs.WaitsKept.{FreesNobody, has_place_at}
 use Rattle.lock_manager.specs.MachineView.{machine_locks, machine_state}
