@@ -1,4 +1,4 @@
--- Who blocks a lock, read off the lists of owners: for `blocked`, `process_blocks` and `blocking_processes`.
+-- Who blocks a lock, read off the lists of owners: for `blocked`, `first_hit` and `process_blocks`.
 use Rattle.std.proofs.Common.{rules, ℕ, ◌≡◌, ◌≢◌, ◌<◌, ◌≤◌, ◌↔◌, ◌∙◌, sym, ap, refl, subst, arith, true, false, Option, Some, None, List, [], ◌∷◌, ◌++◌, All, Any, map}
 use Rattle.std.proofs.lemmas.Grind.{common_steps}
 use Rattle.std.specs.Prelude.{is_some, nat_lt, IsTrue, IfSome, IfNone, MatchOption}
@@ -63,6 +63,9 @@ module _ (modes : ByteModes) (owner : Owner) (span : Span) (wanted : Mode) where
 
   pub never_from_none : (other : Owner) → ((byte : ℕ) → Covers span byte → ¬ HeldConflicts (modes other byte) wanted) → NeverBlocks other
   never_from_none other none byte covered blocks = none byte covered blocks.conflicts
+
+  pub never_without_modes : (other : Owner) → ((byte : ℕ) → modes other byte ≡ None) → NeverBlocks other
+  never_without_modes other free byte covered blocks = rw (free byte) at blocks.conflicts
 
   pub never_itself : (other : Owner) → other ≡ owner → NeverBlocks other
   never_itself other same byte covered blocks = blocks.another same

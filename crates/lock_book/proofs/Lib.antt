@@ -7,7 +7,6 @@ pub mod HeldLemmas
 pub mod HolderLemmas
 pub mod ListLemmas
 pub mod LoopLemmas
-pub mod MarkLemmas
 pub mod OwnerLemmas
 pub mod ReportLaws
 pub mod RunLemmas

@@ -1,4 +1,4 @@
--- What a loop over a map gives, in order, of any keys and values: for `held`, `blocking_processes` and `first_blocker`.
+-- What a loop over a map gives, in order, of any keys and values: for `held` and `first_blocker`.
 use Rattle.std.proofs.Common.{◌≡◌, ◌∙◌, sym, ap, subst, Bool, true, Option, Some, List, [], ◌∷◌, ◌++◌, All, length, map, ◌<◌, arith}
 use Rattle.std.specs.List.{AllByRecursion}
 use Rattle.std.specs.List.Sorted.{IsStrictlySortedBy}

@@ -1,4 +1,4 @@
--- The order and the equality that are derived on owners are those of the definition: for `Book::blocked`, `Book::blocking_processes`,
+-- The order and the equality that are derived on owners are those of the definition: for `Book::blocked`,
 -- `Book::first_hit` and `Book::process_blocks`.
 use Rattle.std.proofs.Common.{ℕ, ◌≡◌, ◌≢◌, ◌<◌, ◌==◌, ◌∙◌, sym, subst, refl, arith, Bool, true, false, List, [], ◌∷◌}
 use Rattle.std.specs.Ordering.{is_eq, nat_cmp}

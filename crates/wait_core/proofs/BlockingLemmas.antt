@@ -1,9 +1,8 @@
--- Who blocks a wait: sets of processes, and what one process more, or one wait more, makes of them, and a process by its list; for
+-- Who blocks a wait: sets of processes, and what one wait more makes of them, and a process by its list; for
 -- `Wait::blocking_by_lock`, `Wait::blocking_by_wait` and `Wait::is_blocked_by_list`.
-use Rattle.std.proofs.lemmas.Grind.{common_steps}
-use Rattle.std.proofs.Common.{ℕ, ◌≡◌, ◌≢◌, ◌+◌, ◌<◌, ◌≤◌, ◌↔◌, ◌∙◌, inl, inr, sym, refl, subst, arith, Bool, true, false, Option, Some, None, List, [], ◌∷◌, Any, length, get_or, take}
-use Rattle.std.specs.Prelude.{IsTrue, IsFalse, IfSome, IfNone, is_some, ◌==◌, ◌||◌}
-use Rattle.std.proofs.lemmas.Bool.{cases_eq, eqb-true, eq-eqb, or_left, or_right}
+use Rattle.std.proofs.Common.{ℕ, ◌≡◌, ◌≢◌, ◌+◌, ◌<◌, ◌↔◌, ◌∙◌, inl, inr, sym, refl, subst, arith, Bool, true, false, Option, Some, None, List, [], ◌∷◌, Any, length, get_or, take}
+use Rattle.std.specs.Prelude.{IsTrue, IfSome, IfNone, is_some, ◌==◌, ◌||◌}
+use Rattle.std.proofs.lemmas.Bool.{eqb-true, eq-eqb, or_left, or_right}
 use Rattle.std.proofs.lemmas.Bool.Decides.{nat_tests}
 use Rattle.std.proofs.lemmas.List.{take_more}
 use Rattle.range_core.specs.declared.Mode.{Mode}
@@ -30,16 +29,6 @@ inserted_same old new p members = members p ∙ or_left (p == p) (is_member old 
 pub inserted_other : (old new : ProcessSet) (p : ℕ) → ((q : ℕ) → is_member new q ≡ (q == p || is_member old q)) → (q : ℕ) → q ≢ p
     → is_member new q ≡ is_member old q
 inserted_other old new p members q other = let no : (q == p) ≡ false = grind (arith, nat_tests) in members q ∙ rw no refl
-
--- one process more is told
-pub told_more : (P : ℕ → Type 0) (old new : ProcessSet) (i : ℕ) → ((q : ℕ) → q ≢ i → is_member new q ≡ is_member old q) → IsTrue (is_member new i) ↔ P i
-    → ((q : ℕ) → 1 ≤ q → q < i → IsTrue (is_member old q) ↔ P q) → (q : ℕ) → 1 ≤ q → q < i + 1 → IsTrue (is_member new q) ↔ P q
-told_more P old new i others here before q one few = grind (arith, common_steps, cases_eq)
-
--- and those after it aren't in the set yet
-pub missing_more : (old new : ProcessSet) (i : ℕ) → ((q : ℕ) → q ≢ i → is_member new q ≡ is_member old q)
-    → ((q : ℕ) → i ≤ q → IsFalse (is_member old q)) → (q : ℕ) → i + 1 ≤ q → IsFalse (is_member new q)
-missing_more old new i others after q past = others q (λ same. omega arith) ∙ after q (omega arith)
 
 module _ (wait : Wait) (waits : List Wait) (i : ℕ) (d : Wait) (within : i < length waits) where
   -- one wait more, which is a traditional one in conflict with the wait

@@ -4,6 +4,7 @@ pub mod BlockingLemmas
 pub mod CycleLaws
 pub mod DecideLemmas
 pub mod ListLemmas
+pub mod ListedLemmas
 pub mod PairLemmas
 pub mod ProcessLemmas
 pub mod QueueLemmas

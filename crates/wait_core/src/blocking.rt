@@ -1,5 +1,5 @@
 //! What blocks a wait, and which waits conflict.
-ghost use Rattle.std.specs.Prelude.{ℕ, ◌≡◌, ◌<◌, ◌≤◌, ◌↔◌, false, IsTrue, All, Any, length, slice_index_or};
+ghost use Rattle.std.specs.Prelude.{ℕ, ◌≡◌, ◌<◌, ◌≤◌, ◌↔◌, IsTrue, All, Any, length};
 ghost use Rattle.std.specs.Option.{option_copied};
 ghost use Rattle.range_core.specs.Ranges.{IsByteRange};
 ghost use Rattle.lock_book.specs.declared.Owner.TheVariants.{Process};
@@ -69,24 +69,21 @@ impl Wait {
         ensures { let locks = locks_of books.now in (q : ℕ) → 1 ≤ q → q ≤ PROCESSES
             → IsTrue (is_member result q) ↔ ProcessBlocks (locks.bytes self.now.file) q self.now.owner self.now.span self.now.mode }
     {
-        let blocks = self.blocked_by_processes(books);
         let mut blocking = ProcessSet::empty();
-        for q in 1..=PROCESSES {
-            if blocks[usize::from(q)] {
-                blocking = blocking.with(q);
+        for (other, list) in books[usize::from(self.file)].lists() {
+            // The processes come before the descriptions.
+            let Owner::Process(process) = *other else {
+                return blocking;
+            };
+            // The list of an owner that waits mostly holds room alone.
+            if list.runs().is_empty() {
+                continue;
+            }
+            if (1..=PROCESSES).contains(&process) && self.is_blocked_by_list(process, Some(list)) {
+                blocking = blocking.with(process);
             }
         }
         blocking
-    }
-
-    /// Of each process, by its number, whether a traditional lock of it blocks the wait.
-    fn blocked_by_processes(&self, books: &[Book]) -> [bool; 256]
-        requires file { self.now.file < length books.now }
-        requires range { IsByteRange self.now.span }
-        ensures { let locks = locks_of books.now in (q : ℕ) → q < 256
-            → IsTrue (slice_index_or result q false) ↔ ProcessBlocks (locks.bytes self.now.file) q self.now.owner self.now.span self.now.mode }
-    {
-        books[usize::from(self.file)].blocking_processes(self.owner, self.span, self.mode)
     }
 
     /// Whether a traditional lock of the process blocks the wait; the list has the modes of the process on the wait's file.

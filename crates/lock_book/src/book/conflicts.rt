@@ -1,14 +1,18 @@
 //! Who blocks a lock.
-ghost use Rattle.std.specs.Prelude.{ℕ, ◌≡◌, ◌<◌, ◌↔◌, false, nat_lt, slice_index_or, IfSome, IfNone, IsTrue, MatchOption};
+ghost use Rattle.std.specs.Prelude.{ℕ, ◌≡◌, ◌<◌, ◌↔◌, nat_lt, None, IfSome, IfNone, IsTrue, MatchOption};
+ghost use Rattle.std.specs.Map.{lookup};
 ghost use Rattle.std.specs.Option.{option_copied};
 ghost use Rattle.range_core.specs.Ranges.{IsByteRange};
+ghost use Rattle.range_core.specs.Changes.{modes_of};
 ghost use Rattle.lock_book.specs.Conflicts.{ByteConflict, IsFirstBlocked, IsFirstBlocker, ProcessBlocks};
-ghost use Rattle.lock_book.specs.OwnerLists.{modes_in_list};
-ghost use Rattle.lock_book.specs.Books.{byte_modes_of};
+ghost use Rattle.lock_book.specs.Owners.{is_same_owner};
+ghost use Rattle.lock_book.specs.OwnerLists.{modes_in_list, room_in_list};
+ghost use Rattle.lock_book.specs.Books.{byte_modes_of, room_in};
 
 use super::Book;
 use crate::{Blocker, Owner};
 use range_core::{Mode, RangeList, Span};
+use std::collections::BTreeMap;
 
 impl Book {
     /// Whether some other owner has a lock on some byte of the span that conflicts with one of this mode (POSIX.1-2017
@@ -21,6 +25,9 @@ impl Book {
             return false;
         }
         for (other, list) in &self.owners {
+            if has_no_lock(list) {
+                continue;
+            }
             if *other != owner && list.first_hit(span, mode).is_some() {
                 return true;
             }
@@ -35,6 +42,16 @@ impl Book {
         self.owners.get(&owner)
     }
 
+    /// The lists of all owners that have locks or hold room, by owner: the processes come before the descriptions. It takes
+    /// no memory.
+    pub fn lists(&self) -> &BTreeMap<Owner, RangeList>
+        ensures modes { (owner : Owner) (byte : ℕ)
+            → modes_in_list (lookup (is_same_owner owner) result.now.entries) byte ≡ byte_modes_of self.now owner byte }
+        ensures rooms { (owner : Owner) → room_in_list (lookup (is_same_owner owner) result.now.entries) ≡ room_in self.now owner }
+    {
+        &self.owners
+    }
+
     /// Whether a traditional lock of the process, if that isn't the owner, conflicts on some byte of the span
     /// (POSIX.1-2017 fcntl, `EDEADLK`). It takes no memory.
     pub fn process_blocks(&self, process: u8, owner: Owner, span: Span, mode: Mode) -> bool
@@ -46,25 +63,6 @@ impl Book {
             Some(list) => other != owner && list.first_hit(span, mode).is_some(),
             None => false,
         }
-    }
-
-    /// Of each process, by its number, whether a traditional lock of it blocks, as [`Book::process_blocks`] tells: the owners are
-    /// gone through once. It takes no memory.
-    pub fn blocking_processes(&self, owner: Owner, span: Span, mode: Mode) -> [bool; 256]
-        requires { IsByteRange span }
-        ensures { (process : ℕ) → process < 256
-            → IsTrue (slice_index_or result process false) ↔ ProcessBlocks (byte_modes_of self.now) process owner span mode }
-    {
-        let mut blocking = [false; 256];
-        for (other, list) in &self.owners {
-            // The processes come before the descriptions.
-            let other = *other;
-            let Owner::Process(process) = other else {
-                return blocking;
-            };
-            blocking[usize::from(process)] = other != owner && list.first_hit(span, mode).is_some();
-        }
-        blocking
     }
 
     /// The lock that a get command reports (POSIX.1-2017 fcntl, `F_GETLK`): at the least byte of the span that is
@@ -96,7 +94,7 @@ impl Book {
         }
         let mut first: Option<(u64, Owner)> = None;
         for (other, list) in &self.owners {
-            if *other == owner {
+            if has_no_lock(list) || *other == owner {
                 continue;
             }
             if let Some(byte) = list.first_hit(span, mode) {
@@ -111,6 +109,13 @@ impl Book {
         }
         first
     }
+}
+
+/// Whether there is no lock in the owner's list: that of an owner that waits mostly holds room alone.
+fn has_no_lock(list: &RangeList) -> bool
+    ensures { IsTrue result ↔ ((byte : ℕ) → modes_of list.now byte ≡ None) }
+{
+    list.runs().is_empty()
 }
 
 /// Whether the byte is lower than the one that was found, if one was.

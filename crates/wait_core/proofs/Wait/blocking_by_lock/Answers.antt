@@ -1,43 +1,102 @@
+use Rattle.std.proofs.Common.{◌≡◌, ◌∙◌, true, false, sym, arith}
 use Rattle.std.proofs.lemmas.Grind.{common_steps}
-use Rattle.std.proofs.Common.{ℕ, ◌≡◌, ◌∙◌, true, false, ap, sym, subst, arith, get_or, ◌<◌, ◌↔◌}
-use Rattle.std.specs.Prelude.{IsTrue}
-use Rattle.lock_book.specs.Conflicts.{ProcessBlocks}
-use Rattle.wait_core.specs.declared.processes.ProcessSet.{ProcessSet}
+use Rattle.std.specs.Map.Iter.{deref_pair}
+use Rattle.std.proofs.lemmas.Bool.{eqb-true}
+use Rattle.std.proofs.lemmas.List.Elements.{All-nil}
+use Rattle.std.proofs.lemmas.Map.Iter.{iter_end}
+use Rattle.range_core.specs.Changes.{modes_of}
 use Rattle.wait_core.specs.Locks.{locks_of}
-use Rattle.wait_core.specs.Processes.{is_member}
-use Rattle.wait_core.proofs.BlockingLemmas.{inserted_same, inserted_other, told_more, missing_more}
+use Rattle.wait_core.proofs.ListedLemmas.{IsToldIfBlocking, all_after_put, all_after_skip, free_without_runs, lists_at, modes_in_loop, never_without_modes, only_after_put, told_at_description, told_at_end}
 use Rattle.wait_core.proofs.ProcessLemmas.{none_in}
 use Rattle.wait_core.proofs.Wait.blocking_by_lock.Goals as goal
-use Rattle.wait_core.proofs.Wait.blocking_by_lock.Goals.{then-blocks-from, else-blocks-from}
+use Rattle.wait_core.proofs.Wait.blocking_by_lock.Goals.{else-contains-via-then-contains+else-is_blocked_by_list, else-contains-via-else-contains}
 
-pub loop-q-init : goal.loop-q-init
-loop-q-init c = grind (arith, common_steps, none_in)
+pub loop-other-init : goal.loop-other-init
+loop-other-init c =
+    let wait = c.args.self.now in record {
+      can_next = tt;
+      is_finite = tt;
+      only = λ q one few has. absurd (let none = none_in q in grind (arith, common_steps));
+      each = All-nil (λ x. IsToldIfBlocking ((locks_of c.args.books.now).bytes wait.file) wait.owner wait.span wait.mode c.empty-blocking.result x.0.now);
+    }
 
-pub loop-q-preserved : goal.loop-q-preserved
-loop-q-preserved c =
-    let wait = c.args.self.now in
-    let Blocks : ℕ → Type 0 = λ (q : ℕ). ProcessBlocks ((locks_of c.args.books.now).bytes wait.file) q wait.owner wait.span wait.mode in
-    let old = c.loop-q.blocking in
-    let new = c.if-blocks-from.blocking in
-    let i = c.loop-q.q in
-    let few : c.from.result < 256 = omega (arith, c.from.ensures) in
-    let told = c.blocked_by_processes-blocks.ensures c.from.result few in
-    let test : IsTrue (get_or c.blocked_by_processes-blocks.result c.from.result false) ↔ Blocks i = subst (λ (q : ℕ). IsTrue (get_or c.blocked_by_processes-blocks.result c.from.result false) ↔ Blocks q) c.from.ensures told in
-    elim c.if-blocks-from.branch [
-      | then-blocks-from w ↦
-          let members = λ (q : ℕ). ap (λ (set : ProcessSet). is_member set q) w.blocking-is ∙ w.with-blocking.ensures.members q in record {
-            before = told_more Blocks old new i (inserted_other old new i members) (
-              λ has. test.0 w.if-blocks-from.true,
-              λ blocks. inserted_same old new i members,
-            ) c.loop-q.invariant.before;
-            after = missing_more old new i (inserted_other old new i members) c.loop-q.invariant.after;
-          }
-      | else-blocks-from w ↦
-          let kept = λ (q : ℕ). ap (λ (set : ProcessSet). is_member set q) w.blocking-is in record {
-            before = told_more Blocks old new i (λ q other. kept q) (
-              λ has. absurd (let missing = kept i ∙ c.loop-q.invariant.after i (omega arith) in let differ : true ≡ false = sym has ∙ missing in cc),
-              λ blocks. absurd (let yes = test.1 blocks in let differ = w.if-blocks-from.false in cc),
-            ) c.loop-q.invariant.before;
-            after = missing_more old new i (λ q other. kept q) c.loop-q.invariant.after;
-          }
-    ]
+pub returns-in_default : goal.returns-in_default
+returns-in_default c =
+    let gives = c.into_iter-other-iterator.ensures.into_iter_gives in
+    let lists = c.lists-other-items.result.now in
+    let are = lists_at c.args.books.now c.from.result c.args.self.now.file c.index-books-from.result lists.entries
+    (omega (arith, c.requires.file, c.from.ensures)) c.index-books-from.is c.from.ensures c.lists-other-items.ensures.modes in
+    told_at_description _ _ _ _ lists are
+    c.loop-other.blocking c.loop-other.yielded _ _ _ _ (c.in-Some.other, c.in-Some.list)
+    gives.0 c.loop-other.yielded_by c.in-Some.is c.next.ensures.steps gives.5
+    c.in_default.field-0 c.in_default.is c.loop-other.invariant.only c.loop-other.invariant.each
+
+pub loop-other-preserved-then-is_empty : goal.loop-other-preserved-then-is_empty
+loop-other-preserved-then-is_empty c =
+    let gives = c.into_iter-other-iterator.ensures.into_iter_gives in
+    let lists = c.lists-other-items.result.now in
+    let are = lists_at c.args.books.now c.from.result c.args.self.now.file c.index-books-from.result lists.entries
+    (omega (arith, c.requires.file, c.from.ensures)) c.index-books-from.is c.from.ensures c.lists-other-items.ensures.modes in
+    let modes = modes_in_loop lists _ are c.loop-other.yielded _ _ _ _ (c.in-Some.other, c.in-Some.list)
+    gives.0 c.loop-other.yielded_by c.in-Some.is c.next.ensures.steps gives.6 c.in-Process.process c.in-Process.is in
+    let free = free_without_runs (modes_of c.in-Some.list.now) c.runs.result.now c.runs.ensures.runs (eqb-true _ _ (sym c.if-is_empty.ensures)) in
+    record {
+      can_next = tt;
+      is_finite = tt;
+      only = c.loop-other.invariant.only;
+      each = all_after_skip _ _ _ _ c.loop-other.blocking c.loop-other.yielded (c.in-Some.other, c.in-Some.list) c.in-Process.process c.in-Process.is
+          (λ one few. never_without_modes _ _ _ _ c.in-Process.process (λ byte. sym (modes byte) ∙ free byte))
+          c.loop-other.invariant.each;
+    }
+
+pub loop-other-preserved-then-is_blocked_by_list : goal.loop-other-preserved-then-is_blocked_by_list
+loop-other-preserved-then-is_blocked_by_list c =
+    let gives = c.into_iter-other-iterator.ensures.into_iter_gives in
+    let lists = c.lists-other-items.result.now in
+    let are = lists_at c.args.books.now c.from.result c.args.self.now.file c.index-books-from.result lists.entries
+    (omega (arith, c.requires.file, c.from.ensures)) c.index-books-from.is c.from.ensures c.lists-other-items.ensures.modes in
+    let modes = modes_in_loop lists _ are c.loop-other.yielded _ _ _ _ (c.in-Some.other, c.in-Some.list)
+    gives.0 c.loop-other.yielded_by c.in-Some.is c.next.ensures.steps gives.6 c.in-Process.process c.in-Process.is in
+    let blocks = c.is_blocked_by_list.ensures ((locks_of c.args.books.now).bytes c.args.self.now.file) modes in
+    record {
+      can_next = tt;
+      is_finite = tt;
+      only = only_after_put _ _ _ _ c.loop-other.blocking c.with-blocking.result c.in-Process.process c.with-blocking.ensures.members
+          (blocks.0 c.if-is_blocked_by_list.true) c.loop-other.invariant.only;
+      each = all_after_put _ _ _ _ c.loop-other.blocking c.with-blocking.result c.in-Process.process c.with-blocking.ensures.members
+          c.loop-other.yielded (c.in-Some.other, c.in-Some.list) c.in-Process.is c.loop-other.invariant.each;
+    }
+
+pub loop-other-preserved : goal.loop-other-preserved
+loop-other-preserved c =
+    let gives = c.into_iter-other-iterator.ensures.into_iter_gives in
+    let lists = c.lists-other-items.result.now in
+    let are = lists_at c.args.books.now c.from.result c.args.self.now.file c.index-books-from.result lists.entries
+    (omega (arith, c.requires.file, c.from.ensures)) c.index-books-from.is c.from.ensures c.lists-other-items.ensures.modes in
+    let modes = modes_in_loop lists _ are c.loop-other.yielded _ _ _ _ (c.in-Some.other, c.in-Some.list)
+    gives.0 c.loop-other.yielded_by c.in-Some.is c.next.ensures.steps gives.6 c.in-Process.process c.in-Process.is in
+    record {
+      can_next = tt;
+      is_finite = tt;
+      only = c.loop-other.invariant.only;
+      each = all_after_skip _ _ _ _ c.loop-other.blocking c.loop-other.yielded (c.in-Some.other, c.in-Some.list) c.in-Process.process c.in-Process.is
+          (λ one few conflict. elim c.else-contains.branch [
+            | else-contains-via-then-contains+else-is_blocked_by_list w ↦
+                (let blocks = w.is_blocked_by_list.ensures ((locks_of c.args.books.now).bytes c.args.self.now.file) modes in
+                let yes = blocks.1 conflict in
+                let no = w.if-is_blocked_by_list.false in
+                absurd (let differ : true ≡ false = sym yes ∙ no in cc))
+            | else-contains-via-else-contains w ↦ absurd (grind (arith, common_steps))
+          ])
+          c.loop-other.invariant.each;
+    }
+
+pub returns : goal.returns
+returns c =
+    let gives = c.into_iter-other-iterator.ensures.into_iter_gives in
+    let lists = c.lists-other-items.result.now in
+    let are = lists_at c.args.books.now c.from.result c.args.self.now.file c.index-books-from.result lists.entries
+    (omega (arith, c.requires.file, c.from.ensures)) c.index-books-from.is c.from.ensures c.lists-other-items.ensures.modes in
+    let whole = (iter_end deref_pair lists.entries c.loop-other.yielded _ _ _ _ gives.0 c.loop-other.yielded_by c.in-None.is c.next.ensures.steps).0 in
+    told_at_end _ _ _ _ lists.entries are
+    c.loop-other.blocking c.loop-other.yielded whole c.loop-other.invariant.only c.loop-other.invariant.each

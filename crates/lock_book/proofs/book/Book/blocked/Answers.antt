@@ -5,7 +5,7 @@ use Rattle.std.proofs.lemmas.List.Elements.{All-push}
 use Rattle.std.proofs.lemmas.Map.Iter.{iter_end}
 use Rattle.lock_book.specs.Books.{byte_modes_of}
 use Rattle.lock_book.proofs.OwnerLemmas.{owner_eq, same_from_eq, different_from_eq}
-use Rattle.lock_book.proofs.BlockLemmas.{NeverBlocks, conflict_from_hit, least_none, modes_in_loop, never_itself, never_without_hit}
+use Rattle.lock_book.proofs.BlockLemmas.{NeverBlocks, conflict_from_hit, least_none, modes_in_loop, never_itself, never_without_hit, never_without_modes}
 use Rattle.lock_book.proofs.CoverLemmas.{clear_of_conflicts}
 use Rattle.lock_book.proofs.book.Book.blocked.Goals as goal
 use Rattle.lock_book.proofs.book.Book.blocked.Goals.{else-ne-via-then-ne+else-is_some, else-ne-via-else-ne}
@@ -25,6 +25,18 @@ returns-then-is_some c =
       λ _. conflict_from_hit _ _ _ _ c.in-Some.other.now c.first_hit.result (different_from_eq _ _ (not-true _ (sym test)))
           (sym c.if-is_some.ensures) (rw modes c.first_hit.ensures.hit),
       λ _. refl,
+    )
+
+pub loop-other-preserved-then-has_no_lock : goal.loop-other-preserved-then-has_no_lock
+loop-other-preserved-then-has_no_lock c =
+    let gives = c.into_iter-other-iterator.ensures.into_iter_gives in
+    let modes = modes_in_loop c.args.self.now c.loop-other.yielded _ _ _ _ (c.in-Some.other, c.in-Some.list)
+    gives.0 c.loop-other.yielded_by c.in-Some.is c.next.ensures.steps gives.6 in (
+      tt,
+      tt,
+      All-push (λ x. NeverBlocks (byte_modes_of c.args.self.now) c.args.owner c.args.span c.args.mode x.0.now) c.loop-other.yielded
+          (c.in-Some.other, c.in-Some.list) c.loop-other.invariant.2
+          (never_without_modes _ _ _ _ _ (rw modes (c.has_no_lock.ensures.0 c.if-has_no_lock.true))),
     )
 
 pub loop-other-preserved : goal.loop-other-preserved

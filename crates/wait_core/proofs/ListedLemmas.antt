@@ -1,0 +1,209 @@
+-- The lists of a book's owners, gone over in order, and the set of the processes that block: for `Wait::blocking_by_lock`.
+use Rattle.std.proofs.lemmas.Grind.{common_steps}
+use Rattle.std.proofs.Common.{ℕ, ◌≡◌, ◌≢◌, ◌<◌, ◌≤◌, ◌==◌, ◌||◌, ◌↔◌, ◌∙◌, inl, inr, sym, ap, refl, subst, arith, Bool, true, Option, Some, None, List, [], ◌∷◌, ◌++◌, All, length, map}
+use Rattle.std.specs.Prelude.{IsTrue, slice_get, slice_index_or}
+use Rattle.std.specs.Borrow.{Bor}
+use Rattle.std.specs.BTreeMap.{BTreeMap, IsOrdered, get, is_at}
+use Rattle.std.specs.Iterator.{Yields}
+use Rattle.std.specs.List.{AllByRecursion}
+use Rattle.std.specs.List.Sorted.{IsStrictlySortedBy}
+use Rattle.std.specs.Map.{keys_of, lookup}
+use Rattle.std.specs.Map.Iter.{TakesFirst, deref_pair}
+use Rattle.std.specs.Ordering.{is_eq, nat_cmp}
+use Rattle.std.specs.declared.cmp.Ordering.{Ordering}
+use Rattle.std.specs.declared.cmp.Ordering.TheVariants.{Less}
+use Rattle.std.proofs.lemmas.Bool.{cases_eq, or_right}
+use Rattle.std.proofs.lemmas.Bool.Decides.{nat_tests}
+use Rattle.std.proofs.lemmas.List.Elements.{All-nil, All-cons, All-append, All-get_or, All-map, All-push, All-weaker}
+use Rattle.std.proofs.lemmas.Map.Entries.{place_from_lookup}
+use Rattle.std.proofs.lemmas.Map.Iter.{rest_so_far, rest_more}
+use Rattle.std.proofs.lemmas.Map.Keys.{sorted_head, sorted_tail}
+use Rattle.std.proofs.lemmas.Map.Views.{All-turn}
+use Rattle.std.proofs.lemmas.Option.{get_or_from_slice_get, slice_get-get_or, slice_get_within}
+use Rattle.range_core.specs.declared.Mode.{Mode}
+use Rattle.range_core.specs.declared.Span.{Span}
+use Rattle.range_core.specs.declared.list.RangeList.{RangeList}
+use Rattle.range_core.specs.Changes.{modes_of}
+use Rattle.range_core.specs.Ranges.{AreRuns, HeldConflicts, Modes}
+use Rattle.lock_book.specs.declared.Owner.{Owner}
+use Rattle.lock_book.specs.declared.Owner.TheVariants.{Process, Description}
+use Rattle.lock_book.specs.declared.book.Book.{Book}
+use Rattle.lock_book.specs.contracts.OwnerOrd.TheImpl as order
+use Rattle.lock_book.specs.Books.{byte_modes_of}
+use Rattle.lock_book.specs.Conflicts.{ByteModes, ProcessBlocks}
+use Rattle.lock_book.specs.OwnerLists.{modes_in_list}
+use Rattle.lock_book.specs.Owners.{is_same_owner}
+use Rattle.wait_core.specs.declared.processes.ProcessSet.{ProcessSet}
+use Rattle.wait_core.specs.declared.processes.TheConstants.{PROCESSES}
+use Rattle.wait_core.specs.Locks.{byte_modes_at, locks_of}
+use Rattle.wait_core.specs.Processes.{is_member}
+use Rattle.wait_core.proofs.BlockingLemmas.{inserted_same, inserted_other}
+
+-- the order that is derived on owners
+abbrev pub owner_cmp : Owner → Owner → Ordering
+owner_cmp one other = (order.cmp-value).it one other
+
+is_eq-nat_cmp : (a b : ℕ) → is_eq (nat_cmp a b) ≡ (a == b)
+is_eq-nat_cmp a b = grind (arith, common_steps)
+
+-- its test for equality is the definition's
+is_eq-owner_cmp : (one other : Owner) → is_eq (owner_cmp one other) ≡ is_same_owner one other
+is_eq-owner_cmp one other = grind (arith, common_steps, is_eq-nat_cmp)
+
+-- owners that the test takes for one are one
+same_owner : (one other : Owner) → is_same_owner one other ≡ true → one ≡ other
+same_owner one other h = grind (arith, common_steps, nat_tests)
+
+-- no process comes after a description
+description_last : (one other : Owner) (description process : ℕ) → one ≡ Description description → owner_cmp one other ≡ Less → other ≢ Process process
+description_last one other description process h h2 h3 = grind (arith, common_steps)
+
+-- two tests that agree find the same entry
+lookup_agree : {K X : Type 0} (p q : K → Bool) → ((k : K) → p k ≡ q k) → (es : List (K × X)) → lookup p es ≡ lookup q es
+lookup_agree p q agree [] = refl
+lookup_agree p q agree (e ∷ es) = rw (agree e.0, lookup_agree p q agree es)
+
+-- what holds of each entry holds of the one that a look-up finds
+found_among : {K X : Type 0} (P : K × X → Type 0) (entries : List (K × X)) → All P entries → (test : K → Bool) (v : X) → lookup test entries ≡ Some v
+    → (k : K) × (test k ≡ true) × P (k, v)
+found_among {K} {X} P entries each test v found =
+    let place = place_from_lookup test entries v found in (
+      place.1,
+      place.3,
+      subst P (get_or_from_slice_get entries place.0 (place.1, v) (place.1, v) place.2)
+          (All-get_or P entries place.0 (place.1, v) (slice_get_within entries place.0 (place.1, v) place.2) each),
+    )
+
+-- in order, an entry comes before those behind it
+less_than_all : {K X : Type 0} (R : K → K → Ordering) (k : K) (rest : List (K × X)) → AllByRecursion (λ y. R k y ≡ Less) (keys_of rest)
+    → All (λ e. R k e.0 ≡ Less) rest
+less_than_all R k [] all = All-nil (λ e. R k e.0 ≡ Less)
+less_than_all R k (e ∷ rest) all = All-cons (λ e. R k e.0 ≡ Less) e rest all.0 (less_than_all R k rest all.1)
+
+less_than_rest : {K X : Type 0} (R : K → K → Ordering) (before : List (K × X)) (x : K × X) (rest : List (K × X))
+    → IsStrictlySortedBy R (keys_of (before ++ x ∷ rest)) → All (λ e. R x.0 e.0 ≡ Less) rest
+less_than_rest R [] x rest sorted = less_than_all R x.0 rest (sorted_head R _ _ sorted)
+less_than_rest R (y ∷ before) x rest sorted = less_than_rest R before x rest (sorted_tail R _ _ sorted)
+
+-- an owner's list, as a loop over the lists gives it
+abbrev pub Item : Type 0
+Item = Bor Owner × Bor RangeList
+
+-- each owner has the modes of its list among these, and none without one
+abbrev pub AreLists : List (Owner × RangeList) → ByteModes → Type 0
+AreLists lists modes = (owner : Owner) (byte : ℕ) → modes_in_list (lookup (is_same_owner owner) lists) byte ≡ modes owner byte
+
+-- the book of a file has the lists of its owners
+pub lists_at : (books : List Book) (i file : ℕ) (book : Book) (lists : List (Owner × RangeList)) → i < length books → book ≡ slice_index_or books i book
+    → i ≡ file → AreLists lists (byte_modes_of book) → AreLists lists ((locks_of books).bytes file)
+lists_at books i file book lists within is at are owner byte =
+    let there : Some book ≡ slice_get books file =
+    ap (λ (b : Book). Some b) is ∙ sym (slice_get-get_or books i book within) ∙ ap (slice_get books) at in
+    are owner byte ∙ ap (λ (b : Option Book). byte_modes_at b owner byte) there
+
+-- the next list of a loop has the modes of its process
+pub modes_in_loop : (lists : BTreeMap Owner RangeList) (modes : ByteModes) → AreLists lists.entries modes → (items : List Item)
+    (s t u : List (Owner × RangeList)) (r : Option Item) (x : Item) → s ≡ lists.entries → Yields (TakesFirst deref_pair) s items t → r ≡ Some x
+    → TakesFirst deref_pair t r u → All (λ e. get owner_cmp lists e.0 ≡ Some e.1) lists.entries → (k : ℕ) → x.0.now ≡ Process k → (byte : ℕ)
+    → modes_of x.1.now byte ≡ modes (Process k) byte
+modes_in_loop lists modes are items s t u r x start yields is step each k at byte =
+    let found = All-turn deref_pair (λ e. get owner_cmp lists e.0 ≡ Some e.1) lists.entries items s t u r x each start yields is step in
+    let here : lookup (is_same_owner x.0.now) lists.entries ≡ Some x.1.now =
+    sym (lookup_agree (is_at (owner_cmp x.0.now)) (is_same_owner x.0.now) (is_eq-owner_cmp x.0.now) lists.entries) ∙ found in
+    sym (ap (λ (l : Option RangeList). modes_in_list l byte) here) ∙ are x.0.now byte ∙ ap (λ (o : Owner). modes o byte) at
+
+none_of : (held : Option Mode) → ((mode : Mode) → held ≡ Some mode → ⊥) → held ≡ None
+none_of None some = refl
+none_of (Some mode) some = absurd (some mode refl)
+
+-- one without runs has none
+pub free_without_runs : (modes : Modes) (runs : List (Mode × Span)) → AreRuns modes runs → length runs ≡ 0 → (byte : ℕ) → modes byte ≡ None
+free_without_runs modes runs are none byte =
+    none_of (modes byte) (λ mode has. let run = are.every byte mode has in let within : run.0 < length runs = run.2 in omega (arith, none))
+
+-- an owner whose mode conflicts has a list
+list_in : (list : Option RangeList) (byte : ℕ) (wanted : Mode) → HeldConflicts (modes_in_list list byte) wanted → (some : RangeList) × (list ≡ Some some)
+list_in None byte wanted conflicts = absurd conflicts
+list_in (Some list) byte wanted conflicts = (list, refl)
+
+module _ (modes : ByteModes) (owner : Owner) (span : Span) (wanted : Mode) where
+  -- each process in the set blocks
+  abbrev pub OnlyBlocking : ProcessSet → Type 0
+  OnlyBlocking set = (q : ℕ) → 1 ≤ q → q ≤ PROCESSES → IsTrue (is_member set q) → ProcessBlocks modes q owner span wanted
+
+  -- the other owner is in the set, where it is a process that blocks
+  abbrev pub IsToldIfBlocking : ProcessSet → Owner → Type 0
+  IsToldIfBlocking set other = (q : ℕ) → 1 ≤ q → q ≤ PROCESSES → other ≡ Process q → ProcessBlocks modes q owner span wanted → IsTrue (is_member set q)
+
+  -- a process without a mode doesn't block
+  pub never_without_modes : (k : ℕ) → ((byte : ℕ) → modes (Process k) byte ≡ None) → ¬ ProcessBlocks modes k owner span wanted
+  never_without_modes k free conflict = rw (free conflict.byte) at conflict.blocks.conflicts
+
+  -- one more owner is passed over, which doesn't block
+  pub all_after_skip : (set : ProcessSet) (items : List Item) (x : Item) (k : ℕ) → x.0.now ≡ Process k
+      → (1 ≤ k → k ≤ PROCESSES → ¬ ProcessBlocks modes k owner span wanted) → All (λ y. IsToldIfBlocking set y.0.now) items
+      → All (λ y. IsToldIfBlocking set y.0.now) (items ++ x ∷ [])
+  all_after_skip set items x k here never all =
+      All-push (λ y. IsToldIfBlocking set y.0.now) items x all
+      (λ q one few at conflict.
+      let same : k ≡ q = (let twice : Process k ≡ Process q = sym here ∙ at in cc) in
+      absurd (never (subst (λ (n : ℕ). 1 ≤ n) (sym same) one) (subst (λ (n : ℕ). n ≤ PROCESSES) (sym same) few)
+      (subst (λ (n : ℕ). ProcessBlocks modes n owner span wanted) (sym same) conflict)))
+
+  module _ (old new : ProcessSet) (k : ℕ) (members : (q : ℕ) → is_member new q ≡ (q == k || is_member old q)) where
+    -- one more process is put in, which blocks
+    pub only_after_put : ProcessBlocks modes k owner span wanted → OnlyBlocking old → OnlyBlocking new
+    only_after_put blocks only q one few has = elim (cases_eq q k) [
+      | inl same ↦ subst (λ (n : ℕ). ProcessBlocks modes n owner span wanted) (sym same) blocks
+      | inr other ↦ only q one few (sym (inserted_other old new k members q other) ∙ has)
+    ]
+
+    pub all_after_put : (items : List Item) (x : Item) → x.0.now ≡ Process k → All (λ y. IsToldIfBlocking old y.0.now) items
+        → All (λ y. IsToldIfBlocking new y.0.now) (items ++ x ∷ [])
+    all_after_put items x here all =
+        All-push (λ y. IsToldIfBlocking new y.0.now) items x
+        (All-weaker (λ y. IsToldIfBlocking old y.0.now) (λ y. IsToldIfBlocking new y.0.now)
+        (λ y before q one few at conflict. members q ∙ or_right (q == k) (is_member old q) (before q one few at conflict)) items all)
+        (λ q one few at conflict.
+        let same : k ≡ q = (let twice : Process k ≡ Process q = sym here ∙ at in cc) in
+        subst (λ (n : ℕ). IsTrue (is_member new n)) same (inserted_same old new k members))
+
+  -- where each list's owner was told, just the processes that block are in the set
+  told_of_all : (lists : List (Owner × RangeList)) → AreLists lists modes → (set : ProcessSet) → OnlyBlocking set
+      → All (λ e. IsToldIfBlocking set e.0) lists → (q : ℕ) → 1 ≤ q → q ≤ PROCESSES → IsTrue (is_member set q) ↔ ProcessBlocks modes q owner span wanted
+  told_of_all lists are set only all q one few = (
+    only q one few,
+    λ conflict.
+        let held = subst (λ (m : Option Mode). HeldConflicts m wanted) (sym (are (Process q) conflict.byte)) conflict.blocks.conflicts in
+        let list = list_in (lookup (is_same_owner (Process q)) lists) conflict.byte wanted held in
+        let entry = found_among (λ e. IsToldIfBlocking set e.0) lists all (is_same_owner (Process q)) list.0 list.1 in
+        entry.2 q one few (sym (same_owner (Process q) entry.0 entry.1)) conflict,
+  )
+
+  -- as it is at the end of the lists
+  pub told_at_end : (lists : List (Owner × RangeList)) → AreLists lists modes → (set : ProcessSet) (items : List Item) → map deref_pair items ≡ lists
+      → OnlyBlocking set → All (λ y. IsToldIfBlocking set y.0.now) items → (q : ℕ) → 1 ≤ q → q ≤ PROCESSES
+      → IsTrue (is_member set q) ↔ ProcessBlocks modes q owner span wanted
+  told_at_end lists are set items whole only all =
+      told_of_all lists are set only
+      (subst (λ (es : List (Owner × RangeList)). All (λ e. IsToldIfBlocking set e.0) es) whole (All-map (λ e. IsToldIfBlocking set e.0) deref_pair items all))
+
+  -- and at the first description, since all processes come before it
+  pub told_at_description : (lists : BTreeMap Owner RangeList) → AreLists lists.entries modes → (set : ProcessSet) (items : List Item)
+      (s t u : List (Owner × RangeList)) (r : Option Item) (x : Item) → s ≡ lists.entries → Yields (TakesFirst deref_pair) s items t → r ≡ Some x
+      → TakesFirst deref_pair t r u → IsOrdered owner_cmp lists → (description : ℕ) → x.0.now ≡ Description description → OnlyBlocking set
+      → All (λ y. IsToldIfBlocking set y.0.now) items → (q : ℕ) → 1 ≤ q → q ≤ PROCESSES
+      → IsTrue (is_member set q) ↔ ProcessBlocks modes q owner span wanted
+  told_at_description lists are set items s t u r x start yields is step ordered description at only all =
+      let P : Owner × RangeList → Type 0 = λ e. IsToldIfBlocking set e.0 in
+      let split : lists.entries ≡ map deref_pair items ++ deref_pair x ∷ u =
+      sym start ∙ rest_so_far deref_pair items s t yields
+      ∙ ap (λ (l : List (Owner × RangeList)). map deref_pair items ++ l) (rest_more deref_pair t u r x is step) in
+      let sorted = subst (λ (l : List (Owner × RangeList)). IsStrictlySortedBy owner_cmp (keys_of l)) split ordered in
+      let later : All P u =
+      All-weaker (λ e. owner_cmp x.0.now e.0 ≡ Less) P (λ e less q one few is_q conflict. absurd (description_last x.0.now e.0 description q at less is_q)) u
+      (less_than_rest owner_cmp (map deref_pair items) (deref_pair x) u sorted) in
+      let here : P (deref_pair x) = λ q one few is_q conflict. absurd (let no : Description description ≡ Process q = sym at ∙ is_q in cc) in
+      told_of_all lists.entries are set only
+      (subst (λ (l : List (Owner × RangeList)). All P l) (sym split)
+      (All-append P (map deref_pair items) (deref_pair x ∷ u) (All-map P deref_pair items all) (All-cons P (deref_pair x) u here later)))
