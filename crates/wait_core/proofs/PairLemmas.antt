@@ -1,6 +1,6 @@
 -- What the table of pairs tells, and what a change of the list or of the locks leaves of it: for `Pairs::all_told`, `Pairs::clear`, `Pairs::forget`
 -- and others.
-use Rattle.std.proofs.Common.{rules, ℕ, ◌≡◌, ◌≢◌, ◌+◌, ◌<◌, ◌≤◌, ◌↔◌, ◌∙◌, ◌⊎◌, inl, inr, sym, ap, subst, arith, Bool, true, false, not, suc, List, [], ◌∷◌, ◌++◌, All, Any, length, get_or, set, get_or-set_same, get_or-set_other, replicate, take, drop}
+use Rattle.std.proofs.Common.{rules, ℕ, ◌≡◌, ◌≢◌, ◌+◌, ◌<◌, ◌≤◌, ◌↔◌, ◌∙◌, ◌⊎◌, inl, inr, refl, sym, ap, subst, arith, Bool, true, false, not, suc, List, [], ◌∷◌, ◌++◌, All, Any, length, get_or, set, get_or-set_same, get_or-set_other, replicate, take, drop}
 use Rattle.std.proofs.lemmas.Grind.{common_steps}
 use Rattle.std.specs.Prelude.{IsTrue, ◌==◌, if◌then◌else◌}
 use Rattle.std.specs.List.{AllPairs}
@@ -226,6 +226,16 @@ told-owner old new before after file processes owner span list apart well_formed
       ]
     ])
     (λ p q q_few none. others p q q_few (λ itself k d within same. absurd (none k d within same)))
+
+-- where no wait is on these bytes, nothing is to be told
+pub told-off : (waits : Waits) (before after : Locks) (file processes : ℕ) (owner : Owner) (span : Span) → AllPairs (λ v w. v.p ≢ w.p) (waits_of waits)
+    → All (IsWellFormed processes) (waits_of waits) → ¬ Any (IsOn file span) (waits_of waits) → AgreeButOwner file owner span before after
+    → AreTold waits before → AreTold waits after
+told-off waits before after file processes owner span apart well_formed none agree =
+    told-owner waits waits before after file processes owner span refl apart well_formed
+    (λ q itself one few k d within on.
+    (let waiting = waits_of waits in absurd (none (k, get_or waiting k d, within, get_or_default waiting k (get_or waiting k d) d within, on))))
+    (λ p q few off. refl) agree
 
 -- one wait more, of a process that had none, and its pairs
 pub told-join : (old new : Waits) (locks : Locks) (wait : Wait) → waits_of new ≡ waits_of old ++ wait ∷ [] → All (λ w. w.p ≢ wait.p) (waits_of old)

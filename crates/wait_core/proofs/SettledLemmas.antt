@@ -8,6 +8,8 @@ use Rattle.std.proofs.lemmas.Bool.{cases_Bool, cases_eq}
 use Rattle.std.proofs.lemmas.Bool.Decides.{nat_tests}
 use Rattle.std.proofs.lemmas.Option.{same_Some}
 use Rattle.std.proofs.lemmas.List.Elements.{All-nil, All-cons, All-head, All-tail, All-push, All-weaker, filter-append}
+use Rattle.range_core.specs.declared.Span.{Span}
+use Rattle.range_core.specs.Ranges.{IsByteRange}
 use Rattle.lock_book.specs.declared.Owner.{Owner}
 use Rattle.lock_book.specs.declared.Owner.TheVariants.{Process}
 use Rattle.lock_book.specs.Conflicts.{ProcessBlocks}
@@ -22,10 +24,11 @@ use Rattle.wait_core.specs.Locks.{Locks}
 use Rattle.wait_core.specs.Blocking.{AllBlocked, IsBlocked, IsBlockedIn, WaitsConflict}
 use Rattle.wait_core.specs.Cycles.{IsTraditional}
 use Rattle.wait_core.specs.Files.{has_file}
-use Rattle.wait_core.specs.Settled.{AllBlockedElsewhere, AllBlockedWhere, AgreeElsewhere}
+use Rattle.wait_core.specs.Pairs.{IsOn}
+use Rattle.wait_core.specs.Settled.{AllBlockedElsewhere, AllBlockedWhere, AgreeElsewhere, AgreeOff}
 use Rattle.wait_core.specs.WellFormed.{IsWellFormed, can_own}
 use Rattle.wait_core.specs.WaitsView.{waits_of, wait_of, AreTold, IsTold}
-use Rattle.wait_core.proofs.AnyLemmas.{Any-filter, Any-weaker}
+use Rattle.wait_core.proofs.AnyLemmas.{Any-filter, Any-here, Any-there, Any-weaker}
 use Rattle.wait_core.proofs.PairLemmas.{blocked_wait, one_wait}
 
 -- the two have the same locks on the file
@@ -49,6 +52,28 @@ elsewhere_after files more policy old new others earlier [] all = tt
 elsewhere_after files more policy old new others earlier (wait ∷ waits) all = (
   λ elsewhere. (let other = others wait.file elsewhere in blocked_same policy old new earlier wait other.1 (all.0 other.0)),
   elsewhere_after files more policy old new others (earlier ++ wait ∷ []) waits all.1,
+)
+
+-- where some bytes of one file changed, a wait that isn't on these is blocked by the same locks
+blocked_in_off : (family : Family) (old new : Locks) (file : ℕ) (span : Span) (wait : Wait) → AgreeOff file span old new → IsByteRange wait.span
+    → ¬ IsOn file span wait → IsBlockedIn family old wait → IsBlockedIn family new wait
+blocked_in_off family old new file span wait agree range off blocked = grind (arith, common_steps, cases_eq, blocked_in_same)
+
+-- so it stays blocked
+blocked_off : (policy : Policy) (old new : Locks) (file : ℕ) (span : Span) (earlier : List Wait) (wait : Wait) → AgreeOff file span old new
+    → IsByteRange wait.span → ¬ IsOn file span wait → IsBlocked policy old earlier wait → IsBlocked policy new earlier wait
+blocked_off policy old new file span earlier wait agree range off blocked = grind (arith, common_steps, blocked_in_off)
+
+-- where no wait is on these bytes, each stays blocked
+pub elsewhere_off : (files : FileSet) (policy : Policy) (old new : Locks) (file processes : ℕ) (span : Span) → AgreeOff file span old new
+    → (earlier waits : List Wait) → All (IsWellFormed processes) waits → ¬ Any (IsOn file span) waits
+    → AllBlockedElsewhere files policy old earlier waits → AllBlockedElsewhere files policy new earlier waits
+elsewhere_off files policy old new file processes span agree earlier [] well_formed none all = tt
+elsewhere_off files policy old new file processes span agree earlier (wait ∷ waits) well_formed none all = (
+  λ elsewhere. blocked_off policy old new file span earlier wait agree (All-head (IsWellFormed processes) wait waits well_formed).range
+      (λ on. none (Any-here (IsOn file span) wait waits on)) (all.0 elsewhere),
+  elsewhere_off files policy old new file processes span agree (earlier ++ wait ∷ []) waits (All-tail (IsWellFormed processes) wait waits well_formed)
+      (λ any. none (Any-there (IsOn file span) wait waits any)) all.1,
 )
 
 -- what is in neither of two

@@ -1,5 +1,10 @@
 -- Waits that are known to be blocked, and what a change on one file leaves of that (the words are this project's choice).
-use Rattle.std.specs.Prelude.{◌≡◌, ◌≢◌, ◌⊎◌, ℕ, ⊤, List, [], ◌∷◌, ◌++◌, IsFalse}
+use Rattle.std.specs.Prelude.{◌≡◌, ◌≢◌, ◌≤◌, ◌⊎◌, ℕ, ⊤, List, [], ◌∷◌, ◌++◌, IsFalse}
+use Rattle.range_core.specs.declared.TheConstants.{OFFMAX}
+use Rattle.range_core.specs.declared.Span.{Span}
+use Rattle.range_core.specs.Ranges.{Covers}
+use Rattle.lock_book.specs.declared.Owner.{Owner}
+use Rattle.lock_book.specs.Changes.{whole_file}
 use Rattle.wait_core.specs.declared.Policy.{Policy}
 use Rattle.wait_core.specs.declared.Wait.{Wait}
 use Rattle.wait_core.specs.declared.files.FileSet.{FileSet}
@@ -39,3 +44,10 @@ AllBlockedKnown waits locks = AllBlockedWhere (IsKnown waits) (policy_of waits) 
 pub record AgreeElsewhere (file : ℕ) (old new : Locks) : Type 0 where
   pub bytes : AgreeBut file old new
   pub flocks : (other description : ℕ) → other ≢ file → new.flocks other description ≡ old.flocks other description
+
+-- the two have the same locks on each other file; on this one the same byte locks, but on these bytes, and the same flock locks, but
+-- where these are all its bytes
+pub record AgreeOff (file : ℕ) (span : Span) (old new : Locks) : Type 0 where
+  pub elsewhere : AgreeElsewhere file old new
+  pub bytes : (owner : Owner) (byte : ℕ) → byte ≤ OFFMAX → ¬ Covers span byte → new.bytes file owner byte ≡ old.bytes file owner byte
+  pub flocks : span ≢ whole_file → (description : ℕ) → new.flocks file description ≡ old.flocks file description

@@ -6,7 +6,7 @@ ghost use Rattle.wait_core.specs.declared.processes.TheConstants.{PROCESSES};
 ghost use Rattle.wait_core.specs.declared.Policy.TheVariants.{Queue};
 ghost use Rattle.wait_core.specs.Files.{has_file};
 ghost use Rattle.wait_core.specs.Cycles.{IsTraditional};
-ghost use Rattle.wait_core.specs.Pairs.{IsBehindNone, IsConflictOf};
+ghost use Rattle.wait_core.specs.Pairs.{IsBehindNone, IsConflictOf, IsOn};
 ghost use Rattle.wait_core.specs.PairsView.{TellsQueue};
 ghost use Rattle.wait_core.specs.Processes.{AreThoseWaiting, is_member};
 ghost use Rattle.wait_core.specs.WellFormed.{IsWellFormed};
@@ -24,8 +24,9 @@ use std::alloc::Global;
 /// The pending requests, in order of arrival, one at most of a process; and which process waits for which by a lock, as
 /// [`Waits::join`], [`Waits::leave`], [`Waits::refresh`] and [`Waits::refresh_owner`] were last told.
 ///
-/// They also know on which files something has changed since [`Waits::forget_changes`]: a wait that joined or left, or what
-/// [`Waits::touch`] and the two that refresh were told. Where each wait was blocked then, a wait on another file is blocked still.
+/// They also know on which files something has changed since [`Waits::forget_changes`]: a wait that joined or left, what
+/// [`Waits::touch`] and [`Waits::refresh`] were told, or what [`Waits::refresh_owner`] was told and a wait meets. Where each wait was
+/// blocked then, a wait on another file is blocked still.
 ///
 /// Only [`Waits::new`] takes memory.
 #[derive(Drop)]
@@ -55,7 +56,7 @@ pub struct Waits {
 impl Waits {
     ghost use Rattle.wait_core.specs.Locks.{Locks, locks_of};
     ghost use Rattle.wait_core.specs.Blocking.{AllBlocked, IsBlocked, IsNextReady, IsQueued, WaitsConflict};
-    ghost use Rattle.wait_core.specs.Settled.{AllBlockedKnown, AreBlockedElsewhere, AgreeElsewhere, IsKnown, changed_files};
+    ghost use Rattle.wait_core.specs.Settled.{AllBlockedKnown, AreBlockedElsewhere, AgreeElsewhere, AgreeOff, IsKnown, changed_files};
     ghost use Rattle.wait_core.specs.WaitsView.{waits_of, policy_of, processes_of, wait_of, without_wait_of, AreTold, AgreeBut, AgreeButOwner};
 
     /// No wait, with room for one of each process. The processes are numbered from 1, and at most 64 of them (this
@@ -172,7 +173,9 @@ impl Waits {
     }
 
     /// Tells the pairs anew after a change of this owner's locks on these bytes of the file, the other traditional locks being as
-    /// they were: it asks this owner alone, of the waits that meet these bytes. The file counts as changed.
+    /// they were: it asks this owner alone, of the waits that meet these bytes. Only where there is one the file counts as changed: the
+    /// byte locks off these bytes are as they were, and so are the flock locks where these aren't all bytes, so each other wait is
+    /// blocked as before.
     pub fn refresh_owner(&mut self, file: u8, owner: Owner, span: Span, books: &[Book])
         requires { length books.now ≡ 64 }
         ensures waits { waits_of self.new ≡ waits_of self.old }
@@ -180,12 +183,21 @@ impl Waits {
         ensures processes { processes_of self.new ≡ processes_of self.old }
         ensures told { (locks : Locks) → AreTold self.old locks → AgreeButOwner file owner span locks (locks_of books.now)
             → AreTold self.new (locks_of books.now) }
-        ensures blocked { file < FILES → (locks : Locks) → AreBlockedElsewhere self.old locks → AgreeElsewhere file locks (locks_of books.now)
+        ensures blocked { file < FILES → (locks : Locks) → AreBlockedElsewhere self.old locks → AgreeOff file span locks (locks_of books.now)
             → AreBlockedElsewhere self.new (locks_of books.now) }
     {
-        self.pairs
-            .tell_of_owner(file, owner, span, &self.waits, books);
-        self.touch(file);
+        if self.has_wait_on(file, span) {
+            self.pairs
+                .tell_of_owner(file, owner, span, &self.waits, books);
+            self.touch(file);
+        }
+    }
+
+    /// Whether some wait is on the file, and on a range that meets this one.
+    fn has_wait_on(&self, file: u8, span: Span) -> bool
+        ensures { IsTrue result ↔ Any (IsOn file span) (waits_of self.now) }
+    {
+        self.waits.iter().any(|wait| wait.is_on(file, span))
     }
 
     /// The file counts as changed, as after a change of its flock locks, of which the pairs say nothing.

@@ -1,7 +1,7 @@
 -- What holds of the machine at every moment, after a change of one book and after a release: for `Machine::change`, `Machine::close_fd`,
 -- `Machine::dup_to` and others.
 use Rattle.std.proofs.lemmas.Grind.{common_steps}
-use Rattle.std.proofs.Common.{ℕ, ◌≡◌, ◌≢◌, ◌<◌, ◌≤◌, sym, arith, ◌∙◌, subst, List, length, Some, Option, All, Result, OnOk, OnErr, ◌==◌, ◌&&◌, if◌then◌else◌, slice_get, slice_set}
+use Rattle.std.proofs.Common.{ℕ, ◌≡◌, ◌≢◌, ◌<◌, ◌≤◌, refl, sym, arith, ◌∙◌, subst, List, length, Some, Option, All, Result, OnOk, OnErr, ◌==◌, ◌&&◌, if◌then◌else◌, slice_get, slice_set}
 use Rattle.std.proofs.Math.Logic.{∥∥₁_map}
 use Rattle.std.proofs.lemmas.Bool.{cases_Bool, cases_eq, eqb-true}
 use Rattle.std.proofs.lemmas.Bool.Decides.{nat_tests}
@@ -14,6 +14,7 @@ use Rattle.lock_book.specs.declared.Owner.{Owner}
 use Rattle.lock_book.specs.declared.Owner.TheVariants.{Process}
 use Rattle.lock_book.specs.declared.book.Book.{Book}
 use Rattle.lock_book.specs.Owners.{is_same_owner}
+use Rattle.lock_book.specs.Changes.{whole_file}
 use Rattle.lock_book.specs.Books.{SetsOwnerMode, SameBook, room_in}
 use Rattle.range_core.specs.Changes.{is_covered}
 use Rattle.lock_book.specs.Conflicts.{ByteConflict}
@@ -26,7 +27,7 @@ use Rattle.wait_core.specs.declared.waits.Waits.{Waits}
 use Rattle.wait_core.specs.Locks.{Locks, locks_of}
 use Rattle.wait_core.specs.Cycles.{IsFreeOfCycles}
 use Rattle.wait_core.specs.WaitsView.{waits_of, AreTold, AgreeButOwner}
-use Rattle.wait_core.specs.Settled.{AreBlockedElsewhere, AgreeElsewhere}
+use Rattle.wait_core.specs.Settled.{AreBlockedElsewhere, AgreeOff}
 use Rattle.wait_core.specs.FreeOfCycles.{FreeWhenLocksChange, FreeWhenDescriptionLocksChange}
 use Rattle.lock_manager.specs.declared.machine.Machine.{Machine}
 use Rattle.lock_manager.specs.declared.request.ProcState.TheVariants.{Live}
@@ -35,7 +36,7 @@ use Rattle.lock_manager.specs.DescriptionLocks.{AreOwned, MayLock}
 use Rattle.lock_manager.specs.LockReleases.{ReleasesInBook, ReleasesLocks, ReleasesRoom}
 use Rattle.lock_manager.specs.WaitsKept.{AreKept, AreApart, HaveRoom, SameWaits, StayKnown}
 use Rattle.lock_manager.proofs.kept.BookLemmas.{after_set, slice_get-set_same, slice_get-set_other}
-use Rattle.lock_manager.proofs.kept.SafetyLemmas.{compatible_after, same_owner}
+use Rattle.lock_manager.proofs.kept.SafetyLemmas.{compatible_after, hit, same_owner}
 use Rattle.lock_manager.proofs.kept.OwnedLemmas.{owned_set, within_files_set}
 use Rattle.lock_manager.proofs.kept.ClosingLemmas.{Closing}
 use Rattle.lock_manager.proofs.kept.AfterCloseLemmas.{compatible_released, owned_released, within_released}
@@ -62,12 +63,42 @@ pub process_alone : (books : List Book) (file : ℕ) (old new : Book) (p : ℕ) 
 process_alone books file old new p descriptions within was releases f q byte few apart =
     grind (arith, common_steps, cases_eq, cases_Bool, eqb-true, slice_get-set_same, slice_get-set_other)
 
+-- a set on these bytes changes no others of the file
+set_off : (file byte : ℕ) (owner other : Owner) (span : Span) (mode before : Option Mode) → ¬ Covers span byte
+    → (if (file == file) && is_same_owner owner other && is_covered span byte then mode else before) ≡ before
+set_off file byte owner other span mode before off = grind (arith, common_steps, cases_Bool, hit)
+
+-- so all locks off these bytes stay
+pub off_after : (books : List Book) (file : ℕ) (old new : Book) (owner : Owner) (span : Span) (mode : Option Mode) (result : Result (Unit {0}) Memory)
+    → file < length books → slice_get books file ≡ Some old → OnOk result (SetsOwnerMode old new owner span mode) → OnErr result (SameBook old new)
+    → AgreeOff file span (locks_of books) (locks_of (slice_set books file new))
+off_after books file old new owner span mode result within was sets same =
+    after_set (λ locks. AgreeOff file span (locks_of books) locks) books file old new owner span mode result within was sets same
+    (λ bytes flocks. record {
+      elsewhere = agree_elsewhere books file new;
+      bytes = λ o byte few off. bytes file o byte ∙ set_off file byte owner o span mode ((locks_of books).bytes file o byte) off;
+      flocks = λ part d. flocks file d;
+    })
+    (λ bytes flocks. record {
+      elsewhere = agree_elsewhere books file new;
+      bytes = λ o byte few off. bytes file o byte;
+      flocks = λ part d. flocks file d;
+    })
+
+-- a change of any locks of one file is on its bytes
+pub off_whole : (books : List Book) (file : ℕ) (new : Book) → AgreeOff file whole_file (locks_of books) (locks_of (slice_set books file new))
+off_whole books file new = record {
+  elsewhere = agree_elsewhere books file new;
+  bytes = λ owner byte few off. absurd (off (omega arith, few));
+  flocks = λ part description. absurd (part refl);
+}
+
 -- what a refresh of the owner's pairs on these bytes leaves of what was known, where these are the books that it is told
 pub stays_known : (old new : Waits) (before after told_books : List Book) (file : ℕ) (owner : Owner) (span : Span) → told_books ≡ after → file < 64
     → ((locks : Locks) → AreTold old locks → AgreeButOwner file owner span locks (locks_of told_books) → AreTold new (locks_of told_books))
-    → (file < 64 → (locks : Locks) → AreBlockedElsewhere old locks → AgreeElsewhere file locks (locks_of told_books)
+    → (file < 64 → (locks : Locks) → AreBlockedElsewhere old locks → AgreeOff file span locks (locks_of told_books)
     → AreBlockedElsewhere new (locks_of told_books))
-    → AgreeElsewhere file (locks_of before) (locks_of after) → AgreeButOwner file owner span (locks_of before) (locks_of after)
+    → AgreeOff file span (locks_of before) (locks_of after) → AgreeButOwner file owner span (locks_of before) (locks_of after)
     → StayKnown old new (locks_of before) (locks_of after)
 stays_known old new before after told_books file owner span is within told blocked agree alone = grind (arith, common_steps)
 
@@ -81,7 +112,7 @@ pub kept_in_room : FreeWhenLocksChange → FreeWhenDescriptionLocksChange
     → ((k : Mode) → mode ≡ Some k → ¬ ByteConflict ((locks_of m.books.items).bytes file) owner span k)
     → OnOk result (SetsOwnerMode old new owner span mode) → HaveRoom (slice_set m.books.items file new) (waits_of m.waits) → OnErr result (SameBook old new)
     → SameWaits m.waits waits
-    → (AgreeElsewhere file (locks_of m.books.items) (locks_of books) → AgreeButOwner file owner span (locks_of m.books.items) (locks_of books)
+    → (AgreeOff file span (locks_of m.books.items) (locks_of books) → AgreeButOwner file owner span (locks_of m.books.items) (locks_of books)
     → StayKnown m.waits waits (locks_of m.books.items) (locks_of books))
     → AreKept m.rules.policy m.tables books waits
 kept_in_room one all m books waits file old new owner span mode result is within was may range live free sets room same waits_same known =
@@ -89,7 +120,8 @@ kept_in_room one all m books waits file old new owner span mode result is within
     let after = slice_set before file new in
     let list = waits_of m.waits in
     let still : StayKnown m.waits waits (locks_of before) (locks_of after) = subst (λ bs. StayKnown m.waits waits (locks_of before) (locks_of bs)) is
-    (known (subst (λ bs. AgreeElsewhere file (locks_of before) (locks_of bs)) (sym is) (agree_elsewhere before file new))
+    (known (subst (λ bs. AgreeOff file span (locks_of before) (locks_of bs)) (sym is)
+    (off_after before file old new owner span mode result within was sets same))
     (subst (λ bs. AgreeButOwner file owner span (locks_of before) (locks_of bs)) (sym is)
     (owner_alone before file old new owner span mode result within was sets same))) in
     let idle : (p : ℕ) → owner ≡ Process p → All (λ wait. wait.owner ≢ Process p) list =
@@ -116,7 +148,7 @@ pub kept_by_change : FreeWhenLocksChange → FreeWhenDescriptionLocksChange
     → ((k : Mode) → mode ≡ Some k → ¬ ByteConflict ((locks_of m.books.items).bytes file) owner span k)
     → OnOk result (SetsOwnerMode old new owner span mode) → OnOk result (room_in old owner ≤ room_in new owner) → OnErr result (SameBook old new)
     → SameWaits m.waits waits
-    → (AgreeElsewhere file (locks_of m.books.items) (locks_of books) → AgreeButOwner file owner span (locks_of m.books.items) (locks_of books)
+    → (AgreeOff file span (locks_of m.books.items) (locks_of books) → AgreeButOwner file owner span (locks_of m.books.items) (locks_of books)
     → StayKnown m.waits waits (locks_of m.books.items) (locks_of books))
     → AreKept m.rules.policy m.tables books waits
 kept_by_change one all m books waits file old new owner span mode result is within was may range live free sets kept same waits_same known =

@@ -4,12 +4,12 @@ use Rattle.wait_core.specs.Locks.{Locks, locks_of}
 use Rattle.wait_core.specs.Cycles.{IsFreeOfCycles}
 use Rattle.wait_core.specs.WaitsView.{waits_of, AreTold, AgreeButOwner}
 use Rattle.lock_book.specs.declared.Owner.TheVariants.{Process}
+use Rattle.lock_book.specs.Changes.{whole_file}
 use Rattle.lock_manager.specs.LockReleases.{ReleasesLocks}
 use Rattle.lock_manager.proofs.kept.BookLemmas.{book_at}
 use Rattle.lock_manager.proofs.kept.ReleaseLemmas.{released_file, released_room}
-use Rattle.lock_manager.proofs.kept.KeptLemmas.{process_alone, stays_known}
-use Rattle.lock_manager.proofs.kept.WaitLemmas.{agree_elsewhere}
-use Rattle.wait_core.specs.Settled.{AreBlockedElsewhere, AgreeElsewhere}
+use Rattle.lock_manager.proofs.kept.KeptLemmas.{off_whole, process_alone, stays_known}
+use Rattle.wait_core.specs.Settled.{AreBlockedElsewhere, AgreeOff}
 use Rattle.lock_manager.proofs.kept.WaitCloseLemmas.{free_released}
 use Rattle.lock_manager.proofs.lock_releases.release.Goals as goal
 
@@ -34,8 +34,8 @@ loop-file-preserved c =
       },
       (let now = stays_known c.loop-file.waits c.refresh_owner.new.self books (slice_set books file c.release_in.new.book) c.deref.result.now file (Process c.args.p) (record { first = 0; last = OFFMAX }) c.deref.ensures.value (omega arith)
           (subst (λ f. (locks : Locks) → AreTold c.loop-file.waits locks → AgreeButOwner f (Process c.args.p) (record { first = 0; last = OFFMAX }) locks (locks_of c.deref.result.now) → AreTold c.refresh_owner.new.self (locks_of c.deref.result.now)) (sym c.from.ensures) c.refresh_owner.ensures.told)
-          (subst (λ f. f < 64 → (locks : Locks) → AreBlockedElsewhere c.loop-file.waits locks → AgreeElsewhere f locks (locks_of c.deref.result.now) → AreBlockedElsewhere c.refresh_owner.new.self (locks_of c.deref.result.now)) (sym c.from.ensures) c.refresh_owner.ensures.blocked)
-          (agree_elsewhere books file c.release_in.new.book)
+          (subst (λ f. f < 64 → (locks : Locks) → AreBlockedElsewhere c.loop-file.waits locks → AgreeOff f whole_file locks (locks_of c.deref.result.now) → AreBlockedElsewhere c.refresh_owner.new.self (locks_of c.deref.result.now)) (sym c.from.ensures) c.refresh_owner.ensures.blocked)
+          (off_whole books file c.release_in.new.book)
           (process_alone books file c.index_mut.result.now c.release_in.new.book c.args.p c.args.descriptions.now within was c.release_in.ensures) in
           record { told = λ was. now.told (before.4.told was); blocked = λ was. now.blocked (before.4.blocked was) }),
     )
