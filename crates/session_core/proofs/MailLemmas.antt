@@ -100,14 +100,18 @@ pub IsMailKept-written : (processes : ℕ) (mailboxes : List Mailbox) (journal :
     → IsMailKept processes (set mailboxes place new) journal
 IsMailKept-written processes mailboxes journal place p old new h h2 h3 = search (rules, length-set, mail_taken-kept)
 
--- a mailbox that is written with the same requests leaves all that was sent
+-- a mailbox that is written with the same requests leaves all that waits
+pub mail_waiting-kept : (mailboxes : List Mailbox) (place p : ℕ) (old new : Mailbox) → StandsAt mailboxes place p old
+    → new.waiting.items ≡ old.waiting.items → (q : ℕ) → mail_waiting (set mailboxes place new) q ≡ mail_waiting mailboxes q
+mail_waiting-kept mailboxes place p old new at same q =
+    mail_waiting-set mailboxes place p old new at q
+    ∙ chosen_same (mail_waiting mailboxes) p q new.waiting.items (same ∙ sym (ap waiting_in (mailbox_of-there mailboxes place p old at)))
+
+-- and all that was sent
 pub mail_sent-kept : (mailboxes : List Mailbox) (journal : List Event) (place p : ℕ) (old new : Mailbox) → StandsAt mailboxes place p old
     → new.waiting.items ≡ old.waiting.items → (q : ℕ)
     → mail_sent (set mailboxes place new) journal q ≡ mail_sent mailboxes journal q
-mail_sent-kept mailboxes journal place p old new at same q =
-    ap (λ l. requests_taken q journal ++ l)
-    (mail_waiting-set mailboxes place p old new at q
-    ∙ chosen_same (mail_waiting mailboxes) p q new.waiting.items (same ∙ sym (ap waiting_in (mailbox_of-there mailboxes place p old at))))
+mail_sent-kept mailboxes journal place p old new at same q = ap (λ l. requests_taken q journal ++ l) (mail_waiting-kept mailboxes place p old new at same q)
 
 -- what holds of a session holds where other mail waits, if not too much was sent then
 pub Holds-sent : (manager : Manager) (mailboxes mailboxes' : List Mailbox) (journal : List Event)
@@ -263,3 +267,27 @@ waiting_dropped mailboxes place p before after at rest q =
     (λ same. rw (eq-eqb q p same, same) (rest ∙ ap (drop 1) (sym (ap waiting_in (mailbox_of-there mailboxes place p before at)))))
     (λ other. rw (ne_eqb q p other) refl)
     (cases_eq q p)
+
+nothing_first : {X : Type 0} (xs : List X) → IsNone (slice_get xs 0) → xs ≡ []
+nothing_first [] none = refl
+nothing_first (x ∷ xs) none = cc
+
+-- where no request of a process waits, its mailbox is empty
+pub none_waits : (mailboxes : List Mailbox) (place p : ℕ) (mailbox : Mailbox) → StandsAt mailboxes place p mailbox
+    → IsNone (slice_get (mail_waiting mailboxes p) 0) → mailbox.waiting.items ≡ []
+none_waits mailboxes place p mailbox at none =
+    sym (ap waiting_in (mailbox_of-there mailboxes place p mailbox at)) ∙ nothing_first (mail_waiting mailboxes p) none
+
+-- and all that it sent was taken
+pub all_taken : (mailboxes : List Mailbox) (journal : List Event) (p : ℕ) → IsNone (slice_get (mail_waiting mailboxes p) 0)
+    → length (mail_sent mailboxes journal p) ≡ length (events_of p journal)
+all_taken mailboxes journal p none =
+    let empty = nothing_first (mail_waiting mailboxes p) none in
+    ap length (ap (λ l. requests_taken p journal ++ l) empty ∙ append-nil (requests_taken p journal)) ∙ length-map (events_of p journal) (λ e. e.request)
+
+-- where all that a process sent was taken, one request more is its next
+pub next_untaken-more : (sent : ℕ → List Request) (journal : List Event) (p : ℕ) (request : Request) → length (sent p) ≡ length (events_of p journal)
+    → next_untaken (λ q. if q == p then sent q ++ request ∷ [] else sent q) journal p ≡ Some request
+next_untaken-more sent journal p request all =
+    ap (λ b. slice_get (if b then sent p ++ request ∷ [] else sent p) (length (events_of p journal))) (eq-eqb p p refl)
+    ∙ ap (λ n. slice_get (sent p ++ request ∷ []) n) (sym all) ∙ slice_get-behind (sent p) (request ∷ [])

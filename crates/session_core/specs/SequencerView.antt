@@ -1,5 +1,5 @@
 -- What a `Sequencer` keeps of what it took (the words are this project's choice).
-use Rattle.std.specs.Prelude.{◌≡◌, ℕ, ◌+◌, ◌<◌, Option, IsNone, List, [], ◌∷◌, ◌++◌, length, slice_get}
+use Rattle.std.specs.Prelude.{◌≡◌, ℕ, ◌+◌, ◌<◌, ◌==◌, if◌then◌else◌, Option, IsNone, List, [], ◌∷◌, ◌++◌, length, slice_get}
 use Rattle.std.proofs.Props.{props}
 use Rattle.lock_manager.specs.declared.request.Request.{Request}
 use Rattle.lock_manager.specs.declared.request.ProcState.TheVariants.{Live}
@@ -50,14 +50,22 @@ pub record SameSequencer (old new : Sequencer) : Type 0 where
   pub told : (journal : List Event) → HasTold old journal → HasTold new journal
   pub sent : (journal : List Event) (p : ℕ) → sent_by new journal p ≡ sent_by old journal p
 
--- behind what was taken, one event more was: the next request of this process, which is this
-pub record Tells (old new : Sequencer) (p : ℕ) (request : Request) (journal : List Event) (event : Event) : Type 0 where
+-- what each process sent, and then one more request of this one
+abbrev pub sent_with : Sequencer → List Event → ℕ → Request → ℕ → List Request
+sent_with sequencer journal p request q = if q == p then sent_by sequencer journal q ++ request ∷ [] else sent_by sequencer journal q
+
+-- behind what was taken, one event more was: this request of this process; and then so much was sent by each process
+pub record TellsOf (old new : Sequencer) (p : ℕ) (request : Request) (all : ℕ → List Request) (journal : List Event) (event : Event) : Type 0 where
   pub process : event.p ≡ p
   pub request_is : event.request ≡ request
   pub number : event.n ≡ length (events_of p journal) + 1
   pub told : HasTold new (journal ++ event ∷ [])
   pub step : (S : State) → StandsFor (manager_in old) S
       → (T : State) × IsStep (rules_of (manager_in old)) (processes_of (manager_in old)) S event T × StandsFor (manager_in new) T
-  pub sent : (q : ℕ) → sent_by new (journal ++ event ∷ []) q ≡ sent_by old journal q
+  pub sent : (q : ℕ) → sent_by new (journal ++ event ∷ []) q ≡ all q
   pub rules : rules_of (manager_in new) ≡ rules_of (manager_in old)
   pub processes : processes_of (manager_in new) ≡ processes_of (manager_in old)
+
+-- behind what was taken, one event more was: the next request of this process, which is this
+abbrev pub Tells : Sequencer → Sequencer → ℕ → Request → List Event → Event → Type 0
+Tells old new p request journal event = TellsOf old new p request (sent_by old journal) journal event

@@ -67,6 +67,16 @@ impl Mailbox {
         Ok(sent + 1)
     }
 
+    /// One request is sent and taken in one, and was never in the mailbox, which is empty.
+    pub fn pass(&mut self)
+        requires empty { self.old.waiting.items ≡ [] }
+        requires room { self.old.taken < N_MAX }
+        ensures taken { self.new.taken ≡ self.old.taken + 1 }
+        ensures waiting { self.new.waiting.items ≡ self.old.waiting.items }
+    {
+        self.taken += 1;
+    }
+
     /// The first request that wasn't taken is taken. Tells whether there are more.
     pub fn advance(&mut self) -> bool
         requires { 0 < length self.old.waiting.items }

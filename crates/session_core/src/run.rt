@@ -71,7 +71,8 @@ impl Sequencer {
 
     /// The request arrives, and then all that can be taken is taken: the entries go behind those in `told`.
     ///
-    /// `Full` where the process has sent [`N_MAX`] requests. After `Memory` what was taken stays taken, and is told.
+    /// `Full` where the process has sent [`N_MAX`] requests. After `Memory` what was taken stays taken, and is told; a request
+    /// that wasn't is in its mailbox, or lost.
     pub fn deliver(
         &mut self,
         p: u8,
@@ -83,6 +84,14 @@ impl Sequencer {
         ensures processes { processes_of (manager_in self.new) ≡ processes_of (manager_in self.old) }
         ensures full { result ≡ Err RunAllFault.Full → (journal : List Event) → HasTold self.old journal → length (sent_by self.old journal p) ≡ N_MAX }
     {
+        // Most requests come to an able process while no able one has mail: such a request is next, and needs no mailbox.
+        if self.manager().able(p) && self.next_mail().is_none() {
+            // The place is there before the request is taken, so that nothing can fail afterwards.
+            told.reserve(1).map_err(Memory::from)?;
+            let entry = self.take_at_once(p, request)?;
+            told.push_reserved(entry);
+            return Ok(self.drain(told)?);
+        }
         match self.arrive(p, request) {
             Ok(_) => Ok(self.drain_of(p, told)?),
             Err(ArriveFault::Full) => Err(RunAllFault::Full),

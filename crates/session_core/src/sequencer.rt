@@ -1,5 +1,5 @@
 //! The mail of the processes, and what is taken of it, one request after another.
-ghost use Rattle.std.specs.Prelude.{ℕ, ◌≡◌, ◌≢◌, ◌+◌, ◌-◌, ◌<◌, ◌≤◌, ◌==◌, ◌↔◌, List, [], ◌∷◌, ◌++◌, All, Err, IfOk, OnOk, OnErr, IfSome, IfNone, IsSome, None, Some, if◌then◌else◌, length, option_copied, take, drop};
+ghost use Rattle.std.specs.Prelude.{ℕ, ◌≡◌, ◌≢◌, ◌+◌, ◌-◌, ◌<◌, ◌≤◌, ◌==◌, ◌↔◌, List, [], ◌∷◌, ◌++◌, All, Err, IfOk, OnOk, OnErr, IfSome, IfNone, IsNone, IsSome, None, Some, if◌then◌else◌, length, option_copied, take, drop};
 ghost use Rattle.fd_table.specs.Descriptors.{process_limit};
 ghost use Rattle.lock_manager.specs.ManagerView.{processes_of, state_at};
 ghost use Rattle.session_core.specs.declared.TheConstants.{N_MAX};
@@ -7,18 +7,19 @@ ghost use Rattle.session_core.specs.Event.{Event};
 ghost use Rattle.session_core.specs.Mail.{events_of, answers_to};
 ghost use Rattle.session_core.specs.Mailboxes.{IsMailInside, IsEmptyMailbox, mailbox_of};
 ghost use Rattle.session_core.specs.LastAnswers.{latest};
+ghost use Rattle.session_core.specs.Told.{IsServed};
 
 use crate::answers::{Answer, LastAnswers};
 use crate::mailbox::Mailbox;
-use crate::{ArriveFault, Entry, Notes};
+use crate::{ArriveFault, Entry, N_MAX, Notes, RunAllFault};
 use lock_manager::{Manager, Note, ProcState, Request, Rules};
 use range_core::Memory;
 use std::alloc::Global;
 use wait_core::ProcessSet;
 
 /// A lock manager with the mail of its processes, which hands out what it takes and keeps none of it (this project's choice): its memory is
-/// that of the lock manager's state, of the mail that wasn't taken, and of a count and an answer for each process. A [`crate::Session`]
-/// keeps the journal too.
+/// that of the lock manager's state, of the mail that wasn't taken, of a count and an answer for each process, and of room for the notes of
+/// an event. A [`crate::Session`] keeps the journal too.
 #[derive(Drop)]
 pub struct Sequencer {
     manager: Manager,
@@ -36,7 +37,7 @@ pub struct Sequencer {
 
 #[tactic(auto, unfolding(crate::specs::SequencerView::manager_in, crate::specs::SequencerView::sent_by, crate::specs::SequencerView::waiting_at, crate::specs::SequencerView::HasTold))]
 impl Sequencer {
-    ghost use Rattle.session_core.specs.SequencerView.{manager_in, sent_by, waiting_at, first_waiting, HasTold, HasNoMail, HasNoneWaitingBelow, SameSequencer, Tells};
+    ghost use Rattle.session_core.specs.SequencerView.{manager_in, sent_by, waiting_at, first_waiting, HasTold, HasNoMail, HasNoneWaitingBelow, SameSequencer, Tells, TellsOf, sent_with};
     ghost use Rattle.session_core.specs.Deliveries.{HasRun};
 
     /// Nothing was sent or taken, with `processes` processes numbered from 1, at most [`fd_table::Limits::processes`].
@@ -104,11 +105,49 @@ impl Sequencer {
         ensures processes { processes_of (manager_in self.new) ≡ processes_of (manager_in self.old) }
         ensures memory { OnErr result (SameSequencer self.old self.new) }
     {
+        let entry = self.serve(p, request)?;
+        let more = self.mailboxes[usize::from(p) - 1].advance();
+        self.senders = self.senders.put(p, more);
+        Ok(entry)
+    }
+
+    /// The request comes and is taken in one, as if it had come to the mailbox of its process, which is able and has no mail: tells
+    /// what it told.
+    ///
+    /// `Full` where the process has sent [`N_MAX`] requests, or `Memory`; either leaves everything as it was.
+    pub(crate) fn take_at_once(&mut self, p: u8, request: Request) -> Result<Entry, RunAllFault>
+        requires process { (1 ≤ p) × (p ≤ processes_of (manager_in self.old)) }
+        requires able { state_at (manager_in self.old) p ≡ ProcState.Live }
+        requires empty { IsNone (first_waiting self.old p) }
+        ensures taken { IfOk result (λ entry. (journal : List Event) → HasTold self.old journal →
+            TellsOf self.old self.new p request (sent_with self.old journal p request) journal entry) }
+        ensures waiting { (q : ℕ) → waiting_at self.new q ≡ waiting_at self.old q }
+        ensures processes { processes_of (manager_in self.new) ≡ processes_of (manager_in self.old) }
+        ensures full { (journal : List Event) → HasTold self.old journal →
+            (result ≡ Err RunAllFault.Full) ↔ (length (sent_by self.old journal p) ≡ N_MAX) }
+        ensures err { OnErr result (SameSequencer self.old self.new) }
+    {
+        let place = usize::from(p) - 1;
+        if self.mailboxes[place].sent() == N_MAX {
+            return Err(RunAllFault::Full);
+        }
+        let entry = self.serve(p, request)?;
+        self.mailboxes[place].pass();
+        Ok(entry)
+    }
+
+    /// The manager serves this request, the one behind those that were taken of the process: tells what it told. The mailboxes stay.
+    fn serve(&mut self, p: u8, request: Request) -> Result<Entry, Memory>
+        requires able { state_at (manager_in self.old) p ≡ ProcState.Live }
+        ensures served { IfOk result (λ entry. (journal : List Event) → HasTold self.old journal →
+            IsServed self.old.manager self.new.manager self.new.answers p request journal entry) }
+        ensures mailboxes { self.new.mailboxes ≡ self.old.mailboxes }
+        ensures processes { processes_of (manager_in self.new) ≡ processes_of (manager_in self.old) }
+        ensures memory { OnErr result (SameSequencer self.old self.new) }
+    {
         let n = self.taken(p) + 1;
         self.manager.take_into(p, n, request, &mut self.notes)?;
         self.answers.tell(&self.notes);
-        let more = self.mailboxes[usize::from(p) - 1].advance();
-        self.senders = self.senders.put(p, more);
         Ok(Entry {
             p,
             n,

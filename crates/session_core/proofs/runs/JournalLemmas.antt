@@ -1,7 +1,7 @@
 -- A journal with one more event: for `Session::arrive`, `Session::new`, `Session::take` and `Session::withdraw`.
 use Rattle.std.proofs.Common.{rules, ℕ, zero, suc, ◌≡◌, ◌≢◌, ◌+◌, ◌<◌, ◌≤◌, refl, sym, ◌∙◌, ap, subst, arith, eq-eqb, ne_eqb, length, length-append, set, List, [], ◌∷◌, ◌++◌, ⊎_elim, Option, Some, None, IfSome, All, slice_get, drop}
 use Rattle.std.proofs.lemmas.Grind.{common_steps}
-use Rattle.std.specs.Prelude.{◌==◌, if◌then◌else◌}
+use Rattle.std.specs.Prelude.{◌==◌, if◌then◌else◌, IsNone}
 use Rattle.std.specs.List.{AllByRecursion as Each}
 use Rattle.std.proofs.lemmas.Bool.{cases_eq}
 use Rattle.std.proofs.lemmas.List.{length-map, length-set, map-append, append_assoc, append-nil}
@@ -14,7 +14,7 @@ use Rattle.session_core.specs.declared.mailbox.Mailbox.{Mailbox}
 use Rattle.session_core.specs.Event.{Event}
 use Rattle.session_core.specs.declared.answers.LastAnswers.{LastAnswers}
 use Rattle.session_core.specs.LastAnswers.{AreLastAnswers}
-use Rattle.session_core.specs.Told.{AreTold}
+use Rattle.session_core.specs.Told.{AreTold, IsServed}
 use Rattle.std.proofs.Math.Logic.{∥∥₁_map}
 use Rattle.session_core.specs.Mailboxes.{mail_waiting, mail_sent, mail_taken, waiting_in, taken_in, IsMailKept, IsEmptyMailbox}
 use Rattle.session_core.specs.Runs.{IsStep, IsRun, AreNumbered, events_of}
@@ -23,7 +23,7 @@ use Rattle.session_core.specs.Draining.{IsReplayed, next_untaken}
 use Rattle.session_core.specs.Headline.{AreWithinLimits, Holds, request_limit}
 use Rattle.session_core.proofs.runs.HeadlineLaws.{Holds-from}
 use Rattle.session_core.proofs.LeadsLemmas.{Leads-push}
-use Rattle.session_core.proofs.MailLemmas.{StandsAt, mailbox_of-there, mail_waiting-set, mail_taken-set, length-mail_sent, next_untaken-waits}
+use Rattle.session_core.proofs.MailLemmas.{StandsAt, mailbox_of-there, mail_waiting-set, mail_waiting-kept, mail_taken-set, length-mail_sent, next_untaken-waits, next_untaken-more, none_waits, all_taken}
 
 -- one more event of the process
 pub events_of-push_own : (q : ℕ) (journal : List Event) (event : Event) → event.p ≡ q
@@ -229,6 +229,114 @@ Holds-taken old new mailboxes mailboxes' journal journal' event some sent same n
     subst (λ f. Holds new f journal') (sym kept)
     (subst (λ l. Holds new (mail_sent mailboxes journal) l) (sym same)
     (Holds-push old new (mail_sent mailboxes journal) journal event some next number same_rules same_processes steps safe h))
+
+-- what each process sent, where a request came and was taken in one, of a process without mail
+pub mail_sent-passed : (mailboxes : List Mailbox) (place p : ℕ) (before after : Mailbox) (journal : List Event) (event : Event)
+    → StandsAt mailboxes place p before → event.p ≡ p → before.waiting.items ≡ [] → after.waiting.items ≡ before.waiting.items → (q : ℕ)
+    → mail_sent (set mailboxes place after) (journal ++ event ∷ []) q
+    ≡ (if q == p then mail_sent mailboxes journal q ++ event.request ∷ [] else mail_sent mailboxes journal q)
+mail_sent-passed mailboxes place p before after journal event at own empty kept q =
+    let stays = mail_waiting-kept mailboxes place p before after at kept q in
+    ⊎_elim
+    (λ same.
+    let none : mail_waiting mailboxes q ≡ [] = ap (mail_waiting mailboxes) same ∙ ap waiting_in (mailbox_of-there mailboxes place p before at) ∙ empty in
+    let taken = requests_taken q journal in
+    rw (eq-eqb q p same)
+    (ap (λ l. l ++ mail_waiting (set mailboxes place after) q) (requests_taken-push_own q journal event (own ∙ sym same))
+    ∙ ap (λ l. (taken ++ event.request ∷ []) ++ l) (stays ∙ none)
+    ∙ append-nil (taken ++ event.request ∷ [])
+    ∙ ap (λ l. l ++ event.request ∷ []) (sym (append-nil taken) ∙ ap (λ l. taken ++ l) (sym none))))
+    (λ other.
+    rw (ne_eqb q p other)
+    (ap (λ l. l ++ mail_waiting (set mailboxes place after) q) (requests_taken-push_other q journal event (λ e. other (sym e ∙ own)))
+    ∙ ap (λ l. requests_taken q journal ++ l) stays))
+    (cases_eq q p)
+
+-- the headline holds where each process sent more, but not more than it may
+Holds-more : (manager : Manager) (sent sent' : ℕ → List Request) (journal : List Event)
+    → ((q : ℕ) → (more : List Request) × (sent' q ≡ sent q ++ more)) → ((q : ℕ) → length (sent' q) ≤ request_limit)
+    → Holds manager sent journal → Holds manager sent' journal
+Holds-more manager sent sent' journal more few h =
+    record {
+      taken_in_order = λ p.
+          let rest = h.taken_in_order p in
+          (rest.0 ++ (more p).0, (more p).1 ∙ ap (λ l. l ++ (more p).0) rest.1 ∙ append_assoc (requests_taken p journal) rest.0 (more p).0);
+      answered_once = h.answered_once;
+      answers_numbered = h.answers_numbered;
+      answered_taken = h.answered_taken;
+      answered_in_turn = h.answered_in_turn;
+      within_limits = record { some = h.within_limits.some; few = h.within_limits.few; requests = few };
+      told_in_range = h.told_in_range;
+      quiet_before_birth = h.quiet_before_birth;
+      quiet_after_end = h.quiet_after_end;
+      safe = h.safe;
+      replayed = h.replayed;
+    }
+
+one_more : (sent : ℕ → List Request) (p : ℕ) (request : Request) (q : ℕ)
+    → (more : List Request) × ((if q == p then sent q ++ request ∷ [] else sent q) ≡ sent q ++ more)
+one_more sent p request q =
+    ⊎_elim
+    (λ same. (request ∷ [], rw (eq-eqb q p same) refl))
+    (λ other. ([], rw (ne_eqb q p other) (sym (append-nil (sent q)))))
+    (cases_eq q p)
+
+-- the headline holds where a request came and was taken in one, of a process of which all was taken
+Holds-passed : (old new : Manager) (sent sent' : ℕ → List Request) (journal : List Event) (event : Event) → 1 ≤ processes_of old
+    → ((q : ℕ) → sent' q ≡ (if q == event.p then sent q ++ event.request ∷ [] else sent q)) → ((q : ℕ) → length (sent' q) ≤ request_limit)
+    → length (sent event.p) ≡ length (events_of event.p journal) → event.n ≡ length (events_of event.p journal) + 1
+    → rules_of new ≡ rules_of old → processes_of new ≡ processes_of old
+    → ((S : State) → StandsFor old S → (T : State) × IsStep (rules_of old) (processes_of old) S event T × StandsFor new T)
+    → IsSafeManager new → Holds old sent journal → Holds new sent' (journal ++ event ∷ [])
+Holds-passed old new sent sent' journal event some is few all number same_rules same_processes steps safe h =
+    let with_one : ℕ → List Request = λ q. if q == event.p then sent q ++ event.request ∷ [] else sent q in
+    let same : sent' ≡ with_one = λ i q. is q i in
+    subst (λ f. Holds new f (journal ++ event ∷ [])) (sym same)
+    (Holds-push old new with_one journal event some (next_untaken-more sent journal event.p event.request all) number same_rules same_processes steps safe
+    (Holds-more old sent with_one journal (one_more sent event.p event.request) (λ q. subst (λ l. length l ≤ request_limit) (is q) (few q)) h))
+
+-- what was taken is so behind one event more, which took the next request of a process out of its mailbox
+pub AreTold-taken : (old new : Manager) (mailboxes : List Mailbox) (place p : ℕ) (before after : Mailbox) (answers answers' : LastAnswers) (request : Request)
+    (journal : List Event) (event : Event) → StandsAt mailboxes place p before → after.waiting.items ≡ drop 1 before.waiting.items
+    → after.taken ≡ before.taken + 1 → slice_get (mail_waiting mailboxes p) 0 ≡ Some request → IsServed old new answers' p request journal event
+    → AreTold old mailboxes answers journal → AreTold new (set mailboxes place after) answers' (journal ++ event ∷ [])
+AreTold-taken old new mailboxes place p before after answers answers' request journal event at rest one first served told =
+    let next : next_untaken (mail_sent mailboxes journal) journal event.p ≡ Some event.request =
+    rw (served.process, served.request_is) (next_untaken-waits mailboxes journal p ∙ first) in
+    let own : next_untaken (mail_sent mailboxes journal) journal p ≡ Some event.request =
+    ap (next_untaken (mail_sent mailboxes journal) journal) (sym served.process) ∙ next in
+    let number : event.n ≡ length (events_of event.p journal) + 1 = rw served.process served.number in
+    record {
+      mail = IsMailKept-push _ mailboxes place p before after journal _ event at one served.process refl
+          (subst (λ n. IsMailKept n mailboxes journal) (sym served.processes) told.mail);
+      answered = served.answered;
+      holds =
+          ∥∥₁_map told.holds
+          (Holds-taken old new mailboxes _ journal _ event told.mail.some (mail_sent-took mailboxes place p before after journal _ event at rest served.process refl own)
+          refl next number served.rules served.processes served.step served.safe);
+    }
+
+-- and behind one that came and was taken in one
+pub AreTold-passed : (old new : Manager) (mailboxes : List Mailbox) (place p : ℕ) (before after : Mailbox) (answers answers' : LastAnswers) (request : Request)
+    (journal : List Event) (event : Event) → StandsAt mailboxes place p before → after.waiting.items ≡ before.waiting.items
+    → after.taken ≡ before.taken + 1 → IsNone (slice_get (mail_waiting mailboxes p) 0) → IsServed old new answers' p request journal event
+    → AreTold old mailboxes answers journal → AreTold new (set mailboxes place after) answers' (journal ++ event ∷ [])
+AreTold-passed old new mailboxes place p before after answers answers' request journal event at kept one none served told =
+    let empty = none_waits mailboxes place p before at none in
+    let mail = IsMailKept-push _ mailboxes place p before after journal _ event at one served.process refl
+    (subst (λ n. IsMailKept n mailboxes journal) (sym served.processes) told.mail) in
+    let sent = mail_sent-passed mailboxes place p before after journal event at served.process empty kept in
+    let all = all_taken mailboxes journal p none in
+    record {
+      mail = mail;
+      answered = served.answered;
+      holds =
+          ∥∥₁_map told.holds
+          (Holds-passed old new _ _ journal event told.mail.some (λ q. sent q ∙ ap (λ r. if q == r then mail_sent mailboxes journal q ++ event.request ∷ [] else mail_sent mailboxes journal q) (sym served.process))
+          (mail_sent-few _ _ _ mail)
+          (ap (λ q. length (mail_sent mailboxes journal q)) served.process ∙ all ∙ ap (λ q. length (events_of q journal)) (sym served.process))
+          (rw served.process served.number) served.rules served.processes served.step served.safe);
+    }
 
 -- the headline holds at the opening
 pub Holds-opening : (manager : Manager) (sent : ℕ → List Request) (journal : List Event) → AreWithinLimits manager sent → journal ≡ []

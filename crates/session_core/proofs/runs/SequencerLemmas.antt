@@ -7,14 +7,16 @@ use Rattle.std.proofs.lemmas.List.{append-nil, append_assoc, length-drop, take_a
 use Rattle.lock_manager.specs.declared.request.Rules.{Rules}
 use Rattle.lock_manager.specs.declared.request.Request.{Request}
 use Rattle.lock_manager.specs.declared.request.ProcState.TheVariants.{Live}
+use Rattle.lock_manager.specs.State.{State}
 use Rattle.lock_manager.specs.ManagerView.{StandsFor, rules_of, processes_of, state_at}
 use Rattle.session_core.specs.declared.sequencer.Sequencer.{Sequencer}
 use Rattle.session_core.specs.Event.{Event}
+use Rattle.session_core.specs.Runs.{events_of}
 use Rattle.session_core.specs.Mail.{requests_sent}
-use Rattle.session_core.specs.Draining.{next_untaken, IsNext, IsDrained}
-use Rattle.session_core.specs.SequencerView.{manager_in, sent_by, waiting_at, first_waiting, HasTold, HasNoMail, HasNoneWaitingBelow, Tells}
+use Rattle.session_core.specs.Draining.{next_untaken, IsNext, IsDrained, TakesMail}
+use Rattle.session_core.specs.SequencerView.{manager_in, sent_by, waiting_at, first_waiting, HasTold, HasNoMail, HasNoneWaitingBelow, Tells, TellsOf, sent_with}
 use Rattle.session_core.specs.Deliveries.{TakesSome, HasNoMailBut, HasRun, RunsOn}
-use Rattle.session_core.proofs.MailLemmas.{next_untaken-waits}
+use Rattle.session_core.proofs.MailLemmas.{next_untaken-waits, next_untaken-more, all_taken}
 use Rattle.session_core.proofs.runs.DrainLemmas.{IsNext-along, IsDrained-along, DrainsMail-along, TakesMail-push, IsDrain-push, requests_sent-push}
 
 -- how many requests of the processes up to this one wait
@@ -101,29 +103,80 @@ pub no_mail_but : (old new : Sequencer) (p : ℕ) → manager_in new ≡ manager
 no_mail_but old new p same others none q other live =
     subst (λ l. IsNone (slice_get l 0)) (sym (others q other)) (none q (subst (λ m. state_at m q ≡ Live) same live))
 
--- the arrivals were run with one more: it arrived, and then all that could be taken was
+-- the arrivals were run with one more: behind what was taken so much more was, of all that was sent then
+HasRun-by : (rules : Rules) (processes : ℕ) (arrivals : List (ℕ × Request)) (old new : Sequencer) (journal more : List Event) (p : ℕ) (request : Request)
+    (all : ℕ → List Request) (T : State) → (h : HasRun rules processes arrivals old journal)
+    → ((q : ℕ) → all q ≡ (if q == p then sent_by old journal q ++ request ∷ [] else sent_by old journal q))
+    → HasTold new (journal ++ more) → ((q : ℕ) → sent_by new (journal ++ more) q ≡ all q)
+    → rules_of (manager_in new) ≡ rules_of (manager_in old) → processes_of (manager_in new) ≡ processes_of (manager_in old)
+    → TakesMail (rules_of (manager_in old)) (processes_of (manager_in old)) all journal h.state more T → StandsFor (manager_in new) T
+    → HasNoMail new → HasRun rules processes (arrivals ++ (p, request) ∷ []) new (journal ++ more)
+HasRun-by rules processes arrivals old new journal more p request all T h with_one told is same_rules same_processes takes stands rest =
+    let sent : (q : ℕ) → all q ≡ requests_sent q (arrivals ++ (p, request) ∷ []) =
+    λ q. with_one q ∙ ap (λ l. if q == p then l ++ request ∷ [] else l) (h.sent q) ∙ sym (requests_sent-push q arrivals p request) in
+    let left = IsDrained-along (state_at (manager_in new)) T.states (sent_by new (journal ++ more)) all _ _ (λ q. stands.states q) is refl (drained new (journal ++ more) rest) in
+    let mail = DrainsMail-along _ rules _ processes all (λ q. requests_sent q (arrivals ++ (p, request) ∷ [])) journal journal h.state more T h.rules_are h.processes_are sent refl (takes, left) in
+    record {
+      rules_are = same_rules ∙ h.rules_are;
+      processes_are = same_processes ∙ h.processes_are;
+      told = told;
+      sent = λ q. is q ∙ sent q;
+      state = T;
+      drained = IsDrain-push rules processes arrivals journal h.state (p, request) more T h.drained mail;
+      stands = stands;
+      rest = rest;
+    }
+
+-- it arrived, and then all that could be taken was
 pub HasRun-push : (rules : Rules) (processes : ℕ) (arrivals : List (ℕ × Request)) (old between new : Sequencer) (journal more : List Event)
     (p : ℕ) (request : Request) → HasRun rules processes arrivals old journal → manager_in between ≡ manager_in old
     → ((q : ℕ) → sent_by between journal q ≡ (if q == p then sent_by old journal q ++ request ∷ [] else sent_by old journal q))
     → TakesSome between new journal more → HasNoMail new → HasRun rules processes (arrivals ++ (p, request) ∷ []) new (journal ++ more)
 HasRun-push rules processes arrivals old between new journal more p request h same arrived takes rest =
     let g = takes.goes_on h.state (subst (λ m. StandsFor m h.state) (sym same) h.stands) in
-    let own : rules_of (manager_in between) ≡ rules = ap rules_of same ∙ h.rules_are in
-    let many : processes_of (manager_in between) ≡ processes = ap processes_of same ∙ h.processes_are in
-    let sent : (q : ℕ) → sent_by between journal q ≡ requests_sent q (arrivals ++ (p, request) ∷ []) =
-    λ q. arrived q ∙ ap (λ l. if q == p then l ++ request ∷ [] else l) (h.sent q) ∙ sym (requests_sent-push q arrivals p request) in
-    let left = IsDrained-along (state_at (manager_in new)) g.0.states (sent_by new (journal ++ more)) (sent_by between journal) _ _ (λ q. g.2.states q) takes.sent refl (drained new (journal ++ more) rest) in
-    let mail = DrainsMail-along _ rules _ processes (sent_by between journal) (λ q. requests_sent q (arrivals ++ (p, request) ∷ [])) journal journal h.state more g.0 own many sent refl (g.1, left) in
+    let mail = subst (λ m. TakesMail (rules_of m) (processes_of m) (sent_by between journal) journal h.state more g.0) same g.1 in
+    HasRun-by rules processes arrivals old new journal more p request (sent_by between journal) g.0 h arrived takes.told takes.sent
+    (takes.rules ∙ ap rules_of same) (takes.processes ∙ ap processes_of same) mail g.2 rest
+
+-- of a process without mail all that it sent was taken
+all_sent_taken : (sequencer : Sequencer) (journal : List Event) (p : ℕ) → IsNone (first_waiting sequencer p)
+    → length (sent_by sequencer journal p) ≡ length (events_of p journal)
+unfolding sent_by waiting_at
+all_sent_taken sequencer journal p none = all_taken sequencer.mailboxes.items journal p none
+
+-- where no live process has mail, the request that comes to one is the next event
+next_passed : (old new : Sequencer) (p : ℕ) (request : Request) (journal : List Event) (event : Event) → state_at (manager_in old) p ≡ Live
+    → HasNoMail old → TellsOf old new p request (sent_with old journal p request) journal event
+    → IsNext (state_at (manager_in old)) (sent_with old journal p request) journal event
+next_passed old new p request journal event live none tells =
     record {
-      rules_are = takes.rules ∙ own;
-      processes_are = takes.processes ∙ many;
-      told = takes.told;
-      sent = λ q. takes.sent q ∙ sent q;
-      state = g.0;
-      drained = IsDrain-push rules processes arrivals journal h.state (p, request) more g.0 h.drained mail;
-      stands = g.2;
-      rest = rest;
+      live = rw tells.process live;
+      request = rw (tells.process, tells.request_is) (next_untaken-more (sent_by old journal) journal p request (all_sent_taken old journal p (none p live)));
+      least = rw tells.process (λ q below alive.
+          let same : sent_with old journal p request q ≡ sent_by old journal q = rw (ne_eqb q p (λ e. absurd (omega (arith, e, below)))) refl in
+          subst (λ l. IsNone (slice_get l (length (events_of q journal)))) (sym same) (drained old journal none q alive));
+      number = rw tells.process tells.number;
     }
+
+-- it was taken as it came, and then all that could be taken was
+pub HasRun-passed : (rules : Rules) (processes : ℕ) (arrivals : List (ℕ × Request)) (old between new : Sequencer) (journal more : List Event)
+    (p : ℕ) (request : Request) (event : Event) → state_at (manager_in old) p ≡ Live → HasRun rules processes arrivals old journal
+    → TellsOf old between p request (sent_with old journal p request) journal event → TakesSome between new (journal ++ event ∷ []) more
+    → HasNoMail new → HasRun rules processes (arrivals ++ (p, request) ∷ []) new (journal ++ event ∷ more)
+HasRun-passed rules processes arrivals old between new journal more p request event live h tells takes rest =
+    let all = sent_with old journal p request in
+    let whole : (journal ++ event ∷ []) ++ more ≡ journal ++ event ∷ more = append_assoc journal (event ∷ []) more in
+    let step = tells.step h.state h.stands in
+    let g = takes.goes_on step.0 step.2 in
+    let sent : sent_by between (journal ++ event ∷ []) ≡ all = λ i q. tells.sent q i in
+    let under = subst (λ r. TakesMail r (processes_of (manager_in between)) (sent_by between (journal ++ event ∷ [])) (journal ++ event ∷ []) step.0 more g.0) tells.rules g.1 in
+    let among = subst (λ n. TakesMail (rules_of (manager_in old)) n (sent_by between (journal ++ event ∷ [])) (journal ++ event ∷ []) step.0 more g.0) tells.processes under in
+    let later = subst (λ s. TakesMail (rules_of (manager_in old)) (processes_of (manager_in old)) s (journal ++ event ∷ []) step.0 more g.0) sent among in
+    let next = IsNext-along (state_at (manager_in old)) h.state.states all all journal journal event (λ q. h.stands.states q) (λ q. refl) refl
+    (next_passed old between p request journal event live h.rest tells) in
+    HasRun-by rules processes arrivals old new journal (event ∷ more) p request all g.0 h (λ q. refl) (subst (HasTold new) whole takes.told)
+    (λ q. ap (λ l. sent_by new l q) (sym whole) ∙ takes.sent q ∙ tells.sent q) (takes.rules ∙ tells.rules) (takes.processes ∙ tells.processes)
+    (next, step.0, step.1, later) g.2 rest
 
 -- one arrival more of a list
 pub HasRun-more : (rules : Rules) (processes : ℕ) (arrivals : List (ℕ × Request)) (i : ℕ) (d : ℕ × Request) (old new : Sequencer)
