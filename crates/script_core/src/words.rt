@@ -16,7 +16,8 @@ pub fn printable_text(line: &[u8]) -> Option<&str>
         (λ text. IsTrue (spec.is_printable line.now) × (text.now ≡ line.now)) }
 {
     if is_printable(line) {
-        str::from_utf8(line).ok()
+        // SAFETY: ASCII is UTF-8, and each byte was looked at already.
+        Some(unsafe { str::from_utf8_unchecked(line) })
     } else {
         None
     }
