@@ -1,10 +1,11 @@
 -- The lines of a script, of which a front was read: for `ScriptReader` and `parse`.
 use Rattle.std.proofs.lemmas.Grind.{common_steps}
-use Rattle.std.proofs.Common.{◌≡◌, ℕ, ◌+◌, ◌<◌, ◌≤◌, ◌==◌, List, [], ◌∷◌, ◌++◌, length, take, drop, position, Some, None, IfSome, Result, Ok, Err, Bool, false, cond, All, MatchBool, inl, inr, refl, sym, ap, subst, arith, length-append}
+use Rattle.std.proofs.Common.{◌≡◌, ℕ, Option, ◌+◌, ◌<◌, ◌≤◌, ◌==◌, List, [], ◌∷◌, ◌++◌, length, take, drop, position, Some, None, IfSome, Result, Ok, Err, Bool, false, cond, All, MatchBool, inl, inr, refl, sym, ap, subst, arith, length-append}
 use Rattle.std.specs.List.{slice_split, onto_first}
 use Rattle.std.proofs.lemmas.Bool.{le-ltb}
 use Rattle.std.proofs.lemmas.List.Splits.{slice_split_first, slice_split_none}
-use Rattle.std.proofs.lemmas.List.Sums.{fails_before_first}
+use Rattle.std.proofs.lemmas.List.Sums.{fails_before_first, position_or_len_is}
+use Rattle.memchr.specs.Find.{IsFirstByte}
 use Rattle.lock_manager.specs.declared.request.Request.{Request}
 use Rattle.script_core.specs.declared.line.Line.{Line}
 use Rattle.script_core.specs.declared.line.Line.TheVariants as lines
@@ -34,6 +35,11 @@ HasFirst-slice_split (byte ∷ bytes) = HasFirst-cons (byte == 10) byte (slice_s
 -- a first piece with others behind it is a line
 without_end-more : (line : List ℕ) (parts : List (List ℕ)) → HasFirst parts → without_empty_end (line ∷ parts) ≡ line ∷ without_empty_end parts
 without_end-more line parts given = grind (arith, common_steps)
+
+-- where a search finds the first byte that passes
+pub found_first : (test : ℕ → Bool) (bytes : List ℕ) (found : Option ℕ) → IsFirstByte test bytes found → found ≡ position test bytes
+found_first test bytes None h = grind (arith, common_steps, position_or_len_is test bytes (length bytes) 0)
+found_first test bytes (Some at) h = grind (arith, common_steps, position_or_len_is test bytes at 0)
 
 -- the first line feed ends the first line
 pub lines_cut : (bytes : List ℕ) (end : ℕ) → position (λ byte. byte == 10) bytes ≡ Some end

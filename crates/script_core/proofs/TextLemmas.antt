@@ -1,8 +1,9 @@
 -- Texts in pieces: for `push_all_unborn`, `push_cycle`, `push_descriptors` and others.
 use Rattle.std.proofs.lemmas.Grind.{common_steps}
-use Rattle.std.proofs.Common.{◌≡◌, ℕ, ◌+◌, ◌-◌, ◌≤◌, List, [], ◌∷◌, ◌++◌, length, take, drop, set, flat_map, Result, MatchResult, sym, ap, arith, append_assoc, append-nil, length-drop}
+use Rattle.std.proofs.Common.{◌≡◌, ◌∙◌, ℕ, ◌+◌, ◌-◌, ◌/◌, ◌%◌, ◌<◌, ◌≤◌, decimal, List, [], ◌∷◌, ◌++◌, length, take, drop, set, flat_map, Result, MatchResult, sym, ap, arith, append_assoc, append-nil, length-drop}
 use Rattle.std.specs.List.{join_with_byte}
 use Rattle.std.proofs.lemmas.List.{drop-set}
+use Rattle.std.proofs.lemmas.Fmt.{decimal_digit, decimal_step}
 use Rattle.std.proofs.Math.Seq.{take-append_seam}
 use Rattle.script_core.specs.Output.{Extends, AppendsPartOf}
 
@@ -33,3 +34,8 @@ cut_back old new cut text len h h2 h3 = grind (arith, common_steps, take-append_
 pub number_piece : (buffer digits : List ℕ) (size start at byte : ℕ) → length buffer ≡ size → start ≤ size → start ≡ at + 1 → drop start buffer ≡ digits
     → take (size - at) (drop at (set buffer at byte)) ≡ byte ∷ digits
 number_piece buffer digits size start at byte long within next spelled = grind (arith, common_steps, drop-set, length-drop)
+
+-- a number of two digits
+pub two_digits : (n : ℕ) → 10 ≤ n → n < 100 → decimal n ≡ (48 + n / 10) ∷ (48 + n % 10) ∷ []
+two_digits n some small =
+    decimal_step n some (omega (arith, small)) ∙ ap (λ tens. tens ++ (48 + n % 10) ∷ []) (decimal_digit (n / 10) (omega (arith, small)))

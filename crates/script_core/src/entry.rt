@@ -7,7 +7,7 @@ ghost use Rattle.script_core.specs.EntryReading.{pieces_of, TakenGives, NotesGiv
 
 use crate::line::read_request;
 use crate::note::{read_note, read_tag};
-use crate::words::{first_words, printable_text};
+use crate::words::{WORDS_MAX, first_words, printable_text};
 use crate::{Cause, ENTRY_MAX};
 use fd_table::Limits;
 use lock_manager::{Note, Request};
@@ -73,11 +73,12 @@ pub fn read_pieces(alloc: Global, limits: Limits, text: &str) -> Result<Entry, C
     })
 }
 
-/// What the first piece says. Of more words than [`crate::words::WORDS_MAX`] the first ones say the same.
+/// What the first piece says. Of more words than [`WORDS_MAX`] the first ones say the same.
 fn read_taken(limits: Limits, piece: &str) -> Result<Taken, Cause>
     ensures { TakenGives limits (words_of piece.now) result }
 {
-    read_taken_words(limits, &first_words(piece))
+    let mut room = [""; WORDS_MAX];
+    read_taken_words(limits, first_words(piece, &mut room))
 }
 
 /// What the words of the first piece say: a tag, and the request.

@@ -4,7 +4,7 @@ ghost use Rattle.lock_manager.specs.declared.request.Request.{Request};
 ghost use Rattle.script_core.specs.Words.{texts, words_of};
 
 use crate::line::{Line, read_arrival, read_limits_line, read_policy_line};
-use crate::words::{first_words, is_comment, printable_text};
+use crate::words::{WORDS_MAX, first_words, is_comment, printable_text};
 use crate::{Cause, LINE_MAX};
 use fd_table::Limits;
 use lock_manager::{Request, Rules};
@@ -80,14 +80,15 @@ impl Heading {
         }
     }
 
-    /// What the text of a line says. Of more words than [`crate::words::WORDS_MAX`] the first ones say the same.
+    /// What the text of a line says. Of more words than [`WORDS_MAX`] the first ones say the same.
     fn parse_text(&self, text: &str) -> Result<Line, Cause>
         ensures { (arrivals : List (ℕ × Request)) → IsHeadingOf self.now arrivals → WordsGive (reading_of self.now arrivals) (words_of text.now) result }
     {
         if is_comment(text) {
             return Ok(Line::Skipped);
         }
-        self.parse_words(&first_words(text))
+        let mut room = [""; WORDS_MAX];
+        self.parse_words(first_words(text, &mut room))
     }
 
     /// What the words of a line say.

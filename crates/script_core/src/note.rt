@@ -9,15 +9,16 @@ use crate::arguments::{read_number, read_process, read_unsigned};
 use crate::commands::read_descriptor_alone;
 use crate::numbers::natural_of;
 use crate::word_tables::{read_error, read_mode};
-use crate::words::first_words;
+use crate::words::{WORDS_MAX, first_words};
 use fd_table::Limits;
 use lock_manager::{Note, Reply};
 
-/// What a piece behind a `|` tells. Of more words than [`crate::words::WORDS_MAX`] the first ones say the same.
+/// What a piece behind a `|` tells. Of more words than [`WORDS_MAX`] the first ones say the same.
 pub fn read_note(limits: Limits, piece: &str) -> Result<Note, Cause>
     ensures { NoteGives limits (words_of piece.now) result }
 {
-    read_note_words(limits, &first_words(piece))
+    let mut room = [""; WORDS_MAX];
+    read_note_words(limits, first_words(piece, &mut room))
 }
 
 /// What the words of a note tell: a tag, and what follows it.

@@ -46,6 +46,10 @@ pub fn push_number(text: &mut Vec<u8>, before: u8, n: u64) -> Result<(), Memory>
     if n < 10 {
         return push_bytes(text, &[before, b'0' + n as u8]);
     }
+    if n < 100 {
+        let (tens, ones) = (b'0' + (n / 10) as u8, b'0' + (n % 10) as u8);
+        return push_bytes(text, &[before, tens, ones]);
+    }
     let mut number = [0; NUMBER_MAX];
     let start = write_digits(n, &mut number, NUMBER_MAX) - 1;
     number[start] = before;

@@ -8,7 +8,7 @@ ghost use Rattle.script_core.specs.JournalReading as spec;
 use crate::Cause;
 use crate::entry::read_pieces;
 use crate::line::{read_limits_line, read_policy_line};
-use crate::words::{first_words, is_comment};
+use crate::words::{WORDS_MAX, first_words, is_comment};
 use fd_table::Limits;
 use lock_manager::Rules;
 use session_core::Entry;
@@ -95,7 +95,7 @@ impl Place {
         }
     }
 
-    /// What the text of a line says there: `None` where it should be an entry. Of more words than [`crate::words::WORDS_MAX`] the first
+    /// What the text of a line says there: `None` where it should be an entry. Of more words than [`WORDS_MAX`] the first
     /// ones say the same.
     fn parse_head(&self, text: &str) -> Result<Option<JournalLine>, Cause>
         ensures { HeadGives self.now (words_of text.now) result }
@@ -103,7 +103,8 @@ impl Place {
         if is_comment(text) {
             return Ok(Some(JournalLine::Skipped));
         }
-        self.parse_words(&first_words(text))
+        let mut room = [""; WORDS_MAX];
+        self.parse_words(first_words(text, &mut room))
     }
 
     /// What the words of a line say there: `None` where it should be an entry.

@@ -9,6 +9,7 @@ ghost use Rattle.script_core.specs.Reading.{Reads, IsAtHand, IsOfScript};
 use crate::heading::Heading;
 use crate::{Cause, SCRIPT_MAX, ScriptFault};
 use lock_manager::{Request, Rules};
+use memchr::memchr;
 
 /// Reads a script and hands out its arrivals, one after another (this project's choice). It takes no memory: it keeps what the header lines
 /// said, and where it stands in the bytes.
@@ -127,8 +128,9 @@ fn first_line(bytes: &[u8]) -> (&[u8], &[u8])
 }
 
 /// Where the first line feed stands.
+#[tactic(auto, using(crate::proofs::ScriptLemmas::found_first))]
 fn first_feed(bytes: &[u8]) -> Option<usize>
     ensures { result ≡ position (λ byte. byte == 10) bytes.now }
 {
-    bytes.iter().position(|byte| *byte == b'\n')
+    memchr(b'\n', bytes)
 }

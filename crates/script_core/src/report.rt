@@ -15,7 +15,7 @@ ghost use Rattle.script_core.specs.Output.{Extends};
 
 use crate::numbers::natural_of;
 use crate::report_text::{ProcessLine, push_held_text, push_process_text, push_wait_text};
-use crate::words::first_words;
+use crate::words::{WORDS_MAX, first_words};
 use crate::write::is_reported;
 use lock_book::Held;
 use lock_manager::ProcState;
@@ -92,7 +92,8 @@ impl ReportLine {
 fn sent_in(p: u8, text: &str) -> Option<u64>
     ensures { (told : ProcessLine) → told.p ≡ p → told.sent < 2 ^ 64 → text.now ≡ process_text told → result ≡ Some told.sent }
 {
-    fourth_number(&first_words(text))
+    let mut room = [""; WORDS_MAX];
+    fourth_number(first_words(text, &mut room))
 }
 
 /// The number that the fourth of the words is, if it is one.

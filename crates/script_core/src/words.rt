@@ -1,9 +1,8 @@
 //! The words of a line.
-ghost use Rattle.std.specs.Prelude.{ℕ, ◌≡◌, ◌==◌, if◌then◌else◌, List, [], ◌∷◌, ◌++◌, IsTrue, IsFalse, MatchOption, length, take};
+ghost use Rattle.std.specs.Prelude.{ℕ, ◌≡◌, ◌≤◌, ◌==◌, if◌then◌else◌, List, [], ◌∷◌, ◌++◌, IsTrue, IsFalse, MatchOption, length, take};
 ghost use Rattle.script_core.specs.Words.{texts};
 ghost use Rattle.script_core.specs.Words as spec;
 
-use arrayvec::ArrayVec;
 use std::str;
 
 /// One word more than the longest line has: a process, a lock command and its six arguments.
@@ -16,7 +15,8 @@ pub fn printable_text(line: &[u8]) -> Option<&str>
         (λ text. IsTrue (spec.is_printable line.now) × (text.now ≡ line.now)) }
 {
     if is_printable(line) {
-        str::from_utf8(line).ok()
+        // SAFETY: ASCII is UTF-8, and each byte was looked at already.
+        Some(unsafe { str::from_utf8_unchecked(line) })
     } else {
         None
     }
@@ -45,29 +45,36 @@ pub fn is_comment(line: &str) -> bool
     false
 }
 
-/// The first words, at most [`WORDS_MAX`]: what stands between spaces, of which there may be several, and also at both ends.
-pub fn first_words(line: &str) -> ArrayVec<&str, WORDS_MAX>
-    ensures { texts result.items ≡ take WORDS_MAX (spec.words_of line.now) }
+/// The first words, at most [`WORDS_MAX`], which it puts at the front of `room`: what stands between spaces, of which there may be
+/// several, and also at both ends.
+// The caller has the room, so that no array of words is moved.
+pub fn first_words<'a, 'w>(line: &'a str, room: &'w mut [&'a str; WORDS_MAX]) -> &'w [&'a str]
+    ensures { texts result.now ≡ take WORDS_MAX (spec.words_of line.now) }
 {
     let bytes = line.as_bytes();
-    let mut words = ArrayVec::new();
+    let mut count = 0;
     let mut start = 0;
     for at in 0..bytes.len() {
         if bytes[at] == b' ' {
-            push_word(&mut words, &line[start..at]);
+            count = put_word(room, count, &line[start..at]);
             start = at + 1;
         }
     }
-    push_word(&mut words, &line[start..]);
-    words
+    count = put_word(room, count, &line[start..]);
+    &room[..count]
 }
 
-/// Appends what stands between two spaces, where that is a word and there is room for one more.
-fn push_word<'a>(words: &mut ArrayVec<&'a str, WORDS_MAX>, piece: &'a str)
-    ensures { (before : List (List ℕ)) → texts words.old.items ≡ take WORDS_MAX before →
-        texts words.new.items ≡ take WORDS_MAX (if length piece.now == 0 then before else before ++ piece.now ∷ []) }
+/// Puts what stands between two spaces behind so many words, where it is a word and there is room for one more, and tells how many
+/// words there are then.
+fn put_word<'a>(words: &mut [&'a str; WORDS_MAX], count: usize, piece: &'a str) -> usize
+    requires { count ≤ WORDS_MAX }
+    ensures put { (before : List (List ℕ)) → texts (take count words.old) ≡ take WORDS_MAX before →
+        texts (take result words.new) ≡ take WORDS_MAX (if length piece.now == 0 then before else before ++ piece.now ∷ []) }
+    ensures room { result ≤ WORDS_MAX }
 {
-    if !piece.is_empty() && !words.is_full() {
-        words.push(piece);
+    if piece.is_empty() || count == WORDS_MAX {
+        return count;
     }
+    words[count] = piece;
+    count + 1
 }

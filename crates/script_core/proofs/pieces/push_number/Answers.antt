@@ -1,6 +1,6 @@
 use Rattle.std.proofs.Common.{◌≡◌, ◌-◌, drop, decimal, arith, lit<, append-nil, rules}
 use Rattle.std.proofs.lemmas.Fmt.{decimal_digit, length-decimal-le}
-use Rattle.script_core.proofs.TextLemmas.{number_piece}
+use Rattle.script_core.proofs.TextLemmas.{number_piece, two_digits}
 use Rattle.script_core.proofs.pieces.push_number.Goals as goal
 
 pub write_digits-start-requires : goal.write_digits-start-requires
@@ -11,6 +11,9 @@ overflow_sub-start c = omega (arith, c.write_digits-start.ensures.start, length-
 
 pub returns-then-n-lt10 : goal.returns-then-n-lt10
 returns-then-n-lt10 c = rw (decimal_digit c.args.n c.if-n-lt10.true) c.push_bytes.ensures
+
+pub returns-then-n-lt100 : goal.returns-then-n-lt100
+returns-then-n-lt100 c = rw (two_digits c.args.n (omega (arith, c.if-n-lt10.false)) c.if-n-lt100.true) c.push_bytes-then-n-lt100.ensures
 
 pub returns : goal.returns
 returns c =

@@ -1,15 +1,15 @@
 use Rattle.std.proofs.lemmas.Grind.{common_steps}
-use Rattle.std.proofs.Common.{◌≡◌, length, arith, ap}
+use Rattle.std.proofs.Common.{◌≡◌, length, take, arith, ap}
 use Rattle.script_core.specs.Words.{texts}
 use Rattle.script_core.proofs.WordLemmas.{reached_byte, reached_space, reached_end}
 use Rattle.script_core.proofs.words.first_words.Goals.{then-bytes-at-eq32, else-bytes-at-eq32}
 use Rattle.script_core.proofs.words.first_words.Goals as goal
 
 pub range-requires-clause-start_boundary : goal.range-requires-clause-start_boundary
-range-requires-clause-start_boundary c = c.loop-at.invariant.cut
+range-requires-clause-start_boundary c = c.loop-at.invariant.0.cut
 
 pub range_from-requires : goal.range_from-requires
-range_from-requires c = c.loop-at.invariant.cut
+range_from-requires c = c.loop-at.invariant.0.cut
 
 pub loop-at-preserved : goal.loop-at-preserved
 loop-at-preserved c = grind (arith, common_steps, then-bytes-at-eq32, reached_space, else-bytes-at-eq32, reached_byte)
@@ -19,5 +19,5 @@ returns c =
     let line = c.args.line.now in
     let long : length c.as_bytes-bytes.result.now ≡ length line = ap length c.as_bytes-bytes.ensures.value in
     let all : c.loop-at.at ≡ length line = omega (arith, long, c.loop-at-test.false, c.loop-at.auto.at-end) in
-    reached_end line (texts c.loop-at.words.items) (texts c.push_word-2.new.words.items) c.loop-at.start c.loop-at.at all c.loop-at.invariant
-    (rw c.range_from.ensures.value at c.push_word-2.ensures)
+    reached_end line (texts (take c.loop-at.count c.loop-at.room)) (texts (take c.put_word-count-2.result c.put_word-count-2.new.words)) c.loop-at.start c.loop-at.at all c.loop-at.invariant.0
+    (rw c.range_from.ensures.value at c.put_word-count-2.ensures.put)

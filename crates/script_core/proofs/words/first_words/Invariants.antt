@@ -1,6 +1,7 @@
+use Rattle.std.proofs.Common.{take, ◌≤◌}
 use Rattle.script_core.specs.Words.{texts}
 use Rattle.script_core.proofs.WordLemmas.{Reached}
 use Rattle.script_core.proofs.words.first_words.Given as goal
 
 abbrev pub invariant-loop-at : goal.invariant-loop-at
-invariant-loop-at l = Reached l.line (texts l.words.items) l.start l.at
+invariant-loop-at l = Reached l.line (texts (take l.count l.room)) l.start l.at × (l.count ≤ 9)
