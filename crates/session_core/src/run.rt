@@ -72,7 +72,7 @@ impl Sequencer {
     /// The request arrives, and then all that can be taken is taken: the entries go behind those in `told`.
     ///
     /// `Full` where the process has sent [`N_MAX`] requests. After `Memory` what was taken stays taken, and is told; a request
-    /// that wasn't is in its mailbox, or lost.
+    /// that wasn't taken stands in its mailbox, or hasn't arrived.
     pub fn deliver(
         &mut self,
         p: u8,
