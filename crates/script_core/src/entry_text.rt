@@ -3,11 +3,9 @@ ghost use Rattle.std.specs.Prelude.{◌≡◌, ◌∷◌, ◌++◌, MatchResult,
 ghost use Rattle.script_core.specs.EntryText.{entry_line, entry_text, note_text, reply_text, tag};
 ghost use Rattle.script_core.specs.Output.{Extends};
 
-use crate::pieces::{
-    push_first_number, push_integer, push_number, push_numbered, push_str, push_word,
-};
+use crate::pieces::{push_first_number, push_integer, push_number, push_numbered, push_str};
 use crate::request_text::push_request;
-use crate::word_tables::{error_name, mode_word};
+use crate::word_tables::{spaced_error, spaced_mode};
 use lock_manager::{Note, Reply};
 use range_core::Memory;
 use session_core::Entry;
@@ -73,11 +71,11 @@ fn push_reply(text: &mut Vec<u8>, reply: Reply) -> Result<(), Memory>
             pid,
         } => {
             push_str(text, " held")?;
-            push_word(text, mode_word(mode))?;
+            push_str(text, spaced_mode(mode))?;
             push_number(text, b' ', start)?;
             push_number(text, b' ', len)?;
             push_integer(text, pid)
         }
-        Reply::Err(error) => push_word(text, error_name(error)),
+        Reply::Err(error) => push_str(text, spaced_error(error)),
     }
 }

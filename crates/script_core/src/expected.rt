@@ -6,9 +6,9 @@ ghost use Rattle.script_core.specs.ReportText as spec;
 ghost use Rattle.script_core.specs.Output.{Extends};
 
 use crate::entry_text::push_event;
-use crate::pieces::{push_first_number, push_str, push_word};
+use crate::pieces::{push_first_number, push_str};
 use crate::report::ReportLine;
-use crate::report_text::state_word;
+use crate::report_text::spaced_state;
 use itoa::Buffer;
 use lock_manager::ProcState;
 use range_core::Memory;
@@ -40,7 +40,7 @@ fn push_standing(text: &mut Vec<u8>, p: u8, state: ProcState) -> Result<(), Memo
     push_str(text, "process ")?;
     push_first_number(text, u64::from(p))?;
     push_str(text, " is")?;
-    push_word(text, state_word(state))
+    push_str(text, spaced_state(state))
 }
 
 /// Appends the tag of the request behind so many of a process.

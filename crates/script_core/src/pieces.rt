@@ -1,4 +1,4 @@
-//! Appends words and numbers to a text, each with the byte that stands before it. Where a growth is refused the old bytes stay.
+//! Appends pieces and numbers to a text, each number with the byte that stands before it. Where a growth is refused the old bytes stay.
 ghost use Rattle.std.specs.Prelude.{◌≡◌, ◌∷◌, ◌++◌, MatchResult, decimal};
 ghost use Rattle.std.specs.Fmt.{signed_decimal};
 ghost use Rattle.script_core.specs.Output.{Extends};
@@ -23,18 +23,15 @@ pub fn push_str(text: &mut Vec<u8>, piece: &str) -> Result<(), Memory>
     push_bytes(text, piece.as_bytes())
 }
 
-/// Appends a space and a word.
-pub fn push_word(text: &mut Vec<u8>, word: &str) -> Result<(), Memory>
-    ensures { MatchResult result (λ unit. text.new.items ≡ text.old.items ++ 32 ∷ word.now) (λ error. Extends text.old.items text.new.items) }
-{
-    text.push(b' ')?;
-    push_str(text, word)
-}
-
 /// Appends a natural number, with no byte before it.
+#[tactic(auto, using(std::proofs::lemmas::Fmt::decimal_digit))]
 pub fn push_first_number(text: &mut Vec<u8>, n: u64) -> Result<(), Memory>
     ensures { MatchResult result (λ unit. text.new.items ≡ text.old.items ++ decimal n) (λ error. Extends text.old.items text.new.items) }
 {
+    // Most of them are processes.
+    if n < 10 {
+        return push_bytes(text, &[b'0' + n as u8]);
+    }
     push_str(text, Buffer::new().format(n))
 }
 

@@ -4,8 +4,8 @@ ghost use Rattle.script_core.specs.ReportText.{held_line, held_text, wait_line, 
 ghost use Rattle.script_core.specs.ReportText as spec;
 ghost use Rattle.script_core.specs.Output.{Extends};
 
-use crate::pieces::{push_number, push_numbered, push_str, push_word};
-use crate::word_tables::mode_word;
+use crate::pieces::{push_number, push_numbered, push_str};
+use crate::word_tables::spaced_mode;
 use lock_book::{Held, Owner};
 use lock_manager::ProcState;
 use range_core::{Memory, Mode, Span};
@@ -78,7 +78,7 @@ fn push_byte_lock(
 {
     push_number(text, b' ', u64::from(file))?;
     push_owner(text, owner)?;
-    push_word(text, mode_word(mode))?;
+    push_str(text, spaced_mode(mode))?;
     push_number(text, b' ', span.first)?;
     push_number(text, b' ', span.last)
 }
@@ -88,7 +88,7 @@ fn push_flock(text: &mut Vec<u8>, owner: Owner, mode: Mode) -> Result<(), Memory
     ensures { MatchResult result (λ unit. text.new.items ≡ text.old.items ++ 32 ∷ flock_text owner mode) (λ error. Extends text.old.items text.new.items) }
 {
     push_owner(text, owner)?;
-    push_word(text, flock_word(mode))
+    push_str(text, spaced_flock_mode(mode))
 }
 
 /// Appends a space and an owner: a process or an open file description, with its number.
@@ -130,7 +130,7 @@ pub fn push_process_text(text: &mut Vec<u8>, line: &ProcessLine) -> Result<(), M
 {
     push_numbered(text, "proc", u64::from(line.p))?;
     push_counts(text, line)?;
-    push_word(text, state_word(line.state))
+    push_str(text, spaced_state(line.state))
 }
 
 /// Appends a space, and how many requests of the process were sent, taken and answered.
@@ -142,24 +142,24 @@ fn push_counts(text: &mut Vec<u8>, line: &ProcessLine) -> Result<(), Memory>
     push_numbered(text, " answered", line.answered)
 }
 
-/// The word of the mode of a flock lock.
-fn flock_word(mode: Mode) -> &'static str
-    ensures { result.now ≡ spec.flock_word mode }
+/// A space, and the word of the mode of a flock lock.
+fn spaced_flock_mode(mode: Mode) -> &'static str
+    ensures { result.now ≡ 32 ∷ spec.flock_word mode }
 {
     match mode {
-        Mode::Read => "sh",
-        Mode::Write => "ex",
+        Mode::Read => " sh",
+        Mode::Write => " ex",
     }
 }
 
-/// The word of where a process stands.
-pub fn state_word(state: ProcState) -> &'static str
-    ensures { result.now ≡ spec.state_word state }
+/// A space, and the word of where a process stands.
+pub fn spaced_state(state: ProcState) -> &'static str
+    ensures { result.now ≡ 32 ∷ spec.state_word state }
 {
     match state {
-        ProcState::Unborn => "unborn",
-        ProcState::Live => "live",
-        ProcState::Waiting => "waiting",
-        ProcState::Ended => "ended",
+        ProcState::Unborn => " unborn",
+        ProcState::Live => " live",
+        ProcState::Waiting => " waiting",
+        ProcState::Ended => " ended",
     }
 }

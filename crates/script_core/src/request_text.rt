@@ -5,8 +5,8 @@ ghost use Rattle.lock_manager.specs.declared.request.Request.TheVariants.{Flock}
 ghost use Rattle.script_core.specs.RequestText.{request_text, lock_words, pid_words, nb_words};
 ghost use Rattle.script_core.specs.Output.{Extends};
 
-use crate::pieces::{push_integer, push_number, push_numbered, push_str, push_word};
-use crate::word_tables::{access_word, command_word, kind_word, op_word, whence_word};
+use crate::pieces::{push_integer, push_number, push_numbered, push_str};
+use crate::word_tables::{spaced_access, spaced_command, spaced_kind, spaced_op, spaced_whence};
 use lock_manager::{FlockOp, Lock, Request};
 use range_core::Memory;
 
@@ -17,7 +17,7 @@ pub fn push_request(text: &mut Vec<u8>, request: &Request) -> Result<(), Memory>
     match request {
         Request::OpenFile { file, access } => {
             push_numbered(text, " open", u64::from(*file))?;
-            push_word(text, access_word(*access))
+            push_str(text, spaced_access(*access))
         }
         Request::Dup { fd } => push_numbered(text, " dup", u64::from(*fd)),
         Request::DupTo { fd, to } => {
@@ -34,7 +34,7 @@ pub fn push_request(text: &mut Vec<u8>, request: &Request) -> Result<(), Memory>
             push_integer(text, *size)
         }
         Request::Lk { fd, cmd, lock } => {
-            push_word(text, command_word(*cmd))?;
+            push_str(text, spaced_command(*cmd))?;
             push_lock(text, *fd, lock)
         }
         Request::Flock { fd, op, nb } => push_flock_request(text, *fd, *op, *nb),
@@ -51,8 +51,8 @@ fn push_lock(text: &mut Vec<u8>, fd: u32, lock: &Lock) -> Result<(), Memory>
         ++ 32 ∷ join_with_byte 32 (lock_words fd lock.now ++ pid_words lock.now.pid)) (λ error. Extends text.old.items text.new.items) }
 {
     push_number(text, b' ', u64::from(fd))?;
-    push_word(text, kind_word(lock.kind))?;
-    push_word(text, whence_word(lock.whence))?;
+    push_str(text, spaced_kind(lock.kind))?;
+    push_str(text, spaced_whence(lock.whence))?;
     push_integer(text, lock.start)?;
     push_integer(text, lock.len)?;
     push_pid(text, lock.pid)
@@ -75,7 +75,7 @@ fn push_flock_request(text: &mut Vec<u8>, fd: u32, op: FlockOp, nb: bool) -> Res
         ++ 32 ∷ request_text (Flock fd op nb)) (λ error. Extends text.old.items text.new.items) }
 {
     push_numbered(text, " flock", u64::from(fd))?;
-    push_word(text, op_word(op))?;
+    push_str(text, spaced_op(op))?;
     push_nb(text, nb)
 }
 

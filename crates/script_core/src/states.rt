@@ -10,9 +10,9 @@ ghost use Rattle.script_core.specs.StateText.{AsksForStates, AsksForNoState, IsS
 ghost use Rattle.script_core.specs.StateText as spec;
 
 use crate::numbers::natural_of;
-use crate::pieces::{push_number, push_str, push_word};
-use crate::report_text::{push_held, push_wait, state_word};
-use crate::word_tables::access_word;
+use crate::pieces::{push_number, push_str};
+use crate::report_text::{push_held, push_wait, spaced_state};
+use crate::word_tables::spaced_access;
 use fd_table::{Limits, Look};
 use lock_book::Held;
 use lock_manager::{Manager, ProcState, Rules};
@@ -154,7 +154,7 @@ fn push_where(text: &mut Vec<u8>, p: u8, state: ProcState) -> Result<(), Memory>
 {
     push_str(text, "# proc")?;
     push_number(text, b' ', u64::from(p))?;
-    push_word(text, state_word(state))?;
+    push_str(text, spaced_state(state))?;
     push_str(text, "\n")
 }
 
@@ -223,7 +223,7 @@ fn push_look(text: &mut Vec<u8>, look: Look) -> Result<(), Memory>
 fn push_access(text: &mut Vec<u8>, look: Look) -> Result<(), Memory>
     ensures { MatchResult result (λ unit. text.new.items ≡ text.old.items ++ access_text look) (λ error. Extends text.old.items text.new.items) }
 {
-    push_word(text, access_word(look.access))?;
+    push_str(text, spaced_access(look.access))?;
     push_str(text, " offset")?;
     push_number(text, b' ', look.offset)
 }

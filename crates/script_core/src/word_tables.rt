@@ -1,5 +1,6 @@
-//! The words of values and the values of words, table by table in both directions.
-ghost use Rattle.std.specs.Prelude.{◌≡◌, MatchResult, None, MatchOption};
+//! The words of values and the values of words, table by table in both directions. A word that is written has its space before it,
+//! so that it is pushed as one piece.
+ghost use Rattle.std.specs.Prelude.{◌≡◌, ◌∷◌, MatchResult, None, MatchOption};
 ghost use Rattle.fd_table.specs.declared.Limits.{Limits};
 ghost use Rattle.script_core.specs.RequestText.{access_word as access_word_of, mode_word as mode_word_of, kind_word as kind_word_of, whence_word as whence_word_of, op_word as op_word_of, command_word as command_word_of, lock_command_word};
 ghost use Rattle.script_core.specs.EntryText.{error_name as error_name_of};
@@ -11,17 +12,17 @@ use fd_table::Access;
 use lock_manager::{Errno, FlockOp, LkCmd};
 use range_core::{Kind, Mode, Whence};
 
-/// The word of a lock command.
-pub fn command_word(cmd: LkCmd) -> &'static str
-    ensures { result.now ≡ lock_command_word cmd }
+/// A space, and the word of a lock command.
+pub fn spaced_command(cmd: LkCmd) -> &'static str
+    ensures { result.now ≡ 32 ∷ lock_command_word cmd }
 {
     match cmd {
-        LkCmd::GetLk => "getlk",
-        LkCmd::SetLk => "setlk",
-        LkCmd::SetLkW => "setlkw",
-        LkCmd::OGetLk => "ogetlk",
-        LkCmd::OSetLk => "osetlk",
-        LkCmd::OSetLkW => "osetlkw",
+        LkCmd::GetLk => " getlk",
+        LkCmd::SetLk => " setlk",
+        LkCmd::SetLkW => " setlkw",
+        LkCmd::OGetLk => " ogetlk",
+        LkCmd::OSetLk => " osetlk",
+        LkCmd::OSetLkW => " osetlkw",
     }
 }
 
@@ -52,14 +53,14 @@ pub fn command_name(word: &str) -> Option<CommandName>
     }
 }
 
-/// The word of an access mode.
-pub fn access_word(access: Access) -> &'static str
-    ensures { result.now ≡ access_word_of access }
+/// A space, and the word of an access mode.
+pub fn spaced_access(access: Access) -> &'static str
+    ensures { result.now ≡ 32 ∷ access_word_of access }
 {
     match access {
-        Access::R => "r",
-        Access::W => "w",
-        Access::Rw => "rw",
+        Access::R => " r",
+        Access::W => " w",
+        Access::Rw => " rw",
     }
 }
 
@@ -75,13 +76,13 @@ pub fn read_access(word: &str) -> Result<Access, Cause>
     }
 }
 
-/// The word of the mode of a byte lock.
-pub fn mode_word(mode: Mode) -> &'static str
-    ensures { result.now ≡ mode_word_of mode }
+/// A space, and the word of the mode of a byte lock.
+pub fn spaced_mode(mode: Mode) -> &'static str
+    ensures { result.now ≡ 32 ∷ mode_word_of mode }
 {
     match mode {
-        Mode::Read => "r",
-        Mode::Write => "w",
+        Mode::Read => " r",
+        Mode::Write => " w",
     }
 }
 
@@ -96,14 +97,14 @@ pub fn read_mode(word: &str) -> Result<Mode, Cause>
     }
 }
 
-/// The word of what a lock description asks for.
-pub fn kind_word(kind: Kind) -> &'static str
-    ensures { result.now ≡ kind_word_of kind }
+/// A space, and the word of what a lock description asks for.
+pub fn spaced_kind(kind: Kind) -> &'static str
+    ensures { result.now ≡ 32 ∷ kind_word_of kind }
 {
     match kind {
-        Kind::Read => "r",
-        Kind::Write => "w",
-        Kind::Unlock => "u",
+        Kind::Read => " r",
+        Kind::Write => " w",
+        Kind::Unlock => " u",
     }
 }
 
@@ -119,14 +120,14 @@ pub fn read_kind(word: &str) -> Result<Kind, Cause>
     }
 }
 
-/// The word of what the start of a range is counted from.
-pub fn whence_word(whence: Whence) -> &'static str
-    ensures { result.now ≡ whence_word_of whence }
+/// A space, and the word of what the start of a range is counted from.
+pub fn spaced_whence(whence: Whence) -> &'static str
+    ensures { result.now ≡ 32 ∷ whence_word_of whence }
 {
     match whence {
-        Whence::Set => "set",
-        Whence::Cur => "cur",
-        Whence::End => "end",
+        Whence::Set => " set",
+        Whence::Cur => " cur",
+        Whence::End => " end",
     }
 }
 
@@ -142,14 +143,14 @@ pub fn read_whence(word: &str) -> Result<Whence, Cause>
     }
 }
 
-/// The word of an operation of flock.
-pub fn op_word(op: FlockOp) -> &'static str
-    ensures { result.now ≡ op_word_of op }
+/// A space, and the word of an operation of flock.
+pub fn spaced_op(op: FlockOp) -> &'static str
+    ensures { result.now ≡ 32 ∷ op_word_of op }
 {
     match op {
-        FlockOp::Sh => "sh",
-        FlockOp::Ex => "ex",
-        FlockOp::Un => "un",
+        FlockOp::Sh => " sh",
+        FlockOp::Ex => " ex",
+        FlockOp::Un => " un",
     }
 }
 
@@ -165,19 +166,19 @@ pub fn read_op(word: &str) -> Result<FlockOp, Cause>
     }
 }
 
-/// The error's name in `<errno.h>`.
-pub fn error_name(error: Errno) -> &'static str
-    ensures { result.now ≡ error_name_of error }
+/// A space, and the error's name in `<errno.h>`.
+pub fn spaced_error(error: Errno) -> &'static str
+    ensures { result.now ≡ 32 ∷ error_name_of error }
 {
     match error {
-        Errno::EBADF => "EBADF",
-        Errno::EINVAL => "EINVAL",
-        Errno::EOVERFLOW => "EOVERFLOW",
-        Errno::EAGAIN => "EAGAIN",
-        Errno::EDEADLK => "EDEADLK",
-        Errno::EINTR => "EINTR",
-        Errno::EMFILE => "EMFILE",
-        Errno::ESRCH => "ESRCH",
+        Errno::EBADF => " EBADF",
+        Errno::EINVAL => " EINVAL",
+        Errno::EOVERFLOW => " EOVERFLOW",
+        Errno::EAGAIN => " EAGAIN",
+        Errno::EDEADLK => " EDEADLK",
+        Errno::EINTR => " EINTR",
+        Errno::EMFILE => " EMFILE",
+        Errno::ESRCH => " ESRCH",
     }
 }
 
