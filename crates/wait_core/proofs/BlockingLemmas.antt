@@ -1,6 +1,6 @@
 -- Who blocks a wait: sets of processes, and what one wait more makes of them, and a process by its list; for
 -- `Wait::blocking_by_lock`, `Wait::blocking_by_wait` and `Wait::is_blocked_by_list`.
-use Rattle.std.proofs.Common.{ℕ, ◌≡◌, ◌≢◌, ◌+◌, ◌<◌, ◌↔◌, ◌∙◌, inl, inr, sym, refl, subst, arith, Bool, true, false, Option, Some, None, List, [], ◌∷◌, Any, length, get_or, take}
+use Rattle.std.proofs.Common.{ℕ, ◌≡◌, ◌≢◌, ◌+◌, ◌<◌, ◌↔◌, ◌∙◌, inl, inr, sym, ap, refl, subst, arith, Bool, true, false, Option, Some, None, List, [], ◌∷◌, ◌++◌, Any, length, get_or, take}
 use Rattle.std.specs.Prelude.{IsTrue, IfSome, IfNone, is_some, ◌==◌, ◌||◌}
 use Rattle.std.proofs.lemmas.Bool.{eqb-true, eq-eqb, or_left, or_right}
 use Rattle.std.proofs.lemmas.Bool.Decides.{nat_tests}
@@ -30,47 +30,37 @@ pub inserted_other : (old new : ProcessSet) (p : ℕ) → ((q : ℕ) → is_memb
     → is_member new q ≡ is_member old q
 inserted_other old new p members q other = let no : (q == p) ≡ false = grind (arith, nat_tests) in members q ∙ rw no refl
 
-module _ (wait : Wait) (waits : List Wait) (i : ℕ) (d : Wait) (within : i < length waits) where
+module _ (wait : Wait) (waits : List Wait) (i : ℕ) (last : Wait) (within : i < length waits) (is : get_or waits i last ≡ last) where
+  one_more : take (i + 1) waits ≡ take i waits ++ last ∷ []
+  one_more = take_more waits i last within ∙ ap (λ (w : Wait). take i waits ++ w ∷ []) is
+
   -- one wait more, which is a traditional one in conflict with the wait
-  pub conflicts_more : (old new : ProcessSet) → IsTraditional (get_or waits i d) → WaitsConflict (get_or waits i d) wait
-      → ((q : ℕ) → is_member new q ≡ (q == (get_or waits i d).p || is_member old q))
+  pub conflicts_more : (old new : ProcessSet) → IsTraditional last → WaitsConflict last wait
+      → ((q : ℕ) → is_member new q ≡ (q == last.p || is_member old q))
       → ((q : ℕ) → IsTrue (is_member old q) ↔ Any (IsConflictOf q wait) (take i waits)) → (q : ℕ)
       → IsTrue (is_member new q) ↔ Any (IsConflictOf q wait) (take (i + 1) waits)
-  conflicts_more old new own conflict members before q =
-      let other = get_or waits i d in
-      rw (take_more waits i d within) (
-        λ has. elim (or_cases (q == other.p) (is_member old q) (sym (members q) ∙ has)) [
-          | inl here ↦ Any-append_right (IsConflictOf q wait) (take i waits) (other ∷ []) (Any-here (IsConflictOf q wait) other [] (sym (eqb-true q other.p here), own, conflict))
-          | inr earlier ↦ Any-append_left (IsConflictOf q wait) (take i waits) (other ∷ []) ((before q).0 earlier)
-        ],
-        λ any. members q ∙ elim (Any-append (IsConflictOf q wait) (take i waits) (other ∷ []) any) [
-          | inl earlier ↦ or_right (q == other.p) (is_member old q) ((before q).1 earlier)
-          | inr last ↦ or_left (q == other.p) (is_member old q) (eq-eqb q other.p (sym (Any-alone (IsConflictOf q wait) other last).0))
-        ],
-      )
-
-  skipped : (set : ProcessSet) → ¬ (IsTraditional (get_or waits i d) × WaitsConflict (get_or waits i d) wait)
-      → ((q : ℕ) → IsTrue (is_member set q) ↔ Any (IsConflictOf q wait) (take i waits)) → (q : ℕ)
-      → IsTrue (is_member set q) ↔ Any (IsConflictOf q wait) (take (i + 1) waits)
-  skipped set neither before q = rw (take_more waits i d within) (
-    λ has. Any-append_left (IsConflictOf q wait) (take i waits) (get_or waits i d ∷ []) ((before q).0 has),
-    λ any. elim (Any-append (IsConflictOf q wait) (take i waits) (get_or waits i d ∷ []) any) [
-      | inl earlier ↦ (before q).1 earlier
-      | inr last ↦ (let here = Any-alone (IsConflictOf q wait) (get_or waits i d) last in absurd (neither (here.1, here.2)))
+  conflicts_more old new own conflict members before q = rw one_more (
+    λ has. elim (or_cases (q == last.p) (is_member old q) (sym (members q) ∙ has)) [
+      | inl here ↦ Any-append_right (IsConflictOf q wait) (take i waits) (last ∷ []) (Any-here (IsConflictOf q wait) last [] (sym (eqb-true q last.p here), own, conflict))
+      | inr earlier ↦ Any-append_left (IsConflictOf q wait) (take i waits) (last ∷ []) ((before q).0 earlier)
+    ],
+    λ any. members q ∙ elim (Any-append (IsConflictOf q wait) (take i waits) (last ∷ []) any) [
+      | inl earlier ↦ or_right (q == last.p) (is_member old q) ((before q).1 earlier)
+      | inr one ↦ or_left (q == last.p) (is_member old q) (eq-eqb q last.p (sym (Any-alone (IsConflictOf q wait) last one).0))
     ],
   )
 
-  -- and one that isn't traditional
-  pub description_skipped : (set : ProcessSet) (b : Bool) → IsTrue b ↔ IsTraditional (get_or waits i d) → b ≡ false
+  -- and one that isn't
+  pub skipped : (set : ProcessSet) → ¬ (IsTraditional last × WaitsConflict last wait)
       → ((q : ℕ) → IsTrue (is_member set q) ↔ Any (IsConflictOf q wait) (take i waits)) → (q : ℕ)
       → IsTrue (is_member set q) ↔ Any (IsConflictOf q wait) (take (i + 1) waits)
-  description_skipped set b test differs = skipped set (λ both. (let yes = test.1 both.0 in cc))
-
-  -- and one that doesn't conflict
-  pub compatible_skipped : (set : ProcessSet) (b : Bool) → IsTrue b ↔ WaitsConflict (get_or waits i d) wait → b ≡ false
-      → ((q : ℕ) → IsTrue (is_member set q) ↔ Any (IsConflictOf q wait) (take i waits)) → (q : ℕ)
-      → IsTrue (is_member set q) ↔ Any (IsConflictOf q wait) (take (i + 1) waits)
-  compatible_skipped set b test differs = skipped set (λ both. (let yes = test.1 both.1 in cc))
+  skipped set neither before q = rw one_more (
+    λ has. Any-append_left (IsConflictOf q wait) (take i waits) (last ∷ []) ((before q).0 has),
+    λ any. elim (Any-append (IsConflictOf q wait) (take i waits) (last ∷ []) any) [
+      | inl earlier ↦ (before q).1 earlier
+      | inr one ↦ (let here = Any-alone (IsConflictOf q wait) last one in absurd (neither (here.1, here.2)))
+    ],
+  )
 
 -- a process whose modes stand in a list blocks where the list has a hit
 pub list_blocks : (modes : ByteModes) (process : ℕ) (owner : Owner) (span : Span) (wanted : Mode) (list : RangeList) (hit : Option ℕ)

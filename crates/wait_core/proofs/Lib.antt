@@ -3,6 +3,8 @@ pub mod BehindLemmas
 pub mod BlockingLemmas
 pub mod CycleLaws
 pub mod DecideLemmas
+pub mod FileLemmas
+pub mod LinkLemmas
 pub mod ListLemmas
 pub mod ListedLemmas
 pub mod PairLemmas

@@ -118,7 +118,7 @@ found_itself (v ∷ waits) (suc i) wait within is apart =
     (λ j k d before last. apart (suc j) (suc k) d (omega (arith, before)) (omega (arith, last))))
 
 -- others than the process' waits all stay where its own goes
-all_stay : (waits : List Wait) (p : ℕ) → All (λ v. v.p ≢ p) waits → without_wait_of waits p ≡ waits
+pub all_stay : (waits : List Wait) (p : ℕ) → All (λ v. v.p ≢ p) waits → without_wait_of waits p ≡ waits
 all_stay [] p others = refl
 all_stay (w ∷ waits) p others =
     let passed : (w.p == p) ≡ false = (let other = All-head (λ v. v.p ≢ p) w waits others in grind (arith, nat_tests)) in

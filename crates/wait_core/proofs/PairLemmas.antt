@@ -263,23 +263,22 @@ abbrev pub Before : (Wait → Type 0) → (Wait → Type 0) → List Wait → �
 Before P On waits i = (k : ℕ) (wait : Wait) → k < i → k < length waits → get_or waits k wait ≡ wait → On wait → P wait
 
 -- and of one wait more that is looked at, where the waits of other processes keep it
-pub before_more : (P P' On : Wait → Type 0) (i : ℕ) (waits : List Wait) (d : Wait) → AllPairs (λ v w. v.p ≢ w.p) waits → i < length waits
-    → Before P On waits i → P' (get_or waits i d)
-    → ((w : Wait) → w.p ≢ (get_or waits i d).p → P w → P' w) → Before P' On waits (i + 1)
-before_more P P' On i waits d apart within before last keeps k w below inside at on = elim (cases_eq k i) [
+pub before_more : (P P' On : Wait → Type 0) (i : ℕ) (waits : List Wait) (last : Wait) → AllPairs (λ v w. v.p ≢ w.p) waits → i < length waits
+    → get_or waits i last ≡ last → Before P On waits i → P' last → ((w : Wait) → w.p ≢ last.p → P w → P' w) → Before P' On waits (i + 1)
+before_more P P' On i waits last apart within is before now keeps k w below inside at on = elim (cases_eq k i) [
   | inl same ↦
-      let w_is : w ≡ get_or waits i d = sym at ∙ ap (λ (n : ℕ). get_or waits n w) same ∙ get_or_default waits i w d within in
-      subst P' (sym w_is) last
+      let w_is : w ≡ last = sym at ∙ ap (λ (n : ℕ). get_or waits n w) same ∙ get_or_default waits i w last within ∙ is in
+      subst P' (sym w_is) now
   | inr other ↦
-      let differs : w.p ≢ (get_or waits i d).p =
-      λ same. apart k i d (omega arith) within (ap (λ (x : Wait). x.p) (get_or_default waits k d w inside ∙ at) ∙ same) in
+      let differs : w.p ≢ last.p =
+      λ same. apart k i last (omega arith) within (ap (λ (x : Wait). x.p) (get_or_default waits k last w inside ∙ at) ∙ same ∙ ap (λ (x : Wait). x.p) (sym is)) in
       keeps w differs (before k w (omega arith) inside at on)
 ]
 
 -- and of one that isn't
-pub before_skip : (P On : Wait → Type 0) (i : ℕ) (waits : List Wait) (d : Wait) → i < length waits → ¬ On (get_or waits i d) → Before P On waits i
-    → Before P On waits (i + 1)
-before_skip P On i waits d h h2 h3 h4 h5 h6 h7 h8 h9 = grind (arith, common_steps, cases_eq, get_or_default)
+pub before_skip : (P On : Wait → Type 0) (i : ℕ) (waits : List Wait) (last : Wait) → i < length waits → get_or waits i last ≡ last → ¬ On last
+    → Before P On waits i → Before P On waits (i + 1)
+before_skip P On i waits last h h2 h3 h4 h5 h6 h7 h8 h9 h10 = grind (arith, common_steps, cases_eq, get_or_default)
 
 -- and of all
 pub before_all : (P On : Wait → Type 0) (waits : List Wait) → Before P On waits (length waits) → All (λ wait. On wait → P wait) waits

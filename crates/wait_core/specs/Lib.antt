@@ -7,5 +7,7 @@ pub mod Processes
 pub mod Files
 pub mod Pairs
 pub mod PairsView
+pub mod Links
+pub mod Queues
 pub mod WaitsView
 pub mod FreeOfCycles

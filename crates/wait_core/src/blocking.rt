@@ -3,16 +3,18 @@ ghost use Rattle.std.specs.Prelude.{ℕ, ◌≡◌, ◌<◌, ◌≤◌, ◌↔�
 ghost use Rattle.std.specs.Option.{option_copied};
 ghost use Rattle.range_core.specs.Ranges.{IsByteRange};
 ghost use Rattle.lock_book.specs.declared.Owner.TheVariants.{Process};
+ghost use Rattle.wait_core.specs.declared.Family.TheVariants.{Bytes};
 ghost use Rattle.lock_book.specs.Conflicts.{ByteModes, ProcessBlocks};
 ghost use Rattle.lock_book.specs.OwnerLists.{modes_in_list};
 ghost use Rattle.wait_core.specs.Locks.{Locks, locks_of};
 ghost use Rattle.wait_core.specs.Blocking.{IsBlockedByLock, Meet, WaitsConflict};
 ghost use Rattle.wait_core.specs.Cycles.{IsTraditional};
-ghost use Rattle.wait_core.specs.Pairs.{IsBlockedWait, IsConflictOf, IsOn};
+ghost use Rattle.wait_core.specs.Pairs.{IsBlockedWait, IsConflictOf};
 ghost use Rattle.wait_core.specs.Processes.{is_member};
 ghost use Rattle.wait_core.specs.WellFormed.{IsWellFormed, can_own};
 
 use crate::processes::{PROCESSES, ProcessSet};
+use crate::queues::FileWaits;
 use crate::{Family, Wait};
 use lock_book::{Book, Owner};
 use range_core::{RangeList, Span};
@@ -37,11 +39,11 @@ impl Wait {
             && self.owner != other.owner
     }
 
-    /// Whether the wait is on the file, and on a range that meets this one.
-    pub(crate) fn is_on(&self, file: u8, span: Span) -> bool
-        ensures { IsTrue result ↔ IsOn file span self.now }
+    /// Whether the wait's range meets this one.
+    pub(crate) fn meets(&self, span: Span) -> bool
+        ensures { IsTrue result ↔ Meet Bytes self.now.span span }
     {
-        self.file == file && meet(Family::Bytes, self.span, span)
+        meet(Family::Bytes, self.span, span)
     }
 
     /// Whether a lock of another owner blocks the wait; `books` has the locks, by file (POSIX.1-2017 fcntl, `F_SETLK`;
@@ -111,16 +113,16 @@ impl Wait {
     }
 
     /// Whether one of these waits conflicts with the wait.
-    pub(crate) fn conflicts_with_any(&self, earlier: &[Wait]) -> bool
-        ensures { IsTrue result ↔ Any (λ v. WaitsConflict v self.now) earlier.now }
+    pub(crate) fn conflicts_with_any(&self, mut earlier: FileWaits<'_>) -> bool
+        ensures { IsTrue result ↔ Any (λ v. WaitsConflict v self.now) earlier.entry }
     {
-        earlier.iter().any(|other| other.conflicts_with(self))
+        earlier.any(|other| other.conflicts_with(self))
     }
 
     /// The processes of which a traditional wait, one of these, conflicts with the wait.
-    pub(crate) fn blocking_by_wait(&self, earlier: &[Wait]) -> ProcessSet
-        requires { All (IsWellFormed PROCESSES) earlier.now }
-        ensures { (q : ℕ) → IsTrue (is_member result q) ↔ Any (IsConflictOf q self.now) earlier.now }
+    pub(crate) fn blocking_by_wait(&self, earlier: FileWaits<'_>) -> ProcessSet
+        requires { All (IsWellFormed PROCESSES) earlier }
+        ensures { (q : ℕ) → IsTrue (is_member result q) ↔ Any (IsConflictOf q self.now) earlier.entry }
     {
         let mut blocking = ProcessSet::empty();
         for other in earlier {
@@ -132,9 +134,9 @@ impl Wait {
     }
 
     /// The same where the wait is traditional, and none where it isn't.
-    pub(crate) fn blocking_if_traditional(&self, earlier: &[Wait]) -> ProcessSet
-        requires { All (IsWellFormed PROCESSES) earlier.now }
-        ensures { (q : ℕ) → IsTrue (is_member result q) ↔ IsTraditional self.now × Any (IsConflictOf q self.now) earlier.now }
+    pub(crate) fn blocking_if_traditional(&self, earlier: FileWaits<'_>) -> ProcessSet
+        requires { All (IsWellFormed PROCESSES) earlier }
+        ensures { (q : ℕ) → IsTrue (is_member result q) ↔ IsTraditional self.now × Any (IsConflictOf q self.now) earlier.entry }
     {
         if self.is_traditional() {
             self.blocking_by_wait(earlier)

@@ -6,6 +6,7 @@ mod files;
 mod laws;
 mod pairs;
 mod processes;
+mod queues;
 mod waits;
 
 pub use laws::stay_free_of_cycles;

@@ -1,22 +1,20 @@
 //! Which process waits for which.
 ghost use Rattle.std.specs.Prelude.{◌≡◌, ◌≢◌, ℕ, suc, ◌<◌, ◌≤◌, ◌↔◌, ◌==◌, if◌then◌else◌, false, IsFalse, All, AllPairs, IfOk, IsTrue, length, vec_len};
-ghost use Rattle.wait_core.specs.declared.pairs.TheConstants.{ROWS};
+ghost use Rattle.wait_core.specs.declared.processes.TheConstants.{ROWS};
 ghost use Rattle.lock_book.specs.declared.Owner.TheVariants.{Process};
 ghost use Rattle.std.specs.Option.{option_copied};
 ghost use Rattle.lock_book.specs.OwnerLists.{modes_in_list};
 ghost use Rattle.wait_core.specs.Locks.{Locks, locks_of};
-ghost use Rattle.wait_core.specs.Pairs.{IsBlockedWait, IsElsewhere, IsOff, IsOn};
+ghost use Rattle.wait_core.specs.Pairs.{IsBlockedWait, IsOff, IsOn};
 ghost use Rattle.wait_core.specs.Processes.{is_member};
 ghost use Rattle.wait_core.specs.WellFormed.{IsWellFormed};
 
 use crate::Wait;
-use crate::processes::{PROCESSES, ProcessSet};
+use crate::processes::{PROCESSES, ProcessSet, ROWS};
+use crate::queues::FileWaits;
 use lock_book::{Book, Owner};
 use range_core::{Memory, RangeList, Span};
 use std::alloc::Global;
-
-/// How many rows there are: one for each process, and a first one of no process, which stays empty.
-const ROWS: usize = PROCESSES as usize + 1;
 
 /// Which process waits for which: by a lock, or behind another wait, as its owner says.
 #[derive(Debug, Drop)]
@@ -56,37 +54,36 @@ impl Pairs {
         self.rows[usize::from(wait.p)] = row_of(wait, books);
     }
 
-    /// Tells anew for which processes those wait by a lock whose waits are on the file.
-    pub fn tell_of_file(&mut self, file: u8, waits: &[Wait], books: &[Book])
-        requires waits { All (IsWellFormed PROCESSES) waits.now }
-        requires apart { AllPairs (λ v w. v.p ≢ w.p) waits.now }
+    /// Tells anew for which processes those wait by a lock whose waits these are.
+    pub fn tell_all(&mut self, waits: FileWaits<'_>, books: &[Book])
+        requires waits { All (IsWellFormed PROCESSES) waits }
+        requires apart { AllPairs (λ v w. v.p ≢ w.p) waits }
         requires books { length books.now ≡ 64 }
-        ensures told { All (λ wait. wait.file ≡ file → TellsWait self.new (locks_of books.now) wait) waits.now }
-        ensures others { (p q : ℕ) → All (IsElsewhere p file) waits.now → pair_in self.new p q ≡ pair_in self.old p q }
+        ensures told { All (TellsWait self.new (locks_of books.now)) waits.entry }
+        ensures others { (p q : ℕ) → All (λ wait. wait.p ≢ p) waits.entry → pair_in self.new p q ≡ pair_in self.old p q }
     {
         for wait in waits {
-            if wait.file == file {
-                self.tell(wait, books);
-            }
+            self.tell(wait, books);
         }
     }
 
-    /// Tells anew which of the processes whose waits are on the file, and meet the range, wait for the owner by a lock: none where
-    /// it is no process.
+    /// Tells anew which of the processes whose waits these are, all those on the file, and meet the range, wait for the owner by a
+    /// lock: none where it is no process.
     pub fn tell_of_owner(
         &mut self,
         file: u8,
         owner: Owner,
         span: Span,
-        waits: &[Wait],
+        waits: FileWaits<'_>,
         books: &[Book],
     )
-        requires waits { All (IsWellFormed PROCESSES) waits.now }
-        requires apart { AllPairs (λ v w. v.p ≢ w.p) waits.now }
+        requires waits { All (IsWellFormed PROCESSES) waits }
+        requires apart { AllPairs (λ v w. v.p ≢ w.p) waits }
+        requires on_file { All (λ wait. wait.file ≡ file) waits }
         requires books { length books.now ≡ 64 }
         ensures told { (q : ℕ) → Process q ≡ owner → 1 ≤ q → q ≤ PROCESSES
-            → All (λ wait. IsOn file span wait → TellsPair self.new (locks_of books.now) q wait) waits.now }
-        ensures others { (p r : ℕ) → r ≤ PROCESSES → (Process r ≡ owner → All (IsOff p file span) waits.now) → pair_in self.new p r ≡ pair_in self.old p r }
+            → All (λ wait. IsOn file span wait → TellsPair self.new (locks_of books.now) q wait) waits.entry }
+        ensures others { (p r : ℕ) → r ≤ PROCESSES → (Process r ≡ owner → All (IsOff p file span) waits.entry) → pair_in self.new p r ≡ pair_in self.old p r }
     {
         if let Owner::Process(q) = owner
             && (1..=PROCESSES).contains(&q)
@@ -95,15 +92,16 @@ impl Pairs {
         }
     }
 
-    /// Tells anew which of the processes whose waits are on the file, and meet the range, wait for this one by a lock.
-    fn tell_of_process(&mut self, file: u8, q: u8, span: Span, waits: &[Wait], books: &[Book])
+    /// Tells anew which of the processes whose waits these are, all those on the file, and meet the range, wait for this one by a lock.
+    fn tell_of_process(&mut self, file: u8, q: u8, span: Span, waits: FileWaits<'_>, books: &[Book])
         requires from_one { 1 ≤ q }
         requires few { q ≤ PROCESSES }
-        requires waits { All (IsWellFormed PROCESSES) waits.now }
-        requires apart { AllPairs (λ v w. v.p ≢ w.p) waits.now }
+        requires waits { All (IsWellFormed PROCESSES) waits }
+        requires apart { AllPairs (λ v w. v.p ≢ w.p) waits }
+        requires on_file { All (λ wait. wait.file ≡ file) waits }
         requires books { length books.now ≡ 64 }
-        ensures told { All (λ wait. IsOn file span wait → TellsPair self.new (locks_of books.now) q wait) waits.now }
-        ensures others { (p r : ℕ) → r ≤ PROCESSES → (r ≡ q → All (IsOff p file span) waits.now) → pair_in self.new p r ≡ pair_in self.old p r }
+        ensures told { All (λ wait. IsOn file span wait → TellsPair self.new (locks_of books.now) q wait) waits.entry }
+        ensures others { (p r : ℕ) → r ≤ PROCESSES → (r ≡ q → All (IsOff p file span) waits.entry) → pair_in self.new p r ≡ pair_in self.old p r }
     {
         let Some(book) = books.get(usize::from(file)) else {
             // Each wait is on a file with a book.
@@ -111,7 +109,7 @@ impl Pairs {
         };
         let list = book.list(Owner::Process(q));
         for waiting in waits {
-            if waiting.is_on(file, span) {
+            if waiting.meets(span) {
                 self.tell_pair(waiting, q, list);
             }
         }

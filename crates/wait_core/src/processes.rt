@@ -7,6 +7,9 @@ use crate::Wait;
 /// How many processes there are at most, which are numbered from 1 (this project's choice).
 pub const PROCESSES: u8 = 64;
 
+/// How many rows a table by process has: one for each process, and a first one of no process, which stays empty.
+pub const ROWS: usize = PROCESSES as usize + 1;
+
 /// A set of processes, in one word: process `p` is bit `p - 1`.
 #[derive(Clone, Copy, Debug, PartialEq, Eq)]
 pub struct ProcessSet {

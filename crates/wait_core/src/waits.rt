@@ -9,6 +9,7 @@ ghost use Rattle.wait_core.specs.Cycles.{IsTraditional};
 ghost use Rattle.wait_core.specs.Pairs.{IsBehindNone, IsConflictOf, IsOn};
 ghost use Rattle.wait_core.specs.PairsView.{TellsQueue};
 ghost use Rattle.wait_core.specs.Processes.{AreThoseWaiting, is_member};
+ghost use Rattle.wait_core.specs.Queues.{AreQueues, AreQueues-prop, links_in, waits_on};
 ghost use Rattle.wait_core.specs.WellFormed.{IsWellFormed};
 
 mod cycles;
@@ -16,6 +17,7 @@ mod cycles;
 use crate::files::{FILES, FileSet};
 use crate::pairs::Pairs;
 use crate::processes::ProcessSet;
+use crate::queues::{FileWaits, Queues};
 use crate::{Policy, Wait};
 use lock_book::{Book, Owner, conflicts_are_decided};
 use range_core::{Memory, Span};
@@ -28,10 +30,13 @@ use std::alloc::Global;
 /// [`Waits::touch`] and [`Waits::refresh`] were told, or what [`Waits::refresh_owner`] was told and a wait meets. Where each wait was
 /// blocked then, a wait on another file is blocked still.
 ///
-/// Only [`Waits::new`] takes memory.
+/// Beside the order of arrival each file has a queue of its own: what a change of its locks or a wait on it meets is looked for there
+/// alone. Only [`Waits::new`] takes memory.
 #[derive(Drop)]
 pub struct Waits {
     waits: Vec<Wait>,
+    /// The waits on each file.
+    queues: Queues,
     /// The processes that wait.
     waiting: ProcessSet,
     pairs: Pairs,
@@ -39,7 +44,7 @@ pub struct Waits {
     behind: ProcessSet,
     /// Row `p` has the processes of which a traditional wait stands before that of process `p`, a traditional one that conflicts with
     /// it, under the queue policy.
-    queue: Pairs,
+    ahead: Pairs,
     changed: FileSet,
     policy: Policy,
     processes: u8,
@@ -47,9 +52,12 @@ pub struct Waits {
     ghost room: { processes ≤ vec_capacity waits },
     ghost well_formed: { All (IsWellFormed processes) waits.items },
     ghost apart: { AllPairs (λ v w. v.p ≢ w.p) waits.items },
+    ghost short: { length waits.items ≤ PROCESSES },
+    ghost linked: { AreQueues queues (waits_on waits.items) } by { AreQueues-prop queues (waits_on waits.items) },
+    ghost free: { (p : ℕ) → All (λ wait. wait.p ≢ p) waits.items → (links_in queues).waits p ≡ None },
     ghost known: { AreThoseWaiting waiting waits.items },
     ghost behind_none: { policy ≡ Queue → AllPairs (IsBehindNone behind) waits.items },
-    ghost queue_told: { policy ≡ Queue → ∥ TellsQueue queue waits.items ∥₁ },
+    ghost ahead_told: { policy ≡ Queue → ∥ TellsQueue ahead waits.items ∥₁ },
 }
 
 #[tactic(auto, unfolding(crate::specs::WaitsView::waits_of, crate::specs::WaitsView::policy_of, crate::specs::WaitsView::processes_of, crate::specs::WaitsView::has_pair, crate::specs::Settled::changed_files))]
@@ -72,10 +80,11 @@ impl Waits {
         let waits = Vec::with_capacity(alloc, usize::from(processes))?;
         Ok(Waits {
             waits,
+            queues: Queues::new(alloc)?,
             waiting: ProcessSet::empty(),
             pairs: Pairs::new(alloc)?,
             behind: ProcessSet::empty(),
-            queue: Pairs::new(alloc)?,
+            ahead: Pairs::new(alloc)?,
             changed: FileSet::empty(),
             policy,
             processes,
@@ -126,9 +135,10 @@ impl Waits {
     {
         let ahead = self.queued_behind(&wait);
         self.behind = self.behind.put(wait.p, self.queued(&wait));
-        self.queue.tell_row(wait.p, ahead);
+        self.ahead.tell_row(wait.p, ahead);
         self.pairs.tell(&wait, books);
         self.waiting = self.waiting.with(wait.p);
+        self.queues.join(wait);
         self.waits.push_reserved(wait);
     }
 
@@ -147,7 +157,8 @@ impl Waits {
         self.changed = self.changed.with(wait.file);
         self.waiting = self.waiting.without(p);
         self.pairs.forget(p);
-        leave_queue(&mut self.queue, self.policy, p);
+        self.queues.leave(&wait);
+        forget_ahead(&mut self.ahead, self.policy, p);
         Some(wait)
     }
 
@@ -168,7 +179,7 @@ impl Waits {
         ensures blocked { file < FILES → (locks : Locks) → AreBlockedElsewhere self.old locks → AgreeElsewhere file locks (locks_of books.now)
             → AreBlockedElsewhere self.new (locks_of books.now) }
     {
-        self.pairs.tell_of_file(file, &self.waits, books);
+        self.pairs.tell_all(self.queues.on(file), books);
         self.touch(file);
     }
 
@@ -188,7 +199,7 @@ impl Waits {
     {
         if self.has_wait_on(file, span) {
             self.pairs
-                .tell_of_owner(file, owner, span, &self.waits, books);
+                .tell_of_owner(file, owner, span, self.queues.on(file), books);
             self.touch(file);
         }
     }
@@ -197,7 +208,14 @@ impl Waits {
     fn has_wait_on(&self, file: u8, span: Span) -> bool
         ensures { IsTrue result ↔ Any (IsOn file span) (waits_of self.now) }
     {
-        self.waits.iter().any(|wait| wait.is_on(file, span))
+        self.on(file).any(|wait| wait.meets(span))
+    }
+
+    /// The waits on the file, the latest first.
+    fn on(&self, file: u8) -> FileWaits<'_>
+        ensures { result ≡ waits_on (waits_of self.now) file }
+    {
+        self.queues.on(file)
     }
 
     /// The file counts as changed, as after a change of its flock locks, of which the pairs say nothing.
@@ -281,7 +299,7 @@ impl Waits {
     {
         match self.policy {
             Policy::Held => false,
-            Policy::Queue => wait.conflicts_with_any(&self.waits),
+            Policy::Queue => wait.conflicts_with_any(self.on(wait.file)),
         }
     }
 
@@ -293,7 +311,7 @@ impl Waits {
     {
         match self.policy {
             Policy::Held => ProcessSet::empty(),
-            Policy::Queue => wait.blocking_if_traditional(&self.waits),
+            Policy::Queue => wait.blocking_if_traditional(self.on(wait.file)),
         }
     }
 
@@ -368,19 +386,22 @@ impl Waits {
         ensures { (wait : Wait) → slice_get (waits_of self.now) i ≡ Some wait → IsTrue result ↔ Any (λ v. WaitsConflict v wait) (take i (waits_of self.now)) }
     {
         let wait = &self.waits[i];
-        self.behind.has(wait.p) && wait.conflicts_with_any(&self.waits[..i])
+        self.behind.has(wait.p)
+            && self.waits[..i]
+                .iter()
+                .any(|other| other.conflicts_with(wait))
     }
 }
 
 /// A process' wait leaves the list, of which these pairs are kept under the queue policy.
-fn leave_queue(queue: &mut Pairs, policy: Policy, p: u8)
-    ensures { policy ≡ Queue → (waits : List Wait) → TellsQueue queue.old waits → TellsQueue queue.new (filter (λ wait. not (wait.p == p)) waits) }
+fn forget_ahead(ahead: &mut Pairs, policy: Policy, p: u8)
+    ensures { policy ≡ Queue → (waits : List Wait) → TellsQueue ahead.old waits → TellsQueue ahead.new (filter (λ wait. not (wait.p == p)) waits) }
 {
     match policy {
         Policy::Held => {}
         Policy::Queue => {
-            queue.forget(p);
-            queue.forget_blocker(p);
+            ahead.forget(p);
+            ahead.forget_blocker(p);
         }
     }
 }

@@ -61,7 +61,7 @@ impl Waits {
         let by_lock = wait.blocking_by_lock(books);
         match self.policy {
             Policy::Held => by_lock,
-            Policy::Queue => by_lock.union(wait.blocking_by_wait(&self.waits)),
+            Policy::Queue => by_lock.union(wait.blocking_by_wait(self.on(wait.file))),
         }
     }
 
@@ -73,7 +73,7 @@ impl Waits {
         let by_lock = self.pairs.all_told();
         match self.policy {
             Policy::Held => by_lock,
-            Policy::Queue => by_lock.union(self.queue.all_told()),
+            Policy::Queue => by_lock.union(self.ahead.all_told()),
         }
     }
 
@@ -86,7 +86,7 @@ impl Waits {
         let row = self.pairs.row(p);
         match self.policy {
             Policy::Held => row,
-            Policy::Queue => row.union(self.queue.row(p)),
+            Policy::Queue => row.union(self.ahead.row(p)),
         }
     }
 }

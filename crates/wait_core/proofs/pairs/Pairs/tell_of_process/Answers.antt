@@ -1,45 +1,67 @@
-use Rattle.std.proofs.Common.{ℕ, ◌∙◌, Some, ap, sym, arith, slice_get}
+use Rattle.std.proofs.Common.{ℕ, ◌≡◌, ◌∙◌, Some, ap, sym, subst, arith, length, slice_get}
+use Rattle.std.specs.Map.Iter.{deref}
+use Rattle.std.proofs.lemmas.Map.Iter.{iter_end}
+use Rattle.std.proofs.lemmas.Map.Views.{All-turn}
 use Rattle.std.proofs.lemmas.Option.{slice_get-get_or}
 use Rattle.lock_book.specs.declared.Owner.TheVariants.{Process}
+use Rattle.wait_core.specs.declared.Wait.{Wait}
 use Rattle.wait_core.specs.Locks.{byte_modes_at, locks_of}
-use Rattle.wait_core.specs.Pairs.{IsOn}
+use Rattle.wait_core.specs.Pairs.{IsOff, IsOn}
 use Rattle.wait_core.specs.PairsView.{TellsPair}
-use Rattle.wait_core.proofs.PairLemmas.{before_more, before_skip, before_all, tells_still}
+use Rattle.wait_core.specs.WellFormed.{IsWellFormed}
+use Rattle.wait_core.proofs.FileLemmas.{turn}
+use Rattle.wait_core.proofs.PairLemmas.{Before, before_more, before_skip, before_all, tells_still}
 use Rattle.wait_core.proofs.pairs.Pairs.tell_of_process.Goals as goal
-use Rattle.wait_core.proofs.pairs.Pairs.tell_of_process.Goals.{then-is_on, else-is_on}
+
+pub tell_pair-requires-clause-wait : goal.tell_pair-requires-clause-wait
+tell_pair-requires-clause-wait c =
+    All-turn deref (IsWellFormed 64) c.args.waits c.loop-waiting.yielded _ _ _ _ c.in-Some-waiting.waiting c.requires.waits
+    c.into_iter-waiting-iterator.ensures.into_iter_gives c.loop-waiting.yielded_by c.in-Some-waiting.is c.next.ensures.steps
+
+pub loop-waiting-preserved-then-meets : goal.loop-waiting-preserved-then-meets
+loop-waiting-preserved-then-meets c =
+    let locks = locks_of c.args.books.now in
+    let waits = c.args.waits in
+    let wait = c.in-Some-waiting.waiting.now in
+    let q = c.args.q in
+    let On = IsOn c.args.file c.args.span in
+    let here = turn waits c.loop-waiting.yielded _ _ _ _ c.in-Some-waiting.waiting c.into_iter-waiting-iterator.ensures.into_iter_gives c.loop-waiting.yielded_by c.in-Some-waiting.is c.next.ensures.steps in
+    let on_file : wait.file ≡ c.args.file = subst (λ (w : Wait). w.file ≡ c.args.file) here.item (c.requires.on_file (length c.loop-waiting.yielded) wait here.within) in
+    let books = c.args.books.now in
+    let found = c.in-Some.ensures.lookup in
+    let book = ap (λ b. Some b) found.1 ∙ sym (slice_get-get_or books c.from.result c.in-Some.book.now found.3.0) in
+    let listed = λ (byte : ℕ). c.list-list.ensures byte ∙ ap (λ b. byte_modes_at b (Process q) byte)
+    (book ∙ ap (slice_get books) (c.from.ensures ∙ sym on_file)) in
+    record {
+      can_next = tt;
+      is_finite = tt;
+      told = subst (λ (n : ℕ). Before (TellsPair c.tell_pair.new.self locks q) On waits n) (sym here.more)
+          (before_more (TellsPair c.loop-waiting.self locks q) (TellsPair c.tell_pair.new.self locks q) On (length c.loop-waiting.yielded) waits wait c.requires.apart
+          here.within here.item c.loop-waiting.invariant.told (c.tell_pair.ensures.told locks listed)
+          (λ v another was. tells_still c.loop-waiting.self c.tell_pair.new.self locks q v (c.tell_pair.ensures.others v.p q c.requires.few
+          (λ same. absurd (another same))) was));
+      others = λ p r few off. c.tell_pair.ensures.others p r few
+          (λ same itself. subst (IsOff p c.args.file c.args.span) here.item (off itself (length c.loop-waiting.yielded) wait here.within) (sym same)
+          (on_file, c.meets.ensures.0 c.if-meets.true)) ∙
+          c.loop-waiting.invariant.others p r few off;
+    }
 
 pub loop-waiting-preserved : goal.loop-waiting-preserved
 loop-waiting-preserved c =
-    let locks = locks_of c.args.books.now in
-    let waits = c.args.waits.now in
-    let i = c.loop-waiting.waiting-index in
-    let q = c.args.q in
-    let On = IsOn c.args.file c.args.span in
-    elim c.if-is_on.branch [
-      | then-is_on w ↦
-          let books = c.args.books.now in
-          let found = c.in-Some.ensures.lookup in
-          let book = ap (λ b. Some b) found.1 ∙ sym (slice_get-get_or books c.from.result c.in-Some.book.now found.3.0) in
-          let listed = λ (byte : ℕ). c.list-list.ensures byte ∙ ap (λ b. byte_modes_at b (Process q) byte)
-          (book ∙ ap (slice_get books) (c.from.ensures ∙ sym (c.is_on.ensures.0 w.if-is_on.true).0)) in
-          rw w.self-is (record {
-            told = before_more (TellsPair c.loop-waiting.self locks q) (TellsPair w.tell_pair.new.self locks q) On i waits _ c.requires.apart
-                c.loop-waiting-test.true
-                c.loop-waiting.invariant.told (w.tell_pair.ensures.told locks listed)
-                (λ v another was. tells_still c.loop-waiting.self w.tell_pair.new.self locks q v (w.tell_pair.ensures.others v.p q c.requires.few
-                (λ same. absurd (another same))) was);
-            others = λ p r few off. w.tell_pair.ensures.others p r few
-                (λ same itself. off itself i _ c.loop-waiting-test.true (sym same) (c.is_on.ensures.0 w.if-is_on.true)) ∙
-                c.loop-waiting.invariant.others p r few off;
-          })
-      | else-is_on w ↦ rw w.self-is (record {
-        told = before_skip (TellsPair c.loop-waiting.self locks q) On i waits _ c.loop-waiting-test.true
-            (λ on. (let yes = c.is_on.ensures.1 on in let no = w.if-is_on.false in cc)) c.loop-waiting.invariant.told;
-        others = c.loop-waiting.invariant.others;
-      })
-    ]
+    let waits = c.args.waits in
+    let here = turn waits c.loop-waiting.yielded _ _ _ _ c.in-Some-waiting.waiting c.into_iter-waiting-iterator.ensures.into_iter_gives c.loop-waiting.yielded_by c.in-Some-waiting.is c.next.ensures.steps in
+    let P = TellsPair c.loop-waiting.self (locks_of c.args.books.now) c.args.q in
+    record {
+      can_next = tt;
+      is_finite = tt;
+      told = subst (λ (n : ℕ). Before P (IsOn c.args.file c.args.span) waits n) (sym here.more)
+          (before_skip P (IsOn c.args.file c.args.span) (length c.loop-waiting.yielded) waits c.in-Some-waiting.waiting.now here.within here.item
+          (λ on. (let yes = c.meets.ensures.1 on.1 in let no = c.if-meets.false in cc)) c.loop-waiting.invariant.told);
+      others = c.loop-waiting.invariant.others;
+    }
 
 pub returns-clause-told : goal.returns-clause-told
 returns-clause-told c =
-    before_all (TellsPair c.loop-waiting.self (locks_of c.args.books.now) c.args.q) (IsOn c.args.file c.args.span) c.args.waits.now
-    (λ k wait below within. c.loop-waiting.invariant.told k wait (let past = c.loop-waiting-test.false in omega (arith, past, within)) within)
+    let P = TellsPair c.loop-waiting.self (locks_of c.args.books.now) c.args.q in
+    let (whole, all) = iter_end deref c.args.waits c.loop-waiting.yielded _ _ _ _ c.into_iter-waiting-iterator.ensures.into_iter_gives c.loop-waiting.yielded_by c.in-None.is c.next.ensures.steps in
+    before_all P (IsOn c.args.file c.args.span) c.args.waits (subst (λ (n : ℕ). Before P (IsOn c.args.file c.args.span) c.args.waits n) all c.loop-waiting.invariant.told)

@@ -25,7 +25,7 @@ returns-in-Queue c p q one few locks told for =
     let in_queue = subst (λ (policy : Policy). WaitsFor policy locks self.waits.items p q) c.in-Queue.is for in
     let known = waiting_known Queue locks self.waits.items self.processes p q self.well_formed in_queue in
     let p_few : p ≤ 64 = (let most : self.processes ≤ 64 = self.few in let there = known.1 in omega (arith, there, most)) in
-    let queue = queue_known self.queue self.waits.items (self.queue_told c.in-Queue.is) in
+    let queue = queue_known self.ahead self.waits.items (self.ahead_told c.in-Queue.is) in
     c.union.ensures q ∙ elim (queue_cases locks self.waits.items p q in_queue) [
       | inl by_lock ↦ or_left (is_member c.all_told-by_lock.result q) (is_member c.all_told.result q)
           (c.all_told-by_lock.ensures p q ((told.pairs p q p_few one few).1 by_lock))

@@ -1,5 +1,7 @@
-use Rattle.std.proofs.Common.{◌≡◌, ◌∙◌, ◌↔◌, List, ap, sym, subst, true, false, Any, take, get_or}
+use borrow.Author.Tests.{tests}
+use Rattle.std.proofs.Common.{rules, ◌≡◌, ◌∙◌, ◌↔◌, List, ap, sym, subst, true, false, Any, take, get_or}
 use Rattle.std.specs.Prelude.{IsTrue}
+use Rattle.std.proofs.lemmas.Iterator.{cases_from_any, YieldsList-from_slice}
 use Rattle.std.proofs.lemmas.List.{get_or_default}
 use Rattle.std.proofs.lemmas.Option.{get_or_from_slice_get}
 use Rattle.wait_core.specs.declared.Wait.{Wait}
@@ -7,6 +9,7 @@ use Rattle.wait_core.specs.Blocking.{WaitsConflict}
 use Rattle.wait_core.specs.Processes.{is_member}
 use Rattle.wait_core.specs.WaitsView.{waits_of, policy_of}
 use Rattle.wait_core.proofs.BehindLemmas.{behind_none_at}
+use Rattle.wait_core.proofs.FileLemmas.{any_from_cases}
 use Rattle.wait_core.proofs.waits.Waits.is_behind.Goals as goal
 
 pub returns-then-has : goal.returns-then-has
@@ -16,8 +19,11 @@ returns-then-has c wait there =
     let here : c.index-wait.result.now ≡ wait =
     c.index-wait.ensures ∙ get_or_default self.waits.items c.args.i c.index-wait.result.now wait c.requires.place
     ∙ get_or_from_slice_get self.waits.items c.args.i wait wait there in
-    subst (λ (w : Wait). IsTrue c.conflicts_with_any.result ↔ Any (λ v. WaitsConflict v w) (take c.args.i self.waits.items)) here
-    (subst (λ (ws : List Wait). IsTrue c.conflicts_with_any.result ↔ Any (λ v. WaitsConflict v c.index-wait.result.now) (take c.args.i ws)) c.deref.ensures.value c.conflicts_with_any.ensures)
+    let Conflicts = λ (v : Wait). WaitsConflict v c.index-wait.result.now in
+    let earlier = any_from_cases Conflicts (take c.args.i self.waits.items) c.any.result
+    (cases_from_any _ _ _ Conflicts (λ v. ¬ Conflicts v) c.any.ensures.ran (YieldsList-from_slice (take c.args.i self.waits.items) cc)
+    (λ x q k. search (rules, tests)) (λ x q k. search (rules, tests))) in
+    subst (λ (w : Wait). IsTrue c.any.result ↔ Any (λ v. WaitsConflict v w) (take c.args.i self.waits.items)) here earlier
 
 pub returns-else-has : goal.returns-else-has
 unfolding waits_of policy_of

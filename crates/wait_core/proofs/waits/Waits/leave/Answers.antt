@@ -1,17 +1,21 @@
-use Rattle.std.proofs.Common.{◌≢◌, ◌≤◌, [], arith, not, subst, sym}
+use Rattle.std.proofs.Common.{◌≢◌, ◌≤◌, ◌∙◌, inl, inr, [], List, ap, arith, length, not, refl, subst, sym}
+use Rattle.std.proofs.lemmas.Bool.{cases_eq}
 use Rattle.std.proofs.lemmas.Grind.{common_steps}
 use Rattle.std.specs.Prelude.{◌==◌}
 use Rattle.std.specs.Vec.{vec_capacity}
 use Rattle.std.proofs.Math.Logic.{∥∥₁_map}
 use Rattle.std.proofs.lemmas.List.Elements.{All-filter}
+use Rattle.std.proofs.lemmas.List.Quantifiers.{position-Some}
 use Rattle.std.proofs.lemmas.List.Kept.{AllPairs-filter}
 use Rattle.wait_core.specs.declared.Wait.{Wait}
 use Rattle.wait_core.specs.Pairs.{IsBehindNone}
 use Rattle.wait_core.specs.PairsView.{TellsQueue}
 use Rattle.wait_core.specs.WellFormed.{IsWellFormed}
+use Rattle.wait_core.specs.Queues.{AreQueues, links_in, waits_on}
 use Rattle.wait_core.specs.Processes.{AreThoseWaiting}
 use Rattle.wait_core.specs.WaitsView.{waits_of, policy_of, has_pair}
 use Rattle.wait_core.specs.Settled.{AllBlockedElsewhere, changed_files}
+use Rattle.wait_core.proofs.FileLemmas.{fewer_left, none_left, queues_left}
 use Rattle.wait_core.proofs.ListLemmas.{no_wait, none_taken, taken_at}
 use Rattle.wait_core.proofs.PairLemmas.{told-leave}
 use Rattle.wait_core.proofs.SettledLemmas.{elsewhere_without}
@@ -60,11 +64,20 @@ invariant_of-self c =
       room = (let room : self.processes ≤ vec_capacity c.remove-wait.new.self = rw c.remove-wait.ensures.capacity self.room in room);
       well_formed = (λ k d within. rw rest (All-filter (λ (wait : Wait). not (wait.p == c.args.p)) (IsWellFormed self.processes) self.waits.items self.well_formed k d (rw rest at within)));
       apart = (λ i j d before within. rw rest (AllPairs-filter (λ (v w : Wait). v.p ≢ w.p) (λ (wait : Wait). not (wait.p == c.args.p)) self.waits.items self.apart i j d before (rw rest at within)));
+      short = (let most = self.short in let fewer = fewer_left c.args.p self.waits.items in
+          subst (λ (ws : List Wait). length ws ≤ 64) (sym rest) (omega (arith, most, fewer)));
+      linked = subst (λ (ws : List Wait). AreQueues c.leave.new.self (waits_on ws)) (sym rest)
+          (queues_left self.queues c.leave.new.self self.waits.items c.remove-wait.result c.args.p c.leave.ensures.left taken.0
+          (c.in_ok-place.place, c.remove-wait.result, (position-Some (λ w. w.p == c.args.p) self.waits.items c.in_ok-place.place c.remove-wait.result (sym c.in_ok-place.ensures)).0, sym c.remove-wait.ensures.value, refl) self.linked);
+      free = λ q none. elim (cases_eq q c.remove-wait.result.p) [
+        | inl own ↦ ap (links_in c.leave.new.self).waits own ∙ c.leave.ensures.free
+        | inr other ↦ c.leave.ensures.others q (self.free q (none_left self.waits.items c.args.p q (λ same. other (same ∙ sym taken.0)) (rw rest at none)))
+      ];
       known = subst (AreThoseWaiting c.without-self.result) (sym rest)
           (waiting_left self.waiting c.without-self.result self.waits.items c.args.p c.without-self.ensures self.known);
       behind_none = (λ queue i j d before within. rw rest (AllPairs-filter (IsBehindNone self.behind) (λ (wait : Wait). not (wait.p == c.args.p)) self.waits.items (self.behind_none queue) i j d before (rw rest at within)));
-      queue_told = (λ queue. ∥∥₁_map (self.queue_told queue) (λ told. subst (TellsQueue c.leave_queue.new.queue) (sym rest)
-          (c.leave_queue.ensures queue self.waits.items told)));
+      ahead_told = (λ queue. ∥∥₁_map (self.ahead_told queue) (λ told. subst (TellsQueue c.forget_ahead.new.ahead) (sym rest)
+          (c.forget_ahead.ensures queue self.waits.items told)));
     }
 
 pub returns-clause-found : goal.returns-clause-found

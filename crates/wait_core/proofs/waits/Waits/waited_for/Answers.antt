@@ -16,7 +16,7 @@ returns-in-Queue c q one few locks told =
     let self = c.args.self.now in
     let p = c.args.p in
     let behind = c.row.result in
-    let queue = queue_known self.queue self.waits.items (self.queue_told c.in-Queue.is) in
+    let queue = queue_known self.ahead self.waits.items (self.ahead_told c.in-Queue.is) in
     let stands : IsTrue (is_member behind q) ↔ StandsBehind [] self.waits.items p q =
     subst (λ (b : Bool). IsTrue b ↔ StandsBehind [] self.waits.items p q) (sym (c.row.ensures q)) (queue.stands p q c.requires one few) in
     let both = told_in_queue self locks p q (is_member behind q) c.requires one few stands told in
