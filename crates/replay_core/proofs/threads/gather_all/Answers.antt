@@ -1,4 +1,4 @@
-use Rattle.std.proofs.Common.{◌≡◌, ◌∙◌, ap, sym, subst, ℕ, ◌≤◌, List, [], ◌∷◌, ◌++◌, map, length, vec_len, arith, append-nil, vec_items}
+use Rattle.std.proofs.Common.{◌≡◌, refl, ◌∙◌, ap, sym, subst, ℕ, ◌≤◌, List, [], ◌∷◌, ◌++◌, map, length, vec_len, Vec, Global, arith, append-nil, vec_items}
 use Rattle.std.specs.Vec.Iter.{into_iter_items}
 use Rattle.std.proofs.lemmas.List.{length-map, map-append, nil_from_length}
 use Rattle.std.proofs.lemmas.Option.{slice_get_within}
@@ -40,6 +40,20 @@ push_reserved-requires g c =
     let all = length-map places.items started in
     let some = length-map collected.items vec_items in
     omega (arith, below, all, some, inv.gathered.0, inv.room, collected.ok.0, places.ok.0)
+
+pub loop-place-init : goal.loop-place-init
+loop-place-init g c = record {
+  done = [];
+  all = ap (map started) c.into_iter-place-iterator.ensures.into_iter_gives.0;
+  room = c.requires.room;
+  same = record { table = refl; setup = refl };
+  session = refl;
+  journal = refl;
+  gathered = (
+    ap (λ (l : List (Vec (ℕ × Reply × ℕ) Global)). length (map vec_items l)) c.requires.none,
+    λ i caller answers none is. absurd (let below = slice_get_within [] i caller none in omega (arith, below)),
+  );
+}
 
 pub loop-place-preserved : goal.loop-place-preserved
 loop-place-preserved g c =
