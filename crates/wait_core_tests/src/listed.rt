@@ -1,6 +1,5 @@
 //! Waits as a plain list that keeps nothing: each answer asks the books about each wait.
 ghost use Rattle.std.specs.Prelude.{◌≡◌, All, IfOk, IfSome, length, vec_len};
-ghost use Rattle.range_core.specs.Ranges.{IsByteRange};
 ghost use Rattle.wait_core.specs.WellFormed.{IsWellFormed};
 
 use lock_book::{Book, Owner};

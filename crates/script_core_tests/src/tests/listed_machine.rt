@@ -4,7 +4,6 @@ mod lock_calls;
 mod told;
 
 ghost use Rattle.std.specs.Prelude.{◌≡◌, ◌≤◌, ◌<◌, All, IsTrue, vec_len};
-ghost use Rattle.fd_table.specs.Descriptors.{process_limit};
 ghost use Rattle.fd_table.specs.TablesView.{ever_alive};
 ghost use Rattle.wait_core.specs.WellFormed.{IsWellFormed};
 
@@ -137,7 +136,8 @@ impl ListedMachine {
         }
         if let Some(Wait { p, n, .. }) = self.waits.remove(target) {
             let reply = Reply::Err(Errno::EINTR);
-            push(others, Note::Answer { p, n, reply })?;
+            let note = Note::Answer { p, n, reply };
+            others.push(note).map_err(Memory::from)?;
         }
         Ok(Told::OK)
     }
@@ -189,7 +189,7 @@ impl ListedMachine {
             self.waits.remove(p);
             self.set(&wait)?;
             let reply = Reply::Ok;
-            push(notes, Note::Answer { p, n, reply })?;
+            notes.push(Note::Answer { p, n, reply })?;
         }
         Ok(())
     }
@@ -207,10 +207,4 @@ impl ListedMachine {
             (Family::Whole, Owner::Process(_)) => unreachable!(),
         }
     }
-}
-
-/// Tells this behind what was told.
-fn push(notes: &mut Vec<Note>, note: Note) -> Result<(), Memory> {
-    notes.push(note)?;
-    Ok(())
 }
