@@ -1,5 +1,8 @@
 //! What want of memory leaves, run with each allocation refused in turn. What lines, entries and reports say is tried on the program
 //! (`tests/lines.sh`, `tests/worked-scripts.sh`), and so are large ones (`tests/large-scripts.sh`).
+mod listed;
+mod listed_machine;
+mod made;
 mod taking;
 mod worked;
 

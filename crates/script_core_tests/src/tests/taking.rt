@@ -165,7 +165,8 @@ fn session_of(rt: &impl Abort, alloc: Global, script: &Script) -> Result<Session
     }
 }
 
-fn script_of(rt: &impl Abort, alloc: Global, row: &Row) -> Result<Script, ScriptFault> {
+/// What the script says.
+pub(super) fn script_of(rt: &impl Abort, alloc: Global, row: &Row) -> Result<Script, ScriptFault> {
     match parse(alloc, row.script) {
         Err(fault) => {
             assert!(rt;

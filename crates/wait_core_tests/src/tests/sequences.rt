@@ -7,34 +7,15 @@ ghost use Rattle.wait_core.specs.Settled.{AreBlockedElsewhere};
 ghost use Rattle.wait_core.specs.WellFormed.{IsWellFormed};
 ghost use Rattle.wait_core.specs.WaitsView.{waits_of, wait_of, processes_of, AreTold};
 
-use super::listed::ListedWaits;
-use super::{bytes, empty_books};
+use super::bytes;
+use crate::listed::{ListedWaits, empty_books};
+use crate::rule::Rule;
 use lock_book::{Book, Owner};
 use range_core::{Mode, OFFMAX, Span};
 use std::alloc::Global;
 use std::process::Abort;
 use std::test::Fail;
 use wait_core::{Family, Policy, Wait, Waits};
-
-/// Numbers by the rule `x * 6364136223846793005 + 1442695040888963407`, of which the upper half is told.
-#[derive(Drop)]
-struct Rule {
-    x: u64,
-}
-
-impl Rule {
-    /// The next number below the bound.
-    fn below(&mut self, bound: u64) -> u64
-        requires { 0 < bound }
-        ensures { result < bound }
-    {
-        self.x = self
-            .x
-            .wrapping_mul(6_364_136_223_846_793_005)
-            .wrapping_add(1_442_695_040_888_963_407);
-        (self.x >> 32) % bound
-    }
-}
 
 /// The books of all files, the waits on them, and the same waits as a list that keeps nothing.
 #[derive(Drop)]
@@ -53,11 +34,7 @@ impl Both {
     fn new(alloc: Global, policy: Policy, processes: u8) -> Result<Both, Fail> {
         let books = empty_books(alloc)?;
         let waits = Waits::new(alloc, 64, policy)?;
-        let listed = ListedWaits {
-            waits: Vec::new(alloc),
-            policy,
-            processes,
-        };
+        let listed = ListedWaits::new(alloc, policy, processes);
         Ok(Both {
             books,
             waits,
@@ -81,7 +58,7 @@ impl Both {
     {
         if self.waits.of(wait.p).is_none() {
             self.put(wait);
-            self.listed.waits.push(wait)?;
+            self.listed.join(wait)?;
         }
         Ok(())
     }
@@ -101,7 +78,7 @@ impl Both {
     /// The process waits no more.
     fn leave(&mut self, p: u8) {
         self.waits.leave(p);
-        self.listed.waits.retain(|wait| wait.p != p);
+        self.listed.remove(p);
     }
 
     /// Whether the wait would close a cycle, of which both tell the same.
@@ -120,7 +97,7 @@ impl Both {
         let next = self.waits.next_ready_on_changed(&self.books);
         let is_next = next == self.waits.next_ready(&self.books);
         let is_listed = next == self.listed.next_ready(&self.books);
-        let are_same = self.waits.list() == self.listed.waits.as_slice();
+        let are_same = self.waits.list() == self.listed.list();
         assert!(rt; is_next && is_listed && are_same);
         match next {
             Some(_) => {},
@@ -295,7 +272,7 @@ fn turn(
 fn answers_as_a_plain_list(rt: HostRuntime) -> Result<(), Fail> {
     let mut seen = [0; 2];
     for x in 0..500u64 {
-        let mut rule = Rule { x };
+        let mut rule = Rule::new(x);
         let mut both = Both::new(rt.alloc(), policy_of(x), 6)?;
         for _step in 0..40u8 {
             turn(&rt, &mut both, &mut rule, &mut seen)?;

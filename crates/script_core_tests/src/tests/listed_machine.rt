@@ -1,0 +1,210 @@
+//! A lock manager that does what the rules say of each request and keeps no more than that needs: its waits are a plain list, and who is
+//! blocked is asked anew each time.
+mod lock_calls;
+mod told;
+
+ghost use Rattle.std.specs.Prelude.{◌≡◌, ◌≤◌, ◌<◌, All, IsTrue, vec_len};
+ghost use Rattle.fd_table.specs.TablesView.{ever_alive};
+ghost use Rattle.wait_core.specs.WellFormed.{IsWellFormed};
+
+use self::told::{Refusal, Told};
+use fd_table::Tables;
+use lock_book::{Book, Owner};
+use lock_manager::{Errno, Note, Reply, Request, Rules};
+use range_core::Memory;
+use std::alloc::Global;
+use wait_core::{Family, Wait};
+use wait_core_tests::listed::{ListedWaits, empty_books};
+
+/// The descriptors, the locks by file, the waits in order of arrival, and the processes that have ended.
+#[derive(Drop)]
+pub(super) struct ListedMachine {
+    alloc: Global,
+    tables: Tables,
+    books: Vec<Book>,
+    waits: ListedWaits,
+    ended: Vec<u8>,
+    ghost files: { vec_len books ≡ 64 },
+}
+
+impl ListedMachine {
+    /// Process 1 lives, and there is nothing else.
+    pub(super) fn new(alloc: Global, rules: Rules) -> Result<ListedMachine, Memory> {
+        let processes = rules.limits.processes();
+        let tables = Tables::new(alloc, processes, rules.limits)?;
+        let books = empty_books(alloc)?;
+        Ok(ListedMachine {
+            alloc,
+            tables,
+            books,
+            waits: ListedWaits::new(alloc, rules.policy, processes),
+            ended: Vec::new(alloc),
+        })
+    }
+
+    /// Whether a request of the process may be taken: it was born, and neither waits nor has ended.
+    pub(super) fn is_able(&self, p: u8) -> bool
+        ensures { IsTrue result → IsTrue (ever_alive self.now.tables p) }
+    {
+        self.is_alive(p) && self.waits.of(p).is_none()
+    }
+
+    /// What request number `n` of the process tells, with all that it causes: the caller's note, where there is one, then who was
+    /// interrupted or granted a lock, in order.
+    pub(super) fn take(&mut self, p: u8, n: u64, request: Request) -> Result<Vec<Note>, Memory>
+        requires process { (1 ≤ p) × (p ≤ 64) }
+        requires alive { IsTrue (ever_alive self.old.tables p) }
+    {
+        let mut others = Vec::new(self.alloc);
+        let told = match self.serve(p, n, request, &mut others) {
+            Ok(told) => told,
+            Err(Refusal::Errno(error)) => Told::Reply(Reply::Err(error)),
+            Err(Refusal::Memory(memory)) => return Err(memory),
+        };
+        self.settle(&mut others)?;
+        let mut notes = Vec::new(self.alloc);
+        if let Some(note) = told.note(p, n) {
+            notes.push(note)?;
+        }
+        notes.append(&mut others)?;
+        Ok(notes)
+    }
+
+    /// What the request comes to, but for the settling with which its event ends; what others are told on the way goes to `others`.
+    fn serve(
+        &mut self,
+        p: u8,
+        n: u64,
+        request: Request,
+        others: &mut Vec<Note>,
+    ) -> Result<Told, Refusal>
+        requires process { (1 ≤ p) × (p ≤ 64) }
+        requires alive { IsTrue (ever_alive self.old.tables p) }
+    {
+        match request {
+            Request::OpenFile { file, access } => {
+                Ok(Told::descriptor(self.tables.open_file(p, file, access)?))
+            },
+            Request::Dup { fd } => Ok(Told::descriptor(self.tables.dup(p, fd)?)),
+            Request::DupTo { fd, to } => self.dup_to(p, fd, to),
+            Request::CloseFd { fd } => self.close_fd(p, fd),
+            Request::Seek { fd, offset } => {
+                self.tables.seek(p, fd, offset)?;
+                Ok(Told::OK)
+            },
+            Request::Resize { fd, size } => {
+                self.tables.resize(p, fd, size)?;
+                Ok(Told::OK)
+            },
+            Request::Lk { fd, cmd, lock } => self.lock_command(p, n, fd, cmd, lock),
+            Request::Flock { fd, op, nb } => self.flock(p, n, fd, op, nb, others),
+            Request::Fork { child } => {
+                self.tables.fork(p, child)?;
+                Ok(Told::OK)
+            },
+            Request::Exit => self.kill(p, p),
+            Request::Signal { target } => self.signal(target, others),
+            Request::Kill { target } => self.kill(p, target),
+        }
+    }
+
+    /// Whether the process was born and hasn't ended.
+    fn is_alive(&self, p: u8) -> bool
+        ensures { IsTrue result → IsTrue (ever_alive self.now.tables p) }
+    {
+        self.tables.born(p) && !self.ended.contains(&p)
+    }
+
+    /// dup2: what the second descriptor was is closed.
+    fn dup_to(&mut self, p: u8, fd: u32, to: u32) -> Result<Told, Refusal> {
+        let (descriptor, released) = self.tables.dup2(p, fd, to)?;
+        self.release(p, released.files(), released.descriptions());
+        Ok(Told::descriptor(descriptor))
+    }
+
+    /// close.
+    fn close_fd(&mut self, p: u8, fd: u32) -> Result<Told, Refusal> {
+        let released = self.tables.close_fd(p, fd)?;
+        self.release(p, released.files(), released.descriptions());
+        Ok(Told::OK)
+    }
+
+    /// A signal that is caught: it ends a wait, which is told behind the caller's answer.
+    fn signal(&mut self, target: u8, others: &mut Vec<Note>) -> Result<Told, Refusal> {
+        if !self.is_alive(target) {
+            return Err(Refusal::Errno(Errno::ESRCH));
+        }
+        if let Some(Wait { p, n, .. }) = self.waits.remove(target) {
+            let reply = Reply::Err(Errno::EINTR);
+            let note = Note::Answer { p, n, reply };
+            others.push(note).map_err(Memory::from)?;
+        }
+        Ok(Told::OK)
+    }
+
+    /// SIGKILL, and of oneself the end.
+    fn kill(&mut self, p: u8, target: u8) -> Result<Told, Refusal> {
+        if !self.is_alive(target) {
+            return Err(Refusal::Errno(Errno::ESRCH));
+        }
+        self.end(target)?;
+        if target == p {
+            return Ok(Told::Nothing);
+        }
+        Ok(Told::OK)
+    }
+
+    /// The end of a process: its wait is gone, and all its descriptors are closed.
+    fn end(&mut self, p: u8) -> Result<(), Memory> {
+        self.waits.remove(p);
+        let released = self.tables.end_process(p);
+        self.release(p, released.files(), released.descriptions());
+        self.ended.push(p)?;
+        Ok(())
+    }
+
+    /// The process closed descriptors of these files, and was the last to refer to these descriptions: its traditional locks on the files
+    /// go, and all locks of the descriptions.
+    fn release(&mut self, p: u8, files: &[u8], descriptions: &[u64])
+        requires { All (λ file. file < 64) files.now }
+    {
+        for file in files {
+            self.books[usize::from(*file)].release_owner(Owner::Process(p));
+        }
+        for book in self.books.iter_mut() {
+            for description in descriptions {
+                book.release_owner(Owner::Description(*description));
+                book.release_flock(*description);
+            }
+        }
+    }
+
+    /// Grants the earliest wait that nothing blocks, again and again while there is one, and tells of each.
+    fn settle(&mut self, notes: &mut Vec<Note>) -> Result<(), Memory> {
+        for _grant in 0..self.waits.list().len() {
+            let Some(wait) = self.waits.next_ready(&self.books) else {
+                return Ok(());
+            };
+            let Wait { p, n, .. } = wait;
+            self.waits.remove(p);
+            self.set(&wait)?;
+            let reply = Reply::Ok;
+            notes.push(Note::Answer { p, n, reply })?;
+        }
+        Ok(())
+    }
+
+    /// The owner has the lock from now on.
+    fn set(&mut self, wait: &Wait) -> Result<(), Memory>
+        requires { IsWellFormed 64 wait.now }
+    {
+        let book = &mut self.books[usize::from(wait.file)];
+        match (wait.family, wait.owner) {
+            (Family::Bytes, owner) => book.set(owner, wait.span, Some(wait.mode)),
+            (Family::Whole, Owner::Description(description)) => {
+                book.flock_set(description, Some(wait.mode))
+            },
+            (Family::Whole, Owner::Process(_)) => unreachable!(),
+        }
+    }
+}
