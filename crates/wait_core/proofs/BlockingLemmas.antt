@@ -1,6 +1,6 @@
 -- Who blocks a wait: sets of processes, and what one wait more makes of them, and a process by its list; for
 -- `Wait::blocking_by_lock`, `Wait::blocking_by_wait` and `Wait::is_blocked_by_list`.
-use Rattle.std.proofs.Common.{ℕ, ◌≡◌, ◌≢◌, ◌+◌, ◌<◌, ◌↔◌, ◌∙◌, inl, inr, sym, ap, refl, subst, arith, Bool, true, false, Option, Some, None, List, [], ◌∷◌, ◌++◌, Any, length, get_or, take}
+use Rattle.std.proofs.Common.{ℕ, ◌≡◌, ◌≢◌, ◌+◌, ◌<◌, ◌↔◌, ◌∙◌, inl, inr, sym, ap, refl, subst, arith, true, false, Option, Some, None, List, [], ◌∷◌, ◌++◌, Any, length, get_or, take}
 use Rattle.std.specs.Prelude.{IsTrue, IfSome, IfNone, is_some, ◌==◌, ◌||◌}
 use Rattle.std.proofs.lemmas.Bool.{eqb-true, eq-eqb, or_left, or_right}
 use Rattle.std.proofs.lemmas.Bool.Decides.{nat_tests}

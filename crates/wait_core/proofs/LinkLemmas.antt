@@ -1,5 +1,5 @@
 -- The links from wait to wait, and what a wait that joins or leaves makes of them: for `Queues::join`, `Queues::leave` and `Queues::on`.
-use Rattle.std.proofs.Common.{ℕ, ◌≡◌, ◌≢◌, ◌≤◌, ◌∙◌, ◌⊎◌, inl, inr, refl, sym, ap, subst, arith, Bool, true, false, not, zero, suc, Option, None, Some, List, [], ◌∷◌, All, Any, length, get_or}
+use Rattle.std.proofs.Common.{ℕ, ◌≡◌, ◌≢◌, ◌≤◌, ◌∙◌, ◌⊎◌, inl, inr, refl, sym, ap, subst, arith, true, false, not, zero, suc, Option, None, Some, List, [], ◌∷◌, All, Any, length, get_or}
 use Rattle.std.specs.Prelude.{◌==◌, if◌then◌else◌}
 use Rattle.std.specs.Option.{option_map_or}
 use Rattle.std.proofs.lemmas.Bool.{cases_eq}
@@ -11,7 +11,7 @@ use Rattle.wait_core.specs.declared.Wait.{Wait}
 use Rattle.wait_core.specs.Links.{IsLed, Links, Lead, Leaves, Stands, first_process, follow}
 use Rattle.wait_core.specs.Queues.{with_wait, without_wait}
 use Rattle.wait_core.specs.WaitsView.{without_wait_of}
-use Rattle.wait_core.proofs.AnyLemmas.{Any-cons, Any-here, Any-nil, Any-there, Any-weaker}
+use Rattle.wait_core.proofs.AnyLemmas.{Any-cons, Any-here, Any-nil, Any-there}
 use Rattle.wait_core.proofs.ListLemmas.{all_stay}
 
 -- the waits that the links lead through are those that are found by following them

@@ -1,11 +1,10 @@
-use Rattle.std.proofs.Common.{ℕ, ◌≡◌, ◌≤◌, ◌↔◌, ◌∙◌, sym, subst, arith, Any, length, take}
+use Rattle.std.proofs.Common.{ℕ, ◌≤◌, ◌↔◌, sym, subst, arith, Any, length, take}
 use Rattle.std.specs.Map.Iter.{deref}
 use Rattle.std.specs.Prelude.{IsTrue}
 use Rattle.std.proofs.lemmas.Grind.{common_steps}
 use Rattle.std.proofs.lemmas.List.{take_all}
 use Rattle.std.proofs.lemmas.Map.Iter.{iter_end}
 use Rattle.std.proofs.lemmas.Map.Views.{All-turn}
-use Rattle.wait_core.specs.declared.Wait.{Wait}
 use Rattle.wait_core.specs.Pairs.{IsConflictOf}
 use Rattle.wait_core.specs.Processes.{is_member}
 use Rattle.wait_core.specs.WellFormed.{IsWellFormed}

@@ -1,5 +1,4 @@
-use Rattle.std.proofs.Common.{rules, ℕ, ◌≡◌, ◌∙◌, ap, sym, subst, arith, Option, Some, List, ◌∷◌, length}
-use Rattle.std.proofs.lemmas.Grind.{common_steps}
+use Rattle.std.proofs.Common.{rules, ℕ, ◌≡◌, ◌∙◌, ap, sym, subst, Option, Some, ◌∷◌, length}
 use Rattle.std.specs.Option.{option_copied}
 use Rattle.wait_core.specs.Links.{IsLed, follow, row_at}
 use Rattle.wait_core.proofs.LinkLemmas.{led_step}

@@ -1,5 +1,5 @@
 use borrow.Author.Tests.{tests}
-use Rattle.std.proofs.Common.{rules, ◌≡◌, ◌∙◌, ◌↔◌, List, ap, sym, subst, true, false, Any, take, get_or}
+use Rattle.std.proofs.Common.{rules, ◌≡◌, ◌∙◌, ◌↔◌, ap, sym, subst, true, false, Any, take, get_or}
 use Rattle.std.specs.Prelude.{IsTrue}
 use Rattle.std.proofs.lemmas.Iterator.{cases_from_any, YieldsList-from_slice}
 use Rattle.std.proofs.lemmas.List.{get_or_default}

@@ -1,4 +1,4 @@
-use Rattle.std.proofs.Common.{◌≡◌, ◌≢◌, refl, [], List, All, subst, sym}
+use Rattle.std.proofs.Common.{◌≡◌, ◌≢◌, refl, All, subst, sym}
 use Rattle.std.specs.List.{AllPairs}
 use Rattle.wait_core.specs.declared.Wait.{Wait}
 use Rattle.wait_core.specs.Locks.{locks_of}
