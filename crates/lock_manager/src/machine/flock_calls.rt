@@ -1,5 +1,6 @@
 //! flock.
 ghost use Rattle.std.specs.Prelude.{ℕ, ◌≡◌, ◌<◌, ◌≤◌, ◌+◌, ◌++◌, ◌↔◌, ◌⊎◌, Some, None, List, [], ◌∷◌, true, false, length, vec_capacity, slice_get, IfOk, OnOk, OnErr, IsTrue, IsFalse, IsSome};
+ghost use Rattle.std.specs.Option.{option_flatten};
 ghost use Rattle.fd_table.specs.declared.TheConstants.{FILES};
 ghost use Rattle.range_core.specs.declared.Mode.{Mode};
 ghost use Rattle.lock_book.specs.Changes.{flock_mode_in};
@@ -74,19 +75,18 @@ impl Machine {
         ensures memory { OnErr result (SameMachine self.old self.new) }
         ensures same_rules { SameRules self.old self.new }
     {
-        let Some(held) = self.held_flock(look.file, look.desc) else {
-            notes.push_reserved(self.first_flock(look, nb, wanted)?);
-            return Ok(());
-        };
-        if held == wanted.mode {
-            notes.push_reserved(answered(wanted.p, wanted.n, Reply::Ok));
-        } else {
-            self.convert_flock(look, nb, wanted, notes);
+        match self.flock_place(look.file, look.desc) {
+            None => notes.push_reserved(self.first_flock(look, nb, wanted)?),
+            Some(None) => notes.push_reserved(self.test_flock(look, nb, wanted)),
+            Some(Some(held)) if held == wanted.mode => {
+                notes.push_reserved(answered(wanted.p, wanted.n, Reply::Ok));
+            },
+            Some(Some(_)) => self.convert_flock(look, nb, wanted, notes),
         }
         Ok(())
     }
 
-    /// The request of a description that has no lock. A place is kept for the lock of one that waits.
+    /// The request of a description that has no lock, and no place for one. A place is kept for the lock of one that waits.
     fn first_flock(&mut self, look: Look, nb: bool, wanted: Wait) -> Result<Note, Memory>
         requires asked { IsFlockAsked self.old look wanted }
         requires none { (machine_locks self.old).flocks look.file look.desc ≡ None }
@@ -163,13 +163,13 @@ impl Machine {
         Note::Waits { p, n }
     }
 
-    /// The flock mode of the description, for whose lock a place is kept.
-    fn held_flock(&self, file: u8, description: u64) -> Option<Mode>
+    /// The place that is kept for the flock lock of the description, with the mode that stands there.
+    fn flock_place(&self, file: u8, description: u64) -> Option<Option<Mode>>
         requires file { file < FILES }
-        ensures mode { result ≡ (machine_locks self.now).flocks file description }
+        ensures mode { option_flatten result ≡ (machine_locks self.now).flocks file description }
         ensures place { IsSome result → has_place_at (slice_get self.now.books.items file) description ≡ true }
     {
-        self.books[usize::from(file)].flock_mode(description)
+        self.books[usize::from(file)].flock_place(description)
     }
 
     /// Keeps a place for the flock lock of the description.

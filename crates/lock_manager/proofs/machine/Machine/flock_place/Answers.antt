@@ -2,7 +2,7 @@ use Rattle.std.proofs.lemmas.Grind.{common_steps}
 use Rattle.std.proofs.Common.{arith}
 use Rattle.lock_manager.specs.MachineView.{machine_locks}
 use Rattle.lock_manager.proofs.kept.BookLemmas.{book_at}
-use Rattle.lock_manager.proofs.machine.Machine.held_flock.Goals as goal
+use Rattle.lock_manager.proofs.machine.Machine.flock_place.Goals as goal
 
 pub returns-clause-mode : goal.returns-clause-mode
 unfolding machine_locks
