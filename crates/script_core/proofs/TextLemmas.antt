@@ -35,6 +35,12 @@ pub number_piece : (buffer digits : List ℕ) (size start at byte : ℕ) → len
     → take (size - at) (drop at (set buffer at byte)) ≡ byte ∷ digits
 number_piece buffer digits size start at byte long within next spelled = grind (arith, common_steps, drop-set, length-drop)
 
+-- a byte that is put before what ends a buffer
+pub put_before : (buffer rest : List ℕ) (at next byte : ℕ) → at < length buffer → next ≡ at + 1 → drop next buffer ≡ rest
+    → drop at (set buffer at byte) ≡ byte ∷ rest
+put_before buffer rest at next byte within is ends =
+    drop-set buffer at byte within ∙ ap (λ (l : List ℕ). byte ∷ l) (ap (λ (i : ℕ). drop i buffer) (sym is) ∙ ends)
+
 -- a number of two digits
 pub two_digits : (n : ℕ) → 10 ≤ n → n < 100 → decimal n ≡ (48 + n / 10) ∷ (48 + n % 10) ∷ []
 two_digits n some small =

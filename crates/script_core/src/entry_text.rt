@@ -3,7 +3,8 @@ ghost use Rattle.std.specs.Prelude.{◌≡◌, ◌∷◌, ◌++◌, MatchResult,
 ghost use Rattle.script_core.specs.EntryText.{entry_line, entry_text, note_text, reply_text, tag};
 ghost use Rattle.script_core.specs.Output.{Extends};
 
-use crate::pieces::{push_first_number, push_integer, push_number, push_numbered, push_str};
+use crate::noted::Noted;
+use crate::pieces::{push_bytes, push_integer, push_number, push_numbered, push_str};
 use crate::request_text::push_request;
 use crate::word_tables::{spaced_error, spaced_mode};
 use lock_manager::{Note, Reply};
@@ -23,35 +24,39 @@ pub fn push_event(text: &mut Vec<u8>, entry: &Entry, notes: &[Note]) -> Result<(
     ensures { MatchResult result (λ unit. text.new.items ≡ text.old.items ++ entry_text (record entry.now { notes = notes.now }))
         (λ error. Extends text.old.items text.new.items) }
 {
-    push_first_number(text, u64::from(entry.p))?;
-    push_number(text, b'#', entry.n)?;
+    // Most notes are about the request itself.
+    let own = Noted::new(entry.p, entry.n);
+    push_bytes(text, own.tag())?;
     push_request(text, &entry.request)?;
     for note in notes {
-        push_note(text, note)?;
+        push_note(text, note, &own)?;
     }
     Ok(())
 }
 
-/// Appends a note: the request that it is about, and what it tells of it.
-fn push_note(text: &mut Vec<u8>, note: &Note) -> Result<(), Memory>
+/// Appends a note: the request that it is about, mostly this one, and what it tells of it.
+fn push_note(text: &mut Vec<u8>, note: &Note, own: &Noted) -> Result<(), Memory>
     ensures { MatchResult result (λ unit. text.new.items ≡ text.old.items ++ note_text note.now) (λ error. Extends text.old.items text.new.items) }
 {
     match note {
         Note::Answer { p, n, reply } => {
-            push_noted(text, *p, *n)?;
+            push_noted(text, *p, *n, own)?;
             push_reply(text, *reply)
         }
         Note::Waits { p, n } => {
-            push_noted(text, *p, *n)?;
+            push_noted(text, *p, *n, own)?;
             push_str(text, " waits")
         }
     }
 }
 
-/// Appends the request that a note is about.
-fn push_noted(text: &mut Vec<u8>, p: u8, n: u64) -> Result<(), Memory>
+/// Appends the request that a note is about, mostly this one.
+fn push_noted(text: &mut Vec<u8>, p: u8, n: u64, own: &Noted) -> Result<(), Memory>
     ensures { MatchResult result (λ unit. text.new.items ≡ text.old.items ++ (codes " | " ++ tag p n)) (λ error. Extends text.old.items text.new.items) }
 {
+    if own.is(p, n) {
+        return push_bytes(text, own.behind_bar());
+    }
     push_numbered(text, " |", u64::from(p))?;
     push_number(text, b'#', n)
 }

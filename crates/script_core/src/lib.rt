@@ -13,6 +13,7 @@ mod journal;
 mod laws;
 mod line;
 mod note;
+mod noted;
 mod numbers;
 mod pieces;
 mod place;

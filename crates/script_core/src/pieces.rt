@@ -10,7 +10,7 @@ use range_core::Memory;
 const NUMBER_MAX: usize = 22;
 
 /// Appends bytes.
-fn push_bytes(text: &mut Vec<u8>, piece: &[u8]) -> Result<(), Memory>
+pub fn push_bytes(text: &mut Vec<u8>, piece: &[u8]) -> Result<(), Memory>
     ensures { MatchResult result (λ unit. text.new.items ≡ text.old.items ++ piece.now) (λ error. Extends text.old.items text.new.items) }
 {
     Ok(text.extend_from_slice(piece)?)
