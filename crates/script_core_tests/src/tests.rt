@@ -1,4 +1,5 @@
-//! What want of memory leaves, run with each allocation refused in turn. What lines, entries and reports say is tried on the program
+//! What want of memory leaves, run with each allocation refused in turn; and the notes of the lock manager beside those of a plain one,
+//! on the worked scripts, which stand here, and on others. What lines, entries and reports say is tried on the program
 //! (`tests/lines.sh`, `tests/worked-scripts.sh`), and so are large ones (`tests/large-scripts.sh`).
 mod listed;
 mod listed_machine;
