@@ -8,7 +8,8 @@ use thiserror::Error;
 /// it had not been made, where its documentation doesn't say otherwise).
 ///
 /// It is made here alone, of the error of a refused growth or of a count that no block has places for, and passed on
-/// everywhere else: its field is private so that nothing else is told as want of memory.
+/// everywhere else. The private field doesn't carry that, since anyone can make an `AllocError`: `tests/memory-is-passed-on`
+/// looks at each place of the sources that names one.
 #[derive(Clone, Copy, Debug, PartialEq, Eq, Error)]
 #[error("no memory")]
 pub struct Memory(());
