@@ -10,3 +10,4 @@ pub mod LoopLemmas
 pub mod OwnerLemmas
 pub mod ReportLaws
 pub mod RunLemmas
+pub mod SomeChangesLaws

@@ -8,3 +8,4 @@ pub mod OwnerLists
 pub mod Reports
 pub mod OneReport
 pub mod Decided
+pub mod SomeChanges

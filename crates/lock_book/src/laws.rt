@@ -1,6 +1,9 @@
-//! Laws of the report of the locks, and of what blocks a lock. Each is the contract of a function that does nothing.
+//! Laws of the report of the locks, of what blocks a lock, and of what a book stands for. Each is the contract of a function that does nothing.
 ghost use Rattle.lock_book.specs.Decided.{ByteConflictIsDecided, FlockConflictIsDecided, ProcessBlocksIsDecided};
 ghost use Rattle.lock_book.specs.OneReport.{LocksHaveOneFileReport, LocksHaveOneReport};
+ghost use Rattle.lock_book.specs.SomeChanges.{BooksStandForSome};
+
+use range_core::lists_stand_for_runs;
 
 /// The locks that are held on one file have one report, that of [`crate::Book::held`]: two reports of the same locks have the
 /// same lines in the same order.
@@ -20,3 +23,11 @@ pub fn conflicts_are_decided()
     ensures flocks { FlockConflictIsDecided }
     ensures processes { ProcessBlocksIsDecided }
 {}
+
+/// Any book stands for the locks that some changes leave: so none of the clauses of [`crate::Book`], nor of what keeps books, that
+/// speaks of all changes that it stands for is empty.
+pub fn books_stand_for_some()
+    ensures { BooksStandForSome }
+{
+    lists_stand_for_runs();
+}

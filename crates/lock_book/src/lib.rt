@@ -7,7 +7,9 @@ mod book;
 mod laws;
 
 pub use book::Book;
-pub use laws::{conflicts_are_decided, locks_have_one_file_report, locks_have_one_report};
+pub use laws::{
+    books_stand_for_some, conflicts_are_decided, locks_have_one_file_report, locks_have_one_report,
+};
 use range_core::{Mode, Span};
 
 /// Who a lock belongs to. Owners are ordered: processes by number, and then descriptions by number (this project's

@@ -19,3 +19,4 @@ pub mod ManagerView
 pub mod Opening
 pub mod OneOutcome
 pub mod SomeOutcome
+pub mod SomeState

@@ -1,6 +1,10 @@
-//! Laws of the definition of a step. Each is the contract of a function that does nothing.
+//! Laws of the definition of a step, and of what a manager stands for. Each is the contract of a function that does nothing.
 ghost use Rattle.lock_manager.specs.OneOutcome.{StepHasOneOutcome};
 ghost use Rattle.lock_manager.specs.SomeOutcome.{StepHasSomeOutcome};
+ghost use Rattle.lock_manager.specs.SomeState.{ManagersStandForSome};
+
+use fd_table::tables_stand_for_some;
+use lock_book::books_stand_for_some;
 
 /// A step has one outcome: two steps under the same rules, from the same state, by the same request with the same number
 /// of the same process, tell the same notes and leave the same state, with the same changes of locks, descriptors, waits
@@ -15,3 +19,12 @@ pub fn step_has_one_outcome()
 pub fn step_has_some_outcome()
     ensures { StepHasSomeOutcome }
 {}
+
+/// Any manager stands for some state: so none of the clauses of [`crate::Manager`], which speak of all states that it stands for, is
+/// empty.
+pub fn managers_stand_for_some()
+    ensures { ManagersStandForSome }
+{
+    tables_stand_for_some();
+    books_stand_for_some();
+}

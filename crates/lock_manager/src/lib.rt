@@ -14,6 +14,6 @@ mod opening;
 mod replies;
 mod request;
 
-pub use laws::{step_has_one_outcome, step_has_some_outcome};
+pub use laws::{managers_stand_for_some, step_has_one_outcome, step_has_some_outcome};
 pub use manager::Manager;
 pub use request::{Errno, FlockOp, InTheWay, LkCmd, Lock, Note, ProcState, Reply, Request, Rules};

@@ -3,3 +3,4 @@ pub mod Facts
 pub mod Ranges
 pub mod Replacing
 pub mod Resolving
+pub mod SomeRuns

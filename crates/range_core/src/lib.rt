@@ -2,12 +2,14 @@
 #![tactic(auto)]
 
 mod conflicts;
+mod laws;
 mod list;
 mod memory;
 mod replacement;
 mod resolving;
 mod splice;
 
+pub use laws::lists_stand_for_runs;
 pub use list::RangeList;
 pub use memory::Memory;
 pub use resolving::resolve;
