@@ -65,14 +65,15 @@ pub fn run_all(
 }
 
 impl Sequencer {
-    ghost use Rattle.std.specs.Prelude.{OnErr};
+    ghost use Rattle.std.specs.Prelude.{◌⊎◌, OnErr};
     ghost use Rattle.session_core.specs.SequencerView.{manager_in, sent_by, HasTold, HasNoMail};
-    ghost use Rattle.session_core.specs.Deliveries.{TellsSome, HasNoMailBut, RunsOn};
+    ghost use Rattle.session_core.specs.Deliveries.{Delivers, DeliversNothing, RunsOn, TellsSome};
 
     /// The request arrives, and then all that can be taken is taken: the entries go behind those in `told`.
     ///
-    /// `Full` where the process has sent [`N_MAX`] requests. After `Memory` what was taken stays taken, and is told; a request
-    /// that wasn't taken stands in its mailbox, or hasn't arrived.
+    /// `Full` where the process has sent [`N_MAX`] requests leaves everything as it was. After `Memory` what was taken stays taken,
+    /// and is told; a request that wasn't taken stands in its mailbox, or hasn't arrived, and then everything is as it was. What stands
+    /// in a mailbox the next call takes where it can be.
     pub fn deliver(
         &mut self,
         p: u8,
@@ -80,9 +81,20 @@ impl Sequencer {
         told: &mut Vec<Entry>,
     ) -> Result<(), RunAllFault>
         requires { (1 ≤ p) × (p ≤ processes_of (manager_in self.old)) }
+
+        // Also after a call that wanted memory: the request came, all that could be taken then was, and it is told.
+        ensures delivered { OnOk result (Delivers self.old self.new p request told.old.items told.new.items) }
+        ensures rest { OnOk result (HasNoMail self.new) }
+
+        // Of arrivals that were run, these and this one were.
         ensures ok { OnOk result (RunsOn self.old self.new told.old.items told.new.items p request) }
         ensures processes { processes_of (manager_in self.new) ≡ processes_of (manager_in self.old) }
         ensures full { result ≡ Err RunAllFault.Full → (journal : List Event) → HasTold self.old journal → length (sent_by self.old journal p) ≡ N_MAX }
+        ensures kept { result ≡ Err RunAllFault.Full → DeliversNothing self.old self.new told.old.items told.new.items }
+
+        // Nothing happened, or the request came and what could be taken was, up to the want of memory.
+        ensures err { OnErr result (DeliversNothing self.old self.new told.old.items told.new.items
+            ⊎ Delivers self.old self.new p request told.old.items told.new.items) }
     {
         // Most requests come to an able process while no able one has mail: such a request is next, and needs no mailbox.
         if self.manager().able(p) && self.next_mail().is_none() {
@@ -93,23 +105,10 @@ impl Sequencer {
             return Ok(self.drain(told)?);
         }
         match self.arrive(p, request) {
-            Ok(_) => Ok(self.drain_of(p, told)?),
+            Ok(_) => Ok(self.drain(told)?),
             Err(ArriveFault::Full) => Err(RunAllFault::Full),
             Err(ArriveFault::Memory(memory)) => Err(RunAllFault::Memory(memory)),
         }
-    }
-
-    /// Takes until no able process has mail, where none but this one may have any.
-    fn drain_of(&mut self, p: u8, told: &mut Vec<Entry>) -> Result<(), Memory>
-        ensures told { TellsSome self.old self.new told.old.items told.new.items }
-        ensures rest { OnOk result (HasNoMailBut self.old p → HasNoMail self.new) }
-        ensures processes { processes_of (manager_in self.new) ≡ processes_of (manager_in self.old) }
-    {
-        // The mail of a process that waits stays, and most requests may be such mail.
-        if !self.manager().able(p) {
-            return Ok(());
-        }
-        self.drain(told)
     }
 
     /// Takes until no able process has mail.

@@ -1,7 +1,7 @@
--- What a sequencer takes, one event after another, and with one arrival more: for `Sequencer::deliver`, `drain`, `drain_of` and `run_all`.
+-- What a sequencer takes, one event after another, and with one arrival more: for `Sequencer::deliver`, `drain` and `run_all`.
 use Rattle.std.proofs.lemmas.Grind.{common_steps}
-use Rattle.std.proofs.Common.{rules, ℕ, zero, suc, ◌≡◌, ◌≢◌, ◌+◌, ◌-◌, ◌<◌, ◌≤◌, refl, sym, ◌∙◌, ap, subst, arith, eq-eqb, ne_eqb, length, List, [], ◌∷◌, ◌++◌, Some, drop, take, slice_get, get_or, ⊎_elim}
-use Rattle.std.specs.Prelude.{◌==◌, if◌then◌else◌, IsNone}
+use Rattle.std.proofs.Common.{rules, ℕ, zero, suc, ◌≡◌, ◌≢◌, ◌+◌, ◌-◌, ◌<◌, ◌≤◌, refl, sym, ◌∙◌, ap, subst, arith, eq-eqb, ne_eqb, length, List, [], ◌∷◌, ◌++◌, Some, drop, take, slice_get, get_or, ⊎_elim, inr, Result, Ok, Err, OnErr}
+use Rattle.std.specs.Prelude.{◌==◌, ◌⊎◌, if◌then◌else◌, IsNone}
 use Rattle.std.proofs.lemmas.Bool.{cases_eq}
 use Rattle.std.proofs.lemmas.List.{append-nil, append_assoc, length-drop, take_all, take_more}
 use Rattle.lock_manager.specs.declared.request.Rules.{Rules}
@@ -15,7 +15,7 @@ use Rattle.session_core.specs.Runs.{events_of}
 use Rattle.session_core.specs.Mail.{requests_sent}
 use Rattle.session_core.specs.Draining.{next_untaken, IsNext, IsDrained, TakesMail}
 use Rattle.session_core.specs.SequencerView.{manager_in, sent_by, waiting_at, first_waiting, HasTold, HasNoMail, HasNoneWaitingBelow, Tells, TellsOf, sent_with}
-use Rattle.session_core.specs.Deliveries.{TakesSome, HasNoMailBut, HasRun, RunsOn}
+use Rattle.session_core.specs.Deliveries.{TakesOf, TellsSome, Delivers, DeliversNothing, HasRun, RunsOn}
 use Rattle.session_core.proofs.MailLemmas.{next_untaken-waits, next_untaken-more, all_taken}
 use Rattle.session_core.proofs.runs.DrainLemmas.{IsNext-along, IsDrained-along, DrainsMail-along, TakesMail-push, IsDrain-push, requests_sent-push}
 
@@ -76,14 +76,16 @@ next_told old new p request journal event live first none tells =
     }
 
 -- nothing was taken yet
-pub TakesSome-none : (sequencer : Sequencer) (journal : List Event) → HasTold sequencer journal → TakesSome sequencer sequencer journal []
-TakesSome-none sequencer journal told = grind (arith, common_steps, append-nil)
+pub TakesOf-none : (sequencer : Sequencer) (journal : List Event) → HasTold sequencer journal
+    → TakesOf sequencer sequencer (sent_by sequencer journal) journal []
+TakesOf-none sequencer journal told = grind (arith, common_steps, append-nil)
 
 -- one more was taken
-pub TakesSome-push : (old between new : Sequencer) (journal more : List Event) (p : ℕ) (request : Request) (event : Event)
+pub TakesOf-push : (old between new : Sequencer) (journal more : List Event) (p : ℕ) (request : Request) (event : Event)
     → state_at (manager_in between) p ≡ Live → first_waiting between p ≡ Some request → HasNoneWaitingBelow between p
-    → TakesSome old between journal more → Tells between new p request (journal ++ more) event → TakesSome old new journal (more ++ event ∷ [])
-TakesSome-push old between new journal more p request event live first none some tells =
+    → TakesOf old between (sent_by old journal) journal more → Tells between new p request (journal ++ more) event
+    → TakesOf old new (sent_by old journal) journal (more ++ event ∷ [])
+TakesOf-push old between new journal more p request event live first none some tells =
     let all : (journal ++ more) ++ event ∷ [] ≡ journal ++ (more ++ event ∷ []) = append_assoc journal more (event ∷ []) in
     record {
       told = subst (HasTold new) all tells.told;
@@ -97,46 +99,22 @@ TakesSome-push old between new journal more p request event live first none some
           (step.0, TakesMail-push _ _ (sent_by old journal) journal S more g.0 event step.0 g.1 next (rw (sym some.rules, sym some.processes) step.1), step.2);
     }
 
--- where a request arrived, none but its process has more mail than before
-pub no_mail_but : (old new : Sequencer) (p : ℕ) → manager_in new ≡ manager_in old
-    → ((q : ℕ) → q ≢ p → waiting_at new q ≡ waiting_at old q) → HasNoMail old → HasNoMailBut new p
-no_mail_but old new p same others none q other live =
-    subst (λ l. IsNone (slice_get l 0)) (sym (others q other)) (none q (subst (λ m. state_at m q ≡ Live) same live))
-
--- the arrivals were run with one more: behind what was taken so much more was, of all that was sent then
-HasRun-by : (rules : Rules) (processes : ℕ) (arrivals : List (ℕ × Request)) (old new : Sequencer) (journal more : List Event) (p : ℕ) (request : Request)
-    (all : ℕ → List Request) (T : State) → (h : HasRun rules processes arrivals old journal)
-    → ((q : ℕ) → all q ≡ (if q == p then sent_by old journal q ++ request ∷ [] else sent_by old journal q))
-    → HasTold new (journal ++ more) → ((q : ℕ) → sent_by new (journal ++ more) q ≡ all q)
-    → rules_of (manager_in new) ≡ rules_of (manager_in old) → processes_of (manager_in new) ≡ processes_of (manager_in old)
-    → TakesMail (rules_of (manager_in old)) (processes_of (manager_in old)) all journal h.state more T → StandsFor (manager_in new) T
-    → HasNoMail new → HasRun rules processes (arrivals ++ (p, request) ∷ []) new (journal ++ more)
-HasRun-by rules processes arrivals old new journal more p request all T h with_one told is same_rules same_processes takes stands rest =
-    let sent : (q : ℕ) → all q ≡ requests_sent q (arrivals ++ (p, request) ∷ []) =
-    λ q. with_one q ∙ ap (λ l. if q == p then l ++ request ∷ [] else l) (h.sent q) ∙ sym (requests_sent-push q arrivals p request) in
-    let left = IsDrained-along (state_at (manager_in new)) T.states (sent_by new (journal ++ more)) all _ _ (λ q. stands.states q) is refl (drained new (journal ++ more) rest) in
-    let mail = DrainsMail-along _ rules _ processes all (λ q. requests_sent q (arrivals ++ (p, request) ∷ [])) journal journal h.state more T h.rules_are h.processes_are sent refl (takes, left) in
+-- it arrived, and then so much was taken
+pub TakesOf-arrived : (old between new : Sequencer) (journal more : List Event) (p : ℕ) (request : Request) → manager_in between ≡ manager_in old
+    → ((q : ℕ) → sent_by between journal q ≡ sent_with old journal p request q)
+    → TakesOf between new (sent_by between journal) journal more → TakesOf old new (sent_with old journal p request) journal more
+TakesOf-arrived old between new journal more p request same arrived takes =
+    let all : sent_by between journal ≡ sent_with old journal p request = λ i q. arrived q i in
     record {
-      rules_are = same_rules ∙ h.rules_are;
-      processes_are = same_processes ∙ h.processes_are;
-      told = told;
-      sent = λ q. is q ∙ sent q;
-      state = T;
-      drained = IsDrain-push rules processes arrivals journal h.state (p, request) more T h.drained mail;
-      stands = stands;
-      rest = rest;
+      told = takes.told;
+      sent = λ q. takes.sent q ∙ arrived q;
+      rules = takes.rules ∙ ap rules_of same;
+      processes = takes.processes ∙ ap processes_of same;
+      goes_on = λ S stands.
+          let g = takes.goes_on S (subst (λ m. StandsFor m S) (sym same) stands) in
+          let mail = subst (λ m. TakesMail (rules_of m) (processes_of m) (sent_by between journal) journal S more g.0) same g.1 in
+          (g.0, subst (λ sent. TakesMail (rules_of (manager_in old)) (processes_of (manager_in old)) sent journal S more g.0) all mail, g.2);
     }
-
--- it arrived, and then all that could be taken was
-pub HasRun-push : (rules : Rules) (processes : ℕ) (arrivals : List (ℕ × Request)) (old between new : Sequencer) (journal more : List Event)
-    (p : ℕ) (request : Request) → HasRun rules processes arrivals old journal → manager_in between ≡ manager_in old
-    → ((q : ℕ) → sent_by between journal q ≡ (if q == p then sent_by old journal q ++ request ∷ [] else sent_by old journal q))
-    → TakesSome between new journal more → HasNoMail new → HasRun rules processes (arrivals ++ (p, request) ∷ []) new (journal ++ more)
-HasRun-push rules processes arrivals old between new journal more p request h same arrived takes rest =
-    let g = takes.goes_on h.state (subst (λ m. StandsFor m h.state) (sym same) h.stands) in
-    let mail = subst (λ m. TakesMail (rules_of m) (processes_of m) (sent_by between journal) journal h.state more g.0) same g.1 in
-    HasRun-by rules processes arrivals old new journal more p request (sent_by between journal) g.0 h arrived takes.told takes.sent
-    (takes.rules ∙ ap rules_of same) (takes.processes ∙ ap processes_of same) mail g.2 rest
 
 -- of a process without mail all that it sent was taken
 all_sent_taken : (sequencer : Sequencer) (journal : List Event) (p : ℕ) → IsNone (first_waiting sequencer p)
@@ -158,25 +136,95 @@ next_passed old new p request journal event live none tells =
       number = rw tells.process tells.number;
     }
 
--- it was taken as it came, and then all that could be taken was
-pub HasRun-passed : (rules : Rules) (processes : ℕ) (arrivals : List (ℕ × Request)) (old between new : Sequencer) (journal more : List Event)
-    (p : ℕ) (request : Request) (event : Event) → state_at (manager_in old) p ≡ Live → HasRun rules processes arrivals old journal
-    → TellsOf old between p request (sent_with old journal p request) journal event → TakesSome between new (journal ++ event ∷ []) more
-    → HasNoMail new → HasRun rules processes (arrivals ++ (p, request) ∷ []) new (journal ++ event ∷ more)
-HasRun-passed rules processes arrivals old between new journal more p request event live h tells takes rest =
+-- it was taken as it came, and then so much more was
+pub TakesOf-passed : (old between new : Sequencer) (journal more : List Event) (p : ℕ) (request : Request) (event : Event)
+    → state_at (manager_in old) p ≡ Live → HasNoMail old → TellsOf old between p request (sent_with old journal p request) journal event
+    → TakesOf between new (sent_by between (journal ++ event ∷ [])) (journal ++ event ∷ []) more
+    → TakesOf old new (sent_with old journal p request) journal (event ∷ more)
+TakesOf-passed old between new journal more p request event live none tells takes =
     let all = sent_with old journal p request in
     let whole : (journal ++ event ∷ []) ++ more ≡ journal ++ event ∷ more = append_assoc journal (event ∷ []) more in
-    let step = tells.step h.state h.stands in
-    let g = takes.goes_on step.0 step.2 in
     let sent : sent_by between (journal ++ event ∷ []) ≡ all = λ i q. tells.sent q i in
-    let under = subst (λ r. TakesMail r (processes_of (manager_in between)) (sent_by between (journal ++ event ∷ [])) (journal ++ event ∷ []) step.0 more g.0) tells.rules g.1 in
-    let among = subst (λ n. TakesMail (rules_of (manager_in old)) n (sent_by between (journal ++ event ∷ [])) (journal ++ event ∷ []) step.0 more g.0) tells.processes under in
-    let later = subst (λ s. TakesMail (rules_of (manager_in old)) (processes_of (manager_in old)) s (journal ++ event ∷ []) step.0 more g.0) sent among in
-    let next = IsNext-along (state_at (manager_in old)) h.state.states all all journal journal event (λ q. h.stands.states q) (λ q. refl) refl
-    (next_passed old between p request journal event live h.rest tells) in
-    HasRun-by rules processes arrivals old new journal (event ∷ more) p request all g.0 h (λ q. refl) (subst (HasTold new) whole takes.told)
-    (λ q. ap (λ l. sent_by new l q) (sym whole) ∙ takes.sent q ∙ tells.sent q) (takes.rules ∙ tells.rules) (takes.processes ∙ tells.processes)
-    (next, step.0, step.1, later) g.2 rest
+    record {
+      told = subst (HasTold new) whole takes.told;
+      sent = λ q. ap (λ l. sent_by new l q) (sym whole) ∙ takes.sent q ∙ tells.sent q;
+      rules = takes.rules ∙ tells.rules;
+      processes = takes.processes ∙ tells.processes;
+      goes_on = λ S stands.
+          let step = tells.step S stands in
+          let g = takes.goes_on step.0 step.2 in
+          let under = subst (λ r. TakesMail r (processes_of (manager_in between)) (sent_by between (journal ++ event ∷ [])) (journal ++ event ∷ []) step.0 more g.0) tells.rules g.1 in
+          let among = subst (λ n. TakesMail (rules_of (manager_in old)) n (sent_by between (journal ++ event ∷ [])) (journal ++ event ∷ []) step.0 more g.0) tells.processes under in
+          let later = subst (λ s. TakesMail (rules_of (manager_in old)) (processes_of (manager_in old)) s (journal ++ event ∷ []) step.0 more g.0) sent among in
+          let next = IsNext-along (state_at (manager_in old)) S.states all all journal journal event (λ q. stands.states q) (λ q. refl) refl
+          (next_passed old between p request journal event live none tells) in
+          (g.0, (next, step.0, step.1, later), g.2);
+    }
+
+-- so it came, and what was taken then stands behind the text: of one that went to its mailbox
+pub Delivers-arrived : (old between new : Sequencer) (p : ℕ) (request : Request) (before after : List Event) → manager_in between ≡ manager_in old
+    → ((journal : List Event) (q : ℕ) → sent_by between journal q ≡ sent_with old journal p request q)
+    → ((journal : List Event) → HasTold old journal → HasTold between journal) → TellsSome between new before after
+    → Delivers old new p request before after
+Delivers-arrived old between new p request before after same arrived kept tells =
+    record {
+      more = tells.more;
+      is = tells.is;
+      takes = λ journal told. TakesOf-arrived old between new journal tells.more p request same (arrived journal) (tells.takes journal (kept journal told));
+    }
+
+-- and of one that was taken as it came
+pub Delivers-passed : (old between new : Sequencer) (p : ℕ) (request : Request) (event : Event) (before middle after : List Event)
+    → state_at (manager_in old) p ≡ Live → HasNoMail old
+    → ((journal : List Event) → HasTold old journal → TellsOf old between p request (sent_with old journal p request) journal event)
+    → middle ≡ before ++ event ∷ [] → TellsSome between new middle after → Delivers old new p request before after
+Delivers-passed old between new p request event before middle after live none passed added tells =
+    record {
+      more = event ∷ tells.more;
+      is = tells.is ∙ ap (λ l. l ++ tells.more) added ∙ append_assoc before (event ∷ []) tells.more;
+      takes = λ journal told.
+          let first = passed journal told in
+          TakesOf-passed old between new journal tells.more p request event live none first (tells.takes (journal ++ event ∷ []) first.told);
+    }
+
+-- whatever a refusal is
+pub delivers_anyhow : {T E : Type 0} (result : Result T E) (old new : Sequencer) (p : ℕ) (request : Request) (before after : List Event)
+    → Delivers old new p request before after → OnErr result (DeliversNothing old new before after ⊎ Delivers old new p request before after)
+delivers_anyhow (Ok x) old new p request before after delivers = tt
+delivers_anyhow (Err e) old new p request before after delivers = inr delivers
+
+-- the arrivals were run with one more: it came, and all that could be taken then was
+pub HasRun-delivered : (rules : Rules) (processes : ℕ) (arrivals : List (ℕ × Request)) (old new : Sequencer) (journal more : List Event) (p : ℕ)
+    (request : Request) → HasRun rules processes arrivals old journal → TakesOf old new (sent_with old journal p request) journal more → HasNoMail new
+    → HasRun rules processes (arrivals ++ (p, request) ∷ []) new (journal ++ more)
+HasRun-delivered rules processes arrivals old new journal more p request h takes rest =
+    let all = sent_with old journal p request in
+    let g = takes.goes_on h.state h.stands in
+    let sent : (q : ℕ) → all q ≡ requests_sent q (arrivals ++ (p, request) ∷ []) =
+    λ q. ap (λ l. if q == p then l ++ request ∷ [] else l) (h.sent q) ∙ sym (requests_sent-push q arrivals p request) in
+    let left = IsDrained-along (state_at (manager_in new)) g.0.states (sent_by new (journal ++ more)) all _ _ (λ q. g.2.states q) takes.sent refl (drained new (journal ++ more) rest) in
+    let mail = DrainsMail-along _ rules _ processes all (λ q. requests_sent q (arrivals ++ (p, request) ∷ [])) journal journal h.state more g.0 h.rules_are h.processes_are sent refl (g.1, left) in
+    record {
+      rules_are = takes.rules ∙ h.rules_are;
+      processes_are = takes.processes ∙ h.processes_are;
+      told = takes.told;
+      sent = λ q. takes.sent q ∙ sent q;
+      state = g.0;
+      drained = IsDrain-push rules processes arrivals journal h.state (p, request) more g.0 h.drained mail;
+      stands = g.2;
+      rest = rest;
+    }
+
+-- so what was delivered until nothing more could be taken is run on
+pub RunsOn-delivered : (old new : Sequencer) (p : ℕ) (request : Request) (before after : List Event) → Delivers old new p request before after
+    → HasNoMail new → RunsOn old new before after p request
+RunsOn-delivered old new p request before after delivers rest =
+    record {
+      more = delivers.more;
+      is = delivers.is;
+      runs = λ rules processes arrivals journal h.
+          HasRun-delivered rules processes arrivals old new journal delivers.more p request h (delivers.takes journal h.told) rest;
+    }
 
 -- one arrival more of a list
 pub HasRun-more : (rules : Rules) (processes : ℕ) (arrivals : List (ℕ × Request)) (i : ℕ) (d : ℕ × Request) (old new : Sequencer)

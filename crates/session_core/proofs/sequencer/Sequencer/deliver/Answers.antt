@@ -1,38 +1,45 @@
-use Rattle.std.proofs.Common.{rules, ◌≡◌, ◌∙◌, ap, [], ◌∷◌, ◌++◌, append_assoc}
+use Rattle.std.proofs.Common.{rules, ◌≡◌, ◌∙◌, ap, [], ◌∷◌, ◌++◌}
 use Rattle.lock_manager.specs.declared.request.ProcState.TheVariants.{Live}
 use Rattle.lock_manager.specs.ManagerView.{state_at}
-use Rattle.session_core.specs.SequencerView.{manager_in}
-use Rattle.session_core.proofs.runs.SequencerLemmas.{HasRun-push, HasRun-passed, no_mail_but}
+use Rattle.session_core.specs.SequencerView.{manager_in, HasNoMail}
+use Rattle.session_core.proofs.runs.SequencerLemmas.{Delivers-arrived, Delivers-passed, RunsOn-delivered, delivers_anyhow}
 use Rattle.session_core.proofs.sequencer.Sequencer.deliver.Goals as goal
 
-pub returns-in_ok-drain_of-in-Ok-clause-ok : goal.returns-in_ok-drain_of-in-Ok-clause-ok
-returns-in_ok-drain_of-in-Ok-clause-ok c =
-    let old = c.args.self.now in
-    let between = c.arrive.new.self in
-    let told = c.drain_of.ensures.told in
-    record {
-      more = told.more;
-      is = told.is;
-      runs = λ rules processes arrivals journal h.
-          HasRun-push rules processes arrivals old between c.drain_of.new.self journal told.more c.args.p c.args.request h c.arrive.ensures.manager
-          (c.in-Ok.ensures.sent journal) (told.takes journal (c.arrive.ensures.told journal h.told))
-          (c.in_ok-drain_of-in-Ok.ensures.rest (no_mail_but old between c.args.p c.arrive.ensures.manager c.arrive.ensures.others h.rest));
-    }
+pub returns-in_err-drain-clause-err : goal.returns-in_err-drain-clause-err
+returns-in_err-drain-clause-err c =
+    let live : state_at (manager_in c.args.self.now) c.args.p ≡ Live = search rules in
+    let none : HasNoMail c.args.self.now = search rules in
+    delivers_anyhow c.from_residual-in_err-drain.result c.args.self.now c.drain.new.self c.args.p c.args.request c.args.told.now.items c.drain.new.told.items
+    (Delivers-passed c.args.self.now c.take_at_once.new.self c.drain.new.self c.args.p c.args.request c.in_ok-entry.entry c.args.told.now.items _ _ live none
+    c.in_ok-entry.ensures.taken (c.push_reserved.ensures.items ∙ ap (λ l. l ++ c.in_ok-entry.entry ∷ []) c.reserve.ensures.items) c.drain.ensures.told)
+
+pub returns-then-is_none-clause-delivered : goal.returns-then-is_none-clause-delivered
+returns-then-is_none-clause-delivered c =
+    let live : state_at (manager_in c.args.self.now) c.args.p ≡ Live = search rules in
+    let none : HasNoMail c.args.self.now = search rules in
+    Delivers-passed c.args.self.now c.take_at_once.new.self c.drain.new.self c.args.p c.args.request c.in_ok-entry.entry c.args.told.now.items _ _ live none
+    c.in_ok-entry.ensures.taken (c.push_reserved.ensures.items ∙ ap (λ l. l ++ c.in_ok-entry.entry ∷ []) c.reserve.ensures.items) c.drain.ensures.told
 
 pub returns-then-is_none-clause-ok : goal.returns-then-is_none-clause-ok
 returns-then-is_none-clause-ok c =
-    let old = c.args.self.now in
-    let before = c.args.told.now.items in
-    let entry = c.in_ok-entry.entry in
-    let told = c.drain.ensures.told in
-    let live : state_at (manager_in old) c.args.p ≡ Live = search rules in
-    record {
-      more = entry ∷ told.more;
-      is =
-          told.is ∙ ap (λ l. l ++ told.more) (c.push_reserved.ensures.items ∙ ap (λ l. l ++ entry ∷ []) c.reserve.ensures.items)
-          ∙ append_assoc before (entry ∷ []) told.more;
-      runs = λ rules processes arrivals journal h.
-          let tells = c.in_ok-entry.ensures.taken journal h.told in
-          HasRun-passed rules processes arrivals old c.take_at_once.new.self c.drain.new.self journal told.more c.args.p c.args.request entry live h
-          tells (told.takes (journal ++ entry ∷ []) tells.told) c.in_ok-drain.ensures.rest;
-    }
+    RunsOn-delivered c.args.self.now c.drain.new.self c.args.p c.args.request c.args.told.now.items c.drain.new.told.items
+    (returns-then-is_none-clause-delivered c) c.in_ok-drain.ensures.rest
+
+pub returns-in_err-drain-in-Ok-clause-err : goal.returns-in_err-drain-in-Ok-clause-err
+returns-in_err-drain-in-Ok-clause-err c =
+    delivers_anyhow c.from_residual-in_err-drain-in-Ok.result c.args.self.now c.drain-in-Ok.new.self c.args.p c.args.request c.args.told.now.items
+    c.drain-in-Ok.new.told.items
+    (Delivers-arrived c.args.self.now c.arrive.new.self c.drain-in-Ok.new.self c.args.p c.args.request c.args.told.now.items c.drain-in-Ok.new.told.items
+    c.arrive.ensures.manager c.in-Ok.ensures.sent c.arrive.ensures.told c.drain-in-Ok.ensures.told)
+
+pub returns-in_ok-drain-in-Ok-clause-ok : goal.returns-in_ok-drain-in-Ok-clause-ok
+returns-in_ok-drain-in-Ok-clause-ok c =
+    RunsOn-delivered c.args.self.now c.drain-in-Ok.new.self c.args.p c.args.request c.args.told.now.items c.drain-in-Ok.new.told.items
+    (Delivers-arrived c.args.self.now c.arrive.new.self c.drain-in-Ok.new.self c.args.p c.args.request c.args.told.now.items c.drain-in-Ok.new.told.items
+    c.arrive.ensures.manager c.in-Ok.ensures.sent c.arrive.ensures.told c.drain-in-Ok.ensures.told)
+    c.in_ok-drain-in-Ok.ensures.rest
+
+pub returns-in_ok-drain-in-Ok-clause-delivered : goal.returns-in_ok-drain-in-Ok-clause-delivered
+returns-in_ok-drain-in-Ok-clause-delivered c =
+    Delivers-arrived c.args.self.now c.arrive.new.self c.drain-in-Ok.new.self c.args.p c.args.request c.args.told.now.items c.drain-in-Ok.new.told.items
+    c.arrive.ensures.manager c.in-Ok.ensures.sent c.arrive.ensures.told c.drain-in-Ok.ensures.told

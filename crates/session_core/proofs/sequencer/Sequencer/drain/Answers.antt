@@ -2,7 +2,7 @@ use Rattle.std.proofs.Common.{◌∙◌, [], ◌∷◌, ◌++◌, append_assoc}
 use Rattle.std.proofs.lemmas.Option.{slice_get_within}
 use Rattle.lock_manager.specs.ManagerView.{processes_of}
 use Rattle.session_core.specs.SequencerView.{manager_in, waiting_at}
-use Rattle.session_core.proofs.runs.SequencerLemmas.{TakesSome-push, waiting_left-taken}
+use Rattle.session_core.proofs.runs.SequencerLemmas.{TakesOf-push, waiting_left-taken}
 use Rattle.session_core.proofs.sequencer.Sequencer.drain.Goals as goal
 
 pub loop-p-smaller : goal.loop-p-smaller
@@ -22,7 +22,7 @@ loop-p-preserved c =
         is = rw (c.push_reserved.ensures.items, c.reserve.ensures.items, so_far.is) (append_assoc _ so_far.more _);
         takes = λ journal told.
             let some = so_far.takes journal told in
-            TakesSome-push c.args.self.now c.loop-p.self c.take.new.self journal so_far.more c.in-Some.p c.in-Some.request c.in_ok-entry.entry
+            TakesOf-push c.args.self.now c.loop-p.self c.take.new.self journal so_far.more c.in-Some.p c.in-Some.request c.in_ok-entry.entry
             c.in-Some.ensures.able c.in-Some.ensures.next c.in-Some.ensures.least some (c.in_ok-entry.ensures.taken (journal ++ so_far.more) some.told);
       };
       processes = c.take.ensures.processes ∙ c.loop-p.invariant.processes;
