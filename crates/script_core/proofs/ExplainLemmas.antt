@@ -1,4 +1,4 @@
--- The run that is made again, step by step: for `write_explained` and `write_unborn`, clauses `ok`.
+-- The run that is made again, step by step: for `write_explained`, clause `ok`.
 use Rattle.std.proofs.lemmas.Grind.{common_steps}
 use Rattle.std.proofs.Common.{rules, ℕ, zero, suc, ◌≡◌, ◌+◌, ◌-◌, ◌<◌, ◌≤◌, Option, List, [], ◌∷◌, ◌++◌, length, All, inl, inr, take, drop, get_or, refl, sym, ap, subst, ◌∙◌, arith, append_assoc, append-nil, add-one, Result, Bool, true, IfOk, MatchResult, OnErr, OnOk, codes, decimal, slice_index}
 use Rattle.std.proofs.Math.Seq.{drop-cons, take-append_seam}
@@ -17,7 +17,6 @@ use Rattle.lock_manager.specs.declared.request.LkCmd.{LkCmd}
 use Rattle.lock_manager.specs.declared.request.FlockOp.{FlockOp}
 use Rattle.lock_manager.specs.declared.request.Note.{Note}
 use Rattle.lock_manager.specs.declared.request.InTheWay.{InTheWay}
-use Rattle.lock_manager.specs.declared.request.ProcState.{ProcState}
 use Rattle.lock_manager.specs.declared.manager.Manager.{Manager}
 use Rattle.lock_manager.specs.State.{State, opening_state, locks_held}
 use Rattle.lock_manager.specs.Settling.{IsSettled}
@@ -28,14 +27,13 @@ use Rattle.lock_manager.specs.ManagerView.{StandsFor, rules_of, processes_of}
 use Rattle.session_core.specs.Event.{Event}
 use Rattle.session_core.specs.Runs.{IsStep, Leads}
 use Rattle.script_core.specs.EntryText.{entry_line, tag}
-use Rattle.script_core.specs.ReportText.{AreCounts}
 use Rattle.script_core.specs.Output.{Extends}
 use Rattle.script_core.specs.declared.deadlock.Link.{Link}
 use Rattle.script_core.specs.declared.states.States.{States}
 use Rattle.script_core.specs.StateText.{is_told, TellsStateIf}
 use Rattle.script_core.specs.Files.{IsWithinFiles}
 use Rattle.script_core.specs.Deadlocks.{TellsCycleIfAny}
-use Rattle.script_core.specs.Explaining.{comment, is_deadlock, obstacle_line, deadlock_line, TellsDeadlock, IsCycleOf, word_of_loss, loss_lines, StandsInTheWay, Explains, ExplainsRun, more_text, never_born_line, unborn_line, unborn_lines}
+use Rattle.script_core.specs.Explaining.{comment, is_deadlock, obstacle_line, deadlock_line, TellsDeadlock, IsCycleOf, word_of_loss, loss_lines, ended_line, ended_wait, StandsInTheWay, Explains, ExplainsRun}
 use Rattle.script_core.proofs.TextLemmas.{kept_behind}
 use Rattle.script_core.proofs.DeadlockLocksLemmas.{told_of_state, none_of_state}
 use Rattle.script_core.proofs.DeadlockStepLemmas.{HasClosed, step_closes}
@@ -93,10 +91,14 @@ StepExplains policy old new event before after =
     (S T : State) → StandsFor old S → IsWithinFiles S → IsSettled policy S → IsStep (rules_of old) (processes_of old) S event T → StandsFor new T
     × (own : List ℕ) × Explains (rules_of old) S event T own × (after ≡ before ++ (entry_line event ++ own))
 
+-- one more piece
+pub and_then : (old mid new front piece : List ℕ) → mid ≡ old ++ front → new ≡ mid ++ piece → new ≡ old ++ (front ++ piece)
+and_then old mid new front piece is pushed = pushed ∙ ap (λ (l : List ℕ). l ++ piece) is ∙ append_assoc old front piece
+
 -- what is told of the step, and of the locks and waits before and behind it, explains it
 pub explains_step : StepHasOneOutcome
     → (policy : Policy) (old next : Manager) (event : Event) (notes : List Note) (before after : List Held) (obstacle : Option InTheWay)
-    → (links : List Link) (t0 t1 t2 t3 t4 : List ℕ)
+    → (links : List Link) (t0 t1 t2 t3 t4 t5 : List ℕ)
     → policy ≡ (rules_of old).policy
     → ((S : State) → StandsFor old S → IsHeldReport (mode_in S.changes) (flock_mode_in S.flock_changes) before)
     → ((S : State) → StandsFor old S → (T : State)
@@ -104,18 +106,20 @@ pub explains_step : StepHasOneOutcome
     → ((T : State) → StandsFor next T → IsHeldReport (mode_in T.changes) (flock_mode_in T.flock_changes) after)
     → ((T : State) → StandsFor next T → StandsInTheWay (rules_of next) T event obstacle)
     → ((T : State) → StandsFor next T → IsCycleOf policy T after event links) → rules_of next ≡ rules_of old
-    → t1 ≡ t0 ++ entry_line event → t2 ≡ t1 ++ loss_lines event (word_of_loss event.request) before after → t3 ≡ t2 ++ obstacle_line event obstacle
-    → t4 ≡ t3 ++ deadlock_line event links
-    → StepExplains policy old next event t0 t4
-explains_step one policy old next event notes before after obstacle links t0 t1 t2 t3 t4 ruled reported steps reports stands cycle rules first second third fourth S T h within settled step =
+    → t1 ≡ t0 ++ entry_line event → ((S : State) → StandsFor old S → t2 ≡ t1 ++ ended_line event (ended_wait S event.request))
+    → t3 ≡ t2 ++ loss_lines event (word_of_loss event.request) before after → t4 ≡ t3 ++ obstacle_line event obstacle
+    → t5 ≡ t4 ++ deadlock_line event links
+    → StepExplains policy old next event t0 t5
+explains_step one policy old next event notes before after obstacle links t0 t1 t2 t3 t4 t5 ruled reported steps reports stands cycle rules first ends second third fourth S T h within settled step =
     let made = steps S h in
     let same : made.0 ≡ T = (one (rules_of old) (processes_of old) S event.p event.n event.request notes event.notes made.0 T made.1 step).1 in
     let now : StandsFor next T = subst (StandsFor next) same made.2 in
+    let ended = ended_line event (ended_wait S event.request) in
     let losses = loss_lines event (word_of_loss event.request) before after in
     let blocked = obstacle_line event obstacle in
     let refused = deadlock_line event links in (
       now,
-      losses ++ blocked ++ refused,
+      ended ++ losses ++ blocked ++ refused,
       record {
         before = before;
         is_before = reported S h;
@@ -129,13 +133,16 @@ explains_step one policy old next event notes before after obstacle links t0 t1 
             (subst (λ (p : Policy). IsCycleOf p T after event links) ruled (cycle T now));
         is = refl;
       },
-      fourth
-          ∙ ap (λ (l : List ℕ). l ++ refused) (third ∙ ap (λ (l : List ℕ). l ++ blocked) (second ∙ ap (λ (l : List ℕ). l ++ losses) first))
-          ∙ ap (λ (l : List ℕ). l ++ refused)
-          (append_assoc (t0 ++ entry_line event) losses blocked ∙ append_assoc t0 (entry_line event) (losses ++ blocked))
-          ∙ append_assoc t0 (entry_line event ++ (losses ++ blocked)) refused
-          ∙ ap (λ (l : List ℕ). t0 ++ l) (append_assoc (entry_line event) (losses ++ blocked) refused),
+      and_then t0 t4 t5 (entry_line event ++ ended ++ losses ++ blocked) refused
+          (and_then t0 t3 t4 (entry_line event ++ ended ++ losses) blocked
+          (and_then t0 t2 t3 (entry_line event ++ ended) losses (and_then t0 t1 t2 (entry_line event) ended first (ends S h)) second) third) fourth
+          ∙ ap (λ (l : List ℕ). t0 ++ l) (five (entry_line event) ended losses blocked refused),
     )
+  where
+    five : (a b c d e : List ℕ) → (((a ++ b) ++ c) ++ d) ++ e ≡ a ++ (((b ++ c) ++ d) ++ e)
+    five a b c d e =
+        append_assoc ((a ++ b) ++ c) d e ∙ append_assoc (a ++ b) c (d ++ e) ∙ append_assoc a b (c ++ (d ++ e))
+        ∙ ap (λ (l : List ℕ). a ++ l) (sym (append_assoc (b ++ c) d e ∙ append_assoc b c (d ++ e)))
 
 -- what follows where a piece was appended, and where it was refused
 pub if_pushed : {A E : Type 0} (r : Result A E) (P Q X : Type 0) → MatchResult r (λ unit. P) (λ error. Q) → (P → X) → OnOk r X
@@ -143,10 +150,6 @@ if_pushed r P Q X h gives = grind (arith, common_steps)
 
 pub if_refused : {A E : Type 0} (r : Result A E) (P Q X : Type 0) → MatchResult r (λ unit. P) (λ error. Q) → (Q → X) → OnErr r X
 if_refused r P Q X h gives = grind (arith, common_steps)
-
--- one more piece
-pub and_then : (old mid new front piece : List ℕ) → mid ≡ old ++ front → new ≡ mid ++ piece → new ≡ old ++ (front ++ piece)
-and_then old mid new front piece is pushed = pushed ∙ ap (λ (l : List ℕ). l ++ piece) is ∙ append_assoc old front piece
 
 -- what is told behind the beginning of a line
 pub begun : {A E : Type 0} (r : Result A E) (old front new told : List ℕ)
@@ -163,12 +166,6 @@ told_behind r old mid new p n words line told h h2 h3 = grind (arith, common_ste
 -- what is cut back to the old bytes is these
 pub cut_whole : (old new cut : List ℕ) (len : ℕ) → Extends old new → len ≡ length old → cut ≡ take len new → cut ≡ old
 cut_whole old new cut len kept at is = is ∙ ap (λ (n : ℕ). take n new) at ∙ ap (take (length old)) kept.is ∙ take-append_seam old kept.more
-
--- of one request and more
-pub never_born_more : (p sent : ℕ) → 0 < sent
-    → never_born_line p sent
-    ≡ codes "# " ++ tag p 1 ++ more_text (sent - 1) ++ codes " never taken: process " ++ decimal p ++ codes " was never born" ++ 10 ∷ []
-never_born_more p sent h = grind (arith, common_steps)
 
 -- a front of a journal was made again: the manager stands for the state that it leaves, from which the rest leads on, and the text has
 -- grown by what explains the front
@@ -299,34 +296,3 @@ pub all_explained : StepHasOneOutcome → (states : States) (rules : Rules) (pro
     (old new : List ℕ) → HasExplained states rules processes journal index manager old new → length journal ≤ index → (T : State)
     → Leads rules processes opening_state journal T → (more : List ℕ) × ExplainsRun states rules processes 1 opening_state journal T more × (new ≡ old ++ more)
 all_explained one states rules processes journal index manager old new h past T leads = grind (arith, common_steps, take_all, same_end)
-
--- the line of one more process that was never born
-unborn_lines-more : (states : ℕ → ProcState) (sent : ℕ → ℕ) (p n : ℕ)
-    → unborn_lines states sent p (suc n) ≡ unborn_lines states sent p n ++ unborn_line (states (p + n)) (p + n) (sent (p + n))
-unfolding unborn_lines
-unborn_lines-more states sent p zero = grind (arith, common_steps, append-nil)
-unborn_lines-more states sent p (suc n) = grind (arith, common_steps, append_assoc, unborn_lines-more states sent (p + 1) n)
-
--- no lines of no processes
-pub none_unborn : (states : ℕ → ProcState) (sent : ℕ → ℕ) (old : List ℕ) → old ≡ old ++ unborn_lines states sent 1 0
-unfolding unborn_lines
-none_unborn states sent old = sym (append-nil old)
-
--- the lines of so many processes, and of one more, whose count stands at its place
-pub more_unborn : (states : ℕ → ProcState) (counts : List ℕ) (sent : ℕ → ℕ) (old before after : List ℕ) (index count : ℕ)
-    → AreCounts counts sent → index < length counts → slice_index counts index ≡ count
-    → before ≡ old ++ unborn_lines states sent 1 index
-    → after ≡ before ++ unborn_line (states (index + 1)) (index + 1) count
-    → after ≡ old ++ unborn_lines states sent 1 (index + 1)
-more_unborn states counts sent old before after index count are within at was is =
-    let place : index + 1 - 1 ≡ index = omega arith in
-    let same : count ≡ sent (index + 1) = sym at ∙ ap (slice_index counts) (sym place) ∙ are (index + 1) (omega arith) (omega arith) in
-    let next : index + 1 ≡ 1 + index = omega arith in
-    let lines = unborn_lines states sent 1 index in
-    is
-    ∙ ap (λ (n : ℕ). before ++ unborn_line (states (index + 1)) (index + 1) n) same
-    ∙ ap (λ (q : ℕ). before ++ unborn_line (states q) q (sent q)) next
-    ∙ ap (λ (l : List ℕ). l ++ unborn_line (states (1 + index)) (1 + index) (sent (1 + index))) was
-    ∙ append_assoc old lines (unborn_line (states (1 + index)) (1 + index) (sent (1 + index)))
-    ∙ ap (λ (l : List ℕ). old ++ l) (sym (unborn_lines-more states sent 1 index))
-    ∙ ap (λ (n : ℕ). old ++ unborn_lines states sent 1 n) (sym (add-one index))

@@ -1,5 +1,5 @@
 -- The lines that explain a run: each begins with `#` and stands behind the line of its event, or at the end (this project's choice).
-use Rattle.std.specs.Prelude.{◌≡◌, ℕ, zero, suc, ◌+◌, ◌==◌, ◌&&◌, Bool, true, false, not, if◌then◌else◌, IsTrue, Option, Some, None, Ok, List, [], ◌∷◌, ◌++◌, length, filter, flat_map, codes, decimal}
+use Rattle.std.specs.Prelude.{◌≡◌, ℕ, zero, suc, ◌+◌, ◌-◌, ◌==◌, ◌&&◌, Bool, true, false, not, if◌then◌else◌, IsTrue, Option, Some, None, Ok, List, [], ◌∷◌, ◌++◌, length, filter, flat_map, codes, decimal}
 use Rattle.std.specs.List.{list_any}
 use Rattle.lock_book.specs.declared.Held.{Held}
 use Rattle.lock_book.specs.Owners.{is_same_owner}
@@ -9,6 +9,7 @@ use Rattle.wait_core.specs.declared.Policy.{Policy}
 use Rattle.wait_core.specs.declared.Wait.{Wait}
 use Rattle.wait_core.specs.Blocking.{IsBlocked}
 use Rattle.wait_core.specs.Cycles.{IsBlockedByProcess, IsTraditional, WaitsFor}
+use Rattle.wait_core.specs.WaitsView.{wait_of}
 use Rattle.lock_manager.specs.declared.request.Rules.{Rules}
 use Rattle.lock_manager.specs.declared.request.Errno.TheVariants.{EBADF, EINVAL, EOVERFLOW, EAGAIN, EDEADLK, EINTR, EMFILE, ESRCH}
 use Rattle.lock_manager.specs.declared.request.Reply.{Reply}
@@ -32,7 +33,8 @@ use Rattle.script_core.specs.Words.{lines_of}
 use Rattle.script_core.specs.ScriptText.{Meaning}
 use Rattle.script_core.specs.Reading.{Reads}
 use Rattle.script_core.specs.EntryText.{tag, entry_line}
-use Rattle.script_core.specs.ReportText.{held_line, wait_line, IsReport}
+use Rattle.script_core.specs.declared.report_text.ProcessLine.{ProcessLine}
+use Rattle.script_core.specs.ReportText.{held_line, wait_line, line_of, IsReport}
 use Rattle.script_core.specs.Output.{IsOutput, processes_in}
 use Rattle.script_core.specs.declared.deadlock.Link.{Link}
 use Rattle.script_core.specs.declared.states.States.{States}
@@ -73,6 +75,27 @@ is_stopped (Waits p n ∷ notes) = true
 abbrev pub obstacle_line : Event → Option InTheWay → List ℕ
 obstacle_line event None = []
 obstacle_line event (Some obstacle) = comment event.p event.n (in_the_way_line obstacle)
+
+-- the wait that the request of a process ends with the process that waits: that of the one that it kills (POSIX.1-2017 kill, DESCRIPTION,
+-- SIGKILL; _Exit, "Consequences of Process Termination")
+abbrev pub ended_wait : State → Request → Option Wait
+ended_wait S (OpenFile file access) = None
+ended_wait S (Dup fd) = None
+ended_wait S (DupTo fd to) = None
+ended_wait S (CloseFd fd) = None
+ended_wait S (Seek fd offset) = None
+ended_wait S (Resize fd size) = None
+ended_wait S (Lk fd cmd lock) = None
+ended_wait S (Flock fd op nb) = None
+ended_wait S (Fork child) = None
+ended_wait S Exit = None
+ended_wait S (Signal target) = None
+ended_wait S (Kill target) = wait_of S.waits target
+
+-- the line of the wait that ended with its process, if one did
+abbrev pub ended_line : Event → Option Wait → List ℕ
+ended_line event None = []
+ended_line event (Some wait) = comment event.p event.n (codes "ended the wait of " ++ tag wait.p wait.n ++ 10 ∷ [])
 
 -- whether the two lines of reports say locks of one owner on one file, both on bytes or both on the whole
 abbrev pub is_same_place : Held → Held → Bool
@@ -158,8 +181,8 @@ pub record IsCycleOf (policy : Policy) (T : State) (report : List Held) (event :
   pub some : is_deadlock event.notes ≡ true → (wait : Wait) → AsksFor T event.p event.n event.request wait → IsTraditional wait
       → TellsCycleIfAny policy report T.waits wait links
 
--- the lines explain the event, from the state S to the state T: which locks went, and then what was in the way, or which cycle the
--- request would have closed
+-- the lines explain the event, from the state S to the state T: which wait it ended, which locks went, and then what was in the way, or
+-- which cycle the request would have closed
 pub record Explains (rules : Rules) (S : State) (event : Event) (T : State) (text : List ℕ) : Type 0 where
   pub before : List Held
   pub is_before : IsHeldReport (mode_in S.changes) (flock_mode_in S.flock_changes) before
@@ -169,7 +192,8 @@ pub record Explains (rules : Rules) (S : State) (event : Event) (T : State) (tex
   pub is_obstacle : StandsInTheWay rules T event obstacle
   pub links : List Link
   pub is_cycle : TellsDeadlock rules.policy T after event links
-  pub is : text ≡ loss_lines event (word_of_loss event.request) before after ++ obstacle_line event obstacle ++ deadlock_line event links
+  pub is : text ≡ ended_line event (ended_wait S event.request) ++ loss_lines event (word_of_loss event.request) before after
+      ++ obstacle_line event obstacle ++ deadlock_line event links
 
 -- the text is the line of each of these events, which have the numbers from this one on, with the lines that explain it behind it, and those
 -- of the state that it left where they are asked for; they lead from the state S to the state T
@@ -187,26 +211,31 @@ abbrev pub more_text : ℕ → List ℕ
 more_text zero = []
 more_text (suc more) = codes " and " ++ decimal (suc more) ++ codes " more"
 
--- the line of a process that sent so much and was never born: what it sent was never taken
-abbrev pub never_born_line : ℕ → ℕ → List ℕ
-never_born_line p zero = []
-never_born_line p (suc more) =
-    codes "# " ++ tag p 1 ++ more_text more ++ codes " never taken: process " ++ decimal p ++ codes " was never born" ++ 10 ∷ []
+-- why what a process sent is never taken, by where it stands; of one that lives nothing is left to take
+abbrev pub untaken_reason : ProcState → Option (List ℕ)
+untaken_reason Unborn = Some (codes " was never born")
+untaken_reason Live = None
+untaken_reason Waiting = Some (codes " waits")
+untaken_reason Ended = Some (codes " has ended")
 
--- the line of a process that stands so, where it was never born
-abbrev pub unborn_line : ProcState → ℕ → ℕ → List ℕ
-unborn_line Unborn p sent = never_born_line p sent
-unborn_line Live p sent = []
-unborn_line Waiting p sent = []
-unborn_line Ended p sent = []
+-- the line of so many requests of a process, from the one with this number on, that are never taken for this reason
+abbrev pub never_taken_line : ℕ → ℕ → ℕ → Option (List ℕ) → List ℕ
+never_taken_line p n zero reason = []
+never_taken_line p n (suc more) None = []
+never_taken_line p n (suc more) (Some reason) =
+    codes "# " ++ tag p n ++ more_text more ++ codes " never taken: process " ++ decimal p ++ reason ++ 10 ∷ []
 
--- the lines of the processes from this one on, so many of them, that were never born and sent something
-unfoldable pub unborn_lines : (ℕ → ProcState) → (ℕ → ℕ) → ℕ → ℕ → List ℕ
-unborn_lines states sent p zero = []
-unborn_lines states sent p (suc more) = unborn_line (states p) p (sent p) ++ unborn_lines states sent (p + 1) more
+-- the line of a process of which not all that it sent was taken
+abbrev pub untaken_line : ProcessLine → List ℕ
+untaken_line line = never_taken_line line.p (line.taken + 1) (line.sent - line.taken) (untaken_reason line.state)
+
+-- the lines of the processes from this one on, so many of them, of which not all that they sent was taken
+unfoldable pub untaken_lines : (ℕ → ProcState) → List Event → (ℕ → ℕ) → ℕ → ℕ → List ℕ
+untaken_lines states events sent p zero = []
+untaken_lines states events sent p (suc more) = untaken_line (line_of states events sent p) ++ untaken_lines states events sent (p + 1) more
 
 -- the script is accepted, and the text is the lines of its journal with what explains each and the states that are asked for, then the
--- report, and then who was never born
+-- report, and then what was never taken
 pub record IsExplained (states : States) (bytes text : List ℕ) : Type 0 where
   pub script : Meaning
   pub accepted : Reads bytes (Ok script)
@@ -217,7 +246,7 @@ pub record IsExplained (states : States) (bytes text : List ℕ) : Type 0 where
   pub explains : ExplainsRun states script.rules (processes_in script) 1 opening_state journal state explained
   pub report : List ℕ
   pub is_report : IsReport (processes_in script) state journal (λ p. length (requests_sent p script.arrivals)) report
-  pub is : text ≡ explained ++ report ++ unborn_lines state.states (λ p. length (requests_sent p script.arrivals)) 1 (processes_in script)
+  pub is : text ≡ explained ++ report ++ untaken_lines state.states journal (λ p. length (requests_sent p script.arrivals)) 1 (processes_in script)
 
 -- whether the line begins with `#`
 abbrev pub is_comment_line : List ℕ → Bool

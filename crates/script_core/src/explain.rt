@@ -1,4 +1,4 @@
-//! The lines that explain a run: behind each entry which locks went with it and what was in its way, and at the end who was never born.
+//! The lines that explain a run: behind each entry which wait ended and which locks went with it, and what was in its way.
 ghost use Rattle.std.specs.Prelude.{◌≡◌, ◌≤◌, ◌∷◌, ◌++◌, ℕ, List, [], MatchResult, IfOk, codes, decimal, flat_map, OnOk, OnErr, length, option_map};
 ghost use Rattle.std.specs.List.{list_any};
 ghost use Rattle.fd_table.specs.Descriptors.{process_limit};
@@ -9,13 +9,13 @@ ghost use Rattle.lock_manager.specs.State.{State, opening_state};
 ghost use Rattle.lock_manager.specs.Settling.{IsSettled};
 ghost use Rattle.lock_manager.specs.ManagerView.{StandsFor, rules_of, processes_of, state_at};
 ghost use Rattle.wait_core.specs.Cycles.{IsTraditional};
+ghost use Rattle.wait_core.specs.WaitsView.{wait_of};
 ghost use Rattle.session_core.specs.Runs.{IsStep, Leads};
 ghost use Rattle.script_core.specs.EntryText.{entry_line, tag};
-ghost use Rattle.script_core.specs.ReportText.{AreCounts};
 ghost use Rattle.script_core.specs.Output.{Extends};
 ghost use Rattle.script_core.specs.Files.{IsWithinFiles};
 ghost use Rattle.script_core.specs.Deadlocks.{TellsCycleIfAny, first_step_text, next_step_text, step_text};
-ghost use Rattle.script_core.specs.Explaining.{Explains, ExplainsRun, StandsInTheWay, IsCycleOf, comment, deadlock_line, in_the_way_line, obstacle_line, loss_line, loss_lines, more_text, never_born_line, unborn_line, unborn_lines};
+ghost use Rattle.script_core.specs.Explaining.{Explains, ExplainsRun, StandsInTheWay, IsCycleOf, comment, deadlock_line, ended_line, in_the_way_line, obstacle_line, loss_line, loss_lines};
 ghost use Rattle.script_core.specs.Explaining as spec;
 
 use crate::deadlock::{Link, cycle_of};
@@ -25,7 +25,7 @@ use crate::report_text::{push_held, push_held_text, push_wait, push_wait_text};
 use crate::states::{States, push_state_if};
 use lock_book::{Held, Owner};
 use lock_manager::{
-    Errno, FlockOp, InTheWay, Manager, Note, ProcState, Reply, Request, Rules, step_has_one_outcome,
+    Errno, FlockOp, InTheWay, Manager, Note, Reply, Request, Rules, step_has_one_outcome,
 };
 use range_core::Memory;
 use session_core::Entry;
@@ -33,7 +33,7 @@ use std::alloc::Global;
 use wait_core::{Policy, Wait};
 
 /// Appends the lines of a journal, which is a run of `processes` processes from the opening, and behind each what explains it: which
-/// locks went, what was the first in the way, and which cycle a wait would have closed; and where it is asked for the whole state that it
+/// wait a kill ended, which locks went, what was the first in the way, and which cycle a wait would have closed; and where it is asked for the whole state that it
 /// left. The run is made again, step by step, which takes the memory of a lock manager and of two reports, and for a cycle that of the
 /// waits and of a set of processes for each of its steps.
 /// After `Memory` the vector has its old bytes.
@@ -107,6 +107,7 @@ fn push_step(
     // A law, and nothing to run.
     step_has_one_outcome();
     push_entry(text, entry)?;
+    push_ended(text, manager, entry)?;
     let before = manager.held()?;
     manager.take(entry.p, entry.n, entry.request)?;
     let after = manager.held()?;
@@ -115,6 +116,44 @@ fn push_step(
     push_obstacle(text, entry, obstacle)?;
     let links = deadlock_of(alloc, policy, manager, entry, &after)?;
     push_deadlock(text, entry, &links)
+}
+
+/// Appends the line of the wait that the entry's request ends with its process, if it ends one.
+fn push_ended(text: &mut Vec<u8>, manager: &Manager, entry: &Entry) -> Result<(), Memory>
+    ensures ok { OnOk result ((S : State) → StandsFor manager.now S → text.new.items ≡ text.old.items ++ ended_line entry.now (spec.ended_wait S entry.now.request)) }
+    ensures kept { Extends text.old.items text.new.items }
+{
+    match entry.request {
+        Request::Kill { target } => push_ended_of(text, entry, &manager.waits()?, target),
+        _ => Ok(()),
+    }
+}
+
+/// Appends the line of the wait of this process, if it is among these.
+fn push_ended_of(
+    text: &mut Vec<u8>,
+    entry: &Entry,
+    waits: &[Wait],
+    target: u8,
+) -> Result<(), Memory>
+    ensures ok { OnOk result (text.new.items ≡ text.old.items ++ ended_line entry.now (wait_of waits.now target)) }
+    ensures kept { Extends text.old.items text.new.items }
+{
+    match waits.iter().find(|wait| wait.p == target) {
+        Some(wait) => push_ended_wait(text, entry, wait),
+        None => Ok(()),
+    }
+}
+
+/// Appends the line of a wait that ended with its process.
+fn push_ended_wait(text: &mut Vec<u8>, entry: &Entry, wait: &Wait) -> Result<(), Memory>
+    ensures { MatchResult result (λ unit. text.new.items ≡ text.old.items
+        ++ comment entry.now.p entry.now.n (codes "ended the wait of " ++ tag wait.now.p wait.now.n ++ 10 ∷ []))
+        (λ error. Extends text.old.items text.new.items) }
+{
+    push_comment(text, entry, "ended the wait of ")?;
+    push_request_name(text, wait.p, wait.n)?;
+    push_str(text, "\n")
 }
 
 /// What is in the way of the entry's request, once its step was made: none where it wasn't refused with EAGAIN and doesn't wait.
@@ -393,7 +432,7 @@ fn push_comment(text: &mut Vec<u8>, entry: &Entry, words: &str) -> Result<(), Me
 }
 
 /// Appends `#`, a space and the process and the number of a request.
-fn push_tag(text: &mut Vec<u8>, p: u8, n: u64) -> Result<(), Memory>
+pub fn push_tag(text: &mut Vec<u8>, p: u8, n: u64) -> Result<(), Memory>
     ensures { MatchResult result (λ unit. text.new.items ≡ text.old.items ++ (codes "# " ++ tag p n)) (λ error. Extends text.old.items text.new.items) }
 {
     push_str(text, "# ")?;
@@ -406,81 +445,4 @@ fn push_request_name(text: &mut Vec<u8>, p: u8, n: u64) -> Result<(), Memory>
 {
     push_first_number(text, u64::from(p))?;
     push_number(text, b'#', n)
-}
-
-/// Appends a line for each process that was never born and has sent something, with what each sent by the counts in `sent`, one for each
-/// process from process 1 on: what it sent was never taken. After `Memory` the vector has its old bytes.
-#[tactic(auto, using(crate::proofs::ExplainLemmas::cut_whole))]
-pub fn write_unborn(manager: &Manager, sent: &[u64], out: &mut Vec<u8>) -> Result<(), Memory>
-    requires { length sent.now ≡ processes_of manager.now }
-    ensures ok { OnOk result ((counts : ℕ → ℕ) → AreCounts sent.now counts
-        → out.new.items ≡ out.old.items ++ unborn_lines (state_at manager.now) counts 1 (processes_of manager.now)) }
-    ensures err { OnErr result (out.new.items ≡ out.old.items) }
-{
-    let len = out.len();
-    if let Err(memory) = push_all_unborn(out, manager, sent) {
-        out.truncate(len);
-        return Err(memory);
-    }
-    Ok(())
-}
-
-/// Appends a line for each process that was never born and has sent something.
-fn push_all_unborn(text: &mut Vec<u8>, manager: &Manager, sent: &[u64]) -> Result<(), Memory>
-    requires { length sent.now ≡ processes_of manager.now }
-    ensures { MatchResult result (λ unit. (counts : ℕ → ℕ) → AreCounts sent.now counts
-        → text.new.items ≡ text.old.items ++ unborn_lines (state_at manager.now) counts 1 (processes_of manager.now))
-        (λ error. Extends text.old.items text.new.items) }
-{
-    for index in 0..manager.processes() {
-        let p = index + 1;
-        push_unborn(text, manager.state_of(p), p, sent[usize::from(index)])?;
-    }
-    Ok(())
-}
-
-/// Appends the line of a process that stands so and sent so much, where it was never born.
-fn push_unborn(text: &mut Vec<u8>, state: ProcState, p: u8, sent: u64) -> Result<(), Memory>
-    ensures { MatchResult result (λ unit. text.new.items ≡ text.old.items ++ unborn_line state p sent) (λ error. Extends text.old.items text.new.items) }
-{
-    match state {
-        ProcState::Unborn => push_never_born(text, p, sent),
-        ProcState::Live | ProcState::Waiting | ProcState::Ended => Ok(()),
-    }
-}
-
-/// Appends the line of a process that was never born, where it sent something.
-fn push_never_born(text: &mut Vec<u8>, p: u8, sent: u64) -> Result<(), Memory>
-    ensures { MatchResult result (λ unit. text.new.items ≡ text.old.items ++ never_born_line p sent) (λ error. Extends text.old.items text.new.items) }
-{
-    if sent == 0 {
-        return Ok(());
-    }
-    push_never_taken(text, p, sent - 1)
-}
-
-/// Appends the line of a process that was never born, and sent so many requests behind its first.
-fn push_never_taken(text: &mut Vec<u8>, p: u8, more: u64) -> Result<(), Memory>
-    ensures { MatchResult result (λ unit. text.new.items ≡ text.old.items
-        ++ (codes "# " ++ tag p 1 ++ more_text more ++ codes " never taken: process " ++ decimal p ++ codes " was never born" ++ 10 ∷ []))
-        (λ error. Extends text.old.items text.new.items) }
-{
-    push_tag(text, p, 1)?;
-    push_more(text, more)?;
-    push_str(text, " never taken: process ")?;
-    push_first_number(text, u64::from(p))?;
-    push_str(text, " was never born")?;
-    push_str(text, "\n")
-}
-
-/// Appends how many more requests there are, if any.
-fn push_more(text: &mut Vec<u8>, more: u64) -> Result<(), Memory>
-    ensures { MatchResult result (λ unit. text.new.items ≡ text.old.items ++ more_text more) (λ error. Extends text.old.items text.new.items) }
-{
-    if more == 0 {
-        return Ok(());
-    }
-    push_str(text, " and ")?;
-    push_first_number(text, more)?;
-    push_str(text, " more")
 }

@@ -7,6 +7,7 @@ use Rattle.lock_manager.specs.Step.{Step}
 use Rattle.lock_manager.specs.ManagerView.{StandsFor, rules_of, processes_of}
 use Rattle.session_core.specs.Event.{Event}
 use Rattle.script_core.specs.EntryText.{entry_line}
+use Rattle.script_core.specs.Output.{Extends}
 use Rattle.script_core.specs.declared.deadlock.Link.{Link}
 use Rattle.script_core.specs.Explaining.{IsCycleOf, loss_lines, obstacle_line, word_of_loss}
 use Rattle.script_core.proofs.TextLemmas.{kept_behind}
@@ -27,7 +28,7 @@ returns-clause-ok c =
     if_pushed c.push_deadlock.result _ _ _ c.push_deadlock.ensures
     (explains_step c.step_has_one_outcome.ensures c.args.policy old c.take.new.self c.args.entry.now notes c.deref.result.now c.deref-2.result.now
     c.in_ok-obstacle.obstacle c.deref-4.result.now
-    c.args.text.now.items c.push_entry.new.text.items c.push_losses.new.text.items c.push_obstacle.new.text.items c.push_deadlock.new.text.items c.requires.policy
+    c.args.text.now.items c.push_entry.new.text.items c.push_ended.new.text.items c.push_losses.new.text.items c.push_obstacle.new.text.items c.push_deadlock.new.text.items c.requires.policy
     (λ S h. subst (λ (l : List Held). IsHeldReport (mode_in S.changes) (flock_mode_in S.flock_changes) l) (sym c.deref.ensures.value) (c.in_ok-before.ensures S h))
     steps
     (λ T h. subst (λ (l : List Held). IsHeldReport (mode_in T.changes) (flock_mode_in T.flock_changes) l) (sym c.deref-2.ensures.value) (c.in_ok-after.ensures T h))
@@ -35,15 +36,17 @@ returns-clause-ok c =
     (λ T h.
     subst (λ (l : List Held). IsCycleOf c.args.policy T l c.args.entry.now c.deref-4.result.now) (c.deref-3.ensures.value ∙ sym c.deref-2.ensures.value)
     (subst (λ (l : List Link). IsCycleOf c.args.policy T c.deref-3.result.now c.args.entry.now l) (sym c.deref-4.ensures.value) (c.in_ok-links.ensures T h)))
-    c.take.ensures.rules c.in_ok-push_entry.ensures c.in_ok-push_losses.ensures c.in_ok-push_obstacle.ensures)
+    c.take.ensures.rules c.in_ok-push_entry.ensures c.in_ok-push_ended.ensures.ok c.in_ok-push_losses.ensures c.in_ok-push_obstacle.ensures)
 
 pub returns-clause-err : goal.returns-clause-err
 returns-clause-err c =
     let event = c.args.entry.now in
     let old = c.args.text.now.items in
+    let ended : Extends old c.push_ended.new.text.items =
+    kept_behind old c.push_entry.new.text.items c.push_ended.new.text.items (entry_line event) c.in_ok-push_entry.ensures c.push_ended.ensures.kept in
     let losses = loss_lines event (word_of_loss event.request) c.deref.result.now c.deref-2.result.now in
     let blocked = obstacle_line event c.in_ok-obstacle.obstacle in
-    let second = and_then old c.push_entry.new.text.items c.push_losses.new.text.items (entry_line event) losses c.in_ok-push_entry.ensures c.in_ok-push_losses.ensures in
-    let third = and_then old c.push_losses.new.text.items c.push_obstacle.new.text.items (entry_line event ++ losses) blocked second c.in_ok-push_obstacle.ensures in
+    let second = and_then old c.push_ended.new.text.items c.push_losses.new.text.items ended.more losses ended.is c.in_ok-push_losses.ensures in
+    let third = and_then old c.push_losses.new.text.items c.push_obstacle.new.text.items (ended.more ++ losses) blocked second c.in_ok-push_obstacle.ensures in
     if_refused c.push_deadlock.result _ _ _ c.push_deadlock.ensures
-    (kept_behind old c.push_obstacle.new.text.items c.push_deadlock.new.text.items (entry_line event ++ losses ++ blocked) third)
+    (kept_behind old c.push_obstacle.new.text.items c.push_deadlock.new.text.items (ended.more ++ losses ++ blocked) third)
