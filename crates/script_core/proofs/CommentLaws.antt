@@ -21,7 +21,6 @@ use Rattle.lock_manager.specs.declared.request.Reply.{Reply}
 use Rattle.lock_manager.specs.declared.request.Note.{Note}
 use Rattle.lock_manager.specs.declared.request.InTheWay.{InTheWay}
 use Rattle.lock_manager.specs.declared.request.InTheWay.TheVariants as obstacles
-use Rattle.lock_manager.specs.declared.request.Request.{Request}
 use Rattle.lock_manager.specs.declared.request.ProcState.{ProcState}
 use Rattle.lock_manager.specs.State.{State}
 use Rattle.session_core.specs.Event.{Event}
@@ -32,7 +31,8 @@ use Rattle.script_core.specs.EntryText.{reply_words, tag, note_text, entry_text,
 use Rattle.script_core.specs.ReportText.{owner_text, flock_word, held_text, held_line, wanted_text, wait_line, state_word, counts_text, process_line, reported_line, process_lines, line_of, IsReport}
 use Rattle.script_core.specs.declared.deadlock.Link.{Link}
 use Rattle.script_core.specs.Deadlocks.{step_text, first_step_text, next_step_text}
-use Rattle.script_core.specs.Explaining.{comment, obstacle_line, deadlock_line, word_of_loss, loss_line, loss_lines, ended_line, Explains, more_text, untaken_reason, never_taken_line, untaken_line, untaken_lines, is_comment_line, without_comments}
+use Rattle.script_core.specs.Losses.{lost}
+use Rattle.script_core.specs.Explaining.{comment, obstacle_line, deadlock_line, loss_line, loss_lines, ended_line, ended_wait, Explains, more_text, untaken_reason, never_taken_line, untaken_line, untaken_lines, is_comment_line, without_comments}
 
 -- no byte ends a line
 abbrev pub goes_on : ℕ → Bool
@@ -315,17 +315,25 @@ comment_ended event None = comment_none
 comment_ended event (Some wait) =
     comment_behind event.p event.n (codes "ended the wait of ") (tag wait.p wait.n) refl (in_tag wait.p wait.n)
 
-comment_loss : (event : Event) (word : List ℕ) (after : List Held) (held : Held) → InLine word → IsComment (loss_line event word after held)
-comment_loss event word after held is = search (rules, comment_none, comment_behind, in_held)
+comment_loss : (event : Event) (word : List ℕ) (held : Held) → InLine word → IsComment (loss_line event word held)
+comment_loss event word held is = comment_behind event.p event.n word (held_text held) is (in_held held)
 
-losses_as : (event : Event) (word : List ℕ) (before after : List Held) → InLine word → IsComment (flat_map (loss_line event word after) before)
-losses_as event word before after is = comment_each (loss_line event word after) (λ held. comment_loss event word after held is) before
+comment_losses : (event : Event) (word : List ℕ) (locks : List Held) → InLine word → IsComment (loss_lines event word locks)
+comment_losses event word locks is = comment_each (loss_line event word) (λ held. comment_loss event word held is) locks
 
-comment_losses : (event : Event) (request : Request) (before after : List Held) → IsComment (loss_lines event (word_of_loss request) before after)
-comment_losses event request before after = grind (arith, common_steps, comment_none, losses_as)
-
-pub comment_own : (rules : Rules) (S : State) (event : Event) (T : State) (own : List ℕ) → Explains rules S event T own → IsComment own
-comment_own rules S event T own h = grind (arith, common_steps, comment_both, comment_ended, comment_losses, comment_obstacle, comment_deadlock)
+pub comment_own : (rules : Rules) (processes : ℕ) (S : State) (event : Event) (T : State) (own : List ℕ) → Explains rules processes S event T own → IsComment own
+comment_own rules processes S event T own h =
+    let a = ended_line event (ended_wait S event.request) in
+    let b = loss_lines event (codes "released ") h.released in
+    let c = loss_lines event (codes "lost ") (lost S T event.p event.request) in
+    let d = obstacle_line event h.obstacle in
+    let e = deadlock_line event h.links in
+    subst IsComment (sym h.is)
+    (comment_both (a ++ b ++ c ++ d) e
+    (comment_both (a ++ b ++ c) d
+    (comment_both (a ++ b) c
+    (comment_both a b (comment_ended event (ended_wait S event.request)) (comment_losses event (codes "released ") h.released refl))
+    (comment_losses event (codes "lost ") (lost S T event.p event.request) refl)) (comment_obstacle event h.obstacle)) (comment_deadlock event h.links))
 
 in_more : (more : ℕ) → InLine (more_text more)
 in_more more = grind (arith, common_steps, both, number)

@@ -25,7 +25,7 @@ run_without states rules processes number S (event ∷ events) T text h rest =
     ∙ ap without_comments (append_assoc (line ++ h.2 ++ h.4) h.6 rest ∙ append_assoc (line ++ h.2) h.4 behind ∙ append_assoc line h.2 (h.4 ++ behind))
     ∙ plain_entry event (h.2 ++ (h.4 ++ behind))
     ∙ ap (λ (l : List ℕ). line ++ l)
-    (comment_own rules S event h.0 h.2 h.3 (h.4 ++ behind)
+    (comment_own rules processes S event h.0 h.2 h.3 (h.4 ++ behind)
     ∙ comment_told (is_told states number) rules processes h.0 h.4 h.5 behind
     ∙ run_without states rules processes (number + 1) h.0 events T h.6 h.7 rest)
     ∙ sym (append_assoc line (flat_map entry_line events) (without_comments rest))

@@ -24,6 +24,7 @@ pub mod DeadlockStepLemmas
 pub mod FilesLemmas
 pub mod ExplainLemmas
 pub mod UntakenLemmas
+pub mod LossLemmas
 pub mod NoteLemmas
 pub mod EntryRoundTripLemmas
 pub mod ReportReadingLemmas

@@ -1,9 +1,6 @@
 //! The lines that explain a run: behind each entry which wait ended and which locks went with it, and what was in its way.
-ghost use Rattle.std.specs.Prelude.{◌≡◌, ◌≤◌, ◌∷◌, ◌++◌, ℕ, List, [], MatchResult, IfOk, codes, decimal, flat_map, OnOk, OnErr, length, option_map};
-ghost use Rattle.std.specs.List.{list_any};
-ghost use Rattle.fd_table.specs.Descriptors.{process_limit};
-ghost use Rattle.lock_book.specs.Changes.{mode_in, flock_mode_in};
-ghost use Rattle.lock_book.specs.Reports.{IsHeldReport};
+ghost use Rattle.std.specs.Prelude.{◌≡◌, ◌≤◌, ◌∷◌, ◌++◌, ℕ, List, [], MatchResult, IfOk, codes, decimal, flat_map, OnOk, OnErr, length};
+ghost use Rattle.fd_table.specs.Descriptors.{descriptor_limit, process_limit};
 ghost use Rattle.lock_manager.specs.declared.request.ProcState.TheVariants.{Live};
 ghost use Rattle.lock_manager.specs.State.{State, opening_state};
 ghost use Rattle.lock_manager.specs.Settling.{IsSettled};
@@ -16,26 +13,27 @@ ghost use Rattle.script_core.specs.Output.{Extends};
 ghost use Rattle.script_core.specs.Files.{IsWithinFiles};
 ghost use Rattle.script_core.specs.Deadlocks.{TellsCycleIfAny, first_step_text, next_step_text, step_text};
 ghost use Rattle.script_core.specs.Explaining.{Explains, ExplainsRun, StandsInTheWay, IsCycleOf, comment, deadlock_line, ended_line, in_the_way_line, obstacle_line, loss_line, loss_lines};
+ghost use Rattle.script_core.specs.Losses.{AreReleased, lost_of, closed_by as spec_closed_by};
 ghost use Rattle.script_core.specs.Explaining as spec;
 
 use crate::deadlock::{Link, cycle_of};
 use crate::entry_text::push_entry;
+use crate::losses::{closed_by, flock_before, has_flock, released};
 use crate::pieces::{push_first_number, push_number, push_str};
 use crate::report_text::{push_held, push_held_text, push_wait, push_wait_text};
 use crate::states::{States, push_state_if};
+use fd_table::Limits;
 use lock_book::{Held, Owner};
-use lock_manager::{
-    Errno, FlockOp, InTheWay, Manager, Note, Reply, Request, Rules, step_has_one_outcome,
-};
+use lock_manager::{Errno, InTheWay, Manager, Note, Reply, Request, Rules, step_has_one_outcome};
 use range_core::Memory;
 use session_core::Entry;
 use std::alloc::Global;
 use wait_core::{Policy, Wait};
 
 /// Appends the lines of a journal, which is a run of `processes` processes from the opening, and behind each what explains it: which
-/// wait a kill ended, which locks went, what was the first in the way, and which cycle a wait would have closed; and where it is asked for the whole state that it
-/// left. The run is made again, step by step, which takes the memory of a lock manager and of two reports, and for a cycle that of the
-/// waits and of a set of processes for each of its steps.
+/// wait a kill ended, which locks went, what was the first in the way, and which cycle a wait would have closed; and where it is asked for
+/// the whole state that it left. The run is made again, step by step, which takes the memory of a lock manager and of the locks that go with an entry; for the
+/// end of a process and for a cycle that of a report, and for a cycle also that of the waits and of a set of processes for each step.
 /// After `Memory` the vector has its old bytes.
 #[tactic(auto, using(crate::proofs::ExplainLemmas::cut_whole))]
 pub fn write_explained(
@@ -81,7 +79,7 @@ fn push_explained(
     let mut number = 0;
     for entry in journal {
         number += 1;
-        push_step(alloc, rules.policy, text, &mut manager, entry)?;
+        push_step(alloc, rules, text, &mut manager, entry)?;
         push_state_if(states.is_told(number), text, &manager, rules)?;
     }
     Ok(())
@@ -90,16 +88,17 @@ fn push_explained(
 /// Makes the step of an entry again, and appends its line, with what explains it behind it.
 fn push_step(
     alloc: Global,
-    policy: Policy,
+    rules: Rules,
     text: &mut Vec<u8>,
     manager: &mut Manager,
     entry: &Entry,
 ) -> Result<(), Memory>
     requires live { state_at manager.old entry.now.p ≡ Live }
-    requires policy { policy ≡ (rules_of manager.old).policy }
-    ensures ok { OnOk result ((S T : State) → StandsFor manager.old S → IsWithinFiles S → IsSettled policy S
+    requires rules { rules ≡ rules_of manager.old }
+    ensures ok { OnOk result ((S T : State) → StandsFor manager.old S → IsWithinFiles S → IsSettled rules.policy S
         → IsStep (rules_of manager.old) (processes_of manager.old) S entry.now T → StandsFor manager.new T
-        × (own : List ℕ) × Explains (rules_of manager.old) S entry.now T own × (text.new.items ≡ text.old.items ++ (entry_line entry.now ++ own))) }
+        × (own : List ℕ) × Explains (rules_of manager.old) (processes_of manager.old) S entry.now T own
+        × (text.new.items ≡ text.old.items ++ (entry_line entry.now ++ own))) }
     ensures rules { rules_of manager.new ≡ rules_of manager.old }
     ensures processes { processes_of manager.new ≡ processes_of manager.old }
     ensures err { OnErr result (Extends text.old.items text.new.items) }
@@ -108,14 +107,32 @@ fn push_step(
     step_has_one_outcome();
     push_entry(text, entry)?;
     push_ended(text, manager, entry)?;
-    let before = manager.held()?;
+    push_released(alloc, rules.limits, text, manager, entry)?;
+    let flock = flock_before(manager, entry.p, entry.request);
     manager.take(entry.p, entry.n, entry.request)?;
-    let after = manager.held()?;
-    push_losses(text, entry, &before, &after)?;
+    push_lost(text, manager, entry, flock)?;
     let obstacle = obstacle_of(manager, entry)?;
     push_obstacle(text, entry, obstacle)?;
-    let links = deadlock_of(alloc, policy, manager, entry, &after)?;
+    let links = deadlock_of(alloc, rules.policy, manager, entry)?;
     push_deadlock(text, entry, &links)
+}
+
+/// Appends a line for each lock that the entry's request releases.
+fn push_released(
+    alloc: Global,
+    limits: Limits,
+    text: &mut Vec<u8>,
+    manager: &Manager,
+    entry: &Entry,
+) -> Result<(), Memory>
+    ensures ok { OnOk result ((S : State) → StandsFor manager.now S → (locks : List Held)
+        × AreReleased (processes_of manager.now) (descriptor_limit limits) S (spec_closed_by limits S entry.now.p entry.now.request) locks
+        × (text.new.items ≡ text.old.items ++ loss_lines entry.now (codes "released ") locks)) }
+    ensures kept { Extends text.old.items text.new.items }
+{
+    let closed = closed_by(manager, limits, entry.p, entry.request);
+    let locks = released(alloc, manager, limits, closed)?;
+    push_losses(text, entry, "released ", &locks)
 }
 
 /// Appends the line of the wait that the entry's request ends with its process, if it ends one.
@@ -139,10 +156,17 @@ fn push_ended_of(
     ensures ok { OnOk result (text.new.items ≡ text.old.items ++ ended_line entry.now (wait_of waits.now target)) }
     ensures kept { Extends text.old.items text.new.items }
 {
-    match waits.iter().find(|wait| wait.p == target) {
-        Some(wait) => push_ended_wait(text, entry, wait),
+    match wait_among(waits, target) {
+        Some(wait) => push_ended_wait(text, entry, &wait),
         None => Ok(()),
     }
+}
+
+/// The wait of the process among these, where it has one.
+fn wait_among(waits: &[Wait], p: u8) -> Option<Wait>
+    ensures { result ≡ wait_of waits.now p }
+{
+    waits.iter().find(|wait| wait.p == p).copied()
 }
 
 /// Appends the line of a wait that ended with its process.
@@ -197,17 +221,16 @@ fn deadlock_of(
     policy: Policy,
     manager: &Manager,
     entry: &Entry,
-    report: &[Held],
 ) -> Result<Vec<Link>, Memory>
-    ensures { IfOk result (λ links. (T : State) → StandsFor manager.now T → IsCycleOf policy T report.now entry.now links.items) }
+    ensures { IfOk result (λ links. (T : State) → StandsFor manager.now T → IsCycleOf policy T entry.now links.items) }
 {
     if !is_deadlock(entry.notes.as_slice()) {
         return Ok(Vec::new(alloc));
     }
-    match manager.wanted(entry.p, entry.n, entry.request) {
-        Some(wait) => cycle_of_traditional(alloc, policy, report, &manager.waits()?, &wait),
-        None => Ok(Vec::new(alloc)),
-    }
+    let Some(wait) = manager.wanted(entry.p, entry.n, entry.request) else {
+        return Ok(Vec::new(alloc));
+    };
+    cycle_of_traditional(alloc, policy, &manager.held()?, &manager.waits()?, &wait)
 }
 
 /// The steps of the cycle that a wait would close: none of one that isn't for a traditional lock.
@@ -339,86 +362,44 @@ fn push_in_the_way(text: &mut Vec<u8>, entry: &Entry, obstacle: InTheWay) -> Res
     }
 }
 
-/// Appends a line for each lock that went with the entry, between these reports.
-fn push_losses(
-    text: &mut Vec<u8>,
-    entry: &Entry,
-    before: &[Held],
-    after: &[Held],
-) -> Result<(), Memory>
-    ensures { MatchResult result (λ unit. text.new.items ≡ text.old.items ++ loss_lines entry.now (spec.word_of_loss entry.now.request) before.now after.now)
+/// Appends a line with this word for each of the locks, which went with the entry.
+fn push_losses(text: &mut Vec<u8>, entry: &Entry, word: &str, locks: &[Held]) -> Result<(), Memory>
+    ensures { MatchResult result (λ unit. text.new.items ≡ text.old.items ++ loss_lines entry.now word.now locks.now)
         (λ error. Extends text.old.items text.new.items) }
 {
-    match word_of_loss(&entry.request) {
-        Some(word) => push_losses_as(text, entry, word, before, after),
-        None => Ok(()),
-    }
-}
-
-/// Appends a line with this word for each lock of the first report whose owner has none on that file in the second.
-fn push_losses_as(
-    text: &mut Vec<u8>,
-    entry: &Entry,
-    word: &str,
-    before: &[Held],
-    after: &[Held],
-) -> Result<(), Memory>
-    ensures { MatchResult result (λ unit. text.new.items ≡ text.old.items ++ flat_map (loss_line entry.now word.now after.now) before.now)
-        (λ error. Extends text.old.items text.new.items) }
-{
-    for held in before {
-        push_loss(text, entry, word, after, held)?;
+    for held in locks {
+        push_loss(text, entry, word, held)?;
     }
     Ok(())
 }
 
-/// Appends the line of a lock with this word, where its owner has none on that file in the later report.
-fn push_loss(
-    text: &mut Vec<u8>,
-    entry: &Entry,
-    word: &str,
-    after: &[Held],
-    held: &Held,
-) -> Result<(), Memory>
-    ensures { MatchResult result (λ unit. text.new.items ≡ text.old.items ++ loss_line entry.now word.now after.now held.now)
+/// Appends the line of a lock that went with the entry, with this word.
+fn push_loss(text: &mut Vec<u8>, entry: &Entry, word: &str, held: &Held) -> Result<(), Memory>
+    ensures { MatchResult result (λ unit. text.new.items ≡ text.old.items ++ loss_line entry.now word.now held.now)
         (λ error. Extends text.old.items text.new.items) }
 {
-    if has_place(held, after) {
-        return Ok(());
-    }
     push_comment(text, entry, word)?;
     push_held(text, held)
 }
 
-/// Whether the lock's owner has one on that file in the report, on bytes or on the whole as this one.
-fn has_place(held: &Held, report: &[Held]) -> bool
-    ensures { result ≡ list_any (spec.is_same_place held.now) report.now }
+/// Appends the line of the flock lock that there was before the entry, where its owner has none now.
+fn push_lost(
+    text: &mut Vec<u8>,
+    manager: &Manager,
+    entry: &Entry,
+    before: Option<Held>,
+) -> Result<(), Memory>
+    ensures ok { OnOk result ((T : State) → StandsFor manager.now T
+        → text.new.items ≡ text.old.items ++ loss_lines entry.now (codes "lost ") (lost_of T before)) }
+    ensures kept { Extends text.old.items text.new.items }
 {
-    report.iter().any(|other| is_same_place(held, other))
-}
-
-/// Whether the two lines of reports say locks of one owner on one file, both on bytes or both on the whole.
-fn is_same_place(held: &Held, other: &Held) -> bool
-    ensures { result ≡ spec.is_same_place held.now other.now }
-{
-    held.file == other.file && held.whole == other.whole && held.owner == other.owner
-}
-
-/// What is said of locks that went with a request: of a flock, that it lost its old one; of a request that closes, that it released
-/// them; of one that unlocks, or does neither, nothing.
-fn word_of_loss(request: &Request) -> Option<&'static str>
-    ensures { option_map (λ word. word.now) result ≡ spec.word_of_loss request.now }
-{
-    match request {
-        Request::DupTo { .. } | Request::CloseFd { .. } | Request::Exit | Request::Kill { .. } => {
-            Some("released ")
-        }
-        Request::Flock {
-            op: FlockOp::Sh | FlockOp::Ex,
-            ..
-        } => Some("lost "),
-        _ => None,
+    let Some(held) = before else {
+        return Ok(());
+    };
+    if has_flock(manager, held.file, held.owner) {
+        return Ok(());
     }
+    push_loss(text, entry, "lost ", &held)
 }
 
 /// Appends the beginning of a line that explains a request: `#`, the request, and these words.

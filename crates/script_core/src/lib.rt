@@ -12,6 +12,7 @@ mod heading;
 mod journal;
 mod laws;
 mod line;
+mod losses;
 mod note;
 mod noted;
 mod numbers;
