@@ -109,11 +109,12 @@ check 2 empty both-flags.err empty --threads missing --check
 check 2 empty check-twice.err empty --check --check
 
 # What explains a run: what was in the way of a request, by a lock or by an earlier wait; which locks went with a close, a dup2, an exit and
-# a kill, and which a flock lost; and who was never born. It is legal as it stands, and without these lines it is the output.
+# a kill, and which a flock lost; which wait a kill ended; and what was never taken. It is legal as it stands, and without these lines it is the output.
 check 0 explained.out empty empty --explain explained
 check 0 explained.out empty explained --explain
 check 0 explained.out empty explained - --explain
 check 0 queued.explained empty empty --explain queued
+check 0 untaken.explained empty empty --explain untaken
 check 0 conversion.out empty empty --explain conversion
 check 0 empty.out empty conversion empty --explain
 check 0 empty empty explained.out --check

@@ -9,14 +9,14 @@ trap 'rm -rf "$work"' EXIT
 passed=0
 failed=0
 
-# check NAME AWK: the awk program prints the script's lines behind `<` and those of its output behind `>`, and the replay prints these,
-# which are a legal journal behind the script's header lines.
+# check NAME AWK [FLAG]: the awk program prints the script's lines behind `<` and those of its output behind `>`, and the replay prints
+# these with the flag, which are a legal journal behind the script's header lines.
 check() {
     awk "$2" > "$work/lines"
     sed -n 's/^<//p' "$work/lines" > "$work/script"
     sed -n 's/^>//p' "$work/lines" > "$work/expected"
     sed '/^limits/!d' "$work/script" | cat - "$work/expected" > "$work/journal"
-    if "$program" "$work/script" > "$work/output" 2> "$work/errors" && cmp "$work/expected" "$work/output" && [ -s "$work/output" ] \
+    if "$program" ${3:+"$3"} "$work/script" > "$work/output" 2> "$work/errors" && cmp "$work/expected" "$work/output" && [ -s "$work/output" ] \
         && "$program" --check "$work/journal" > "$work/verdict" 2> "$work/errors" && ! [ -s "$work/verdict" ]; then
         passed=$((passed + 1))
     else
@@ -64,6 +64,18 @@ check '2,048 open file descriptions with a lock on one file' "$asks"' BEGIN {
     for (d = 1; d <= 2048; d++) print ">lock 0 description " d + 1 " r 0 " (d - 1) % 256
     for (d = 1; d <= 2048; d++) print ">flock 0 description " d + 1 " sh"
     for (p = 1; p <= 9; p++) tells(p) }'
+
+# Each close releases one lock, beside 8,000 of another process: a list of all locks for each line would take seconds.
+check '20,000 lines, explained' "$asks"' BEGIN {
+    asks(1, "open 0 rw", "fd 0")
+    asks(1, "fork 2", "ok")
+    for (i = 0; i < 8000; i++) asks(1, "setlk 0 w set " 2 * i " 1", "ok")
+    for (i = 0; i < 4000; i++) {
+        asks(2, "open 1 rw", "fd 1"); asks(2, "flock 1 ex", "ok"); asks(2, "close 1", "ok")
+        print "># 2#" count[2] " released flock 1 description " i + 2 " ex"
+    }
+    for (i = 0; i < 8000; i++) print ">lock 0 process 1 w " 2 * i " " 2 * i
+    tells(1); tells(2) }' --explain
 
 # All processes from 2 to `last` wait for the first, and one request of the process `by` grants them all: its answer to itself, if it is
 # answered, stands before the grants.

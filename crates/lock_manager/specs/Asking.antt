@@ -1,13 +1,14 @@
 -- Which lock a request asks for, and what is the first to stand in its way.
-use Rattle.std.specs.Prelude.{◌≡◌, ◌≢◌, ℕ, Ok, Some, List, ◌∷◌, ◌++◌, All, true, false}
+use Rattle.std.specs.Prelude.{◌≡◌, ◌≢◌, ℕ, ◌≤◌, Ok, Some, List, ◌∷◌, ◌++◌, All, true, false}
 use Rattle.range_core.specs.declared.Mode.{Mode}
 use Rattle.range_core.specs.declared.Span.{Span}
-use Rattle.range_core.specs.Ranges.{Conflict}
+use Rattle.range_core.specs.Ranges.{Conflict, HeldConflicts}
 use Rattle.range_core.specs.Resolving.{resolution}
 use Rattle.lock_book.specs.declared.Blocker.{Blocker}
 use Rattle.lock_book.specs.declared.Held.{Held}
+use Rattle.lock_book.specs.declared.Owner.TheVariants.{Description}
+use Rattle.lock_book.specs.Changes.{whole_file}
 use Rattle.lock_book.specs.Conflicts.{ByteModes, FlockModes, IsFirstBlocker}
-use Rattle.lock_book.specs.Reports.{IsFileReport}
 use Rattle.fd_table.specs.declared.tables.Look.{Look}
 use Rattle.fd_table.specs.Descriptors.{look_at}
 use Rattle.wait_core.specs.declared.Family.{Family}
@@ -83,17 +84,21 @@ pub record IsFlockAgainst (wait : Wait) (held : Held) : Type 0 where
   pub another : held.owner ≢ wait.owner
   pub conflicts : Conflict held.mode wait.mode
 
--- the line is the first of the file's report that says such a flock lock: that of the least description
--- (which is the first is this project's choice)
-pub record IsFirstFlock (bytes : ByteModes) (flocks : FlockModes) (wait : Wait) (held : Held) : Type 0 where
-  pub report : List Held
-  pub is_report : IsFileReport wait.file bytes flocks report
-  pub first : IsFirstOf (IsFlockAgainst wait) report held
+-- the line says the flock lock of the least description that conflicts with the one that is asked for, another one than that asks (flock(2);
+-- which is the first is this project's choice)
+pub record IsFirstFlock (flocks : FlockModes) (wait : Wait) (held : Held) : Type 0 where
+  pub description : ℕ
+  pub mode : Mode
+  pub holds : flocks description ≡ Some mode
+  pub another : Description description ≢ wait.owner
+  pub conflicts : Conflict mode wait.mode
+  pub least : (other : ℕ) → Description other ≢ wait.owner → HeldConflicts (flocks other) wait.mode → description ≤ other
+  pub is : held ≡ record { file = wait.file; whole = true; owner = Description description; mode = mode; span = whole_file }
 
 -- the line says the first held lock that is in the way of a request for a lock of this family
 abbrev pub IsFirstLockOf : Family → Locks → Wait → Held → Type 0
 IsFirstLockOf Bytes locks wait held = IsFirstByteLock (locks.bytes wait.file) wait held
-IsFirstLockOf Whole locks wait held = IsFirstFlock (locks.bytes wait.file) (locks.flocks wait.file) wait held
+IsFirstLockOf Whole locks wait held = IsFirstFlock (locks.flocks wait.file) wait held
 
 -- what is the first in the way of the request: the first held lock; or, where none is, and under the queue policy, the earliest wait
 -- that conflicts with it (which is the first is this project's choice)

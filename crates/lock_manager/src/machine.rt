@@ -8,6 +8,7 @@ ghost use Rattle.lock_manager.specs.WaitsKept.{AreKept, AreStanding};
 mod asking;
 mod descriptor_calls;
 mod flock_calls;
+mod holding;
 mod lock_commands;
 mod process_calls;
 mod settling;

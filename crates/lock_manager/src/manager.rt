@@ -1,7 +1,9 @@
 //! The lock manager: one event is one request and the settling after it.
 ghost use Rattle.std.specs.Prelude.{ℕ, ◌≡◌, ◌≢◌, ◌<◌, ◌≤◌, ◌↔◌, List, [], IfOk, IfSome, OnOk, OnErr, IsTrue, MatchOption};
+ghost use Rattle.std.specs.Option.{option_copied};
 ghost use Rattle.fd_table.specs.declared.TheConstants.{FILES};
 ghost use Rattle.range_core.specs.Ranges.{IsByteRange};
+ghost use Rattle.lock_book.specs.OwnerLists.{modes_in_list};
 ghost use Rattle.wait_core.specs.Blocking.{IsBlocked};
 ghost use Rattle.lock_manager.specs.Asking.{AsksFor, IsFirstInTheWay};
 ghost use Rattle.lock_manager.specs.Safety.{IsSafe};
@@ -10,8 +12,8 @@ ghost use Rattle.lock_manager.specs.MachineView.{machine_rules, machine_locks, m
 use crate::machine::Machine;
 use crate::{InTheWay, Note, ProcState, Request, Rules};
 use fd_table::Look;
-use lock_book::Held;
-use range_core::Memory;
+use lock_book::{Held, Owner};
+use range_core::{Memory, Mode, RangeList};
 use std::alloc::Global;
 use wait_core::{ProcessSet, Wait};
 
@@ -104,6 +106,23 @@ impl Manager {
         ensures { IfOk result (λ waits. (S : State) → StandsFor self.now S → waits.items ≡ S.waits) }
     {
         self.machine.waits(self.alloc)
+    }
+
+    /// The byte locks of the owner on the file, as the runs of a list: `None`, or a list without runs, where it has none there. It takes no
+    /// memory (POSIX.1-2017 fcntl, DESCRIPTION; fcntl_locking(2)).
+    pub fn byte_locks(&self, file: u8, owner: Owner) -> Option<&RangeList>
+        ensures { (S : State) → StandsFor self.now S → (byte : ℕ)
+            → modes_in_list (option_copied result) byte ≡ mode_in S.changes file owner byte }
+    {
+        self.machine.byte_locks(file, owner)
+    }
+
+    /// The mode of the flock lock that the description has on the file: `LOCK_SH` is `Read` and `LOCK_EX` is `Write`. It takes no memory
+    /// (flock(2)).
+    pub fn flock_lock(&self, file: u8, description: u64) -> Option<Mode>
+        ensures { (S : State) → StandsFor self.now S → result ≡ flock_mode_in S.flock_changes file description }
+    {
+        self.machine.flock_lock(file, description)
     }
 
     /// The lock that request number `n` of process `p` asks for, as it would wait: by a lock command, also one that only asks, or by

@@ -272,11 +272,28 @@ fn told(notes: &[Note], wanted: &[Said]) -> bool {
     notes.len() == wanted.len()
 }
 
+/// The lock is told too where its owner's on the file are asked for, and on the file beside it there is none.
+fn is_told_alone(manager: &Manager, lock: &Held) -> bool {
+    let beside = lock.file ^ 1;
+    if let (Owner::Description(description), true) = (lock.owner, lock.whole) {
+        return manager.flock_lock(lock.file, description) == Some(lock.mode)
+            && manager.flock_lock(beside, description).is_none();
+    }
+    let run = (lock.mode, lock.span);
+    match manager.byte_locks(lock.file, lock.owner) {
+        Some(list) => {
+            list.runs().iter().any(|other| *other == run)
+                && manager.byte_locks(beside, lock.owner).is_none()
+        }
+        None => false,
+    }
+}
+
 /// Just these locks are held.
 fn holds(rt: &impl Abort, manager: &Manager, wanted: &[Kept]) -> Result<bool, Memory> {
     let locks = all_held(rt, manager)?;
     for (lock, kept) in locks.iter().zip(wanted) {
-        if *lock != kept.held() {
+        if *lock != kept.held() || !is_told_alone(manager, lock) {
             return Ok(false);
         }
     }

@@ -185,11 +185,13 @@ Explain:
     # 2#2 would wait for 1 (lock 0 process 1 w 0 0), which waits for 2 (1#4, ..)
                                               EDEADLK: the cycle, and what makes
                                               each step of it
+    # 1#5 ended the wait of 2#1               a kill, and this request waited
     # 1#5 released lock 0 process 1 w 0 99    a close, dup2, exit or kill ended
                                               each lock of its owner on a file
     # 1#6 lost flock 0 description 1 sh       a flock that is refused or waits
                                               has lost its old lock
     # 3#1 and 1 more never taken: process 3 was never born
+                                              or the process waits, or has ended
   --state N explains too, and tells the state behind the line of the N-th event,
   or behind each with all: what is held and who waits, as above, and then
     # proc 1 live                             each process that was born

@@ -21,7 +21,7 @@ use Rattle.script_core.specs.ScriptText.{Meaning}
 use Rattle.script_core.specs.ReportText.{IsReport, AreCounts}
 use Rattle.script_core.specs.Output.{processes_in}
 use Rattle.script_core.specs.declared.states.States.{States}
-use Rattle.script_core.specs.Explaining.{ExplainsRun, IsExplained, unborn_lines}
+use Rattle.script_core.specs.Explaining.{ExplainsRun, IsExplained, untaken_lines}
 use Rattle.replay_core.specs.declared.replays.Ran.{Ran}
 use Rattle.replay_core.specs.Devices.{ReadsWhole}
 use Rattle.replay_core.specs.Interleaving.{Interleaves, IsThreadOutput, IsThreadExplanation, IsThreadRunOf}
@@ -91,7 +91,7 @@ explains states bytes text ran run told =
           (processes_of (manager_of ran.session)) (processes_in run.script) run.rules run.processes is.explains;
       report = is.report;
       is_report = subst (λ (n : ℕ). IsReport n run.state events count is.report) run.processes is.is_report;
-      is = is.is ∙ ap (λ (n : ℕ). is.explained ++ is.report ++ unborn_lines run.state.states count 1 n) run.processes;
+      is = is.is ∙ ap (λ (n : ℕ). is.explained ++ is.report ++ untaken_lines run.state.states events count 1 n) run.processes;
     }
 
 -- in threads it is an output of the script
@@ -139,7 +139,7 @@ tells_explained states bytes text ran run told =
                 (processes_in run.script) run.rules run.processes is.explains;
             report = is.report;
             is_report = subst (λ (m : ℕ). IsReport m left.0 events count is.report) run.processes is.is_report;
-            is = is.is ∙ ap (λ (m : ℕ). is.explained ++ is.report ++ unborn_lines left.0.states count 1 m) run.processes;
+            is = is.is ∙ ap (λ (m : ℕ). is.explained ++ is.report ++ untaken_lines left.0.states events count 1 m) run.processes;
           });
     }
 
@@ -155,20 +155,20 @@ runs bytes ran run =
     ))
 
 -- the lines of processes that stand the same are the same
-same_unborn : (states others : ℕ → ProcState) (sent : ℕ → ℕ) (p n : ℕ) → ((q : ℕ) → states q ≡ others q)
-    → unborn_lines states sent p n ≡ unborn_lines others sent p n
-unfolding unborn_lines
-same_unborn states others sent p n h = grind (arith, common_steps)
+same_untaken : (states others : ℕ → ProcState) (events : List Event) (sent : ℕ → ℕ) (p n : ℕ) → ((q : ℕ) → states q ≡ others q)
+    → untaken_lines states events sent p n ≡ untaken_lines others events sent p n
+unfolding untaken_lines
+same_untaken states others events sent p n h = grind (arith, common_steps)
 
--- the lines of the journal with what explains them, the report, and who was never born, one behind another
+-- the lines of the journal with what explains them, the report, and what was never taken, one behind another
 pub one_behind_another : (states : States) (ran : Ran) (count : ℕ → ℕ) (S : State) (explained report first second third : List ℕ)
     → StandsFor (manager_of ran.session) S
     → ExplainsRun states ran.rules (processes_of (manager_of ran.session)) 1 opening_state (events_in ran.session) S explained
     → IsReport (processes_of (manager_of ran.session)) S (events_in ran.session) count report
     → first ≡ explained → second ≡ first ++ report
-    → third ≡ second ++ unborn_lines (state_at (manager_of ran.session)) count 1 (processes_of (manager_of ran.session))
+    → third ≡ second ++ untaken_lines (state_at (manager_of ran.session)) (events_in ran.session) count 1 (processes_of (manager_of ran.session))
     → IsExplainedTextOf states ran count S third
-one_behind_another states ran count S explained report first second third stands explains is_report one two three = grind (arith, common_steps, same_unborn)
+one_behind_another states ran count S explained report first second third stands explains is_report one two three = grind (arith, common_steps, same_untaken)
 
 -- ---- what was read
 

@@ -14,7 +14,7 @@ use Rattle.script_core.specs.Reading.{Reads}
 use Rattle.script_core.specs.EntryText.{entry_line}
 use Rattle.script_core.specs.ReportText.{IsReport, AreCounts}
 use Rattle.script_core.specs.Output.{processes_in}
-use Rattle.script_core.specs.Explaining.{ExplainsRun, unborn_lines}
+use Rattle.script_core.specs.Explaining.{ExplainsRun, untaken_lines}
 use Rattle.replay_core.specs.declared.job.Detail.{Detail}
 use Rattle.replay_core.specs.declared.job.Detail.TheVariants.{Plain, Explained}
 use Rattle.replay_core.specs.declared.replays.Ran.{Ran}
@@ -55,7 +55,7 @@ pub record IsThreadOutput (bytes text : List ℕ) : Type 0 where
   pub tells : ∥ TellsInterleaved bytes text ∥₁
 
 -- the script is accepted, and the text is the lines of such a journal with what explains each and the states that are asked for, then the
--- report, and then who was never born
+-- report, and then what was never taken
 pub record TellsExplained (states : States) (bytes text : List ℕ) : Type 0 where
   pub script : Meaning
   pub accepted : Reads bytes (Ok script)
@@ -66,7 +66,7 @@ pub record TellsExplained (states : States) (bytes text : List ℕ) : Type 0 whe
   pub explains : ExplainsRun states script.rules (processes_in script) 1 opening_state journal state explained
   pub report : List ℕ
   pub is_report : IsReport (processes_in script) state journal (λ p. length (requests_sent p script.arrivals)) report
-  pub is : text ≡ explained ++ report ++ unborn_lines state.states (λ p. length (requests_sent p script.arrivals)) 1 (processes_in script)
+  pub is : text ≡ explained ++ report ++ untaken_lines state.states journal (λ p. length (requests_sent p script.arrivals)) 1 (processes_in script)
 
 -- the text is so, for some journal
 pub record IsThreadExplanation (states : States) (bytes text : List ℕ) : Type 0 where

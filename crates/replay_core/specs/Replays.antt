@@ -20,7 +20,7 @@ use Rattle.script_core.specs.EntryText.{entry_line}
 use Rattle.script_core.specs.ReportText.{IsReport, AreCounts}
 use Rattle.script_core.specs.ScriptText.{Meaning}
 use Rattle.script_core.specs.Output.{IsOutput, processes_in}
-use Rattle.script_core.specs.Explaining.{ExplainsRun, IsExplained, unborn_lines}
+use Rattle.script_core.specs.Explaining.{ExplainsRun, IsExplained, untaken_lines}
 use Rattle.replay_core.specs.declared.job.Detail.{Detail}
 use Rattle.replay_core.specs.declared.job.Detail.TheVariants.{Plain, Explained}
 use Rattle.replay_core.specs.declared.replays.Ran.{Ran}
@@ -78,13 +78,13 @@ abbrev pub IsLedTo : Ran → State → Type 0
 IsLedTo ran S = Leads ran.rules (processes_of (manager_of ran.session)) opening_state (events_in ran.session) S
 
 -- the text is the lines of the journal with what explains each and the states that are asked for, then the report of the state, with these
--- counts of what each process sent, and then who was never born
+-- counts of what each process sent, and then what was never taken
 pub record IsExplainedTextOf (states : States) (ran : Ran) (sent : ℕ → ℕ) (S : State) (text : List ℕ) : Type 0 where
   pub explained : List ℕ
   pub explains : ExplainsRun states ran.rules (processes_of (manager_of ran.session)) 1 opening_state (events_in ran.session) S explained
   pub report : List ℕ
   pub is_report : IsReport (processes_of (manager_of ran.session)) S (events_in ran.session) sent report
-  pub is : text ≡ explained ++ report ++ unborn_lines S.states sent 1 (processes_of (manager_of ran.session))
+  pub is : text ≡ explained ++ report ++ untaken_lines S.states (events_in ran.session) sent 1 (processes_of (manager_of ran.session))
 
 -- the script is accepted, and was run: the journal is that of its arrivals, the manager stands for the state that is left, and the counts
 -- are those of what each process sent

@@ -1,6 +1,6 @@
 -- Which lines begin with `#` and which don't, and which texts go with the lines that do: for `explanations_are_comments`.
 use Rattle.std.proofs.lemmas.Grind.{common_steps}
-use Rattle.std.proofs.Common.{rules, ℕ, zero, suc, ◌≡◌, ◌+◌, ◌==◌, ◌/◌, ◌%◌, Bool, true, false, not, ◌&&◌, cond, Option, Some, None, List, [], ◌∷◌, ◌++◌, flat_map, codes, decimal, ℤ, refl, sym, ap, subst, ◌∙◌, arith, append_assoc, inl, inr}
+use Rattle.std.proofs.Common.{rules, ℕ, zero, suc, ◌≡◌, ◌+◌, ◌-◌, ◌==◌, ◌/◌, ◌%◌, Bool, true, false, not, ◌&&◌, cond, Option, Some, None, List, [], ◌∷◌, ◌++◌, flat_map, codes, decimal, ℤ, refl, sym, ap, subst, ◌∙◌, arith, append_assoc, inl, inr}
 use Rattle.std.specs.List.{list_all, slice_split, join_with_byte}
 use Rattle.std.specs.Fmt.{signed_decimal, digits, digits_onto, digit_glyph}
 use Rattle.std.proofs.lemmas.Bool.{cases_Bool}
@@ -21,7 +21,6 @@ use Rattle.lock_manager.specs.declared.request.Reply.{Reply}
 use Rattle.lock_manager.specs.declared.request.Note.{Note}
 use Rattle.lock_manager.specs.declared.request.InTheWay.{InTheWay}
 use Rattle.lock_manager.specs.declared.request.InTheWay.TheVariants as obstacles
-use Rattle.lock_manager.specs.declared.request.Request.{Request}
 use Rattle.lock_manager.specs.declared.request.ProcState.{ProcState}
 use Rattle.lock_manager.specs.State.{State}
 use Rattle.session_core.specs.Event.{Event}
@@ -32,7 +31,8 @@ use Rattle.script_core.specs.EntryText.{reply_words, tag, note_text, entry_text,
 use Rattle.script_core.specs.ReportText.{owner_text, flock_word, held_text, held_line, wanted_text, wait_line, state_word, counts_text, process_line, reported_line, process_lines, line_of, IsReport}
 use Rattle.script_core.specs.declared.deadlock.Link.{Link}
 use Rattle.script_core.specs.Deadlocks.{step_text, first_step_text, next_step_text}
-use Rattle.script_core.specs.Explaining.{comment, obstacle_line, deadlock_line, word_of_loss, loss_line, loss_lines, Explains, more_text, never_born_line, unborn_line, unborn_lines, is_comment_line, without_comments}
+use Rattle.script_core.specs.Losses.{lost}
+use Rattle.script_core.specs.Explaining.{comment, obstacle_line, deadlock_line, loss_line, loss_lines, ended_line, ended_wait, Explains, more_text, untaken_reason, never_taken_line, untaken_line, untaken_lines, is_comment_line, without_comments}
 
 -- no byte ends a line
 abbrev pub goes_on : ℕ → Bool
@@ -310,35 +310,55 @@ comment_deadlock event (first ∷ rest) =
     is_comment event.p event.n (first_step_text first ++ flat_map next_step_text rest)
     (both (first_step_text first) (flat_map next_step_text rest) (in_first first) (in_nexts rest))
 
-comment_loss : (event : Event) (word : List ℕ) (after : List Held) (held : Held) → InLine word → IsComment (loss_line event word after held)
-comment_loss event word after held is = search (rules, comment_none, comment_behind, in_held)
+comment_ended : (event : Event) (wait : Option Wait) → IsComment (ended_line event wait)
+comment_ended event None = comment_none
+comment_ended event (Some wait) =
+    comment_behind event.p event.n (codes "ended the wait of ") (tag wait.p wait.n) refl (in_tag wait.p wait.n)
 
-losses_as : (event : Event) (word : List ℕ) (before after : List Held) → InLine word → IsComment (flat_map (loss_line event word after) before)
-losses_as event word before after is = comment_each (loss_line event word after) (λ held. comment_loss event word after held is) before
+comment_loss : (event : Event) (word : List ℕ) (held : Held) → InLine word → IsComment (loss_line event word held)
+comment_loss event word held is = comment_behind event.p event.n word (held_text held) is (in_held held)
 
-comment_losses : (event : Event) (request : Request) (before after : List Held) → IsComment (loss_lines event (word_of_loss request) before after)
-comment_losses event request before after = grind (arith, common_steps, comment_none, losses_as)
+comment_losses : (event : Event) (word : List ℕ) (locks : List Held) → InLine word → IsComment (loss_lines event word locks)
+comment_losses event word locks is = comment_each (loss_line event word) (λ held. comment_loss event word held is) locks
 
-pub comment_own : (rules : Rules) (S : State) (event : Event) (T : State) (own : List ℕ) → Explains rules S event T own → IsComment own
-comment_own rules S event T own h = grind (arith, common_steps, comment_both, comment_losses, comment_obstacle, comment_deadlock)
+pub comment_own : (rules : Rules) (processes : ℕ) (S : State) (event : Event) (T : State) (own : List ℕ) → Explains rules processes S event T own → IsComment own
+comment_own rules processes S event T own h =
+    let a = ended_line event (ended_wait S event.request) in
+    let b = loss_lines event (codes "released ") h.released in
+    let c = loss_lines event (codes "lost ") (lost S T event.p event.request) in
+    let d = obstacle_line event h.obstacle in
+    let e = deadlock_line event h.links in
+    subst IsComment (sym h.is)
+    (comment_both (a ++ b ++ c ++ d) e
+    (comment_both (a ++ b ++ c) d
+    (comment_both (a ++ b) c
+    (comment_both a b (comment_ended event (ended_wait S event.request)) (comment_losses event (codes "released ") h.released refl))
+    (comment_losses event (codes "lost ") (lost S T event.p event.request) refl)) (comment_obstacle event h.obstacle)) (comment_deadlock event h.links))
 
 in_more : (more : ℕ) → InLine (more_text more)
 in_more more = grind (arith, common_steps, both, number)
 
-comment_never_born : (p sent : ℕ) → IsComment (never_born_line p sent)
-comment_never_born p zero = comment_none
-comment_never_born p (suc more) =
-    let one = tag p 1 ++ more_text more in
+-- a reason is in the line
+in_reason : (state : ProcState) (reason : List ℕ) → untaken_reason state ≡ Some reason → InLine reason
+in_reason state reason is = grind (arith, common_steps)
+
+comment_never_taken : (p n count : ℕ) (state : ProcState) (reason : Option (List ℕ)) → untaken_reason state ≡ reason → IsComment (never_taken_line p n count reason)
+comment_never_taken p n zero state reason is = comment_none
+comment_never_taken p n (suc more) state None is = comment_none
+comment_never_taken p n (suc more) state (Some reason) is =
+    let one = tag p n ++ more_text more in
     let two = one ++ codes " never taken: process " in
-    comment_line (codes "# " ++ tag p 1 ++ more_text more ++ codes " never taken: process " ++ decimal p ++ codes " was never born")
-    (both (two ++ decimal p) (codes " was never born")
-    (both two (decimal p) (both one (codes " never taken: process ") (both (tag p 1) (more_text more) (in_tag p 1) (in_more more)) refl) (number p)) refl)
+    comment_line (codes "# " ++ tag p n ++ more_text more ++ codes " never taken: process " ++ decimal p ++ reason)
+    (both (two ++ decimal p) reason
+    (both two (decimal p) (both one (codes " never taken: process ") (both (tag p n) (more_text more) (in_tag p n) (in_more more)) refl) (number p)) (in_reason state reason is))
     refl
 
-comment_unborn : (state : ProcState) (p sent : ℕ) → IsComment (unborn_line state p sent)
-comment_unborn state p sent = grind (arith, common_steps, comment_never_born, comment_none)
+comment_untaken : (line : ProcessLine) → IsComment (untaken_line line)
+comment_untaken line = comment_never_taken line.p (line.taken + 1) (line.sent - line.taken) line.state (untaken_reason line.state) refl
 
-pub comment_all_unborn : (states : ℕ → ProcState) (sent : ℕ → ℕ) (p n : ℕ) → IsComment (unborn_lines states sent p n)
-unfolding unborn_lines
-comment_all_unborn states sent p zero = comment_none
-comment_all_unborn states sent p (suc n) = grind (arith, common_steps, comment_both, comment_unborn, comment_all_unborn states sent (p + 1) n)
+pub comment_all_untaken : (states : ℕ → ProcState) (events : List Event) (sent : ℕ → ℕ) (p n : ℕ) → IsComment (untaken_lines states events sent p n)
+unfolding untaken_lines
+comment_all_untaken states events sent p zero = comment_none
+comment_all_untaken states events sent p (suc n) =
+    comment_both (untaken_line (line_of states events sent p)) (untaken_lines states events sent (p + 1) n) (comment_untaken (line_of states events sent p))
+    (comment_all_untaken states events sent (p + 1) n)

@@ -1,10 +1,11 @@
--- The run that is made again, step by step: for `write_explained` and `write_unborn`, clauses `ok`.
+-- The run that is made again, step by step: for `write_explained`, clause `ok`.
 use Rattle.std.proofs.lemmas.Grind.{common_steps}
 use Rattle.std.proofs.Common.{rules, ℕ, zero, suc, ◌≡◌, ◌+◌, ◌-◌, ◌<◌, ◌≤◌, Option, List, [], ◌∷◌, ◌++◌, length, All, inl, inr, take, drop, get_or, refl, sym, ap, subst, ◌∙◌, arith, append_assoc, append-nil, add-one, Result, Bool, true, IfOk, MatchResult, OnErr, OnOk, codes, decimal, slice_index}
 use Rattle.std.proofs.Math.Seq.{drop-cons, take-append_seam}
 use Rattle.std.proofs.lemmas.List.{take_more, take_all, length-take}
 use Rattle.std.proofs.lemmas.Bool.{cases_Bool}
 use Rattle.fd_table.specs.declared.TheConstants.{FILES}
+use Rattle.fd_table.specs.Descriptors.{descriptor_limit}
 use Rattle.lock_book.specs.declared.Held.{Held}
 use Rattle.lock_book.specs.Changes.{mode_in, flock_mode_in}
 use Rattle.lock_book.specs.Reports.{IsHeldReport}
@@ -17,7 +18,8 @@ use Rattle.lock_manager.specs.declared.request.LkCmd.{LkCmd}
 use Rattle.lock_manager.specs.declared.request.FlockOp.{FlockOp}
 use Rattle.lock_manager.specs.declared.request.Note.{Note}
 use Rattle.lock_manager.specs.declared.request.InTheWay.{InTheWay}
-use Rattle.lock_manager.specs.declared.request.ProcState.{ProcState}
+use Rattle.lock_manager.specs.declared.request.Request.{Request}
+use Rattle.lock_manager.specs.declared.request.Request.TheVariants.{OpenFile, Dup, DupTo, CloseFd, Seek, Resize, Lk, Flock, Fork, Exit, Signal, Kill}
 use Rattle.lock_manager.specs.declared.manager.Manager.{Manager}
 use Rattle.lock_manager.specs.State.{State, opening_state, locks_held}
 use Rattle.lock_manager.specs.Settling.{IsSettled}
@@ -28,14 +30,14 @@ use Rattle.lock_manager.specs.ManagerView.{StandsFor, rules_of, processes_of}
 use Rattle.session_core.specs.Event.{Event}
 use Rattle.session_core.specs.Runs.{IsStep, Leads}
 use Rattle.script_core.specs.EntryText.{entry_line, tag}
-use Rattle.script_core.specs.ReportText.{AreCounts}
 use Rattle.script_core.specs.Output.{Extends}
 use Rattle.script_core.specs.declared.deadlock.Link.{Link}
 use Rattle.script_core.specs.declared.states.States.{States}
 use Rattle.script_core.specs.StateText.{is_told, TellsStateIf}
 use Rattle.script_core.specs.Files.{IsWithinFiles}
 use Rattle.script_core.specs.Deadlocks.{TellsCycleIfAny}
-use Rattle.script_core.specs.Explaining.{comment, is_deadlock, obstacle_line, deadlock_line, TellsDeadlock, IsCycleOf, word_of_loss, loss_lines, StandsInTheWay, Explains, ExplainsRun, more_text, never_born_line, unborn_line, unborn_lines}
+use Rattle.script_core.specs.Losses.{closed_by, AreReleased, lost}
+use Rattle.script_core.specs.Explaining.{comment, is_deadlock, obstacle_line, deadlock_line, TellsDeadlock, IsCycleOf, loss_lines, ended_line, ended_wait, StandsInTheWay, Explains, ExplainsRun}
 use Rattle.script_core.proofs.TextLemmas.{kept_behind}
 use Rattle.script_core.proofs.DeadlockLocksLemmas.{told_of_state, none_of_state}
 use Rattle.script_core.proofs.DeadlockStepLemmas.{HasClosed, step_closes}
@@ -49,93 +51,131 @@ one_of_bytes S p n fd cmd lock v w h k = grind (arith, common_steps)
 one_of_whole : (S : State) (p n fd : ℕ) (op : FlockOp) (v w : Wait) → AsksForWhole S p n fd op v → AsksForWhole S p n fd op w → v ≡ w
 one_of_whole S p n fd op v w h k = grind (arith, common_steps)
 
+asks_once : (S : State) (p n : ℕ) (request : Request) (v w : Wait) → AsksFor S p n request v → AsksFor S p n request w → v ≡ w
+asks_once S p n (Lk fd cmd lock) v w h k = one_of_bytes S p n fd cmd lock v w h k
+asks_once S p n (Flock fd op nb) v w h k = one_of_whole S p n fd op v w h k
+asks_once S p n (OpenFile file access) v w h k = absurd h
+asks_once S p n (Dup fd) v w h k = absurd h
+asks_once S p n (DupTo fd to) v w h k = absurd h
+asks_once S p n (CloseFd fd) v w h k = absurd h
+asks_once S p n (Seek fd offset) v w h k = absurd h
+asks_once S p n (Resize fd size) v w h k = absurd h
+asks_once S p n (Fork child) v w h k = absurd h
+asks_once S p n Exit v w h k = absurd h
+asks_once S p n (Signal target) v w h k = absurd h
+asks_once S p n (Kill target) v w h k = absurd h
+
 -- the cycle of the lock that the request asks for is that of the event
 pub found_cycle : (policy : Policy) (T : State) (report : List Held) (event : Event) (wait : Wait) (waits : List Wait) (links : List Link)
-    → is_deadlock event.notes ≡ true
+    → is_deadlock event.notes ≡ true → IsHeldReport (mode_in T.changes) (flock_mode_in T.flock_changes) report
     → AsksFor T event.p event.n event.request wait → waits ≡ T.waits → (IsTraditional wait → TellsCycleIfAny policy report waits wait links)
-    → IsCycleOf policy T report event links
-found_cycle policy T report event wait waits links is asks same found = grind (arith, common_steps, one_of_bytes, one_of_whole)
+    → IsCycleOf policy T event links
+found_cycle policy T report event wait waits links is reported asks same found = record {
+  none = λ other. absurd (let wrong = sym is ∙ other in cc);
+  some = λ refused. inr (
+    report,
+    reported,
+    λ asked asks_too traditional.
+        let one : wait ≡ asked = asks_once T event.p event.n event.request wait asked asks asks_too in
+        subst (λ (w : Wait). TellsCycleIfAny policy report T.waits w links) one
+        (subst (λ (ws : List Wait). TellsCycleIfAny policy report ws wait links) same (found (subst IsTraditional (sym one) traditional))),
+  );
+}
 
 pub cycle_found : {X E : Type 0} (items : X → List Link) (policy : Policy) (manager : Manager) (report : List Held) (event : Event) (wait : Wait)
     → (waits : List Wait) (result : Result X E)
     → is_deadlock event.notes ≡ true → ((T : State) → StandsFor manager T → AsksFor T event.p event.n event.request wait)
+    → ((T : State) → StandsFor manager T → IsHeldReport (mode_in T.changes) (flock_mode_in T.flock_changes) report)
     → ((T : State) → StandsFor manager T → waits ≡ T.waits)
     → IfOk result (λ links. IsTraditional wait → TellsCycleIfAny policy report waits wait (items links))
-    → IfOk result (λ links. (T : State) → StandsFor manager T → IsCycleOf policy T report event (items links))
-cycle_found items policy manager report event wait waits result h h2 h3 h4 = grind (arith, common_steps, found_cycle)
+    → IfOk result (λ links. (T : State) → StandsFor manager T → IsCycleOf policy T event (items links))
+cycle_found items policy manager report event wait waits result h h2 h3 h4 h5 = grind (arith, common_steps, found_cycle)
 
 -- of a step that was refused with EDEADLK there is a cycle, and of another none
-tells_deadlock : (rules : Rules) (processes : ℕ) (S : State) (event : Event) (T : State) (report : List Held) (links : List Link)
-    → IsStep rules processes S event T
-    → IsWithinFiles S → IsSettled rules.policy S → IsHeldReport (mode_in T.changes) (flock_mode_in T.flock_changes) report
-    → IsCycleOf rules.policy T report event links
-    → TellsDeadlock rules.policy T report event links
-tells_deadlock rules processes S event T report links step within settled reported h = elim (cases_Bool (is_deadlock event.notes)) [
+tells_deadlock : (rules : Rules) (processes : ℕ) (S : State) (event : Event) (T : State) (links : List Link) → IsStep rules processes S event T
+    → IsWithinFiles S → IsSettled rules.policy S → IsCycleOf rules.policy T event links → TellsDeadlock rules.policy T event links
+tells_deadlock rules processes S event T links step within settled h = elim (cases_Bool (is_deadlock event.notes)) [
   | inl refused ↦
       let closed = step_closes rules processes S event.p event.n event.request event.notes T settled step refused in
       let files = step_files rules processes S event.p event.n event.request event.notes T step within in
       let low = asks_file T event.p event.n event.request closed.wait files closed.asks in
-      by_links refused closed low files.waits links (h.some refused closed.wait closed.asks closed.traditional)
-  | inr other ↦ subst (TellsDeadlock rules.policy T report event) (sym (h.none other)) other
+      elim (h.some refused) [
+        | inl none ↦ absurd (none closed.wait closed.asks)
+        | inr (report, reported, told) ↦ by_links report reported refused closed low files.waits links (told closed.wait closed.asks closed.traditional)
+      ]
+  | inr other ↦ subst (TellsDeadlock rules.policy T event) (sym (h.none other)) other
 ]
   where
-    by_links : is_deadlock event.notes ≡ true → (closed : HasClosed rules event.p event.n event.request T) → closed.wait.file < FILES
+    by_links : (report : List Held) → IsHeldReport (mode_in T.changes) (flock_mode_in T.flock_changes) report
+        → is_deadlock event.notes ≡ true → (closed : HasClosed rules event.p event.n event.request T) → closed.wait.file < FILES
         → All (λ v. v.file < FILES) T.waits
-        → (links : List Link) → TellsCycleIfAny rules.policy report T.waits closed.wait links → TellsDeadlock rules.policy T report event links
-    by_links refused closed low few [] none =
+        → (links : List Link) → TellsCycleIfAny rules.policy report T.waits closed.wait links → TellsDeadlock rules.policy T event links
+    by_links report reported refused closed low few [] none =
         absurd (none_of_state rules.policy (locks_held T) report T.waits closed.wait (record { is = reported }) low few none closed.closes)
-    by_links refused closed low few (first ∷ rest) told =
-        (refused, closed.wait, closed.asks, told_of_state rules.policy (locks_held T) report T.waits closed.wait (first ∷ rest) (record { is = reported }) low few told)
+    by_links report reported refused closed low few (first ∷ rest) told =
+        (refused, report, reported, closed.wait, closed.asks, told_of_state rules.policy (locks_held T) report T.waits closed.wait (first ∷ rest) (record { is = reported }) low few told)
 
 -- what a step of the manager, and the text behind it, come to in whatever state the manager stands for
 abbrev pub StepExplains : Policy → Manager → Manager → Event → List ℕ → List ℕ → Type 0
 StepExplains policy old new event before after =
     (S T : State) → StandsFor old S → IsWithinFiles S → IsSettled policy S → IsStep (rules_of old) (processes_of old) S event T → StandsFor new T
-    × (own : List ℕ) × Explains (rules_of old) S event T own × (after ≡ before ++ (entry_line event ++ own))
+    × (own : List ℕ) × Explains (rules_of old) (processes_of old) S event T own × (after ≡ before ++ (entry_line event ++ own))
+
+-- one more piece
+pub and_then : (old mid new front piece : List ℕ) → mid ≡ old ++ front → new ≡ mid ++ piece → new ≡ old ++ (front ++ piece)
+and_then old mid new front piece is pushed = pushed ∙ ap (λ (l : List ℕ). l ++ piece) is ∙ append_assoc old front piece
 
 -- what is told of the step, and of the locks and waits before and behind it, explains it
 pub explains_step : StepHasOneOutcome
-    → (policy : Policy) (old next : Manager) (event : Event) (notes : List Note) (before after : List Held) (obstacle : Option InTheWay)
-    → (links : List Link) (t0 t1 t2 t3 t4 : List ℕ)
-    → policy ≡ (rules_of old).policy
-    → ((S : State) → StandsFor old S → IsHeldReport (mode_in S.changes) (flock_mode_in S.flock_changes) before)
+    → (rules : Rules) (old next : Manager) (event : Event) (notes : List Note) (obstacle : Option InTheWay) (links : List Link) (t0 t1 t2 t3 t4 t5 t6 : List ℕ)
+    → rules ≡ rules_of old
     → ((S : State) → StandsFor old S → (T : State)
     × Step (rules_of old) (processes_of old) S event.p event.n event.request notes T × StandsFor next T)
-    → ((T : State) → StandsFor next T → IsHeldReport (mode_in T.changes) (flock_mode_in T.flock_changes) after)
     → ((T : State) → StandsFor next T → StandsInTheWay (rules_of next) T event obstacle)
-    → ((T : State) → StandsFor next T → IsCycleOf policy T after event links) → rules_of next ≡ rules_of old
-    → t1 ≡ t0 ++ entry_line event → t2 ≡ t1 ++ loss_lines event (word_of_loss event.request) before after → t3 ≡ t2 ++ obstacle_line event obstacle
-    → t4 ≡ t3 ++ deadlock_line event links
-    → StepExplains policy old next event t0 t4
-explains_step one policy old next event notes before after obstacle links t0 t1 t2 t3 t4 ruled reported steps reports stands cycle rules first second third fourth S T h within settled step =
+    → ((T : State) → StandsFor next T → IsCycleOf rules.policy T event links) → rules_of next ≡ rules_of old
+    → t1 ≡ t0 ++ entry_line event → ((S : State) → StandsFor old S → t2 ≡ t1 ++ ended_line event (ended_wait S event.request))
+    → ((S : State) → StandsFor old S → (locks : List Held)
+    × AreReleased (processes_of old) (descriptor_limit rules.limits) S (closed_by rules.limits S event.p event.request) locks
+    × (t3 ≡ t2 ++ loss_lines event (codes "released ") locks))
+    → ((S T : State) → StandsFor old S → StandsFor next T → t4 ≡ t3 ++ loss_lines event (codes "lost ") (lost S T event.p event.request))
+    → t5 ≡ t4 ++ obstacle_line event obstacle → t6 ≡ t5 ++ deadlock_line event links
+    → StepExplains rules.policy old next event t0 t6
+explains_step one rules old next event notes obstacle links t0 t1 t2 t3 t4 t5 t6 ruled steps stands cycle same_rules first ends releases loses third fourth S T h within settled step =
     let made = steps S h in
     let same : made.0 ≡ T = (one (rules_of old) (processes_of old) S event.p event.n event.request notes event.notes made.0 T made.1 step).1 in
     let now : StandsFor next T = subst (StandsFor next) same made.2 in
-    let losses = loss_lines event (word_of_loss event.request) before after in
+    let gone = releases S h in
+    let ended = ended_line event (ended_wait S event.request) in
+    let released = loss_lines event (codes "released ") gone.0 in
+    let losses = loss_lines event (codes "lost ") (lost S T event.p event.request) in
     let blocked = obstacle_line event obstacle in
     let refused = deadlock_line event links in (
       now,
-      losses ++ blocked ++ refused,
+      ended ++ released ++ losses ++ blocked ++ refused,
       record {
-        before = before;
-        is_before = reported S h;
-        after = after;
-        is_after = reports T now;
+        released = gone.0;
+        are_released = subst
+            (λ (r : Rules). AreReleased (processes_of old) (descriptor_limit r.limits) S (closed_by r.limits S event.p event.request) gone.0) ruled gone.1;
         obstacle = obstacle;
-        is_obstacle = subst (λ (r : Rules). StandsInTheWay r T event obstacle) rules (stands T now);
+        is_obstacle = subst (λ (r : Rules). StandsInTheWay r T event obstacle) same_rules (stands T now);
         links = links;
-        is_cycle = tells_deadlock (rules_of old) (processes_of old) S event T after links step within
-            (subst (λ (p : Policy). IsSettled p S) ruled settled) (reports T now)
-            (subst (λ (p : Policy). IsCycleOf p T after event links) ruled (cycle T now));
+        is_cycle = tells_deadlock (rules_of old) (processes_of old) S event T links step within
+            (subst (λ (r : Rules). IsSettled r.policy S) ruled settled)
+            (subst (λ (r : Rules). IsCycleOf r.policy T event links) ruled (cycle T now));
         is = refl;
       },
-      fourth
-          ∙ ap (λ (l : List ℕ). l ++ refused) (third ∙ ap (λ (l : List ℕ). l ++ blocked) (second ∙ ap (λ (l : List ℕ). l ++ losses) first))
-          ∙ ap (λ (l : List ℕ). l ++ refused)
-          (append_assoc (t0 ++ entry_line event) losses blocked ∙ append_assoc t0 (entry_line event) (losses ++ blocked))
-          ∙ append_assoc t0 (entry_line event ++ (losses ++ blocked)) refused
-          ∙ ap (λ (l : List ℕ). t0 ++ l) (append_assoc (entry_line event) (losses ++ blocked) refused),
+      and_then t0 t5 t6 (entry_line event ++ ended ++ released ++ losses ++ blocked) refused
+          (and_then t0 t4 t5 (entry_line event ++ ended ++ released ++ losses) blocked
+          (and_then t0 t3 t4 (entry_line event ++ ended ++ released) losses
+          (and_then t0 t2 t3 (entry_line event ++ ended) released (and_then t0 t1 t2 (entry_line event) ended first (ends S h)) gone.2) (loses S T h now)) third) fourth
+          ∙ ap (λ (l : List ℕ). t0 ++ l) (six (entry_line event) ended released losses blocked refused),
     )
+  where
+    six : (a b c d e f : List ℕ) → ((((a ++ b) ++ c) ++ d) ++ e) ++ f ≡ a ++ ((((b ++ c) ++ d) ++ e) ++ f)
+    six a b c d e f =
+        append_assoc (((a ++ b) ++ c) ++ d) e f ∙ append_assoc ((a ++ b) ++ c) d (e ++ f) ∙ append_assoc (a ++ b) c (d ++ (e ++ f))
+        ∙ append_assoc a b (c ++ (d ++ (e ++ f)))
+        ∙ ap (λ (l : List ℕ). a ++ l) (sym (append_assoc ((b ++ c) ++ d) e f ∙ append_assoc (b ++ c) d (e ++ f) ∙ append_assoc b c (d ++ (e ++ f))))
 
 -- what follows where a piece was appended, and where it was refused
 pub if_pushed : {A E : Type 0} (r : Result A E) (P Q X : Type 0) → MatchResult r (λ unit. P) (λ error. Q) → (P → X) → OnOk r X
@@ -143,10 +183,6 @@ if_pushed r P Q X h gives = grind (arith, common_steps)
 
 pub if_refused : {A E : Type 0} (r : Result A E) (P Q X : Type 0) → MatchResult r (λ unit. P) (λ error. Q) → (Q → X) → OnErr r X
 if_refused r P Q X h gives = grind (arith, common_steps)
-
--- one more piece
-pub and_then : (old mid new front piece : List ℕ) → mid ≡ old ++ front → new ≡ mid ++ piece → new ≡ old ++ (front ++ piece)
-and_then old mid new front piece is pushed = pushed ∙ ap (λ (l : List ℕ). l ++ piece) is ∙ append_assoc old front piece
 
 -- what is told behind the beginning of a line
 pub begun : {A E : Type 0} (r : Result A E) (old front new told : List ℕ)
@@ -163,12 +199,6 @@ told_behind r old mid new p n words line told h h2 h3 = grind (arith, common_ste
 -- what is cut back to the old bytes is these
 pub cut_whole : (old new cut : List ℕ) (len : ℕ) → Extends old new → len ≡ length old → cut ≡ take len new → cut ≡ old
 cut_whole old new cut len kept at is = is ∙ ap (λ (n : ℕ). take n new) at ∙ ap (take (length old)) kept.is ∙ take-append_seam old kept.more
-
--- of one request and more
-pub never_born_more : (p sent : ℕ) → 0 < sent
-    → never_born_line p sent
-    ≡ codes "# " ++ tag p 1 ++ more_text (sent - 1) ++ codes " never taken: process " ++ decimal p ++ codes " was never born" ++ 10 ∷ []
-never_born_more p sent h = grind (arith, common_steps)
 
 -- a front of a journal was made again: the manager stands for the state that it leaves, from which the rest leads on, and the text has
 -- grown by what explains the front
@@ -189,14 +219,14 @@ pub record HasExplained (states : States) (rules : Rules) (processes : ℕ) (jou
 -- one more event is explained
 run_more : (states : States) (rules : Rules) (processes number : ℕ) (first S : State) (events : List Event) (event : Event) (T : State)
     (text own told : List ℕ) → ExplainsRun states rules processes number first events S text → IsStep rules processes S event T
-    → Explains rules S event T own → TellsStateIf (is_told states (number + length events)) rules processes T told
+    → Explains rules processes S event T own → TellsStateIf (is_told states (number + length events)) rules processes T told
     → ExplainsRun states rules processes number first (events ++ event ∷ []) T (text ++ (entry_line event ++ own ++ told))
 run_more states rules processes number first S [] event T text own told h step explains tells =
     let here : number + 0 ≡ number = omega arith in (
       T,
       subst (λ (X : State). IsStep rules processes X event T) h.0 step,
       own,
-      subst (λ (X : State). Explains rules X event T own) h.0 explains,
+      subst (λ (X : State). Explains rules processes X event T own) h.0 explains,
       told,
       subst (λ (n : ℕ). TellsStateIf (is_told states n) rules processes T told) here tells,
       [],
@@ -232,7 +262,7 @@ again : (states : States) (rules : Rules) (processes : ℕ) (journal : List Even
     → (h : HasExplained states rules processes journal index manager old mid) → index < length journal → event ≡ get_or journal index event
     → StepExplains rules.policy manager next event mid late
     → (T : State) × IsStep rules processes h.state event T × Leads rules processes T (drop (suc index) journal) h.last × StandsFor next T
-    × (own : List ℕ) × Explains rules h.state event T own × (late ≡ mid ++ (entry_line event ++ own))
+    × (own : List ℕ) × Explains rules processes h.state event T own × (late ≡ mid ++ (entry_line event ++ own))
 again states rules processes journal index manager next old mid late event h within is made =
     let rest = subst (λ (l : List Event). Leads rules processes h.state l h.last) (next_of journal index event within is) h.leads in
     let by_rules = subst (λ (r : Rules). IsStep r processes h.state event rest.0) (sym h.rules_are) rest.1 in
@@ -243,7 +273,8 @@ again states rules processes journal index manager next old mid late event h wit
       rest.2,
       step.0,
       step.1,
-      subst (λ (r : Rules). Explains r h.state event rest.0 step.1) h.rules_are step.2,
+      subst (λ (k : ℕ). Explains rules k h.state event rest.0 step.1) h.processes_are
+          (subst (λ (r : Rules). Explains r (processes_of manager) h.state event rest.0 step.1) h.rules_are step.2),
       step.3,
     )
 
@@ -299,34 +330,3 @@ pub all_explained : StepHasOneOutcome → (states : States) (rules : Rules) (pro
     (old new : List ℕ) → HasExplained states rules processes journal index manager old new → length journal ≤ index → (T : State)
     → Leads rules processes opening_state journal T → (more : List ℕ) × ExplainsRun states rules processes 1 opening_state journal T more × (new ≡ old ++ more)
 all_explained one states rules processes journal index manager old new h past T leads = grind (arith, common_steps, take_all, same_end)
-
--- the line of one more process that was never born
-unborn_lines-more : (states : ℕ → ProcState) (sent : ℕ → ℕ) (p n : ℕ)
-    → unborn_lines states sent p (suc n) ≡ unborn_lines states sent p n ++ unborn_line (states (p + n)) (p + n) (sent (p + n))
-unfolding unborn_lines
-unborn_lines-more states sent p zero = grind (arith, common_steps, append-nil)
-unborn_lines-more states sent p (suc n) = grind (arith, common_steps, append_assoc, unborn_lines-more states sent (p + 1) n)
-
--- no lines of no processes
-pub none_unborn : (states : ℕ → ProcState) (sent : ℕ → ℕ) (old : List ℕ) → old ≡ old ++ unborn_lines states sent 1 0
-unfolding unborn_lines
-none_unborn states sent old = sym (append-nil old)
-
--- the lines of so many processes, and of one more, whose count stands at its place
-pub more_unborn : (states : ℕ → ProcState) (counts : List ℕ) (sent : ℕ → ℕ) (old before after : List ℕ) (index count : ℕ)
-    → AreCounts counts sent → index < length counts → slice_index counts index ≡ count
-    → before ≡ old ++ unborn_lines states sent 1 index
-    → after ≡ before ++ unborn_line (states (index + 1)) (index + 1) count
-    → after ≡ old ++ unborn_lines states sent 1 (index + 1)
-more_unborn states counts sent old before after index count are within at was is =
-    let place : index + 1 - 1 ≡ index = omega arith in
-    let same : count ≡ sent (index + 1) = sym at ∙ ap (slice_index counts) (sym place) ∙ are (index + 1) (omega arith) (omega arith) in
-    let next : index + 1 ≡ 1 + index = omega arith in
-    let lines = unborn_lines states sent 1 index in
-    is
-    ∙ ap (λ (n : ℕ). before ++ unborn_line (states (index + 1)) (index + 1) n) same
-    ∙ ap (λ (q : ℕ). before ++ unborn_line (states q) q (sent q)) next
-    ∙ ap (λ (l : List ℕ). l ++ unborn_line (states (1 + index)) (1 + index) (sent (1 + index))) was
-    ∙ append_assoc old lines (unborn_line (states (1 + index)) (1 + index) (sent (1 + index)))
-    ∙ ap (λ (l : List ℕ). old ++ l) (sym (unborn_lines-more states sent 1 index))
-    ∙ ap (λ (n : ℕ). old ++ unborn_lines states sent 1 n) (sym (add-one index))

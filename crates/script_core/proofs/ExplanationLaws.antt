@@ -9,8 +9,8 @@ use Rattle.script_core.specs.declared.states.States.{States}
 use Rattle.script_core.specs.EntryText.{entry_line}
 use Rattle.script_core.specs.Output.{processes_in}
 use Rattle.script_core.specs.StateText.{is_told}
-use Rattle.script_core.specs.Explaining.{ExplainsRun, unborn_lines, without_comments, ExplanationsAreComments}
-use Rattle.script_core.proofs.CommentLaws.{plain_entry, plain_report, comment_own, comment_all_unborn}
+use Rattle.script_core.specs.Explaining.{ExplainsRun, untaken_lines, without_comments, ExplanationsAreComments}
+use Rattle.script_core.proofs.CommentLaws.{plain_entry, plain_report, comment_own, comment_all_untaken}
 use Rattle.script_core.proofs.StateCommentLaws.{comment_told}
 
 -- a run that is explained, without what explains it
@@ -25,7 +25,7 @@ run_without states rules processes number S (event ∷ events) T text h rest =
     ∙ ap without_comments (append_assoc (line ++ h.2 ++ h.4) h.6 rest ∙ append_assoc (line ++ h.2) h.4 behind ∙ append_assoc line h.2 (h.4 ++ behind))
     ∙ plain_entry event (h.2 ++ (h.4 ++ behind))
     ∙ ap (λ (l : List ℕ). line ++ l)
-    (comment_own rules S event h.0 h.2 h.3 (h.4 ++ behind)
+    (comment_own rules processes S event h.0 h.2 h.3 (h.4 ++ behind)
     ∙ comment_told (is_told states number) rules processes h.0 h.4 h.5 behind
     ∙ run_without states rules processes (number + 1) h.0 events T h.6 h.7 rest)
     ∙ sym (append_assoc line (flat_map entry_line events) (without_comments rest))
@@ -35,11 +35,11 @@ pub explanations_are_comments : ExplanationsAreComments
 explanations_are_comments states bytes text h =
     let sent = λ (p : ℕ). length (requests_sent p h.script.arrivals) in
     let lines = flat_map entry_line h.journal in
-    let born = unborn_lines h.state.states sent 1 (processes_in h.script) in
-    let last : without_comments born ≡ [] =
-    ap without_comments (sym (append-nil born)) ∙ comment_all_unborn h.state.states sent 1 (processes_in h.script) [] in
-    let reported : without_comments (h.report ++ born) ≡ h.report =
-    plain_report (processes_in h.script) h.state h.journal sent h.report h.is_report born ∙ ap (λ (l : List ℕ). h.report ++ l) last ∙ append-nil h.report in
+    let left = untaken_lines h.state.states h.journal sent 1 (processes_in h.script) in
+    let last : without_comments left ≡ [] =
+    ap without_comments (sym (append-nil left)) ∙ comment_all_untaken h.state.states h.journal sent 1 (processes_in h.script) [] in
+    let reported : without_comments (h.report ++ left) ≡ h.report =
+    plain_report (processes_in h.script) h.state h.journal sent h.report h.is_report left ∙ ap (λ (l : List ℕ). h.report ++ l) last ∙ append-nil h.report in
     record {
       script = h.script;
       accepted = h.accepted;

@@ -23,6 +23,8 @@ pub mod DeadlockLocksLemmas
 pub mod DeadlockStepLemmas
 pub mod FilesLemmas
 pub mod ExplainLemmas
+pub mod UntakenLemmas
+pub mod LossLemmas
 pub mod NoteLemmas
 pub mod EntryRoundTripLemmas
 pub mod ReportReadingLemmas

@@ -1,4 +1,4 @@
--- Texts in pieces: for `push_all_unborn`, `push_cycle`, `push_descriptors` and others.
+-- Texts in pieces: for `push_never_taken`, `push_cycle`, `push_descriptors` and others.
 use Rattle.std.proofs.lemmas.Grind.{common_steps}
 use Rattle.std.proofs.Common.{◌≡◌, ◌∙◌, ℕ, ◌+◌, ◌-◌, ◌/◌, ◌%◌, ◌<◌, ◌≤◌, decimal, List, [], ◌∷◌, ◌++◌, length, take, drop, set, flat_map, Result, MatchResult, sym, ap, arith, append_assoc, append-nil, length-drop}
 use Rattle.std.specs.List.{join_with_byte}

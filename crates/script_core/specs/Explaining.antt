@@ -1,21 +1,20 @@
 -- The lines that explain a run: each begins with `#` and stands behind the line of its event, or at the end (this project's choice).
-use Rattle.std.specs.Prelude.{◌≡◌, ℕ, zero, suc, ◌+◌, ◌==◌, ◌&&◌, Bool, true, false, not, if◌then◌else◌, IsTrue, Option, Some, None, Ok, List, [], ◌∷◌, ◌++◌, length, filter, flat_map, codes, decimal}
-use Rattle.std.specs.List.{list_any}
+use Rattle.std.specs.Prelude.{◌≡◌, ℕ, zero, suc, ◌+◌, ◌-◌, ◌==◌, ◌⊎◌, Bool, true, false, not, IsTrue, Option, Some, None, Ok, List, [], ◌∷◌, ◌++◌, length, filter, flat_map, codes, decimal}
 use Rattle.lock_book.specs.declared.Held.{Held}
-use Rattle.lock_book.specs.Owners.{is_same_owner}
+use Rattle.fd_table.specs.Descriptors.{descriptor_limit}
 use Rattle.lock_book.specs.Changes.{mode_in, flock_mode_in}
 use Rattle.lock_book.specs.Reports.{IsHeldReport}
 use Rattle.wait_core.specs.declared.Policy.{Policy}
 use Rattle.wait_core.specs.declared.Wait.{Wait}
 use Rattle.wait_core.specs.Blocking.{IsBlocked}
 use Rattle.wait_core.specs.Cycles.{IsBlockedByProcess, IsTraditional, WaitsFor}
+use Rattle.wait_core.specs.WaitsView.{wait_of}
 use Rattle.lock_manager.specs.declared.request.Rules.{Rules}
 use Rattle.lock_manager.specs.declared.request.Errno.TheVariants.{EBADF, EINVAL, EOVERFLOW, EAGAIN, EDEADLK, EINTR, EMFILE, ESRCH}
 use Rattle.lock_manager.specs.declared.request.Reply.{Reply}
 use Rattle.lock_manager.specs.declared.request.Reply.TheVariants as replies
 use Rattle.lock_manager.specs.declared.request.Note.{Note}
 use Rattle.lock_manager.specs.declared.request.Note.TheVariants.{Answer, Waits}
-use Rattle.lock_manager.specs.declared.request.FlockOp.TheVariants.{Sh, Ex, Un}
 use Rattle.lock_manager.specs.declared.request.InTheWay.{InTheWay}
 use Rattle.lock_manager.specs.declared.request.InTheWay.TheVariants as obstacles
 use Rattle.lock_manager.specs.declared.request.Request.{Request}
@@ -32,11 +31,13 @@ use Rattle.script_core.specs.Words.{lines_of}
 use Rattle.script_core.specs.ScriptText.{Meaning}
 use Rattle.script_core.specs.Reading.{Reads}
 use Rattle.script_core.specs.EntryText.{tag, entry_line}
-use Rattle.script_core.specs.ReportText.{held_line, wait_line, IsReport}
+use Rattle.script_core.specs.declared.report_text.ProcessLine.{ProcessLine}
+use Rattle.script_core.specs.ReportText.{held_line, wait_line, line_of, IsReport}
 use Rattle.script_core.specs.Output.{IsOutput, processes_in}
 use Rattle.script_core.specs.declared.deadlock.Link.{Link}
 use Rattle.script_core.specs.declared.states.States.{States}
 use Rattle.script_core.specs.StateText.{is_told, TellsStateIf}
+use Rattle.script_core.specs.Losses.{closed_by, AreReleased, lost}
 use Rattle.script_core.specs.Deadlocks.{TellsCycle, TellsCycleIfAny, first_step_text, next_step_text}
 
 -- a line that explains a request: `#`, the request, and what is told of it, which ends the line
@@ -74,36 +75,34 @@ abbrev pub obstacle_line : Event → Option InTheWay → List ℕ
 obstacle_line event None = []
 obstacle_line event (Some obstacle) = comment event.p event.n (in_the_way_line obstacle)
 
--- whether the two lines of reports say locks of one owner on one file, both on bytes or both on the whole
-abbrev pub is_same_place : Held → Held → Bool
-is_same_place held other = (held.file == other.file) && (if held.whole then other.whole else not other.whole) && is_same_owner held.owner other.owner
+-- the wait that the request of a process ends with the process that waits: that of the one that it kills (POSIX.1-2017 kill, DESCRIPTION,
+-- SIGKILL; _Exit, "Consequences of Process Termination")
+abbrev pub ended_wait : State → Request → Option Wait
+ended_wait S (OpenFile file access) = None
+ended_wait S (Dup fd) = None
+ended_wait S (DupTo fd to) = None
+ended_wait S (CloseFd fd) = None
+ended_wait S (Seek fd offset) = None
+ended_wait S (Resize fd size) = None
+ended_wait S (Lk fd cmd lock) = None
+ended_wait S (Flock fd op nb) = None
+ended_wait S (Fork child) = None
+ended_wait S Exit = None
+ended_wait S (Signal target) = None
+ended_wait S (Kill target) = wait_of S.waits target
 
--- what is said of locks that went with a request: of a flock, that it lost its old one; of a request that closes, that it released
--- them; of one that unlocks, or does neither, nothing
-abbrev pub word_of_loss : Request → Option (List ℕ)
-word_of_loss (OpenFile file access) = None
-word_of_loss (Dup fd) = None
-word_of_loss (DupTo fd to) = Some (codes "released ")
-word_of_loss (CloseFd fd) = Some (codes "released ")
-word_of_loss (Seek fd offset) = None
-word_of_loss (Resize fd size) = None
-word_of_loss (Lk fd cmd lock) = None
-word_of_loss (Flock fd Sh nb) = Some (codes "lost ")
-word_of_loss (Flock fd Ex nb) = Some (codes "lost ")
-word_of_loss (Flock fd Un nb) = None
-word_of_loss (Fork child) = None
-word_of_loss Exit = Some (codes "released ")
-word_of_loss (Signal target) = None
-word_of_loss (Kill target) = Some (codes "released ")
+-- the line of the wait that ended with its process, if one did
+abbrev pub ended_line : Event → Option Wait → List ℕ
+ended_line event None = []
+ended_line event (Some wait) = comment event.p event.n (codes "ended the wait of " ++ tag wait.p wait.n ++ 10 ∷ [])
 
--- the line of a lock that is said with this word to have gone with the event, where its owner has none on that file in the later report
-abbrev pub loss_line : Event → List ℕ → List Held → Held → List ℕ
-loss_line event word after held = if list_any (is_same_place held) after then [] else comment event.p event.n (word ++ held_line held)
+-- the line of a lock that is said with this word to have gone with the event
+abbrev pub loss_line : Event → List ℕ → Held → List ℕ
+loss_line event word held = comment event.p event.n (word ++ held_line held)
 
--- the lines of the locks of the earlier report that went with the event, if it has a word for that
-abbrev pub loss_lines : Event → Option (List ℕ) → List Held → List Held → List ℕ
-loss_lines event None before after = []
-loss_lines event (Some word) before after = flat_map (loss_line event word after) before
+-- the lines of these locks, which went with the event
+abbrev pub loss_lines : Event → List ℕ → List Held → List ℕ
+loss_lines event word locks = flat_map (loss_line event word) locks
 
 -- what is in the way of the event's request, in the state that it left: of one that was refused with EAGAIN or waits, and that asks for a
 -- lock which is blocked, the first; else nothing
@@ -142,34 +141,39 @@ deadlock_line event [] = []
 deadlock_line event (first ∷ rest) =
     comment event.p event.n (first_step_text first ++ flat_map next_step_text rest ++ 10 ∷ [])
 
--- the steps of the cycle that the event's request would have closed, in the state that it left, with this report of its locks: of one
--- that was refused with EDEADLK, which is never without; and none of another (POSIX.1-2017 fcntl, ERRORS, EDEADLK)
-abbrev pub TellsDeadlock : Policy → State → List Held → Event → List Link → Type 0
-TellsDeadlock policy T report event [] = is_deadlock event.notes ≡ false
-TellsDeadlock policy T report event (first ∷ rest) =
+-- the steps of the cycle that the event's request would have closed, in the state that it left, by the report of its locks: of one that
+-- was refused with EDEADLK, which is never without; and none of another (POSIX.1-2017 fcntl, ERRORS, EDEADLK)
+abbrev pub TellsDeadlock : Policy → State → Event → List Link → Type 0
+TellsDeadlock policy T event [] = is_deadlock event.notes ≡ false
+TellsDeadlock policy T event (first ∷ rest) =
     IsTrue (is_deadlock event.notes)
+    × (report : List Held) × IsHeldReport (mode_in T.changes) (flock_mode_in T.flock_changes) report
     × (wait : Wait) × AsksFor T event.p event.n event.request wait
     × TellsCycle policy report T.waits wait (IsBlockedByProcess policy (locks_held T) T.waits wait) (WaitsFor policy (locks_held T) T.waits) (first ∷ rest)
 
--- the steps tell the cycle by this report and the waits of the state: that of the traditional lock that the event's request asks for, where
--- it was refused with EDEADLK, and else none
-pub record IsCycleOf (policy : Policy) (T : State) (report : List Held) (event : Event) (links : List Link) : Type 0 where
-  pub none : is_deadlock event.notes ≡ false → links ≡ []
-  pub some : is_deadlock event.notes ≡ true → (wait : Wait) → AsksFor T event.p event.n event.request wait → IsTraditional wait
-      → TellsCycleIfAny policy report T.waits wait links
+-- by the report of the locks and the waits of the state, the steps tell the cycle that a traditional lock for which the request asks would
+-- have closed
+abbrev pub TellsCycleOf : Policy → State → Event → List Link → Type 0
+TellsCycleOf policy T event links =
+    (report : List Held) × IsHeldReport (mode_in T.changes) (flock_mode_in T.flock_changes) report
+    × ((wait : Wait) → AsksFor T event.p event.n event.request wait → IsTraditional wait → TellsCycleIfAny policy report T.waits wait links)
 
--- the lines explain the event, from the state S to the state T: which locks went, and then what was in the way, or which cycle the
--- request would have closed
-pub record Explains (rules : Rules) (S : State) (event : Event) (T : State) (text : List ℕ) : Type 0 where
-  pub before : List Held
-  pub is_before : IsHeldReport (mode_in S.changes) (flock_mode_in S.flock_changes) before
-  pub after : List Held
-  pub is_after : IsHeldReport (mode_in T.changes) (flock_mode_in T.flock_changes) after
+-- so it is where the event's request was refused with EDEADLK, and else there are none
+pub record IsCycleOf (policy : Policy) (T : State) (event : Event) (links : List Link) : Type 0 where
+  pub none : is_deadlock event.notes ≡ false → links ≡ []
+  pub some : is_deadlock event.notes ≡ true → ((wait : Wait) → ¬ AsksFor T event.p event.n event.request wait) ⊎ TellsCycleOf policy T event links
+
+-- the lines explain the event, from the state S to the state T of so many processes: which wait it ended, which locks it released, which it
+-- lost, and then what was in the way, or which cycle the request would have closed
+pub record Explains (rules : Rules) (processes : ℕ) (S : State) (event : Event) (T : State) (text : List ℕ) : Type 0 where
+  pub released : List Held
+  pub are_released : AreReleased processes (descriptor_limit rules.limits) S (closed_by rules.limits S event.p event.request) released
   pub obstacle : Option InTheWay
   pub is_obstacle : StandsInTheWay rules T event obstacle
   pub links : List Link
-  pub is_cycle : TellsDeadlock rules.policy T after event links
-  pub is : text ≡ loss_lines event (word_of_loss event.request) before after ++ obstacle_line event obstacle ++ deadlock_line event links
+  pub is_cycle : TellsDeadlock rules.policy T event links
+  pub is : text ≡ ended_line event (ended_wait S event.request) ++ loss_lines event (codes "released ") released
+      ++ loss_lines event (codes "lost ") (lost S T event.p event.request) ++ obstacle_line event obstacle ++ deadlock_line event links
 
 -- the text is the line of each of these events, which have the numbers from this one on, with the lines that explain it behind it, and those
 -- of the state that it left where they are asked for; they lead from the state S to the state T
@@ -177,7 +181,7 @@ abbrev pub ExplainsRun : States → Rules → ℕ → ℕ → State → List Eve
 ExplainsRun states rules processes number S [] T text = (T ≡ S) × (text ≡ [])
 ExplainsRun states rules processes number S (event ∷ events) T text =
     (between : State) × IsStep rules processes S event between
-    × (own : List ℕ) × Explains rules S event between own
+    × (own : List ℕ) × Explains rules processes S event between own
     × (told : List ℕ) × TellsStateIf (is_told states number) rules processes between told
     × (rest : List ℕ) × ExplainsRun states rules processes (number + 1) between events T rest
     × (text ≡ entry_line event ++ own ++ told ++ rest)
@@ -187,26 +191,31 @@ abbrev pub more_text : ℕ → List ℕ
 more_text zero = []
 more_text (suc more) = codes " and " ++ decimal (suc more) ++ codes " more"
 
--- the line of a process that sent so much and was never born: what it sent was never taken
-abbrev pub never_born_line : ℕ → ℕ → List ℕ
-never_born_line p zero = []
-never_born_line p (suc more) =
-    codes "# " ++ tag p 1 ++ more_text more ++ codes " never taken: process " ++ decimal p ++ codes " was never born" ++ 10 ∷ []
+-- why what a process sent is never taken, by where it stands; of one that lives nothing is left to take
+abbrev pub untaken_reason : ProcState → Option (List ℕ)
+untaken_reason Unborn = Some (codes " was never born")
+untaken_reason Live = None
+untaken_reason Waiting = Some (codes " waits")
+untaken_reason Ended = Some (codes " has ended")
 
--- the line of a process that stands so, where it was never born
-abbrev pub unborn_line : ProcState → ℕ → ℕ → List ℕ
-unborn_line Unborn p sent = never_born_line p sent
-unborn_line Live p sent = []
-unborn_line Waiting p sent = []
-unborn_line Ended p sent = []
+-- the line of so many requests of a process, from the one with this number on, that are never taken for this reason
+abbrev pub never_taken_line : ℕ → ℕ → ℕ → Option (List ℕ) → List ℕ
+never_taken_line p n zero reason = []
+never_taken_line p n (suc more) None = []
+never_taken_line p n (suc more) (Some reason) =
+    codes "# " ++ tag p n ++ more_text more ++ codes " never taken: process " ++ decimal p ++ reason ++ 10 ∷ []
 
--- the lines of the processes from this one on, so many of them, that were never born and sent something
-unfoldable pub unborn_lines : (ℕ → ProcState) → (ℕ → ℕ) → ℕ → ℕ → List ℕ
-unborn_lines states sent p zero = []
-unborn_lines states sent p (suc more) = unborn_line (states p) p (sent p) ++ unborn_lines states sent (p + 1) more
+-- the line of a process of which not all that it sent was taken
+abbrev pub untaken_line : ProcessLine → List ℕ
+untaken_line line = never_taken_line line.p (line.taken + 1) (line.sent - line.taken) (untaken_reason line.state)
+
+-- the lines of the processes from this one on, so many of them, of which not all that they sent was taken
+unfoldable pub untaken_lines : (ℕ → ProcState) → List Event → (ℕ → ℕ) → ℕ → ℕ → List ℕ
+untaken_lines states events sent p zero = []
+untaken_lines states events sent p (suc more) = untaken_line (line_of states events sent p) ++ untaken_lines states events sent (p + 1) more
 
 -- the script is accepted, and the text is the lines of its journal with what explains each and the states that are asked for, then the
--- report, and then who was never born
+-- report, and then what was never taken
 pub record IsExplained (states : States) (bytes text : List ℕ) : Type 0 where
   pub script : Meaning
   pub accepted : Reads bytes (Ok script)
@@ -217,7 +226,7 @@ pub record IsExplained (states : States) (bytes text : List ℕ) : Type 0 where
   pub explains : ExplainsRun states script.rules (processes_in script) 1 opening_state journal state explained
   pub report : List ℕ
   pub is_report : IsReport (processes_in script) state journal (λ p. length (requests_sent p script.arrivals)) report
-  pub is : text ≡ explained ++ report ++ unborn_lines state.states (λ p. length (requests_sent p script.arrivals)) 1 (processes_in script)
+  pub is : text ≡ explained ++ report ++ untaken_lines state.states journal (λ p. length (requests_sent p script.arrivals)) 1 (processes_in script)
 
 -- whether the line begins with `#`
 abbrev pub is_comment_line : List ℕ → Bool

@@ -19,4 +19,5 @@ pub mod ExpectedText
 pub mod JournalView
 pub mod Files
 pub mod Deadlocks
+pub mod Losses
 pub mod Explaining

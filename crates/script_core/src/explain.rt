@@ -1,41 +1,39 @@
-//! The lines that explain a run: behind each entry which locks went with it and what was in its way, and at the end who was never born.
-ghost use Rattle.std.specs.Prelude.{◌≡◌, ◌≤◌, ◌∷◌, ◌++◌, ℕ, List, [], MatchResult, IfOk, codes, decimal, flat_map, OnOk, OnErr, length, option_map};
-ghost use Rattle.std.specs.List.{list_any};
-ghost use Rattle.fd_table.specs.Descriptors.{process_limit};
-ghost use Rattle.lock_book.specs.Changes.{mode_in, flock_mode_in};
-ghost use Rattle.lock_book.specs.Reports.{IsHeldReport};
+//! The lines that explain a run: behind each entry which wait ended and which locks went with it, and what was in its way.
+ghost use Rattle.std.specs.Prelude.{◌≡◌, ◌≤◌, ◌∷◌, ◌++◌, ℕ, List, [], MatchResult, IfOk, codes, decimal, flat_map, OnOk, OnErr, length};
+ghost use Rattle.fd_table.specs.Descriptors.{descriptor_limit, process_limit};
 ghost use Rattle.lock_manager.specs.declared.request.ProcState.TheVariants.{Live};
 ghost use Rattle.lock_manager.specs.State.{State, opening_state};
 ghost use Rattle.lock_manager.specs.Settling.{IsSettled};
 ghost use Rattle.lock_manager.specs.ManagerView.{StandsFor, rules_of, processes_of, state_at};
 ghost use Rattle.wait_core.specs.Cycles.{IsTraditional};
+ghost use Rattle.wait_core.specs.WaitsView.{wait_of};
 ghost use Rattle.session_core.specs.Runs.{IsStep, Leads};
 ghost use Rattle.script_core.specs.EntryText.{entry_line, tag};
-ghost use Rattle.script_core.specs.ReportText.{AreCounts};
 ghost use Rattle.script_core.specs.Output.{Extends};
 ghost use Rattle.script_core.specs.Files.{IsWithinFiles};
 ghost use Rattle.script_core.specs.Deadlocks.{TellsCycleIfAny, first_step_text, next_step_text, step_text};
-ghost use Rattle.script_core.specs.Explaining.{Explains, ExplainsRun, StandsInTheWay, IsCycleOf, comment, deadlock_line, in_the_way_line, obstacle_line, loss_line, loss_lines, more_text, never_born_line, unborn_line, unborn_lines};
+ghost use Rattle.script_core.specs.Explaining.{Explains, ExplainsRun, StandsInTheWay, IsCycleOf, comment, deadlock_line, ended_line, in_the_way_line, obstacle_line, loss_line, loss_lines};
+ghost use Rattle.script_core.specs.Losses.{AreReleased, lost_of, closed_by as spec_closed_by};
 ghost use Rattle.script_core.specs.Explaining as spec;
 
 use crate::deadlock::{Link, cycle_of};
 use crate::entry_text::push_entry;
+use crate::losses::{closed_by, flock_before, has_flock, released};
 use crate::pieces::{push_first_number, push_number, push_str};
 use crate::report_text::{push_held, push_held_text, push_wait, push_wait_text};
 use crate::states::{States, push_state_if};
+use fd_table::Limits;
 use lock_book::{Held, Owner};
-use lock_manager::{
-    Errno, FlockOp, InTheWay, Manager, Note, ProcState, Reply, Request, Rules, step_has_one_outcome,
-};
+use lock_manager::{Errno, InTheWay, Manager, Note, Reply, Request, Rules, step_has_one_outcome};
 use range_core::Memory;
 use session_core::Entry;
 use std::alloc::Global;
 use wait_core::{Policy, Wait};
 
 /// Appends the lines of a journal, which is a run of `processes` processes from the opening, and behind each what explains it: which
-/// locks went, what was the first in the way, and which cycle a wait would have closed; and where it is asked for the whole state that it
-/// left. The run is made again, step by step, which takes the memory of a lock manager and of two reports, and for a cycle that of the
-/// waits and of a set of processes for each of its steps.
+/// wait a kill ended, which locks went, what was the first in the way, and which cycle a wait would have closed; and where it is asked for
+/// the whole state that it left. The run is made again, step by step, which takes the memory of a lock manager and of the locks that go with an entry; for the
+/// end of a process and for a cycle that of a report, and for a cycle also that of the waits and of a set of processes for each step.
 /// After `Memory` the vector has its old bytes.
 #[tactic(auto, using(crate::proofs::ExplainLemmas::cut_whole))]
 pub fn write_explained(
@@ -81,7 +79,7 @@ fn push_explained(
     let mut number = 0;
     for entry in journal {
         number += 1;
-        push_step(alloc, rules.policy, text, &mut manager, entry)?;
+        push_step(alloc, rules, text, &mut manager, entry)?;
         push_state_if(states.is_told(number), text, &manager, rules)?;
     }
     Ok(())
@@ -90,16 +88,17 @@ fn push_explained(
 /// Makes the step of an entry again, and appends its line, with what explains it behind it.
 fn push_step(
     alloc: Global,
-    policy: Policy,
+    rules: Rules,
     text: &mut Vec<u8>,
     manager: &mut Manager,
     entry: &Entry,
 ) -> Result<(), Memory>
     requires live { state_at manager.old entry.now.p ≡ Live }
-    requires policy { policy ≡ (rules_of manager.old).policy }
-    ensures ok { OnOk result ((S T : State) → StandsFor manager.old S → IsWithinFiles S → IsSettled policy S
+    requires rules { rules ≡ rules_of manager.old }
+    ensures ok { OnOk result ((S T : State) → StandsFor manager.old S → IsWithinFiles S → IsSettled rules.policy S
         → IsStep (rules_of manager.old) (processes_of manager.old) S entry.now T → StandsFor manager.new T
-        × (own : List ℕ) × Explains (rules_of manager.old) S entry.now T own × (text.new.items ≡ text.old.items ++ (entry_line entry.now ++ own))) }
+        × (own : List ℕ) × Explains (rules_of manager.old) (processes_of manager.old) S entry.now T own
+        × (text.new.items ≡ text.old.items ++ (entry_line entry.now ++ own))) }
     ensures rules { rules_of manager.new ≡ rules_of manager.old }
     ensures processes { processes_of manager.new ≡ processes_of manager.old }
     ensures err { OnErr result (Extends text.old.items text.new.items) }
@@ -107,14 +106,78 @@ fn push_step(
     // A law, and nothing to run.
     step_has_one_outcome();
     push_entry(text, entry)?;
-    let before = manager.held()?;
+    push_ended(text, manager, entry)?;
+    push_released(alloc, rules.limits, text, manager, entry)?;
+    let flock = flock_before(manager, entry.p, entry.request);
     manager.take(entry.p, entry.n, entry.request)?;
-    let after = manager.held()?;
-    push_losses(text, entry, &before, &after)?;
+    push_lost(text, manager, entry, flock)?;
     let obstacle = obstacle_of(manager, entry)?;
     push_obstacle(text, entry, obstacle)?;
-    let links = deadlock_of(alloc, policy, manager, entry, &after)?;
+    let links = deadlock_of(alloc, rules.policy, manager, entry)?;
     push_deadlock(text, entry, &links)
+}
+
+/// Appends a line for each lock that the entry's request releases.
+fn push_released(
+    alloc: Global,
+    limits: Limits,
+    text: &mut Vec<u8>,
+    manager: &Manager,
+    entry: &Entry,
+) -> Result<(), Memory>
+    ensures ok { OnOk result ((S : State) → StandsFor manager.now S → (locks : List Held)
+        × AreReleased (processes_of manager.now) (descriptor_limit limits) S (spec_closed_by limits S entry.now.p entry.now.request) locks
+        × (text.new.items ≡ text.old.items ++ loss_lines entry.now (codes "released ") locks)) }
+    ensures kept { Extends text.old.items text.new.items }
+{
+    let closed = closed_by(manager, limits, entry.p, entry.request);
+    let locks = released(alloc, manager, limits, closed)?;
+    push_losses(text, entry, "released ", &locks)
+}
+
+/// Appends the line of the wait that the entry's request ends with its process, if it ends one.
+fn push_ended(text: &mut Vec<u8>, manager: &Manager, entry: &Entry) -> Result<(), Memory>
+    ensures ok { OnOk result ((S : State) → StandsFor manager.now S → text.new.items ≡ text.old.items ++ ended_line entry.now (spec.ended_wait S entry.now.request)) }
+    ensures kept { Extends text.old.items text.new.items }
+{
+    match entry.request {
+        Request::Kill { target } => push_ended_of(text, entry, &manager.waits()?, target),
+        _ => Ok(()),
+    }
+}
+
+/// Appends the line of the wait of this process, if it is among these.
+fn push_ended_of(
+    text: &mut Vec<u8>,
+    entry: &Entry,
+    waits: &[Wait],
+    target: u8,
+) -> Result<(), Memory>
+    ensures ok { OnOk result (text.new.items ≡ text.old.items ++ ended_line entry.now (wait_of waits.now target)) }
+    ensures kept { Extends text.old.items text.new.items }
+{
+    match wait_among(waits, target) {
+        Some(wait) => push_ended_wait(text, entry, &wait),
+        None => Ok(()),
+    }
+}
+
+/// The wait of the process among these, where it has one.
+fn wait_among(waits: &[Wait], p: u8) -> Option<Wait>
+    ensures { result ≡ wait_of waits.now p }
+{
+    waits.iter().find(|wait| wait.p == p).copied()
+}
+
+/// Appends the line of a wait that ended with its process.
+fn push_ended_wait(text: &mut Vec<u8>, entry: &Entry, wait: &Wait) -> Result<(), Memory>
+    ensures { MatchResult result (λ unit. text.new.items ≡ text.old.items
+        ++ comment entry.now.p entry.now.n (codes "ended the wait of " ++ tag wait.now.p wait.now.n ++ 10 ∷ []))
+        (λ error. Extends text.old.items text.new.items) }
+{
+    push_comment(text, entry, "ended the wait of ")?;
+    push_request_name(text, wait.p, wait.n)?;
+    push_str(text, "\n")
 }
 
 /// What is in the way of the entry's request, once its step was made: none where it wasn't refused with EAGAIN and doesn't wait.
@@ -158,17 +221,16 @@ fn deadlock_of(
     policy: Policy,
     manager: &Manager,
     entry: &Entry,
-    report: &[Held],
 ) -> Result<Vec<Link>, Memory>
-    ensures { IfOk result (λ links. (T : State) → StandsFor manager.now T → IsCycleOf policy T report.now entry.now links.items) }
+    ensures { IfOk result (λ links. (T : State) → StandsFor manager.now T → IsCycleOf policy T entry.now links.items) }
 {
     if !is_deadlock(entry.notes.as_slice()) {
         return Ok(Vec::new(alloc));
     }
-    match manager.wanted(entry.p, entry.n, entry.request) {
-        Some(wait) => cycle_of_traditional(alloc, policy, report, &manager.waits()?, &wait),
-        None => Ok(Vec::new(alloc)),
-    }
+    let Some(wait) = manager.wanted(entry.p, entry.n, entry.request) else {
+        return Ok(Vec::new(alloc));
+    };
+    cycle_of_traditional(alloc, policy, &manager.held()?, &manager.waits()?, &wait)
 }
 
 /// The steps of the cycle that a wait would close: none of one that isn't for a traditional lock.
@@ -300,86 +362,44 @@ fn push_in_the_way(text: &mut Vec<u8>, entry: &Entry, obstacle: InTheWay) -> Res
     }
 }
 
-/// Appends a line for each lock that went with the entry, between these reports.
-fn push_losses(
-    text: &mut Vec<u8>,
-    entry: &Entry,
-    before: &[Held],
-    after: &[Held],
-) -> Result<(), Memory>
-    ensures { MatchResult result (λ unit. text.new.items ≡ text.old.items ++ loss_lines entry.now (spec.word_of_loss entry.now.request) before.now after.now)
+/// Appends a line with this word for each of the locks, which went with the entry.
+fn push_losses(text: &mut Vec<u8>, entry: &Entry, word: &str, locks: &[Held]) -> Result<(), Memory>
+    ensures { MatchResult result (λ unit. text.new.items ≡ text.old.items ++ loss_lines entry.now word.now locks.now)
         (λ error. Extends text.old.items text.new.items) }
 {
-    match word_of_loss(&entry.request) {
-        Some(word) => push_losses_as(text, entry, word, before, after),
-        None => Ok(()),
-    }
-}
-
-/// Appends a line with this word for each lock of the first report whose owner has none on that file in the second.
-fn push_losses_as(
-    text: &mut Vec<u8>,
-    entry: &Entry,
-    word: &str,
-    before: &[Held],
-    after: &[Held],
-) -> Result<(), Memory>
-    ensures { MatchResult result (λ unit. text.new.items ≡ text.old.items ++ flat_map (loss_line entry.now word.now after.now) before.now)
-        (λ error. Extends text.old.items text.new.items) }
-{
-    for held in before {
-        push_loss(text, entry, word, after, held)?;
+    for held in locks {
+        push_loss(text, entry, word, held)?;
     }
     Ok(())
 }
 
-/// Appends the line of a lock with this word, where its owner has none on that file in the later report.
-fn push_loss(
-    text: &mut Vec<u8>,
-    entry: &Entry,
-    word: &str,
-    after: &[Held],
-    held: &Held,
-) -> Result<(), Memory>
-    ensures { MatchResult result (λ unit. text.new.items ≡ text.old.items ++ loss_line entry.now word.now after.now held.now)
+/// Appends the line of a lock that went with the entry, with this word.
+fn push_loss(text: &mut Vec<u8>, entry: &Entry, word: &str, held: &Held) -> Result<(), Memory>
+    ensures { MatchResult result (λ unit. text.new.items ≡ text.old.items ++ loss_line entry.now word.now held.now)
         (λ error. Extends text.old.items text.new.items) }
 {
-    if has_place(held, after) {
-        return Ok(());
-    }
     push_comment(text, entry, word)?;
     push_held(text, held)
 }
 
-/// Whether the lock's owner has one on that file in the report, on bytes or on the whole as this one.
-fn has_place(held: &Held, report: &[Held]) -> bool
-    ensures { result ≡ list_any (spec.is_same_place held.now) report.now }
+/// Appends the line of the flock lock that there was before the entry, where its owner has none now.
+fn push_lost(
+    text: &mut Vec<u8>,
+    manager: &Manager,
+    entry: &Entry,
+    before: Option<Held>,
+) -> Result<(), Memory>
+    ensures ok { OnOk result ((T : State) → StandsFor manager.now T
+        → text.new.items ≡ text.old.items ++ loss_lines entry.now (codes "lost ") (lost_of T before)) }
+    ensures kept { Extends text.old.items text.new.items }
 {
-    report.iter().any(|other| is_same_place(held, other))
-}
-
-/// Whether the two lines of reports say locks of one owner on one file, both on bytes or both on the whole.
-fn is_same_place(held: &Held, other: &Held) -> bool
-    ensures { result ≡ spec.is_same_place held.now other.now }
-{
-    held.file == other.file && held.whole == other.whole && held.owner == other.owner
-}
-
-/// What is said of locks that went with a request: of a flock, that it lost its old one; of a request that closes, that it released
-/// them; of one that unlocks, or does neither, nothing.
-fn word_of_loss(request: &Request) -> Option<&'static str>
-    ensures { option_map (λ word. word.now) result ≡ spec.word_of_loss request.now }
-{
-    match request {
-        Request::DupTo { .. } | Request::CloseFd { .. } | Request::Exit | Request::Kill { .. } => {
-            Some("released ")
-        }
-        Request::Flock {
-            op: FlockOp::Sh | FlockOp::Ex,
-            ..
-        } => Some("lost "),
-        _ => None,
+    let Some(held) = before else {
+        return Ok(());
+    };
+    if has_flock(manager, held.file, held.owner) {
+        return Ok(());
     }
+    push_loss(text, entry, "lost ", &held)
 }
 
 /// Appends the beginning of a line that explains a request: `#`, the request, and these words.
@@ -393,7 +413,7 @@ fn push_comment(text: &mut Vec<u8>, entry: &Entry, words: &str) -> Result<(), Me
 }
 
 /// Appends `#`, a space and the process and the number of a request.
-fn push_tag(text: &mut Vec<u8>, p: u8, n: u64) -> Result<(), Memory>
+pub fn push_tag(text: &mut Vec<u8>, p: u8, n: u64) -> Result<(), Memory>
     ensures { MatchResult result (λ unit. text.new.items ≡ text.old.items ++ (codes "# " ++ tag p n)) (λ error. Extends text.old.items text.new.items) }
 {
     push_str(text, "# ")?;
@@ -406,81 +426,4 @@ fn push_request_name(text: &mut Vec<u8>, p: u8, n: u64) -> Result<(), Memory>
 {
     push_first_number(text, u64::from(p))?;
     push_number(text, b'#', n)
-}
-
-/// Appends a line for each process that was never born and has sent something, with what each sent by the counts in `sent`, one for each
-/// process from process 1 on: what it sent was never taken. After `Memory` the vector has its old bytes.
-#[tactic(auto, using(crate::proofs::ExplainLemmas::cut_whole))]
-pub fn write_unborn(manager: &Manager, sent: &[u64], out: &mut Vec<u8>) -> Result<(), Memory>
-    requires { length sent.now ≡ processes_of manager.now }
-    ensures ok { OnOk result ((counts : ℕ → ℕ) → AreCounts sent.now counts
-        → out.new.items ≡ out.old.items ++ unborn_lines (state_at manager.now) counts 1 (processes_of manager.now)) }
-    ensures err { OnErr result (out.new.items ≡ out.old.items) }
-{
-    let len = out.len();
-    if let Err(memory) = push_all_unborn(out, manager, sent) {
-        out.truncate(len);
-        return Err(memory);
-    }
-    Ok(())
-}
-
-/// Appends a line for each process that was never born and has sent something.
-fn push_all_unborn(text: &mut Vec<u8>, manager: &Manager, sent: &[u64]) -> Result<(), Memory>
-    requires { length sent.now ≡ processes_of manager.now }
-    ensures { MatchResult result (λ unit. (counts : ℕ → ℕ) → AreCounts sent.now counts
-        → text.new.items ≡ text.old.items ++ unborn_lines (state_at manager.now) counts 1 (processes_of manager.now))
-        (λ error. Extends text.old.items text.new.items) }
-{
-    for index in 0..manager.processes() {
-        let p = index + 1;
-        push_unborn(text, manager.state_of(p), p, sent[usize::from(index)])?;
-    }
-    Ok(())
-}
-
-/// Appends the line of a process that stands so and sent so much, where it was never born.
-fn push_unborn(text: &mut Vec<u8>, state: ProcState, p: u8, sent: u64) -> Result<(), Memory>
-    ensures { MatchResult result (λ unit. text.new.items ≡ text.old.items ++ unborn_line state p sent) (λ error. Extends text.old.items text.new.items) }
-{
-    match state {
-        ProcState::Unborn => push_never_born(text, p, sent),
-        ProcState::Live | ProcState::Waiting | ProcState::Ended => Ok(()),
-    }
-}
-
-/// Appends the line of a process that was never born, where it sent something.
-fn push_never_born(text: &mut Vec<u8>, p: u8, sent: u64) -> Result<(), Memory>
-    ensures { MatchResult result (λ unit. text.new.items ≡ text.old.items ++ never_born_line p sent) (λ error. Extends text.old.items text.new.items) }
-{
-    if sent == 0 {
-        return Ok(());
-    }
-    push_never_taken(text, p, sent - 1)
-}
-
-/// Appends the line of a process that was never born, and sent so many requests behind its first.
-fn push_never_taken(text: &mut Vec<u8>, p: u8, more: u64) -> Result<(), Memory>
-    ensures { MatchResult result (λ unit. text.new.items ≡ text.old.items
-        ++ (codes "# " ++ tag p 1 ++ more_text more ++ codes " never taken: process " ++ decimal p ++ codes " was never born" ++ 10 ∷ []))
-        (λ error. Extends text.old.items text.new.items) }
-{
-    push_tag(text, p, 1)?;
-    push_more(text, more)?;
-    push_str(text, " never taken: process ")?;
-    push_first_number(text, u64::from(p))?;
-    push_str(text, " was never born")?;
-    push_str(text, "\n")
-}
-
-/// Appends how many more requests there are, if any.
-fn push_more(text: &mut Vec<u8>, more: u64) -> Result<(), Memory>
-    ensures { MatchResult result (λ unit. text.new.items ≡ text.old.items ++ more_text more) (λ error. Extends text.old.items text.new.items) }
-{
-    if more == 0 {
-        return Ok(());
-    }
-    push_str(text, " and ")?;
-    push_first_number(text, more)?;
-    push_str(text, " more")
 }

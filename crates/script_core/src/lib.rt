@@ -12,6 +12,7 @@ mod heading;
 mod journal;
 mod laws;
 mod line;
+mod losses;
 mod note;
 mod noted;
 mod numbers;
@@ -23,12 +24,13 @@ mod report_text;
 mod request_text;
 mod script;
 mod states;
+mod untaken;
 mod word_tables;
 mod words;
 mod write;
 
 pub use entry::parse_entry;
-pub use explain::{write_explained, write_unborn};
+pub use explain::write_explained;
 pub use journal::{JournalFault, JournalReader};
 pub use laws::{
     explanations_are_comments, headers_change_nothing_else, journals_are_read_back,
@@ -40,6 +42,7 @@ pub use report::{ReportFault, ReportLine, ReportReader};
 pub use report_text::ProcessLine;
 pub use script::{Cause, Script, ScriptFault, parse};
 pub use states::States;
+pub use untaken::write_untaken;
 pub use write::{write_entry, write_report};
 
 /// The most bytes that a line may have, without its line feed (this project's choice).

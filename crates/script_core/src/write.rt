@@ -130,7 +130,7 @@ fn push_processes(text: &mut Vec<u8>, sequencer: &Sequencer, sent: &[u64]) -> Re
 }
 
 /// What there is to tell of a process that sent so much.
-fn line_of(sequencer: &Sequencer, p: u8, sent: u64) -> ProcessLine
+pub fn line_of(sequencer: &Sequencer, p: u8, sent: u64) -> ProcessLine
     requires { (1 ≤ p) × (p ≤ processes_of (manager_in sequencer.now)) }
     ensures { (journal : List Event) → HasTold sequencer.now journal → result ≡ spec.line_of (state_at (manager_in sequencer.now)) journal (λ q. sent) p }
 {

@@ -6,7 +6,7 @@ use Rattle.session_core.specs.Event.{Event}
 use Rattle.session_core.specs.Runs.{Leads}
 use Rattle.session_core.specs.SessionView.{manager_of, events_in}
 use Rattle.script_core.specs.ReportText.{AreCounts, IsReport}
-use Rattle.script_core.specs.Explaining.{ExplainsRun, unborn_lines}
+use Rattle.script_core.specs.Explaining.{ExplainsRun, untaken_lines}
 use Rattle.replay_core.proofs.OutputLemmas.{one_behind_another}
 use Rattle.replay_core.proofs.replays.explained_text.Goals as goal
 
@@ -26,10 +26,10 @@ returns c = record {
       (subst (λ (m : ℕ). ExplainsRun c.args.states ran.rules m 1 opening_state c.journal.result.now S told.0) n_is told.1) in
       let report = c.in_ok-write_report.ensures.ok events c.sequencer.ensures.told in
       let is_report = subst (λ (m : Manager). IsReport (processes_of m) S events count report.0) c.sequencer.ensures.manager (report.1 S (subst (λ (m : Manager). StandsFor m S) (sym c.sequencer.ensures.manager) stands) count (subst (λ (l : List ℕ). AreCounts l count) (sym c.deref.ensures.value) counts)) in
-      let unborn : c.write_unborn.new.out.items ≡ c.write_report.new.out.items ++ unborn_lines (state_at (manager_of ran.session)) count 1 n =
-      c.in_ok-write_unborn.ensures.ok count (subst (λ (l : List ℕ). AreCounts l count) (sym c.deref-2.ensures.value) counts)
-      ∙ ap (λ (m : Manager). c.write_report.new.out.items ++ unborn_lines (state_at m) count 1 (processes_of m)) c.manager-2.ensures in
-      one_behind_another c.args.states ran count S told.0 report.0 c.write_explained.new.out.items c.write_report.new.out.items c.write_unborn.new.out.items stands
-      explains is_report (told.2 ∙ ap (λ (l : List ℕ). l ++ told.0) c.new-text.ensures.items) report.2 unborn
+      let left : c.write_untaken.new.out.items ≡ c.write_report.new.out.items ++ untaken_lines (state_at (manager_of ran.session)) events count 1 n =
+      c.in_ok-write_untaken.ensures.ok events count c.sequencer-2.ensures.told (subst (λ (l : List ℕ). AreCounts l count) (sym c.deref-2.ensures.value) counts)
+      ∙ ap (λ (m : Manager). c.write_report.new.out.items ++ untaken_lines (state_at m) events count 1 (processes_of m)) c.sequencer-2.ensures.manager in
+      one_behind_another c.args.states ran count S told.0 report.0 c.write_explained.new.out.items c.write_report.new.out.items c.write_untaken.new.out.items stands
+      explains is_report (told.2 ∙ ap (λ (l : List ℕ). l ++ told.0) c.new-text.ensures.items) report.2 left
       );
 }

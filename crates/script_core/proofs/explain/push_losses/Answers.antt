@@ -2,7 +2,7 @@ use Rattle.std.proofs.Common.{arith}
 use Rattle.std.proofs.lemmas.Grind.{common_steps}
 use Rattle.std.proofs.lemmas.Result.{err_from_is_err_and}
 use Rattle.script_core.proofs.TextLemmas.{kept_behind}
-use Rattle.script_core.proofs.explain.push_losses_as.Goals as goal
+use Rattle.script_core.proofs.explain.push_losses.Goals as goal
 
 pub returns-in_err-push_loss : goal.returns-in_err-push_loss
 returns-in_err-push_loss c = grind (arith, common_steps, err_from_is_err_and, kept_behind)

@@ -1,0 +1,6 @@
+use Rattle.std.proofs.Common.{◌≡◌, map, take}
+use Rattle.script_core.specs.Losses.{byte_line}
+use Rattle.script_core.proofs.losses.byte_lines.Given as goal
+
+abbrev pub invariant-loop-mode : goal.invariant-loop-mode
+invariant-loop-mode l = l.lines.items ≡ map (byte_line l.file l.owner) (take l.mode-index l.runs)

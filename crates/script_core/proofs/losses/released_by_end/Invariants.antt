@@ -1,0 +1,11 @@
+use Rattle.std.proofs.Common.{◌≡◌, filter, take}
+use Rattle.fd_table.specs.Descriptors.{descriptor_limit}
+use Rattle.lock_manager.specs.State.{State}
+use Rattle.lock_manager.specs.ManagerView.{StandsFor, processes_of}
+use Rattle.script_core.specs.Losses.{is_released}
+use Rattle.script_core.proofs.losses.released_by_end.Given as goal
+
+abbrev pub invariant-loop-held : goal.invariant-loop-held
+invariant-loop-held l =
+    (S : State) → StandsFor l.manager S → l.locks.items
+    ≡ filter (λ held. is_released (processes_of l.manager) (descriptor_limit l.limits) S l.p held.owner) (take l.held-index l.held-items)

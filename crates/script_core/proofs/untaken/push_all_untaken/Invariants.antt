@@ -1,0 +1,15 @@
+use Rattle.std.proofs.Common.{◌≡◌, ℕ, List, ◌++◌}
+use Rattle.lock_manager.specs.ManagerView.{state_at}
+use Rattle.session_core.specs.Event.{Event}
+use Rattle.session_core.specs.SequencerView.{manager_in, HasTold}
+use Rattle.script_core.specs.Output.{Extends}
+use Rattle.script_core.specs.ReportText.{AreCounts}
+use Rattle.script_core.specs.Explaining.{untaken_lines}
+use Rattle.script_core.proofs.untaken.push_all_untaken.Given as goal
+
+abbrev pub invariant-loop-index : goal.invariant-loop-index
+invariant-loop-index l = record {
+  extends : Extends l.fn.text.items l.text.items;
+  written : (journal : List Event) (counts : ℕ → ℕ) → HasTold l.sequencer journal → AreCounts l.sent counts
+      → l.text.items ≡ l.fn.text.items ++ untaken_lines (state_at (manager_in l.sequencer)) journal counts 1 l.index;
+}
