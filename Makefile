@@ -17,7 +17,7 @@ build:
 # The gate, and then the command lines, single lines, devices that fail, the worked scripts (also in threads, in whatever order comes), the
 # large scripts and the samples on the program as two compilers built it in the gate, what the README, the help and the manual page show, the
 # files and names that the documents point to, that the tests of script_core have these worked scripts, that want of memory is made at one
-# place, that each edit still applies, and the conformance tools' tests but for those that a busy machine can upset.
+# place, that each edit still compiles, and the conformance tools' tests but for those that a busy machine can upset.
 WORKED := $(basename $(wildcard tests/worked-scripts/*.out)) $(wildcard tests/threads/*)
 test:
 	rt ci
@@ -39,7 +39,8 @@ test:
 	sh tests/signposts.sh
 	sh tests/worked-rows.sh | cmp - crates/script_core_tests/src/tests/worked.rt
 	tests/memory-is-passed-on
-	tests/edit-reasons --apply
+	sh tests/bad-edits.sh
+	tests/edit-reasons --compile
 	cd conformance && LOCKREPLAY=$(abspath $(PROGRAM)) python3 -m unittest tests.test_corpus tests.test_judging tests.test_lies tests.test_trace
 
 # Lays each crate out as the gate wants it.

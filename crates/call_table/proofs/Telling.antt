@@ -12,13 +12,13 @@ use Rattle.std.proofs.lemmas.Bool.{cases_eq}
 use Rattle.std.proofs.lemmas.List.{take_more, take_all, take-append-drop}
 use Rattle.std.proofs.lemmas.List.Elements.{All-get_or}
 use Rattle.session_core.specs.Headline.{told_process}
-use Rattle.call_table.specs.declared.desk_view.DeskView.{DeskView}
-use Rattle.call_table.specs.InTurn.{AreInTurn}
-use Rattle.call_table.specs.Places.{IsProcess}
+use Rattle.table_steps.specs.declared.desk_view.DeskView.{DeskView}
+use Rattle.table_steps.specs.InTurn.{AreInTurn}
+use Rattle.table_steps.specs.Places.{IsProcess}
 use Rattle.call_table.specs.Serving.{IsUntold, IsTold}
-use Rattle.call_table.specs.Steps.{desk_told, IsNextToTell}
-use Rattle.call_table.specs.Views.{tally_at}
-use Rattle.call_table.proofs.Pushing.{tally_here, tally_else}
+use Rattle.table_steps.specs.Steps.{desk_told, IsNextToTell}
+use Rattle.table_steps.specs.Views.{tally_at}
+use Rattle.call_table.proofs.TallyLaws.{tally_here, tally_else}
 use Rattle.call_table.proofs.InTurnLaws.{number_at}
 
 exact_from : (q place : ℕ) (H : List Event) (e : Event) → answers_from q place (H ++ e ∷ []) ≡ answers_from q place H ++ answers_in

@@ -6,25 +6,26 @@ use Rattle.session_core.specs.Event.{Event}
 use Rattle.session_core.specs.Runs.{IsStep}
 use Rattle.session_core.specs.SessionView.{manager_of, SameSession, IsEmptySession}
 use Rattle.atomic_table.specs.Seated.{TableId}
-use Rattle.call_table.specs.declared.setup.Setup.{Setup}
-use Rattle.call_table.specs.declared.tally.Tally.{Tally}
+use Rattle.table_steps.specs.declared.setup.Setup.{Setup}
+use Rattle.table_steps.specs.declared.tally.Tally.{Tally}
 use Rattle.call_table.specs.declared.client.Client.{Client}
 use Rattle.call_table.specs.declared.served.Served.{Served}
 use Rattle.call_table.specs.declared.served.Served.TheVariants.{Idle, Took, Closed}
-use Rattle.call_table.specs.Places.{IsProcess}
+use Rattle.table_steps.specs.Places.{IsProcess}
 use Rattle.call_table.specs.Serving.{IsAble}
 use Rattle.call_table.specs.Shown.{hub_table, hub_setup, client_view, IsClientOf}
 use Rattle.session_core.specs.Mail.{IsPrefixOf, requests_taken, answers_to}
-use Rattle.call_table.specs.declared.client_view.ClientView.{ClientView}
+use Rattle.table_steps.specs.declared.client_view.ClientView.{ClientView}
 use Rattle.session_core.specs.declared.session.Session.{Session}
-use Rattle.call_table.specs.declared.desk_view.DeskView.{DeskView}
+use Rattle.table_steps.specs.declared.desk_view.DeskView.{DeskView}
 use Rattle.call_table.specs.declared.hub.Hub.{Hub}
 use Rattle.call_table.specs.declared.desk.Desk.{Desk}
-use Rattle.call_table.specs.Views.{desk_of, tally_at, new_desk, new_client}
+use Rattle.table_steps.specs.Views.{tally_at, new_desk, new_client}
+use Rattle.table_steps.specs.Shown.{desk_at, desk_knows}
 
 -- what the desk knows
 unfoldable pub desk_view : Desk → DeskView
-desk_view desk = desk_of desk.seat.me.0
+desk_view desk = desk_knows desk.seat
 
 -- the session of the desk
 unfoldable pub session_in : Desk → Session
@@ -32,7 +33,7 @@ session_in desk = desk.session
 
 -- the table of the desk
 unfoldable pub desk_table : Desk → TableId
-desk_table desk = desk.seat.table_id
+desk_table desk = desk_at desk.seat
 
 -- what its table was made with
 unfoldable pub desk_setup : Desk → Setup

@@ -2,7 +2,7 @@
 use Rattle.std.specs.Prelude.{◌≡◌, ℕ, ◌+◌, Some, List, slice_get}
 use Rattle.call_table.specs.declared.hub.Hub.{Hub}
 use Rattle.call_table.specs.declared.client.Client.{Client}
-use Rattle.call_table.specs.Views.{new_client}
+use Rattle.table_steps.specs.Views.{new_client}
 use Rattle.call_table.specs.Shown.{hub_setup, client_view, IsClientOf}
 
 -- each is the client of the process that its place names, of this hub, and did nothing yet

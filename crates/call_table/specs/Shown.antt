@@ -5,30 +5,30 @@ use lib.ListN.{get_elem?}
 use Rattle.lock_manager.specs.declared.request.Reply.{Reply}
 use Rattle.session_core.specs.Event.{Event}
 use Rattle.session_core.specs.Mail.{answers_to}
-use Rattle.call_table.specs.Steps.{client_found, client_collected, IsSeen}
+use Rattle.table_steps.specs.Steps.{client_found, client_collected, IsSeen}
 use Rattle.lock_manager.specs.declared.request.Request.{Request}
 use Rattle.atomic_table.specs.Seated.{TableId}
-use Rattle.call_table.specs.declared.setup.Setup.{Setup}
-use Rattle.call_table.specs.declared.client_view.ClientView.{ClientView}
+use Rattle.table_steps.specs.declared.setup.Setup.{Setup}
+use Rattle.table_steps.specs.declared.client_view.ClientView.{ClientView}
 use Rattle.call_table.specs.declared.hub.Hub.{Hub}
 use Rattle.call_table.specs.declared.client.Client.{Client}
-use Rattle.call_table.specs.Views.{client_of}
+use Rattle.table_steps.specs.Shown.{words_table, words_setup, client_at, client_knows}
 
 -- the table of the hub
 unfoldable pub hub_table : Hub → TableId
-hub_table hub = hub.table.shared.table_id
+hub_table hub = words_table hub.words
 
 -- what the hub was made with
 unfoldable pub hub_setup : Hub → Setup
-hub_setup hub = hub.setup
+hub_setup hub = words_setup hub.words
 
 -- what the client knows
 unfoldable pub client_view : Client → ClientView
-client_view client = client_of client.seat.me.0
+client_view client = client_knows client.seat
 
 -- the table of the client
 unfoldable pub client_table : Client → TableId
-client_table client = client.seat.table_id
+client_table client = client_at client.seat
 
 -- what its table was made with
 unfoldable pub client_setup : Client → Setup

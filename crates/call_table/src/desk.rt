@@ -1,23 +1,20 @@
 //! The side of the table that takes the requests.
 ghost use Rattle.std.specs.Prelude.{ℕ, ◌≡◌, ◌≤◌, true, false};
 ghost use Rattle.session_core.specs.SessionView.{events_in};
+ghost use Rattle.table_steps.specs.Shown.{desk_knows};
 ghost use Rattle.call_table.specs.Seats.{SitsAsDesk};
-ghost use Rattle.call_table.specs.Views.{tally_at};
+ghost use Rattle.table_steps.specs.Views.{tally_at};
 
 mod steps;
 
-use self::steps::{find_next, publish_all, read, take};
+use self::steps::{find_next, publish_all, read};
 use crate::client::Client;
 use crate::gate::Gate;
 use crate::hub::Hub;
-use crate::plays::{Close, Compare, Meeting};
 use crate::served::Served;
-use crate::setup::Setup;
-use crate::spelling::read_request;
-use crate::view::View;
-use atomic_table::Seat;
 use range_core::Memory;
 use session_core::Session;
+use table_steps::{DeskSeat, JoinedSeat, Setup, read_request};
 
 /// The side of the table that takes the requests.
 #[derive(Drop)]
@@ -25,15 +22,15 @@ pub struct Desk {
     setup: Setup,
     closed: bool,
     session: Session,
-    seat: Seat<(), View>,
-    ghost sits: { SitsAsDesk seat.me setup closed session },
+    seat: DeskSeat,
+    ghost sits: { SitsAsDesk (desk_knows seat) setup closed session },
 }
 
 #[tactic(auto, unfolding(crate::specs::Shown::hub_table, crate::specs::Shown::hub_setup, crate::specs::Shown::client_view, crate::specs::Shown::client_table, crate::specs::Shown::client_setup, crate::specs::Shown::client_process, crate::specs::Desks::desk_view, crate::specs::Desks::session_in, crate::specs::Desks::desk_table, crate::specs::Desks::desk_setup))]
 impl Desk {
     /// A desk that has served nothing.
-    pub(crate) fn of_parts(setup: Setup, session: Session, seat: Seat<(), View>) -> Desk
-        requires { SitsAsDesk seat.me setup false session }
+    pub(crate) fn of_parts(setup: Setup, session: Session, seat: DeskSeat) -> Desk
+        requires { SitsAsDesk (desk_knows seat) setup false session }
         ensures { (result.setup ≡ setup) × (result.session ≡ session) × (result.seat ≡ seat) }
     {
         Desk {
@@ -45,7 +42,7 @@ impl Desk {
     }
 
     ghost use Rattle.std.specs.Prelude.{IfOk, OnErr, Ok, ◌↔◌};
-    ghost use Rattle.call_table.specs.Steps.{met_desk, met_client};
+    ghost use Rattle.table_steps.specs.Steps.{met_desk, met_client};
     ghost use Rattle.call_table.specs.Shown.{client_view, IsClientOf, SameClient};
     ghost use Rattle.call_table.specs.Desks.{desk_view, desk_setup, session_in, IsDeskOf, SameDesk, HasSetup, IsMet, IsServed, IsUnserved};
 
@@ -56,7 +53,7 @@ impl Desk {
         ensures session { session_in self.new ≡ session_in self.old }
         ensures same { SameDesk self.old self.new }
     {
-        hub.table.shared.store::<Close>(&mut self.seat, 0, 1);
+        self.seat.close(&hub.words);
         self.closed = true;
     }
 
@@ -76,26 +73,19 @@ impl Desk {
         if self.closed {
             return Ok(Served::Closed);
         }
-        let shared = &hub.table.shared;
-        let Some((process, taken)) = find_next(shared, &self.setup, &mut self.seat, &self.session)
+        let words = &hub.words;
+        let Some((process, taken)) = find_next(words, &self.setup, &mut self.seat, &self.session)
         else {
             return Ok(Served::Idle);
         };
-        let words = read(shared, &self.setup, &mut self.seat, process, taken);
-        let place = self.session.take_one(process, read_request(words))?;
+        let cell = read(words, &mut self.seat, process, taken);
+        let place = self.session.take_one(process, read_request(cell))?;
         let Some(entry) = self.session.journal().last() else {
             unreachable!()
         };
-        take(
-            shared,
-            &self.setup,
-            &mut self.seat,
-            process,
-            taken + 1,
-            entry,
-        );
+        self.seat.take(words, process, taken + 1, entry);
         publish_all(
-            shared,
+            words,
             &self.setup,
             &mut self.seat,
             gate,
@@ -119,13 +109,12 @@ impl Desk {
             setup,
             closed,
             session,
-            mut seat,
+            seat,
         } = self;
         let (sizes, process, posted, collected, other) = client.into_parts();
-        let shared = &hub.table.shared;
-        shared.join_seat::<Meeting>(&mut seat, other);
-        shared.load::<Compare>(&mut seat, 0);
-        let other = shared.split_seat::<Meeting>(&mut seat);
+        let mut joined = JoinedSeat::join(seat, other, &hub.words);
+        joined.compare(&hub.words);
+        let (seat, other) = joined.part(&hub.words);
         (
             Desk {
                 setup,

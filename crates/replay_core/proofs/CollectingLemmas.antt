@@ -8,10 +8,10 @@ use Rattle.lock_manager.specs.declared.request.Reply.{Reply}
 use Rattle.lock_manager.specs.declared.request.Request.{Request}
 use Rattle.session_core.specs.Event.{Event}
 use Rattle.session_core.specs.Mail.{IsPrefixOf, answers_in, answers_from, answers_to, requests_taken}
-use Rattle.call_table.specs.declared.client_view.ClientView.{ClientView}
-use Rattle.call_table.specs.declared.desk_view.DeskView.{DeskView}
-use Rattle.call_table.specs.Steps.{met_desk, met_client}
-use Rattle.call_table.specs.Views.{tally_at}
+use Rattle.table_steps.specs.declared.client_view.ClientView.{ClientView}
+use Rattle.table_steps.specs.declared.desk_view.DeskView.{DeskView}
+use Rattle.table_steps.specs.Steps.{met_desk, met_client}
+use Rattle.table_steps.specs.Views.{tally_at}
 use Rattle.call_table.specs.Shown.{IsCollected, IsNothing}
 use Rattle.call_table.specs.Desks.{IsMet}
 use Rattle.replay_core.specs.Collecting.{AreCollected}

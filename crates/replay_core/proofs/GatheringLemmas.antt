@@ -17,7 +17,7 @@ use Rattle.session_core.specs.SessionView.{manager_of, events_in, sent_of}
 use Rattle.call_table.specs.Shown.{hub_setup, IsClientOf, SameClient}
 use Rattle.call_table.specs.declared.hub.Hub.{Hub}
 use Rattle.call_table.specs.declared.client.Client.{Client}
-use Rattle.call_table.specs.declared.setup.Setup.{Setup}
+use Rattle.table_steps.specs.declared.setup.Setup.{Setup}
 use Rattle.call_table.specs.declared.desk.Desk.{Desk}
 use Rattle.call_table.specs.Desks.{IsOpened}
 use Rattle.script_core.specs.ScriptText.{Meaning, IsProcess}

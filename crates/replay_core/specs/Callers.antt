@@ -2,10 +2,10 @@
 use Rattle.std.specs.Prelude.{◌≡◌, ℕ, ◌+◌, ◌≤◌, Some, List, true, length, slice_get}
 use Rattle.lock_manager.specs.declared.request.Request.{Request}
 use Rattle.session_core.specs.Mail.{requests_sent}
-use Rattle.call_table.specs.declared.setup.Setup.{Setup}
+use Rattle.table_steps.specs.declared.setup.Setup.{Setup}
 use Rattle.call_table.specs.declared.client.Client.{Client}
 use Rattle.call_table.specs.declared.hub.Hub.{Hub}
-use Rattle.call_table.specs.Views.{new_client}
+use Rattle.table_steps.specs.Views.{new_client}
 use Rattle.call_table.specs.Shown.{client_view, IsClientOf, SameClient}
 use Rattle.replay_core.specs.declared.caller.Caller.{Caller}
 

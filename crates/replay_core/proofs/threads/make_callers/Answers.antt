@@ -3,7 +3,7 @@ use Rattle.std.proofs.lemmas.List.{length-map, map-append}
 use Rattle.std.specs.Vec.Iter.{into_iter_items}
 use Rattle.session_core.specs.Mail.{requests_sent}
 use Rattle.call_table.specs.declared.client.Client.{Client}
-use Rattle.call_table.specs.Views.{new_client}
+use Rattle.table_steps.specs.Views.{new_client}
 use Rattle.replay_core.specs.declared.caller.Caller.{Caller}
 use Rattle.replay_core.specs.Callers.{AreOf}
 use Rattle.replay_core.proofs.ListLemmas.{next_of, done_more}

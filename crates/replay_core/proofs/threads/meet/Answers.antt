@@ -1,9 +1,9 @@
 use Rattle.std.proofs.Common.{◌≡◌, ◌∙◌, ap, ℕ, subst}
 use Rattle.session_core.specs.Mail.{IsPrefixOf, requests_taken, answers_to}
-use Rattle.call_table.specs.declared.client_view.ClientView.{ClientView}
-use Rattle.call_table.specs.declared.desk_view.DeskView.{DeskView}
+use Rattle.table_steps.specs.declared.client_view.ClientView.{ClientView}
+use Rattle.table_steps.specs.declared.desk_view.DeskView.{DeskView}
 use Rattle.call_table.specs.declared.client.Client.{Client}
-use Rattle.call_table.specs.Steps.{met_desk, met_client}
+use Rattle.table_steps.specs.Steps.{met_desk, met_client}
 use Rattle.call_table.specs.Shown.{client_view}
 use Rattle.call_table.specs.Desks.{desk_view, IsMet}
 use Rattle.replay_core.proofs.CollectingLemmas.{met_all, met_taken}

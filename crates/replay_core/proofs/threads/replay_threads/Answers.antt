@@ -6,7 +6,7 @@ use Rattle.lock_manager.specs.declared.request.Request.{Request}
 use Rattle.lock_manager.specs.declared.request.Rules.{Rules}
 use Rattle.session_core.specs.Mail.{requests_sent}
 use Rattle.call_table.specs.declared.client.Client.{Client}
-use Rattle.call_table.specs.declared.setup.Setup.{Setup}
+use Rattle.table_steps.specs.declared.setup.Setup.{Setup}
 use Rattle.script_core.specs.ScriptText.{Meaning}
 use Rattle.script_core.specs.ReportText.{AreCounts}
 use Rattle.script_core.specs.Output.{processes_in}

@@ -1,5 +1,5 @@
 use Rattle.std.proofs.Common.{rules, ◌≤◌, ℕ, ap, sym, ◌∙◌, subst, vec_len, arith}
-use Rattle.call_table.specs.declared.client_view.ClientView.{ClientView}
+use Rattle.table_steps.specs.declared.client_view.ClientView.{ClientView}
 use Rattle.call_table.specs.Shown.{client_view, IsCollected, IsNothing}
 use Rattle.replay_core.specs.Collecting.{AreCollected}
 use Rattle.replay_core.proofs.CollectingLemmas.{collected_one, collected_none, collected_fewer, first_within}
