@@ -1,5 +1,5 @@
 -- The callers at a table (the words are this project's choice).
-use Rattle.std.specs.Prelude.{◌≡◌, ℕ, ◌+◌, Some, List, true, slice_get}
+use Rattle.std.specs.Prelude.{◌≡◌, ℕ, ◌+◌, ◌≤◌, Some, List, true, length, slice_get}
 use Rattle.lock_manager.specs.declared.request.Request.{Request}
 use Rattle.session_core.specs.Mail.{requests_sent}
 use Rattle.table_steps.specs.declared.setup.Setup.{Setup}
@@ -19,6 +19,10 @@ pub record SameCaller (old new : Caller) : Type 0 where
 pub record HasEnded (old new : Caller) : Type 0 where
   pub same : SameCaller old new
   pub drained : (client_view new.client).drained ≡ true
+
+-- this was told of the process of each request that the caller posted
+abbrev pub WasTold : (ℕ → ℕ → Type 0) → Caller → Type 0
+WasTold told caller = (n : ℕ) → 1 ≤ n → n ≤ length (client_view caller.client).posted → told caller.process n
 
 -- each has the client of the process that its place names, from process 1 on, which did nothing yet
 abbrev pub AreNew : List Client → Type 0

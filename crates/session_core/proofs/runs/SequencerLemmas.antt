@@ -1,13 +1,12 @@
 -- What a sequencer takes, one event after another, and with one arrival more: for `Sequencer::deliver`, `drain` and `run_all`.
 use Rattle.std.proofs.lemmas.Grind.{common_steps}
-use Rattle.std.proofs.Common.{rules, ℕ, zero, suc, ◌≡◌, ◌≢◌, ◌+◌, ◌-◌, ◌<◌, ◌≤◌, refl, sym, ◌∙◌, ap, subst, arith, eq-eqb, ne_eqb, length, List, [], ◌∷◌, ◌++◌, Some, drop, take, slice_get, get_or, ⊎_elim, inr, Result, Ok, Err, OnErr}
+use Rattle.std.proofs.Common.{rules, ℕ, zero, suc, ◌≡◌, ◌+◌, ◌-◌, ◌<◌, ◌≤◌, refl, sym, ◌∙◌, ap, subst, arith, eq-eqb, ne_eqb, length, List, [], ◌∷◌, ◌++◌, Some, drop, take, slice_get, get_or, ⊎_elim, inr, Result, Ok, Err, OnErr}
 use Rattle.std.specs.Prelude.{◌==◌, ◌⊎◌, if◌then◌else◌, IsNone}
 use Rattle.std.proofs.lemmas.Bool.{cases_eq}
 use Rattle.std.proofs.lemmas.List.{append-nil, append_assoc, length-drop, take_all, take_more}
 use Rattle.lock_manager.specs.declared.request.Rules.{Rules}
 use Rattle.lock_manager.specs.declared.request.Request.{Request}
 use Rattle.lock_manager.specs.declared.request.ProcState.TheVariants.{Live}
-use Rattle.lock_manager.specs.State.{State}
 use Rattle.lock_manager.specs.ManagerView.{StandsFor, rules_of, processes_of, state_at}
 use Rattle.session_core.specs.declared.sequencer.Sequencer.{Sequencer}
 use Rattle.session_core.specs.Event.{Event}

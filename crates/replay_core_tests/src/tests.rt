@@ -1,0 +1,80 @@
+//! A run in threads with a watch: what no clause says of it.
+use lock_manager::Reply;
+use replay_core::{Answer, RunFault, Watch, replay_threads};
+use script_core::parse;
+use std::process::Abort;
+use std::sync::atomic::{AtomicBool, Ordering};
+use std::test::Fail;
+use std::thread;
+
+/// How often a thread looks before it gives up.
+const TURNS: u32 = 1000000;
+
+/// Two processes request something, each once, and so each has a thread.
+const SCRIPT: &[u8] = b"1 fork 2\n2 open 0 r\n";
+
+/// What is told of one of the two processes.
+#[derive(Drop)]
+struct Side {
+    /// Its request was posted.
+    posted: AtomicBool,
+    /// Its thread, which stands in the call that tells so, saw the other one's post.
+    met: AtomicBool,
+}
+
+impl Side {
+    fn new() -> Side {
+        Side {
+            posted: AtomicBool::new(false),
+            met: AtomicBool::new(false),
+        }
+    }
+}
+
+/// A watch that holds each of two processes at its first post until the other one has posted too, for so many turns at most.
+#[derive(Drop)]
+struct Meeting {
+    first: Side,
+    second: Side,
+}
+
+impl Watch for Meeting {
+    fn posted(&self, p: u8, n: u64) {
+        match (p, n) {
+            (1, 1) => hold(&self.first, &self.second),
+            (2, 1) => hold(&self.second, &self.first),
+            _ => {}
+        }
+    }
+}
+
+/// Marks the one side, and turns until the other one is marked.
+fn hold(own: &Side, other: &Side) {
+    own.posted.store(true, Ordering::SeqCst);
+    for _ in 0..TURNS {
+        if other.posted.load(Ordering::SeqCst) {
+            own.met.store(true, Ordering::SeqCst);
+            return;
+        }
+        thread::yield_now();
+    }
+}
+
+/// Each process is in a thread of its own while the other is, and each post is told there.
+#[test]
+fn two_processes_meet_at_their_watch(rt: HostRuntime) -> Result<(), Fail> {
+    let alloc = rt.alloc();
+    let script = parse(alloc, SCRIPT).map_err(RunFault::from)?;
+    let meeting = Meeting {
+        first: Side::new(),
+        second: Side::new(),
+    };
+    let report = replay_threads(&rt, alloc, &script, &meeting)?;
+    assert!(rt; meeting.first.met.load(Ordering::SeqCst));
+    assert!(rt; meeting.second.met.load(Ordering::SeqCst));
+    let first: &[Answer] = &[(1, Reply::Ok, 1)];
+    let second: &[Answer] = &[(1, Reply::Fd(0), 2)];
+    assert!(rt; report.collected[0].as_slice() == first);
+    assert!(rt; report.collected[1].as_slice() == second);
+    Ok(())
+}
