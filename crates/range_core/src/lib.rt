@@ -9,7 +9,7 @@ mod resolving;
 mod splice;
 
 pub use list::RangeList;
-pub use memory::Memory;
+pub use memory::{Memory, counted};
 pub use resolving::resolve;
 use thiserror::Error;
 
