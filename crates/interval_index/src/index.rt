@@ -120,7 +120,9 @@ impl RunIndex {
         ensures room { self.new.room ≡ self.old.room }
     {
         let key = Key { first, holder };
-        let run = self.runs.first_from(&key)?;
+        let Some(run) = self.runs.first_from(&key) else {
+            return None;
+        };
         if !run.has_key(first, holder) {
             return None;
         }
@@ -134,11 +136,11 @@ impl RunIndex {
         ensures runs { self.new.runs ≡ with_run run (without run.span.first (holder_of run) self.old.runs) }
         ensures room { self.new.room + 1 ≡ self.old.room }
     {
-        self.take(run.span.first, run.holder());
         let key = Key {
             first: run.span.first,
             holder: run.holder(),
         };
+        self.take(key.first, key.holder);
         self.runs.put(&key, run);
     }
 }
