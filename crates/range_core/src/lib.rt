@@ -11,7 +11,7 @@ mod splice;
 
 pub use laws::lists_stand_for_runs;
 pub use list::RangeList;
-pub use memory::Memory;
+pub use memory::{Memory, counted};
 pub use resolving::resolve;
 use thiserror::Error;
 

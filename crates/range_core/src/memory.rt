@@ -1,5 +1,5 @@
 //! Want of memory, and the one place where it is made.
-ghost use Rattle.std.specs.Prelude.{◌≡◌, ◌*◌, ◌^◌, ◌≤◌, IfOk, OnErr};
+ghost use Rattle.std.specs.Prelude.{◌≡◌, ◌+◌, ◌*◌, ◌^◌, ◌≤◌, IfOk, OnErr};
 
 use std::alloc::{AllocError, AllocFailed};
 use thiserror::Error;
@@ -32,4 +32,13 @@ pub(crate) fn doubled(count: usize) -> Result<usize, Memory>
     ensures err { OnErr result (2 ^ 64 ≤ 2 * count) }
 {
     count.checked_mul(2).ok_or(Memory(()))
+}
+
+/// How many there are with so many more: want of memory where that is more than the machine can count, so that no memory
+/// has them.
+pub fn counted(count: u64, more: u64) -> Result<u64, Memory>
+    ensures ok { IfOk result (λ all. all ≡ count + more) }
+    ensures err { OnErr result (2 ^ 64 ≤ count + more) }
+{
+    count.checked_add(more).ok_or(Memory(()))
 }

@@ -1,0 +1,4 @@
+pub mod Blocking
+pub mod HolderLemmas
+pub mod Order
+pub mod Standings

@@ -1,0 +1,15 @@
+use Rattle.std.proofs.Common.{List, sym, ap, ◌∙◌}
+use Rattle.std.specs.List.{find}
+use Rattle.interval_index.specs.declared.Run.{Run}
+use Rattle.interval_index.specs.Contents.{RunContents}
+use Rattle.interval_index.specs.Tests.{beginning_by, blocks, reaches_lock}
+use Rattle.interval_index.proofs.Blocking.{first_within}
+use Rattle.interval_index.proofs.index.RunIndex.first.Goals as goal
+
+abbrev runs_of : RunContents → List Run
+runs_of contents = contents.runs
+
+pub returns : goal.returns
+returns c =
+    let e = first_within (reaches_lock c.args.holder c.args.span.first c.args.wanted) c.args.span.last c.self.inside.runs.items c.self.invariant in
+    c.beginning_by.ensures ∙ (ap (beginning_by c.args.span.last) c.first_where.ensures ∙ (sym e ∙ ap (find (blocks c.args.holder c.args.span c.args.wanted)) (ap runs_of c.self.view_is)))

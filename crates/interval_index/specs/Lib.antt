@@ -1,0 +1,6 @@
+pub mod Contents
+pub mod Holders
+pub mod Reaching
+pub mod Runs
+pub mod Standing
+pub mod Tests

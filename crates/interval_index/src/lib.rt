@@ -1,0 +1,47 @@
+//! Runs of the locks of many owners on one file, in order, and which of them stand in the way of a lock.
+#![tactic(auto)]
+
+ghost use Rattle.std.specs.Prelude.{◌≡◌};
+ghost use Rattle.interval_index.specs.Holders.{holder_of};
+
+mod index;
+mod keys;
+mod queries;
+mod reach;
+
+pub use index::RunIndex;
+use range_core::{Mode, Span};
+
+/// An owner of locks, as two numbers: owners are ordered by class, and then by number (this project's choice).
+#[derive(Clone, Copy, Debug, PartialEq, Eq)]
+pub struct Holder {
+    /// Which kind of owner it is.
+    pub class: u8,
+    /// Which of its kind.
+    pub number: u64,
+}
+
+/// A lock of one owner on a range.
+#[derive(Clone, Copy, Debug, PartialEq, Eq)]
+pub struct Run {
+    /// The bytes that are locked.
+    pub span: Span,
+    /// The number of the owner, beside its class, since so a run takes 32 bytes.
+    pub number: u64,
+    /// The class of the owner.
+    pub class: u8,
+    /// What the lock allows.
+    pub mode: Mode,
+}
+
+impl Run {
+    /// Whose lock it is.
+    pub fn holder(&self) -> Holder
+        ensures { result ≡ holder_of self.now }
+    {
+        Holder {
+            class: self.class,
+            number: self.number,
+        }
+    }
+}

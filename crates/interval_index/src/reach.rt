@@ -1,0 +1,151 @@
+//! How far the runs of a subtree reach.
+ghost use Rattle.std.specs.Prelude.{◌≡◌, ℕ, Bool, true, false, List, [], ◌∷◌, ◌++◌, ◌||◌};
+ghost use Rattle.interval_index.specs.declared.Run.{Run};
+ghost use Rattle.interval_index.specs.Tests.{conflicts_with};
+ghost use Rattle.interval_index.specs.Reaching.{is_reached, reaches, TellsOf, Tells};
+
+use crate::{Holder, Run};
+use range_core::Mode;
+use summary_tree::Summary;
+
+/// The greatest last byte of any run, the owner of such a run, and the greatest last byte of another owner's runs.
+#[derive(Clone, Copy)]
+pub(crate) struct Reach {
+    holder: Holder,
+    last: Option<u64>,
+    other: Option<u64>,
+}
+
+/// How far all runs reach, and how far those do that exclude others.
+#[derive(Clone, Copy)]
+pub struct Reaches {
+    all: Reach,
+    writes: Reach,
+}
+
+/// The later of two last bytes, if there is one.
+fn later(last: Option<u64>, other: Option<u64>) -> Option<u64>
+    ensures { (byte : ℕ) → is_reached result byte ≡ (is_reached last byte || is_reached other byte) }
+{
+    match (last, other) {
+        (None, _) => other,
+        (_, None) => last,
+        (Some(a), Some(b)) => { if a < b { Some(b) } else { Some(a) } }
+    }
+}
+
+/// Whether the one last byte is no earlier than the other.
+fn is_as_late(last: Option<u64>, other: Option<u64>) -> bool
+    ensures yes { result ≡ true → (byte : ℕ) → is_reached other byte ≡ true → is_reached last byte ≡ true }
+    ensures no { result ≡ false → (byte : ℕ) → is_reached last byte ≡ true → is_reached other byte ≡ true }
+{
+    match (last, other) {
+        (_, None) => true,
+        (None, Some(_)) => false,
+        (Some(a), Some(b)) => a >= b,
+    }
+}
+
+impl Reach {
+    /// That of no run.
+    fn nobody() -> Reach
+        ensures empty { (kept : Run → Bool) → TellsOf kept result [] }
+        ensures left_out { (kept : Run → Bool) (run : Run) → kept run ≡ false → TellsOf kept result (run ∷ []) }
+    {
+        Reach {
+            holder: Holder { class: 0, number: 0 },
+            last: None,
+            other: None,
+        }
+    }
+
+    /// That of one run.
+    fn of(run: &Run) -> Reach
+        ensures { (kept : Run → Bool) → kept run.now ≡ true → TellsOf kept result (run.now ∷ []) }
+    {
+        Reach {
+            holder: run.holder(),
+            last: Some(run.span.last),
+            other: None,
+        }
+    }
+
+    /// That of the runs of both.
+    fn join(self, more: Reach) -> Reach
+        ensures { (kept : Run → Bool) (runs others : List Run) → TellsOf kept self runs → TellsOf kept more others → TellsOf kept result (runs ++ others) }
+    {
+        if self.holder == more.holder {
+            Reach {
+                holder: self.holder,
+                last: later(self.last, more.last),
+                other: later(self.other, more.other),
+            }
+        } else if is_as_late(self.last, more.last) {
+            Reach {
+                holder: self.holder,
+                last: self.last,
+                other: later(self.other, more.last),
+            }
+        } else {
+            Reach {
+                holder: more.holder,
+                last: more.last,
+                other: later(more.other, self.last),
+            }
+        }
+    }
+
+    /// Whether some run of another owner ends at this byte or behind it.
+    pub(crate) fn reaches(&self, holder: Holder, byte: u64) -> bool
+        ensures { result ≡ reaches self.now holder byte }
+    {
+        let last = if holder == self.holder {
+            self.other
+        } else {
+            self.last
+        };
+        match last {
+            None => false,
+            Some(last) => byte <= last,
+        }
+    }
+}
+
+impl Reaches {
+    /// How far the runs reach that conflict with a lock of this mode.
+    pub(crate) fn conflicting(&self, wanted: Mode) -> &Reach
+        ensures { (runs : List Run) → Tells self.now runs → TellsOf (λ run. conflicts_with wanted run.mode) result.now runs }
+    {
+        match wanted {
+            Mode::Read => &self.writes,
+            Mode::Write => &self.all,
+        }
+    }
+}
+
+impl Summary<Run> for Reaches {
+    ghost tells = { Tells };
+
+    fn none() -> Reaches {
+        Reaches {
+            all: Reach::nobody(),
+            writes: Reach::nobody(),
+        }
+    }
+
+    fn one(run: &Run) -> Reaches {
+        let reach = Reach::of(run);
+        let writes = match run.mode {
+            Mode::Read => Reach::nobody(),
+            Mode::Write => reach,
+        };
+        Reaches { all: reach, writes }
+    }
+
+    fn join(self, more: Reaches) -> Reaches {
+        Reaches {
+            all: self.all.join(more.all),
+            writes: self.writes.join(more.writes),
+        }
+    }
+}

@@ -1,0 +1,5 @@
+pub mod CutLemmas
+pub mod Depths
+pub mod Forks
+pub mod ListLemmas
+pub mod Splits

@@ -1,0 +1,5 @@
+pub mod Balance
+pub mod Contents
+pub mod Cuts
+pub mod Nodes
+pub mod Sides

@@ -1,0 +1,35 @@
+-- What a node stands for, and what holds of it.
+use Rattle.std.specs.Prelude.{◌≡◌, ℕ, ◌+◌, ◌<◌, ◌≤◌, ◌^◌, List, [], ◌++◌, length}
+use Rattle.summary_tree.specs.declared.subtree.Node.{Node}
+use Rattle.summary_tree.specs.declared.subtree.Link.{Link}
+use Rattle.summary_tree.specs.declared.subtree.Link.TheVariants.{Empty, Fork}
+use Rattle.summary_tree.specs.Balance.{IsBalanced}
+use Rattle.summary_tree.specs.Contents.{Parts}
+
+-- the items of a node and of its sides, in order
+abbrev pub items_of : {T S : Type 0} → Node T S → List T
+items_of node = node.left.items ++ (node.block ++ node.right.items)
+
+-- the nodes of a node and of its sides
+abbrev pub nodes_of : {T S : Type 0} → Node T S → ℕ
+nodes_of node = node.left.nodes + 1 + node.right.nodes
+
+-- what stands behind a link
+abbrev pub parts_behind : {T S : Type 0} → Link T S → Parts T
+parts_behind Empty = record { items = []; nodes = 0 }
+parts_behind (Fork node) = record { items = items_of node.value; nodes = nodes_of node.value }
+
+-- the node counts its items and its nodes, none of which is empty, tells of the items, and is balanced
+pub record IsKeptNode {T S : Type 0} (tells : S → List T → Type 0) (node : Node T S) : Type 0 where
+  pub count : node.count ≡ length (items_of node)
+  pub nodes : node.nodes ≡ nodes_of node
+  pub few : node.nodes ≤ node.count
+  pub fits : node.count < 2 ^ 64
+  pub filled : 0 < length node.block
+  pub summary : tells node.summary (items_of node)
+  pub balance : IsBalanced node.left.nodes node.right.nodes
+
+-- the node, if there is one, is kept
+abbrev pub IsKept : {T S : Type 0} → (S → List T → Type 0) → Link T S → Type 0
+IsKept tells Empty = Unit {0}
+IsKept tells (Fork node) = IsKeptNode tells node.value

@@ -1,0 +1,258 @@
+//! Items that lie side by side.
+ghost use Rattle.std.specs.Prelude.{◌≡◌, ◌+◌, ◌<◌, ◌≤◌, [], ◌∷◌, ◌++◌, length, take, drop, true, Some, IfOk, slice_index_or, List};
+ghost use Rattle.std.specs.List.{find, position_or_len, insert, remove};
+ghost use Rattle.summary_tree.specs.Cuts.{before, both, first_passes, last_passes, put_before, without_first};
+
+use crate::{BLOCK, Cut, Query, Summary, Walk};
+use std::alloc::{AllocError, Global};
+use std::marker::Model;
+
+/// Up to [`BLOCK`] items in order, and what is kept of them.
+#[derive(Drop)]
+pub(crate) struct Block<T: Copy, S: Summary<T> + Copy> {
+    items: Vec<T>,
+    summary: S,
+}
+
+impl<T: Copy, S: Summary<T> + Copy> Model for Block<T, S> {
+    ghost use Rattle.std.specs.Prelude.{List, ◌≤◌, vec_len, vec_capacity};
+
+    ghost Value = { List T };
+
+    ghost view = { λ a. a.items.items };
+
+    ghost invariant = { λ a. S.tells a.summary a.items.items × (32 ≤ vec_capacity a.items) × (vec_len a.items ≤ 32) };
+}
+
+impl<T: Copy, S: Summary<T> + Copy> Block<T, S> {
+    /// No item.
+    pub(crate) fn new(alloc: Global) -> Result<Self, AllocError>
+        ensures { IfOk result (λ block. block ≡ []) }
+    {
+        let items = Vec::with_capacity(alloc, BLOCK)?;
+        Ok(Block {
+            items,
+            summary: S::none(),
+        })
+    }
+
+    /// How many items there are.
+    pub(crate) fn len(&self) -> usize
+        ensures len { result ≡ length self.now }
+        ensures few { result ≤ 32 }
+    {
+        self.items.len()
+    }
+
+    /// The summary of the items.
+    pub(crate) fn summary(&self) -> S
+        ensures { S.tells result self.now }
+    {
+        self.summary
+    }
+
+    /// The first item that is looked for.
+    pub(crate) fn first_where<Q: Query<T, S>>(&self, query: &Q) -> Option<T>
+        ensures { result ≡ find (Q.hits query.now) self.now }
+    {
+        if !query.may_hit(&self.summary) {
+            return None;
+        }
+        for item in &self.items {
+            if query.hits(item) {
+                return Some(*item);
+            }
+        }
+        None
+    }
+
+    /// The first item from a place on that is looked for.
+    pub(crate) fn first_where_from<C: Cut<T>, Q: Query<T, S>>(&self, cut: &C, query: &Q) -> Option<T>
+        ensures { result ≡ find (both (C.is_behind cut.now) (Q.hits query.now)) self.now }
+    {
+        for item in &self.items {
+            if cut.is_behind(item) && query.hits(item) {
+                return Some(*item);
+            }
+        }
+        None
+    }
+
+    /// The first item from a place on.
+    pub(crate) fn first_from<C: Cut<T>>(&self, cut: &C) -> Option<T>
+        ensures { result ≡ find (C.is_behind cut.now) self.now }
+    {
+        for item in &self.items {
+            if cut.is_behind(item) {
+                return Some(*item);
+            }
+        }
+        None
+    }
+
+    /// Gathers from all items.
+    pub(crate) fn walk<W: Walk<T, S>>(&self, walk: &mut W)
+        ensures { (seen : List T) → W.gathers walk.old seen → W.gathers walk.new (seen ++ self.now) }
+    {
+        if walk.see_all(&self.summary) {
+            return;
+        }
+        for item in &self.items {
+            walk.see(item);
+        }
+    }
+
+    /// Gathers from the items before a place.
+    pub(crate) fn walk_before<C: Cut<T>, W: Walk<T, S>>(&self, cut: &C, walk: &mut W)
+        ensures { (seen : List T) → W.gathers walk.old seen → W.gathers walk.new (seen ++ before (C.is_behind cut.now) self.now) }
+    {
+        for item in &self.items {
+            if cut.is_behind(item) {
+                return;
+            }
+            walk.see(item);
+        }
+    }
+
+    /// How many items stand before the first that stands at a place or behind it.
+    pub(crate) fn place_of<C: Cut<T>>(&self, cut: &C) -> usize
+        ensures { result ≡ position_or_len (C.is_behind cut.now) self.now }
+    {
+        for (place, item) in self.items.iter().enumerate() {
+            if cut.is_behind(item) {
+                return place;
+            }
+        }
+        self.items.len()
+    }
+
+    /// Whether the first item stands at a place or behind it.
+    pub(crate) fn begins_behind<C: Cut<T>>(&self, cut: &C) -> bool
+        requires { 0 < length self.now }
+        ensures { result ≡ first_passes (C.is_behind cut.now) self.now }
+    {
+        cut.is_behind(&self.items[0])
+    }
+
+    /// Whether the last item stands at a place or behind it.
+    pub(crate) fn ends_behind<C: Cut<T>>(&self, cut: &C) -> bool
+        requires { 0 < length self.now }
+        ensures { result ≡ last_passes (C.is_behind cut.now) self.now }
+    {
+        cut.is_behind(&self.items[self.items.len() - 1])
+    }
+
+    /// Puts an item into an empty block.
+    pub(crate) fn put_first(&mut self, item: T)
+        requires { self.old ≡ [] }
+        ensures { self.new ≡ item ∷ [] }
+    {
+        self.insert(0, item);
+    }
+
+    /// Puts an item in before the first that stands at a place or behind it.
+    #[tactic(auto, using(crate::proofs::Splits::put_at_place, crate::proofs::Splits::length_put, crate::proofs::Splits::place_le))]
+    pub(crate) fn put<C: Cut<T>>(&mut self, cut: &C, item: T)
+        requires { length self.old < 32 }
+        ensures items { self.new ≡ put_before (C.is_behind cut.now) item self.old }
+        ensures count { length self.new ≡ length self.old + 1 }
+    {
+        let place = self.place_of(cut);
+        self.insert(place, item);
+    }
+
+    /// The same where there is no room: some of the items go into an empty block.
+    #[tactic(auto, using(crate::proofs::Splits::put_at_place, crate::proofs::Splits::length_put, crate::proofs::Splits::place_le))]
+    pub(crate) fn put_in_full<C: Cut<T>>(&mut self, cut: &C, item: T, next: &mut Self)
+        requires full { length self.old ≡ 32 }
+        requires empty { next.old ≡ [] }
+        ensures items { self.new ++ next.new ≡ put_before (C.is_behind cut.now) item self.old }
+        ensures count { length self.new + length next.new ≡ 33 }
+        ensures filled { 0 < length self.new }
+        ensures next { 0 < length next.new }
+    {
+        let place = self.place_of(cut);
+        self.insert_in_full(place, item, next);
+    }
+
+    /// Puts an item before the one that stands at a place.
+    fn insert(&mut self, place: usize, item: T)
+        requires place { place ≤ length self.old }
+        requires room { length self.old < 32 }
+        ensures { self.new ≡ insert self.old place item }
+    {
+        self.items.insert(place, item).unwrap();
+        self.summary = summary_of(&self.items);
+    }
+
+    /// The same where there is no room: some of the items go into an empty block.
+    ///
+    /// Only an item in the midst splits the items in halves: where items come in order full blocks stay behind.
+    fn insert_in_full(&mut self, place: usize, item: T, next: &mut Self)
+        requires place { place ≤ length self.old }
+        requires full { length self.old ≡ 32 }
+        requires empty { next.old ≡ [] }
+        ensures items { self.new ++ next.new ≡ insert self.old place item }
+        ensures filled { 0 < length self.new }
+        ensures next { 0 < length next.new }
+    {
+        if place == BLOCK {
+            next.insert(0, item);
+        } else if place == 0 {
+            self.move_from(0, next);
+            self.insert(0, item);
+        } else if place <= BLOCK / 2 {
+            self.move_from(BLOCK / 2, next);
+            self.insert(place, item);
+        } else {
+            self.move_from(BLOCK / 2, next);
+            next.insert(place - BLOCK / 2, item);
+        }
+    }
+
+    /// Takes out the item at a place.
+    fn remove(&mut self, place: usize) -> T
+        requires { place < length self.old }
+        ensures item { result ≡ slice_index_or self.old place result }
+        ensures rest { self.new ≡ remove self.old place }
+    {
+        let item = self.items.remove(place);
+        self.summary = summary_of(&self.items);
+        item
+    }
+
+    /// Takes out the first item that stands at a place or behind it, where one does.
+    pub(crate) fn take<C: Cut<T>>(&mut self, cut: &C) -> T
+        requires { last_passes (C.is_behind cut.now) self.old ≡ true }
+        ensures item { Some result ≡ find (C.is_behind cut.now) self.old }
+        ensures rest { self.new ≡ without_first (C.is_behind cut.now) self.old }
+        ensures count { length self.new + 1 ≡ length self.old }
+    {
+        let place = self.place_of(cut);
+        self.remove(place)
+    }
+
+    /// Moves the items from a place on into an empty block.
+    fn move_from(&mut self, place: usize, next: &mut Self)
+        requires place { place ≤ length self.old }
+        requires empty { next.old ≡ [] }
+        ensures front { self.new ≡ take place self.old }
+        ensures back { next.new ≡ drop place self.old }
+    {
+        next.items.extend_from_slice(&self.items[place..]).unwrap();
+        next.summary = summary_of(&next.items);
+        self.items.truncate(place);
+        self.summary = summary_of(&self.items);
+    }
+}
+
+/// The summary of items.
+fn summary_of<T: Copy, S: Summary<T> + Copy>(items: &[T]) -> S
+    ensures { S.tells result items.now }
+{
+    let mut summary = S::none();
+    for item in items {
+        summary = summary.join(S::one(item));
+    }
+    summary
+}

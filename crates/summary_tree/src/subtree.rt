@@ -1,0 +1,220 @@
+//! The nodes, and what is asked of them.
+ghost use Rattle.std.specs.Prelude.{◌≡◌, ◌+◌, ◌*◌, ◌<◌, ◌≤◌, ◌^◌, [], ◌∷◌, ◌++◌, List, length};
+ghost use Rattle.std.specs.List.{find};
+ghost use Rattle.summary_tree.specs.Cuts.{before, both, IsCutBy};
+
+mod balancing;
+mod changing;
+
+use crate::block::Block;
+use crate::{Cut, Query, Summary, Walk};
+use std::marker::Model;
+
+/// A list of items in nodes, seen as that list and the number of nodes.
+#[cycle(tree)]
+#[derive(Drop)]
+pub(crate) struct Subtree<T: Copy, S: Summary<T> + Copy> {
+    link: Link<T, S>,
+}
+
+/// A node, if there is one.
+#[cycle(tree)]
+#[derive(Drop)]
+enum Link<T: Copy, S: Summary<T> + Copy> {
+    Empty,
+    Fork(Box<Node<T, S>>),
+}
+
+/// Some items, those before them and those behind them, and what is kept of all of these.
+#[cycle(tree)]
+#[derive(Drop)]
+pub(crate) struct Node<T: Copy, S: Summary<T> + Copy> {
+    pub(crate) left: Subtree<T, S>,
+    pub(crate) block: Block<T, S>,
+    pub(crate) count: u64,
+    pub(crate) nodes: u64,
+    pub(crate) summary: S,
+    pub(crate) right: Subtree<T, S>,
+}
+
+impl<T: Copy, S: Summary<T> + Copy> Model for Subtree<T, S> {
+    ghost use Rattle.summary_tree.specs.Contents.{Parts};
+
+    ghost Value = { Parts T };
+
+    ghost use Rattle.summary_tree.specs.Nodes.{parts_behind, IsKept};
+
+    ghost view = { λ a. parts_behind a.link };
+
+    ghost invariant = { λ a. IsKept S.tells a.link };
+
+    ghost size = { λ parts. parts.nodes };
+
+    ghost use Rattle.std.proofs.Common.{arith};
+
+    ghost size_decreases = { λ a h. Prim.grind arith };
+}
+
+impl<T: Copy, S: Summary<T> + Copy> Subtree<T, S> {
+    /// No item. It takes no memory.
+    pub(crate) fn new() -> Self
+        ensures items { result.items ≡ [] }
+        ensures nodes { result.nodes ≡ 0 }
+    {
+        Subtree { link: Link::Empty }
+    }
+
+    /// How many items there are.
+    pub(crate) fn len(&self) -> u64
+        ensures { result ≡ length self.now.items }
+    {
+        match &self.link {
+            Link::Empty => 0,
+            Link::Fork(node) => node.count,
+        }
+    }
+
+    /// How many nodes there are.
+    pub(crate) fn nodes(&self) -> u64
+        ensures nodes { result ≡ self.now.nodes }
+        ensures few { result ≤ length self.now.items }
+        ensures none { result ≡ 0 → self.now.items ≡ [] }
+    {
+        match &self.link {
+            Link::Empty => 0,
+            Link::Fork(node) => node.nodes,
+        }
+    }
+
+    /// How many nodes the longest way down goes through.
+    pub(crate) fn depth(&self) -> u64
+        ensures many { self.now.nodes < 2 ^ result }
+        ensures few { 4 ^ result ≤ 3 ^ result * (self.now.nodes + 1) }
+        ensures within { result ≤ self.now.nodes }
+    {
+        match &self.link {
+            Link::Empty => 0,
+            Link::Fork(node) => {
+                let node: &Node<T, S> = node;
+                let left = node.left.depth();
+                let right = node.right.depth();
+                if left < right { right + 1 } else { left + 1 }
+            }
+        }
+    }
+
+    /// The summary of all items.
+    fn summary(&self) -> S
+        ensures { S.tells result self.now.items }
+    {
+        match &self.link {
+            Link::Empty => S::none(),
+            Link::Fork(node) => node.summary,
+        }
+    }
+
+    /// The first item that is looked for.
+    pub(crate) fn first_where<Q: Query<T, S>>(&self, query: &Q) -> Option<T>
+        ensures { result ≡ find (Q.hits query.now) self.now.items }
+    {
+        match &self.link {
+            Link::Empty => None,
+            Link::Fork(node) => {
+                let node: &Node<T, S> = node;
+                // Where a subtree has no hit this is its only step, so one path is gone down.
+                if !query.may_hit(&node.summary) {
+                    return None;
+                }
+                if let Some(found) = node.left.first_where(query) {
+                    return Some(found);
+                }
+                if let Some(found) = node.block.first_where(query) {
+                    return Some(found);
+                }
+                node.right.first_where(query)
+            }
+        }
+    }
+
+    /// The first item from a place on that is looked for.
+    pub(crate) fn first_where_from<C: Cut<T>, Q: Query<T, S>>(&self, cut: &C, query: &Q) -> Option<T>
+        requires { IsCutBy (C.is_behind cut.now) self.now.items }
+        ensures { result ≡ find (both (C.is_behind cut.now) (Q.hits query.now)) self.now.items }
+    {
+        match &self.link {
+            Link::Empty => None,
+            Link::Fork(node) => {
+                let node: &Node<T, S> = node;
+                if !node.block.ends_behind(cut) {
+                    return node.right.first_where_from(cut, query);
+                }
+                if let Some(found) = node.left.first_where_from(cut, query) {
+                    return Some(found);
+                }
+                if let Some(found) = node.block.first_where_from(cut, query) {
+                    return Some(found);
+                }
+                let behind = &node.right;
+                behind.first_where(query)
+            }
+        }
+    }
+
+    /// The first item from a place on.
+    pub(crate) fn first_from<C: Cut<T>>(&self, cut: &C) -> Option<T>
+        requires { IsCutBy (C.is_behind cut.now) self.now.items }
+        ensures { result ≡ find (C.is_behind cut.now) self.now.items }
+    {
+        match &self.link {
+            Link::Empty => None,
+            Link::Fork(node) => {
+                let node: &Node<T, S> = node;
+                if !node.block.ends_behind(cut) {
+                    return node.right.first_from(cut);
+                }
+                if let Some(found) = node.left.first_from(cut) {
+                    return Some(found);
+                }
+                node.block.first_from(cut)
+            }
+        }
+    }
+
+    /// Gathers from all items.
+    pub(crate) fn walk<W: Walk<T, S>>(&self, walk: &mut W)
+        ensures { (seen : List T) → W.gathers walk.old seen → W.gathers walk.new (seen ++ self.now.items) }
+    {
+        match &self.link {
+            Link::Empty => {}
+            Link::Fork(node) => {
+                let node: &Node<T, S> = node;
+                if walk.see_all(&node.summary) {
+                    return;
+                }
+                node.left.walk(walk);
+                node.block.walk(walk);
+                node.right.walk(walk);
+            }
+        }
+    }
+
+    /// Gathers from the items before a place.
+    pub(crate) fn walk_before<C: Cut<T>, W: Walk<T, S>>(&self, cut: &C, walk: &mut W)
+        requires { IsCutBy (C.is_behind cut.now) self.now.items }
+        ensures { (seen : List T) → W.gathers walk.old seen → W.gathers walk.new (seen ++ before (C.is_behind cut.now) self.now.items) }
+    {
+        match &self.link {
+            Link::Empty => {}
+            Link::Fork(node) => {
+                let node: &Node<T, S> = node;
+                if node.block.begins_behind(cut) {
+                    node.left.walk_before(cut, walk);
+                    return;
+                }
+                node.left.walk(walk);
+                node.block.walk_before(cut, walk);
+                node.right.walk_before(cut, walk);
+            }
+        }
+    }
+}

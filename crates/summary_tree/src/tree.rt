@@ -1,0 +1,147 @@
+//! The tree as others see it.
+ghost use Rattle.std.specs.Prelude.{◌≡◌, ◌+◌, ◌*◌, ◌<◌, ◌≤◌, ◌^◌, [], ◌++◌, List, length, IsOk, OnOk, OnErr};
+ghost use Rattle.std.specs.List.{find};
+ghost use Rattle.summary_tree.specs.Cuts.{before, both, IsCutBy, put_before, without_first};
+
+use crate::places::Places;
+use crate::subtree::Subtree;
+use crate::{Cut, Query, Summary, Walk};
+use range_core::{Memory, counted};
+use std::alloc::Global;
+use std::marker::Model;
+
+/// A list of items, and room for more.
+///
+/// Nothing but [`Tree::reserve`] takes memory. It knows of no order: an item stands where a [`Cut`] puts it.
+#[derive(Drop)]
+pub struct Tree<T: Copy, S: Summary<T> + Copy> {
+    items: Subtree<T, S>,
+    /// For how many more items room is held, however many places there are.
+    room: u64,
+    places: Places<T, S>,
+}
+
+impl<T: Copy, S: Summary<T> + Copy> Model for Tree<T, S> {
+    ghost use Rattle.std.specs.Prelude.{◌+◌, ◌<◌, ◌≤◌, ◌^◌, length};
+    ghost use Rattle.summary_tree.specs.Contents.{Contents};
+
+    ghost Value = { Contents T };
+
+    ghost view = { λ a. record { items = a.items.items; room = a.room } };
+
+    ghost invariant = { λ a. (a.room ≤ a.places) × (length a.items.items + a.room < 2 ^ 64) };
+}
+
+impl<T: Copy, S: Summary<T> + Copy> Tree<T, S> {
+    /// No item and no room. It takes no memory.
+    pub fn new(alloc: Global) -> Self
+        ensures items { result.items ≡ [] }
+        ensures room { result.room ≡ 0 }
+    {
+        Tree {
+            items: Subtree::new(),
+            room: 0,
+            places: Places::new(alloc),
+        }
+    }
+
+    /// How many items there are.
+    pub fn len(&self) -> u64
+        ensures { result ≡ length self.now.items }
+    {
+        self.items.len()
+    }
+
+    /// For how many more items there is room.
+    pub fn room(&self) -> u64
+        ensures { result ≡ self.now.room }
+    {
+        self.room
+    }
+
+    /// How many nodes the longest way down goes through: their logarithm to the base 4/3 at most.
+    pub fn depth(&self) -> u64
+        ensures { 4 ^ result ≤ 3 ^ result * (length self.now.items + 1) }
+    {
+        // The proof reads from it that there are no more nodes than items.
+        let nodes = self.items.nodes();
+        self.items.depth()
+    }
+
+    /// The first item that is looked for.
+    pub fn first_where<Q: Query<T, S>>(&self, query: &Q) -> Option<T>
+        ensures { result ≡ find (Q.hits query.now) self.now.items }
+    {
+        self.items.first_where(query)
+    }
+
+    /// The first item from a place on.
+    pub fn first_from<C: Cut<T>>(&self, cut: &C) -> Option<T>
+        requires { IsCutBy (C.is_behind cut.now) self.now.items }
+        ensures { result ≡ find (C.is_behind cut.now) self.now.items }
+    {
+        self.items.first_from(cut)
+    }
+
+    /// The first item from a place on that is looked for.
+    pub fn first_where_from<C: Cut<T>, Q: Query<T, S>>(&self, cut: &C, query: &Q) -> Option<T>
+        requires { IsCutBy (C.is_behind cut.now) self.now.items }
+        ensures { result ≡ find (both (C.is_behind cut.now) (Q.hits query.now)) self.now.items }
+    {
+        self.items.first_where_from(cut, query)
+    }
+
+    /// Gathers from all items, in order.
+    pub fn walk<W: Walk<T, S>>(&self, walk: &mut W)
+        ensures { (seen : List T) → W.gathers walk.old seen → W.gathers walk.new (seen ++ self.now.items) }
+    {
+        self.items.walk(walk)
+    }
+
+    /// Gathers from the items before a place, in order.
+    pub fn walk_before<C: Cut<T>, W: Walk<T, S>>(&self, cut: &C, walk: &mut W)
+        requires { IsCutBy (C.is_behind cut.now) self.now.items }
+        ensures { (seen : List T) → W.gathers walk.old seen → W.gathers walk.new (seen ++ before (C.is_behind cut.now) self.now.items) }
+    {
+        self.items.walk_before(cut, walk)
+    }
+
+    /// Holds room for so many more items in all, counting the room already there.
+    ///
+    /// `Memory`, which never comes where that room is there, leaves the tree as it was.
+    pub fn reserve(&mut self, count: u64) -> Result<(), Memory>
+        ensures items { self.new.items ≡ self.old.items }
+        ensures kept { self.old.room ≤ self.new.room }
+        ensures ok { OnOk result (count ≤ self.new.room) }
+        ensures there { count ≤ self.old.room → IsOk result }
+        ensures err { OnErr result (self.new.room ≡ self.old.room) }
+    {
+        if self.room < count {
+            counted(self.items.len(), count)?;
+            self.places.grow(count)?;
+            self.room = count;
+        }
+        Ok(())
+    }
+
+    /// Puts an item in before the first that stands at a place or behind it, and uses up room for one. It takes no memory.
+    pub fn put<C: Cut<T>>(&mut self, cut: &C, item: T)
+        requires cut { IsCutBy (C.is_behind cut.now) self.old.items }
+        requires room { 0 < self.old.room }
+        ensures items { self.new.items ≡ put_before (C.is_behind cut.now) item self.old.items }
+        ensures room { self.new.room + 1 ≡ self.old.room }
+    {
+        self.items.put(cut, item, &mut self.places);
+        self.room -= 1;
+    }
+
+    /// Takes out the first item that stands at a place or behind it; the room stays. It takes no memory.
+    pub fn take<C: Cut<T>>(&mut self, cut: &C) -> Option<T>
+        requires { IsCutBy (C.is_behind cut.now) self.old.items }
+        ensures item { result ≡ find (C.is_behind cut.now) self.old.items }
+        ensures rest { self.new.items ≡ without_first (C.is_behind cut.now) self.old.items }
+        ensures room { self.new.room ≡ self.old.room }
+    {
+        self.items.take(cut)
+    }
+}

@@ -1,0 +1,200 @@
+//! Trees of numbers that grow and shrink at their ends, and what a refused growth leaves. That items come and go in the midst the
+//! tests of `interval_index` try beside a list.
+ghost use Rattle.std.specs.Prelude.{true, false};
+ghost use Rattle.std.specs.Bool.{nat_le};
+
+use std::process::Abort;
+use std::test::Fail;
+use summary_tree::{Cut, Query, Summary, Tree, Walk};
+
+/// How many numbers there are, and their sum.
+#[derive(Clone, Copy, Debug, PartialEq, Eq)]
+struct Total {
+    count: u64,
+    sum: u64,
+}
+
+impl Summary<u64> for Total {
+    ghost tells = { λ _ _. Unit {0} };
+
+    fn none() -> Total {
+        Total { count: 0, sum: 0 }
+    }
+
+    fn one(number: &u64) -> Total {
+        Total {
+            count: 1,
+            sum: *number,
+        }
+    }
+
+    fn join(self, more: Total) -> Total {
+        Total {
+            count: self.count.wrapping_add(more.count),
+            sum: self.sum.wrapping_add(more.sum),
+        }
+    }
+}
+
+/// Numbers from this one on.
+#[derive(Clone, Copy)]
+struct From(u64);
+
+impl Query<u64, Total> for From {
+    ghost hits = { λ query number. nat_le query.0 number };
+
+    fn hits(&self, number: &u64) -> bool {
+        self.0 <= *number
+    }
+
+    fn may_hit(&self, _total: &Total) -> bool {
+        true
+    }
+}
+
+/// The place before all numbers.
+#[derive(Clone, Copy)]
+struct Front;
+
+impl Cut<u64> for Front {
+    ghost is_behind = { λ _ _. true };
+
+    fn is_behind(&self, _number: &u64) -> bool {
+        true
+    }
+}
+
+/// The place behind them.
+#[derive(Clone, Copy)]
+struct Back;
+
+impl Cut<u64> for Back {
+    ghost is_behind = { λ _ _. false };
+
+    fn is_behind(&self, _number: &u64) -> bool {
+        false
+    }
+}
+
+/// What was gathered, and in how many steps.
+struct Gathered {
+    total: Total,
+    steps: u64,
+}
+
+impl Walk<u64, Total> for Gathered {
+    ghost gathers = { λ _ _. Unit {0} };
+
+    fn see(&mut self, number: &u64) {
+        self.total = self.total.join(Total::one(number));
+        self.steps = self.steps.wrapping_add(1);
+    }
+
+    /// It takes the summaries of a thousand numbers at most, so that it goes down too.
+    fn see_all(&mut self, total: &Total) -> bool {
+        self.steps = self.steps.wrapping_add(1);
+        if total.count > 1000 {
+            return false;
+        }
+        self.total = self.total.join(*total);
+        true
+    }
+}
+
+/// What a walk gathers, and whether it took fewer than so many steps.
+fn gathered(tree: &Tree<u64, Total>, steps: u64) -> (Total, bool) {
+    let mut gathered = Gathered {
+        total: Total::none(),
+        steps: 0,
+    };
+    tree.walk(&mut gathered);
+    (gathered.total, gathered.steps < steps)
+}
+
+/// The sum of the numbers below one.
+fn sum_below(count: u64) -> u64 {
+    count.wrapping_mul(count.wrapping_sub(1)) / 2
+}
+
+/// Puts a number behind all others.
+#[tactic(auto, using(crate::proofs::Ends::cut_nowhere))]
+fn push_back(rt: &impl Abort, tree: &mut Tree<u64, Total>, number: u64) {
+    assert!(rt; tree.room() > 0);
+    tree.put(&Back, number);
+}
+
+/// Puts a number before all others.
+#[tactic(auto, using(crate::proofs::Ends::cut_everywhere))]
+fn push_front(rt: &impl Abort, tree: &mut Tree<u64, Total>, number: u64) {
+    assert!(rt; tree.room() > 0);
+    tree.put(&Front, number);
+}
+
+/// Takes out the first number.
+#[tactic(auto, using(crate::proofs::Ends::cut_everywhere))]
+fn pop_front(tree: &mut Tree<u64, Total>) -> Option<u64> {
+    tree.take(&Front)
+}
+
+#[test]
+fn rising_numbers(rt: HostRuntime) -> Result<(), Fail> {
+    let mut tree: Tree<u64, Total> = Tree::new(rt.alloc());
+    for number in 0..100000u64 {
+        tree.reserve(1)?;
+        assert_eq!(rt; tree.room(), 1);
+        push_back(&rt, &mut tree, number);
+        assert_eq!(rt; tree.room(), 0);
+    }
+    assert_eq!(rt; tree.len(), 100000);
+    // Full blocks: 3,125 nodes.
+    assert!(rt; tree.depth() <= 20, "{}", tree.depth());
+    assert_eq!(rt; tree.first_where(&From(77777)), Some(77777));
+    assert_eq!(rt; tree.first_where(&From(100000)), None);
+    let (total, is_short) = gathered(&tree, 2000);
+    assert_eq!(rt; total, Total { count: 100000, sum: sum_below(100000) });
+    assert!(rt; is_short);
+
+    for number in 0..100000u64 {
+        assert_eq!(rt; pop_front(&mut tree), Some(number));
+    }
+    assert_eq!(rt; pop_front(&mut tree), None);
+    assert_eq!(rt; tree.len(), 0);
+    assert_eq!(rt; tree.depth(), 0);
+    Ok(())
+}
+
+#[test]
+fn falling_numbers_in_room_that_is_held(rt: HostRuntime) -> Result<(), Fail> {
+    let mut tree: Tree<u64, Total> = Tree::new(rt.alloc());
+    tree.reserve(3000)?;
+    for number in 0..3000u64 {
+        push_front(&rt, &mut tree, 2999u64.wrapping_sub(number));
+    }
+    assert_eq!(rt; tree.room(), 0);
+    assert!(rt; tree.depth() <= 10);
+    for number in 0..3000u64 {
+        assert_eq!(rt; tree.first_where(&From(number)), Some(number));
+    }
+    for number in 0..3000u64 {
+        assert_eq!(rt; pop_front(&mut tree), Some(number));
+        assert_eq!(rt; tree.len(), 2999u64.wrapping_sub(number));
+    }
+    Ok(())
+}
+
+/// With `--fail-alloc N` one of these growths is refused, and then the tree is as it was.
+#[test]
+fn a_refused_growth_leaves_the_tree_as_it_was(rt: HostRuntime) -> Result<(), Fail> {
+    let mut tree: Tree<u64, Total> = Tree::new(rt.alloc());
+    for number in 0..70u64 {
+        let room = tree.room();
+        if tree.reserve(2).is_err() {
+            assert_eq!(rt; tree.room(), room);
+            assert_eq!(rt; tree.len(), number);
+            tree.reserve(2)?;
+        }
+        push_back(&rt, &mut tree, number);
+    }
+    assert_eq!(rt; tree.len(), 70);
+    Ok(())
+}
