@@ -1,8 +1,8 @@
 -- A line of a journal has one answer: one meaning, and one text of what is there in its place; for `lines_have_one_answer`.
 use Rattle.std.proofs.lemmas.Grind.{common_steps}
-use Rattle.std.proofs.Common.{rules, ◌≡◌, ℕ, ◌+◌, ◌≤◌, ◌==◌, List, [], ◌∷◌, ◌++◌, length, drop, inl, inr, codes, Some, IfSome, slice_get, refl, sym, ap, ◌∙◌, subst, arith, eq-eqb}
+use Rattle.std.proofs.Common.{rules, ◌≡◌, ℕ, ◌+◌, ◌≤◌, ◌==◌, List, [], ◌∷◌, ◌++◌, All, length, drop, inl, inr, codes, Some, IfSome, slice_get, refl, sym, ap, ◌∙◌, subst, arith, eq-eqb}
 use Rattle.std.proofs.lemmas.List.{length-drop}
-use Rattle.std.proofs.lemmas.List.Elements.{filter-append}
+use Rattle.std.proofs.lemmas.List.Elements.{filter-append, recursion_from_All}
 use Rattle.lock_book.specs.OneReport.{LocksHaveOneReport}
 use Rattle.lock_manager.specs.declared.request.Rules.{Rules}
 use Rattle.lock_manager.specs.declared.request.Note.{Note}
@@ -18,11 +18,11 @@ use Rattle.script_core.specs.declared.place.JournalLine.TheVariants as lines
 use Rattle.script_core.specs.declared.report.ReportLine.{ReportLine}
 use Rattle.script_core.specs.EntryText.{entry_text}
 use Rattle.script_core.specs.ExpectedText.{expected_text, due_text}
-use Rattle.script_core.specs.ReportReading.{AreTextsOf, first_due}
+use Rattle.script_core.specs.ReportReading.{AreTextsOf, HasFewTaken, first_due}
 use Rattle.script_core.specs.JournalReading.{LinesHaveOneMeaning, rules_at, processes_at}
 use Rattle.script_core.specs.JournalView.{AreLeft, OneIsTold}
 use Rattle.script_core.proofs.JournalLemmas.{one_meaning}
-use Rattle.script_core.proofs.JournalReportLemmas.{some_texts, all_texts, one_report}
+use Rattle.script_core.proofs.JournalReportLemmas.{some_texts, one_report}
 
 pub one_meaning_each : LinesHaveOneMeaning
 one_meaning_each place line = one_meaning place line
@@ -102,11 +102,11 @@ no_more_texts (line ∷ left) (text ∷ texts) (inl here) = let rest = no_more_t
 no_more_texts (line ∷ left) (text ∷ texts) (inr out) = let rest = no_more_texts left (text ∷ texts) out.1.1 in omega (arith, rest)
 
 -- and may have as many, so lines whose texts others have are no more than these
-no_more_left : (a b : List ReportLine) → ((texts : List (List ℕ)) → AreTextsOf a texts → AreTextsOf b texts) → length a ≤ length b
-no_more_left a b has =
-    let texts = some_texts a in
+no_more_left : (a b : List ReportLine) → All HasFewTaken a → ((texts : List (List ℕ)) → AreTextsOf a texts → AreTextsOf b texts) → length a ≤ length b
+no_more_left a b taken has =
+    let texts = some_texts a (recursion_from_All HasFewTaken a taken) in
     let few = no_more_texts b texts.0 (has texts.0 texts.1) in
-    let all = all_texts a in omega (arith, few, all)
+    let all = texts.2 in omega (arith, few, all)
 
 one_left : LocksHaveOneReport → (place : Place) (entries : List Event) (texts : List (List ℕ)) (a b : List ReportLine) → AreLeft place entries texts a
     → AreLeft place entries texts b → a ≡ b

@@ -1,42 +1,47 @@
 -- The lines of a report in a journal, for `JournalReader`: whether it may go on with one, and whether it may end.
-use Rattle.std.proofs.Common.{arith, ◌≡◌, ℕ, Bool, true, List, [], ◌∷◌, ◌++◌, Option, Some, None, MatchOption, inl, refl, sym, ap, subst, lit<, append_assoc, append-nil, suc, length}
+use Rattle.std.proofs.Common.{arith, ◌≡◌, ℕ, zero, ◌<◌, ◌≤◌, ◌^◌, Bool, true, IsTrue, All, List, [], ◌∷◌, ◌++◌, Option, Some, None, MatchOption, inl, refl, sym, ap, subst, lit<, append_assoc, append-nil, suc, length}
 use Rattle.std.proofs.lemmas.Grind.{common_steps}
+use Rattle.std.specs.List.{AllByRecursion as Each}
 use Rattle.std.proofs.lemmas.List.{drop-drop}
+use Rattle.std.proofs.lemmas.List.Elements.{All-drop, recursion_from_All}
 use Rattle.lock_book.specs.OneReport.{LocksHaveOneReport}
 use Rattle.lock_manager.specs.State.{State}
 use Rattle.lock_manager.specs.declared.request.ProcState.{ProcState}
 use Rattle.session_core.specs.Event.{Event}
 use Rattle.session_core.specs.Runs.{IsRun}
 use Rattle.script_core.specs.declared.place.Place.{Place}
+use Rattle.script_core.specs.declared.report_text.ProcessLine.{ProcessLine}
 use Rattle.script_core.specs.declared.report.ReportLine.{ReportLine}
 use Rattle.script_core.specs.declared.report.ReportLine.TheVariants as lines
 use Rattle.script_core.specs.ReportText.{is_reported, process_text}
-use Rattle.script_core.specs.ReportReading.{line_text, IsLineOf, MayBeLeftOut, may_be_left_out, AreTextsOf, IsFirstDue, first_due, GoesOn, AreLastOf, AreReportLines}
+use Rattle.script_core.specs.ReportReading.{line_text, IsLineOf, MayBeLeftOut, may_be_left_out, AreTextsOf, IsFirstDue, first_due, GoesOn, AreLastOf, AreReportLines, HasFewTaken}
 use Rattle.script_core.specs.JournalReading.{rules_at, processes_at, AreLegal, IsReportFront, IsWholeReport}
 use Rattle.script_core.specs.JournalView.{AreLeft}
 
--- each line has a text
-reported_once : (state : ProcState) → is_reported state 1 ≡ true
-reported_once state = grind (arith, common_steps)
+-- each line has a text: a process may have sent what was taken, and one more where that is nothing
+reported_once : (state : ProcState) (n : ℕ) → is_reported state (suc n) ≡ true
+reported_once state n = grind (arith, common_steps)
 
-some_text : (line : ReportLine) → (text : List ℕ) × IsLineOf line text
-some_text (lines.Held held) = (line_text (lines.Held held), refl)
-some_text (lines.Waits wait) = (line_text (lines.Waits wait), refl)
-some_text (lines.Process told) = (process_text (record told { sent = 1 }), (1, lit< tt, reported_once told.state, refl))
+count_of : (told : ProcessLine) (taken : ℕ) → told.taken ≡ taken → taken < 2 ^ 64
+    → (n : ℕ) × (told.taken ≤ suc n) × (suc n < 2 ^ 64) × IsTrue (is_reported told.state (suc n))
+count_of told zero is few = (0, omega (arith, is), lit< tt, reported_once told.state 0)
+count_of told (suc n) is few = (n, omega (arith, is), few, reported_once told.state n)
 
--- so some texts are those of any lines
-pub some_texts : (reported : List ReportLine) → (texts : List (List ℕ)) × AreTextsOf reported texts
-some_texts [] = ([], refl)
-some_texts (line ∷ more) =
-    let first = some_text line in
-    let rest = some_texts more in
-    (first.0 ∷ rest.0, inl (first.1, rest.1))
+some_text : (line : ReportLine) → HasFewTaken line → (text : List ℕ) × IsLineOf line text
+some_text (lines.Held held) few = (line_text (lines.Held held), refl)
+some_text (lines.Waits wait) few = (line_text (lines.Waits wait), refl)
+some_text (lines.Process told) few =
+    let count = count_of told told.taken refl few in
+    (process_text (record told { sent = suc count.0 }), (suc count.0, count.1, count.2, count.3, refl))
 
--- as many as there are lines
-pub all_texts : (reported : List ReportLine) → length (some_texts reported).0 ≡ length reported
-unfolding some_texts
-all_texts [] = refl
-all_texts (line ∷ more) = ap suc (all_texts more)
+-- so some texts are those of any lines, as many as there are lines
+pub some_texts : (reported : List ReportLine) → Each HasFewTaken reported
+    → (texts : List (List ℕ)) × AreTextsOf reported texts × (length texts ≡ length reported)
+some_texts [] few = ([], refl, refl)
+some_texts (line ∷ more) few =
+    let first = some_text line few.0 in
+    let rest = some_texts more few.1 in
+    (first.0 ∷ rest.0, inl (first.1, rest.1), ap suc rest.2)
 
 -- a state after these events has one list of lines
 pub one_report : LocksHaveOneReport → (processes : ℕ) (S : State) (events : List Event) (a b : List ReportLine) → AreReportLines processes S events a
@@ -46,9 +51,9 @@ one_report one processes S events a b h k = grind (arith, common_steps)
 -- before the first line all are left
 pub AreLeft-first : (place : Place) (entries : List Event) (reported : List ReportLine) → AreLegal place entries
     → ((T : State) → IsRun (rules_at place) (processes_at place) entries T → AreReportLines (processes_at place) T entries reported)
-    → AreLeft place entries [] reported
-AreLeft-first place entries reported legal are =
-    record { legal = legal; reported = reported; lines = are; last = (0, refl); goes_on = λ more. ((λ texts. texts), (λ texts. texts)) }
+    → All HasFewTaken reported → AreLeft place entries [] reported
+AreLeft-first place entries reported legal are few =
+    record { legal = legal; reported = reported; lines = are; last = (0, refl); few = few; goes_on = λ more. ((λ texts. texts), (λ texts. texts)) }
 
 behind : (reported : List ReportLine) (texts : List (List ℕ)) (text : List ℕ) (more : List (List ℕ)) → AreTextsOf reported (texts ++ text ∷ [] ++ more)
     → AreTextsOf reported (texts ++ (text ∷ more))
@@ -66,6 +71,7 @@ AreLeft-more place entries texts old new text left goes last = record {
   reported = left.reported;
   lines = left.lines;
   last = last_of_last left.reported old new left.last last;
+  few = subst (All HasFewTaken) (sym last.1) (All-drop HasFewTaken last.0 old left.few);
   goes_on = λ more. (
     (λ are. (goes more).0 ((left.goes_on (text ∷ more)).0 (behind left.reported texts text more are))),
     (λ are.
@@ -77,7 +83,7 @@ AreLeft-more place entries texts old new text left goes last = record {
 pub front_more : (place : Place) (entries : List Event) (texts : List (List ℕ)) (left : List ReportLine)
     → (T : State) → IsRun (rules_at place) (processes_at place) entries T → AreLeft place entries texts left → IsReportFront place entries texts
 front_more place entries texts left T run are =
-    let rest = some_texts left in
+    let rest = some_texts left (recursion_from_All HasFewTaken left are.few) in
     (are.reported, record { state = T; run = run; lines = are.lines T run }, rest.0, (are.goes_on rest.0).1 rest.1)
 
 -- it doesn't go on with a line with which what is left doesn't

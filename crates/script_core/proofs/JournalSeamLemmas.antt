@@ -1,6 +1,6 @@
 -- What a `JournalReader` has read once a header line, an entry or a line of the report was taken down, and whether it may end.
 use Rattle.script_core.proofs.JournalReportLemmas.{one_report, AreLeft-first, AreLeft-more, front_more, no_front, due_is, nothing_due, ends_whole, first_due-none}
-use Rattle.std.proofs.Common.{append-nil, rules, arith, ◌≡◌, ◌≢◌, ℕ, true, false, List, [], ◌∷◌, ◌++◌, Option, Some, None, MatchOption, Result, Ok, Err, inr, refl, sym, ap, ap₂, ◌∙◌, subst, is_some}
+use Rattle.std.proofs.Common.{append-nil, rules, arith, ◌≡◌, ◌≢◌, ℕ, true, false, List, [], ◌∷◌, ◌++◌, All, Option, Some, None, MatchOption, Result, Ok, Err, inr, refl, sym, ap, ap₂, ◌∙◌, subst, is_some}
 use Rattle.std.proofs.lemmas.Grind.{common_steps}
 use Rattle.fd_table.specs.declared.Limits.{Limits}
 use Rattle.lock_book.specs.OneReport.{LocksHaveOneReport}
@@ -20,7 +20,7 @@ use Rattle.script_core.specs.declared.report.ReportFault.{ReportFault}
 use Rattle.script_core.specs.declared.report.ReportFault.TheVariants as reports
 use Rattle.script_core.specs.declared.report.ReportLine.{ReportLine}
 use Rattle.script_core.specs.ExpectedText.{due_text}
-use Rattle.script_core.specs.ReportReading.{AreTextsOf, IsFirstDue, first_due, GoesOn, AreLastOf, AreReportLines}
+use Rattle.script_core.specs.ReportReading.{AreTextsOf, IsFirstDue, first_due, GoesOn, AreLastOf, AreReportLines, HasFewTaken}
 use Rattle.script_core.specs.JournalReading.{JournalReading, AreLegal, IsBeforeReport, MayEnd, rules_at, processes_at}
 use Rattle.script_core.specs.JournalView.{HasRead, HasChecked, HasReported, AreLeft, IsAtOpening, TakesSaid, Finishes, place_of, is_spent, is_cut, cuts, expected_in, report_fault_of}
 
@@ -60,9 +60,9 @@ cut_is reader left due stage report told = ap is_some (due_is left due told) ∙
 
 -- what is left of a report that was begun behind no line of it
 pub left_first : (place : Place) (entries : List Event) (texts : List (List ℕ)) (now report : List ReportLine) → texts ≡ [] → AreLegal place entries
-    → ((T : State) → IsRun (rules_at place) (processes_at place) entries T → AreReportLines (processes_at place) T entries report) → now ≡ report
-    → AreLeft place entries texts now
-left_first place entries texts now report none legal are same = grind (arith, common_steps, AreLeft-first)
+    → ((T : State) → IsRun (rules_at place) (processes_at place) entries T → AreReportLines (processes_at place) T entries report)
+    → All HasFewTaken report → now ≡ report → AreLeft place entries texts now
+left_first place entries texts now report none legal are few same = grind (arith, common_steps, AreLeft-first)
 
 some_line : (texts : List (List ℕ)) (text : List ℕ) → texts ++ text ∷ [] ≢ []
 some_line texts text none = grind (arith, common_steps)
@@ -82,7 +82,7 @@ report_taken old new reading text before now read left goes last placed checker 
         stage = some_line reading.report text;
         unspent = ap is_some illegal ∙ read.unspent;
         checked = subst (λ c. HasAccepted (rules_at reading.place) (processes_at reading.place) c reading.entries) (sym checker) read.checked;
-        reported = rw report (record { legal = after.legal; reported = after.reported; lines = after.lines; last = after.last; goes_on = after.goes_on });
+        reported = rw report (record { legal = after.legal; reported = after.reported; lines = after.lines; last = after.last; few = after.few; goes_on = after.goes_on });
       },
     )
 

@@ -10,6 +10,7 @@ use Rattle.fd_table.specs.declared.Limits.{Limits}
 use Rattle.lock_manager.specs.declared.request.Rules.{Rules}
 use Rattle.session_core.specs.Event.{Event}
 use Rattle.session_core.specs.Runs.{IsRun}
+use Rattle.session_core.specs.Mail.{requests_sent}
 use Rattle.script_core.specs.declared.place.Stage.TheVariants as stages
 use Rattle.script_core.specs.declared.place.Place.{Place}
 use Rattle.script_core.specs.declared.place.JournalLine.TheVariants as lines
@@ -20,11 +21,12 @@ use Rattle.script_core.specs.declared.script.Cause.TheVariants.{Byte, TooLong}
 use Rattle.script_core.specs.Words.{lines_of, is_printable}
 use Rattle.script_core.specs.EntryText.{entry_text, entry_line}
 use Rattle.script_core.specs.EntryReading.{entry_limit, IsWritableEvent}
-use Rattle.script_core.specs.ReportReading.{AreTextsOf, AreReportLines, lines_from, joined}
+use Rattle.script_core.specs.ReportReading.{AreTextsOf, AreReportLines, MayHaveSent, lines_from, joined}
 use Rattle.script_core.specs.JournalReading.{Legal, JournalReading, JournalGives, IsBeforeReport, IsReportAt, IsWholeReport, AreLegal, rules_at, limits_at, reading_behind}
 use Rattle.script_core.specs.Output.{processes_in}
 use Rattle.script_core.specs.OutputReading.{OutputsAreLegal}
 use Rattle.script_core.proofs.lengths.ArrivalLengthLemmas.{few_read}
+use Rattle.script_core.proofs.lengths.JournalLengthLemmas.{taken_were_sent}
 use Rattle.script_core.proofs.EntryRoundTripLemmas.{entry_reads_back}
 use Rattle.script_core.proofs.CommentLaws.{InLine, lines_first}
 use Rattle.script_core.proofs.JournalBackLemmas.{line_of_entry, legal_front}
@@ -139,8 +141,11 @@ outputs_legal one bytes text output number place before same =
     map report_lines.Held output.is_report.held ++ map report_lines.Waits S.waits ++ lines_from S.states journal 1 processes in
     let are : AreReportLines processes S journal reported = record { held = output.is_report.held; is_held = output.is_report.is_held; is = refl } in
     let few = small_limit limits in
-    let told = (reports_read_back one).read processes S journal _ output.report reported (omega (arith, few))
-    (sent_small script.arrivals (few_read bytes script output.accepted)) output.is_report are in
+    let may : MayHaveSent processes journal (λ p. length (requests_sent p script.arrivals)) = λ p from until. (
+      taken_were_sent script.rules processes script.arrivals journal S output.drained p,
+      sent_small script.arrivals (few_read bytes script output.accepted) p,
+    ) in
+    let told = (reports_read_back one).read processes S journal _ output.report reported (omega (arith, few)) may output.is_report are in
     let texts = told.0 in
     let reads = report_reads limits processes S journal reported texts few fits.after fits.writable fits.numbers run.numbered are told.2 in
     let line_texts = map entry_text journal in

@@ -39,7 +39,7 @@ use Rattle.script_core.specs.RequestText.{mode_word}
 use Rattle.script_core.specs.EntryText.{tag}
 use Rattle.script_core.specs.EntryReading.{entry_limit, IsWritableEvent}
 use Rattle.script_core.specs.ReportText.{owner_text, flock_word, byte_lock_text, flock_text, held_text, wanted_text, wait_text, state_word, counts_text, process_text, line_of}
-use Rattle.script_core.specs.ReportReading.{IsLineOf, AreTextsOf, AreReportLines, AreSmall, lines_from}
+use Rattle.script_core.specs.ReportReading.{IsLineOf, AreTextsOf, AreReportLines, lines_from}
 use Rattle.script_core.specs.JournalReading.{HeadGives, JournalLineGives}
 use Rattle.script_core.proofs.RoundTripLemmas.{IsWord, IsWord-tested, IsWord-decimal}
 use Rattle.script_core.proofs.ReportReadingLemmas.{words_of-first}
@@ -184,7 +184,7 @@ few_answers : (limits : Limits) (p place : ℕ) (events : List Event) → Each (
 few_answers limits p place [] writable = omega arith
 few_answers limits p place (event ∷ events) writable = grind (arith, common_steps, few_answers_in, length-append, few_answers limits p (place + 1) events)
 
-pub sent_small : (arrivals : List (ℕ × Request)) → length arrivals ≤ script_limit + 1 → AreSmall (λ p. length (requests_sent p arrivals))
+pub sent_small : (arrivals : List (ℕ × Request)) → length arrivals ≤ script_limit + 1 → (p : ℕ) → length (requests_sent p arrivals) < 2 ^ 64
 sent_small arrivals few p = let less = sent_few p arrivals in omega (arith, few, less)
   where
     sent_few : (p : ℕ) (arrivals : List (ℕ × Request)) → length (requests_sent p arrivals) ≤ length arrivals
@@ -368,7 +368,7 @@ line_reads : (line : ReportLine) (text : List ℕ) → FitsLine line → IsLineO
 unfolding FitsLine
 line_reads (report_lines.Held held) text fits is = subst IsReportText (sym is) (held_reads held fits)
 line_reads (report_lines.Waits wait) text fits is = subst IsReportText (sym is) (wait_reads wait fits)
-line_reads (report_lines.Process told) text fits (sent, small, reported, is) =
+line_reads (report_lines.Process told) text fits (sent, no_less, small, reported, is) =
     subst IsReportText (sym is) (process_reads (record told { sent = sent }) small (record { p = fits.p; taken = fits.taken; answered = fits.answered }))
 
 texts_read : (reported : List ReportLine) (texts : List (List ℕ)) → Each FitsLine reported → AreTextsOf reported texts → Each IsReportText texts

@@ -1,16 +1,17 @@
 -- Reports are read back, for `reports_are_read_back`: texts are those of the lines of a report just where they are its lines.
 use Rattle.std.proofs.lemmas.Grind.{common_steps}
-use Rattle.std.proofs.Common.{◌≡◌, ℕ, zero, suc, ◌+◌, ◌^◌, ◌<◌, ◌≤◌, ◌==◌, Bool, true, false, List, [], ◌∷◌, ◌++◌, map, flat_map, inl, inr, ⊎_elim, refl, sym, ap, ap₂, ◌∙◌, subst, arith, lit<, eq-eqb, ne_eqb, append_assoc, if◌then◌else◌}
+use Rattle.std.proofs.Common.{◌≡◌, ℕ, zero, suc, ◌+◌, ◌^◌, ◌<◌, ◌≤◌, ◌==◌, Bool, true, false, List, [], ◌∷◌, ◌++◌, length, map, flat_map, inl, inr, ⊎_elim, refl, sym, ap, ap₂, ◌∙◌, subst, arith, lit<, eq-eqb, ne_eqb, append_assoc, if◌then◌else◌}
+use Rattle.std.proofs.lemmas.Bool.{cases_eq}
 use Rattle.lock_book.specs.Changes.{mode_in, flock_mode_in}
 use Rattle.lock_book.specs.OneReport.{LocksHaveOneReport}
 use Rattle.lock_manager.specs.declared.request.ProcState.{ProcState}
-use Rattle.lock_manager.specs.declared.request.ProcState.TheVariants.{Unborn}
 use Rattle.session_core.specs.Event.{Event}
+use Rattle.session_core.specs.Mail.{events_of}
 use Rattle.script_core.specs.declared.report_text.ProcessLine.{ProcessLine}
 use Rattle.script_core.specs.declared.report.ReportLine.{ReportLine}
 use Rattle.script_core.specs.declared.report.ReportLine.TheVariants as lines
 use Rattle.script_core.specs.ReportText.{held_text, held_line, wait_text, wait_line, process_text, line_of, is_reported, reported_line, process_lines}
-use Rattle.script_core.specs.ReportReading.{IsLineOf, MayBeLeftOut, AreTextsOf, least_line, lines_from, AreSmall, joined, ReportsAreReadBack}
+use Rattle.script_core.specs.ReportReading.{IsLineOf, MayBeLeftOut, AreTextsOf, least_line, lines_from, joined, ReportsAreReadBack}
 use Rattle.script_core.proofs.ReportReadingLemmas.{one_process}
 
 -- ---- lines that are there in any case: of locks and of waits
@@ -72,9 +73,25 @@ counts_behind : (p n : ℕ) (sent : ℕ → ℕ) (q : ℕ) → p + 1 ≤ q → c
 unfolding counts_with
 counts_behind p n sent q behind = rw (ne_eqb q p (λ e. omega arith)) refl
 
-counts_small : (p n : ℕ) (sent : ℕ → ℕ) → n < 2 ^ 64 → AreSmall sent → AreSmall (counts_with p n sent)
-unfolding counts_with
-counts_small p n sent small are q = grind (arith, common_steps)
+-- processes from this one on, so many of them, may have sent these counts
+abbrev MayHaveSentFrom : List Event → ℕ → ℕ → (ℕ → ℕ) → Type 0
+MayHaveSentFrom events p more sent = (q : ℕ) → p ≤ q → q < p + more → (length (events_of q events) ≤ sent q) × (sent q < 2 ^ 64)
+
+counts_more : (events : List Event) (p more n : ℕ) (sent : ℕ → ℕ) → length (events_of p events) ≤ n → n < 2 ^ 64
+    → MayHaveSentFrom events (p + 1) more sent → MayHaveSentFrom events p (suc more) (counts_with p n sent)
+counts_more events p more n sent no_less few behind q from before =
+    ⊎_elim
+    (λ same.
+    let own : counts_with p n sent q ≡ n = ap (counts_with p n sent) same ∙ counts_own p n sent in
+    let taken : length (events_of q events) ≡ length (events_of p events) = ap (λ r. length (events_of r events)) same in
+    (omega (arith, own, taken, no_less), omega (arith, own, few)))
+    (λ apart.
+    let rest = behind q (omega (arith, apart, from)) (omega (arith, before)) in
+    let is = counts_behind p n sent q (omega (arith, apart, from)) in
+    let low = rest.0 in
+    let high = rest.1 in
+    (omega (arith, is, low), omega (arith, is, high)))
+    (cases_eq q p)
 
 -- lines of processes tell nothing of the counts of those before
 lines_same : (states : ℕ → ProcState) (events : List Event) (sent sent' : ℕ → ℕ) (p more : ℕ) → ((q : ℕ) → p ≤ q → sent q ≡ sent' q)
@@ -92,37 +109,53 @@ one_more : (states : ℕ → ProcState) (events : List Event) (sent : ℕ → �
 unfolding process_lines
 one_more states events sent p more n = grind (arith, common_steps, counts_own, lines_same, counts_with, counts_behind)
 
-no_line : (states : ℕ → ProcState) (events : List Event) (p : ℕ) → states p ≡ Unborn → reported_line (line_of states events (λ q. 0) p) ≡ []
-no_line states events p unborn = grind (arith, common_steps)
+-- what was taken of a process that the report needn't tell of
+abbrev taken_of : List Event → ℕ → ℕ
+taken_of events p = length (events_of p events)
+
+no_line : (states : ℕ → ProcState) (events : List Event) (p : ℕ) → is_reported (states p) (taken_of events p) ≡ false
+    → reported_line (line_of states events (λ q. taken_of events p) p) ≡ []
+no_line states events p out = rw out refl
+
+none_taken : (state : ProcState) (n : ℕ) → is_reported state n ≡ false → n ≡ 0
+none_taken state n h = grind (arith, common_steps)
 
 -- texts of the lines of processes are theirs with some counts
+record AreRead (states : ℕ → ProcState) (events : List Event) (p more : ℕ) (texts : List (List ℕ)) : Type 0 where
+  sent : ℕ → ℕ
+  may : MayHaveSentFrom events p more sent
+  is : joined texts ≡ process_lines states events sent p more
+
+-- the line of one that is left out
+AreRead-out : (states : ℕ → ProcState) (events : List Event) (p more : ℕ) (texts : List (List ℕ))
+    → is_reported (states p) (taken_of events p) ≡ false → AreRead states events (p + 1) more texts → AreRead states events p (suc more) texts
+AreRead-out states events p more texts out rest =
+    let n = taken_of events p in
+    let none = none_taken (states p) n out in record {
+      sent = counts_with p n rest.sent;
+      may = counts_more events p more n rest.sent (omega arith) (omega (arith, none)) rest.may;
+      is = rest.is ∙ ap (λ l. l ++ process_lines states events rest.sent (p + 1) more) (sym (no_line states events p out))
+          ∙ sym (one_more states events rest.sent p more n);
+    }
+
 processes_read : (states : ℕ → ProcState) (events : List Event) (p more : ℕ) (texts : List (List ℕ)) → AreTextsOf (lines_from states events p more) texts
-    → (sent : ℕ → ℕ) × AreSmall sent × (joined texts ≡ process_lines states events sent p more)
+    → AreRead states events p more texts
 unfolding lines_from process_lines
-processes_read states events p zero texts are = ((λ q. 0), (λ q. lit< tt), ap joined are)
-processes_read states events p (suc more) [] are =
-    let rest = processes_read states events (p + 1) more [] are.1 in (
-      counts_with p 0 rest.0,
-      counts_small p 0 rest.0 (lit< tt) rest.1,
-      rest.2 ∙ ap (λ l. l ++ process_lines states events rest.0 (p + 1) more) (sym (no_line states events p are.0)) ∙ sym (one_more states events rest.0 p more 0),
-    )
+processes_read states events p zero texts are =
+    record { sent = λ q. 0; may = λ q from before. absurd (omega (arith, from, before)); is = ap joined are }
+processes_read states events p (suc more) [] are = AreRead-out states events p more [] are.0 (processes_read states events (p + 1) more [] are.1)
 processes_read states events p (suc more) (text ∷ texts) are =
     ⊎_elim
     (λ yes.
     let told = yes.0 in
     let rest = processes_read states events (p + 1) more texts yes.1 in
-    let own : reported_line (line_of states events (λ q. told.0) p) ≡ text ++ 10 ∷ [] = rw told.2 (ap (λ l. l ++ 10 ∷ []) (sym told.3)) in (
-      counts_with p told.0 rest.0,
-      counts_small p told.0 rest.0 told.1 rest.1,
-      ap (λ l. text ++ 10 ∷ [] ++ l) rest.2 ∙ ap (λ l. l ++ process_lines states events rest.0 (p + 1) more) (sym own)
-          ∙ sym (one_more states events rest.0 p more told.0),
-    ))
-    (λ no.
-    let rest = processes_read states events (p + 1) more (text ∷ texts) no.1.1 in (
-      counts_with p 0 rest.0,
-      counts_small p 0 rest.0 (lit< tt) rest.1,
-      rest.2 ∙ ap (λ l. l ++ process_lines states events rest.0 (p + 1) more) (sym (no_line states events p no.1.0)) ∙ sym (one_more states events rest.0 p more 0),
-    ))
+    let own : reported_line (line_of states events (λ q. told.0) p) ≡ text ++ 10 ∷ [] = rw told.3 (ap (λ l. l ++ 10 ∷ []) (sym told.4)) in record {
+      sent = counts_with p told.0 rest.sent;
+      may = counts_more events p more told.0 rest.sent told.1 told.2 rest.may;
+      is = ap (λ l. text ++ 10 ∷ [] ++ l) rest.is ∙ ap (λ l. l ++ process_lines states events rest.sent (p + 1) more) (sym own)
+          ∙ sym (one_more states events rest.sent p more told.0);
+    })
+    (λ no. AreRead-out states events p more (text ∷ texts) no.1.0 (processes_read states events (p + 1) more (text ∷ texts) no.1.1))
     are
 
 -- the first of the texts, if there is one, is that of a process from this one on
@@ -134,20 +167,22 @@ FirstIsFrom-before : (p : ℕ) (texts : List (List ℕ)) → FirstIsFrom (p + 1)
 unfolding FirstIsFrom
 FirstIsFrom-before p texts first = grind (arith, common_steps)
 
-not_reported : (state : ProcState) (n : ℕ) → is_reported state n ≡ false → state ≡ Unborn
-not_reported state n h = grind (arith, common_steps)
+-- what isn't told with a count isn't with a lesser one
+less_is_untold : (state : ProcState) (n less : ℕ) → less ≤ n → is_reported state n ≡ false → is_reported state less ≡ false
+less_is_untold state n less h h2 = grind (arith, common_steps)
 
--- the line of an unborn process is left out before the texts of later ones
-left_out : (states : ℕ → ProcState) (events : List Event) (p more : ℕ) (texts : List (List ℕ)) → p < 2 ^ 64 → states p ≡ Unborn → FirstIsFrom (p + 1) texts
+-- the line of a process that needn't be told is left out before the texts of later ones
+left_out : (states : ℕ → ProcState) (events : List Event) (p more : ℕ) (texts : List (List ℕ)) → p < 2 ^ 64
+    → is_reported (states p) (taken_of events p) ≡ false → FirstIsFrom (p + 1) texts
     → AreTextsOf (lines_from states events (p + 1) more) texts → AreTextsOf (lines_from states events p (suc more)) texts
 unfolding lines_from FirstIsFrom
-left_out states events p more [] small unborn first are = (unborn, are)
-left_out states events p more (text ∷ texts) small unborn first are =
+left_out states events p more [] small out first are = (out, are)
+left_out states events p more (text ∷ texts) small out first are =
     inr (
       (λ is.
-          let same = one_process (record (least_line states events p) { sent = is.0 }) first.0 small first.2 (sym is.3 ∙ first.3) in
+          let same = one_process (record (least_line states events p) { sent = is.0 }) first.0 small first.2 (sym is.4 ∙ first.3) in
           omega (arith, same, first.1)),
-      (unborn, are),
+      (out, are),
     )
 
 -- the lines of processes with these counts have these texts
@@ -158,32 +193,36 @@ record AreTold (states : ℕ → ProcState) (events : List Event) (sent : ℕ �
   first : FirstIsFrom p texts
 
 -- one process more, of which the report tells or doesn't
-AreTold-more : (states : ℕ → ProcState) (events : List Event) (sent : ℕ → ℕ) → AreSmall sent → (p more : ℕ) → p < 2 ^ 64 → (reported : Bool)
-    → is_reported (states p) (sent p) ≡ reported → AreTold states events sent (p + 1) more → AreTold states events sent p (suc more)
+AreTold-more : (states : ℕ → ProcState) (events : List Event) (sent : ℕ → ℕ) (p more : ℕ) → taken_of events p ≤ sent p → sent p < 2 ^ 64 → p < 2 ^ 64
+    → (reported : Bool) → is_reported (states p) (sent p) ≡ reported → AreTold states events sent (p + 1) more → AreTold states events sent p (suc more)
 unfolding lines_from process_lines FirstIsFrom
-AreTold-more states events sent small p more few true reported rest =
+AreTold-more states events sent p more no_less small few true reported rest =
     let told = line_of states events sent p in
     let own : reported_line told ≡ process_text told ++ 10 ∷ [] = rw reported refl in
     record {
       texts = process_text told ∷ rest.texts;
       is = ap₂ (λ l m. l ++ m) own rest.is;
-      are = inl ((sent p, small p, reported, refl), rest.are);
+      are = inl ((sent p, no_less, small, reported, refl), rest.are);
       first = (told, omega arith, few, refl);
     }
-AreTold-more states events sent small p more few false unreported rest = grind (arith, common_steps, left_out, not_reported, FirstIsFrom-before)
+AreTold-more states events sent p more no_less small few false unreported rest =
+    grind (arith, common_steps, left_out, less_is_untold, FirstIsFrom-before)
 
-processes_told : (states : ℕ → ProcState) (events : List Event) (sent : ℕ → ℕ) → AreSmall sent → (p more : ℕ) → p + more ≤ 2 ^ 64
+processes_told : (states : ℕ → ProcState) (events : List Event) (sent : ℕ → ℕ) (p more : ℕ) → MayHaveSentFrom events p more sent → p + more ≤ 2 ^ 64
     → AreTold states events sent p more
 unfolding lines_from process_lines FirstIsFrom
-processes_told states events sent small p zero few = record { texts = []; is = refl; are = refl; first = tt }
-processes_told states events sent small p (suc more) few = grind (arith, common_steps, AreTold-more, processes_told states events sent small (p + 1) more)
+processes_told states events sent p zero may few = record { texts = []; is = refl; are = refl; first = tt }
+processes_told states events sent p (suc more) may few =
+    let own = may p (omega arith) (omega arith) in
+    let rest = processes_told states events sent (p + 1) more (λ q from before. may q (omega (arith, from)) (omega (arith, before))) (omega (arith, few)) in
+    AreTold-more states events sent p more own.0 own.1 (omega (arith, few)) (is_reported (states p) (sent p)) refl rest
 
 -- ---- reports
 
 pub reports_read_back : LocksHaveOneReport → ReportsAreReadBack
 reports_read_back one = record {
-  read = λ processes S events sent text reported few small report are.
-      let own = processes_told S.states events sent small 1 processes (omega arith) in
+  read = λ processes S events sent text reported few may report are.
+      let own = processes_told S.states events sent 1 processes (λ p from before. may p from (omega (arith, before))) (omega (arith, few)) in
       let waits = fixed_told lines.Waits wait_text waits_fixed S.waits (lines_from S.states events 1 processes) own.texts own.are in
       let held = fixed_told lines.Held held_text held_fixed are.held (map lines.Waits S.waits ++ lines_from S.states events 1 processes) waits.0 waits.2 in
       let same = one (mode_in S.changes) (flock_mode_in S.flock_changes) report.held are.held report.is_held are.is_held in
@@ -196,5 +235,21 @@ reports_read_back one = record {
             ∙ ap (λ l. locks ++ (waiting ++ l)) own.is ∙ ap (λ l. locks ++ l) waits.1 ∙ held.1,
         subst (λ l. AreTextsOf l held.0) (sym these) held.2,
       );
-  is_report = grind (arith, common_steps, append_assoc, fixed_read, held_fixed, waits_fixed, processes_read);
+  is_report = λ processes S events reported texts are told.
+      let these = are.is ∙ append_assoc (map lines.Held are.held) (map lines.Waits S.waits) (lines_from S.states events 1 processes) in
+      let held = fixed_read lines.Held held_text held_fixed are.held (map lines.Waits S.waits ++ lines_from S.states events 1 processes) texts
+      (subst (λ l. AreTextsOf l texts) these told) in
+      let waits = fixed_read lines.Waits wait_text waits_fixed S.waits (lines_from S.states events 1 processes) held.0 held.2 in
+      let own = processes_read S.states events 1 processes waits.0 waits.2 in
+      let locks = flat_map held_line are.held in
+      let waiting = flat_map wait_line S.waits in (
+        own.sent,
+        (λ p from until. own.may p from (omega (arith, until))),
+        record {
+          held = are.held;
+          is_held = are.is_held;
+          is = held.1 ∙ ap (λ l. locks ++ l) (waits.1 ∙ ap (λ l. waiting ++ l) own.is)
+              ∙ sym (append_assoc locks waiting (process_lines S.states events own.sent 1 processes));
+        },
+      );
 }

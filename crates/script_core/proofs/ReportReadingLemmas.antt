@@ -1,9 +1,13 @@
 -- The lines of a report, one after another: what `ReportReader`'s clauses say of the lines that come.
 use Rattle.std.proofs.lemmas.Grind.{common_steps}
-use Rattle.std.proofs.Common.{◌≡◌, ℕ, zero, suc, ◌+◌, ◌^◌, ◌<◌, List, [], ◌∷◌, ◌++◌, length, drop, get_or, codes, decimal, Bool, true, false, Option, Some, None, MatchOption, IfSome, inr, ⊎_elim, refl, sym, ap, ap₂, ◌∙◌, subst, arith, append_assoc, append-nil, add-one, drop-cons}
+use Rattle.std.proofs.Common.{◌≡◌, ℕ, zero, suc, ◌+◌, ◌^◌, ◌<◌, ◌≤◌, All, List, [], ◌∷◌, ◌++◌, map, length, drop, get_or, codes, decimal, Bool, true, false, Option, Some, None, MatchOption, IfSome, inr, ⊎_elim, refl, sym, ap, ap₂, ◌∙◌, subst, arith, append_assoc, append-nil, add-one, drop-cons}
+use Rattle.std.specs.List.{AllByRecursion as Each}
 use Rattle.std.specs.Borrow.{Bor}
 use Rattle.std.specs.Bool.{then_some}
 use Rattle.std.proofs.lemmas.Fmt.{decimal_injective}
+use Rattle.std.proofs.lemmas.List.Elements.{All-append, All-from_recursion}
+use Rattle.lock_book.specs.declared.Held.{Held}
+use Rattle.wait_core.specs.declared.Wait.{Wait}
 use Rattle.lock_manager.specs.declared.request.ProcState.{ProcState}
 use Rattle.session_core.specs.Event.{Event}
 use Rattle.script_core.specs.declared.report_text.ProcessLine.{ProcessLine}
@@ -11,7 +15,7 @@ use Rattle.script_core.specs.declared.report.ReportLine.{ReportLine}
 use Rattle.script_core.specs.declared.report.ReportLine.TheVariants as lines
 use Rattle.script_core.specs.Words.{texts, words_of}
 use Rattle.script_core.specs.ReportText.{process_text, counts_text, state_word, is_reported}
-use Rattle.script_core.specs.ReportReading.{line_text, IsLineOf, MayBeLeftOut, AreTextsOf, IsFirstDue, least_line, lines_from}
+use Rattle.script_core.specs.ReportReading.{line_text, IsLineOf, MayBeLeftOut, AreTextsOf, IsFirstDue, HasFewTaken, least_line, lines_from}
 use Rattle.script_core.proofs.RoundTripLemmas.{IsWord, IsWord-tested, IsWord-decimal, slice_split-words, not_empty}
 
 -- the new lines are what is left of the old ones where the next text is none of those between, which may be left out
@@ -100,6 +104,28 @@ one_process_more states events old before after told index was is more =
     ∙ ap (λ l. old ++ l) (sym (lines_from-more states events 1 index))
     ∙ ap (λ n. old ++ lines_from states events 1 n) (sym (add-one index))
 
+-- one more line, whose count of what was taken is small
+pub few_line : (before after : List ReportLine) (line : ReportLine) → All HasFewTaken before → HasFewTaken line → after ≡ before ++ line ∷ []
+    → All HasFewTaken after
+few_line before after line few small is =
+    subst (All HasFewTaken) (sym is)
+    (All-append HasFewTaken before (line ∷ []) few (All-from_recursion HasFewTaken (line ∷ []) (small, tt)))
+
+-- lines of locks and of waits have no such count
+few_each : {X : Type 0} (line : X → ReportLine) → ((x : X) → HasFewTaken (line x)) → (xs : List X) → Each HasFewTaken (map line xs)
+few_each line few [] = tt
+few_each line few (x ∷ xs) = (few x, few_each line few xs)
+
+pub few_first : (locks : List Held) (waits : List Wait) (none first both : List ReportLine) → none ≡ [] → first ≡ none ++ map lines.Held locks
+    → both ≡ first ++ map lines.Waits waits → All HasFewTaken both
+few_first locks waits none first both empty is are =
+    let held = map lines.Held locks in
+    let waiting = map lines.Waits waits in
+    let all : both ≡ held ++ waiting = are ∙ ap (λ (l : List ReportLine). l ++ waiting) (is ∙ ap (λ (l : List ReportLine). l ++ held) empty) in
+    subst (All HasFewTaken) (sym all)
+    (All-append HasFewTaken held waiting (All-from_recursion HasFewTaken held (few_each lines.Held (λ lock. tt) locks))
+    (All-from_recursion HasFewTaken waiting (few_each lines.Waits (λ wait. tt) waits)))
+
 -- the fourth of some words
 pub fourth_of : (words : List (Bor (List ℕ))) (d : Bor (List ℕ)) (first second third fourth : List ℕ) (more : List (List ℕ))
     → texts words ≡ first ∷ second ∷ third ∷ fourth ∷ more → (get_or words 3 d).now ≡ fourth
@@ -114,28 +140,37 @@ pub no_sent : (line : ReportLine) (told : ProcessLine) (text : List ℕ) (sent :
     → sent ≡ None → IsLineOf line text → ⊥
 no_sent line told text sent is tells none are =
     let this : IsLineOf (lines.Process told) text = subst (λ l. IsLineOf l text) is are in
-    let found : sent ≡ Some this.0 = tells (record told { sent = this.0 }) refl this.1 this.3 in
+    let found : sent ≡ Some this.0 = tells (record told { sent = this.0 }) refl this.2 this.4 in
     let bad : None ≡ Some this.0 = sym none ∙ found in cc
+
+-- nor is it one of a process that would have sent less than was taken
+pub sent_less : (line : ReportLine) (told : ProcessLine) (text : List ℕ) (sent : ℕ) → line ≡ lines.Process told → TellsSent told.p text (Some sent)
+    → sent < told.taken → IsLineOf line text → ⊥
+sent_less line told text sent is tells less are =
+    let this : IsLineOf (lines.Process told) text = subst (λ l. IsLineOf l text) is are in
+    let found : Some sent ≡ Some this.0 = tells (record told { sent = this.0 }) refl this.2 this.4 in
+    let same : this.0 ≡ sent = cc in
+    let no_less = this.1 in omega (arith, less, same, no_less)
 
 -- the line with what the text says that was sent
 abbrev pub IsSentIn : ReportLine → List ℕ → Option ReportLine → Type 0
 IsSentIn line text result = MatchOption result (¬ IsLineOf line text) (λ other. (text ≡ line_text other → IsLineOf line text) × (IsLineOf line text → text ≡ line_text other))
 
-sent_in_process : (told : ProcessLine) (text : List ℕ) (sent : ℕ) (reported : Bool) → sent < 2 ^ 64 → TellsSent told.p text (Some sent)
+sent_in_process : (told : ProcessLine) (text : List ℕ) (sent : ℕ) (reported : Bool) → told.taken ≤ sent → sent < 2 ^ 64 → TellsSent told.p text (Some sent)
     → is_reported told.state sent ≡ reported → IsSentIn (lines.Process told) text (then_some reported (lines.Process (record told { sent = sent })))
-sent_in_process told text sent true few tells reported = (
-  (λ is. (sent, few, reported, is)),
+sent_in_process told text sent true no_less few tells reported = (
+  (λ is. (sent, no_less, few, reported, is)),
   (λ this.
-      let found : Some sent ≡ Some this.0 = tells (record told { sent = this.0 }) refl this.1 this.3 in
+      let found : Some sent ≡ Some this.0 = tells (record told { sent = this.0 }) refl this.2 this.4 in
       let same : this.0 ≡ sent = cc in
-      this.3 ∙ ap (λ n. process_text (record told { sent = n })) same),
+      this.4 ∙ ap (λ n. process_text (record told { sent = n })) same),
 )
-sent_in_process told text sent false few tells unreported = λ this.
-    let found : Some sent ≡ Some this.0 = tells (record told { sent = this.0 }) refl this.1 this.3 in
+sent_in_process told text sent false no_less few tells unreported = λ this.
+    let found : Some sent ≡ Some this.0 = tells (record told { sent = this.0 }) refl this.2 this.4 in
     let same : this.0 ≡ sent = cc in
-    let no : true ≡ false = sym this.2 ∙ ap (is_reported told.state) same ∙ unreported in cc
+    let no : true ≡ false = sym this.3 ∙ ap (is_reported told.state) same ∙ unreported in cc
 
 pub is_sent_in : (line : ReportLine) (told : ProcessLine) (text : List ℕ) (sent : ℕ) (reported : Bool) (result : Option ReportLine) → line ≡ lines.Process told
-    → sent < 2 ^ 64 → TellsSent told.p text (Some sent) → reported ≡ is_reported told.state sent
+    → told.taken ≤ sent → sent < 2 ^ 64 → TellsSent told.p text (Some sent) → reported ≡ is_reported told.state sent
     → result ≡ then_some reported (lines.Process (record told { sent = sent })) → IsSentIn line text result
-is_sent_in line told text sent reported result is few tells reports given = grind (arith, common_steps, sent_in_process)
+is_sent_in line told text sent reported result is no_less few tells reports given = grind (arith, common_steps, sent_in_process)

@@ -1,5 +1,5 @@
 -- What a `JournalReader` has read (the words are this project's choice).
-use Rattle.std.specs.Prelude.{◌≡◌, ◌≢◌, ℕ, ◌⊎◌, ⊤, Bool, true, false, is_some, if◌then◌else◌, Option, Some, None, Result, Ok, Err, List, [], ◌++◌}
+use Rattle.std.specs.Prelude.{◌≡◌, ◌≢◌, ℕ, ◌⊎◌, ⊤, Bool, true, false, is_some, if◌then◌else◌, Option, Some, None, Result, Ok, Err, List, [], ◌++◌, All}
 use Rattle.session_core.specs.declared.check.Expected.{Expected}
 use Rattle.lock_manager.specs.State.{State}
 use Rattle.session_core.specs.Event.{Event}
@@ -19,7 +19,7 @@ use Rattle.script_core.specs.declared.journal.JournalReader.{JournalReader}
 use Rattle.script_core.specs.declared.report.ReportFault.{ReportFault}
 use Rattle.script_core.specs.declared.report.ReportFault.TheVariants as reports
 use Rattle.script_core.specs.declared.report.ReportLine.{ReportLine}
-use Rattle.script_core.specs.ReportReading.{first_due, AreTextsOf, AreLastOf, AreReportLines}
+use Rattle.script_core.specs.ReportReading.{first_due, AreTextsOf, AreLastOf, AreReportLines, HasFewTaken}
 use Rattle.script_core.specs.EntryReading.{pieces_of, HaveNote}
 use Rattle.script_core.specs.ExpectedText.{expected_text, due_text}
 use Rattle.script_core.specs.JournalReading.{JournalReading, JournalLineGives, AreLegal, limits_at, rules_at, processes_at, reading_behind, MayGoOn, MayEnd}
@@ -70,12 +70,14 @@ is_cut stages.Report (Some left) = is_some (first_due left)
 unfoldable pub cuts : JournalReader → Bool
 cuts reader = is_cut reader.place.stage reader.report
 
--- the entries are a run, and of the report of each state that they leave these last lines are to come, behind those texts
+-- the entries are a run, and of the report of each state that they leave these last lines are to come, behind those texts, each with a
+-- count of what was taken that has 64 bits
 pub record AreLeft (place : Place) (entries : List Event) (texts : List (List ℕ)) (left : List ReportLine) : Type 0 where
   pub legal : AreLegal place entries
   pub reported : List ReportLine
   pub lines : (T : State) → IsRun (rules_at place) (processes_at place) entries T → AreReportLines (processes_at place) T entries reported
   pub last : AreLastOf reported left
+  pub few : All HasFewTaken left
   pub goes_on : (more : List (List ℕ))
       → (AreTextsOf reported (texts ++ more) → AreTextsOf left more) × (AreTextsOf left more → AreTextsOf reported (texts ++ more))
 

@@ -1,11 +1,10 @@
 -- How the lines of a report are read, one after another (this project's choice).
-use Rattle.std.specs.Prelude.{◌≡◌, ℕ, zero, suc, ◌+◌, ◌^◌, ◌<◌, Bool, true, false, IsTrue, if◌then◌else◌, Option, Some, None, List, [], ◌∷◌, ◌++◌, length, drop, map, flat_map}
+use Rattle.std.specs.Prelude.{◌≡◌, ℕ, zero, suc, ◌+◌, ◌^◌, ◌<◌, ◌≤◌, ⊤, Bool, true, false, not, IsTrue, if◌then◌else◌, Option, Some, None, List, [], ◌∷◌, ◌++◌, length, drop, map, flat_map}
 use Rattle.range_core.specs.Facts.{MatchFact}
 use Rattle.lock_book.specs.declared.Held.{Held}
 use Rattle.lock_book.specs.Changes.{mode_in, flock_mode_in}
 use Rattle.lock_book.specs.Reports.{IsHeldReport}
 use Rattle.lock_manager.specs.declared.request.ProcState.{ProcState}
-use Rattle.lock_manager.specs.declared.request.ProcState.TheVariants.{Unborn, Live, Waiting, Ended}
 use Rattle.lock_manager.specs.State.{State}
 use Rattle.session_core.specs.Event.{Event}
 use Rattle.session_core.specs.Mail.{events_of}
@@ -20,31 +19,24 @@ line_text (lines.Held held) = held_text held
 line_text (lines.Waits wait) = wait_text wait
 line_text (lines.Process told) = process_text told
 
--- the text is this line's; of a process it has some count of what was sent, with which the report tells of it
+-- the text is this line's; of a process it has some count of what was sent, no less than what was taken, with which the report tells of it
 abbrev pub IsLineOf : ReportLine → List ℕ → Type 0
 IsLineOf (lines.Held held) text = text ≡ held_text held
 IsLineOf (lines.Waits wait) text = text ≡ wait_text wait
 IsLineOf (lines.Process told) text =
-    (sent : ℕ) × (sent < 2 ^ 64) × IsTrue (is_reported told.state sent) × (text ≡ process_text (record told { sent = sent }))
+    (sent : ℕ) × (told.taken ≤ sent) × (sent < 2 ^ 64) × IsTrue (is_reported told.state sent) × (text ≡ process_text (record told { sent = sent }))
 
--- whether a process that stands so was never alive
-abbrev pub is_unborn : ProcState → Bool
-is_unborn Unborn = true
-is_unborn Live = false
-is_unborn Waiting = false
-is_unborn Ended = false
-
--- the line may be left out: it is of a process that is unborn, of which the report tells only where it sent something
+-- the line may be left out: where its process sent no more than was taken, the report doesn't tell of it
 abbrev pub MayBeLeftOut : ReportLine → Type 0
 MayBeLeftOut (lines.Held held) = ⊥
 MayBeLeftOut (lines.Waits wait) = ⊥
-MayBeLeftOut (lines.Process told) = told.state ≡ Unborn
+MayBeLeftOut (lines.Process told) = is_reported told.state told.taken ≡ false
 
 -- whether it may
 abbrev pub may_be_left_out : ReportLine → Bool
 may_be_left_out (lines.Held held) = false
 may_be_left_out (lines.Waits wait) = false
-may_be_left_out (lines.Process told) = is_unborn told.state
+may_be_left_out (lines.Process told) = not (is_reported told.state told.taken)
 
 -- the texts are those of these lines, in order, but for those that may be left out
 abbrev pub AreTextsOf : List ReportLine → List (List ℕ) → Type 0
@@ -88,20 +80,27 @@ pub record AreReportLines (processes : ℕ) (S : State) (events : List Event) (r
   pub is_held : IsHeldReport (mode_in S.changes) (flock_mode_in S.flock_changes) held
   pub is : reported ≡ map lines.Held held ++ map lines.Waits S.waits ++ lines_from S.states events 1 processes
 
--- each count of what a process sent is a number of 64 bits
-abbrev pub AreSmall : (ℕ → ℕ) → Type 0
-AreSmall sent = (p : ℕ) → sent p < 2 ^ 64
+-- the line's count of what was taken, if it has one, is a number of 64 bits
+abbrev pub HasFewTaken : ReportLine → Type 0
+HasFewTaken (lines.Held held) = ⊤
+HasFewTaken (lines.Waits wait) = ⊤
+HasFewTaken (lines.Process told) = told.taken < 2 ^ 64
+
+-- so many processes may have sent these counts: each is no less than what these events took, and a number of 64 bits
+abbrev pub MayHaveSent : ℕ → List Event → (ℕ → ℕ) → Type 0
+MayHaveSent processes events sent =
+    (p : ℕ) → 1 ≤ p → p ≤ processes → (length (events_of p events) ≤ sent p) × (sent p < 2 ^ 64)
 
 -- the texts, each with its line feed
 abbrev pub joined : List (List ℕ) → List ℕ
 joined texts = flat_map (λ text. text ++ 10 ∷ []) texts
 
--- texts are those of the lines of a report just where they are, each with its line feed, the report with some counts of what
--- was sent
+-- texts are those of the lines of a report just where they are, each with its line feed, the report with some counts that the
+-- processes may have sent
 pub record ReportsAreReadBack : Type 0 where
   pub read : (processes : ℕ) (S : State) (events : List Event) (sent : ℕ → ℕ) (text : List ℕ) (reported : List ReportLine)
-      → processes < 2 ^ 64 → AreSmall sent → IsReport processes S events sent text → AreReportLines processes S events reported
+      → processes < 2 ^ 64 → MayHaveSent processes events sent → IsReport processes S events sent text → AreReportLines processes S events reported
       → (texts : List (List ℕ)) × (text ≡ joined texts) × AreTextsOf reported texts
   pub is_report : (processes : ℕ) (S : State) (events : List Event) (reported : List ReportLine) (texts : List (List ℕ))
       → AreReportLines processes S events reported → AreTextsOf reported texts
-      → (sent : ℕ → ℕ) × AreSmall sent × IsReport processes S events sent (joined texts)
+      → (sent : ℕ → ℕ) × MayHaveSent processes events sent × IsReport processes S events sent (joined texts)

@@ -25,7 +25,8 @@ pub fn headers_change_nothing_else()
     ensures { HeadersChangeNothingElse }
 {}
 
-/// The lines of a report are read as they are written, with whatever counts of what was sent, and no other lines are.
+/// The lines of a report are read as they are written, with whatever counts of what was sent that are no less than what was taken, and no
+/// other lines are.
 pub fn reports_are_read_back()
     ensures { ReportsAreReadBack }
 {

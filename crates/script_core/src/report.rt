@@ -1,5 +1,5 @@
 //! Reading a report line by line, against the state that a checked journal leaves.
-ghost use Rattle.std.specs.Prelude.{◌≡◌, ◌↔◌, ◌^◌, ◌<◌, ◌≤◌, ◌++◌, ℕ, List, [], ◌∷◌, Err, Some, IfOk, OnOk, IsTrue, MatchOption, MatchResult, map, drop, length, decimal};
+ghost use Rattle.std.specs.Prelude.{◌≡◌, ◌↔◌, ◌^◌, ◌<◌, ◌≤◌, ◌++◌, ℕ, List, [], ◌∷◌, Err, Some, IfOk, OnOk, IsTrue, MatchOption, MatchResult, All, map, drop, length, decimal};
 ghost use Rattle.lock_manager.specs.declared.request.Rules.{Rules};
 ghost use Rattle.lock_manager.specs.State.{State};
 ghost use Rattle.lock_manager.specs.ManagerView.{processes_of, state_at};
@@ -8,7 +8,7 @@ ghost use Rattle.session_core.specs.Runs.{IsRun};
 ghost use Rattle.session_core.specs.Checking.{HasAccepted};
 ghost use Rattle.script_core.specs.Words.{texts};
 ghost use Rattle.script_core.specs.ReportText.{process_text};
-ghost use Rattle.script_core.specs.ReportReading.{AreTextsOf, IsFirstDue, GoesOn, AreLastOf, AreReportLines, least_line, lines_from};
+ghost use Rattle.script_core.specs.ReportReading.{AreTextsOf, IsFirstDue, GoesOn, AreLastOf, AreReportLines, HasFewTaken, least_line, lines_from};
 ghost use Rattle.script_core.specs.declared.report.ReportLine.{ReportLine};
 ghost use Rattle.script_core.specs.declared.report.ReportLine.TheVariants as report_lines;
 ghost use Rattle.script_core.specs.Output.{Extends};
@@ -33,7 +33,7 @@ pub enum ReportLine {
     Held(Held),
     /// Of a request that waits.
     Waits(Wait),
-    /// Of a process. What it sent may be any count of 64 bits; that of an unborn process isn't 0, or else the line is left out.
+    /// Of a process. What it sent may be any count from that of what was taken on; an unborn process has no line where it sent nothing.
     Process(ProcessLine),
 }
 
@@ -51,7 +51,7 @@ impl ReportLine {
         }
     }
 
-    /// Whether the text is this line's, whatever its process sent.
+    /// Whether the text is this line's, whatever its process sent beside what was taken.
     fn is_line(&self, alloc: Global, text: &str) -> Result<bool, Memory>
         ensures { IfOk result (λ is. IsTrue is ↔ IsLineOf self.now text.now) }
     {
@@ -70,6 +70,9 @@ impl ReportLine {
         match self {
             ReportLine::Process(told) => {
                 let sent = sent_in(told.p, text)?;
+                if sent < told.taken {
+                    return None;
+                }
                 let told = ProcessLine { sent, ..*told };
                 is_reported(&told).then_some(ReportLine::Process(told))
             }
@@ -82,7 +85,10 @@ impl ReportLine {
         ensures { IsTrue result ↔ MayBeLeftOut self.now }
     {
         match self {
-            ReportLine::Process(told) => matches!(told.state, ProcState::Unborn),
+            ReportLine::Process(told) => !is_reported(&ProcessLine {
+                sent: told.taken,
+                ..*told
+            }),
             ReportLine::Held(_) | ReportLine::Waits(_) => false,
         }
     }
@@ -149,8 +155,9 @@ impl Model for ReportReader {
 impl ReportReader {
     /// The report of the state that the accepted entries leave, of which no line came.
     pub fn new(alloc: Global, checker: &JournalChecker) -> Result<ReportReader, Memory>
-        ensures { IfOk result (λ reader. (rules : Rules) (processes : ℕ) (accepted : List Event) (S : State)
+        ensures are { IfOk result (λ reader. (rules : Rules) (processes : ℕ) (accepted : List Event) (S : State)
             → HasAccepted rules processes checker.now accepted → IsRun rules processes accepted S → AreReportLines processes S accepted reader) }
+        ensures few { IfOk result (λ reader. All HasFewTaken reader) }
     {
         let manager = checker.manager();
         let mut lines = Vec::new(alloc);
@@ -240,9 +247,10 @@ fn push_waits(lines: &mut Vec<ReportLine>, waits: &[Wait]) -> Result<(), Memory>
 
 /// Appends a line for each process.
 fn push_processes(lines: &mut Vec<ReportLine>, checker: &JournalChecker) -> Result<(), Memory>
-    ensures { OnOk result ((rules : Rules) (processes : ℕ) (accepted : List Event) (S : State)
+    ensures are { OnOk result ((rules : Rules) (processes : ℕ) (accepted : List Event) (S : State)
         → HasAccepted rules processes checker.now accepted → IsRun rules processes accepted S
         → lines.new.items ≡ lines.old.items ++ lines_from S.states accepted 1 processes) }
+    ensures few { All HasFewTaken lines.old.items → All HasFewTaken lines.new.items }
 {
     for index in 0..checker.manager().processes() {
         lines.push(ReportLine::Process(line_of(checker, index + 1)))?;
@@ -252,8 +260,9 @@ fn push_processes(lines: &mut Vec<ReportLine>, checker: &JournalChecker) -> Resu
 
 /// What there is to tell of a process. It sent at least what was taken of it.
 fn line_of(checker: &JournalChecker, p: u8) -> ProcessLine
-    ensures { (rules : Rules) (processes : ℕ) (accepted : List Event) (S : State)
+    ensures is { (rules : Rules) (processes : ℕ) (accepted : List Event) (S : State)
         → HasAccepted rules processes checker.now accepted → IsRun rules processes accepted S → result ≡ least_line S.states accepted p }
+    ensures few { result.taken < 2 ^ 64 }
 {
     let taken = checker.taken(p);
     ProcessLine {

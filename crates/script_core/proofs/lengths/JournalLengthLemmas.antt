@@ -1,7 +1,7 @@
 -- The requests of a journal take no more bytes than its arrivals, since of each process just the first that it sent are taken: for
 -- `outputs_are_short`.
 use Rattle.std.proofs.lemmas.Grind.{common_steps}
-use Rattle.std.proofs.Common.{◌≡◌, ◌≢◌, ℕ, ◌+◌, ◌*◌, ◌≤◌, ◌==◌, List, [], ◌∷◌, ◌++◌, length, map, filter, Some, None, slice_get, ⊎_elim, refl, sym, ap, ◌∙◌, subst, arith, eq-eqb, ne_eqb, append_assoc, append-nil}
+use Rattle.std.proofs.Common.{◌≡◌, ◌≢◌, ℕ, ◌+◌, ◌*◌, ◌≤◌, ◌==◌, List, [], ◌∷◌, ◌++◌, length, length-append, map, filter, Some, None, slice_get, ⊎_elim, refl, sym, ap, ◌∙◌, subst, arith, eq-eqb, ne_eqb, append_assoc, append-nil}
 use Rattle.std.specs.List.{AllByRecursion as Each}
 use Rattle.std.proofs.lemmas.Bool.{cases_eq}
 use Rattle.std.proofs.lemmas.List.{length-map, map-append}
@@ -168,8 +168,23 @@ fronts_length (event ∷ journal) arrivals fronts =
     let size = less.bytes in
     omega (arith, rest, size)
 
+-- of each process just the first requests that arrived were taken by a drain
+drained_fronts : (rules : Rules) (processes : ℕ) (arrivals : List (ℕ × Request)) (journal : List Event) (T : State)
+    → IsDrain rules processes arrivals journal T → AreFronts (λ p. requests_sent p arrivals) journal
+drained_fronts rules processes arrivals journal T drains =
+    drains_fronts rules processes [] [] opening_state arrivals journal T (λ p. (requests_sent p [], refl)) drains
+
 -- the requests of a journal take no more bytes than its arrivals
 pub drained_length : (rules : Rules) (processes : ℕ) (arrivals : List (ℕ × Request)) (journal : List Event) (T : State)
     → IsDrain rules processes arrivals journal T → events_length journal ≤ arrivals_length arrivals
 drained_length rules processes arrivals journal T drains =
-    fronts_length journal arrivals (drains_fronts rules processes [] [] opening_state arrivals journal T (λ p. (requests_sent p [], refl)) drains)
+    fronts_length journal arrivals (drained_fronts rules processes arrivals journal T drains)
+
+-- of no process more are taken than it sent
+pub taken_were_sent : (rules : Rules) (processes : ℕ) (arrivals : List (ℕ × Request)) (journal : List Event) (T : State)
+    → IsDrain rules processes arrivals journal T → (p : ℕ) → length (events_of p journal) ≤ length (requests_sent p arrivals)
+taken_were_sent rules processes arrivals journal T drains p =
+    let front = drained_fronts rules processes arrivals journal T drains p in
+    let taken = length-map (events_of p journal) (λ (event : Event). event.request) in
+    let all = ap length front.1 ∙ length-append (requests_taken p journal) front.0 in
+    omega (arith, taken, all)

@@ -17,7 +17,6 @@ use Rattle.script_core.specs.RequestText.{request_words}
 use Rattle.script_core.specs.EntryText.{tag, note_text, entry_text, entry_line}
 use Rattle.script_core.specs.EntryReading.{IsWritableEvent}
 use Rattle.script_core.specs.ReportText.{IsReport, held_text, held_line, wait_text, wait_line, is_reported, process_text, process_line, line_of, reported_line, process_lines}
-use Rattle.script_core.specs.ReportReading.{AreSmall}
 use Rattle.script_core.proofs.RoundTripLemmas.{length-join, join_cons}
 use Rattle.script_core.proofs.EntryRoundTripLemmas.{length-tag, length-notes}
 use Rattle.script_core.proofs.FitLemmas.{FitsWait, Fits, each_map, few_waits}
@@ -92,7 +91,7 @@ process_length told sent fits =
 
 -- the lines of processes
 processes_length : (limits : Limits) (states : ℕ → ProcState) (events : List Event) (sent : ℕ → ℕ) (p more : ℕ) → p + more ≤ 65
-    → Each (IsWritableEvent limits) events → ((q : ℕ) → length (events_of q events) ≤ script_limit + 1) → AreSmall sent
+    → Each (IsWritableEvent limits) events → ((q : ℕ) → length (events_of q events) ≤ script_limit + 1) → ((p : ℕ) → sent p < 2 ^ 64)
     → length (process_lines states events sent p more) ≤ more * 117
 unfolding process_lines
 processes_length limits states events sent p zero few writable counts small = omega arith
@@ -105,7 +104,7 @@ processes_length limits states events sent p (suc more) few writable counts smal
 
 -- the report has so many bytes for each lock that is held, and for 64 waits and 64 processes
 pub report_length : (limits : Limits) (processes : ℕ) (S : State) (events : List Event) (sent : ℕ → ℕ) (text : List ℕ) → processes ≤ 64 → Fits limits S
-    → Each (IsWritableEvent limits) events → Each (λ event. event.n ≤ script_limit + 1) events → AreNumbered events → AreSmall sent
+    → Each (IsWritableEvent limits) events → Each (λ event. event.n ≤ script_limit + 1) events → AreNumbered events → ((p : ℕ) → sent p < 2 ^ 64)
     → (is : IsReport processes S events sent text) → length text ≤ length is.held * 103 + 16768
 report_length limits processes S events sent text few fits writable numbers numbered small is =
     let locks = flat_map held_line is.held in

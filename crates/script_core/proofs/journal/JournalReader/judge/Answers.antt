@@ -19,7 +19,7 @@ returns-in_err-answer c =
       | in-None+in_ok-report-in-None w ↦
           left_first reading.place reading.entries reading.report c.match-take.report _
           (subst (λ r. ReportsAt reading.place reading.entries reading.report r) (sym c.take.ensures.value ∙ w.in-None.is) read.reported) read.checked.run
-          (λ T run. w.in_ok-report-in-None.ensures (rules_at reading.place) (processes_at reading.place) reading.entries T read.checked run) w.report-is
+          (λ T run. w.in_ok-report-in-None.ensures.are (rules_at reading.place) (processes_at reading.place) reading.entries T read.checked run) w.in_ok-report-in-None.ensures.few w.report-is
     ] in
     report_refused c.locks_have_one_report.ensures c.args.self.now _ reading c.args.text.now c.match-take.report c.in_err-answer.field-0.0 read left
     (λ is. c.in_err-answer.ensures.illegal (ap (λ fault. Err fault) is)) refl refl refl
@@ -35,7 +35,7 @@ returns c = λ reading read.
       | in-None+in_ok-report-in-None w ↦
           left_first reading.place reading.entries reading.report c.match-take.report _
           (subst (λ r. ReportsAt reading.place reading.entries reading.report r) (sym c.take.ensures.value ∙ w.in-None.is) read.reported) read.checked.run
-          (λ T run. w.in_ok-report-in-None.ensures (rules_at reading.place) (processes_at reading.place) reading.entries T read.checked run) w.report-is
+          (λ T run. w.in_ok-report-in-None.ensures.are (rules_at reading.place) (processes_at reading.place) reading.entries T read.checked run) w.in_ok-report-in-None.ensures.few w.report-is
     ] in
     report_taken c.args.self.now _ reading c.args.text.now c.match-take.report c.next-answer.new.self read left c.in_ok-answer.ensures.goes_on c.next-answer.ensures.last
     refl refl refl refl
