@@ -1,6 +1,6 @@
 //! The descriptors of all processes, and the open file descriptions that they refer to.
 ghost use Rattle.std.specs.Prelude.{ℕ, ◌≡◌, ◌≤◌, ◌<◌, ◌+◌, ◌^◌, Some, length, option_map, replicate, false, IfSome, IfNone, ◌<ℤ◌, pos};
-ghost use Rattle.fd_table.specs.declared.TheConstants.{DESCRIPTIONS};
+ghost use Rattle.fd_table.specs.declared.TheConstants.{DESCRIPTIONS, FILES};
 ghost use Rattle.fd_table.specs.declared.tables.Opened.{Opened};
 ghost use Rattle.slab.specs.Slab.{get};
 ghost use Rattle.fd_table.specs.Rows.{users_in};
@@ -247,6 +247,14 @@ impl Tables {
             offset: opened.offset,
             size: self.sizes[usize::from(opened.file)],
         })
+    }
+
+    /// The size of a file in bytes, whether it is open or not.
+    pub fn size_of(&self, file: u8) -> u64
+        requires { file < FILES }
+        ensures { (D : Descriptors) → StandFor self.now D → result ≡ D.sizes file }
+    {
+        self.sizes[usize::from(file)]
     }
 
     /// `lseek`: sets the offset of the description that the descriptor refers to, for all who share it. The access mode

@@ -158,6 +158,14 @@ impl Manager {
         self.machine.look(p, fd)
     }
 
+    /// The size of a file in bytes, whether a descriptor refers to it or not (POSIX.1-2017 ftruncate, DESCRIPTION).
+    pub fn size_of(&self, file: u8) -> u64
+        requires { file < FILES }
+        ensures { (S : State) → StandsFor self.now S → result ≡ S.descriptors.sizes file }
+    {
+        self.machine.size_of(file)
+    }
+
     /// How many processes there are, numbered from 1.
     pub fn processes(&self) -> u8
         ensures { result ≡ processes_of self.now }

@@ -1,5 +1,6 @@
 //! The calls on descriptors.
-ghost use Rattle.std.specs.Prelude.{◌≡◌, IfOk, OnErr};
+ghost use Rattle.std.specs.Prelude.{◌≡◌, ◌<◌, IfOk, OnErr};
+ghost use Rattle.fd_table.specs.declared.TheConstants.{FILES};
 ghost use Rattle.fd_table.specs.Descriptors.{look_at};
 ghost use Rattle.lock_manager.specs.State.{State};
 ghost use Rattle.lock_manager.specs.MachineView.{SameMachine, SameRules, Shows, Answers, machine_waits, machine_state};
@@ -17,6 +18,14 @@ impl Machine {
         ensures { (S : State) → Shows self.now S → result ≡ look_at S.descriptors p fd }
     {
         self.tables.look(p, fd)
+    }
+
+    /// The size of a file in bytes.
+    pub fn size_of(&self, file: u8) -> u64
+        requires { file < FILES }
+        ensures { (S : State) → Shows self.now S → result ≡ S.descriptors.sizes file }
+    {
+        self.tables.size_of(file)
     }
 
     /// open (POSIX.1-2017 open).
