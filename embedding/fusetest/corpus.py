@@ -11,7 +11,7 @@ from fusetest.observe import see
 from harness import filesystem
 
 LOCKTEST = Path(__file__).resolve().parent.parent.parent / "conformance" / "locktest"
-RANDOM = 40
+RANDOM = 20
 
 
 def scripts(path: Path) -> None:
