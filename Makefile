@@ -14,7 +14,7 @@ build:
 	@(cd crates/lockreplay && rt run) < /dev/null > crates/lockreplay/out/build.log 2>&1 \
 	    || { cat crates/lockreplay/out/build.log >&2; exit 1; }
 
-# The gate, and then the command lines, single lines, devices that fail, the worked scripts (also in threads, in whatever order comes), the
+# The gate, and then the command lines, single lines, devices that fail, growths and threads that are refused, the worked scripts (also in threads, in whatever order comes), the
 # large scripts and the samples on the program as two compilers built it in the gate, what the README, the help and the manual page show, the
 # files and names that the documents point to, that the tests of script_core have these worked scripts, that want of memory is made at one
 # place, that each edit still compiles, and the conformance tools' tests but for those that a busy machine can upset.
@@ -31,6 +31,7 @@ test:
 	sh tests/run-threads.sh $(PROGRAM).by-rattle 20 $(WORKED)
 	tests/devices $(PROGRAM)
 	tests/devices $(PROGRAM).by-rattle
+	sh tests/refusals.sh $(PROGRAM)
 	sh tests/large-scripts.sh $(PROGRAM)
 	sh tests/large-scripts.sh $(PROGRAM).by-rattle
 	sh tests/samples.sh $(PROGRAM)

@@ -139,6 +139,10 @@ check 0 state.all empty empty --state all state
 check 0 explained.out empty empty --state 99 explained
 check 0 empty empty state.all --check
 check 0 empty.out empty conversion --state all empty
+check 0 handed-over.state empty conversion --threads --state 4 handed-over
+check 0 handed-over.state empty handed-over --state=4 --threads
+check 0 handed-over.state empty conversion --threads --explain --state 4 handed-over
+check 0 handed-over.state empty conversion handed-over --state 4 --explain --threads
 check 2 empty no-entry.err conversion --state 0
 check 2 empty no-entry.err conversion --state 06
 check 2 empty no-entry.err conversion --state every

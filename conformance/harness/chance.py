@@ -100,10 +100,15 @@ class Maker:
         return f" {kind} {whence} {start} {length}{pid}"
 
 
+def name_of(seed: int, number: int) -> str:
+    """The name of the script of a number under a seed."""
+    return f"random {number} of seed {seed}"
+
+
 def make_script(lockreplay: Lockreplay, seed: int, number: int) -> Script:
     """The script of a number under a seed."""
     text = "".join(f"{line}\n" for line in Maker(lockreplay, f"{seed}/{number}").make())
-    return Script.parse(f"random {number} of seed {seed}", text)
+    return Script.parse(name_of(seed, number), text)
 
 
 def shrink(script: Script, differs: Callable[[Script], bool]) -> Script:

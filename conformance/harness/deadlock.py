@@ -1,4 +1,4 @@
-"""Who waits for whom, and what Linux's search for deadlocks can find of it: it follows one blocker of each wait."""
+"""Who waits for whom, and what a search for deadlocks can find of it: Linux's follows one blocker of each wait."""
 
 from __future__ import annotations
 
@@ -22,6 +22,17 @@ def meets(one: Held, other: Held) -> bool:
 def blockers(run: Run, asked: Held) -> list[Held]:
     """The locks that block a lock."""
     return [held for held in run.held if meets(held, asked)]
+
+
+def closes_a_cycle(run: Run, asked: Held) -> bool:
+    """Whether a wait for the lock closes a cycle of owners each of whom waits for the next one's lock on bytes."""
+    reached: set[str] = set()
+    places = {held.owner for held in blockers(run, asked)}
+    while places - reached:
+        reached |= places
+        waited = [wait.lock for wait in run.waits if wait.lock.owner in places and not wait.lock.by_flock]
+        places = {held.owner for lock in waited for held in blockers(run, lock)}
+    return asked.owner in reached
 
 
 @dataclass

@@ -1,4 +1,4 @@
-"""Judges what a system showed: by lockreplay, and by what is known of Linux's own kernel."""
+"""Judges what a system showed: by lockreplay, and by known differences."""
 
 from __future__ import annotations
 
@@ -8,7 +8,7 @@ from typing import Optional
 from harness.account import Account, Finding, Moment, first_difference, moments_of, replay
 from harness.filesystem import FileSystem
 from harness.journal import Event
-from harness.known import Situation, recognised
+from harness.known import OF_LINUX, Recogniser, Situation, recognised
 from harness.replay import Lockreplay
 from harness.script import Script
 
@@ -17,7 +17,8 @@ AS_DEFINED, KNOWN, DIFFERS, SKIPPED, NOT_RUN = "as defined", "known", "differs",
 
 @dataclass
 class Verdict:
-    """How a script went: the journal, the known differences, the event that is none of them, and how many events weren't compared."""
+    """How a script went: the journal, the known differences, the event that is none of them, how many events weren't compared, and
+    whether it got stuck, since a process hung or its files couldn't be made."""
 
     kind: str
     journal: list[Event] = field(default_factory=list)
@@ -25,15 +26,16 @@ class Verdict:
     left_out: int = 0
     difference: Optional[Finding] = None
     reason: str = ""
+    stuck: bool = False
 
 
 class Judge:
-    """Judges journals on one file system. `knows` says whether known differences are looked for."""
+    """Judges journals on one file system. The recognisers are those of the differences that it knows, by name."""
 
-    def __init__(self, lockreplay: Lockreplay, file_system: FileSystem, knows: bool = True) -> None:
+    def __init__(self, lockreplay: Lockreplay, file_system: FileSystem, recognisers: Optional[dict[str, Recogniser]] = None) -> None:
         self.lockreplay = lockreplay
         self.file_system = file_system
-        self.knows = knows
+        self.recognisers = OF_LINUX if recognisers is None else recognisers
 
     def judge(self, script: Script, journal: list[Event]) -> Verdict:
         """The verdict on a journal."""
@@ -58,7 +60,7 @@ class Judge:
 
     def explain(self, situation: Situation) -> Optional[Account]:
         """The first account under which the event is as it should be; None where there is none."""
-        for account in recognised(situation) if self.knows else ():
+        for account in recognised(situation, self.recognisers):
             later = first_difference(account, situation.journal, self.moments(situation.script, account))
             if later is None or later > situation.at:
                 return account

@@ -1,4 +1,5 @@
-"""Known differences of Linux's own kernel from what lockreplay says. KERNEL.md has the table, by the names that stand here.
+"""Known differences from what lockreplay says: those of Linux's own kernel, and those that FUSE's protocol makes. KERNEL.md has the
+table, by the names that stand here.
 
 A recogniser looks at the first event that isn't as it should be, and offers accounts under which it would be. An offer counts only
 where all that the account then gives is what the system showed, so a recogniser takes nothing else for its difference.
@@ -120,15 +121,7 @@ def open_file_unlock_asked(situation: Situation) -> Iterator[Account]:
 
 def other_blocker(situation: Situation) -> Iterator[Account]:
     """A get command that tells another lock that blocks."""
-    call, description = situation.request.lock_call, situation.description
-    if not situation.request.command.endswith("getlk") or call is None or description is None:
-        return
-    span = span_of(situation, description)
-    if span is None or not str(situation.right.note).startswith("held"):
-        return
-    owner = description.owner if situation.request.is_open_file_lock else f"process {situation.request.process}"
-    asked = Held(description.file, owner, call.kind, *span)
-    if situation.event.note in [told_as(held) for held in deadlock.blockers(situation.before, asked)]:
+    if situation.event.note in [told_as(held) for held in told_of(situation)]:
         yield situation.account.accepting(situation.at)
 
 
@@ -158,7 +151,7 @@ def deadlock_missed(situation: Situation) -> Iterator[Account]:
     """A cycle that a search by one blocker of each wait may miss. lockreplay has no such state, so comparing ends."""
     if situation.right.note != "EDEADLK" or situation.event.note != "waits" or situation.description is None:
         return
-    asked = asked_lock(situation)
+    asked = asked_lock(situation, "setlkw")
     search = deadlock.Search(situation.before)
     if asked and not all(search.must_find(asked.owner, held.owner) for held in deadlock.blockers(situation.before, asked)):
         yield replace(situation.account, stop=situation.at)
@@ -166,7 +159,7 @@ def deadlock_missed(situation: Situation) -> Iterator[Account]:
 
 def deadlock_through_description(situation: Situation) -> Iterator[Account]:
     """A cycle that leads through OFD waits, at the request."""
-    asked = asked_lock(situation)
+    asked = asked_lock(situation, "setlkw")
     if situation.event.note != "EDEADLK" or situation.right.note != "waits" or asked is None:
         return
     places = {held.owner for held in deadlock.blockers(situation.before, asked)}
@@ -220,6 +213,28 @@ def flock_lost(situation: Situation) -> Iterator[Account]:
                 yield replace(converted, findings=account.findings + (situation.finding("flock-conversion"),))
 
 
+def fuse_pid_of_description(situation: Situation) -> Iterator[Account]:
+    """F_GETLK on FUSE, which tells an OFD lock with a process that asked for locks through its description, not with -1."""
+    for held in told_of(situation) if situation.request.command == "getlk" else ():
+        if held.owner.startswith("description") and situation.event.note in [told_as(held, pid) for pid in askers(situation, held.owner)]:
+            yield situation.account.accepting(situation.at)
+
+
+def fuse_no_pid(situation: Situation) -> Iterator[Account]:
+    """F_OFD_GETLK on FUSE, which tells a record lock with -1, not with its process."""
+    for held in told_of(situation) if situation.request.command == "ogetlk" else ():
+        if situation.event.note == told_as(held, "-1"):
+            yield situation.account.accepting(situation.at)
+
+
+def fuse_deadlock(situation: Situation) -> Iterator[Account]:
+    """EDEADLK on FUSE for a wait that closes a cycle by OFD waits, its own or others."""
+    asked = asked_lock(situation, "setlkw", "osetlkw")
+    if situation.event.note == "EDEADLK" and situation.right.note == "waits" and asked is not None:
+        if deadlock.closes_a_cycle(situation.before, asked):
+            yield situation.account.leaving_out(situation.at)
+
+
 def flocks_asked_again(situation: Situation, moment: int, lost: tuple[Ticket, ...]) -> Iterator[Account]:
     """Accounts in which all waits for flock locks are tested anew behind an event, and those that are `lost` lose what is held."""
     waits = [(ticket, wait) for ticket, wait in situation.waits_before(moment) if wait.lock.by_flock]
@@ -269,20 +284,42 @@ def span_of(situation: Situation, description: Description) -> Optional[tuple[in
     return (first, last) if 0 <= first <= last <= LARGEST_OFFSET else None
 
 
-def asked_lock(situation: Situation) -> Optional[Held]:
-    """The traditional lock that a request asks for; None where it asks for another, or for none."""
+def asked_lock(situation: Situation, *commands: str) -> Optional[Held]:
+    """The byte lock that a request asks for, or asks about; None where it is none of these commands, or has no such bytes."""
     call, description = situation.request.lock_call, situation.description
     span = span_of(situation, description) if description else None
-    if call is None or description is None or span is None or situation.request.command != "setlkw":
+    if call is None or description is None or span is None or situation.request.command not in commands:
         return None
-    return Held(description.file, f"process {situation.request.process}", call.kind, *span)
+    owner = description.owner if situation.request.is_open_file_lock else f"process {situation.request.process}"
+    return Held(description.file, owner, call.kind, *span)
 
 
-def told_as(held: Held) -> str:
-    """The note in which a get command tells a lock."""
+def told_of(situation: Situation) -> list[Held]:
+    """The locks that a get command may tell, each of which blocks; none where it isn't to tell one."""
+    asked = asked_lock(situation, "getlk", "ogetlk")
+    if asked is None or not str(situation.right.note).startswith("held"):
+        return []
+    return deadlock.blockers(situation.before, asked)
+
+
+def askers(situation: Situation, owner: str) -> set[str]:
+    """The pids by which a process may be told that asked for OFD locks of the owner: its number; once it has ended, perhaps 0."""
+    descriptors, found, ended = Descriptors(), set(), set()
+    for event in situation.journal[: situation.at]:
+        description = descriptors.of(event.request)
+        if event.request.command in ("osetlk", "osetlkw") and description is not None and description.owner == owner:
+            found.add(str(event.request.process))
+        if event.request.command == "exit" or (event.request.command == "kill" and event.note == "ok"):
+            ended.add(str(event.request.process) if event.request.command == "exit" else event.request.words[1])
+        descriptors.follow(event)
+    return found | ({"pid:0"} if found & ended else set())
+
+
+def told_as(held: Held, pid: Optional[str] = None) -> str:
+    """The note in which a get command tells a lock: with its own pid, or with another."""
     kind, number = held.owner.split()
     length = 0 if held.last == LARGEST_OFFSET else (held.last or 0) - (held.first or 0) + 1
-    return f"held {held.mode} {held.first} {length} {number if kind == 'process' else -1}"
+    return f"held {held.mode} {held.first} {length} {pid or (number if kind == 'process' else -1)}"
 
 
 def overlap(held: Held, span: tuple[int, int]) -> bool:
@@ -290,8 +327,8 @@ def overlap(held: Held, span: tuple[int, int]) -> bool:
     return held.first is not None and held.last is not None and held.first <= span[1] and span[0] <= held.last
 
 
-# In the order in which they are tried: those of one request's answer first, and those of waits behind them.
-RECOGNISERS: dict[str, Recogniser] = {
+# Of Linux's own kernel, in the order in which they are tried: those of one request's answer first, and those of waits behind them.
+OF_LINUX: dict[str, Recogniser] = {
     "start-past-largest-offset": start_past_largest,
     "ofd-order-of-refusals": open_file_order,
     "ofd-getlk-unlock": open_file_unlock_asked,
@@ -306,10 +343,16 @@ RECOGNISERS: dict[str, Recogniser] = {
     "flock-conversion": flock_conversion,
     "flock-lost": flock_lost,
 }
+# Of any FUSE server, since the protocol doesn't tell which locks and waits are of open file descriptions.
+OF_FUSE: dict[str, Recogniser] = {
+    "fuse-getlk-pid": fuse_pid_of_description,
+    "fuse-ofd-getlk-pid": fuse_no_pid,
+    "fuse-ofd-deadlock": fuse_deadlock,
+}
 
 
-def recognised(situation: Situation) -> Iterator[Account]:
+def recognised(situation: Situation, recognisers: dict[str, Recogniser]) -> Iterator[Account]:
     """The accounts that the recognisers offer, each with its finding."""
-    for name, recogniser in RECOGNISERS.items():
+    for name, recogniser in recognisers.items():
         for account in recogniser(situation):
             yield replace(account, findings=account.findings + (situation.finding(name),))

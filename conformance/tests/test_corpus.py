@@ -6,7 +6,7 @@ import re
 import unittest
 
 from harness.command import CORPUS, HERE
-from harness.known import RECOGNISERS
+from harness.known import OF_FUSE, OF_LINUX
 from harness.replay import Lockreplay
 from harness.script import Script
 from tests.support import LOCKREPLAY
@@ -36,7 +36,17 @@ class Corpus(unittest.TestCase):
 
     def test_each_known_difference_is_described(self) -> None:
         table = (HERE / "KERNEL.md").read_text()
-        for name in RECOGNISERS:
+        for name in OF_LINUX:
             with self.subTest(name):
                 self.assertIn(f"## `{name}`", table)
                 self.assertTrue((CORPUS / f"known-{name}.lock").exists() or name == "eacces")
+
+    def test_what_fuse_makes_differ_is_described(self) -> None:
+        table = (HERE / "KERNEL.md").read_text()
+        for name in OF_FUSE:
+            with self.subTest(name):
+                _, found, said = table.partition(f"## `{name}`\n")
+                self.assertTrue(found)
+                shown = re.findall(r"`([a-z0-9-]+)`", said.partition("- Scripts:")[2].partition("- Recognised")[0])
+                self.assertTrue(shown)
+                self.assertEqual([it for it in shown if not (CORPUS / f"{it}.lock").exists()], [])

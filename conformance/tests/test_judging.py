@@ -8,6 +8,7 @@ from harness.chance import make_script, shrink
 from harness.filesystem import FileSystem
 from harness.journal import read_event
 from harness.judge import AS_DEFINED, DIFFERS, KNOWN, Judge, Verdict
+from harness.known import OF_FUSE, OF_LINUX, Recogniser
 from harness.replay import Lockreplay
 from harness.script import LARGEST_OFFSET, Request, Script
 from tests.support import LOCKREPLAY
@@ -28,14 +29,19 @@ ONE_RELEASE = """1#1 open 0 rw | 1#1 fd 0
 1#5 setlk 0 u set 0 2 | 1#5 ok"""
 
 
+def verdict_on(journal: str, recognisers: dict[str, Recogniser], largest_offset: int = LARGEST_OFFSET) -> Verdict:
+    """The verdict on a journal; the script is what it has taken."""
+    events = [read_event(line) for line in journal.splitlines()]
+    script = Script("test", "", (), ()).of_requests(event.request for event in events)
+    return Judge(Lockreplay(LOCKREPLAY), FileSystem("ext4", "/", "rw", largest_offset), recognisers).judge(script, events)
+
+
 class Judging(unittest.TestCase):
     """Journals as a system might show them."""
 
     def judge(self, journal: str, largest_offset: int = LARGEST_OFFSET) -> Verdict:
-        """The verdict on a journal; the script is what it has taken."""
-        events = [read_event(line) for line in journal.splitlines()]
-        script = Script("test", "", (), ()).of_requests(event.request for event in events)
-        return Judge(Lockreplay(LOCKREPLAY), FileSystem("ext4", "/", "rw", largest_offset)).judge(script, events)
+        """The verdict where Linux's own known differences are accepted."""
+        return verdict_on(journal, OF_LINUX, largest_offset)
 
     def test_what_is_right(self) -> None:
         self.assertEqual(self.judge(CYCLE_OF_TWO + "EDEADLK").kind, AS_DEFINED)
@@ -83,6 +89,62 @@ class Judging(unittest.TestCase):
         self.assertEqual(self.judge(front + "ok").kind, KNOWN)
         self.assertEqual(self.judge(front + "EAGAIN").kind, DIFFERS)
         self.assertEqual(self.judge(front + "ok | 2#2 ok").kind, DIFFERS)
+
+
+TWO_DESCRIPTIONS = """1#1 open 0 rw | 1#1 fd 0
+1#2 fork 2 | 1#2 ok
+2#1 open 0 rw | 2#1 fd 1
+1#3 osetlk 0 w set 0 1 | 1#3 ok
+"""
+
+
+class OnFuse(unittest.TestCase):
+    """Journals as a FUSE mount shows them, whose server isn't told which locks are of open file descriptions."""
+
+    def fuse_names(self, journal: str) -> list[str]:
+        """The differences that are known on FUSE; without them the journal differs."""
+        verdict = verdict_on(journal, OF_LINUX | OF_FUSE)
+        self.assertEqual(verdict.kind, KNOWN)
+        self.assertEqual(verdict_on(journal, OF_LINUX).kind, DIFFERS)
+        return [finding.name for finding in verdict.findings]
+
+    def differs(self, journal: str) -> None:
+        self.assertEqual(verdict_on(journal, OF_LINUX | OF_FUSE).kind, DIFFERS)
+
+    def test_an_open_file_description_lock_is_told_with_a_pid(self) -> None:
+        self.assertEqual(self.fuse_names(TWO_DESCRIPTIONS + "2#2 getlk 1 r set 0 1 | 2#2 held w 0 1 1"), ["fuse-getlk-pid"])
+        for wrong in ("w 0 1 2", "w 0 1 pid:4711", "w 0 1 pid:0", "r 0 1 1", "w 0 2 1"):
+            self.differs(TWO_DESCRIPTIONS + f"2#2 getlk 1 r set 0 1 | 2#2 held {wrong}")
+
+    def test_the_process_with_the_pid_may_have_ended(self) -> None:
+        ended = "2#2 osetlk 0 w set 0 1 | 2#2 ok\n2#3 exit\n1#4 open 0 rw | 1#4 fd 1\n"
+        journal = TWO_DESCRIPTIONS.replace("1#3 osetlk 0 w set 0 1", "1#3 seek 0 0") + ended
+        for told in ("2", "pid:0"):
+            self.assertEqual(self.fuse_names(journal + f"1#5 getlk 1 r set 0 1 | 1#5 held w 0 1 {told}"), ["fuse-getlk-pid"])
+        self.differs(journal + "1#5 getlk 1 r set 0 1 | 1#5 held w 0 1 1")
+
+    def test_of_several_locks_any_may_be_told(self) -> None:
+        journal = TWO_DESCRIPTIONS.replace("1#3 osetlk 0 w", "1#3 osetlk 0 r") + "2#2 osetlk 1 r set 0 3 | 2#2 ok\n1#4 fork 3 | 1#4 ok\n"
+        self.assertEqual(self.fuse_names(journal + "3#1 getlk 0 w set 0 9 | 3#1 held r 0 3 2"), ["fuse-getlk-pid"])
+        self.differs(journal + "3#1 getlk 0 w set 0 9 | 3#1 held r 0 3 1")
+
+    def test_a_record_lock_is_told_without_its_pid(self) -> None:
+        journal = "1#1 open 0 rw | 1#1 fd 0\n1#2 setlk 0 w set 0 1 | 1#2 ok\n1#3 ogetlk 0 r set 0 4 | 1#3 held "
+        self.assertEqual(self.fuse_names(journal + "w 0 1 -1"), ["fuse-ofd-getlk-pid"])
+        for wrong in ("w 0 1 pid:0", "w 0 2 -1", "r 0 1 -1"):
+            self.differs(journal + wrong)
+        self.differs("1#1 open 0 rw | 1#1 fd 0\n1#2 fork 2 | 1#2 ok\n1#3 setlk 0 w set 0 1 | 1#3 ok\n2#1 getlk 0 r set 0 1 | 2#1 held w 0 1 -1")
+
+    def test_a_cycle_of_open_file_descriptions_is_refused(self) -> None:
+        journal = TWO_DESCRIPTIONS + "2#2 osetlk 1 w set 1 1 | 2#2 ok\n1#4 osetlkw 0 w set 1 1 | 1#4 waits\n"
+        self.assertEqual(self.fuse_names(journal + "2#3 osetlkw 1 w set 0 1 | 2#3 EDEADLK"), ["fuse-ofd-deadlock"])
+        behind = "2#3 osetlkw 1 w set 0 1 | 2#3 EDEADLK\n2#4 osetlk 1 u set 1 1 | 2#4 ok"
+        self.assertEqual(self.fuse_names(journal + behind + " | 1#4 ok"), ["fuse-ofd-deadlock"])
+        self.differs(journal + behind)
+
+    def test_what_closes_no_cycle_waits(self) -> None:
+        self.differs(TWO_DESCRIPTIONS + "2#2 osetlkw 1 w set 0 1 | 2#2 EDEADLK")
+        self.differs(TWO_DESCRIPTIONS + "2#2 setlkw 1 w set 0 1 | 2#2 EDEADLK")
 
 
 class Chance(unittest.TestCase):

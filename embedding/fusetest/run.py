@@ -14,7 +14,7 @@ from dataclasses import dataclass, field
 from pathlib import Path
 from typing import Callable
 
-from fusetest import corpus, descriptions, programs, records, waits
+from fusetest import corpus, descriptions, programs, records, special, waits
 from fusetest.mount import CouldNotMount, Places, end_group
 from fusetest.observe import Seen
 
@@ -32,13 +32,23 @@ STEPS: dict[str, tuple[Callable[[Path], None], float]] = {
     "signals": (waits.signals, 180),
     "deadlocks": (waits.deadlocks, 120),
     "cycles-of-open-files": (waits.cycles_of_open_files, 120),
+    "made-by-mknod": (special.made_by_mknod, 60),
+    "another-user": (special.another_user, 60),
+    "refusals": (special.refusals, 120),
     "package-tool": (programs.package_tool, 60),
     "mail-store": (programs.mail_store, 60),
     "counting": (programs.counting, 180),
     "sqlite-rollback": (programs.rollback, 300),
     "sqlite-wal": (programs.write_ahead, 300),
     "corpus": (corpus.scripts, 900),
+    "random-scripts": (corpus.random_scripts, 900),
 }
+# What a tmpfs has nothing of.
+ON_THE_MOUNT_ALONE = ("refusals",)
+# What lockreplay judges.
+LOCKREPLAYS = ("corpus", "random-scripts")
+# What only root can try: another user is to be let in.
+ROOTS_ALONE = ("another-user",)
 PACKAGES = {"fusermount3": "fuse3", "sqlite3": "sqlite3", "flock": "util-linux"}
 SKIPPED = 0
 # How long a process that was killed may take to end.
@@ -116,6 +126,8 @@ def run_steps(names: list[str], places: Places, tally: Tally) -> None:
     """Runs each step on the mount, and then on the tmpfs."""
     for step in names:
         for place, folder in (("mount", places.mount), ("tmpfs", places.beside)):
+            if place != "mount" and step in ON_THE_MOUNT_ALONE:
+                continue
             failed, began = len(tally.failures), time.monotonic()
             run_step(step, place, folder, places, tally)
             verdict = "ok" if len(tally.failures) == failed else "FAILED"
@@ -155,7 +167,8 @@ def main() -> int:
         return SKIPPED
     for number in (signal.SIGTERM, signal.SIGHUP):
         signal.signal(number, lambda signal_number, _: sys.exit(128 + signal_number))
-    names = options.only or [name for name in STEPS if name != "corpus" or "LOCKREPLAY" in os.environ]
+    left_out = (() if "LOCKREPLAY" in os.environ else LOCKREPLAYS) + (() if os.geteuid() == 0 else ROOTS_ALONE)
+    names = options.only or [name for name in STEPS if name not in left_out]
     tally = Tally()
     try:
         with Places(options.lockfs) as places:

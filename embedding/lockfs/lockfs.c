@@ -1,10 +1,12 @@
 /* A file system that passes files through to a folder and has its locks answered by the library: fcntl record locks, open file
  * description locks and flock.
  *
- *   lockfs [-f] [--kernel-locks] FOLDER MOUNTPOINT
+ *   lockfs [-f] [--kernel-locks] [--log FILE] [-o allow_other] FOLDER MOUNTPOINT
  *
- * It returns once MOUNTPOINT is mounted, and serves until `fusermount3 -u MOUNTPOINT`; with -f it stays in the foreground. With
- * --kernel-locks it answers no lock request, so the kernel's own locks hold on the mount: for measurements.
+ * It returns once MOUNTPOINT is mounted, and serves until `fusermount3 -u MOUNTPOINT` or a SIGTERM; with -f it stays in the foreground. With
+ * --kernel-locks it answers no lock request, so the kernel's own locks hold on the mount: for measurements. With --log it adds a line to
+ * FILE for each lock request that it refuses. With -o allow_other all users have the mount; what a user makes there is the user's where
+ * lockfs is root's.
  *
  * One thread reads requests and answers them. What a lock request comes to is the library's to say: nothing here compares locks, queues a
  * wait or looks for a deadlock. To the library a file is its node's number, an owner the number that the kernel gives it, a ticket the
@@ -17,13 +19,17 @@
 #include <errno.h>
 #include <fcntl.h>
 #include <fuse_lowlevel.h>
+#include <grp.h>
+#include <limits.h>
 #include <search.h>
 #include <stdio.h>
 #include <stdlib.h>
 #include <string.h>
 #include <sys/file.h>
+#include <sys/fsuid.h>
 #include <sys/resource.h>
 #include <sys/stat.h>
+#include <time.h>
 #include <unistd.h>
 
 /* Who last asked for byte locks as an owner, and through which open file: for the pid that F_GETLK tells, until the owner's locks go by
@@ -48,6 +54,101 @@ static struct node root;
 static void *nodes; /* a tree of tsearch */
 
 static struct node *node_of(fuse_ino_t number) { return number == FUSE_ROOT_ID ? &root : (struct node *)(uintptr_t)number; }
+
+/* By which an O_PATH descriptor's file is opened or changed. */
+struct path {
+    char text[32];
+};
+
+static struct path path_of(fuse_ino_t file) {
+    struct path path;
+    snprintf(path.text, sizeof path.text, "/proc/self/fd/%d", node_of(file)->descriptor);
+    return path;
+}
+
+/* ---- The log of refused requests */
+
+/* A request for a lock, as the log tells it. */
+struct asked {
+    fuse_ino_t file;
+    pid_t thread;
+    char words[64];
+};
+
+/* A request that waits, which the log needs where it ends by a signal. */
+struct waiting {
+    fuse_req_t request;
+    struct asked asked;
+    struct waiting *next;
+};
+
+static FILE *refusals; /* NULL: there is no log */
+static struct waiting *waiting;
+
+static struct asked asked_for_bytes(fuse_req_t request, fuse_ino_t file, const char *call, const struct flock *lock) {
+    struct asked asked = {.file = file, .thread = fuse_req_ctx(request)->pid};
+    const char *mode = lock->l_type == F_UNLCK ? "u" : lock->l_type == F_RDLCK ? "r" : "w";
+    snprintf(asked.words, sizeof asked.words, "%s %s %lld %lld", call, mode, (long long)lock->l_start, (long long)lock->l_len);
+    return asked;
+}
+
+static struct asked asked_by_flock(fuse_req_t request, fuse_ino_t file, int operation) {
+    struct asked asked = {.file = file, .thread = fuse_req_ctx(request)->pid};
+    int kind = operation & ~LOCK_NB;
+    const char *mode = kind == LOCK_UN ? "un" : kind == LOCK_SH ? "sh" : "ex";
+    snprintf(asked.words, sizeof asked.words, "flock %s%s", mode, operation & LOCK_NB ? " nb" : "");
+    return asked;
+}
+
+static const char *name_of(int error) {
+    switch (error) {
+    case EAGAIN: return "EAGAIN";
+    case EDEADLK: return "EDEADLK";
+    case EINTR: return "EINTR";
+    case EINVAL: return "EINVAL";
+    default: return "ENOLCK";
+    }
+}
+
+/* A line: the second, the thread, what it asked for (start and length, 0 to the end), the error, and the file in the folder, in which what
+ * isn't printed is told as a question mark. */
+static void tell_refusal(const struct asked *asked, int error) {
+    struct timespec now;
+    clock_gettime(CLOCK_REALTIME, &now);
+    char name[PATH_MAX + 1];
+    struct path path = path_of(asked->file);
+    ssize_t size = readlink(path.text, name, sizeof name - 1);
+    for (ssize_t at = 0; at < size; at++)
+        if ((unsigned char)name[at] < ' ') name[at] = '?';
+    name[size < 0 ? 0 : size] = '\0';
+    fprintf(refusals, "%lld.%06ld %d %s: %s %s\n", (long long)now.tv_sec, now.tv_nsec / 1000, (int)asked->thread, asked->words,
+            name_of(error), name);
+    fflush(refusals);
+}
+
+static void refuse(fuse_req_t request, const struct asked *asked, int error) {
+    if (refusals) tell_refusal(asked, error);
+    fuse_reply_err(request, error);
+}
+
+/* Where there is no memory, the log won't have it. */
+static void keep_for_log(fuse_req_t request, const struct asked *asked) {
+    struct waiting *kept = refusals ? malloc(sizeof *kept) : NULL;
+    if (!kept) return;
+    *kept = (struct waiting){request, *asked, waiting};
+    waiting = kept;
+}
+
+/* The request waits no more; with an error, it is told. */
+static void leave_log(fuse_req_t request, int error) {
+    struct waiting **at = &waiting;
+    while (*at && (*at)->request != request) at = &(*at)->next;
+    struct waiting *kept = *at;
+    if (!kept) return;
+    if (error) tell_refusal(&kept->asked, error);
+    *at = kept->next;
+    free(kept);
+}
 
 /* ---- Locks */
 
@@ -102,13 +203,20 @@ static uint64_t ticket_of(fuse_req_t request) { return (uintptr_t)request; }
 
 static void answer_grants(void) {
     uint64_t ticket;
-    while (dehokuna_next_grant(&server, &ticket)) fuse_reply_err((fuse_req_t)(uintptr_t)ticket, 0);
+    while (dehokuna_next_grant(&server, &ticket)) {
+        fuse_req_t request = (fuse_req_t)(uintptr_t)ticket;
+        leave_log(request, 0);
+        fuse_reply_err(request, 0);
+    }
 }
 
 /* A signal came while the request waited, or its process was killed. One that was granted is answered already. */
 static void interrupted(fuse_req_t request, void *unused) {
     (void)unused;
-    if (dehokuna_cancel(&server, ticket_of(request))) fuse_reply_err(request, EINTR);
+    if (dehokuna_cancel(&server, ticket_of(request))) {
+        leave_log(request, EINTR);
+        fuse_reply_err(request, EINTR);
+    }
     answer_grants();
 }
 
@@ -128,9 +236,21 @@ static int error_of(uint32_t status) {
     }
 }
 
-static void answer(fuse_req_t request, uint32_t status) {
-    if (status == DEHOKUNA_WAITS) let_wait(request);
-    else fuse_reply_err(request, error_of(status));
+static void answer(fuse_req_t request, const struct asked *asked, uint32_t status) {
+    int error = error_of(status);
+    if (status == DEHOKUNA_WAITS) {
+        keep_for_log(request, asked);
+        let_wait(request);
+    } else if (error) {
+        refuse(request, asked, error);
+    } else {
+        fuse_reply_err(request, 0);
+    }
+    answer_grants();
+}
+
+static void answer_close(fuse_req_t request) {
+    fuse_reply_err(request, 0);
     answer_grants();
 }
 
@@ -145,19 +265,22 @@ static uint32_t mode_of(short type) {
 static void lockfs_setlk(fuse_req_t request, fuse_ino_t file, struct fuse_file_info *info, struct flock *lock, int may_wait) {
     uint32_t mode = mode_of(lock->l_type);
     uint64_t first = (uint64_t)lock->l_start, last = last_of(lock);
+    struct asked asked = asked_for_bytes(request, file, may_wait ? "setlkw" : "setlk", lock);
     if (mode != DEHOKUNA_UNLOCK && !note(file, info, lock->l_pid)) {
-        fuse_reply_err(request, ENOLCK);
+        refuse(request, &asked, ENOLCK);
         return;
     }
-    answer(request, may_wait && mode != DEHOKUNA_UNLOCK
-                        ? dehokuna_wait(&server, ticket_of(request), file, info->lock_owner, first, last, mode, true)
-                        : dehokuna_set(&server, file, info->lock_owner, first, last, mode));
+    answer(request, &asked,
+           may_wait && mode != DEHOKUNA_UNLOCK
+               ? dehokuna_wait(&server, ticket_of(request), file, info->lock_owner, first, last, mode, true)
+               : dehokuna_set(&server, file, info->lock_owner, first, last, mode));
 }
 
 static void lockfs_getlk(fuse_req_t request, fuse_ino_t file, struct fuse_file_info *info, struct flock *lock) {
     /* The kernel refuses this itself for F_GETLK, and hands it on for F_OFD_GETLK. */
     if (lock->l_type == F_UNLCK) {
-        fuse_reply_err(request, EINVAL);
+        struct asked asked = asked_for_bytes(request, file, "getlk", lock);
+        refuse(request, &asked, EINVAL);
         return;
     }
     struct dehokuna_blocker blocker;
@@ -175,16 +298,18 @@ static void lockfs_getlk(fuse_req_t request, fuse_ino_t file, struct fuse_file_i
 static void lockfs_flock(fuse_req_t request, fuse_ino_t file, struct fuse_file_info *info, int operation) {
     int kind = operation & ~LOCK_NB;
     uint32_t mode = kind == LOCK_UN ? DEHOKUNA_UNLOCK : kind == LOCK_SH ? DEHOKUNA_READ : DEHOKUNA_WRITE;
-    answer(request, mode == DEHOKUNA_UNLOCK || operation & LOCK_NB
-                        ? dehokuna_flock(&server, file, info->lock_owner, mode)
-                        : dehokuna_flock_wait(&server, ticket_of(request), file, info->lock_owner, mode));
+    struct asked asked = asked_by_flock(request, file, operation);
+    answer(request, &asked,
+           mode == DEHOKUNA_UNLOCK || operation & LOCK_NB
+               ? dehokuna_flock(&server, file, info->lock_owner, mode)
+               : dehokuna_flock_wait(&server, ticket_of(request), file, info->lock_owner, mode));
 }
 
 /* A descriptor is closed: the record locks of its process on the file go. */
 static void lockfs_flush(fuse_req_t request, fuse_ino_t file, struct fuse_file_info *info) {
     forget_askers(node_of(file), is_owner, info->lock_owner);
     dehokuna_flush(&server, file, info->lock_owner);
-    answer(request, DEHOKUNA_DONE);
+    answer_close(request);
 }
 
 /* The last descriptor of an open file is closed: its flock lock goes, and its open file description locks. The kernel sends no unlock
@@ -194,7 +319,7 @@ static void lockfs_release(fuse_req_t request, fuse_ino_t file, struct fuse_file
     dehokuna_release(&server, file, info->fh, info->flock_release, info->lock_owner);
     forget_askers(node_of(file), came_through, info->fh);
     close((int)info->fh);
-    answer(request, DEHOKUNA_DONE);
+    answer_close(request);
 }
 
 /* ---- Files */
@@ -266,17 +391,6 @@ static void lockfs_getattr(fuse_req_t request, fuse_ino_t file, struct fuse_file
     else fuse_reply_attr(request, &described, 0);
 }
 
-/* By which an O_PATH descriptor's file is opened or changed. */
-struct path {
-    char text[32];
-};
-
-static struct path path_of(fuse_ino_t file) {
-    struct path path;
-    snprintf(path.text, sizeof path.text, "/proc/self/fd/%d", node_of(file)->descriptor);
-    return path;
-}
-
 static int set_owner(fuse_ino_t file, const struct stat *wanted, int which) {
     uid_t user = which & FUSE_SET_ATTR_UID ? wanted->st_uid : (uid_t)-1;
     gid_t group = which & FUSE_SET_ATTR_GID ? wanted->st_gid : (gid_t)-1;
@@ -323,9 +437,32 @@ static void lockfs_open(fuse_req_t request, fuse_ino_t file, struct fuse_file_in
     fuse_reply_open(request, info);
 }
 
+/* Takes the caller's place, where lockfs is root's, as far as what is made next is the caller's and obeys the folder's rules for him. */
+static void act_as(fuse_req_t request) {
+    static gid_t groups[NGROUPS_MAX];
+    const struct fuse_ctx *caller = fuse_req_ctx(request);
+    if (geteuid() != 0) return;
+    int count = fuse_req_getgroups(request, NGROUPS_MAX, groups);
+    setgroups(count < 0 ? 0 : (size_t)count, groups);
+    setfsgid(caller->gid);
+    setfsuid(caller->uid);
+}
+
+/* Is root again, who needs no other groups. */
+static void act_as_root(void) {
+    if (geteuid() != 0) return;
+    int error = errno;
+    setfsuid(0);
+    setfsgid(getegid());
+    setgroups(0, NULL);
+    errno = error;
+}
+
 static void lockfs_create(fuse_req_t request, fuse_ino_t parent, const char *name, mode_t mode, struct fuse_file_info *info) {
     struct fuse_entry_param entry;
+    act_as(request);
     int descriptor = openat(node_of(parent)->descriptor, name, open_flags(info) | O_CREAT, mode);
+    act_as_root();
     if (descriptor < 0) {
         fuse_reply_err(request, errno);
         return;
@@ -370,20 +507,37 @@ static void lockfs_rmdir(fuse_req_t request, fuse_ino_t parent, const char *name
     answer_call(request, unlinkat(node_of(parent)->descriptor, name, AT_REMOVEDIR));
 }
 
-static void lockfs_mkdir(fuse_req_t request, fuse_ino_t parent, const char *name, mode_t mode) {
-    if (mkdirat(node_of(parent)->descriptor, name, mode) < 0) fuse_reply_err(request, errno);
+/* Answers by what was made, or by the error number where it wasn't. */
+static void answer_made(fuse_req_t request, fuse_ino_t parent, const char *name, int result) {
+    if (result < 0) fuse_reply_err(request, errno);
     else lockfs_lookup(request, parent, name);
 }
 
+static void lockfs_mkdir(fuse_req_t request, fuse_ino_t parent, const char *name, mode_t mode) {
+    act_as(request);
+    int result = mkdirat(node_of(parent)->descriptor, name, mode);
+    act_as_root();
+    answer_made(request, parent, name, result);
+}
+
+/* (what mkfifo(3) asks for as well) */
+static void lockfs_mknod(fuse_req_t request, fuse_ino_t parent, const char *name, mode_t mode, dev_t device) {
+    act_as(request);
+    int result = mknodat(node_of(parent)->descriptor, name, mode, device);
+    act_as_root();
+    answer_made(request, parent, name, result);
+}
+
 static void lockfs_symlink(fuse_req_t request, const char *target, fuse_ino_t parent, const char *name) {
-    if (symlinkat(target, node_of(parent)->descriptor, name) < 0) fuse_reply_err(request, errno);
-    else lockfs_lookup(request, parent, name);
+    act_as(request);
+    int result = symlinkat(target, node_of(parent)->descriptor, name);
+    act_as_root();
+    answer_made(request, parent, name, result);
 }
 
 static void lockfs_link(fuse_req_t request, fuse_ino_t file, fuse_ino_t parent, const char *name) {
     struct path path = path_of(file);
-    if (linkat(AT_FDCWD, path.text, node_of(parent)->descriptor, name, AT_SYMLINK_FOLLOW) < 0) fuse_reply_err(request, errno);
-    else lockfs_lookup(request, parent, name);
+    answer_made(request, parent, name, linkat(AT_FDCWD, path.text, node_of(parent)->descriptor, name, AT_SYMLINK_FOLLOW));
 }
 
 static void lockfs_readlink(fuse_req_t request, fuse_ino_t file) {
@@ -456,7 +610,7 @@ static void lockfs_statfs(fuse_req_t request, fuse_ino_t file) {
 static struct fuse_lowlevel_ops operations = {
     .lookup = lockfs_lookup, .forget = lockfs_forget, .getattr = lockfs_getattr, .setattr = lockfs_setattr,
     .open = lockfs_open, .create = lockfs_create, .read = lockfs_read, .write = lockfs_write, .fsync = lockfs_fsync,
-    .unlink = lockfs_unlink, .mkdir = lockfs_mkdir, .rmdir = lockfs_rmdir, .rename = lockfs_rename, .symlink = lockfs_symlink,
+    .unlink = lockfs_unlink, .mkdir = lockfs_mkdir, .mknod = lockfs_mknod, .rmdir = lockfs_rmdir, .rename = lockfs_rename, .symlink = lockfs_symlink,
     .link = lockfs_link, .readlink = lockfs_readlink, .opendir = lockfs_opendir, .readdir = lockfs_readdir,
     .fsyncdir = lockfs_fsyncdir, .releasedir = lockfs_releasedir, .statfs = lockfs_statfs,
     .flush = lockfs_flush, .release = lockfs_release,
@@ -465,14 +619,16 @@ static struct fuse_lowlevel_ops operations = {
 
 /* What the command line says. */
 struct command {
-    bool in_foreground, by_kernel;
-    const char *folder, *mountpoint;
+    bool in_foreground, by_kernel, for_all_users;
+    const char *log, *folder, *mountpoint;
 };
 
 static bool read_command(int count, char **words, struct command *command) {
     for (int at = 1; at < count; at++) {
         if (!strcmp(words[at], "-f")) command->in_foreground = true;
         else if (!strcmp(words[at], "--kernel-locks")) command->by_kernel = true;
+        else if (!strcmp(words[at], "--log") && at + 1 < count) command->log = words[++at];
+        else if (!strcmp(words[at], "-o") && at + 1 < count && !strcmp(words[at + 1], "allow_other")) command->for_all_users = true, at++;
         else if (words[at][0] == '-' || command->mountpoint) return false;
         else if (command->folder) command->mountpoint = words[at];
         else command->folder = words[at];
@@ -487,7 +643,8 @@ static bool serve(struct fuse_session *session, const struct command *command) {
     bool served = false;
     if (mountpoint && !fuse_set_signal_handlers(session)) {
         if (!fuse_session_mount(session, mountpoint)) {
-            served = !fuse_daemonize(command->in_foreground) && !fuse_session_loop(session);
+            /* (a signal that ended it is told by its number, an error by one below 0) */
+            served = !fuse_daemonize(command->in_foreground) && fuse_session_loop(session) >= 0;
             fuse_session_unmount(session);
         }
         fuse_remove_signal_handlers(session);
@@ -497,8 +654,8 @@ static bool serve(struct fuse_session *session, const struct command *command) {
 }
 
 static bool run(const char *name, const struct command *command) {
-    char *words[] = {(char *)name, "-o", "default_permissions,fsname=lockfs,subtype=lockfs", NULL};
-    struct fuse_args arguments = FUSE_ARGS_INIT(3, words);
+    char *words[] = {(char *)name, "-o", "default_permissions,fsname=lockfs,subtype=lockfs", "-o", "allow_other", NULL};
+    struct fuse_args arguments = FUSE_ARGS_INIT(command->for_all_users ? 5 : 3, words);
     struct fuse_session *session = fuse_session_new(&arguments, &operations, sizeof operations, NULL);
     bool served = session && serve(session, command);
     if (session) fuse_session_destroy(session);
@@ -515,12 +672,17 @@ static void forget_node(void *node) {
 int main(int count, char **words) {
     struct command command = {0};
     if (!read_command(count, words, &command)) {
-        fprintf(stderr, "usage: lockfs [-f] [--kernel-locks] FOLDER MOUNTPOINT\n");
+        fprintf(stderr, "usage: lockfs [-f] [--kernel-locks] [--log FILE] [-o allow_other] FOLDER MOUNTPOINT\n");
         return 2;
     }
     root.descriptor = open(command.folder, O_PATH | O_DIRECTORY | O_CLOEXEC);
     if (root.descriptor < 0) {
         perror(command.folder);
+        return 1;
+    }
+    refusals = command.log ? fopen(command.log, "ae") : NULL;
+    if (command.log && !refusals) {
+        perror(command.log);
         return 1;
     }
     if (!dehokuna_create(&server, DEHOKUNA_HELD)) {
@@ -534,6 +696,8 @@ int main(int count, char **words) {
     bool served = run(words[0], &command);
     tdestroy(nodes, forget_node);
     dehokuna_destroy(&server);
+    while (waiting) leave_log(waiting->request, 0);
+    if (refusals) fclose(refusals);
     close(root.descriptor);
     return served ? 0 : 1;
 }
