@@ -3,7 +3,7 @@ ghost use Rattle.std.specs.Prelude.{◌≡◌, Option, Some, None, IsSome};
 ghost use Rattle.std.specs.Coded.{coded_option};
 ghost use Rattle.lock_server.specs.declared.server.LockServer.{LockServer};
 ghost use Rattle.lock_server.specs.contracts.server.LockServer.{the_row};
-ghost use Rattle.lock_server_c.specs.Owned.{handle_owns};
+ghost use Rattle.lock_server_c.specs.Owned.{handle_owns, handle_shares};
 
 use crate::loose::Loose;
 use lock_server::LockServer;
@@ -27,6 +27,8 @@ pub struct Handle {
 
 impl Model for Handle {
     ghost also_owns = { λ handle. handle_owns handle.at handle.server };
+
+    ghost also_shares = { λ handle _ lifetime. handle_shares handle.at handle.server lifetime };
 }
 
 impl Handle {
@@ -59,6 +61,14 @@ impl Handle {
             at: at as *mut LockServer,
             alloc,
         }
+    }
+
+    /// The server behind the pointer, which stays there.
+    pub(crate) fn server(&self) -> &LockServer
+        requires { IsSome self.now.server }
+        ensures { self.now.server ≡ Some result.now }
+    {
+        unsafe { &*(self.at as *const LockServer) }
     }
 
     /// Takes the server out of the handle.
