@@ -1,9 +1,7 @@
 -- What a handle owns.
 use Rattle.std.specs.Prelude.{Option, Some, None}
-use base.Fml.{Fml, Lft, ftrue}
+use base.Fml.{Fml, ftrue}
 use denote.RawPtr.{Ptr}
-use denote.Sharing.{nothing}
-use denote.Struct.Lending.{lent_at}
 use Rattle.std.specs.contracts.impls.GlobalAllocator.TheImpl.{ghosts}
 use Rattle.std.specs.contracts.alloc.Global as heap
 use Rattle.std_alloc.specs.Box.Ownership.{box_owns}
@@ -18,11 +16,6 @@ the_heap = record { memory = record { seal = tt } }
 abbrev pub handle_owns : Ptr → Option LockServer → Fml
 handle_owns at None = ftrue
 handle_owns at (Some server) = box_owns (ghosts.dealloc_token the_heap) the_row at server
-
--- what the holder of a `&` to a handle has: a `&` to the server behind the pointer, or nothing (this project's choice)
-abbrev pub handle_shares : Ptr → Option LockServer → Lft → Fml
-handle_shares at None = nothing
-handle_shares at (Some server) = lent_at the_row at server
 
 -- the handle has a server, and it is so (this project's choice)
 abbrev pub Has : Option LockServer → (LockServer → Type 0) → Type 0

@@ -14,7 +14,6 @@ ghost use Rattle.lock_server_c.specs.declared.status.TheConstants.{INVALID, NO_M
 use crate::handle::Handle;
 use crate::{numbers, status};
 use lock_server::{Lock, Mode, Span};
-use std::alloc::Global;
 
 /// A byte lock that blocks, as C is told of it (`struct dehokuna_blocker`).
 #[repr(C)]
@@ -34,7 +33,7 @@ pub struct BlockerOut {
 /// read.
 #[unsafe(no_mangle)]
 pub extern "C" fn dehokuna_get(
-    handle: &Handle,
+    handle: &mut Handle,
     file: u64,
     owner: u64,
     first: u64,
@@ -42,9 +41,10 @@ pub extern "C" fn dehokuna_get(
     mode: u32,
     out: &mut BlockerOut,
 ) -> u32
-    requires { IsSome handle.now.server }
-    ensures { MatchOption (lock_of first last mode) ((result ≡ INVALID) × (out.new ≡ out.old))
-        (λ asked. Has handle.now.server (λ server. GetTold result server file owner asked.0 asked.1 out.old out.new)) }
+    requires { IsSome handle.old.server }
+    ensures ok { MatchOption (lock_of first last mode) ((result ≡ INVALID) × (out.new ≡ out.old))
+        (λ asked. Has handle.old.server (λ server. GetTold result server file owner asked.0 asked.1 out.old out.new)) }
+    ensures kept { handle.new.server ≡ handle.old.server }
 {
     match numbers::lock(first, last, mode) {
         Some((span, mode)) => get(handle, file, owner, span, mode, out),
@@ -54,16 +54,17 @@ pub extern "C" fn dehokuna_get(
 
 /// The same of a range and a mode.
 fn get(
-    handle: &Handle,
+    handle: &mut Handle,
     file: u64,
     owner: u64,
     span: Span,
     mode: Mode,
     out: &mut BlockerOut,
 ) -> u32
-    requires server { IsSome handle.now.server }
+    requires server { IsSome handle.old.server }
     requires range { IsByteRange span }
-    ensures { Has handle.now.server (λ server. GetTold result server file owner span mode out.old out.new) }
+    ensures ok { Has handle.old.server (λ server. GetTold result server file owner span mode out.old out.new) }
+    ensures kept { handle.new.server ≡ handle.old.server }
 {
     match handle.server().get(file, owner, span, mode) {
         Some(lock) => {
@@ -89,7 +90,6 @@ fn told(lock: Lock) -> BlockerOut
 /// Sets the owner's mode on the range, or removes it where `mode` is 0 (POSIX.1-2017 fcntl, `F_SETLK`).
 #[unsafe(no_mangle)]
 pub extern "C" fn dehokuna_set(
-    alloc: Global,
     handle: &mut Handle,
     file: u64,
     owner: u64,
@@ -105,7 +105,7 @@ pub extern "C" fn dehokuna_set(
     ensures openings { Seen handle.old handle.new SameOpenings }
 {
     match numbers::change(first, last, mode) {
-        Some((span, mode)) => set(alloc, handle, file, owner, span, mode),
+        Some((span, mode)) => set(handle, file, owner, span, mode),
         None => status::INVALID,
     }
 }
@@ -113,7 +113,6 @@ pub extern "C" fn dehokuna_set(
 /// The same of a range and a mode.
 #[tactic(auto, using(crate::proofs::ToldLemmas::answer_told))]
 fn set(
-    alloc: Global,
     handle: &mut Handle,
     file: u64,
     owner: u64,
@@ -126,16 +125,13 @@ fn set(
     ensures unlock { Has handle.old.server (λ server. mode ≡ None → (¬ SplitsLock server file owner span) → result ≢ NO_MEMORY) }
     ensures openings { Seen handle.old handle.new SameOpenings }
 {
-    let mut server = handle.take(alloc);
-    let answer = server.set(file, owner, span, mode);
-    handle.put(server);
+    let answer = handle.server().set(file, owner, span, mode);
     status::status(answer)
 }
 
 /// The same for a lock that may be waited for (POSIX.1-2017 fcntl, `F_SETLKW`).
 #[unsafe(no_mangle)]
 pub extern "C" fn dehokuna_wait(
-    alloc: Global,
     handle: &mut Handle,
     ticket: u64,
     file: u64,
@@ -153,7 +149,7 @@ pub extern "C" fn dehokuna_wait(
     ensures openings { Seen handle.old handle.new SameOpenings }
 {
     match numbers::lock(first, last, mode) {
-        Some((span, mode)) => wait(alloc, handle, ticket, file, owner, span, mode, detect),
+        Some((span, mode)) => wait(handle, ticket, file, owner, span, mode, detect),
         None => status::INVALID,
     }
 }
@@ -161,7 +157,6 @@ pub extern "C" fn dehokuna_wait(
 /// The same of a range and a mode.
 #[tactic(auto, using(crate::proofs::ToldLemmas::wait_told))]
 fn wait(
-    alloc: Global,
     handle: &mut Handle,
     ticket: u64,
     file: u64,
@@ -177,32 +172,26 @@ fn wait(
     ensures taken { Has handle.old.server (λ server. (result ≡ TICKET_TAKEN) ↔ IsTaken (state_of server) ticket) }
     ensures openings { Seen handle.old handle.new SameOpenings }
 {
-    let mut server = handle.take(alloc);
-    let answer = server.wait(ticket, file, owner, span, mode, detect);
-    handle.put(server);
+    let answer = handle.server().wait(ticket, file, owner, span, mode, detect);
     status::wait_status(answer)
 }
 
 /// Removes the owner's byte locks on the file; its waits stay (POSIX.1-2017 close).
 #[unsafe(no_mangle)]
-pub extern "C" fn dehokuna_flush(alloc: Global, handle: &mut Handle, file: u64, owner: u64)
+pub extern "C" fn dehokuna_flush(handle: &mut Handle, file: u64, owner: u64)
     requires { IsSome handle.old.server }
     ensures flushes { Goes handle.old handle.new (λ policy S T. Releases policy S file Bytes owner T) }
     ensures openings { Seen handle.old handle.new (λ old new. SeesOn old new file owner None) }
 {
-    let mut server = handle.take(alloc);
-    server.flush(file, owner);
-    handle.put(server);
+    handle.server().flush(file, owner);
 }
 
 /// Removes the owner's byte locks and its waits for them, on all files (POSIX.1-2017 _Exit).
 #[unsafe(no_mangle)]
-pub extern "C" fn dehokuna_forget(alloc: Global, handle: &mut Handle, owner: u64)
+pub extern "C" fn dehokuna_forget(handle: &mut Handle, owner: u64)
     requires { IsSome handle.old.server }
     ensures forgets { Goes handle.old handle.new (λ policy S T. Forgets policy S owner T) }
     ensures openings { Seen handle.old handle.new (λ old new. ForgetsOwner old new owner) }
 {
-    let mut server = handle.take(alloc);
-    server.forget(owner);
-    handle.put(server);
+    handle.server().forget(owner);
 }

@@ -13,12 +13,10 @@ ghost use Rattle.lock_server_c.specs.declared.status.TheConstants.{NO_MEMORY, TI
 use crate::handle::Handle;
 use crate::{numbers, status};
 use lock_server::Mode;
-use std::alloc::Global;
 
 /// Sets the owner's flock lock on the file, or removes it where `mode` is 0 (flock(2), `LOCK_NB`, `LOCK_UN`).
 #[unsafe(no_mangle)]
 pub extern "C" fn dehokuna_flock(
-    alloc: Global,
     handle: &mut Handle,
     file: u64,
     owner: u64,
@@ -31,29 +29,26 @@ pub extern "C" fn dehokuna_flock(
     ensures openings { Seen handle.old handle.new SameOpenings }
 {
     match numbers::wanted(mode) {
-        Some(mode) => flock(alloc, handle, file, owner, mode),
+        Some(mode) => flock(handle, file, owner, mode),
         None => status::INVALID,
     }
 }
 
 /// The same of a mode.
 #[tactic(auto, using(crate::proofs::ToldLemmas::answer_told))]
-fn flock(alloc: Global, handle: &mut Handle, file: u64, owner: u64, mode: Option<Mode>) -> u32
+fn flock(handle: &mut Handle, file: u64, owner: u64, mode: Option<Mode>) -> u32
     requires { IsSome handle.old.server }
     ensures ok { Answers handle.old handle.new result (λ policy S. FlockOpComesTo policy S file owner mode) }
     ensures unlock { mode ≡ None → result ≢ NO_MEMORY }
     ensures openings { Seen handle.old handle.new SameOpenings }
 {
-    let mut server = handle.take(alloc);
-    let answer = server.flock(file, owner, mode);
-    handle.put(server);
+    let answer = handle.server().flock(file, owner, mode);
     status::status(answer)
 }
 
 /// The same for a flock lock that may be waited for (flock(2)).
 #[unsafe(no_mangle)]
 pub extern "C" fn dehokuna_flock_wait(
-    alloc: Global,
     handle: &mut Handle,
     ticket: u64,
     file: u64,
@@ -68,7 +63,7 @@ pub extern "C" fn dehokuna_flock_wait(
     ensures openings { Seen handle.old handle.new SameOpenings }
 {
     match numbers::mode(mode) {
-        Some(mode) => flock_wait(alloc, handle, ticket, file, owner, mode),
+        Some(mode) => flock_wait(handle, ticket, file, owner, mode),
         None => status::INVALID,
     }
 }
@@ -76,7 +71,6 @@ pub extern "C" fn dehokuna_flock_wait(
 /// The same of a mode.
 #[tactic(auto, using(crate::proofs::ToldLemmas::wait_told))]
 fn flock_wait(
-    alloc: Global,
     handle: &mut Handle,
     ticket: u64,
     file: u64,
@@ -89,20 +83,16 @@ fn flock_wait(
     ensures taken { Has handle.old.server (λ server. (result ≡ TICKET_TAKEN) ↔ IsTaken (state_of server) ticket) }
     ensures openings { Seen handle.old handle.new SameOpenings }
 {
-    let mut server = handle.take(alloc);
-    let answer = server.flock_wait(ticket, file, owner, mode);
-    handle.put(server);
+    let answer = handle.server().flock_wait(ticket, file, owner, mode);
     status::wait_status(answer)
 }
 
 /// Removes the owner's flock lock on the file; its waits stay (flock(2), last close).
 #[unsafe(no_mangle)]
-pub extern "C" fn dehokuna_flock_release(alloc: Global, handle: &mut Handle, file: u64, owner: u64)
+pub extern "C" fn dehokuna_flock_release(handle: &mut Handle, file: u64, owner: u64)
     requires { IsSome handle.old.server }
     ensures releases { Goes handle.old handle.new (λ policy S T. Releases policy S file Whole owner T) }
     ensures openings { Seen handle.old handle.new SameOpenings }
 {
-    let mut server = handle.take(alloc);
-    server.flock_release(file, owner);
-    handle.put(server);
+    handle.server().flock_release(file, owner);
 }

@@ -3,7 +3,7 @@ ghost use Rattle.std.specs.Prelude.{◌≡◌, Option, Some, None, IsSome};
 ghost use Rattle.std.specs.Coded.{coded_option};
 ghost use Rattle.lock_server.specs.declared.server.LockServer.{LockServer};
 ghost use Rattle.lock_server.specs.contracts.server.LockServer.{the_row};
-ghost use Rattle.lock_server_c.specs.Owned.{handle_owns, handle_shares};
+ghost use Rattle.lock_server_c.specs.Owned.{handle_owns};
 
 use crate::loose::Loose;
 use lock_server::LockServer;
@@ -27,11 +27,12 @@ pub struct Handle {
 
 impl Model for Handle {
     ghost also_owns = { λ handle. handle_owns handle.at handle.server };
-
-    ghost also_shares = { λ handle _ lifetime. handle_shares handle.at handle.server lifetime };
 }
 
 impl Handle {
+    ghost use Rattle.std.specs.Borrow.{sem};
+    ghost use Rattle.lock_server_c.specs.Lending.{LendsServer};
+
     /// A handle without a server.
     pub(crate) fn empty() -> Handle
         ensures { result.server ≡ None }
@@ -63,12 +64,13 @@ impl Handle {
         }
     }
 
-    /// The server behind the pointer, which stays there.
-    pub(crate) fn server(&self) -> &LockServer
-        requires { IsSome self.now.server }
-        ensures { self.now.server ≡ Some result.now }
+    /// The server behind the pointer, which stays there: the handle itself is only read.
+    pub(crate) fn server(&mut self) -> &mut LockServer
+        requires { IsSome self.old.server }
+        ensures* lends { sem 𝓛 (LendsServer self.entry result) }
+        ensures server { self.old.server ≡ Some result.now }
     {
-        unsafe { &*(self.at as *const LockServer) }
+        unsafe { &mut *(self.at as *mut LockServer) }
     }
 
     /// Takes the server out of the handle.
