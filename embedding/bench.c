@@ -107,7 +107,8 @@ static void one_file_of_many_owners(void) {
         DEMAND(dehokuna_set(&server, FILE_A, owner, 4 * owner, 4 * owner + 1, DEHOKUNA_WRITE) == DEHOKUNA_DONE);
     tell("a set of each owner, one lock each", since, MANY);
     since = now();
-    for (uint64_t owner = 0; owner < MANY; owner++) DEMAND(dehokuna_get(&server, FILE_A, owner, WANTED, WANTED, DEHOKUNA_WRITE, &told) == DEHOKUNA_DONE);
+    for (uint64_t owner = 0; owner < MANY; owner++)
+        DEMAND(dehokuna_get(&server, FILE_A, owner, WANTED, WANTED, DEHOKUNA_WRITE, &told) == DEHOKUNA_DONE);
     tell("a get where nobody has a lock, beside those", since, MANY);
     since = now();
     for (uint64_t owner = 0; owner < MANY; owner++)

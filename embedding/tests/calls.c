@@ -544,6 +544,7 @@ static long taken_by_refusals(int way, long growths, uint64_t owners) {
             dehokuna_forget(&server, owner);
             dehokuna_flock_release(&server, FILE_A, owner);
         }
+        dehokuna_flush(&server, FILE_A, owner); /* the empty list that a wait for bytes keeps until then */
     }
     CHECK(is_right);
     const long taken = blocks - before;

@@ -1,5 +1,6 @@
 /* Threads that read one server at the same time, each by the calls that take it `const`, and write it between by one thread alone, as a
  * readers-writer lock has it. Prints 'N passed, M failed'. */
+#define _POSIX_C_SOURCE 200809L
 #include "dehokuna.h"
 #include <pthread.h>
 #include <stdio.h>
