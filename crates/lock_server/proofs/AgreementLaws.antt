@@ -95,12 +95,14 @@ tells_one one other call reply reply' next next' same tells tells' =
     let by_state = subst (λ (S : State). CallComesTo (policy_of one) S (through_of other) call reply' (state_of next') (through_of next')) state by_policy in
     let by_notes = subst (λ (notes : Through). CallComesTo (policy_of one) (state_of one) notes call reply' (state_of next') (through_of next')) through by_state in
     let both = call_one (policy_of one) (state_of one) (through_of one) reply reply' (state_of next) (state_of next') (through_of next) (through_of next') call
-    (once_of one) (crossed_of_server one) (settled_of one) tells.comes_to by_notes in
-    (both.0, record {
-      policy = tells'.policy ∙ same.policy ∙ sym tells.policy;
-      state = subst (λ (S : State). SameState (state_of next) S) (sym both.1) (SameState-itself (state_of next));
-      openings = both.2;
-    })
+    (once_of one) (crossed_of_server one) (settled_of one) tells.comes_to by_notes in (
+      both.0,
+      record {
+        policy = tells'.policy ∙ same.policy ∙ sym tells.policy;
+        state = subst (λ (S : State). SameState (state_of next) S) (sym both.1) (SameState-itself (state_of next));
+        openings = both.2;
+      },
+    )
 
 -- and many
 pub runs_one : (one other : LockServer) (calls : List Call) (replies answers : List Reply) (last end : LockServer) → SameServer one other

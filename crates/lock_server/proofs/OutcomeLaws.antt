@@ -265,9 +265,11 @@ fetch_one S (Some ticket) T None U h k = let no : [] ≡ ticket ∷ T.grants = s
 fetch_one S (Some ticket) T (Some ticket') U h k =
     let both : ticket' ∷ U.grants ≡ ticket ∷ T.grants = sym k.0 ∙ h.0 in
     let same : ticket' ≡ ticket = cc in
-    let rest : U.grants ≡ T.grants = cc in
-    (ap Some same, state_from_same T U (record {
-      files = λ file. same_between (S.files file) (T.files file) (U.files file) (h.1 file) (k.1 file);
-      grants = rest;
-      crossed = λ owner. k.2 owner ∙ sym (h.2 owner);
-    }))
+    let rest : U.grants ≡ T.grants = cc in (
+      ap Some same,
+      state_from_same T U (record {
+        files = λ file. same_between (S.files file) (T.files file) (U.files file) (h.1 file) (k.1 file);
+        grants = rest;
+        crossed = λ owner. k.2 owner ∙ sym (h.2 owner);
+      }),
+    )

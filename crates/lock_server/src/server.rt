@@ -8,8 +8,8 @@ use crate::openings::Openings;
 use crate::requests::{NO_TICKET, byte_request, flock_request};
 use crate::table::Table;
 use crate::{
-    Answer, Family, Lock, Memory, Mode, Pending, Policy, Span, WaitAnswer, WaitFault,
-    closing, converting,
+    Answer, Family, Lock, Memory, Mode, Pending, Policy, Span, WaitAnswer, WaitFault, closing,
+    converting,
 };
 use std::alloc::Global;
 

@@ -112,13 +112,7 @@ pub extern "C" fn dehokuna_set(
 
 /// The same of a range and a mode.
 #[tactic(auto, using(crate::proofs::ToldLemmas::answer_told))]
-fn set(
-    handle: &mut Handle,
-    file: u64,
-    owner: u64,
-    span: Span,
-    mode: Option<Mode>,
-) -> u32
+fn set(handle: &mut Handle, file: u64, owner: u64, span: Span, mode: Option<Mode>) -> u32
     requires server { IsSome handle.old.server }
     requires range { IsByteRange span }
     ensures ok { Answers handle.old handle.new result (λ policy S. SetComesTo policy S file owner span mode) }
@@ -172,7 +166,9 @@ fn wait(
     ensures taken { Has handle.old.server (λ server. (result ≡ TICKET_TAKEN) ↔ IsTaken (state_of server) ticket) }
     ensures openings { Seen handle.old handle.new SameOpenings }
 {
-    let answer = handle.server().wait(ticket, file, owner, span, mode, detect);
+    let answer = handle
+        .server()
+        .wait(ticket, file, owner, span, mode, detect);
     status::wait_status(answer)
 }
 

@@ -16,12 +16,7 @@ use lock_server::Mode;
 
 /// Sets the owner's flock lock on the file, or removes it where `mode` is 0 (flock(2), `LOCK_NB`, `LOCK_UN`).
 #[unsafe(no_mangle)]
-pub extern "C" fn dehokuna_flock(
-    handle: &mut Handle,
-    file: u64,
-    owner: u64,
-    mode: u32,
-) -> u32
+pub extern "C" fn dehokuna_flock(handle: &mut Handle, file: u64, owner: u64, mode: u32) -> u32
     requires { IsSome handle.old.server }
     ensures ok { Asks (wanted_of mode) handle.old handle.new result
         (λ asked. Answers handle.old handle.new result (λ policy S. FlockOpComesTo policy S file owner asked)) }
@@ -70,13 +65,7 @@ pub extern "C" fn dehokuna_flock_wait(
 
 /// The same of a mode.
 #[tactic(auto, using(crate::proofs::ToldLemmas::wait_told))]
-fn flock_wait(
-    handle: &mut Handle,
-    ticket: u64,
-    file: u64,
-    owner: u64,
-    mode: Mode,
-) -> u32
+fn flock_wait(handle: &mut Handle, ticket: u64, file: u64, owner: u64, mode: Mode) -> u32
     requires { IsSome handle.old.server }
     ensures ok { AnswersWait handle.old handle.new result
         (λ policy S. FlockWaitComesTo policy S file (flock_request_of ticket owner mode) (flock_mode S file owner)) }

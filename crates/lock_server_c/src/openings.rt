@@ -13,12 +13,7 @@ use crate::numbers;
 
 /// Notes that the owner is seen through the open file of the file; `false` where there is no memory (FUSE, `fh` of setlk).
 #[unsafe(no_mangle)]
-pub extern "C" fn dehokuna_note(
-    handle: &mut Handle,
-    file: u64,
-    owner: u64,
-    open_file: u64,
-) -> bool
+pub extern "C" fn dehokuna_note(handle: &mut Handle, file: u64, owner: u64, open_file: u64) -> bool
     requires { IsSome handle.old.server }
     ensures same { Goes handle.old handle.new (λ policy S T. SameState S T) }
     ensures noted { IsTrue result → Seen handle.old handle.new (λ old new. SeesOn old new file owner (Some open_file)) }

@@ -13,8 +13,7 @@ pub extern "C" fn dehokuna_cancel(handle: &mut Handle, ticket: u64) -> bool
     ensures comes_to { Goes handle.old handle.new (λ policy S T. CancelComesTo policy S ticket result T) }
     ensures openings { Seen handle.old handle.new SameOpenings }
 {
-    let was_there = handle.server().cancel(ticket);
-    was_there
+    handle.server().cancel(ticket)
 }
 
 /// Writes the ticket of the oldest grant that wasn't told yet to `ticket`; `false`, and `ticket` as it was, where there is none.
@@ -26,8 +25,7 @@ pub extern "C" fn dehokuna_next_grant(handle: &mut Handle, ticket: &mut u64) -> 
     ensures kept { IsFalse result → ticket.new ≡ ticket.old }
     ensures openings { Seen handle.old handle.new SameOpenings }
 {
-    let granted = handle.server().next_grant();
-    match granted {
+    match handle.server().next_grant() {
         Some(oldest) => {
             *ticket = oldest;
             true

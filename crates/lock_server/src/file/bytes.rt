@@ -19,7 +19,9 @@ impl LockFile {
         ensures some { IfSome result (IsFirstLock (file_state self.now) owner span mode) }
         ensures none { IfNone result (¬ IsInTheWay (file_state self.now) owner span mode) }
     {
-        let found = self.book.first_blocker(Owner::Description(owner), span, mode)?;
+        let found = self
+            .book
+            .first_blocker(Owner::Description(owner), span, mode)?;
         // No process has a lock here.
         let Owner::Description(holder) = found.owner else {
             return None;

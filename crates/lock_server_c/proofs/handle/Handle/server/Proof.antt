@@ -7,7 +7,7 @@ use mir.Syntax.{named}
 use mir.Raw.{raw as bare}
 use mir.Val.{Val, vptr, vstruct, vcons, vnil, of_list}
 use base.Logic.{SProp, ent, sep, never, fst∗}
-use base.Fml.{Lft, GName, Share, Fml, ftrue, fsep, flft}
+use base.Fml.{GName, Fml, ftrue, fsep, flft}
 use prog.Memory.{Memory}
 use prog.Routine.{Routine}
 use prog.Wp.{Env, WpFn, Tables}
@@ -23,7 +23,7 @@ use denote.RattleType.{RattleType, Valss, owns}
 use denote.Exit.{no}
 use denote.Memory.{lone, part_at, part_of, mem, cell_at}
 use denote.RawPtr.{Ptr, RawPtr, block_ptr, null_ptr, ptr_val, in_a_block}
-use denote.Ref.{MutBor, MutRef, mut_vals, mut_Tells}
+use denote.Ref.{MutRef, mut_vals, mut_Tells}
 use denote.Signature.{plain, mut_ref_to}
 use denote.Steps.{nothing, heard, opens}
 use denote.Struct.Struct.{within}
