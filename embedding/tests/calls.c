@@ -512,8 +512,8 @@ static long taken_after_files(uint64_t files) {
     return taken;
 }
 
-/* A call of each kind that may grow, by an owner that has nothing, on a file or beside a keeper. */
-enum { REFUSED_WAYS = 6 };
+/* A call of each kind that may grow, by an owner that has nothing. */
+enum { GROWING_WAYS = 6 };
 static uint32_t grows_for(struct dehokuna_server *server, uint64_t file, uint64_t owner, int way) {
     switch (way) {
     case 0: return dehokuna_set(server, file, owner, 10, 19, DEHOKUNA_WRITE);
@@ -525,26 +525,27 @@ static uint32_t grows_for(struct dehokuna_server *server, uint64_t file, uint64_
     }
 }
 
-/* How many blocks a server has taken in the end, where so many owners were refused this growth of a call in this way; and, by was_refused,
- * whether there was such a growth. */
-static long taken_by_refusals(int way, long growths, uint64_t owners) {
+/* How many blocks a server has taken in the end, where so many owners were refused this growth of a call in this way, on the file that is
+ * kept or each on one of its own; and, by was_refused, whether there was such a growth. */
+static long taken_by_refusals(int way, bool is_kept, long growths, uint64_t owners) {
     const long before = blocks;
     bool is_right = true, any_refused = false;
     struct dehokuna_server server = {0};
     CHECK(dehokuna_create(&server, DEHOKUNA_HELD) && keep(&server, FILE_A));
     for (uint64_t owner = 0; owner < owners; owner++) {
+        const uint64_t file = is_kept ? FILE_A : 1000 + owner;
         was_refused = false;
         growths_left = growths;
-        const uint32_t status = grows_for(&server, FILE_A, owner, way);
+        const uint32_t status = grows_for(&server, file, owner, way);
         growths_left = -1;
         is_right &= (status == DEHOKUNA_NO_MEMORY) == was_refused;
         any_refused |= was_refused;
         if (!was_refused) { /* what isn't refused is taken back */
             dehokuna_cancel(&server, owner);
             dehokuna_forget(&server, owner);
-            dehokuna_flock_release(&server, FILE_A, owner);
+            dehokuna_flock_release(&server, file, owner);
         }
-        dehokuna_flush(&server, FILE_A, owner); /* the empty list that a wait for bytes keeps until then */
+        dehokuna_flush(&server, file, owner); /* the empty list that a wait for bytes keeps until then */
     }
     CHECK(is_right);
     const long taken = blocks - before;
@@ -556,12 +557,16 @@ static long taken_by_refusals(int way, long growths, uint64_t owners) {
 /* A call that is refused leaves no entry of its owner, its ticket or its file, whichever of its growths is refused. */
 static void nothing_is_left_of_a_refusal(void) {
     enum { USED_ONCE = 5, SOME = 2 };
-    for (int way = 0; way < REFUSED_WAYS; way++) {
+    for (int way = 0; way < GROWING_WAYS; way++) {
         long growths = 0;
-        do {
-            const long few = taken_by_refusals(way, growths, SOME);
-            CHECK(taken_by_refusals(way, growths, COMERS) <= few + USED_ONCE);
-        } while (growths++, was_refused);
+        for (bool any_refused = true; any_refused; growths++) {
+            any_refused = false;
+            for (int is_kept = 0; is_kept < 2; is_kept++) {
+                const long few = taken_by_refusals(way, is_kept, growths, SOME);
+                CHECK(taken_by_refusals(way, is_kept, growths, COMERS) <= few + USED_ONCE);
+                any_refused |= was_refused;
+            }
+        }
         CHECK(growths > 1);
     }
     was_refused = false;
