@@ -2,7 +2,7 @@
 FILE ?= crates/lockreplay/stdin
 PROGRAM := crates/lockreplay/out/lockreplay
 
-.PHONY: run test build format memory threads edits conformance conformance-tests docs install library install-library embed bench lockfs fuse-test
+.PHONY: run test build format memory threads edits conformance conformance-tests docs install library install-library calls embed bench lockfs fuse-test
 
 run: build
 	@$(PROGRAM) $(if $(FILE),'$(FILE)')
@@ -14,10 +14,11 @@ build:
 	@(cd crates/lockreplay && rt run) < /dev/null > crates/lockreplay/out/build.log 2>&1 \
 	    || { cat crates/lockreplay/out/build.log >&2; exit 1; }
 
-# The gate, and then the command lines, single lines, devices that fail, growths and threads that are refused, the worked scripts (also in threads, in whatever order comes), the
-# large scripts and the samples on the program as two compilers built it in the gate, what the README, the help and the manual page show, the
+# The gate, and then the command lines, single lines, devices that fail, growths and threads that are refused, the worked scripts (also in
+# threads, in whatever order comes), the large scripts and the samples on the program as two compilers built it in the gate, what the README, the help and the manual page show, the
 # files and names that the documents point to, that the tests of script_core have these worked scripts, that want of memory is made at one
-# place, that each edit still compiles, and the conformance tools' tests but for those that a busy machine can upset.
+# place, that each edit still compiles, what the library's calls tell C where a C compiler is there, and the conformance tools' tests but for
+# those that a busy machine can upset.
 WORKED := $(basename $(wildcard tests/worked-scripts/*.out)) $(wildcard tests/threads/*)
 test:
 	rt ci
@@ -42,6 +43,7 @@ test:
 	tests/memory-is-passed-on
 	sh tests/bad-edits.sh
 	tests/edit-reasons --compile
+	$(MAKE) --no-print-directory calls
 	cd conformance && LOCKREPLAY=$(abspath $(PROGRAM)) python3 -m unittest tests.test_corpus tests.test_judging tests.test_lies tests.test_trace
 
 # Lays each crate out as the gate wants it.
@@ -115,6 +117,12 @@ install-library: library
 	install -m 644 $(LIBRARY) '$(DESTDIR)$(PREFIX)/lib/libdehokuna.a'
 	install -m 644 embedding/dehokuna.h '$(DESTDIR)$(PREFIX)/include/dehokuna.h'
 	sed 's,@PREFIX@,$(PREFIX),; s,@VERSION@,$(VERSION),' embedding/dehokuna.pc.in > '$(DESTDIR)$(PREFIX)/lib/pkgconfig/dehokuna.pc'
+
+# Calls the library from C as a plain build does, also in threads, for the gate; skips where no C compiler is there.
+calls:
+	@if command -v $(CC) > /dev/null && command -v ar > /dev/null; \
+	then $(MAKE) --no-print-directory library && CC='$(CC)' sh embedding/tests/plain.sh '$(abspath $(LIBRARY))' '$(abspath embedding/out)'; \
+	else echo 'calls: SKIPPED: no C compiler is there, or no ar, so the library was not called from C'; fi
 
 # Calls the library from C and from Rust; wants a C compiler with its sanitizers, and valgrind, pkg-config, C++ and rustc where they are.
 embed: library
