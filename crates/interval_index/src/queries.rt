@@ -5,8 +5,8 @@ ghost use Rattle.interval_index.specs.declared.Run.{Run};
 ghost use Rattle.interval_index.specs.Reaching.{Tells};
 ghost use Rattle.interval_index.specs.Tests.{reaches_lock};
 
-use crate::{Holder, Run};
 use crate::reach::Reaches;
+use crate::{Holder, Run};
 use range_core::Mode;
 use summary_tree::Query;
 

@@ -53,7 +53,10 @@ impl Reach {
         ensures left_out { (kept : Run → Bool) (run : Run) → kept run ≡ false → TellsOf kept result (run ∷ []) }
     {
         Reach {
-            holder: Holder { class: 0, number: 0 },
+            holder: Holder {
+                class: 0,
+                number: 0,
+            },
             last: None,
             other: None,
         }

@@ -67,7 +67,11 @@ impl<T: Copy, S: Summary<T> + Copy> Block<T, S> {
     }
 
     /// The first item from a place on that is looked for.
-    pub(crate) fn first_where_from<C: Cut<T>, Q: Query<T, S>>(&self, cut: &C, query: &Q) -> Option<T>
+    pub(crate) fn first_where_from<C: Cut<T>, Q: Query<T, S>>(
+        &self,
+        cut: &C,
+        query: &Q,
+    ) -> Option<T>
         ensures { result ≡ find (both (C.is_behind cut.now) (Q.hits query.now)) self.now }
     {
         for item in &self.items {

@@ -151,7 +151,12 @@ fn side_of<T: Copy, S: Summary<T> + Copy, C: Cut<T>>(node: &Node<T, S>, cut: &C)
 }
 
 /// The tree of a node with an item more in its block; a full block shares its items with a node of the places.
-fn put_here<T: Copy, S: Summary<T> + Copy, C: Cut<T>>(mut node: Box<Node<T, S>>, cut: &C, item: T, places: &mut Places<T, S>) -> Subtree<T, S>
+fn put_here<T: Copy, S: Summary<T> + Copy, C: Cut<T>>(
+    mut node: Box<Node<T, S>>,
+    cut: &C,
+    item: T,
+    places: &mut Places<T, S>,
+) -> Subtree<T, S>
     requires place { 0 < places.old }
     requires balance { IsBalanced node.value.left.nodes node.value.right.nodes }
     requires filled { 0 < length node.value.block }
@@ -187,7 +192,10 @@ fn without_block<T: Copy, S: Summary<T> + Copy>(mut node: Box<Node<T, S>>) -> Su
 }
 
 /// The items of two trees that are balanced to each other.
-fn joined<T: Copy, S: Summary<T> + Copy>(left: Subtree<T, S>, mut right: Subtree<T, S>) -> Subtree<T, S>
+fn joined<T: Copy, S: Summary<T> + Copy>(
+    left: Subtree<T, S>,
+    mut right: Subtree<T, S>,
+) -> Subtree<T, S>
     requires balance { IsBalanced left.nodes right.nodes }
     requires fits { length left.items + length right.items < 2 ^ 64 }
     ensures items { result.items ≡ left.items ++ right.items }
