@@ -2,6 +2,7 @@
 use interval_index::{Holder, Run, RunIndex};
 use range_core::{Mode, Span};
 use std::alloc::Global;
+use std::mem::size_of;
 use std::process::Abort;
 use std::test::Fail;
 
@@ -69,7 +70,10 @@ fn two_readers_and_a_writer(rt: HostRuntime) -> Result<(), Fail> {
     assert!(rt; conflicts(&rt, &index, 1, last, Mode::Read));
     assert!(rt; !conflicts(&rt, &index, 3, last, Mode::Write));
 
-    assert_eq!(rt; index.take(30, holder(3)), Some(run(3, 30, 30, Mode::Write)));
+    assert_eq!(rt;
+        index.take(30, holder(3)),
+        Some(run(3, 30, 30, Mode::Write))
+    );
     assert_eq!(rt; index.take(30, holder(3)), None);
     assert!(rt; !conflicts(&rt, &index, 1, last, Mode::Read));
     Ok(())
@@ -167,7 +171,7 @@ fn as_a_list_does(rt: HostRuntime) -> Result<(), Fail> {
             put(&rt, &mut index, wanted)?;
             runs.push(wanted)?;
         } else {
-            let _ = index.remove(wanted.span.first, wanted.holder());
+            let _ = index.take(wanted.span.first, wanted.holder());
         }
         seed = next(seed);
         let asked = spelled(seed);
@@ -184,5 +188,45 @@ fn as_a_list_does(rt: HostRuntime) -> Result<(), Fail> {
         assert_eq!(rt; told(&index, &asked), counted(&runs, &asked));
         assert_eq!(rt; index.len(), runs.len() as u64);
     }
+    Ok(())
+}
+
+/// What a block of runs takes rests on this.
+#[test]
+fn a_run_takes_32_bytes(rt: HostRuntime) {
+    assert_eq!(rt; size_of::<Run>(), 32);
+}
+
+#[test]
+fn of_many_owners(rt: HostRuntime) -> Result<(), Fail> {
+    let mut index = RunIndex::new(rt.alloc());
+    index.reserve(20000)?;
+    assert_eq!(rt; index.room(), 20000);
+    // In an order that goes to and fro: owner n has byte 3n, and the last one a read lock of all.
+    for step in 0..19999u64 {
+        let owner = step.wrapping_mul(7919) % 19999;
+        let byte = owner.wrapping_mul(3);
+        put(&rt, &mut index, run(owner, byte, byte, Mode::Write))?;
+    }
+    put(&rt, &mut index, run(19999, 1, 60000, Mode::Read))?;
+    assert_eq!(rt; index.len(), 20000);
+    for owner in 0..19999u64 {
+        let byte = owner.wrapping_mul(3);
+        let span = Span {
+            first: byte,
+            last: byte.wrapping_add(1),
+        };
+        assert!(rt; !conflicts(&rt, &index, owner, span, Mode::Read));
+        assert!(rt; conflicts(&rt, &index, owner, span, Mode::Write));
+        assert_eq!(rt;
+            index.first(holder(19999), span, Mode::Read),
+            Some(run(owner, byte, byte, Mode::Write))
+        );
+    }
+    for owner in 0..19999u64 {
+        let byte = owner.wrapping_mul(3);
+        assert!(rt; index.take(byte, holder(owner)).is_some());
+    }
+    assert_eq!(rt; index.len(), 1);
     Ok(())
 }

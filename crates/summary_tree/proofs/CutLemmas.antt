@@ -1,5 +1,5 @@
 -- Where a list that a test cuts in two is split, too.
-use Rattle.std.proofs.Common.{◌≡◌, suc, ◌+◌, ◌<◌, Bool, true, false, not, cond, ◌&&◌, ◌||◌, Some, None, List, [], ◌∷◌, ◌++◌, length, refl, sym, ap, ◌∙◌, subst, arith, append_assoc}
+use Rattle.std.proofs.Common.{◌≡◌, ◌<◌, Bool, true, false, cond, ◌&&◌, ◌||◌, Some, None, List, [], ◌∷◌, ◌++◌, length, refl, ap, ◌∙◌, subst, arith}
 use Rattle.std.specs.List.{find, list_any, AllByRecursion}
 use Rattle.summary_tree.specs.Cuts.{IsCutBy, first_passes, last_passes, both}
 use Rattle.summary_tree.proofs.Splits.{NonePasses, EachPasses, all_back}

@@ -1,5 +1,5 @@
 -- Tests that cut a list in two.
-use Rattle.std.specs.Prelude.{◌≡◌, Bool, true, false, cond, not, ◌&&◌, List, [], ◌∷◌}
+use Rattle.std.specs.Prelude.{◌≡◌, Bool, true, false, cond, ◌&&◌, List, [], ◌∷◌}
 use Rattle.std.specs.List.{AllByRecursion}
 
 -- behind an item that passes each passes

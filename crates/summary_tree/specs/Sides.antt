@@ -1,5 +1,5 @@
 -- In which part of a node an item is put.
-use Rattle.std.specs.Prelude.{◌≡◌, Bool, List, ◌++◌}
+use Rattle.std.specs.Prelude.{◌≡◌, Bool, ◌++◌}
 use Rattle.summary_tree.specs.declared.subtree.Node.{Node}
 use Rattle.summary_tree.specs.declared.subtree.changing.Side.{Side}
 use Rattle.summary_tree.specs.declared.subtree.changing.Side.TheVariants.{Left, Here, Right}

@@ -77,12 +77,13 @@ impl Cut<u64> for Back {
 }
 
 /// What was gathered, and in how many steps.
-struct Gathered {
+#[derive(Drop)]
+struct Gathering {
     total: Total,
     steps: u64,
 }
 
-impl Walk<u64, Total> for Gathered {
+impl Walk<u64, Total> for Gathering {
     ghost gathers = { λ _ _. Unit {0} };
 
     fn see(&mut self, number: &u64) {
@@ -103,7 +104,7 @@ impl Walk<u64, Total> for Gathered {
 
 /// What a walk gathers, and whether it took fewer than so many steps.
 fn gathered(tree: &Tree<u64, Total>, steps: u64) -> (Total, bool) {
-    let mut gathered = Gathered {
+    let mut gathered = Gathering {
         total: Total::none(),
         steps: 0,
     };
@@ -139,22 +140,28 @@ fn pop_front(tree: &mut Tree<u64, Total>) -> Option<u64> {
 #[test]
 fn rising_numbers(rt: HostRuntime) -> Result<(), Fail> {
     let mut tree: Tree<u64, Total> = Tree::new(rt.alloc());
-    for number in 0..100000u64 {
+    for number in 0..20000u64 {
         tree.reserve(1)?;
         assert_eq!(rt; tree.room(), 1);
         push_back(&rt, &mut tree, number);
         assert_eq!(rt; tree.room(), 0);
     }
-    assert_eq!(rt; tree.len(), 100000);
-    // Full blocks: 3,125 nodes.
-    assert!(rt; tree.depth() <= 20, "{}", tree.depth());
-    assert_eq!(rt; tree.first_where(&From(77777)), Some(77777));
-    assert_eq!(rt; tree.first_where(&From(100000)), None);
-    let (total, is_short) = gathered(&tree, 2000);
-    assert_eq!(rt; total, Total { count: 100000, sum: sum_below(100000) });
+    assert_eq!(rt; tree.len(), 20000);
+    // In 625 nodes, since blocks stay full: the logarithm of 626 to the base 4/3 is 22.4.
+    assert!(rt; tree.depth() <= 22);
+    assert_eq!(rt; tree.first_where(&From(17777)), Some(17777));
+    assert_eq!(rt; tree.first_where(&From(20000)), None);
+    let (total, is_short) = gathered(&tree, 400);
+    assert_eq!(rt;
+        total,
+        Total {
+            count: 20000,
+            sum: sum_below(20000)
+        }
+    );
     assert!(rt; is_short);
 
-    for number in 0..100000u64 {
+    for number in 0..20000u64 {
         assert_eq!(rt; pop_front(&mut tree), Some(number));
     }
     assert_eq!(rt; pop_front(&mut tree), None);
@@ -171,7 +178,8 @@ fn falling_numbers_in_room_that_is_held(rt: HostRuntime) -> Result<(), Fail> {
         push_front(&rt, &mut tree, 2999u64.wrapping_sub(number));
     }
     assert_eq!(rt; tree.room(), 0);
-    assert!(rt; tree.depth() <= 10);
+    // In 94 nodes: the logarithm of 95 to the base 4/3 is 15.8.
+    assert!(rt; tree.depth() <= 15);
     for number in 0..3000u64 {
         assert_eq!(rt; tree.first_where(&From(number)), Some(number));
     }

@@ -1,4 +1,3 @@
-use Rattle.std.proofs.Common.{sym}
 use Rattle.summary_tree.proofs.ListLemmas.{none_found}
 use Rattle.summary_tree.proofs.block.Block.first_where.Goals as goal
 

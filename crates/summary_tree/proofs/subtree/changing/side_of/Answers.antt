@@ -1,7 +1,7 @@
-use Rattle.std.proofs.Common.{◌++◌, refl, sym, subst, ◌∙◌}
+use Rattle.std.proofs.Common.{◌++◌, refl, sym, ◌∙◌}
 use Rattle.summary_tree.specs.Nodes.{items_of}
 use Rattle.summary_tree.proofs.CutLemmas.{any_at_last, same_first, split_at}
-use Rattle.summary_tree.proofs.Splits.{NonePasses, put_last, put_left, put_middle, put_middle_end}
+use Rattle.summary_tree.proofs.Splits.{put_last, put_left, put_middle, put_middle_end}
 use Rattle.summary_tree.proofs.subtree.changing.side_of.Goals as goal
 
 pub returns-then-nodes-eq0 : goal.returns-then-nodes-eq0
