@@ -19,8 +19,10 @@ macro_rules! lock {
 
 mod bench;
 mod gate;
+mod spelling;
 mod table;
 mod threads;
+mod worked;
 
 use fd_table::{Access, Limits};
 use lock_manager::{Request, Rules};

@@ -7,7 +7,7 @@ use lock_manager::{LkCmd, Lock, Reply, Request};
 use range_core::{Kind, Memory, Mode, Whence};
 use std::process::Abort;
 use std::sync::Wait;
-use std::sync::atomic::{AtomicBool, Ordering};
+use std::sync::atomic::{AtomicBool, AtomicU64, Ordering};
 use std::test::Fail;
 use std::thread::Threads;
 use std::{mem, thread};
@@ -15,9 +15,46 @@ use std::{mem, thread};
 /// Asks for the lock that process 1 has.
 const LOOK: Request = lock!(GetLk, Write, 0, 1);
 
+/// How often a gate was called, and with which place last.
+#[derive(Drop)]
+struct Calls {
+    count: AtomicU64,
+    place: AtomicU64,
+}
+
+impl Calls {
+    fn none() -> Calls {
+        Calls {
+            count: AtomicU64::new(0),
+            place: AtomicU64::new(0),
+        }
+    }
+
+    fn add(&self, place: u64) {
+        self.count.fetch_add(1, Ordering::SeqCst);
+        self.place.store(place, Ordering::SeqCst);
+    }
+
+    /// How often, and the last place.
+    fn seen(&self) -> (u64, u64) {
+        (
+            self.count.load(Ordering::SeqCst),
+            self.place.load(Ordering::SeqCst),
+        )
+    }
+}
+
+/// A gate that counts its calls.
+impl Gate for Calls {
+    fn between(&self, place: u64) {
+        self.add(place);
+    }
+}
+
 /// A gate that holds the desk until the client has acted, for so many turns at most, and what the two threads tell each other.
 #[derive(Drop)]
 struct Acting {
+    calls: Calls,
     /// The desk stands at the gate.
     entered: AtomicBool,
     /// The client's calls returned.
@@ -31,6 +68,7 @@ struct Acting {
 impl Acting {
     fn new() -> Acting {
         Acting {
+            calls: Calls::none(),
             entered: AtomicBool::new(false),
             acted: AtomicBool::new(false),
             seen: AtomicBool::new(false),
@@ -40,7 +78,8 @@ impl Acting {
 }
 
 impl Gate for Acting {
-    fn between(&self, _place: u64) {
+    fn between(&self, place: u64) {
+        self.calls.add(place);
         self.entered.store(true, Ordering::SeqCst);
         for _ in 0..TURNS {
             if self.acted.load(Ordering::SeqCst) {
@@ -153,6 +192,7 @@ fn act_at_the_gate<R: Threads + Wait + Abort + Sync>(
     let gate = Acting::new();
     let (served, acted) = serve_while_it_acts(rt, client, server, &gate)?;
     assert!(rt; served == Served::Took(4));
+    assert!(rt; gate.calls.seen() == (1, 4));
     assert!(rt; gate.seen.load(Ordering::SeqCst));
     let (mut client, came) = acted.expect(rt, "the desk stood at its gate");
     assert!(rt; came == (Ok(row.posted), row.meanwhile));
@@ -175,5 +215,25 @@ fn a_client_acts_while_the_desk_serves(rt: HostRuntime) -> Result<(), Fail> {
         collect_all(&rt, &mut first, row.before);
         act_at_the_gate(&rt, first, &mut server, row)?;
     }
+    Ok(())
+}
+
+/// The gate is called once for a request that is taken, with its place, which is 4 of the fourth; and not where there is none to take, nor
+/// where the desk is closed.
+#[test]
+fn the_gate_is_called_once_for_each_taken_request(rt: HostRuntime) -> Result<(), Fail> {
+    let (hub, first, last, desk) = open_table(&rt, rt.alloc(), 2, 4, RULES)?;
+    let (mut first, mut second, mut server) = with_hub(&hub, first, last, desk);
+    let gate = Calls::none();
+    advance(&rt, &mut first, &mut second, &mut server, LOCKED)?;
+    assert!(rt; server.serve(&rt, &gate)? == Served::Idle);
+    assert!(rt; second.post(LOOK) == Ok(1));
+    assert!(rt; gate.seen() == (0, 0));
+    assert!(rt; server.serve(&rt, &gate)? == Served::Took(4));
+    assert!(rt; gate.seen() == (1, 4));
+    assert!(rt; server.serve(&rt, &gate)? == Served::Idle);
+    server.close();
+    assert!(rt; server.serve(&rt, &gate)? == Served::Closed);
+    assert!(rt; gate.seen() == (1, 4));
     Ok(())
 }

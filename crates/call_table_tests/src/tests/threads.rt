@@ -23,6 +23,9 @@ struct Script {
     second: &'static [Request],
     /// How many these are in all.
     requests: usize,
+    /// What each of the two collects, where every order leaves that; else nothing.
+    to_first: &'static [Answer],
+    to_second: &'static [Answer],
 }
 
 const SCRIPTS: &[Script] = &[
@@ -42,8 +45,10 @@ const SCRIPTS: &[Script] = &[
             lock!(SetLk, Unlock, 0, 2),
         ],
         requests: 8,
+        to_first: &[],
+        to_second: &[],
     },
-    // An unlock answers who waits.
+    // An unlock answers who waits, at the place of the unlock.
     Script {
         before: &[
             (1, OPEN),
@@ -54,6 +59,13 @@ const SCRIPTS: &[Script] = &[
         first: &[lock!(SetLk, Unlock, 0, 1)],
         second: &[],
         requests: 5,
+        to_first: &[
+            (1, Reply::Fd(0), 1),
+            (2, Reply::Ok, 2),
+            (3, Reply::Ok, 3),
+            (4, Reply::Ok, 5),
+        ],
+        to_second: &[(1, Reply::Ok, 5)],
     },
 ];
 
@@ -156,6 +168,10 @@ fn run_script<R: Threads + Wait + Abort + Sync>(
     assert!(rt; session.journal().len() == script.requests);
     look_at_answers(rt, session, 1, &one);
     look_at_answers(rt, session, 2, &two);
+    if !script.to_first.is_empty() {
+        assert!(rt; one.as_slice() == script.to_first);
+        assert!(rt; two.as_slice() == script.to_second);
+    }
     Ok(())
 }
 
