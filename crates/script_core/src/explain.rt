@@ -22,7 +22,7 @@ use crate::deadlock::{Link, cycle_of};
 use crate::entry_text::push_entry;
 use crate::pieces::{push_first_number, push_number, push_str};
 use crate::report_text::{push_held, push_held_text, push_wait, push_wait_text};
-use crate::states::{States, push_state_if};
+use crate::states::{States, push_state_behind};
 use lock_book::{Held, Owner};
 use lock_manager::{
     Errno, FlockOp, InTheWay, Manager, Note, ProcState, Reply, Request, Rules, step_has_one_outcome,
@@ -34,8 +34,8 @@ use wait_core::{Policy, Wait};
 
 /// Appends the lines of a journal, which is a run of `processes` processes from the opening, and behind each what explains it: which
 /// locks went, what was the first in the way, and which cycle a wait would have closed; and where it is asked for the whole state that it
-/// left. The run is made again, step by step, which takes the memory of a lock manager and of two reports, and for a cycle that of the
-/// waits and of a set of processes for each of its steps.
+/// left, or what it changed. The run is made again, step by step, which takes the memory of a lock manager and of two reports, of the lines
+/// of a state that is told, or of two whose difference is, and for a cycle that of the waits and of a set of processes for each of its steps.
 /// After `Memory` the vector has its old bytes.
 #[tactic(auto, using(crate::proofs::ExplainLemmas::cut_whole))]
 pub fn write_explained(
@@ -78,11 +78,12 @@ fn push_explained(
     // A law, and nothing to run.
     step_has_one_outcome();
     let mut manager = Manager::new(alloc, processes, rules)?;
+    let mut before = Vec::new(alloc);
     let mut number = 0;
     for entry in journal {
         number += 1;
         push_step(alloc, rules.policy, text, &mut manager, entry)?;
-        push_state_if(states.is_told(number), text, &manager, rules)?;
+        push_state_behind(number, states, text, &mut before, &manager, rules)?;
     }
     Ok(())
 }

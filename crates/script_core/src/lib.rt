@@ -22,6 +22,7 @@ mod report;
 mod report_text;
 mod request_text;
 mod script;
+mod state_lines;
 mod states;
 mod word_tables;
 mod words;
