@@ -66,6 +66,7 @@ memory: build
 	sh tests/refuse-growths.sh $(PROGRAM) --threads tests/command-line/handed-over
 	sh tests/refuse-growths.sh $(PROGRAM) --explain tests/command-line/explained
 	sh tests/refuse-growths.sh $(PROGRAM) --state all tests/command-line/state
+	sh tests/refuse-growths.sh $(PROGRAM) --state changes tests/command-line/changes
 	sh tests/refuse-growths.sh $(PROGRAM) --threads --explain tests/command-line/handed-over
 	@for script in $(basename $(wildcard tests/worked-scripts/*.out)); do sh tests/refuse-growths.sh $(PROGRAM) $$script || exit 1; done
 	@for crate in $(TESTED) call_table_tests; do (cd crates/$$crate && rt test) > crates/$$crate/out/test.log 2>&1 \

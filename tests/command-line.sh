@@ -130,12 +130,17 @@ check 2 empty explain-check.err empty --explain missing --check
 check 2 empty both-flags.err empty --explain missing --check --threads
 check 2 empty explain-twice.err empty --explain --explain
 
-# The state behind an entry, or behind each: what is held, who waits, each process that was born and each descriptor. Behind an entry that
-# the run doesn't have nothing is told. It is explained too, and legal as it stands.
+# The state behind an entry, or behind each: what is held, who waits, each process that was born, each descriptor and each file that isn't
+# empty; or what each changed. Behind an entry that the run doesn't have nothing is told. It is explained too, and legal as it stands.
 check 0 state.sixth empty empty --state 6 state
 check 0 state.sixth empty state --state=6
 check 0 state.sixth empty empty --explain state --state 6
 check 0 state.all empty empty --state all state
+check 0 sizes.fifth empty empty --state 5 sizes
+check 0 changes.out empty empty --state changes changes
+check 0 changes.out empty changes --explain --state=changes
+check 0 changes.one empty empty --threads --state changes changes-of-one
+check 0 empty empty changes.out --check
 check 0 explained.out empty empty --state 99 explained
 check 0 empty empty state.all --check
 check 0 empty.out empty conversion --state all empty

@@ -9,19 +9,21 @@ trap 'rm -rf "$work"' EXIT
 passed=0
 failed=0
 
-# check NAME AWK [FLAG]: the awk program prints the script's lines behind `<` and those of its output behind `>`, and the replay prints
-# these with the flag, which are a legal journal behind the script's header lines.
+# check NAME AWK [WORD..]: the awk program prints the script's lines behind `<` and those of its output behind `>`, and the replay, with these
+# words, prints these, which are a legal journal behind the script's header lines.
 check() {
+    name=$1
     awk "$2" > "$work/lines"
+    shift 2
     sed -n 's/^<//p' "$work/lines" > "$work/script"
     sed -n 's/^>//p' "$work/lines" > "$work/expected"
     sed '/^limits/!d' "$work/script" | cat - "$work/expected" > "$work/journal"
-    if "$program" ${3:+"$3"} "$work/script" > "$work/output" 2> "$work/errors" && cmp "$work/expected" "$work/output" && [ -s "$work/output" ] \
+    if "$program" "$@" "$work/script" > "$work/output" 2> "$work/errors" && cmp "$work/expected" "$work/output" && [ -s "$work/output" ] \
         && "$program" --check "$work/journal" > "$work/verdict" 2> "$work/errors" && ! [ -s "$work/verdict" ]; then
         passed=$((passed + 1))
     else
         failed=$((failed + 1))
-        echo "$1: another output, or none" >&2
+        echo "$name: another output, or none" >&2
         cat "$work/errors" >&2
     fi
 }
@@ -107,6 +109,23 @@ check 'a comment of 60 words' "$asks"' BEGIN {
     print "<" line
     asks(1, "open 0 rw", "fd 0")
     tells(1) }'
+
+# What each of 4,000 events changed: a line or two for each, whatever the state has grown to.
+check '4,000 events and what each changed' "$asks"' BEGIN {
+    asks(1, "open 0 rw", "fd 0")
+    print ">" "# + proc 1 live"
+    print ">" "# + fd 1 0 description 1 file 0 rw offset 0"
+    for (i = 0; i < 2000; i++) {
+        asks(1, "setlk 0 w set " 2 * i " 1", "ok")
+        print ">" "# + lock 0 process 1 w " 2 * i " " 2 * i
+    }
+    for (i = 0; i < 2000; i++) {
+        asks(1, "setlk 0 r set " 2 * i " 1", "ok")
+        print ">" "# - lock 0 process 1 w " 2 * i " " 2 * i
+        print ">" "# + lock 0 process 1 r " 2 * i " " 2 * i
+    }
+    for (i = 0; i < 2000; i++) print ">lock 0 process 1 r " 2 * i " " 2 * i
+    tells(1) }' --state changes
 
 echo "large scripts: $passed passed, $failed failed"
 [ "$failed" -eq 0 ]

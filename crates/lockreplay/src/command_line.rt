@@ -55,7 +55,7 @@ fn command<'a>(alloc: Global) -> Result<Command<'a>, AllocError>
         alloc,
         "state",
         "N",
-        "Explains, and tells the state behind entry N, or behind all",
+        "Explains, and tells the state behind entry N, all or changes",
     );
     let check = flag(
         alloc,
@@ -195,7 +195,12 @@ Explain:
   --state N explains too, and tells the state behind the line of the N-th event,
   or behind each with all: what is held and who waits, as above, and then
     # proc 1 live                             each process that was born
-    # fd 1 0 description 2 file 0 rw offset 9 and each descriptor, here 0 of 1
+    # fd 1 0 description 2 file 0 rw offset 9 each descriptor, here 0 of 1
+    # file 0 size 100                         and each file that isn't empty
+  With --state changes only the lines that went stand behind an event, and then
+  those that came:
+    # - proc 1 live                           (behind the first all came)
+    # + proc 1 waiting
 
 Check:
   With --check an output is read, as a server may print it too: header lines as

@@ -18,8 +18,8 @@ pub enum Misuse {
     /// `--state` beside `--check`, as `--explain`.
     #[error("error: the argument '--state <N>' cannot be used with '--check'\n\nFor more information, try '--help'.\n")]
     State,
-    /// `--state` with what is neither `all` nor the number of an entry.
-    #[error("error: invalid value for '--state <N>': the number of an entry, from 1 on, or all\n\nFor more information, try '--help'.\n")]
+    /// `--state` with what is neither `all`, `changes` nor the number of an entry.
+    #[error("error: invalid value for '--state <N>': the number of an entry, from 1 on, or all, or changes\n\nFor more information, try '--help'.\n")]
     Entry,
 }
 

@@ -18,7 +18,7 @@ use std::time::Clock;
 pub enum Detail {
     /// The line of each event, and then the report.
     Plain,
-    /// The same, with what explains each event behind its line, and the states that are asked for, and what was never taken at the end: lines
+    /// The same, with what explains each event behind its line, and what is asked for of the states, and what was never taken at the end: lines
     /// that begin with `#`.
     Explained(States),
 }

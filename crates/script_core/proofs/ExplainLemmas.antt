@@ -1,6 +1,6 @@
 -- The run that is made again, step by step: for `write_explained`, clause `ok`.
 use Rattle.std.proofs.lemmas.Grind.{common_steps}
-use Rattle.std.proofs.Common.{rules, ℕ, zero, suc, ◌≡◌, ◌+◌, ◌-◌, ◌<◌, ◌≤◌, Option, List, [], ◌∷◌, ◌++◌, length, All, inl, inr, take, drop, get_or, refl, sym, ap, subst, ◌∙◌, arith, append_assoc, append-nil, add-one, Result, Bool, true, IfOk, MatchResult, OnErr, OnOk, codes, decimal, slice_index}
+use Rattle.std.proofs.Common.{rules, ℕ, zero, suc, ◌≡◌, ◌+◌, ◌-◌, ◌<◌, ◌≤◌, Option, List, [], ◌∷◌, ◌++◌, length, All, inl, inr, take, drop, get_or, refl, sym, ap, subst, ◌∙◌, arith, append_assoc, append-nil, add-one, Result, true, IfOk, MatchResult, OnErr, OnOk, codes, decimal, slice_index}
 use Rattle.std.proofs.Math.Seq.{drop-cons, take-append_seam}
 use Rattle.std.proofs.lemmas.List.{take_more, take_all, length-take}
 use Rattle.std.proofs.lemmas.Bool.{cases_Bool}
@@ -33,7 +33,9 @@ use Rattle.script_core.specs.EntryText.{entry_line, tag}
 use Rattle.script_core.specs.Output.{Extends}
 use Rattle.script_core.specs.declared.deadlock.Link.{Link}
 use Rattle.script_core.specs.declared.states.States.{States}
-use Rattle.script_core.specs.StateText.{is_told, TellsStateIf}
+use Rattle.script_core.specs.declared.state_lines.StateLine.{StateLine}
+use Rattle.script_core.specs.StateText.{IsKept, TellsState}
+use Rattle.script_core.proofs.StateLemmas.{StateTold}
 use Rattle.script_core.specs.Files.{IsWithinFiles}
 use Rattle.script_core.specs.Deadlocks.{TellsCycleIfAny}
 use Rattle.script_core.specs.Losses.{closed_by, AreReleased, lost}
@@ -201,9 +203,9 @@ pub cut_whole : (old new cut : List ℕ) (len : ℕ) → Extends old new → len
 cut_whole old new cut len kept at is = is ∙ ap (λ (n : ℕ). take n new) at ∙ ap (take (length old)) kept.is ∙ take-append_seam old kept.more
 
 -- a front of a journal was made again: the manager stands for the state that it leaves, from which the rest leads on, and the text has
--- grown by what explains the front
+-- grown by what explains the front; and against these lines it is told what the next event changes, where that is asked for
 pub record HasExplained (states : States) (rules : Rules) (processes : ℕ) (journal : List Event) (index : ℕ) (manager : Manager)
-    (old new : List ℕ) : Type 0 where
+    (before : List StateLine) (old new : List ℕ) : Type 0 where
   pub state : State
   pub last : State
   pub stands : StandsFor manager state
@@ -215,11 +217,12 @@ pub record HasExplained (states : States) (rules : Rules) (processes : ℕ) (jou
   pub is : new ≡ old ++ more
   pub rules_are : rules_of manager ≡ rules
   pub processes_are : processes_of manager ≡ processes
+  pub kept : IsKept states rules processes (index + 1) state before
 
 -- one more event is explained
 run_more : (states : States) (rules : Rules) (processes number : ℕ) (first S : State) (events : List Event) (event : Event) (T : State)
     (text own told : List ℕ) → ExplainsRun states rules processes number first events S text → IsStep rules processes S event T
-    → Explains rules processes S event T own → TellsStateIf (is_told states (number + length events)) rules processes T told
+    → Explains rules processes S event T own → TellsState states rules processes (number + length events) S T told
     → ExplainsRun states rules processes number first (events ++ event ∷ []) T (text ++ (entry_line event ++ own ++ told))
 run_more states rules processes number first S [] event T text own told h step explains tells =
     let here : number + 0 ≡ number = omega arith in (
@@ -228,7 +231,8 @@ run_more states rules processes number first S [] event T text own told h step e
       own,
       subst (λ (X : State). Explains rules processes X event T own) h.0 explains,
       told,
-      subst (λ (n : ℕ). TellsStateIf (is_told states n) rules processes T told) here tells,
+      subst (λ (X : State). TellsState states rules processes number X T told) h.0
+          (subst (λ (n : ℕ). TellsState states rules processes n S T told) here tells),
       [],
       (refl, refl),
       ap (λ (l : List ℕ). l ++ (entry_line event ++ own ++ told)) h.1 ∙ sym (append-nil (entry_line event ++ own ++ told)),
@@ -244,7 +248,7 @@ run_more states rules processes number first S (one ∷ events) event T text own
       h.5,
       h.6 ++ piece,
       run_more states rules processes (number + 1) h.0 S events event T h.6 own told h.7 step explains
-          (subst (λ (n : ℕ). TellsStateIf (is_told states n) rules processes T told) there tells),
+          (subst (λ (n : ℕ). TellsState states rules processes n S T told) there tells),
       ap (λ (l : List ℕ). l ++ piece) h.8 ∙ append_assoc (entry_line one ++ h.2 ++ h.4) h.6 piece,
     )
 
@@ -252,18 +256,13 @@ next_of : (journal : List Event) (index : ℕ) (event : Event) → index < lengt
     → drop index journal ≡ event ∷ drop (suc index) journal
 next_of journal index event within is = grind (arith, common_steps, drop-cons)
 
--- what is told of the state that the manager stands for, behind the text
-abbrev pub StateTold : Bool → Rules → Manager → List ℕ → List ℕ → Type 0
-StateTold told rules manager before after =
-    (S : State) → StandsFor manager S → (more : List ℕ) × TellsStateIf told rules (processes_of manager) S more × (after ≡ before ++ more)
-
 -- the next event's step is made again from the state of the front, and what explains it stands behind the text
-again : (states : States) (rules : Rules) (processes : ℕ) (journal : List Event) (index : ℕ) (manager next : Manager) (old mid late : List ℕ) (event : Event)
-    → (h : HasExplained states rules processes journal index manager old mid) → index < length journal → event ≡ get_or journal index event
+again : (states : States) (rules : Rules) (processes : ℕ) (journal : List Event) (index : ℕ) (manager next : Manager) (before : List StateLine)
+    (old mid late : List ℕ) (event : Event) → (h : HasExplained states rules processes journal index manager before old mid) → index < length journal → event ≡ get_or journal index event
     → StepExplains rules.policy manager next event mid late
     → (T : State) × IsStep rules processes h.state event T × Leads rules processes T (drop (suc index) journal) h.last × StandsFor next T
     × (own : List ℕ) × Explains rules processes h.state event T own × (late ≡ mid ++ (entry_line event ++ own))
-again states rules processes journal index manager next old mid late event h within is made =
+again states rules processes journal index manager next before old mid late event h within is made =
     let rest = subst (λ (l : List Event). Leads rules processes h.state l h.last) (next_of journal index event within is) h.leads in
     let by_rules = subst (λ (r : Rules). IsStep r processes h.state event rest.0) (sym h.rules_are) rest.1 in
     let by_all = subst (λ (k : ℕ). IsStep (rules_of manager) k h.state event rest.0) (sym h.processes_are) by_rules in
@@ -279,24 +278,28 @@ again states rules processes journal index manager next old mid late event h wit
     )
 
 -- so the text before it is kept
-pub kept_again : (states : States) (rules : Rules) (processes : ℕ) (journal : List Event) (index : ℕ) (manager next : Manager) (old mid late : List ℕ)
-    (event : Event) → HasExplained states rules processes journal index manager old mid → index < length journal → event ≡ get_or journal index event
+pub kept_again : (states : States) (rules : Rules) (processes : ℕ) (journal : List Event) (index : ℕ) (manager next : Manager)
+    (before : List StateLine) (old mid late : List ℕ) (event : Event) → HasExplained states rules processes journal index manager before old mid → index < length journal → event ≡ get_or journal index event
     → StepExplains rules.policy manager next event mid late → Extends old late
-kept_again states rules processes journal index manager next old mid late event h within is made =
-    let step = again states rules processes journal index manager next old mid late event h within is made in
+kept_again states rules processes journal index manager next before old mid late event h within is made =
+    let step = again states rules processes journal index manager next before old mid late event h within is made in
     kept_behind old mid late h.more h.is (record { more = entry_line event ++ step.4; is = step.6 })
 
 -- and once the state is told where it is asked for, it is explained too
 pub explained_more : (states : States) (rules : Rules) (processes : ℕ) (journal : List Event) (index number : ℕ) (manager next : Manager)
-    (old mid late new : List ℕ) (event : Event) → HasExplained states rules processes journal index manager old mid → index < length journal
-    → event ≡ get_or journal index event → number ≡ index + 1 → StepExplains rules.policy manager next event mid late
-    → StateTold (is_told states number) rules next late new → rules_of next ≡ rules_of manager → processes_of next ≡ processes_of manager
-    → HasExplained states rules processes journal (index + 1) next old new
-explained_more states rules processes journal index number manager next old mid late new event h within is at made tells rules_stay processes_stay =
-    let step = again states rules processes journal index manager next old mid late event h within is made in
-    let told = tells step.0 step.3 in
+    (before after : List StateLine) (old mid late new : List ℕ) (event : Event) → HasExplained states rules processes journal index manager before old mid
+    → index < length journal → event ≡ get_or journal index event → number ≡ index + 1 → StepExplains rules.policy manager next event mid late
+    → StateTold states rules number next before after late new → rules_of next ≡ rules_of manager → processes_of next ≡ processes_of manager
+    → HasExplained states rules processes journal (index + 1) next after old new
+explained_more states rules processes journal index number manager next before after old mid late new event h within is at made tells rules_stay processes_stay =
+    let step = again states rules processes journal index manager next before old mid late event h within is made in
+    let all = processes_stay ∙ h.processes_are in
+    let kept = subst (λ (k : ℕ). IsKept states rules k number h.state before) (sym all)
+    (subst (λ (n : ℕ). IsKept states rules processes n h.state before) (sym at) h.kept) in
+    let told = tells h.state step.0 step.3 kept in
     let place : number ≡ 1 + length (take index journal) = omega (arith, at, length-take index journal) in
-    let told_is = subst (λ (k : ℕ). TellsStateIf (is_told states number) rules k step.0 told.0) (processes_stay ∙ h.processes_are) told.1 in
+    let told_is = subst (λ (k : ℕ). TellsState states rules k number h.state step.0 told.0) all told.1 in
+    let pushed = told.2 in
     let front : take (index + 1) journal ≡ take index journal ++ event ∷ [] =
     take_more journal index event within ∙ ap (λ (e : Event). take index journal ++ e ∷ []) (sym is) in
     let piece = entry_line event ++ step.4 ++ told.0 in
@@ -310,10 +313,12 @@ explained_more states rules processes journal index number manager next old mid 
       more = h.more ++ piece;
       explains = subst (λ (l : List Event). ExplainsRun states rules processes 1 opening_state l step.0 (h.more ++ piece)) (sym front)
           (run_more states rules processes 1 opening_state h.state (take index journal) event step.0 h.more step.4 told.0 h.explains step.1 step.5
-          (subst (λ (n : ℕ). TellsStateIf (is_told states n) rules processes step.0 told.0) place told_is));
+          (subst (λ (n : ℕ). TellsState states rules processes n h.state step.0 told.0) place told_is));
       is = grind (arith, common_steps, append_assoc);
       rules_are = rules_stay ∙ h.rules_are;
       processes_are = processes_stay ∙ h.processes_are;
+      kept = subst (λ (n : ℕ). IsKept states rules processes (n + 1) step.0 after) at
+          (subst (λ (k : ℕ). IsKept states rules k (number + 1) step.0 after) all told.3);
     }
 
 -- a run that is explained leaves the state to which its events lead
@@ -327,6 +332,6 @@ same_end one states rules processes number S (event ∷ events) T U text h leads
 
 -- the whole journal
 pub all_explained : StepHasOneOutcome → (states : States) (rules : Rules) (processes : ℕ) (journal : List Event) (index : ℕ) (manager : Manager)
-    (old new : List ℕ) → HasExplained states rules processes journal index manager old new → length journal ≤ index → (T : State)
+    (before : List StateLine) (old new : List ℕ) → HasExplained states rules processes journal index manager before old new → length journal ≤ index → (T : State)
     → Leads rules processes opening_state journal T → (more : List ℕ) × ExplainsRun states rules processes 1 opening_state journal T more × (new ≡ old ++ more)
-all_explained one states rules processes journal index manager old new h past T leads = grind (arith, common_steps, take_all, same_end)
+all_explained one states rules processes journal index manager before old new h past T leads = grind (arith, common_steps, take_all, same_end)

@@ -8,7 +8,6 @@ use Rattle.session_core.specs.Mail.{requests_sent}
 use Rattle.script_core.specs.declared.states.States.{States}
 use Rattle.script_core.specs.EntryText.{entry_line}
 use Rattle.script_core.specs.Output.{processes_in}
-use Rattle.script_core.specs.StateText.{is_told}
 use Rattle.script_core.specs.Explaining.{ExplainsRun, untaken_lines, without_comments, ExplanationsAreComments}
 use Rattle.script_core.proofs.CommentLaws.{plain_entry, plain_report, comment_own, comment_all_untaken}
 use Rattle.script_core.proofs.StateCommentLaws.{comment_told}
@@ -26,7 +25,7 @@ run_without states rules processes number S (event ∷ events) T text h rest =
     ∙ plain_entry event (h.2 ++ (h.4 ++ behind))
     ∙ ap (λ (l : List ℕ). line ++ l)
     (comment_own rules processes S event h.0 h.2 h.3 (h.4 ++ behind)
-    ∙ comment_told (is_told states number) rules processes h.0 h.4 h.5 behind
+    ∙ comment_told states rules processes number S h.0 h.4 h.5 behind
     ∙ run_without states rules processes (number + 1) h.0 events T h.6 h.7 rest)
     ∙ sym (append_assoc line (flat_map entry_line events) (without_comments rest))
 

@@ -1,6 +1,6 @@
 -- Reports are read back, for `reports_are_read_back`: texts are those of the lines of a report just where they are its lines.
 use Rattle.std.proofs.lemmas.Grind.{common_steps}
-use Rattle.std.proofs.Common.{◌≡◌, ℕ, zero, suc, ◌+◌, ◌^◌, ◌<◌, ◌≤◌, ◌==◌, Bool, true, false, List, [], ◌∷◌, ◌++◌, length, map, flat_map, inl, inr, ⊎_elim, refl, sym, ap, ap₂, ◌∙◌, subst, arith, lit<, eq-eqb, ne_eqb, append_assoc, if◌then◌else◌}
+use Rattle.std.proofs.Common.{◌≡◌, ℕ, zero, suc, ◌+◌, ◌^◌, ◌<◌, ◌≤◌, ◌==◌, Bool, true, false, List, [], ◌∷◌, ◌++◌, length, map, flat_map, inl, inr, ⊎_elim, refl, sym, ap, ap₂, ◌∙◌, subst, arith, eq-eqb, ne_eqb, append_assoc, if◌then◌else◌}
 use Rattle.std.proofs.lemmas.Bool.{cases_eq}
 use Rattle.lock_book.specs.Changes.{mode_in, flock_mode_in}
 use Rattle.lock_book.specs.OneReport.{LocksHaveOneReport}

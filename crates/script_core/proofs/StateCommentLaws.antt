@@ -1,69 +1,85 @@
 -- The lines that tell a state begin with `#`: for `explanations_are_comments`.
-use Rattle.std.proofs.Common.{rules, arith, ℕ, zero, suc, Bool, Option, Some, None, List, ◌++◌, codes, decimal, refl}
+use Rattle.std.proofs.Common.{arith, ◌≡◌, ◌==◌, ℕ, Bool, true, false, MatchBool, List, [], ◌∷◌, ◌++◌, flat_map, codes, decimal, refl, sym, subst, append_assoc}
 use Rattle.std.proofs.lemmas.Grind.{common_steps}
-use Rattle.fd_table.specs.declared.tables.Look.{Look}
-use Rattle.fd_table.specs.Descriptors.{Descriptors}
-use Rattle.lock_book.specs.declared.Held.{Held}
-use Rattle.wait_core.specs.declared.Wait.{Wait}
+use Rattle.fd_table.specs.Descriptors.{descriptor_limit}
 use Rattle.lock_manager.specs.declared.request.Rules.{Rules}
 use Rattle.lock_manager.specs.declared.request.ProcState.{ProcState}
-use Rattle.lock_manager.specs.declared.request.ProcState.TheVariants as standing
 use Rattle.lock_manager.specs.State.{State}
-use Rattle.script_core.specs.ReportText.{held_text, held_line, wait_text, wait_line, state_word}
-use Rattle.script_core.specs.StateText.{told_line, standing_text, standing_line, standing_lines, look_text, descriptor_text, descriptor_line, descriptor_lines, all_descriptor_lines, IsStateText, TellsStateIf}
+use Rattle.script_core.specs.declared.states.States.{States}
+use Rattle.script_core.specs.declared.states.States.TheVariants as places
+use Rattle.script_core.specs.declared.state_lines.Opened.{Opened}
+use Rattle.script_core.specs.declared.state_lines.StateLine.{StateLine}
+use Rattle.script_core.specs.declared.state_lines.StateLine.TheVariants as lines
+use Rattle.script_core.specs.ReportText.{held_text, wait_text, state_word}
+use Rattle.script_core.specs.StateText.{marked_line, state_line_text, opened_text, IsStateText, IsChangesText, TellsState}
+use Rattle.script_core.specs.Explaining.{is_comment_line}
 use Rattle.script_core.proofs.CommentLaws.{InLine, IsComment, both, number, comment_none, comment_line, comment_both, comment_each, in_access, in_held, in_wait, in_state}
 
-comment_held : (held : Held) → IsComment (told_line (held_line held))
-comment_held held = comment_line (codes "# " ++ held_text held) (both (codes "# ") (held_text held) refl (in_held held)) refl
+-- what a line of a state tells is one line
+record IsOneLine (text : List ℕ) : Type 0 where
+  line : List ℕ
+  in_line : InLine line
+  is : text ≡ line ++ 10 ∷ []
 
-comment_wait : (wait : Wait) → IsComment (told_line (wait_line wait))
-comment_wait wait = comment_line (codes "# " ++ wait_text wait) (both (codes "# ") (wait_text wait) refl (in_wait wait)) refl
+in_opened : (opened : Opened) → InLine (opened_text opened)
+in_opened opened = grind (arith, common_steps, both, number, in_access)
 
-comment_stands : (p : ℕ) (state : ProcState) → IsComment (told_line (standing_text p state))
-comment_stands p state =
-    let one = codes "# proc " ++ decimal p in
-    comment_line (one ++ codes " " ++ state_word state)
-    (both (one ++ codes " ") (state_word state) (both one (codes " ") (both (codes "# proc ") (decimal p) refl (number p)) refl) (in_state state)) refl
+in_standing : (p : ℕ) (state : ProcState) → InLine (codes "proc " ++ decimal p ++ codes " " ++ state_word state)
+in_standing p state =
+    let one = codes "proc " ++ decimal p in
+    both (one ++ codes " ") (state_word state) (both one (codes " ") (both (codes "proc ") (decimal p) refl (number p)) refl) (in_state state)
 
-comment_standing : (p : ℕ) (state : ProcState) → IsComment (standing_line p state)
-comment_standing p standing.Unborn = comment_none
-comment_standing p standing.Live = comment_stands p standing.Live
-comment_standing p standing.Waiting = comment_stands p standing.Waiting
-comment_standing p standing.Ended = comment_stands p standing.Ended
-
-in_look : (look : Look) → InLine (look_text look)
-in_look look = grind (arith, common_steps, both, number, in_access)
-
-comment_descriptor : (p fd : ℕ) (look : Look) → IsComment (told_line (descriptor_text p fd look))
-comment_descriptor p fd look =
-    let one = codes "# fd " ++ decimal p in
+in_descriptor : (p fd : ℕ) (opened : Opened) → InLine (codes "fd " ++ decimal p ++ codes " " ++ decimal fd ++ opened_text opened)
+in_descriptor p fd opened =
+    let one = codes "fd " ++ decimal p in
     let two = one ++ codes " " ++ decimal fd in
-    comment_line (two ++ look_text look)
-    (both two (look_text look)
-    (both (one ++ codes " ") (decimal fd) (both one (codes " ") (both (codes "# fd ") (decimal p) refl (number p)) refl) (number fd)) (in_look look)) refl
+    both two (opened_text opened)
+    (both (one ++ codes " ") (decimal fd) (both one (codes " ") (both (codes "fd ") (decimal p) refl (number p)) refl) (number fd)) (in_opened opened)
 
-comment_look : (p fd : ℕ) (look : Option Look) → IsComment (descriptor_line p fd look)
-comment_look p fd None = comment_none
-comment_look p fd (Some look) = comment_descriptor p fd look
+in_size : (file size : ℕ) → InLine (codes "file " ++ decimal file ++ codes " size " ++ decimal size)
+in_size file size =
+    let one = codes "file " ++ decimal file in
+    both (one ++ codes " size ") (decimal size) (both one (codes " size ") (both (codes "file ") (decimal file) refl (number file)) refl) (number size)
 
-comment_all_standing : (states : ℕ → ProcState) (n : ℕ) → IsComment (standing_lines states n)
-unfolding standing_lines
-comment_all_standing states zero = comment_none
-comment_all_standing states (suc n) = grind (arith, common_steps, comment_both, comment_standing, comment_all_standing states n)
+one_line : (line : StateLine) → IsOneLine (state_line_text line)
+one_line (lines.Held held) = record { line = held_text held; in_line = in_held held; is = refl }
+one_line (lines.Waits wait) = record { line = wait_text wait; in_line = in_wait wait; is = refl }
+one_line (lines.Process p state) = record { line = codes "proc " ++ decimal p ++ codes " " ++ state_word state; in_line = in_standing p state; is = refl }
+one_line (lines.Descriptor p fd opened) = record {
+  line = codes "fd " ++ decimal p ++ codes " " ++ decimal fd ++ opened_text opened;
+  in_line = in_descriptor p fd opened;
+  is = refl;
+}
+one_line (lines.File file size) = record { line = codes "file " ++ decimal file ++ codes " size " ++ decimal size; in_line = in_size file size; is = refl }
 
-comment_descriptors : (D : Descriptors) (p n : ℕ) → IsComment (descriptor_lines D p n)
-unfolding descriptor_lines
-comment_descriptors D p zero = comment_none
-comment_descriptors D p (suc n) = grind (arith, common_steps, comment_both, comment_look, comment_descriptors D p n)
-
-comment_all_descriptors : (D : Descriptors) (descriptors n : ℕ) → IsComment (all_descriptor_lines D descriptors n)
-unfolding all_descriptor_lines
-comment_all_descriptors D descriptors zero = comment_none
-comment_all_descriptors D descriptors (suc n) = grind (arith, common_steps, comment_both, comment_descriptors, comment_all_descriptors D descriptors n)
+-- so behind a mark that begins a comment it is one
+comment_marked : (mark : List ℕ) → InLine mark → ((rest : List ℕ) → is_comment_line (mark ++ rest) ≡ true) → (line : StateLine)
+    → IsComment (marked_line mark line)
+comment_marked mark in_mark begins line =
+    let own = one_line line in
+    subst (λ (l : List ℕ). IsComment (mark ++ l)) (sym own.is)
+    (subst IsComment (append_assoc mark own.line (10 ∷ [])) (comment_line (mark ++ own.line) (both mark own.line in_mark own.in_line) (begins own.line)))
 
 comment_state : (processes descriptors : ℕ) (S : State) (text : List ℕ) → IsStateText processes descriptors S text → IsComment text
 comment_state processes descriptors S text h =
-    grind (arith, common_steps, comment_both, comment_each, comment_held, comment_wait, comment_all_standing, comment_all_descriptors)
+    subst IsComment (sym h.2)
+    (comment_each (marked_line (codes "# ")) (comment_marked (codes "# ") refl (λ rest. refl)) h.0)
 
-pub comment_told : (told : Bool) (rules : Rules) (processes : ℕ) (S : State) (text : List ℕ) → TellsStateIf told rules processes S text → IsComment text
-comment_told told rules processes S text h = grind (arith, common_steps, comment_none, comment_state)
+comment_changes : (before after : List StateLine) (text : List ℕ) → IsChangesText before after text → IsComment text
+comment_changes before after text h =
+    subst IsComment (sym h.4)
+    (comment_both (flat_map (marked_line (codes "# - ")) h.0) (flat_map (marked_line (codes "# + ")) h.2) (comment_each (marked_line (codes "# - ")) (comment_marked (codes "# - ") refl (λ rest. refl)) h.0)
+    (comment_each (marked_line (codes "# + ")) (comment_marked (codes "# + ") refl (λ rest. refl)) h.2))
+
+comment_where : (told : Bool) (processes descriptors : ℕ) (T : State) (text : List ℕ)
+    → MatchBool told (IsStateText processes descriptors T text) (text ≡ []) → IsComment text
+comment_where true processes descriptors T text h = comment_state processes descriptors T text h
+comment_where false processes descriptors T text h = subst IsComment (sym h) comment_none
+
+pub comment_told : (states : States) (rules : Rules) (processes number : ℕ) (S T : State) (text : List ℕ)
+    → TellsState states rules processes number S T text → IsComment text
+comment_told places.Nowhere rules processes number S T text h = subst IsComment (sym h) comment_none
+comment_told (places.Behind place) rules processes number S T text h =
+    comment_where (number == place) processes (descriptor_limit rules.limits) T text h
+comment_told places.Everywhere rules processes number S T text h = comment_state processes (descriptor_limit rules.limits) T text h
+comment_told places.Changes rules processes number S T text h = comment_changes h.0 h.2 text h.4

@@ -36,7 +36,7 @@ use Rattle.script_core.specs.ReportText.{held_line, wait_line, line_of, IsReport
 use Rattle.script_core.specs.Output.{IsOutput, processes_in}
 use Rattle.script_core.specs.declared.deadlock.Link.{Link}
 use Rattle.script_core.specs.declared.states.States.{States}
-use Rattle.script_core.specs.StateText.{is_told, TellsStateIf}
+use Rattle.script_core.specs.StateText.{TellsState}
 use Rattle.script_core.specs.Losses.{closed_by, AreReleased, lost}
 use Rattle.script_core.specs.Deadlocks.{TellsCycle, TellsCycleIfAny, first_step_text, next_step_text}
 
@@ -175,14 +175,14 @@ pub record Explains (rules : Rules) (processes : ℕ) (S : State) (event : Event
   pub is : text ≡ ended_line event (ended_wait S event.request) ++ loss_lines event (codes "released ") released
       ++ loss_lines event (codes "lost ") (lost S T event.p event.request) ++ obstacle_line event obstacle ++ deadlock_line event links
 
--- the text is the line of each of these events, which have the numbers from this one on, with the lines that explain it behind it, and those
--- of the state that it left where they are asked for; they lead from the state S to the state T
+-- the text is the line of each of these events, which have the numbers from this one on, with the lines that explain it behind it, and what
+-- is asked for of the state that it left; they lead from the state S to the state T
 abbrev pub ExplainsRun : States → Rules → ℕ → ℕ → State → List Event → State → List ℕ → Type 0
 ExplainsRun states rules processes number S [] T text = (T ≡ S) × (text ≡ [])
 ExplainsRun states rules processes number S (event ∷ events) T text =
     (between : State) × IsStep rules processes S event between
     × (own : List ℕ) × Explains rules processes S event between own
-    × (told : List ℕ) × TellsStateIf (is_told states number) rules processes between told
+    × (told : List ℕ) × TellsState states rules processes number S between told
     × (rest : List ℕ) × ExplainsRun states rules processes (number + 1) between events T rest
     × (text ≡ entry_line event ++ own ++ told ++ rest)
 

@@ -1,5 +1,5 @@
 -- How the lines of a report are read, one after another (this project's choice).
-use Rattle.std.specs.Prelude.{◌≡◌, ℕ, zero, suc, ◌+◌, ◌^◌, ◌<◌, ◌≤◌, ⊤, Bool, true, false, not, IsTrue, if◌then◌else◌, Option, Some, None, List, [], ◌∷◌, ◌++◌, length, drop, map, flat_map}
+use Rattle.std.specs.Prelude.{◌≡◌, ℕ, zero, suc, ◌+◌, ◌^◌, ◌<◌, ◌≤◌, ⊤, Bool, false, not, IsTrue, if◌then◌else◌, Option, Some, None, List, [], ◌∷◌, ◌++◌, length, drop, map, flat_map}
 use Rattle.range_core.specs.Facts.{MatchFact}
 use Rattle.lock_book.specs.declared.Held.{Held}
 use Rattle.lock_book.specs.Changes.{mode_in, flock_mode_in}

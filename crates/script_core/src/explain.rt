@@ -21,7 +21,7 @@ use crate::entry_text::push_entry;
 use crate::losses::{closed_by, flock_before, has_flock, released};
 use crate::pieces::{push_first_number, push_number, push_str};
 use crate::report_text::{push_held, push_held_text, push_wait, push_wait_text};
-use crate::states::{States, push_state_if};
+use crate::states::{States, push_state_behind};
 use fd_table::Limits;
 use lock_book::{Held, Owner};
 use lock_manager::{Errno, InTheWay, Manager, Note, Reply, Request, Rules, step_has_one_outcome};
@@ -32,8 +32,9 @@ use wait_core::{Policy, Wait};
 
 /// Appends the lines of a journal, which is a run of `processes` processes from the opening, and behind each what explains it: which
 /// wait a kill ended, which locks went, what was the first in the way, and which cycle a wait would have closed; and where it is asked for
-/// the whole state that it left. The run is made again, step by step, which takes the memory of a lock manager and of the locks that go with an entry; for the
-/// end of a process and for a cycle that of a report, and for a cycle also that of the waits and of a set of processes for each step.
+/// the whole state that it left, or what it changed. The run is made again, step by step, which takes the memory of a lock manager, of the
+/// locks that go with an entry, and of the lines of a state that is told, or of two whose difference is; for the end of a process and for a
+/// cycle that of a report, and for a cycle also that of the waits and of a set of processes for each step.
 /// After `Memory` the vector has its old bytes.
 #[tactic(auto, using(crate::proofs::ExplainLemmas::cut_whole))]
 pub fn write_explained(
@@ -76,11 +77,12 @@ fn push_explained(
     // A law, and nothing to run.
     step_has_one_outcome();
     let mut manager = Manager::new(alloc, processes, rules)?;
+    let mut before = Vec::new(alloc);
     let mut number = 0;
     for entry in journal {
         number += 1;
         push_step(alloc, rules, text, &mut manager, entry)?;
-        push_state_if(states.is_told(number), text, &manager, rules)?;
+        push_state_behind(number, states, text, &mut before, &manager, rules)?;
     }
     Ok(())
 }

@@ -23,6 +23,7 @@ mod report;
 mod report_text;
 mod request_text;
 mod script;
+mod state_lines;
 mod states;
 mod untaken;
 mod word_tables;

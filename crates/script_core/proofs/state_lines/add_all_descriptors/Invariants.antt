@@ -3,10 +3,8 @@ use Rattle.fd_table.specs.Descriptors.{descriptor_limit}
 use Rattle.lock_manager.specs.State.{State}
 use Rattle.lock_manager.specs.ManagerView.{StandsFor}
 use Rattle.script_core.specs.StateText.{all_descriptor_lines}
-use Rattle.script_core.specs.Output.{Extends}
-use Rattle.script_core.proofs.states.push_descriptors.Given as goal
+use Rattle.script_core.proofs.state_lines.add_all_descriptors.Given as goal
 
 abbrev pub invariant-loop-index : goal.invariant-loop-index
 invariant-loop-index l =
-    ((S : State) → StandsFor l.manager S → l.text.items ≡ l.fn.text.items ++ all_descriptor_lines S.descriptors (descriptor_limit l.limits) l.index)
-    × Extends l.fn.text.items l.text.items
+    (S : State) → StandsFor l.manager S → l.told.items ≡ l.fn.told.items ++ all_descriptor_lines S.descriptors (descriptor_limit l.limits) l.index

@@ -1,7 +1,7 @@
 use Rattle.std.proofs.Common.{◌≡◌, ◌++◌}
 use Rattle.lock_manager.specs.ManagerView.{state_at}
 use Rattle.script_core.specs.StateText.{standing_lines}
-use Rattle.script_core.proofs.states.push_standing.Given as goal
+use Rattle.script_core.proofs.state_lines.add_processes.Given as goal
 
 abbrev pub invariant-loop-index : goal.invariant-loop-index
-invariant-loop-index l = l.text.items ≡ l.fn.text.items ++ standing_lines (state_at l.manager) l.index
+invariant-loop-index l = l.told.items ≡ l.fn.told.items ++ standing_lines (state_at l.manager) l.index

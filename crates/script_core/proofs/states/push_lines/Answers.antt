@@ -1,0 +1,8 @@
+use Rattle.std.proofs.Common.{arith}
+use Rattle.std.proofs.lemmas.Grind.{common_steps}
+use Rattle.std.proofs.lemmas.Result.{err_from_is_err_and}
+use Rattle.script_core.proofs.TextLemmas.{kept_behind}
+use Rattle.script_core.proofs.states.push_lines.Goals as goal
+
+pub returns-in_err-push_marked : goal.returns-in_err-push_marked
+returns-in_err-push_marked c = grind (arith, common_steps, err_from_is_err_and, kept_behind)

@@ -1,8 +1,0 @@
-use Rattle.std.proofs.Common.{arith}
-use Rattle.std.proofs.lemmas.Grind.{common_steps}
-use Rattle.std.proofs.lemmas.Result.{err_from_is_err_and}
-use Rattle.script_core.proofs.TextLemmas.{kept_behind}
-use Rattle.script_core.proofs.states.push_waits.Goals as goal
-
-pub returns-in_err-push_waiting : goal.returns-in_err-push_waiting
-returns-in_err-push_waiting c = grind (arith, common_steps, err_from_is_err_and, kept_behind)
