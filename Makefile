@@ -29,7 +29,7 @@ released:
 # place, that each edit still applies, and the conformance tools' tests but for those that a busy machine can upset.
 WORKED := $(basename $(wildcard tests/worked-scripts/*.out)) $(wildcard tests/threads/*)
 test:
-	rt ci
+	tools/gate-line rt ci
 	sh tests/command-line.sh $(PROGRAM)
 	sh tests/command-line.sh $(PROGRAM).by-rattle
 	sh tests/lines.sh $(PROGRAM)
@@ -46,10 +46,12 @@ test:
 	sh tests/samples.sh $(PROGRAM).by-rattle
 	sh tests/readme.sh $(PROGRAM)
 	sh tests/signposts.sh
+	sh tests/versions.sh
 	sh tests/worked-rows.sh | cmp - crates/script_core_tests/src/tests/worked.rt
 	tests/memory-is-passed-on
 	tests/edit-reasons --apply
 	cd conformance && LOCKREPLAY=$(abspath $(PROGRAM)) python3 -m unittest tests.test_corpus tests.test_judging tests.test_lies tests.test_trace
+	tools/gate-line --passed
 
 # Lays each crate out as the gate wants it.
 format:
@@ -131,10 +133,12 @@ dist: build lockfs
 deb: build lockfs
 	@tools/deb
 
-# Calls the library from C and from Rust; wants a C compiler with its sanitizers, and valgrind, pkg-config, C++ and rustc where they are.
+# Calls the library from C, Python and Rust; wants a C compiler with its sanitizers, and valgrind, pkg-config, C++, rustc, cargo, Python 3 and
+# its venv where they are.
 embed: library
 	@$(MAKE) --no-print-directory install-library DESTDIR= PREFIX='$(abspath embedding/out/installed)' > embedding/out/install.log
 	sh embedding/tests/embed.sh '$(abspath $(LIBRARY))' '$(abspath embedding/out)' '$(abspath embedding/out/installed)'
+	sh embedding/tests/bindings.sh embedding/out embedding/out/installed
 
 # What the library's calls cost at growing sizes, as docs/PERFORMANCE.md has it; wants a C compiler.
 bench: library

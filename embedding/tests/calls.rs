@@ -16,7 +16,7 @@ const DONE: u32 = 0;
 const BLOCKED: u32 = 1;
 const WAITS: u32 = 2;
 
-unsafe extern "C" {
+extern "C" {
     fn dehokuna_create(server: &mut Server, policy: u32) -> bool;
     fn dehokuna_destroy(server: &mut Server);
     fn dehokuna_set(server: &mut Server, file: u64, owner: u64, first: u64, last: u64, mode: u32) -> u32;

@@ -90,12 +90,13 @@ class LockServer:
 
     def __init__(self, policy: Policy = Policy.HELD) -> None:
         """Makes a server. NoLocks: there was no memory."""
-        self._library = _library.load()
+        self._server: Optional[Server] = None
         self._mutex = threading.Lock()
-        self._server: Optional[Server] = Server()
-        if not self._library.dehokuna_create(self._server, Policy(policy)):
-            self._server = None
+        self._library = _library.load()
+        made = Server()
+        if not self._library.dehokuna_create(made, Policy(policy)):
             raise NoLocks()
+        self._server = made
 
     def close(self) -> None:
         """Frees the server with all its locks and waits. A closed one may be closed again, and all else is a ValueError."""
