@@ -125,9 +125,11 @@ install-files: build library
 install-library: library
 	@tools/stage '$(DESTDIR)$(PREFIX)' '$(PREFIX)' lib library development
 
-# A release: dist/dehokuna-VERSION-x86_64-linux.tar.xz, the same bytes each time. It doesn't run the gate, but says what the gate left.
+# A release: dist/dehokuna-VERSION-x86_64-linux.tar.xz, and the wheel for Python, the same bytes each time. It doesn't run the gate, but says
+# what the gate left.
 dist: build lockfs
 	@tools/dist
+	@tools/wheel
 
 # The same files as Debian packages, in dist/.
 deb: build lockfs

@@ -85,6 +85,16 @@ rust_static() {
     DEHOKUNA_STATIC=1 with_cargo test -q && DEHOKUNA_STATIC=1 with_cargo run -q --release --example threads
 }
 
+# Whether each function of the header stands in its manual page and in both bindings.
+each_is_bound() {
+    for name in $(sed -n 's/^[a-z].*[ *]dehokuna_\([a-z_]*\)(.*/\1/p' "$installed/include/dehokuna.h"); do
+        for place in "../docs/dehokuna.3 dehokuna_$name" "python/dehokuna/_library.py \"$name\"" "rust/dehokuna-sys/src/lib.rs dehokuna_$name" "rust/dehokuna/src/lib.rs dehokuna_$name"; do
+            grep -qw -- "${place#* }" "${place%% *}" || { echo "${place%% *} lacks dehokuna_$name"; return 1; }
+        done
+    done
+}
+
+try 'each function is bound' each_is_bound
 for program in threaded hidden ninep; do
     try "$program on the shared library" on_the_shared_library "$program"
     try "$program on the static library" on_the_static_library "$program"
