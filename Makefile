@@ -3,7 +3,7 @@ FILE ?= crates/lockreplay/stdin
 PROGRAM := crates/lockreplay/out/lockreplay
 VERSION := $(shell sed -n 's/^.. \([0-9.]*\)$$/\1/p' CHANGELOG.md | head -n 1)
 
-.PHONY: run try test build released format memory threads edits conformance conformance-tests docs install library install-library embed bench \
+.PHONY: run try test build released format memory threads edits conformance conformance-tests docs install library install-library calls embed bench \
     lockfs fuse-test dist deb install-files
 
 run: released build
@@ -26,7 +26,8 @@ released:
 # The gate, and then the command lines, single lines, devices that fail, the worked scripts (also in threads, in whatever order comes), the
 # large scripts and the samples on the program as two compilers built it in the gate, what the README, the help and the manual page show, the
 # files and names that the documents point to, that the tests of script_core have these worked scripts, that want of memory is made at one
-# place, that each edit still applies, and the conformance tools' tests but for those that a busy machine can upset.
+# place, that each edit still applies, what the library's calls tell C where a C compiler is there, and the conformance tools' tests but for
+# those that a busy machine can upset.
 WORKED := $(basename $(wildcard tests/worked-scripts/*.out)) $(wildcard tests/threads/*)
 test:
 	tools/gate-line rt ci
@@ -50,6 +51,7 @@ test:
 	sh tests/worked-rows.sh | cmp - crates/script_core_tests/src/tests/worked.rt
 	tests/memory-is-passed-on
 	tests/edit-reasons --apply
+	$(MAKE) --no-print-directory calls
 	cd conformance && LOCKREPLAY=$(abspath $(PROGRAM)) python3 -m unittest tests.test_corpus tests.test_judging tests.test_lies tests.test_trace
 	tools/gate-line --passed
 
@@ -134,6 +136,12 @@ dist: build lockfs
 # The same files as Debian packages, in dist/.
 deb: build lockfs
 	@tools/deb
+
+# Calls the library from C as a plain build does, also in threads, for the gate; skips where no C compiler is there.
+calls:
+	@if command -v $(CC) > /dev/null && command -v ar > /dev/null; \
+	then $(MAKE) --no-print-directory library && CC='$(CC)' sh embedding/tests/plain.sh '$(abspath $(LIBRARY))' '$(abspath embedding/out)'; \
+	else echo 'calls: SKIPPED: no C compiler is there, or no ar, so the library was not called from C'; fi
 
 # Calls the library from C, Python and Rust; wants a C compiler with its sanitizers, and valgrind, pkg-config, C++, rustc, cargo, Python 3 and
 # its venv where they are.

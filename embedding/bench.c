@@ -107,11 +107,13 @@ static void one_file_of_many_owners(void) {
         DEMAND(dehokuna_set(&server, FILE_A, owner, 4 * owner, 4 * owner + 1, DEHOKUNA_WRITE) == DEHOKUNA_DONE);
     tell("a set of each owner, one lock each", since, MANY);
     since = now();
-    for (uint64_t owner = 0; owner < MANY; owner++) DEMAND(!dehokuna_get(&server, FILE_A, owner, WANTED, WANTED, DEHOKUNA_WRITE, &told));
+    for (uint64_t owner = 0; owner < MANY; owner++)
+        DEMAND(dehokuna_get(&server, FILE_A, owner, WANTED, WANTED, DEHOKUNA_WRITE, &told) == DEHOKUNA_DONE);
     tell("a get where nobody has a lock, beside those", since, MANY);
     since = now();
     for (uint64_t owner = 0; owner < MANY; owner++)
-        DEMAND(dehokuna_get(&server, FILE_A, owner, 4 * MANY - 4, WANTED, DEHOKUNA_WRITE, &told) == (owner + 1 != MANY));
+        DEMAND(dehokuna_get(&server, FILE_A, owner, 4 * MANY - 4, WANTED, DEHOKUNA_WRITE, &told)
+               == (owner + 1 == MANY ? DEHOKUNA_DONE : DEHOKUNA_BLOCKED));
     tell("a get of what the last of them has", since, MANY);
     since = now();
     for (uint64_t owner = MANY; owner < MANY + FEW; owner++)

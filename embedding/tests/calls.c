@@ -63,15 +63,15 @@ static uint64_t granted(struct dehokuna_server *server) {
     return dehokuna_next_grant(server, &ticket) ? ticket : 0;
 }
 
-static bool is_blocked_by(struct dehokuna_server *server, uint64_t file, uint64_t owner, uint64_t byte, struct dehokuna_blocker right) {
+static bool is_blocked_by(const struct dehokuna_server *server, uint64_t file, uint64_t owner, uint64_t byte, struct dehokuna_blocker right) {
     struct dehokuna_blocker told = {0};
-    if (!dehokuna_get(server, file, owner, byte, byte, DEHOKUNA_WRITE, &told)) return false;
+    if (dehokuna_get(server, file, owner, byte, byte, DEHOKUNA_WRITE, &told) != DEHOKUNA_BLOCKED) return false;
     return told.owner == right.owner && told.first == right.first && told.last == right.last && told.mode == right.mode;
 }
 
-static bool is_free(struct dehokuna_server *server, uint64_t file, uint64_t owner, uint64_t first, uint64_t last) {
+static bool is_free(const struct dehokuna_server *server, uint64_t file, uint64_t owner, uint64_t first, uint64_t last) {
     struct dehokuna_blocker told = {4, 4, 4, 4};
-    return !dehokuna_get(server, file, owner, first, last, DEHOKUNA_WRITE, &told) && told.owner == 4 && told.first == 4
+    return dehokuna_get(server, file, owner, first, last, DEHOKUNA_WRITE, &told) == DEHOKUNA_DONE && told.owner == 4 && told.first == 4
            && told.last == 4 && told.mode == 4;
 }
 
@@ -216,6 +216,61 @@ static void policies(void) {
     CHECK(!held.at && !queue.at);
 }
 
+/* What names no range or no mode is refused before all else, and changes nothing; a last byte behind the largest is the largest. */
+static void invalid_calls(void) {
+    const uint64_t end = DEHOKUNA_LARGEST_OFFSET, ranges[][2] = {{1, 0}, {end + 1, end + 1}, {end + 1, UINT64_MAX}, {UINT64_MAX, 0}};
+    const uint32_t modes[] = {3, 4, 256, UINT32_MAX};
+    struct dehokuna_server server = {0};
+    struct dehokuna_blocker told = {4, 4, 4, 4};
+    CHECK(dehokuna_create(&server, DEHOKUNA_HELD));
+    CHECK(dehokuna_set(&server, FILE_A, ANN, 10, 20, DEHOKUNA_WRITE) == DEHOKUNA_DONE);
+    CHECK(dehokuna_set(&server, FILE_A, ANN, 40, 50, DEHOKUNA_READ) == DEHOKUNA_DONE);
+    CHECK(dehokuna_flock(&server, FILE_A, ANN, DEHOKUNA_WRITE) == DEHOKUNA_DONE);
+    CHECK(dehokuna_wait(&server, 1, FILE_A, BOB, 10, 10, DEHOKUNA_READ, true) == DEHOKUNA_WAITS);
+    for (int at = 0; at < 4; at++) {
+        const uint64_t first = ranges[at][0], last = ranges[at][1];
+        for (uint32_t mode = DEHOKUNA_UNLOCK; mode <= DEHOKUNA_WRITE; mode++) {
+            CHECK(dehokuna_set(&server, FILE_A, ANN, first, last, mode) == DEHOKUNA_INVALID);
+            CHECK(dehokuna_wait(&server, 1, FILE_A, BOB, first, last, mode, true) == DEHOKUNA_INVALID);
+            CHECK(dehokuna_get(&server, FILE_A, BOB, first, last, mode, &told) == DEHOKUNA_INVALID);
+        }
+        CHECK(dehokuna_set(&server, FILE_A, ANN, 10, 20, modes[at]) == DEHOKUNA_INVALID);
+        CHECK(dehokuna_wait(&server, 1, FILE_A, BOB, 10, 20, modes[at], true) == DEHOKUNA_INVALID);
+        CHECK(dehokuna_get(&server, FILE_A, BOB, 10, 20, modes[at], &told) == DEHOKUNA_INVALID);
+        CHECK(dehokuna_flock(&server, FILE_A, ANN, modes[at]) == DEHOKUNA_INVALID);
+        CHECK(dehokuna_flock_wait(&server, 1, FILE_A, BOB, modes[at]) == DEHOKUNA_INVALID);
+    }
+    CHECK(dehokuna_wait(&server, 1, FILE_A, BOB, 10, 20, DEHOKUNA_UNLOCK, true) == DEHOKUNA_INVALID);
+    CHECK(dehokuna_get(&server, FILE_A, BOB, 10, 20, DEHOKUNA_UNLOCK, &told) == DEHOKUNA_INVALID);
+    CHECK(dehokuna_flock_wait(&server, 1, FILE_A, BOB, DEHOKUNA_UNLOCK) == DEHOKUNA_INVALID);
+    CHECK(told.owner == 4 && told.first == 4 && told.last == 4 && told.mode == 4);
+    CHECK(granted(&server) == 0);
+    CHECK(is_blocked_by(&server, FILE_A, CAT, 15, (struct dehokuna_blocker){ANN, 10, 20, DEHOKUNA_WRITE}));
+    CHECK(is_blocked_by(&server, FILE_A, CAT, 45, (struct dehokuna_blocker){ANN, 40, 50, DEHOKUNA_READ}));
+    CHECK(is_free(&server, FILE_A, CAT, 0, 9) && is_free(&server, FILE_A, CAT, 21, 39) && is_free(&server, FILE_A, CAT, 51, UINT64_MAX));
+    CHECK(dehokuna_flock(&server, FILE_A, BOB, DEHOKUNA_READ) == DEHOKUNA_BLOCKED);
+    CHECK(dehokuna_cancel(&server, 1));
+    CHECK(dehokuna_set(&server, FILE_A, ANN, 15, UINT64_MAX, DEHOKUNA_WRITE) == DEHOKUNA_DONE);
+    CHECK(is_blocked_by(&server, FILE_A, CAT, 30, (struct dehokuna_blocker){ANN, 10, end, DEHOKUNA_WRITE}));
+    CHECK(dehokuna_get(&server, FILE_A, CAT, end, UINT64_MAX, DEHOKUNA_READ, &told) == DEHOKUNA_BLOCKED && told.last == end);
+    CHECK(dehokuna_set(&server, FILE_A, ANN, 0, end + 1, DEHOKUNA_UNLOCK) == DEHOKUNA_DONE && is_free(&server, FILE_A, CAT, 0, end));
+    dehokuna_destroy(&server);
+    for (uint32_t policy = 2; policy < 40; policy++) CHECK(!dehokuna_create(&server, policy) && !server.at);
+    CHECK(!dehokuna_create(&server, UINT32_MAX) && !server.at);
+}
+
+/* A server may be moved, and is read where it then is. */
+static void moved(void) {
+    struct dehokuna_server first = {0};
+    CHECK(dehokuna_create(&first, DEHOKUNA_QUEUE) && dehokuna_set(&first, FILE_A, ANN, 0, 9, DEHOKUNA_WRITE) == DEHOKUNA_DONE);
+    struct dehokuna_server then = first;
+    memset(&first, 0xff, sizeof first);
+    CHECK(is_blocked_by(&then, FILE_A, BOB, 5, (struct dehokuna_blocker){ANN, 0, 9, DEHOKUNA_WRITE}));
+    CHECK(dehokuna_set(&then, FILE_A, BOB, 10, 10, DEHOKUNA_WRITE) == DEHOKUNA_DONE);
+    dehokuna_destroy(&then);
+    CHECK(!then.at);
+}
+
 /* One call of each kind that may grow, on a server where ANN holds bytes 0 to 9 of FILE_A, and a shared flock lock on it. */
 enum { KINDS = 7 };
 static uint32_t grow(struct dehokuna_server *server, int which) {
@@ -306,7 +361,7 @@ static void ends_without_memory(void) {
     CHECK(are_done);
     was_refused = false;
     growths_left = 0;
-    CHECK(dehokuna_get(&server, FILE_A, HOLDER, 0, 9, DEHOKUNA_READ, &told) && told.owner == 0);
+    CHECK(dehokuna_get(&server, FILE_A, HOLDER, 0, 9, DEHOKUNA_READ, &told) == DEHOKUNA_BLOCKED && told.owner == 0);
     CHECK(dehokuna_cancel(&server, 0) && dehokuna_cancel(&server, 1) && dehokuna_cancel(&server, 1000) && dehokuna_cancel(&server, 1001));
     dehokuna_flush(&server, FILE_A, 0);
     dehokuna_flush(&server, FILE_A, 2);
@@ -457,6 +512,66 @@ static long taken_after_files(uint64_t files) {
     return taken;
 }
 
+/* A call of each kind that may grow, by an owner that has nothing. */
+enum { GROWING_WAYS = 6 };
+static uint32_t grows_for(struct dehokuna_server *server, uint64_t file, uint64_t owner, int way) {
+    switch (way) {
+    case 0: return dehokuna_set(server, file, owner, 10, 19, DEHOKUNA_WRITE);
+    case 1: return dehokuna_wait(server, owner, file, owner, KEPT, 9, DEHOKUNA_WRITE, true);
+    case 2: return dehokuna_wait(server, owner, file, owner, KEPT, 9, DEHOKUNA_READ, false);
+    case 3: return dehokuna_flock(server, file, owner, DEHOKUNA_READ);
+    case 4: return dehokuna_flock_wait(server, owner, file, owner, DEHOKUNA_WRITE);
+    default: return dehokuna_note(server, file, owner, OPEN_FILE) ? DEHOKUNA_DONE : DEHOKUNA_NO_MEMORY;
+    }
+}
+
+/* How many blocks a server has taken in the end, where so many owners were refused this growth of a call in this way, on the file that is
+ * kept or each on one of its own; and, by was_refused, whether there was such a growth. */
+static long taken_by_refusals(int way, bool is_kept, long growths, uint64_t owners) {
+    const long before = blocks;
+    bool is_right = true, any_refused = false;
+    struct dehokuna_server server = {0};
+    CHECK(dehokuna_create(&server, DEHOKUNA_HELD) && keep(&server, FILE_A));
+    for (uint64_t owner = 0; owner < owners; owner++) {
+        const uint64_t file = is_kept ? FILE_A : 1000 + owner;
+        was_refused = false;
+        growths_left = growths;
+        const uint32_t status = grows_for(&server, file, owner, way);
+        growths_left = -1;
+        is_right &= (status == DEHOKUNA_NO_MEMORY) == was_refused;
+        any_refused |= was_refused;
+        if (!was_refused) { /* what isn't refused is taken back */
+            dehokuna_cancel(&server, owner);
+            dehokuna_forget(&server, owner);
+            dehokuna_flock_release(&server, file, owner);
+        }
+        dehokuna_flush(&server, file, owner); /* the empty list that a wait for bytes keeps until then */
+    }
+    CHECK(is_right);
+    const long taken = blocks - before;
+    dehokuna_destroy(&server);
+    was_refused = any_refused;
+    return taken;
+}
+
+/* A call that is refused leaves no entry of its owner, its ticket or its file, whichever of its growths is refused. */
+static void nothing_is_left_of_a_refusal(void) {
+    enum { USED_ONCE = 5, SOME = 2 };
+    for (int way = 0; way < GROWING_WAYS; way++) {
+        long growths = 0;
+        for (bool any_refused = true; any_refused; growths++) {
+            any_refused = false;
+            for (int is_kept = 0; is_kept < 2; is_kept++) {
+                const long few = taken_by_refusals(way, is_kept, growths, SOME);
+                CHECK(taken_by_refusals(way, is_kept, growths, COMERS) <= few + USED_ONCE);
+                any_refused |= was_refused;
+            }
+        }
+        CHECK(growths > 1);
+    }
+    was_refused = false;
+}
+
 /* Files and owners that hold nothing take no memory, however many come and go: but for one block of each map and list that was
  * used once, which a single owner in each way would leave too. */
 static void nothing_is_left(void) {
@@ -479,10 +594,13 @@ int main(void) {
     dehokuna_destroy(&server);
     CHECK(!server.at);
     policies();
+    invalid_calls();
+    moved();
     refusals();
     unlocks_without_memory();
     ends_without_memory();
     nothing_is_left();
+    nothing_is_left_of_a_refusal();
     printf("%u passed, %u failed\n", passed, failed);
     return failed ? 1 : 0;
 }

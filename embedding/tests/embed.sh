@@ -26,8 +26,7 @@ try() {
 }
 
 plainly() {
-    # shellcheck disable=SC2086
-    ${CC:-cc} $flags -I.. calls.c "$library" $wraps -o "$built/calls" && timeout 60 "$built/calls"
+    sh plain.sh "$library" "$built"
 }
 
 under_valgrind() {
@@ -46,11 +45,6 @@ as_installed() {
     ${CC:-cc} $flags calls.c $words -l:libdehokuna.a $wraps -o "$built/calls-installed" && timeout 60 "$built/calls-installed"
 }
 
-in_threads() {
-    # shellcheck disable=SC2086
-    ${CC:-cc} $flags -pthread -I.. threaded.c "$library" -o "$built/threaded" && timeout 60 "$built/threaded"
-}
-
 # Whether what the document shows of the threaded program is what it has.
 as_shown() {
     sed -n '/^static void serve/,/^}/p' threaded.c > "$built/serve"
@@ -66,10 +60,9 @@ from_rust() {
 }
 
 mkdir -p "$built"
-try 'from C' plainly
+try 'from C, and in threads' plainly
 if command -v valgrind > /dev/null; then try 'under valgrind' under_valgrind; else echo 'skipped: valgrind is not there'; fi
 try 'with the sanitizers' sanitized
-try 'in threads' in_threads
 try 'in threads, as the document shows it' as_shown
 if command -v pkg-config > /dev/null; then try 'as installed' as_installed; else echo 'skipped: pkg-config is not there'; fi
 if command -v "${CXX:-c++}" > /dev/null; then try 'the header in C++' as_cxx; else echo 'skipped: no C++ compiler is there'; fi

@@ -20,7 +20,7 @@ use Rattle.wait_core.specs.declared.Policy.{Policy}
 use Rattle.lock_server.specs.declared.Pending.{Pending}
 use Rattle.lock_server.specs.Blockers.{AddsOwners, HeldBlocks}
 use Rattle.lock_server.specs.Deadlock.{BlocksByBytes, BlocksByFlock, BlocksIn, IsBlockedByOwner, WaitsForOn}
-use Rattle.lock_server.specs.Files.{FileState}
+use Rattle.lock_server.specs.Files.{FileState, by_owner}
 use Rattle.lock_server.specs.Pendings.{as_wait, is_of_whole}
 use Rattle.lock_server.proofs.GatheredOwnerLemmas.{Any-from_place, Any-place, IsGivenBefore, gathered_all}
 use Rattle.lock_server.proofs.LeaveLemmas.{split_at}
@@ -114,24 +114,22 @@ placed_right {X} P xs ys (k, x, within, is, holds) =
 
 -- the line says a run of a byte lock
 abbrev IsByteLine : FileState → Held → Type 0
-IsByteLine F held = (held.file ≡ 0) × IsFalse held.whole × IsRun (F.bytes held.owner) held.span.first held.mode held.span
+IsByteLine F held = (held.file ≡ 0) × IsFalse held.whole × IsRun (by_owner F.bytes held.owner) held.span.first held.mode held.span
 
 -- a line of the report of the byte locks is a lock of them
-byte_line : (F : FileState) (bytes : List Held) (wait : Pending) (other : ℕ) → IsByteRange wait.span → AreByteLocks 0 F.bytes bytes → (held : Held)
+byte_line : (F : FileState) (bytes : List Held) (wait : Pending) (other : ℕ) → IsByteRange wait.span → AreByteLocks 0 (by_owner F.bytes) bytes → (held : Held)
     → Contains bytes held → wait.family ≡ Bytes → HeldBlocks held wait other → BlocksByBytes F wait other
 byte_line F bytes wait other range are held among family blocks =
     let line = All-contains (IsByteLine F) bytes held are.each among in
     let meets : Meet Bytes held.span wait.span = subst (λ (f : Family). Meet f held.span wait.span) family blocks.meets in
     let common = common_byte held.span wait.span line.2.covered.1 range.0 meets.0 meets.1 in
-    let mode : F.bytes (Description other) common.0 ≡ Some held.mode =
-    subst (λ (o : Owner). F.bytes o common.0 ≡ Some held.mode) blocks.owner (line.2.constant common.0 common.1) in
+    let mode : F.bytes other common.0 ≡ Some held.mode =
+    subst (λ (o : Owner). by_owner F.bytes o common.0 ≡ Some held.mode) blocks.owner (line.2.constant common.0 common.1) in
     record {
       byte = common.0;
       covered = common.2;
-      blocks = record {
-        another = λ same. blocks.another (let one : Description other ≡ Description wait.owner = same in cc);
-        conflicts = subst (λ (m : Option Mode). HeldConflicts m wait.mode) (sym mode) blocks.conflicts;
-      };
+      another = blocks.another;
+      conflicts = subst (λ (m : Option Mode). HeldConflicts m wait.mode) (sym mode) blocks.conflicts;
     }
 
 -- a line of the report of the flock locks is a lock of them
@@ -139,7 +137,7 @@ flock_line : (F : FileState) (flocks : List Held) (wait : Pending) (other : ℕ)
     → Contains flocks held → HeldBlocks held wait other → BlocksByFlock F wait other
 flock_line F flocks wait other are held among blocks = grind (arith, common_steps, All-contains)
 
-module _ (F : FileState) (report : List Held) (wait : Pending) (range : IsByteRange wait.span) (says : IsFileReport 0 F.bytes F.flocks report) where
+module _ (F : FileState) (report : List Held) (wait : Pending) (range : IsByteRange wait.span) (says : IsFileReport 0 (by_owner F.bytes) F.flocks report) where
   -- a line that blocks the wait is a lock that does
   line_blocks : (other : ℕ) (held : Held) → Contains report held → HeldBlocks held wait other → (family : Family) → wait.family ≡ family
       → BlocksIn family F wait other
@@ -165,7 +163,7 @@ module _ (F : FileState) (report : List Held) (wait : Pending) (range : IsByteRa
   byte_lock_line : (other : ℕ) → wait.family ≡ Bytes → BlocksByBytes F wait other
       → (place : ℕ) × (held : Held) × (slice_get report place ≡ Some held) × HeldBlocks held wait other
   byte_lock_line other family blocks =
-      let mode = held_mode (F.bytes (Description other) blocks.byte) wait.mode blocks.blocks.conflicts in
+      let mode = held_mode (F.bytes other blocks.byte) wait.mode blocks.conflicts in
       let line = placed_left (λ (x : Held). (x.owner ≡ Description other) × (x.mode ≡ mode.0) × Covers x.span blocks.byte) says.byte_locks says.flock_locks
       (says.are_bytes.every (Description other) blocks.byte mode.0 mode.1) in
       let held : Held = line.1 in
@@ -177,7 +175,7 @@ module _ (F : FileState) (report : List Held) (wait : Pending) (range : IsByteRa
         subst (λ (r : List Held). slice_get r line.0 ≡ Some held) (sym says.is) line.2,
         record {
           owner = line.4.0;
-          another = λ same. blocks.blocks.another (ap (λ (n : ℕ). Description n) same);
+          another = blocks.another;
           family = facts.1 ∙ sym (ap is_of_whole family);
           conflicts = subst (λ (m : Mode). Conflict m wait.mode) (sym line.4.1) mode.2;
           meets = subst (λ (f : Family). Meet f held.span wait.span) (sym family) (omega arith, omega arith);

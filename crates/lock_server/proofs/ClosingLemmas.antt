@@ -4,9 +4,6 @@ use Rattle.std.proofs.lemmas.Grind.{common_steps}
 use Rattle.std.specs.Prelude.{◌==◌, ◌&&◌, ◌||◌, if◌then◌else◌}
 use Rattle.std.proofs.lemmas.Bool.{cases_eq, cases_lt, eq-eqb, ne_eqb}
 use Rattle.range_core.specs.declared.Mode.{Mode}
-use Rattle.lock_book.specs.declared.Owner.{Owner}
-use Rattle.lock_book.specs.declared.Owner.TheVariants.{Process, Description}
-use Rattle.lock_book.specs.Owners.{is_same_owner}
 use Rattle.wait_core.specs.declared.Family.TheVariants.{Bytes, Whole}
 use Rattle.lock_server.specs.Calls.{ReleasesOn}
 use Rattle.lock_server.specs.Closing.{ClosesOn, is_through}
@@ -22,7 +19,7 @@ pub closes_nobody : (S : State) (file : ℕ) → Crosses S [] S → ClosesOn S f
 closes_nobody S file crossed = grind (arith, common_steps, SameFile-itself)
 
 -- one owner is released
-pub closes_one : (S : State) (file owner : ℕ) (T : State) → ReleasesOn S file Bytes owner T → ClosesOn S file (is_same_owner (Description owner)) None T
+pub closes_one : (S : State) (file owner : ℕ) (T : State) → ReleasesOn S file Bytes owner T → ClosesOn S file (λ other. owner == other) None T
 closes_one S file owner T releases = grind (arith, common_steps)
 
 -- one flock owner is released
@@ -30,20 +27,20 @@ pub closes_flock : (S : State) (file owner : ℕ) (T : State) → ReleasesOn S f
 closes_flock S file owner T releases = grind (arith, common_steps)
 
 -- the same owners, by another test
-pub closes_for : (S : State) (file : ℕ) (gone same : Owner → Bool) (flock_owner : Option ℕ) (T : State) → ((owner : Owner) → same owner ≡ gone owner)
+pub closes_for : (S : State) (file : ℕ) (gone same : ℕ → Bool) (flock_owner : Option ℕ) (T : State) → ((owner : ℕ) → same owner ≡ gone owner)
     → ClosesOn S file gone flock_owner T → ClosesOn S file same flock_owner T
-closes_for S file gone same flock_owner T is closes = subst (λ (test : Owner → Bool). ClosesOn S file test flock_owner T) (λ i owner. sym (is owner) i) closes
+closes_for S file gone same flock_owner T is closes = subst (λ (test : ℕ → Bool). ClosesOn S file test flock_owner T) (λ i owner. sym (is owner) i) closes
 
 either_gone : (one more : Bool) (held : Option Mode) → (if more then None else (if one then None else held)) ≡ (if one || more then None else held)
 either_gone one more held = grind (arith, common_steps)
 
 -- who has a detected wait after a close had it before
-detected_still : (M : State) (file : ℕ) (gone : Owner → Bool) (flock_owner : Option ℕ) (T : State) → ClosesOn M file gone flock_owner T → (owner : ℕ)
+detected_still : (M : State) (file : ℕ) (gone : ℕ → Bool) (flock_owner : Option ℕ) (T : State) → ClosesOn M file gone flock_owner T → (owner : ℕ)
     → HasDetected T owner → HasDetected M owner
 detected_still M file gone flock_owner T closes owner has = search (rules, cases_eq)
 
 -- one close behind another
-pub closes_then : (S : State) (file : ℕ) (one more : Owner → Bool) (flock_owner : Option ℕ) (M T : State) → ClosesOn S file one flock_owner M
+pub closes_then : (S : State) (file : ℕ) (one more : ℕ → Bool) (flock_owner : Option ℕ) (M T : State) → ClosesOn S file one flock_owner M
     → ClosesOn M file more None T
     → ClosesOn S file (λ other. one other || more other) flock_owner T
 closes_then S file one more flock_owner M T first next = grind (arith, common_steps, either_gone, SameFile-then, crosses_then, detected_still)
@@ -54,11 +51,10 @@ left_of open_file through = if is_number open_file through then None else throug
 
 -- the owners below this one that were seen through the open file have lost their byte locks, and are seen there no more
 pub record IsClosing (S : State) (was : ℕ → ℕ → Option ℕ) (file open_file next : ℕ) (T : State) (now : ℕ → ℕ → Option ℕ) : Type 0 where
-  pub gone : Owner → Bool
+  pub gone : ℕ → Bool
   pub closes : ClosesOn S file gone None T
-  pub processes : (number : ℕ) → gone (Process number) ≡ false
-  pub earlier : (owner : ℕ) → owner < next → gone (Description owner) ≡ is_number open_file (was file owner)
-  pub later : (owner : ℕ) → next ≤ owner → gone (Description owner) ≡ false
+  pub earlier : (owner : ℕ) → owner < next → gone owner ≡ is_number open_file (was file owner)
+  pub later : (owner : ℕ) → next ≤ owner → gone owner ≡ false
   pub seen_earlier : (owner : ℕ) → owner < next → now file owner ≡ left_of open_file (was file owner)
   pub seen_later : (owner : ℕ) → next ≤ owner → now file owner ≡ was file owner
   pub elsewhere : (other_file owner : ℕ) → other_file ≢ file → now other_file owner ≡ was other_file owner
@@ -68,7 +64,6 @@ pub closing_none : (S : State) (was : ℕ → ℕ → Option ℕ) (file open_fil
 closing_none S was file open_file crossed = record {
   gone = λ other. false;
   closes = closes_nobody S file crossed;
-  processes = λ number. refl;
   earlier = λ owner none. absurd (omega (arith, none));
   later = λ owner from. refl;
   seen_earlier = λ owner none. absurd (omega (arith, none));
@@ -90,8 +85,8 @@ or_left_false : (a b : Bool) → a ≡ false → (a || b) ≡ b
 or_left_false a b isnt = ap (λ (t : Bool). t || b) isnt
 
 -- who loses locks where one owner is looked at
-abbrev pub closed_one : ℕ → Bool → Owner → Bool
-closed_one owner came other = is_same_owner (Description owner) other && came
+abbrev pub closed_one : ℕ → Bool → ℕ → Bool
+closed_one owner came other = owner == other && came
 
 -- the next owner that is known
 pub closing_more : (S : State) (was : ℕ → ℕ → Option ℕ) (file open_file next : ℕ) (M : State) (now : ℕ → ℕ
@@ -102,13 +97,12 @@ pub closing_more : (S : State) (was : ℕ → ℕ → Option ℕ) (file open_fil
 closing_more S was file open_file next M now owner T new so_far from none closes sees = record {
   gone = λ other. so_far.gone other || closed_one owner came other;
   closes = closes_then S file so_far.gone (closed_one owner came) None M T so_far.closes closes;
-  processes = λ number. or_false (so_far.gone (Process number)) false refl ∙ so_far.processes number;
   earlier = λ other before. elim (cases_lt other next) [
     | inl below ↦ another other (omega arith) ∙ so_far.earlier other below
     | inr past ↦ elim (cases_eq other owner) [
       | inl is ↦
-          subst (λ (o : ℕ). (so_far.gone (Description o) || closed_one owner came (Description o)) ≡ is_number open_file (was file o)) (sym is)
-          (or_left_false (so_far.gone (Description owner)) (closed_one owner came (Description owner)) (so_far.later owner from)
+          subst (λ (o : ℕ). (so_far.gone o || closed_one owner came o) ≡ is_number open_file (was file o)) (sym is)
+          (or_left_false (so_far.gone owner) (closed_one owner came owner) (so_far.later owner from)
           ∙ and_true (owner == owner) came (eq-eqb owner owner refl) ∙ ap (is_number open_file) (so_far.seen_later owner from))
       | inr differs ↦ another other differs ∙ so_far.later other past ∙ ap (is_number open_file) (sym (none other past (omega arith)) ∙ so_far.seen_later other past)
     ]
@@ -130,9 +124,9 @@ closing_more S was file open_file next M now owner T new so_far from none closes
     came : Bool
     came = is_number open_file (now file owner)
 
-    another : (other : ℕ) → other ≢ owner → (so_far.gone (Description other) || closed_one owner came (Description other)) ≡ so_far.gone (Description other)
+    another : (other : ℕ) → other ≢ owner → (so_far.gone other || closed_one owner came other) ≡ so_far.gone other
     another other differs =
-        or_false (so_far.gone (Description other)) (closed_one owner came (Description other))
+        or_false (so_far.gone other) (closed_one owner came other)
         (and_false (owner == other) came (ne_eqb owner other (λ is. differs (sym is))))
 
 -- from here on no owner is known on the file
@@ -157,13 +151,13 @@ and_right_false false b isnt = refl
 pub closed_owner : (S : State) (file owner : ℕ) (came : Bool) (T : State) → came ≡ true → ReleasesOn S file Bytes owner T
     → ClosesOn S file (closed_one owner came) None T
 closed_owner S file owner came T is releases =
-    closes_for S file (is_same_owner (Description owner)) (closed_one owner came) None T (λ other. and_right_true (is_same_owner (Description owner) other) came is) (closes_one S file owner T releases)
+    closes_for S file (λ other. owner == other) (closed_one owner came) None T (λ other. and_right_true (owner == other) came is) (closes_one S file owner T releases)
 
 -- and one that came through another one isn't
 pub spared_owner : (S : State) (file owner : ℕ) (came : Bool) → came ≡ false → Crosses S [] S → ClosesOn S file (closed_one owner came) None S
 spared_owner S file owner came isnt crossed =
-    closes_for S file (λ other. false) (closed_one owner came) None S (λ other. and_right_false (is_same_owner (Description owner) other) came isnt) (closes_nobody S file crossed)
+    closes_for S file (λ other. false) (closed_one owner came) None S (λ other. and_right_false (owner == other) came isnt) (closes_nobody S file crossed)
 
 -- a close gives no lock and makes no conflict
-pub moves_closed : (S : State) (file : ℕ) (gone : Owner → Bool) (flock_owner : Option ℕ) (T : State) → ClosesOn S file gone flock_owner T → Moves [] S file T
+pub moves_closed : (S : State) (file : ℕ) (gone : ℕ → Bool) (flock_owner : Option ℕ) (T : State) → ClosesOn S file gone flock_owner T → Moves [] S file T
 moves_closed S file gone flock_owner T closes = grind (arith, common_steps, fewer_move, still_held, same_waits)

@@ -7,9 +7,7 @@ use Rattle.range_core.specs.declared.Mode.{Mode}
 use Rattle.range_core.specs.declared.Span.{Span}
 use Rattle.range_core.specs.Ranges.{Conflict, Covers, HeldConflicts}
 use Rattle.range_core.specs.Changes.{is_covered}
-use Rattle.lock_book.specs.declared.Owner.{Owner}
 use Rattle.lock_book.specs.declared.Owner.TheVariants.{Description}
-use Rattle.lock_book.specs.Owners.{is_same_owner}
 use Rattle.wait_core.specs.declared.Family.{Family}
 use Rattle.wait_core.specs.declared.Family.TheVariants.{Bytes, Whole}
 use Rattle.wait_core.specs.declared.Policy.{Policy}
@@ -22,10 +20,6 @@ use Rattle.lock_server.specs.Settling.{IsHeldBack, IsWaitBlocked}
 use Rattle.lock_server.specs.Safety.{IsCompatible}
 use Rattle.lock_server.proofs.StepLemmas.{LocksFrom}
 
--- two owners that are found the same are the same
-same_owner : (a b : Owner) → is_same_owner a b ≡ true → a ≡ b
-same_owner a b h = grind (arith, common_steps, eqb-true)
-
 conflict_back : (m k : Mode) → Conflict m k → Conflict k m
 conflict_back m k h = grind (arith, common_steps)
 
@@ -34,38 +28,37 @@ both true b e = (refl, e)
 both false b e = let h : false ≡ true = e in cc
 
 -- a change of this owner on this range is one of the other on the byte
-record Hits (owner : Owner) (span : Span) (other : Owner) (byte : ℕ) : Type 0 where
+record Hits (owner : ℕ) (span : Span) (other byte : ℕ) : Type 0 where
   is : owner ≡ other
   covered : Covers span byte
 
-hit : (owner : Owner) (span : Span) (other : Owner) (byte : ℕ) → (is_same_owner owner other && is_covered span byte) ≡ true → Hits owner span other byte
-hit owner span other byte e = grind (arith, common_steps, both, same_owner, leb-true)
+hit : (owner : ℕ) (span : Span) (other byte : ℕ) → (owner == other && is_covered span byte) ≡ true → Hits owner span other byte
+hit owner span other byte e = grind (arith, common_steps, both, eqb-true, leb-true)
 
 module _ (F : FileState) (wait : Pending) (before : IsCompatible F) where
   -- the owner that a set gives its mode was blocked by each other one with a mode that conflicts
-  given_conflict : ¬ IsBlockedIn Bytes (locks_on F) (as_wait wait) → (one other : Owner) (byte : ℕ) (m k : Mode) → one ≢ other
-      → (is_same_owner (Description wait.owner) one && is_covered wait.span byte) ≡ true → Some wait.mode ≡ Some m → F.bytes other byte ≡ Some k
+  given_conflict : ¬ IsBlockedIn Bytes (locks_on F) (as_wait wait) → (one other byte : ℕ) (m k : Mode) → one ≢ other
+      → (wait.owner == one && is_covered wait.span byte) ≡ true → Some wait.mode ≡ Some m → F.bytes other byte ≡ Some k
       → ¬ Conflict m k
   given_conflict free one other byte m k distinct is m_is k_is conflict =
-      let here = hit (Description wait.owner) wait.span one byte is in
+      let here = hit wait.owner wait.span one byte is in
       let mode : wait.mode ≡ m = cc in
       free (record {
         byte = byte;
         covered = here.covered;
-        other = other;
+        other = Description other;
         blocks = record {
-          another = λ e. distinct (sym here.is ∙ sym e);
+          another = λ e. distinct (let same : Description other ≡ Description wait.owner = e in let is : other ≡ wait.owner = cc in sym here.is ∙ sym is);
           conflicts = subst (λ (held : Option Mode). HeldConflicts held wait.mode) (sym k_is) (conflict_back wait.mode k (subst (λ (n : Mode). Conflict n k) (sym mode) conflict));
         };
       })
 
   -- so of two owners with conflicting modes after a set none was given its own
-  no_conflict : ¬ IsBlockedIn Bytes (locks_on F) (as_wait wait) → (one other : Owner) (byte : ℕ) (m k : Mode) (a b : Bool) → one ≢ other
-      → (is_same_owner (Description wait.owner) one && is_covered wait.span byte) ≡ a
-      → (is_same_owner (Description wait.owner) other && is_covered wait.span byte) ≡ b
+  no_conflict : ¬ IsBlockedIn Bytes (locks_on F) (as_wait wait) → (one other byte : ℕ) (m k : Mode) (a b : Bool) → one ≢ other
+      → (wait.owner == one && is_covered wait.span byte) ≡ a → (wait.owner == other && is_covered wait.span byte) ≡ b
       → (if a then Some wait.mode else F.bytes one byte) ≡ Some m → (if b then Some wait.mode else F.bytes other byte) ≡ Some k → ¬ Conflict m k
   no_conflict free one other byte m k true true distinct a_is b_is m_is k_is conflict =
-      distinct (sym (hit (Description wait.owner) wait.span one byte a_is).is ∙ (hit (Description wait.owner) wait.span other byte b_is).is)
+      distinct (sym (hit wait.owner wait.span one byte a_is).is ∙ (hit wait.owner wait.span other byte b_is).is)
   no_conflict free one other byte m k true false distinct a_is b_is m_is k_is conflict = given_conflict free one other byte m k distinct a_is m_is k_is conflict
   no_conflict free one other byte m k false true distinct a_is b_is m_is k_is conflict =
       given_conflict free other one byte k m (λ same. distinct (sym same)) b_is k_is m_is (conflict_back m k conflict)
@@ -111,7 +104,7 @@ module _ (F : FileState) (wait : Pending) (before : IsCompatible F) where
 
 -- each lock of G stood in F
 pub record FewerLocks (F G : FileState) : Type 0 where
-  pub bytes : (owner : Owner) (byte : ℕ) (mode : Mode) → G.bytes owner byte ≡ Some mode → F.bytes owner byte ≡ Some mode
+  pub bytes : (owner byte : ℕ) (mode : Mode) → G.bytes owner byte ≡ Some mode → F.bytes owner byte ≡ Some mode
   pub flocks : (owner : ℕ) (mode : Mode) → G.flocks owner ≡ Some mode → F.flocks owner ≡ Some mode
 
 pub compatible_fewer : (F G : FileState) → FewerLocks F G → IsCompatible F → IsCompatible G

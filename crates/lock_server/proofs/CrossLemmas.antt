@@ -16,13 +16,13 @@ use Rattle.lock_server.proofs.WaiterMoves.{WaitersKnown, detected_somewhere, fil
 abbrev pub CrossesBy : Waiters → List ℕ → Waiters → Type 0
 CrossesBy was given now = (owner : ℕ) → IsTrue (crossed_of now owner) ↔ ((files_of now owner ≢ []) × (IsTrue (crossed_of was owner) ⊎ Contains given owner))
 
-contains_none : (owner : ℕ) → Contains [] owner → ⊥
+pub contains_none : (owner : ℕ) → Contains [] owner → ⊥
 contains_none owner among = let inside : among.0 < 0 = among.1 in omega arith
 
 contains_one : (one : ℕ) → Contains (one ∷ []) one
 contains_one one = (0, omega arith, refl)
 
-contains_other : (one owner : ℕ) → Contains (one ∷ []) owner → owner ≡ one
+pub contains_other : (one owner : ℕ) → Contains (one ∷ []) owner → owner ≡ one
 contains_other one owner (zero, within, is) = sym is
 contains_other one owner (suc k, within, is) = absurd (omega (arith, within))
 

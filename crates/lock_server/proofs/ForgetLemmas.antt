@@ -30,7 +30,7 @@ filter_without : (p : Pending → Bool) (before after : List Pending) (wait : Pe
 filter_without p before after wait drops = grind (arith, common_steps, filter-append)
 
 -- a filter that all pass drops nothing
-filter_all : (p : Pending → Bool) (waits : List Pending) → All (λ wait. IsTrue (p wait)) waits → filter p waits ≡ waits
+pub filter_all : (p : Pending → Bool) (waits : List Pending) → All (λ wait. IsTrue (p wait)) waits → filter p waits ≡ waits
 filter_all p [] all = refl
 filter_all p (wait ∷ waits) all =
     let Passes : Pending → Type 0 = λ w. IsTrue (p w) in

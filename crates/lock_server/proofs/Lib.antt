@@ -1,6 +1,7 @@
 pub mod TicketLemmas
 pub mod ListLemmas
 pub mod LeaveLemmas
+pub mod NumberLemmas
 pub mod RoomLemmas
 pub mod FileLemmas
 pub mod GrantLemmas
@@ -33,3 +34,6 @@ pub mod ServerLemmas
 pub mod GrantedMoves
 pub mod OpeningsLemmas
 pub mod ClosingLemmas
+pub mod OutcomeLaws
+pub mod CallLaws
+pub mod AgreementLaws

@@ -163,7 +163,7 @@ pub no_step_there : (policy : Policy) (one other : ℕ) → ¬ WaitsForOn policy
 no_step_there policy one other step = grind (arith, common_steps, length-append)
 
 blocks_in_another : (family : Family) (F : FileState) (wait : Pending) (other : ℕ) → BlocksIn family F wait other → other ≢ wait.owner
-blocks_in_another Bytes F wait other blocks same = blocks.blocks.another (ap (λ (n : ℕ). Description n) same)
+blocks_in_another Bytes F wait other blocks same = blocks.another same
 blocks_in_another Whole F wait other blocks same = blocks.another same
 
 -- who blocks a wait is another owner

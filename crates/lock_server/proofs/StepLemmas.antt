@@ -4,7 +4,6 @@ use Rattle.std.proofs.lemmas.Grind.{common_steps}
 use Rattle.std.specs.Prelude.{filter}
 use Rattle.range_core.specs.declared.Mode.{Mode}
 use Rattle.range_core.specs.Ranges.{HeldConflicts}
-use Rattle.lock_book.specs.declared.Owner.TheVariants.{Description}
 use Rattle.wait_core.specs.declared.Family.{Family}
 use Rattle.wait_core.specs.declared.Family.TheVariants.{Bytes, Whole}
 use Rattle.wait_core.specs.declared.Policy.{Policy}
@@ -18,7 +17,7 @@ use Rattle.lock_server.proofs.ListLemmas.{Any-here, Any-there, Any-cons, no_plac
 
 -- each lock of G stood in F, or is of an owner of whom this holds
 pub record LocksFrom (Given : ℕ → Type 0) (F G : FileState) : Type 0 where
-  pub bytes : (owner byte : ℕ) (mode : Mode) → G.bytes (Description owner) byte ≡ Some mode → (F.bytes (Description owner) byte ≡ Some mode) ⊎ Given owner
+  pub bytes : (owner byte : ℕ) (mode : Mode) → G.bytes owner byte ≡ Some mode → (F.bytes owner byte ≡ Some mode) ⊎ Given owner
   pub flocks : (owner : ℕ) (mode : Mode) → G.flocks owner ≡ Some mode → (F.flocks owner ≡ Some mode) ⊎ Given owner
 
 -- the waits are some of the others, in the same order
@@ -94,8 +93,8 @@ conflict_from was now wanted Given h h2 = grind (arith, common_steps)
 module _ (Given : ℕ → Type 0) (F G : FileState) (locks : LocksFrom Given F G) where
   -- who blocks a wait by a lock did so before, or was given a lock
   blocked_from : (family : Family) (wait : Pending) (other : ℕ) → BlocksIn family G wait other → BlocksIn family F wait other ⊎ Given other
-  blocked_from Bytes wait other blocked = elim (conflict_from (F.bytes (Description other) blocked.byte) (G.bytes (Description other) blocked.byte) wait.mode (Given other) (locks.bytes other blocked.byte) blocked.blocks.conflicts) [
-    | inl was ↦ inl (record { byte = blocked.byte; covered = blocked.covered; blocks = record { another = blocked.blocks.another; conflicts = was } })
+  blocked_from Bytes wait other blocked = elim (conflict_from (F.bytes other blocked.byte) (G.bytes other blocked.byte) wait.mode (Given other) (locks.bytes other blocked.byte) blocked.conflicts) [
+    | inl was ↦ inl (record { byte = blocked.byte; covered = blocked.covered; another = blocked.another; conflicts = was })
     | inr given ↦ inr given
   ]
   blocked_from Whole wait other blocked = elim (conflict_from (F.flocks other) (G.flocks other) wait.mode (Given other) (locks.flocks other) blocked.conflicts) [

@@ -8,8 +8,6 @@ use Rattle.range_core.specs.declared.Mode.{Mode}
 use Rattle.range_core.specs.declared.Span.{Span}
 use Rattle.range_core.specs.Ranges.{IsByteRange}
 use Rattle.range_core.specs.Changes.{is_covered}
-use Rattle.lock_book.specs.declared.Owner.{Owner}
-use Rattle.lock_book.specs.declared.Owner.TheVariants.{Description}
 use Rattle.wait_core.specs.declared.Family.{Family}
 use Rattle.wait_core.specs.declared.Policy.{Policy}
 use Rattle.lock_server.specs.declared.Pending.{Pending}
@@ -41,7 +39,7 @@ all_swept_but old new file others here swept other = elim (cases_eq other file) 
 
 -- nobody has a lock on the file
 pub record HasNoLock (F : FileState) : Type 0 where
-  pub bytes : (owner : Owner) (byte : ℕ) → F.bytes owner byte ≡ None
+  pub bytes : (owner byte : ℕ) → F.bytes owner byte ≡ None
   pub flocks : (owner : ℕ) → F.flocks owner ≡ None
 
 none_before : (test : Bool) (mode : Mode) (was : Option Mode) → (if test then Some mode else was) ≡ None → was ≡ None
@@ -62,7 +60,7 @@ pub bytes_set : (F : FileState) (owner : ℕ) (span : Span) (mode : Mode) (G : F
     → ¬ HasNoLock G
 bytes_set F owner span mode G range sets none =
     let here : (owner == owner && is_covered span span.first) ≡ true = grind (arith, nat_tests) in
-    let is : None ≡ Some mode = sym (none.bytes (Description owner) span.first) ∙ sets.bytes (Description owner) span.first ∙ rw here refl in cc
+    let is : None ≡ Some mode = sym (none.bytes owner span.first) ∙ sets.bytes owner span.first ∙ rw here refl in cc
 
 pub flock_set : (F : FileState) (owner : ℕ) (mode : Mode) (G : FileState) → SetsFlock F owner (Some mode) G → ¬ HasNoLock G
 flock_set F owner mode G sets none =

@@ -4,6 +4,10 @@ use Rattle.std.specs.Ordering.{nat_cmp}
 use Rattle.std.specs.BTreeMap.{get}
 use Rattle.std.specs.Borrow.{Bor}
 use Rattle.std.specs.Option.{option_copied}
+use Rattle.range_core.specs.declared.Mode.{Mode}
+use Rattle.range_core.specs.Ranges.{HeldConflicts}
+use Rattle.lock_book.specs.declared.Owner.{Owner}
+use Rattle.lock_book.specs.declared.Owner.TheVariants.{Process, Description}
 use Rattle.wait_core.specs.declared.Family.{Family}
 use Rattle.wait_core.specs.declared.Family.TheVariants.{Bytes, Whole}
 use Rattle.wait_core.specs.declared.Policy.{Policy}
@@ -11,7 +15,7 @@ use Rattle.wait_core.specs.declared.Policy.TheVariants.{Held, Queue}
 use Rattle.wait_core.specs.Blocking.{IsBlockedIn}
 use Rattle.lock_server.specs.declared.Pending.{Pending}
 use Rattle.lock_server.specs.Pendings.{as_wait}
-use Rattle.lock_server.specs.Files.{locks_on, untouched}
+use Rattle.lock_server.specs.Files.{by_owner, locks_on, untouched}
 use Rattle.lock_server.specs.Settling.{IsHeldBack, IsWaitBlocked}
 use Rattle.lock_server.proofs.ListLemmas.{Any-nil}
 use Rattle.lock_server.specs.declared.file.LockFile.{LockFile}
@@ -32,8 +36,12 @@ pub not_found_state : (table : Table) (file : ℕ) (found : Option (Bor LockFile
 unfolding table_state entry_of
 not_found_state table file found value is = ap state_at (sym value ∙ ap option_copied is)
 
+nobody : (owner : Owner) (byte : ℕ) (wanted : Mode) → ¬ HeldConflicts (by_owner untouched.bytes owner byte) wanted
+nobody (Process process) byte wanted conflicts = conflicts
+nobody (Description number) byte wanted conflicts = conflicts
+
 free_in : (family : Family) (wait : Pending) → ¬ IsBlockedIn family (locks_on untouched) (as_wait wait)
-free_in Bytes wait conflict = conflict.blocks.conflicts
+free_in Bytes wait conflict = nobody conflict.other conflict.byte wait.mode conflict.blocks.conflicts
 free_in Whole wait conflict = conflict.conflicts
 
 -- on an untouched file nothing is in the way

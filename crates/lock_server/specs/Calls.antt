@@ -3,7 +3,6 @@ use Rattle.std.specs.Prelude.{◌≡◌, ℕ, ◌<◌, ◌⊎◌, not, Bool, fal
 use Rattle.range_core.specs.declared.Mode.{Mode}
 use Rattle.range_core.specs.declared.Span.{Span}
 use Rattle.range_core.specs.Facts.{MatchFact}
-use Rattle.lock_book.specs.declared.Owner.TheVariants.{Description}
 use Rattle.lock_book.specs.Changes.{whole_file}
 use Rattle.wait_core.specs.declared.Family.{Family}
 use Rattle.wait_core.specs.declared.Family.TheVariants.{Bytes, Whole}
@@ -186,7 +185,7 @@ ForgetsIn policy (file ∷ files) S owner T =
 
 -- the owner has no byte lock on the file and no wait for one (this project's choice)
 pub record IsStrangerOn (F : FileState) (owner : ℕ) : Type 0 where
-  pub bytes : (byte : ℕ) → F.bytes (Description owner) byte ≡ None
+  pub bytes : (byte : ℕ) → F.bytes owner byte ≡ None
   pub waits : All (λ wait. IsTrue (is_other_wait owner wait)) F.waits
 
 -- an owner that is no more: its byte locks and its waits for byte locks leave all files, the files rising

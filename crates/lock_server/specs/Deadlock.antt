@@ -1,8 +1,6 @@
 -- Which owner waits for which, and when a wait would close a cycle. A chain is that of `wait_core`, between owners.
 use Rattle.std.specs.Prelude.{◌≡◌, ℕ, ◌⊎◌, IsTrue, Any, List, ◌∷◌, ◌++◌}
 use Rattle.range_core.specs.Ranges.{HeldConflicts, Covers}
-use Rattle.lock_book.specs.declared.Owner.TheVariants.{Description}
-use Rattle.lock_book.specs.Conflicts.{Blocks}
 use Rattle.wait_core.specs.declared.Family.{Family}
 use Rattle.wait_core.specs.declared.Family.TheVariants.{Bytes, Whole}
 use Rattle.wait_core.specs.declared.Policy.{Policy}
@@ -18,7 +16,8 @@ use Rattle.lock_server.specs.States.{State}
 pub record BlocksByBytes (F : FileState) (wait : Pending) (other : ℕ) : Type 0 where
   pub byte : ℕ
   pub covered : Covers wait.span byte
-  pub blocks : Blocks F.bytes (Description wait.owner) wait.mode byte (Description other)
+  pub another : ¬ (other ≡ wait.owner)
+  pub conflicts : HeldConflicts (F.bytes other byte) wait.mode
 
 -- this other owner has a flock lock that conflicts (flock(2))
 pub record BlocksByFlock (F : FileState) (wait : Pending) (other : ℕ) : Type 0 where

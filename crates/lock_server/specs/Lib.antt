@@ -15,7 +15,9 @@ pub mod TicketsView
 pub mod WaitersView
 pub mod Blockers
 pub mod Index
+pub mod Locks
 pub mod TableView
 pub mod TableRoom
 pub mod OpeningsView
 pub mod ServerView
+pub mod Agreement

@@ -2,7 +2,6 @@
 use Rattle.std.specs.Prelude.{◌≡◌, ◌≢◌, ℕ, Some, AllPairs, Contains}
 use Rattle.range_core.specs.declared.Mode.{Mode}
 use Rattle.range_core.specs.Ranges.{Conflict}
-use Rattle.lock_book.specs.declared.Owner.{Owner}
 use Rattle.wait_core.specs.declared.Policy.{Policy}
 use Rattle.lock_server.specs.Files.{FileState}
 use Rattle.lock_server.specs.Settling.{IsSettled}
@@ -12,7 +11,7 @@ use Rattle.lock_server.specs.Deadlock.{IsFreeOfCycles}
 -- no two owners conflict on a byte of the file, and no two by flock
 -- (POSIX.1-2017 fcntl, DESCRIPTION, F_SETLK, shared and exclusive locks; flock(2))
 pub record IsCompatible (F : FileState) : Type 0 where
-  pub bytes : (one other : Owner) (byte : ℕ) (m k : Mode) → one ≢ other
+  pub bytes : (one other byte : ℕ) (m k : Mode) → one ≢ other
       → F.bytes one byte ≡ Some m → F.bytes other byte ≡ Some k → ¬ Conflict m k
   pub flocks : (one other : ℕ) (m k : Mode) → one ≢ other
       → F.flocks one ≡ Some m → F.flocks other ≡ Some k → ¬ Conflict m k

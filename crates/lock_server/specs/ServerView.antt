@@ -5,6 +5,7 @@ use Rattle.lock_server.specs.declared.server.LockServer.{LockServer}
 use Rattle.lock_server.specs.Files.{SameFile, untouched}
 use Rattle.lock_server.specs.OpeningsView.{through_at}
 use Rattle.lock_server.specs.TableView.{HasEntry, table_state, table_policy}
+use Rattle.lock_server.specs.Safety.{IsSafe}
 use Rattle.lock_server.specs.States.{State}
 
 -- the state that a server stands for
@@ -22,6 +23,11 @@ through_of server = through_at server.openings
 -- the server has an entry for the file, which takes memory
 unfoldable pub KeepsFile : LockServer → ℕ → Type 0
 KeepsFile server file = HasEntry server.table file
+
+-- of any server: no owners conflict, each wait is blocked, no detected waits close a cycle of owners that were given nothing since they
+-- wait, and each ticket is there once (POSIX.1-2017 fcntl; flock(2))
+abbrev pub ServersAreSafe : Type 0
+ServersAreSafe = (server : LockServer) → ∥ IsSafe (policy_of server) (state_of server) ∥₁
 
 -- any server has an entry for just the files with a lock or a wait
 abbrev pub FilesAreKeptWhileInUse : Type 0

@@ -7,8 +7,8 @@ ghost use Rattle.lock_server.specs.Settling.{PendingsConflict};
 ghost use Rattle.lock_book.specs.Books.{byte_modes_of, flock_modes_of};
 ghost use Rattle.lock_server.specs.Pendings.{as_wait, is_of_whole};
 
-use crate::{Family, Owner, Pending, Span};
-use lock_book::{Book, Held};
+use crate::{Family, Pending, Span};
+use lock_book::{Book, Held, Owner};
 
 impl Pending {
     /// Whether a lock of another owner blocks the wait (POSIX.1-2017 fcntl, `F_SETLK`; flock(2)).

@@ -1,7 +1,5 @@
 //! The last close of an open file: the byte locks of the owners that were last seen through it go.
-ghost use Rattle.std.specs.Prelude.{◌≡◌, ◌&&◌, if◌then◌else◌, None};
-ghost use Rattle.lock_book.specs.declared.Owner.TheVariants.{Description};
-ghost use Rattle.lock_book.specs.Owners.{is_same_owner};
+ghost use Rattle.std.specs.Prelude.{◌≡◌, ◌==◌, ◌&&◌, if◌then◌else◌, None};
 ghost use Rattle.lock_server.specs.Closing.{ClosesOn, is_through};
 ghost use Rattle.lock_server.specs.Openings.{ForgetsThrough, is_number, SeesOn};
 ghost use Rattle.lock_server.specs.OpeningsView.{through_at};
@@ -28,7 +26,7 @@ pub(crate) fn close(table: &mut Table, openings: &mut Openings, file: u64, open_
 /// The same of one owner.
 fn close_owner(table: &mut Table, openings: &mut Openings, file: u64, owner: u64, open_file: u64)
     ensures closes { ClosesOn (table_state table.old) file
-        (λ other. is_same_owner (Description owner) other && is_number open_file (through_at openings.old file owner)) None (table_state table.new) }
+        (λ other. owner == other && is_number open_file (through_at openings.old file owner)) None (table_state table.new) }
     ensures forgets { SeesOn (through_at openings.old) (through_at openings.new) file owner
         (if is_number open_file (through_at openings.old file owner) then None else through_at openings.old file owner) }
     ensures policy { table_policy table.new ≡ table_policy table.old }

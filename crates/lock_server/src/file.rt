@@ -1,6 +1,8 @@
 //! The locks on one file, and its waits.
 ghost use Rattle.std.specs.Prelude.{All};
 ghost use Rattle.range_core.specs.Ranges.{IsByteRange};
+ghost use Rattle.lock_book.specs.Books.{byte_modes_of};
+ghost use Rattle.lock_server.specs.Locks.{AreOfNumbers};
 ghost use Rattle.lock_server.specs.Room.{HasRoom};
 
 mod blockers;
@@ -12,13 +14,15 @@ use crate::Pending;
 use lock_book::Book;
 use std::alloc::Global;
 
-/// The locks on one file, and its waits in order of arrival. Room is held for the grant of each wait.
+/// The locks on one file, and its waits in order of arrival. Owners are numbers, of descriptions in the book. Room is held for the grant
+/// of each wait.
 #[derive(Drop)]
 pub struct LockFile {
     book: Book,
     waits: Vec<Pending>,
     ghost ranges: { All (λ wait. IsByteRange wait.span) waits.items },
     ghost room: { HasRoom book waits.items },
+    ghost numbers: { AreOfNumbers (byte_modes_of book) },
 }
 
 #[tactic(auto, unfolding(crate::specs::FileView::file_state))]

@@ -14,12 +14,22 @@ mod table;
 mod tickets;
 mod waiters;
 
-pub use laws::files_are_kept_while_in_use;
-pub use lock_book::{Blocker, Owner};
-pub use range_core::{Memory, Mode, Span};
+pub use laws::{files_are_kept_while_in_use, replicas_agree, servers_are_safe};
+pub use range_core::{Memory, Mode, OFFMAX, Span};
 pub use server::LockServer;
 use thiserror::Error;
 pub use wait_core::{Family, Policy};
+
+/// A byte lock that is in the way of another one (POSIX.1-2017 fcntl, `F_GETLK`).
+#[derive(Clone, Copy, Debug, PartialEq, Eq)]
+pub struct Lock {
+    /// Whose lock it is, as the server was given the owner's number.
+    pub owner: u64,
+    /// The one mode that the owner has on the whole span.
+    pub mode: Mode,
+    /// The largest range of this mode round the byte that is blocked, also past the range that was asked for.
+    pub span: Span,
+}
 
 /// A request for a lock on one file, as it waits or would wait (POSIX.1-2017 fcntl, `F_SETLKW`; flock(2)).
 #[derive(Clone, Copy, Debug, PartialEq, Eq)]

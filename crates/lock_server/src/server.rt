@@ -8,8 +8,8 @@ use crate::openings::Openings;
 use crate::requests::{NO_TICKET, byte_request, flock_request};
 use crate::table::Table;
 use crate::{
-    Answer, Blocker, Family, Memory, Mode, Owner, Pending, Policy, Span, WaitAnswer, WaitFault,
-    closing, converting,
+    Answer, Family, Lock, Memory, Mode, Pending, Policy, Span, WaitAnswer, WaitFault, closing,
+    converting,
 };
 use std::alloc::Global;
 
@@ -27,11 +27,11 @@ pub struct LockServer {
 impl LockServer {
     ghost use Rattle.std.specs.Prelude.{◌↔◌, ℕ, IfOk, IfSome, IfNone, IsOk, IsTrue, OnErr, OnOk, Some, None, false};
     ghost use Rattle.range_core.specs.Ranges.{IsByteRange, SplitsRun};
-    ghost use Rattle.lock_book.specs.Conflicts.{ByteConflict, IsFirstBlocker};
     ghost use Rattle.lock_server.specs.Calls.{CancelComesTo, FetchComesTo, FlockOpComesTo, FlockWaitComesTo, Forgets, IsRefused};
     ghost use Rattle.lock_server.specs.Calls.{IsSetHeldBack, Releases, SetComesTo, WaitComesTo};
     ghost use Rattle.lock_server.specs.Closing.{Closes};
     ghost use Rattle.lock_server.specs.Files.{SameFile, untouched};
+    ghost use Rattle.lock_server.specs.Locks.{IsFirstLock, IsInTheWay};
     ghost use Rattle.lock_server.specs.Openings.{ForgetsOwner, ForgetsThrough, SameOpenings, SeesOn};
     ghost use Rattle.lock_server.specs.ServerView.{KeepsFile, policy_of, state_of, through_of};
     ghost use Rattle.lock_server.specs.States.{IsTaken, opening, SameState};
@@ -51,10 +51,10 @@ impl LockServer {
     /// The first lock of another owner that would block a lock of this mode: at the least byte of the span that is blocked, of the
     /// least owner that blocks there, its largest range of one mode (POSIX.1-2017 fcntl, `F_GETLK`; FUSE, getlk). It takes no
     /// memory.
-    pub fn get(&self, file: u64, owner: u64, span: Span, mode: Mode) -> Option<Blocker>
+    pub fn get(&self, file: u64, owner: u64, span: Span, mode: Mode) -> Option<Lock>
         requires { IsByteRange span }
-        ensures some { IfSome result (IsFirstBlocker ((state_of self.now).files file).bytes (Owner.Description owner) span mode) }
-        ensures none { IfNone result (¬ ByteConflict ((state_of self.now).files file).bytes (Owner.Description owner) span mode) }
+        ensures some { IfSome result (IsFirstLock ((state_of self.now).files file) owner span mode) }
+        ensures none { IfNone result (¬ IsInTheWay ((state_of self.now).files file) owner span mode) }
     {
         self.table.blocker(file, owner, span, mode)
     }
@@ -72,7 +72,7 @@ impl LockServer {
     ) -> Result<Answer, Memory>
         requires { IsByteRange span }
         ensures ok { IfOk result (λ answer. SetComesTo (policy_of self.old) (state_of self.old) file owner span mode answer (state_of self.new)) }
-        ensures unlock { mode ≡ None → (¬ SplitsRun (((state_of self.old).files file).bytes (Owner.Description owner)) span) → IsOk result }
+        ensures unlock { mode ≡ None → (¬ SplitsRun (((state_of self.old).files file).bytes owner) span) → IsOk result }
         ensures gone { result ≡ Ok Answer.Done → SameFile ((state_of self.new).files file) untouched → ¬ KeepsFile self.new file }
         ensures err { OnErr result (SameState (state_of self.old) (state_of self.new)) }
         ensures policy { policy_of self.new ≡ policy_of self.old }

@@ -1,10 +1,7 @@
 -- What a status tells, from what the server's call says of its answer: for the exports of the calls that are answered.
-use Rattle.std.proofs.Common.{arith, ◌↔◌, Option, Some, None, Result, Err, IfOk, IsOk, OnErr, ◌≡◌, ◌≢◌, ℕ, sym, ◌∙◌}
+use Rattle.std.proofs.Common.{arith, ◌↔◌, Option, Some, Result, Err, IfOk, OnErr, ◌≡◌, ℕ}
 use Rattle.std.proofs.lemmas.Grind.{common_steps}
 use lib.Dec.{T}
-use Rattle.std.proofs.lemmas.Bool.{false≢true}
-use Rattle.range_core.specs.declared.Mode.{Mode}
-use Rattle.range_core.specs.declared.Span.{Span}
 use Rattle.range_core.specs.declared.memory.Memory.{Memory}
 use Rattle.lock_server.specs.declared.Answer.{Answer}
 use Rattle.lock_server.specs.declared.WaitAnswer.{WaitAnswer}
@@ -15,26 +12,13 @@ use Rattle.lock_server.specs.declared.server.LockServer.{LockServer}
 use Rattle.lock_server.specs.ServerView.{policy_of, state_of}
 use Rattle.lock_server.specs.States.{State, SameState, IsTaken}
 use Rattle.lock_server_c.specs.declared.handle.Handle.{Handle}
-use Rattle.lock_server_c.specs.declared.status.TheConstants.{TICKET_TAKEN, NO_MEMORY}
+use Rattle.lock_server_c.specs.declared.status.TheConstants.{TICKET_TAKEN}
 use Rattle.lock_server_c.specs.Owned.{Has}
-use Rattle.lock_server_c.specs.Told.{AnswerTold, WaitTold, AnswersWait, SplitsLock, status_of, wait_status_of}
+use Rattle.lock_server_c.specs.Told.{AnswerTold, WaitTold, AnswersWait, status_of, wait_status_of}
 
 pub answer_told : (answer : Result Answer Memory) (S T : State) (comes_to : Answer → Type 0)
     → IfOk answer comes_to → OnErr answer (SameState S T) → AnswerTold (status_of answer) S T comes_to
 answer_told answer S T comes_to ok err = grind (arith, common_steps)
-
--- an answer isn't told as no memory
-answered : (answer : Result Answer Memory) → IsOk answer → status_of answer ≡ NO_MEMORY → ⊥
-answered answer ok e = grind (arith, common_steps, false≢true)
-
-pub removal_told : (answer : Result Answer Memory) (status : ℕ) (mode : Option Mode) → status ≡ status_of answer → (mode ≡ None → IsOk answer) → mode ≡ None
-    → status ≢ NO_MEMORY
-removal_told answer status mode told_by ok unlock e = answered answer (ok unlock) (sym told_by ∙ e)
-
-pub unlock_told : (handle : Option LockServer) (server : LockServer) (answer : Result Answer Memory) (status file owner : ℕ) (span : Span) (mode : Option Mode)
-    → handle ≡ Some server → status ≡ status_of answer → (mode ≡ None → (¬ SplitsLock server file owner span) → IsOk answer)
-    → Has handle (λ held. mode ≡ None → (¬ SplitsLock held file owner span) → status ≢ NO_MEMORY)
-unlock_told handle server answer status file owner span mode before told_by ok = grind (arith, common_steps, answered)
 
 pub wait_told : (answer : Result WaitAnswer WaitFault) (S T : State) (comes_to : WaitAnswer → Type 0)
     → IfOk answer comes_to → OnErr answer (SameState S T) → WaitTold (wait_status_of answer) S T comes_to

@@ -1,3 +1,4 @@
 pub mod Numbers
 pub mod Owned
 pub mod Told
+pub mod Lending

@@ -1,41 +1,43 @@
--- What C's numbers stand for, as dehokuna.h names them (which number stands for what is this project's choice).
-use Rattle.std.specs.Prelude.{ℕ, Bool, Option, Some, None, if◌then◌else◌, ◌==◌}
+-- What C's numbers ask for, as dehokuna.h names them (which number stands for what is this project's choice); None, where they name
+-- nothing that can be asked for.
+use Rattle.std.specs.Prelude.{ℕ, Bool, Option, Some, None, if◌then◌else◌, ◌==◌, ◌&&◌, nat_le, option_and_then, option_map}
+use Rattle.range_core.specs.declared.TheConstants.{OFFMAX}
 use Rattle.range_core.specs.declared.Mode.{Mode}
 use Rattle.range_core.specs.declared.Mode.TheVariants.{Read, Write}
 use Rattle.range_core.specs.declared.Span.{Span}
 use Rattle.wait_core.specs.declared.Policy.{Policy}
 use Rattle.wait_core.specs.declared.Policy.TheVariants.{Held, Queue}
-use Rattle.lock_server.specs.declared.Pending.{Pending}
-use Rattle.lock_server.specs.Calls.{byte_request, flock_request}
 
--- the mode of a lock that is asked for: 1 is a read lock, and any other number a write lock
-abbrev pub mode_of : ℕ → Mode
-mode_of number = if number == 1 then Read else Write
+-- the mode of a lock: 1 is a read lock, 2 a write lock
+abbrev pub mode_of : ℕ → Option Mode
+mode_of number = if number == 1 then Some Read else (if number == 2 then Some Write else None)
 
--- the mode that is to be set: 0 is none
-abbrev pub wanted_of : ℕ → Option Mode
-wanted_of number = if number == 0 then None else Some (mode_of number)
+-- the mode that is to be set: 0 is to remove what is held
+abbrev pub wanted_of : ℕ → Option (Option Mode)
+wanted_of number = if number == 0 then Some None else option_map (λ mode. Some mode) (mode_of number)
 
 -- the number of a mode
 abbrev pub number_of : Mode → ℕ
 number_of Read = 1
 number_of Write = 2
 
--- the policy: 1 is the queue, and any other number locks that are held alone
-abbrev pub policy_for : ℕ → Policy
-policy_for number = if number == 1 then Queue else Held
+-- the policy: 0 is that of locks that are held alone, 1 the queue
+abbrev pub policy_for : ℕ → Option Policy
+policy_for number = if number == 0 then Some Held else (if number == 1 then Some Queue else None)
 
--- the bytes from the first to the last one
-abbrev pub span_of : ℕ → ℕ → Span
-span_of first last = record { first = first; last = last }
+-- the bytes from the first to the last one, where these are in order and the first is a byte of a file; a last one behind the largest
+-- offset means to the end of the file
+abbrev pub span_of : ℕ → ℕ → Option Span
+span_of first last =
+    if nat_le first last && nat_le first OFFMAX then Some (record { first = first; last = if nat_le last OFFMAX then last else OFFMAX }) else None
 
--- the request for byte locks that the numbers make
-abbrev pub bytes_by : ℕ → ℕ → ℕ → ℕ → ℕ → Bool → Pending
-bytes_by ticket owner first last mode detect = byte_request ticket owner (span_of first last) (mode_of mode) detect
+-- a lock on a range
+abbrev pub lock_of : ℕ → ℕ → ℕ → Option (Span × Mode)
+lock_of first last mode = option_and_then (λ span. option_map (λ wanted. (span, wanted)) (mode_of mode)) (span_of first last)
 
--- the request for a flock lock that the numbers make
-abbrev pub flock_by : ℕ → ℕ → ℕ → Pending
-flock_by ticket owner mode = flock_request ticket owner (mode_of mode)
+-- a mode to be set on a range, or removed there
+abbrev pub change_of : ℕ → ℕ → ℕ → Option (Span × Option Mode)
+change_of first last mode = option_and_then (λ span. option_map (λ wanted. (span, wanted)) (wanted_of mode)) (span_of first last)
 
 -- the number, where there is one
 abbrev pub number_if : Bool → ℕ → Option ℕ

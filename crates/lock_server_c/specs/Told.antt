@@ -1,14 +1,11 @@
 -- What C is told by a number, and what the server's call came to.
-use Rattle.std.specs.Prelude.{◌≡◌, ◌⊎◌, ℕ, Option, Result, Ok, Err}
+use Rattle.std.specs.Prelude.{◌≡◌, ◌⊎◌, ℕ, Option, Result, Ok, Err, MatchOption}
 use Rattle.range_core.specs.declared.Mode.{Mode}
 use Rattle.range_core.specs.declared.Span.{Span}
 use Rattle.range_core.specs.declared.memory.Memory.{Memory}
 use Rattle.range_core.specs.Ranges.{SplitsRun}
-use Rattle.lock_book.specs.declared.Blocker.{Blocker}
-use Rattle.lock_book.specs.declared.Owner.{Owner}
-use Rattle.lock_book.specs.declared.Owner.TheVariants.{Process, Description}
-use Rattle.lock_book.specs.Conflicts.{ByteConflict, IsFirstBlocker}
 use Rattle.wait_core.specs.declared.Policy.{Policy}
+use Rattle.lock_server.specs.declared.Lock.{Lock}
 use Rattle.lock_server.specs.declared.server.LockServer.{LockServer}
 use Rattle.lock_server.specs.declared.Answer.{Answer}
 use Rattle.lock_server.specs.declared.Answer.TheVariants.{Done, Blocked}
@@ -16,9 +13,10 @@ use Rattle.lock_server.specs.declared.WaitAnswer.{WaitAnswer}
 use Rattle.lock_server.specs.declared.WaitAnswer.TheVariants as told
 use Rattle.lock_server.specs.declared.WaitFault.{WaitFault}
 use Rattle.lock_server.specs.declared.WaitFault.TheVariants as fault
+use Rattle.lock_server.specs.Locks.{IsFirstLock, IsInTheWay}
 use Rattle.lock_server.specs.States.{State, SameState}
 use Rattle.lock_server.specs.ServerView.{policy_of, state_of, through_of}
-use Rattle.lock_server_c.specs.declared.status.TheConstants.{DONE, BLOCKED, WAITS, DEADLOCK, TICKET_TAKEN, NO_MEMORY}
+use Rattle.lock_server_c.specs.declared.status.TheConstants.{DONE, BLOCKED, WAITS, DEADLOCK, TICKET_TAKEN, NO_MEMORY, INVALID}
 use Rattle.lock_server_c.specs.declared.bytes.BlockerOut.{BlockerOut}
 use Rattle.lock_server_c.specs.declared.handle.Handle.{Handle}
 use Rattle.lock_server_c.specs.Numbers.{number_of}
@@ -73,26 +71,27 @@ wait_status_of (Ok told.Deadlock) = DEADLOCK
 wait_status_of (Err fault.TicketTaken) = TICKET_TAKEN
 wait_status_of (Err (fault.Memory memory)) = NO_MEMORY
 
--- the number of an owner; a server gives locks to numbers alone
-abbrev pub number_of_owner : Owner → ℕ
-number_of_owner (Process number) = number
-number_of_owner (Description number) = number
+-- C asks for what its numbers name, and this holds of that; where they name nothing the status is that of an invalid call, and the
+-- server stays (this project's choice)
+abbrev pub Asks : {X : Type 0} → Option X → Handle → Handle → ℕ → (X → Type 0) → Type 0
+Asks asked old new status holds = MatchOption asked ((status ≡ INVALID) × (new.server ≡ old.server)) holds
 
--- what C is told of a lock that blocks: the owner's number, the range and the mode
-abbrev pub out_of : Blocker → BlockerOut
-out_of blocker = record
-    { owner = number_of_owner blocker.owner; first = blocker.span.first; last = blocker.span.last; mode = number_of blocker.mode }
-
--- a byte lock of another owner is in the way of one on the file (POSIX.1-2017 fcntl, DESCRIPTION, F_SETLK, "blocked by")
-abbrev pub IsInTheWay : LockServer → ℕ → ℕ → Span → Mode → Type 0
-IsInTheWay server file owner span mode = ByteConflict ((state_of server).files file).bytes (Description owner) span mode
+-- what C is told of a lock that is in the way: the owner's number, the range and the mode
+abbrev pub out_of : Lock → BlockerOut
+out_of lock = record { owner = lock.owner; first = lock.span.first; last = lock.span.last; mode = number_of lock.mode }
 
 -- the range lies inside one lock of the owner on the file, so that an unlock of it leaves two (fcntl_locking(2), "splitting")
 abbrev pub SplitsLock : LockServer → ℕ → ℕ → Span → Type 0
-SplitsLock server file owner span = SplitsRun (((state_of server).files file).bytes (Description owner)) span
+SplitsLock server file owner span = SplitsRun (((state_of server).files file).bytes owner) span
 
 -- C is told of the first lock that is in the way (POSIX.1-2017 fcntl, DESCRIPTION, F_GETLK)
-pub record BlockerTold (server : LockServer) (file owner : ℕ) (span : Span) (mode : Mode) (out : BlockerOut) : Type 0 where
-  pub blocker : Blocker
-  pub is_first : IsFirstBlocker ((state_of server).files file).bytes (Description owner) span mode blocker
-  pub written : out ≡ out_of blocker
+pub record LockTold (server : LockServer) (file owner : ℕ) (span : Span) (mode : Mode) (out : BlockerOut) : Type 0 where
+  pub lock : Lock
+  pub is_first : IsFirstLock ((state_of server).files file) owner span mode lock
+  pub written : out ≡ out_of lock
+
+-- the status of a get: a lock is in the way, which is told; or none is, and what C gave for one stays (POSIX.1-2017 fcntl, F_GETLK)
+abbrev pub GetTold : ℕ → LockServer → ℕ → ℕ → Span → Mode → BlockerOut → BlockerOut → Type 0
+GetTold status server file owner span mode old new =
+    ((status ≡ BLOCKED) × LockTold server file owner span mode new)
+    ⊎ ((status ≡ DONE) × (¬ IsInTheWay ((state_of server).files file) owner span mode) × (new ≡ old))

@@ -30,6 +30,9 @@ impl Model for Handle {
 }
 
 impl Handle {
+    ghost use Rattle.std.specs.Borrow.{sem};
+    ghost use Rattle.lock_server_c.specs.Lending.{LendsServer};
+
     /// A handle without a server.
     pub(crate) fn empty() -> Handle
         ensures { result.server ≡ None }
@@ -59,6 +62,15 @@ impl Handle {
             at: at as *mut LockServer,
             alloc,
         }
+    }
+
+    /// The server behind the pointer, which stays there: the handle itself is only read.
+    pub(crate) fn server(&mut self) -> &mut LockServer
+        requires { IsSome self.old.server }
+        ensures* lends { sem 𝓛 (LendsServer self.entry result) }
+        ensures server { self.old.server ≡ Some result.now }
+    {
+        unsafe { &mut *(self.at as *mut LockServer) }
     }
 
     /// Takes the server out of the handle.

@@ -1,25 +1,29 @@
-//! What C's numbers stand for (`enum dehokuna_mode`, `enum dehokuna_policy`).
-ghost use Rattle.std.specs.Prelude.{◌≡◌};
-ghost use Rattle.lock_server_c.specs.Numbers.{mode_of, number_if, number_of, policy_for, span_of, wanted_of};
+//! What C's numbers ask for (`enum dehokuna_mode`, `enum dehokuna_policy`, ranges).
+ghost use Rattle.std.specs.Prelude.{◌≡◌, IfSome};
+ghost use Rattle.range_core.specs.Ranges.{IsByteRange};
+ghost use Rattle.lock_server_c.specs.Numbers.{change_of, lock_of, mode_of, number_if, number_of, policy_for, span_of, wanted_of};
 
-use lock_server::{Mode, Policy, Span};
+use lock_server::{Mode, OFFMAX, Policy, Span};
 
-/// The mode of a lock that is asked for: 1 is a read lock, and any other number a write lock.
-pub(crate) fn mode(number: u32) -> Mode
+/// The mode of a lock: 1 is a read lock, 2 a write lock.
+pub(crate) fn mode(number: u32) -> Option<Mode>
     ensures { result ≡ mode_of number }
 {
-    if number == 1 { Mode::Read } else { Mode::Write }
+    match number {
+        1 => Some(Mode::Read),
+        2 => Some(Mode::Write),
+        _ => None,
+    }
 }
 
-/// The mode that is to be set: 0 is none.
-pub(crate) fn wanted(number: u32) -> Option<Mode>
+/// The mode that is to be set: 0 is to remove what is held.
+pub(crate) fn wanted(number: u32) -> Option<Option<Mode>>
     ensures { result ≡ wanted_of number }
 {
     if number == 0 {
-        None
-    } else {
-        Some(mode(number))
+        return Some(None);
     }
+    Some(Some(mode(number)?))
 }
 
 /// The number of a mode.
@@ -32,22 +36,48 @@ pub(crate) fn number(mode: Mode) -> u32
     }
 }
 
-/// The policy: 1 is the queue, and any other number locks that are held alone.
-pub(crate) fn policy(number: u32) -> Policy
+/// The policy: 0 is that of locks that are held alone, 1 the queue.
+pub(crate) fn policy(number: u32) -> Option<Policy>
     ensures { result ≡ policy_for number }
 {
-    if number == 1 {
-        Policy::Queue
-    } else {
-        Policy::Held
+    match number {
+        0 => Some(Policy::Held),
+        1 => Some(Policy::Queue),
+        _ => None,
     }
 }
 
-/// The bytes from the first to the last one.
-pub(crate) fn span(first: u64, last: u64) -> Span
-    ensures { result ≡ span_of first last }
+/// The bytes from the first to the last one, to the end of the file where the last is behind [`OFFMAX`].
+fn span(first: u64, last: u64) -> Option<Span>
+    ensures is { result ≡ span_of first last }
+    ensures range { IfSome result IsByteRange }
 {
-    Span { first, last }
+    if first <= last && first <= OFFMAX {
+        let last = if last <= OFFMAX { last } else { OFFMAX };
+        Some(Span { first, last })
+    } else {
+        None
+    }
+}
+
+/// A lock on a range.
+pub(crate) fn lock(first: u64, last: u64, mode_number: u32) -> Option<(Span, Mode)>
+    ensures is { result ≡ lock_of first last mode_number }
+    ensures range { IfSome result (λ asked. IsByteRange asked.0) }
+{
+    let span = span(first, last)?;
+    let mode = mode(mode_number)?;
+    Some((span, mode))
+}
+
+/// A mode to be set on a range, or removed there.
+pub(crate) fn change(first: u64, last: u64, mode_number: u32) -> Option<(Span, Option<Mode>)>
+    ensures is { result ≡ change_of first last mode_number }
+    ensures range { IfSome result (λ asked. IsByteRange asked.0) }
+{
+    let span = span(first, last)?;
+    let mode = wanted(mode_number)?;
+    Some((span, mode))
 }
 
 /// The number, where there is one.

@@ -10,25 +10,16 @@ ghost use Rattle.lock_server_c.specs.Told.{Goes, Seen};
 
 use crate::handle::Handle;
 use crate::numbers;
-use std::alloc::Global;
 
 /// Notes that the owner is seen through the open file of the file; `false` where there is no memory (FUSE, `fh` of setlk).
 #[unsafe(no_mangle)]
-pub extern "C" fn dehokuna_note(
-    alloc: Global,
-    handle: &mut Handle,
-    file: u64,
-    owner: u64,
-    open_file: u64,
-) -> bool
+pub extern "C" fn dehokuna_note(handle: &mut Handle, file: u64, owner: u64, open_file: u64) -> bool
     requires { IsSome handle.old.server }
     ensures same { Goes handle.old handle.new (λ policy S T. SameState S T) }
     ensures noted { IsTrue result → Seen handle.old handle.new (λ old new. SeesOn old new file owner (Some open_file)) }
     ensures refused { IsFalse result → Seen handle.old handle.new SameOpenings }
 {
-    let mut server = handle.take(alloc);
-    let noted = server.note(file, owner, open_file);
-    handle.put(server);
+    let noted = handle.server().note(file, owner, open_file);
     noted.is_ok()
 }
 
@@ -36,7 +27,6 @@ pub extern "C" fn dehokuna_note(
 /// where there is one (FUSE, release).
 #[unsafe(no_mangle)]
 pub extern "C" fn dehokuna_release(
-    alloc: Global,
     handle: &mut Handle,
     file: u64,
     open_file: u64,
@@ -49,8 +39,6 @@ pub extern "C" fn dehokuna_release(
     ensures policy { BothHave handle.old.server handle.new.server (λ server next. policy_of next ≡ policy_of server) }
     ensures forgets { Seen handle.old handle.new (λ old new. ForgetsThrough old new file open_file) }
 {
-    let mut server = handle.take(alloc);
     let flock_owner = numbers::given(has_flock_owner, flock_owner);
-    server.release(file, open_file, flock_owner);
-    handle.put(server);
+    handle.server().release(file, open_file, flock_owner);
 }

@@ -16,6 +16,8 @@ pub const DEADLOCK: u32 = 3;
 pub const TICKET_TAKEN: u32 = 4;
 /// A growth was refused, `ENOLCK`.
 pub const NO_MEMORY: u32 = 5;
+/// The range has no bytes or begins behind a file, or the mode is none that can be asked for, `EINVAL`.
+pub const INVALID: u32 = 6;
 
 /// The status of a request that doesn't wait.
 pub(crate) fn status(answer: Result<Answer, Memory>) -> u32

@@ -1,25 +1,36 @@
 //! The byte locks of one file.
 ghost use Rattle.std.specs.Prelude.{◌≡◌, ◌+◌, ◌<◌, ℕ, None, IfOk, IfSome, IfNone, IsOk, IsTrue, OnOk, OnErr};
 ghost use Rattle.range_core.specs.Ranges.{IsByteRange, SplitsRun};
-ghost use Rattle.lock_book.specs.Conflicts.{ByteConflict, IsFirstBlocker};
 ghost use Rattle.lock_server.specs.Files.{SameFile, SetsBytes, Unlocks};
 ghost use Rattle.lock_server.specs.FileView.{file_state};
+ghost use Rattle.lock_server.specs.Locks.{IsFirstLock, IsInTheWay};
 ghost use Rattle.lock_server.specs.Pendings.{is_byte_wait};
 ghost use Rattle.lock_server.specs.Room.{byte_waits};
 
 use super::LockFile;
-use crate::{Blocker, Family, Memory, Mode, Owner, Pending, Span};
+use crate::{Family, Lock, Memory, Mode, Pending, Span};
+use lock_book::Owner;
 
 #[tactic(auto, unfolding(crate::specs::FileView::file_state))]
 impl LockFile {
     /// The first lock of another owner that is in the way (POSIX.1-2017 fcntl, `F_GETLK`).
-    pub fn blocker(&self, owner: u64, span: Span, mode: Mode) -> Option<Blocker>
+    pub fn blocker(&self, owner: u64, span: Span, mode: Mode) -> Option<Lock>
         requires { IsByteRange span }
-        ensures some { IfSome result (IsFirstBlocker (file_state self.now).bytes (Owner.Description owner) span mode) }
-        ensures none { IfNone result (¬ ByteConflict (file_state self.now).bytes (Owner.Description owner) span mode) }
+        ensures some { IfSome result (IsFirstLock (file_state self.now) owner span mode) }
+        ensures none { IfNone result (¬ IsInTheWay (file_state self.now) owner span mode) }
     {
-        self.book
-            .first_blocker(Owner::Description(owner), span, mode)
+        let found = self
+            .book
+            .first_blocker(Owner::Description(owner), span, mode)?;
+        // No process has a lock here.
+        let Owner::Description(holder) = found.owner else {
+            return None;
+        };
+        Some(Lock {
+            owner: holder,
+            mode: found.mode,
+            span: found.span,
+        })
     }
 
     /// Sets the mode on just the bytes of the span, or removes it where there is none. No conflict is looked for, and no wait
@@ -29,7 +40,7 @@ impl LockFile {
     pub fn set(&mut self, owner: u64, span: Span, mode: Option<Mode>) -> Result<(), Memory>
         requires { IsByteRange span }
         ensures ok { OnOk result (SetsBytes (file_state self.old) owner span mode (file_state self.new)) }
-        ensures unlock { mode ≡ None → (¬ SplitsRun ((file_state self.old).bytes (Owner.Description owner)) span) → IsOk result }
+        ensures unlock { mode ≡ None → (¬ SplitsRun ((file_state self.old).bytes owner) span) → IsOk result }
         ensures waits { (file_state self.new).waits ≡ (file_state self.old).waits }
         ensures err { OnErr result (SameFile (file_state self.old) (file_state self.new)) }
     {

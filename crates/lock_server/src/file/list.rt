@@ -1,7 +1,6 @@
 //! The waits on one file.
-ghost use Rattle.std.specs.Prelude.{◌≡◌, ◌≢◌, ◌==◌, ◌<◌, ◌≤◌, ◌+◌, ◌↔◌, ℕ, List, [], Some, All, Any, IfOk, IfSome, IfNone, IsTrue, OnOk, OnErr, length, take, position, slice_get, vec_len, vec_capacity};
+ghost use Rattle.std.specs.Prelude.{◌≡◌, ◌≢◌, ◌==◌, ◌<◌, ◌≤◌, ◌+◌, ◌↔◌, ℕ, List, [], Some, All, Any, IfSome, IfNone, IsTrue, OnOk, OnErr, length, take, position, slice_get, vec_len, vec_capacity};
 ghost use Rattle.range_core.specs.Ranges.{IsByteRange};
-ghost use Rattle.lock_book.specs.Reports.{IsFileReport};
 ghost use Rattle.lock_server.specs.Calls.{is_other_wait};
 ghost use Rattle.lock_server.specs.Files.{GetsLock, Joins, Leaves, SameFile, SameLocks, FileState};
 ghost use Rattle.lock_server.specs.FileView.{file_state};
@@ -11,8 +10,8 @@ ghost use Rattle.lock_server.specs.Waiting.{IsReadyAt, IsReserved, IsReservedIn,
 
 use super::LockFile;
 use super::bytes::is_for_bytes;
-use crate::{Family, Memory, Owner, Pending, Policy};
-use lock_book::Held;
+use crate::{Family, Memory, Pending, Policy};
+use lock_book::Owner;
 
 #[tactic(auto, unfolding(crate::specs::FileView::file_state))]
 impl LockFile {
@@ -21,13 +20,6 @@ impl LockFile {
         ensures { result.now ≡ (file_state self.now).waits }
     {
         &self.waits
-    }
-
-    /// The locks, as the report of a file has them; the file's number in it is 0.
-    pub fn held(&self) -> Result<Vec<Held>, Memory>
-        ensures { IfOk result (λ report. IsFileReport 0 (file_state self.now).bytes (file_state self.now).flocks report.items) }
-    {
-        self.book.held(0)
     }
 
     /// Whether a lock of another owner is in the way of the wait (POSIX.1-2017 fcntl, `F_SETLK`; flock(2)).

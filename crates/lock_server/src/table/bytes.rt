@@ -1,24 +1,24 @@
 //! Byte locks that are asked for without waiting.
 ghost use Rattle.std.specs.Prelude.{◌≡◌, ◌↔◌, ◌<◌, ℕ, None, All, IsFalse, IsOk, IsTrue, IfSome, IfNone, OnOk, OnErr, MatchOption};
 ghost use Rattle.range_core.specs.Ranges.{IsByteRange, SplitsRun};
-ghost use Rattle.lock_book.specs.Conflicts.{ByteConflict, IsFirstBlocker};
 ghost use Rattle.lock_server.specs.Calls.{DismissesOn, Forgets, ForgetsOn, is_other_wait, ReleasesOn, SetsOn};
 ghost use Rattle.lock_server.specs.Files.{SameFile, untouched};
+ghost use Rattle.lock_server.specs.Locks.{IsFirstLock, IsInTheWay};
 ghost use Rattle.lock_server.specs.Settling.{IsHeldBack};
 ghost use Rattle.lock_server.specs.States.{SameState};
 ghost use Rattle.lock_server.specs.TableView.{AreSwept, HasEntry, IsSwept, KeepsOthers, table_state, table_policy};
 
 use super::Table;
-use crate::{Blocker, Family, Memory, Mode, Owner, Pending, Span};
+use crate::{Family, Lock, Memory, Mode, Pending, Span};
 use std::ops::Bound;
 
 #[tactic(auto, unfolding(crate::specs::TableView::table_state, crate::specs::TableView::table_policy, crate::specs::TableView::entry_of))]
 impl Table {
     /// The first lock of another owner that is in the way (POSIX.1-2017 fcntl, `F_GETLK`).
-    pub fn blocker(&self, file: u64, owner: u64, span: Span, mode: Mode) -> Option<Blocker>
+    pub fn blocker(&self, file: u64, owner: u64, span: Span, mode: Mode) -> Option<Lock>
         requires { IsByteRange span }
-        ensures some { IfSome result (IsFirstBlocker ((table_state self.now).files file).bytes (Owner.Description owner) span mode) }
-        ensures none { IfNone result (¬ ByteConflict ((table_state self.now).files file).bytes (Owner.Description owner) span mode) }
+        ensures some { IfSome result (IsFirstLock ((table_state self.now).files file) owner span mode) }
+        ensures none { IfNone result (¬ IsInTheWay ((table_state self.now).files file) owner span mode) }
     {
         self.files.get(&file)?.blocker(owner, span, mode)
     }
@@ -35,7 +35,7 @@ impl Table {
     ) -> Result<(), Memory>
         requires { IsByteRange span }
         ensures ok { OnOk result (SetsOn (table_state self.old) file Family.Bytes owner span mode (table_state self.new)) }
-        ensures unlock { mode ≡ None → (¬ SplitsRun (((table_state self.old).files file).bytes (Owner.Description owner)) span) → IsOk result }
+        ensures unlock { mode ≡ None → (¬ SplitsRun (((table_state self.old).files file).bytes owner) span) → IsOk result }
         ensures err { OnErr result (SameState (table_state self.old) (table_state self.new)) }
         ensures policy { table_policy self.new ≡ table_policy self.old }
         ensures swept { OnErr result (IsSwept self.old file → IsSwept self.new file) }
@@ -66,7 +66,7 @@ impl Table {
         requires range { IsByteRange span }
         requires entry { HasEntry self.old file }
         ensures ok { OnOk result (SetsOn (table_state self.old) file Family.Bytes owner span mode (table_state self.new)) }
-        ensures unlock { mode ≡ None → (¬ SplitsRun (((table_state self.old).files file).bytes (Owner.Description owner)) span) → IsOk result }
+        ensures unlock { mode ≡ None → (¬ SplitsRun (((table_state self.old).files file).bytes owner) span) → IsOk result }
         ensures err { OnErr result (SameState (table_state self.old) (table_state self.new)) }
         ensures policy { table_policy self.new ≡ table_policy self.old }
         ensures others { KeepsOthers self.old self.new file }

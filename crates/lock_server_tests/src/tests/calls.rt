@@ -1,7 +1,7 @@
 //! The calls of a server as data, and what the server tells of each.
 ghost use Rattle.range_core.specs.Ranges.{IsByteRange};
 
-use lock_server::{Answer, LockServer, Memory, Mode, Owner, Span, WaitAnswer, WaitFault};
+use lock_server::{Answer, LockServer, Memory, Mode, Span, WaitAnswer, WaitFault};
 use range_core::OFFMAX;
 use std::process::Abort;
 
@@ -118,12 +118,7 @@ fn in_the_way(server: &LockServer, file: u64, owner: u64, bytes: Bytes, mode: Mo
     let Some(lock) = server.get(file, owner, range(bytes), mode) else {
         return Told::Nothing;
     };
-    match lock.owner {
-        Owner::Description(owner) => {
-            Told::Lock(owner, lock.mode, (lock.span.first, lock.span.last))
-        }
-        Owner::Process(_) => Told::Blocked,
-    }
+    Told::Lock(lock.owner, lock.mode, (lock.span.first, lock.span.last))
 }
 
 /// The same of a call that tells nothing else than that it is done.

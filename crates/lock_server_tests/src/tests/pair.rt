@@ -2,8 +2,9 @@
 //! traditional lock is its process', an OFD lock and a flock lock its description's.
 use super::calls::{Bytes, Call, Told, serve};
 use fd_table::{Access, Limits};
+use lock_book::Owner;
 use lock_manager::{Errno, Manager, Note, Reply, Request, Rules};
-use lock_server::{LockServer, Owner, Policy};
+use lock_server::{LockServer, Policy};
 use range_core::OFFMAX;
 use std::alloc::Global;
 use std::process::Abort;

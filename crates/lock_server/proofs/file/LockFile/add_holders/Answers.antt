@@ -1,9 +1,13 @@
-use Rattle.std.proofs.Common.{ℕ, ◌∙◌, sym}
+use Rattle.std.proofs.Common.{ℕ, ◌∙◌, sym, subst}
 use Rattle.std.proofs.lemmas.Option.{none-some, same_Some, slice_get-get_or}
 use Rattle.lock_book.specs.declared.Held.{Held}
+use Rattle.lock_book.specs.Books.{byte_modes_of, flock_modes_of}
+use Rattle.lock_book.specs.Conflicts.{ByteModes}
+use Rattle.lock_book.specs.Reports.{IsFileReport}
 use Rattle.lock_server.specs.Blockers.{HeldBlocks}
 use Rattle.lock_server.specs.FileView.{file_state}
 use Rattle.lock_server.proofs.BlockerLemmas.{all_lines}
+use Rattle.lock_server.proofs.NumberLemmas.{by_owner-by_number}
 use Rattle.lock_server.proofs.GatheredOwnerLemmas.{AddsOwners-push, gathered_more, gathered_skip}
 use Rattle.lock_server.proofs.file.LockFile.add_holders.Goals as goal
 use Rattle.lock_server.proofs.file.LockFile.add_holders.Goals.{in-Some+in_ok-push, in_default}
@@ -31,5 +35,7 @@ pub returns : goal.returns
 unfolding file_state
 returns c =
     all_lines (file_state c.args.self.now) c.deref-held-items.result.now c.args.wait.now c.requires
-    (rw c.deref-held-items.ensures.value c.in_ok-held.ensures.report) c.args.owners.now.items c.loop-held.owners.items c.loop-held.held-index c.loop-held-test.false
+    (subst (λ (modes : ByteModes). IsFileReport 0 modes (flock_modes_of c.args.self.now.book) c.deref-held-items.result.now)
+    (sym (by_owner-by_number (byte_modes_of c.args.self.now.book) c.args.self.now.numbers)) (rw c.deref-held-items.ensures.value c.in_ok-held.ensures.report))
+    c.args.owners.now.items c.loop-held.owners.items c.loop-held.held-index c.loop-held-test.false
     c.loop-held.invariant

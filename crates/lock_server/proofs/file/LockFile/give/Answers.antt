@@ -1,5 +1,6 @@
 use Rattle.std.proofs.lemmas.Grind.{common_steps}
 use Rattle.std.proofs.Common.{arith}
+use Rattle.lock_book.specs.declared.Owner.TheVariants.{Description}
 use Rattle.lock_server.specs.FileView.{file_state, keeps_place}
 use Rattle.lock_server.proofs.GrantLemmas.{room_for_one, place_for_one}
 use Rattle.lock_server.proofs.RoomLemmas.{HasRoom-granted, HasRoom-kept, KeepsRoom-sets}
@@ -14,12 +15,15 @@ flock_set_reserved-requires c = λ some. place_for_one c.args.self.now c.args.wa
 
 pub returns-in-Bytes-clause-gets : goal.returns-in-Bytes-clause-gets
 unfolding file_state
-returns-in-Bytes-clause-gets c = rw c.in-Bytes.is (record { bytes = c.set_reserved.ensures.sets.bytes; flocks = c.set_reserved.ensures.sets.flocks })
+returns-in-Bytes-clause-gets c = rw c.in-Bytes.is (record {
+  bytes = λ other byte. c.set_reserved.ensures.sets.bytes (Description other) byte;
+  flocks = c.set_reserved.ensures.sets.flocks;
+})
 
 pub returns-in-Whole-clause-gets : goal.returns-in-Whole-clause-gets
 unfolding file_state
 returns-in-Whole-clause-gets c = rw c.in-Whole.is (record {
-  bytes = c.flock_set_reserved.ensures.sets.bytes;
+  bytes = λ other byte. c.flock_set_reserved.ensures.sets.bytes (Description other) byte;
   flocks =
       c.flock_set_reserved.ensures.sets.flocks;
 })
