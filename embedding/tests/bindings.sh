@@ -87,9 +87,9 @@ rust_static() {
 
 # Whether each function of the header stands in its manual page and in both bindings.
 each_is_bound() {
-    for name in $(sed -n 's/^[a-z].*[ *]dehokuna_\([a-z_]*\)(.*/\1/p' "$installed/include/dehokuna.h"); do
-        for place in "../docs/dehokuna.3 dehokuna_$name" "python/dehokuna/_library.py \"$name\"" "rust/dehokuna-sys/src/lib.rs dehokuna_$name" "rust/dehokuna/src/lib.rs dehokuna_$name"; do
-            grep -qw -- "${place#* }" "${place%% *}" || { echo "${place%% *} lacks dehokuna_$name"; return 1; }
+    for called in $(sed -n 's/^[a-z].*[ *]dehokuna_\([a-z_]*\)(.*/\1/p' "$installed/include/dehokuna.h"); do
+        for place in "../docs/dehokuna.3 dehokuna_$called" "python/dehokuna/_library.py \"$called\"" "rust/dehokuna-sys/src/lib.rs dehokuna_$called" "rust/dehokuna/src/lib.rs dehokuna_$called"; do
+            grep -qw -- "${place#* }" "${place%% *}" || { echo "${place%% *} lacks dehokuna_$called"; return 1; }
         done
     done
 }
