@@ -1,18 +1,27 @@
 # `make run` replays a sample script, `make run FILE=path` another one, `make run FILE=` standard input, and `make test` is the gate.
 FILE ?= crates/lockreplay/stdin
 PROGRAM := crates/lockreplay/out/lockreplay
+VERSION := $(shell sed -n 's/^.. \([0-9.]*\)$$/\1/p' CHANGELOG.md | head -n 1)
 
-.PHONY: run test build format memory threads edits conformance conformance-tests docs install library install-library calls embed bench lockfs fuse-test
+.PHONY: run try test build released format memory threads edits conformance conformance-tests docs install library install-library calls embed bench \
+    lockfs fuse-test dist deb install-files
 
-run: build
+run: released build
 	@$(PROGRAM) $(if $(FILE),'$(FILE)')
 
-# Proves and builds the program where it has changed; what the toolchain says goes to a file, so that `make run` prints the
-# program's output alone.
+# The same by the program unproved, a minute or two after an edit.
+try:
+	@tools/try $(if $(FILE),'$(FILE)')
+
+# Proves and builds the program where it has changed. How far that is goes to standard error, so that `make run` prints the program's
+# output alone on standard output.
 build:
-	@mkdir -p crates/lockreplay/out
-	@(cd crates/lockreplay && rt run) < /dev/null > crates/lockreplay/out/build.log 2>&1 \
-	    || { cat crates/lockreplay/out/build.log >&2; exit 1; }
+	@tools/build lockreplay
+
+# Says where a released program of this version is at hand, which runs without the build.
+released:
+	@at=$$(command -v lockreplay) && [ "$$at" != '$(abspath $(PROGRAM))' ] && [ "$$("$$at" --version 2>&1)" = 'lockreplay $(VERSION)' ] \
+	    && echo "$$at is a released lockreplay of this version, $(VERSION), and needs no build" >&2 || true
 
 # The gate, and then the command lines, single lines, devices that fail, growths and threads that are refused, the worked scripts (also in
 # threads, in whatever order comes), the large scripts and the samples on the program as two compilers built it in the gate, what the README, the help and the manual page show, the
@@ -21,7 +30,7 @@ build:
 # those that a busy machine can upset.
 WORKED := $(basename $(wildcard tests/worked-scripts/*.out)) $(wildcard tests/threads/*)
 test:
-	rt ci
+	tools/gate-line rt ci
 	sh tests/command-line.sh $(PROGRAM)
 	sh tests/command-line.sh $(PROGRAM).by-rattle
 	sh tests/lines.sh $(PROGRAM)
@@ -39,12 +48,14 @@ test:
 	sh tests/samples.sh $(PROGRAM).by-rattle
 	sh tests/readme.sh $(PROGRAM)
 	sh tests/signposts.sh
+	sh tests/versions.sh
 	sh tests/worked-rows.sh | cmp - crates/script_core_tests/src/tests/worked.rt
 	tests/memory-is-passed-on
 	sh tests/bad-edits.sh
 	tests/edit-reasons --compile
 	$(MAKE) --no-print-directory calls
 	cd conformance && LOCKREPLAY=$(abspath $(PROGRAM)) python3 -m unittest tests.test_corpus tests.test_judging tests.test_lies tests.test_trace
+	tools/gate-line --passed
 
 # Lays each crate out as the gate wants it.
 format:
@@ -91,33 +102,43 @@ conformance: build
 conformance-tests:
 	cd conformance && LOCKREPLAY=$(abspath $(PROGRAM)) python3 -m unittest discover -t . -s tests
 
-# Checks the manual page; wants mandoc.
+# Checks the manual pages; wants mandoc.
 docs:
-	mandoc -T lint -W warning docs/lockreplay.1
+	mandoc -T lint -W warning docs/*.[13]
 
-# Puts the program and its manual page in place, and the library for C, below PREFIX.
-PREFIX ?= /usr/local
-install: build install-library
-	install -d '$(DESTDIR)$(PREFIX)/bin' '$(DESTDIR)$(PREFIX)/share/man/man1'
-	install -m 755 $(PROGRAM) '$(DESTDIR)$(PREFIX)/bin/lockreplay'
-	install -m 644 docs/lockreplay.1 '$(DESTDIR)$(PREFIX)/share/man/man1/lockreplay.1'
-
-# The library for C: the static library, proved and built where it has changed, and in the same archive the toolchain's three C functions
-# that it allocates by.
+# The library for C, as an archive and as a shared library, proved and built where it has changed: tools/link-library says how.
 LIBRARY := embedding/out/libdehokuna.a
+PROVED := crates/lock_server_c/out/liblock_server_c.a
 library:
+	@tools/build lock_server_c
+	@$(MAKE) -s $(LIBRARY)
+$(LIBRARY): $(wildcard $(PROVED)) embedding/dehokuna.h tools/link-library
 	@mkdir -p embedding/out
-	@(cd crates/lock_server_c && rt lib) < /dev/null > embedding/out/build.log 2>&1 || { cat embedding/out/build.log >&2; exit 1; }
-	@printf 'create %s\naddlib %s\naddlib %s\nsave\nend\n' $(LIBRARY) crates/lock_server_c/out/liblock_server_c.a \
-	    "$$(dirname "$$(rt doc)")/c/liblibc_c.a" | ar -M
+	@tools/link-library $(PROVED) embedding/out
 
-# Puts the library, its header and its pkg-config file in place, below PREFIX.
-VERSION = $(shell sed -n 's/^## //p' CHANGELOG.md | head -n 1)
+# Puts what is released in place below PREFIX: programs, conformance tools, the library, manual pages, completion. What has changed is built
+# before, so as root it wants no toolchain where `make install-files` was made. lockfs goes along where libfuse3 is there.
+PREFIX ?= /usr/local
+install: install-files
+	@tools/stage '$(DESTDIR)$(PREFIX)' '$(PREFIX)' lib programs library development licences
+
+install-files: build library
+	@if pkg-config --exists fuse3; then $(MAKE) -s $(LOCKFS); \
+	else rm -f $(LOCKFS); echo 'install: without lockfs: libfuse3 is not there (package libfuse3-dev)' >&2; fi
+
+# The library alone.
 install-library: library
-	install -d '$(DESTDIR)$(PREFIX)/lib/pkgconfig' '$(DESTDIR)$(PREFIX)/include'
-	install -m 644 $(LIBRARY) '$(DESTDIR)$(PREFIX)/lib/libdehokuna.a'
-	install -m 644 embedding/dehokuna.h '$(DESTDIR)$(PREFIX)/include/dehokuna.h'
-	sed 's,@PREFIX@,$(PREFIX),; s,@VERSION@,$(VERSION),' embedding/dehokuna.pc.in > '$(DESTDIR)$(PREFIX)/lib/pkgconfig/dehokuna.pc'
+	@tools/stage '$(DESTDIR)$(PREFIX)' '$(PREFIX)' lib library development
+
+# A release: dist/dehokuna-VERSION-x86_64-linux.tar.xz, and the wheel for Python, the same bytes each time. It doesn't run the gate, but says
+# what the gate left.
+dist: build lockfs
+	@tools/dist
+	@tools/wheel
+
+# The same files as Debian packages, in dist/.
+deb: build lockfs
+	@tools/deb
 
 # Calls the library from C as a plain build does, also in threads, for the gate; skips where no C compiler is there.
 calls:
@@ -125,10 +146,12 @@ calls:
 	then $(MAKE) --no-print-directory library && CC='$(CC)' sh embedding/tests/plain.sh '$(abspath $(LIBRARY))' '$(abspath embedding/out)'; \
 	else echo 'calls: SKIPPED: no C compiler is there, or no ar, so the library was not called from C'; fi
 
-# Calls the library from C and from Rust; wants a C compiler with its sanitizers, and valgrind, pkg-config, C++ and rustc where they are.
+# Calls the library from C, Python and Rust; wants a C compiler with its sanitizers, and valgrind, pkg-config, C++, rustc, cargo, Python 3 and
+# its venv where they are.
 embed: library
 	@$(MAKE) --no-print-directory install-library DESTDIR= PREFIX='$(abspath embedding/out/installed)' > embedding/out/install.log
 	sh embedding/tests/embed.sh '$(abspath $(LIBRARY))' '$(abspath embedding/out)' '$(abspath embedding/out/installed)'
+	sh embedding/tests/bindings.sh embedding/out embedding/out/installed
 
 # What the library's calls cost at growing sizes, as docs/PERFORMANCE.md has it; wants a C compiler.
 bench: library
@@ -138,7 +161,10 @@ bench: library
 # The file system that has its locks answered by the library; wants libfuse3.
 LOCKFS := embedding/out/lockfs
 lockfs: library
-	$(CC) -std=gnu11 -O2 -g -Wall -Wextra -Wshadow -Iembedding embedding/lockfs/lockfs.c $(LIBRARY) $$(pkg-config --cflags --libs fuse3) -o $(LOCKFS)
+	@$(MAKE) -s $(LOCKFS)
+$(LOCKFS): embedding/lockfs/lockfs.c $(LIBRARY)
+	$(CC) -std=gnu11 -O2 -g -ffile-prefix-map='$(CURDIR)=.' -Wall -Wextra -Wshadow -Iembedding embedding/lockfs/lockfs.c $(LIBRARY) \
+	    $$(pkg-config --cflags --libs fuse3) -o $(LOCKFS)
 
 # Programs and the corpus on a mount of it, beside a tmpfs, and what takes no corpus again under valgrind. Skips where there is no FUSE.
 fuse-test:

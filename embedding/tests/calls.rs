@@ -26,7 +26,7 @@ const BLOCKED: u32 = 1;
 const WAITS: u32 = 2;
 const INVALID: u32 = 6;
 
-unsafe extern "C" {
+extern "C" {
     fn dehokuna_create(server: &mut Server, policy: u32) -> bool;
     fn dehokuna_destroy(server: &mut Server);
     fn dehokuna_get(server: &Server, file: u64, owner: u64, first: u64, last: u64, mode: u32, blocker: &mut Blocker) -> u32;

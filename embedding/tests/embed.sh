@@ -40,9 +40,9 @@ sanitized() {
 }
 
 as_installed() {
-    words=$(PKG_CONFIG_PATH=$installed/lib/pkgconfig pkg-config --cflags --libs dehokuna) || return 1
+    words=$(PKG_CONFIG_PATH=$installed/lib/pkgconfig pkg-config --cflags --libs-only-L dehokuna) || return 1
     # shellcheck disable=SC2086
-    ${CC:-cc} $flags calls.c $words $wraps -o "$built/calls-installed" && timeout 60 "$built/calls-installed"
+    ${CC:-cc} $flags calls.c $words -l:libdehokuna.a $wraps -o "$built/calls-installed" && timeout 60 "$built/calls-installed"
 }
 
 # Whether what the document shows of the threaded program is what it has.
@@ -56,7 +56,7 @@ as_cxx() {
 }
 
 from_rust() {
-    rustc --edition 2024 -O -D warnings -L "$(dirname "$library")" -l static=dehokuna calls.rs -o "$built/calls-rust" && timeout 60 "$built/calls-rust"
+    rustc --edition 2021 -O -D warnings -L "$(dirname "$library")" -l static=dehokuna calls.rs -o "$built/calls-rust" && timeout 60 "$built/calls-rust"
 }
 
 mkdir -p "$built"

@@ -1,0 +1,192 @@
+"""The binding on its library. What is right is told by fcntl(2), fcntl_locking(2) and flock(2)."""
+
+import doctest
+import errno
+import threading
+import unittest
+
+import dehokuna
+from dehokuna import TO_THE_END, Blocked, Blocker, Deadlock, Invalid, LockServer, Mode, Policy, TicketTaken
+
+FILE, OTHER = 7, 2**64 - 1
+ANN, BOB, CAT = 1, 2**63 + 2, 3
+
+
+class ServerTest(unittest.TestCase):
+    def setUp(self):
+        self.server = LockServer()
+        self.addCleanup(self.server.close)
+
+    def granted(self):
+        return list(self.server.grants())
+
+
+class ByteLocks(ServerTest):
+    def test_a_lock_blocks_and_is_told(self):
+        self.server.set(FILE, ANN, 10, 19, Mode.READ)
+        self.server.set(FILE, BOB, 0, TO_THE_END, Mode.READ)
+        self.assertIsNone(self.server.get(FILE, CAT, mode=Mode.READ))
+        self.assertEqual(self.server.get(FILE, ANN), Blocker(BOB, 0, TO_THE_END, Mode.READ))
+        self.assertIsNone(self.server.get(OTHER, CAT))
+        with self.assertRaises(Blocked) as refused:
+            self.server.set(FILE, CAT, 15, 15)
+        self.assertEqual(refused.exception.errno, errno.EAGAIN)
+        self.assertIsInstance(refused.exception, BlockingIOError)
+
+    def test_an_unlock_splits(self):
+        self.server.set(FILE, ANN, 0, 9)
+        self.server.set(FILE, ANN, 4, 5, Mode.UNLOCK)
+        blockers = list(self.server.blockers(FILE, BOB))
+        self.assertEqual(blockers, [Blocker(ANN, 0, 3, Mode.WRITE), Blocker(ANN, 6, 9, Mode.WRITE)])
+        self.assertEqual(list(self.server.blockers(FILE, BOB, 4, 5)), [])
+        self.server.set(FILE, BOB, 4, 5)
+
+    def test_blockers_end_at_the_end_of_the_file(self):
+        self.server.set(FILE, ANN, 5)
+        self.assertEqual(list(self.server.blockers(FILE, BOB, 0, 2**64 - 1)), [Blocker(ANN, 5, TO_THE_END, Mode.WRITE)])
+
+    def test_a_wait_is_granted_and_told_once(self):
+        self.server.set(FILE, ANN, 0, 9)
+        self.assertFalse(self.server.wait(70, FILE, BOB, 5, 5))
+        self.assertFalse(self.server.wait(71, FILE, CAT, 6, 6))
+        self.assertEqual(self.granted(), [])
+        with self.assertRaises(TicketTaken) as refused:
+            self.server.wait(70, FILE, CAT, 0, 0)
+        self.assertEqual(refused.exception.errno, errno.EEXIST)
+        self.server.flush(FILE, ANN)
+        self.assertEqual(self.granted(), [70, 71])
+        self.assertIsNone(self.server.next_grant())
+        self.assertTrue(self.server.wait(72, FILE, ANN, 0, 0))
+
+    def test_a_cancelled_wait_is_not_granted(self):
+        self.server.set(FILE, ANN)
+        self.server.wait(70, FILE, BOB)
+        self.assertTrue(self.server.cancel(70))
+        self.assertFalse(self.server.cancel(70))
+        self.server.forget(ANN)
+        self.assertEqual(self.granted(), [])
+
+    def test_a_cycle_is_a_deadlock(self):
+        self.server.set(FILE, ANN, 0, 0)
+        self.server.set(FILE, BOB, 1, 1)
+        self.assertFalse(self.server.wait(70, FILE, ANN, 1, 1))
+        with self.assertRaises(Deadlock) as refused:
+            self.server.wait(71, FILE, BOB, 0, 0)
+        self.assertEqual(refused.exception.errno, errno.EDEADLK)
+        self.assertFalse(self.server.wait(71, FILE, BOB, 0, 0, detect=False))
+
+    def test_the_last_close_takes_what_came_through_it(self):
+        self.server.note(FILE, ANN, 40)
+        self.server.set(FILE, ANN, 0, 9)
+        self.server.note(FILE, BOB, 41)
+        self.server.set(FILE, BOB, 10, 19)
+        self.server.flock(FILE, CAT)
+        self.server.release(FILE, 40, flock_owner=CAT)
+        self.assertEqual(list(self.server.blockers(FILE, 9)), [Blocker(BOB, 10, 19, Mode.WRITE)])
+        self.server.flock(FILE, ANN)
+        self.server.release(FILE, 41)
+        self.assertIsNone(self.server.get(FILE, 9))
+        with self.assertRaises(Blocked):
+            self.server.flock(FILE, BOB)
+
+    def test_the_queue_lets_nobody_past(self):
+        with LockServer(Policy.QUEUE) as server:
+            server.set(FILE, ANN, 0, 0, Mode.READ)
+            self.assertFalse(server.wait(70, FILE, BOB, 0, 0))
+            self.assertFalse(server.wait(71, FILE, CAT, 0, 0, Mode.READ))
+        self.server.set(FILE, ANN, 0, 0, Mode.READ)
+        self.assertFalse(self.server.wait(70, FILE, BOB, 0, 0))
+        self.assertTrue(self.server.wait(71, FILE, CAT, 0, 0, Mode.READ))
+
+
+class Flocks(ServerTest):
+    def test_a_conversion_that_is_blocked_loses_the_lock(self):
+        self.server.flock(FILE, ANN, Mode.READ)
+        self.server.flock(FILE, BOB, Mode.READ)
+        with self.assertRaises(Blocked):
+            self.server.flock(FILE, ANN)
+        self.server.flock(FILE, BOB)
+        self.assertFalse(self.server.flock_wait(70, FILE, ANN))
+        self.server.flock_release(FILE, BOB)
+        self.assertEqual(self.granted(), [70])
+
+    def test_byte_locks_are_apart(self):
+        self.server.flock(FILE, ANN)
+        self.server.set(FILE, BOB)
+        self.server.flock(FILE, ANN, Mode.UNLOCK)
+        self.assertTrue(self.server.flock_wait(70, FILE, BOB))
+
+
+class Words(ServerTest):
+    def test_what_is_no_range_or_mode_is_invalid(self):
+        self.server.set(FILE, ANN, 10, 20)
+        for wrong in (
+            lambda: self.server.set(FILE, ANN, 5, 4),
+            lambda: self.server.set(FILE, ANN, TO_THE_END + 1, TO_THE_END + 1, Mode.UNLOCK),
+            lambda: self.server.set(FILE, ANN, 0, 9, 3),
+            lambda: self.server.set(FILE, ANN, 0, 9, -1),
+            lambda: self.server.get(FILE, ANN, 1, 0),
+            lambda: self.server.get(FILE, ANN, mode=Mode.UNLOCK),
+            lambda: self.server.wait(70, FILE, ANN, 1, 0),
+            lambda: self.server.flock(FILE, ANN, 3),
+        ):
+            with self.assertRaises(Invalid) as refused:
+                wrong()
+            self.assertEqual(refused.exception.errno, errno.EINVAL)
+            self.assertIsInstance(refused.exception, ValueError)
+        self.assertEqual(list(self.server.blockers(FILE, BOB)), [Blocker(ANN, 10, 20, Mode.WRITE)])
+
+    def test_a_number_that_is_cut_off_elsewhere_is_refused(self):
+        for wrong in (-1, 2**64):
+            with self.assertRaises(OverflowError):
+                self.server.flush(wrong, ANN)
+        with self.assertRaises(TypeError):
+            self.server.flush("7", ANN)
+
+    def test_another_policy_is_refused(self):
+        with self.assertRaises(ValueError):
+            LockServer(9)
+
+    def test_a_closed_server_says_so(self):
+        self.server.close()
+        self.server.close()
+        with self.assertRaises(ValueError):
+            self.server.next_grant()
+
+
+class Threads(ServerTest):
+    def test_each_request_is_answered_once(self):
+        """Four threads lock one byte in turn; whoever fetches a grant wakes the thread that waits for it."""
+        threads, rounds, taken = 4, 500, []
+        woken = [threading.Semaphore(0) for _ in range(threads)]
+
+        def wake():
+            for ticket in self.server.grants():
+                woken[ticket].release()
+
+        def work(number):
+            for _ in range(rounds):
+                if not self.server.wait(number, FILE, number, 0, 0):
+                    wake()
+                    woken[number].acquire()
+                taken.append(number)
+                self.server.flush(FILE, number)
+                wake()
+
+        workers = [threading.Thread(target=work, args=(number,)) for number in range(threads)]
+        for worker in workers:
+            worker.start()
+        for worker in workers:
+            worker.join(60)
+        self.assertEqual(len(taken), threads * rounds)
+        self.assertEqual(self.granted(), [])
+        self.assertFalse(any(it.acquire(blocking=False) for it in woken))
+
+
+def load_tests(loader, tests, pattern):
+    tests.addTests(doctest.DocTestSuite(dehokuna))
+    return tests
+
+
+if __name__ == "__main__":
+    unittest.main()

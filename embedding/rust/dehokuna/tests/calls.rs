@@ -1,0 +1,139 @@
+//! Each call on its happy path, and each refusal but want of memory. What is right is told by fcntl(2), fcntl_locking(2) and flock(2).
+
+use dehokuna::{Blocker, Error, LockServer, Mode, Outcome, Policy, LARGEST_OFFSET};
+use std::io;
+
+const FILE: u64 = 7;
+const ANN: u64 = 1;
+const BOB: u64 = u64::MAX;
+const CAT: u64 = 3;
+
+fn server() -> LockServer {
+    LockServer::new(Policy::Held).expect("memory")
+}
+
+fn granted(server: &mut LockServer) -> Vec<u64> {
+    server.grants().collect()
+}
+
+#[test]
+fn a_lock_blocks_and_is_told() -> Result<(), Error> {
+    let mut server = server();
+    server.set(FILE, BOB, 10.., Mode::Read)?;
+    let blocker = Blocker { owner: BOB, first: 10, last: LARGEST_OFFSET, mode: Mode::Read };
+    assert_eq!(server.get(FILE, ANN, .., Mode::Write)?, Some(blocker));
+    assert_eq!(server.get(FILE, ANN, .., Mode::Read)?, None);
+    assert_eq!(server.get(FILE, BOB, .., Mode::Write)?, None);
+    assert_eq!(server.set(FILE, ANN, 10..=10, Mode::Write), Err(Error::Blocked));
+    server.unlock(FILE, BOB, 10..=10)?;
+    server.set(FILE, ANN, 10..=10, Mode::Write)
+}
+
+#[test]
+fn a_wait_is_granted_and_told_once() -> Result<(), Error> {
+    let mut server = server();
+    server.set(FILE, ANN, 0..10, Mode::Write)?;
+    assert_eq!(server.wait(70, FILE, BOB, 5..=5, Mode::Write, true)?, Outcome::Waits);
+    assert_eq!(server.wait(70, FILE, CAT, 0..1, Mode::Write, true), Err(Error::TicketTaken));
+    assert_eq!(server.wait(71, FILE, CAT, 6..=6, Mode::Write, true)?, Outcome::Waits);
+    assert!(server.cancel(71));
+    assert!(!server.cancel(71));
+    server.flush(FILE, ANN);
+    assert_eq!(granted(&mut server), [70]);
+    assert_eq!(server.next_grant(), None);
+    assert_eq!(server.wait(72, FILE, ANN, 0..1, Mode::Write, true)?, Outcome::Done);
+    server.forget(BOB);
+    server.set(FILE, CAT, 5..=5, Mode::Write)
+}
+
+#[test]
+fn a_cycle_is_a_deadlock() -> Result<(), Error> {
+    let mut server = server();
+    server.set(FILE, ANN, 0..1, Mode::Write)?;
+    server.set(FILE, BOB, 1..2, Mode::Write)?;
+    assert_eq!(server.wait(70, FILE, ANN, 1..2, Mode::Write, true)?, Outcome::Waits);
+    assert_eq!(server.wait(71, FILE, BOB, 0..1, Mode::Write, true), Err(Error::Deadlock));
+    assert_eq!(server.wait(71, FILE, BOB, 0..1, Mode::Write, false)?, Outcome::Waits);
+    Ok(())
+}
+
+#[test]
+fn a_conversion_that_is_blocked_loses_the_lock() -> Result<(), Error> {
+    let mut server = server();
+    server.flock(FILE, ANN, Mode::Read)?;
+    server.flock(FILE, BOB, Mode::Read)?;
+    assert_eq!(server.flock(FILE, ANN, Mode::Write), Err(Error::Blocked));
+    server.flock(FILE, BOB, Mode::Write)?;
+    assert_eq!(server.flock_wait(70, FILE, ANN, Mode::Write)?, Outcome::Waits);
+    server.flock_release(FILE, BOB);
+    assert_eq!(granted(&mut server), [70]);
+    Ok(())
+}
+
+#[test]
+fn the_last_close_takes_what_came_through_it() -> Result<(), Error> {
+    let mut server = server();
+    server.note(FILE, ANN, 40)?;
+    server.set(FILE, ANN, 0..10, Mode::Write)?;
+    server.note(FILE, BOB, 41)?;
+    server.set(FILE, BOB, 10..20, Mode::Write)?;
+    server.flock(FILE, CAT, Mode::Write)?;
+    server.release(FILE, 40, Some(CAT));
+    let blocker = Blocker { owner: BOB, first: 10, last: 19, mode: Mode::Write };
+    assert_eq!(server.get(FILE, CAT, .., Mode::Write)?, Some(blocker));
+    server.flock(FILE, ANN, Mode::Write)?;
+    server.release(FILE, 41, None);
+    assert_eq!(server.get(FILE, CAT, .., Mode::Write)?, None);
+    assert_eq!(server.flock(FILE, CAT, Mode::Read), Err(Error::Blocked));
+    Ok(())
+}
+
+#[test]
+fn the_queue_lets_nobody_past() -> Result<(), Error> {
+    for (policy, outcome) in [(Policy::Held, Outcome::Done), (Policy::Queue, Outcome::Waits)] {
+        let mut server = LockServer::new(policy)?;
+        server.set(FILE, ANN, 0..1, Mode::Read)?;
+        assert_eq!(server.wait(70, FILE, BOB, 0..1, Mode::Write, true)?, Outcome::Waits);
+        assert_eq!(server.wait(71, FILE, CAT, 0..1, Mode::Read, true)?, outcome);
+    }
+    Ok(())
+}
+
+#[test]
+fn what_is_no_range_is_invalid() {
+    let mut server = server();
+    assert_eq!(server.set(FILE, ANN, 5..5, Mode::Write), Err(Error::Invalid));
+    assert_eq!(server.unlock(FILE, ANN, 0..0), Err(Error::Invalid));
+    assert_eq!(server.get(FILE, ANN, LARGEST_OFFSET + 1.., Mode::Write), Err(Error::Invalid));
+    assert_eq!(server.set(FILE, ANN, 9..=u64::MAX, Mode::Write), Ok(()));
+    assert_eq!(server.get(FILE, BOB, .., Mode::Read).map(|told| told.map(|lock| lock.last)), Ok(Some(LARGEST_OFFSET)));
+}
+
+#[test]
+fn a_refusal_has_the_number_of_the_system() {
+    let would_block = io::Error::from(Error::Blocked);
+    assert_eq!(would_block.kind(), io::ErrorKind::WouldBlock);
+    assert_eq!(Error::NoMemory.errno(), 37);
+}
+
+#[test]
+fn a_server_may_be_moved() -> Result<(), Error> {
+    let mut servers = vec![server()];
+    servers[0].set(FILE, ANN, 0..1, Mode::Write)?;
+    servers.extend((0..64).map(|_| server()));
+    let moved = servers.swap_remove(0);
+    assert!(moved.get(FILE, BOB, .., Mode::Read)?.is_some());
+    Ok(())
+}
+
+#[test]
+fn readers_share_a_server() -> Result<(), Error> {
+    let mut server = server();
+    server.set(FILE, ANN, 0..1, Mode::Write)?;
+    std::thread::scope(|scope| {
+        for _ in 0..4 {
+            scope.spawn(|| (0..10_000).for_each(|_| assert!(matches!(server.get(FILE, BOB, .., Mode::Read), Ok(Some(_))))));
+        }
+    });
+    Ok(())
+}
