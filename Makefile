@@ -20,7 +20,7 @@ build:
 
 # Says where a released program of this version is at hand, which runs without the build.
 released:
-	@at=$$(command -v lockreplay) && [ "$$at" != '$(abspath $(PROGRAM))' ] && [ "$$("$$at" --version 2>&1)" = 'lockreplay $(VERSION)' ] \
+	@at=$$(command -v lockreplay) && [ "$$at" != '$(abspath $(PROGRAM))' ] && [ "$$("$$at" --version < /dev/null 2>&1)" = 'lockreplay $(VERSION)' ] \
 	    && echo "$$at is a released lockreplay of this version, $(VERSION), and needs no build" >&2 || true
 
 # The gate, and then the command lines, single lines, devices that fail, growths and threads that are refused, the worked scripts (also in
