@@ -171,4 +171,4 @@ fuse-test:
 	@if ! pkg-config --exists fuse3; then echo 'fuse-test: skipped: libfuse3 is not there (package libfuse3-dev)'; \
 	else $(MAKE) --no-print-directory build lockfs && LOCKREPLAY='$(abspath $(PROGRAM))' embedding/fuse-test $(LOCKFS) \
 	    && { ! command -v valgrind > /dev/null \
-	        || embedding/fuse-test -- valgrind -q --error-exitcode=9 --leak-check=full --show-leak-kinds=all $(LOCKFS); }; fi
+	        || TRANSACTIONS=40 embedding/fuse-test -- valgrind -q --error-exitcode=9 --leak-check=full --show-leak-kinds=all $(LOCKFS); }; fi
