@@ -13,8 +13,8 @@ from typing import Optional
 
 MEMORY = Path("/dev/shm")
 PATIENCE_SECONDS = 60.0
-# How long lockfs may outlive its unmount until it is looked whether others have the mount, and then until it is killed: under valgrind its
-# end is a search for leaks, which took 37 s on a busy machine.
+# How long lockfs may outlive its unmount until it is looked whether others have the mount, and then until it is killed: under valgrind, on a
+# busy machine, it was once seen to end 37 s behind.
 UNMOUNT_SECONDS = 10.0
 END_SECONDS = 240.0
 
