@@ -24,8 +24,8 @@ released:
 	    && echo "$$at is a released lockreplay of this version, $(VERSION), and needs no build" >&2 || true
 
 # The gate, and then the command lines, single lines, devices that fail, growths and threads that are refused, the worked scripts (also in
-# threads, in whatever order comes), the large scripts and the samples on the program as two compilers built it in the gate, what the README, the help and the manual page show, the
-# files and names that the documents point to, that the tests of script_core have these worked scripts, that want of memory is made at one
+# threads, in whatever order comes), the large scripts and the samples on the program as two compilers built it in the gate, what the README,
+# the help and the manual page show, the files and names that the documents point to, that the tests of script_core have these worked scripts, that want of memory is made at one
 # place, that each edit still compiles, what the library's calls tell C where a C compiler is there, and the conformance tools' tests but for
 # those that a busy machine can upset.
 WORKED := $(basename $(wildcard tests/worked-scripts/*.out)) $(wildcard tests/threads/*)
