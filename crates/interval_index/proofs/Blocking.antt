@@ -1,5 +1,5 @@
 -- Facts on runs that stand in the way.
-use Rattle.std.proofs.Common.{◌≡◌, ◌≢◌, ℕ, suc, ◌<◌, ◌≤◌, ◌⊎◌, inl, inr, Bool, true, false, not, cond, ◌&&◌, ◌||◌, eqb, leb, Option, Some, None, List, [], ◌∷◌, length, max, refl, sym, ap, ◌∙◌, arith}
+use Rattle.std.proofs.Common.{◌≡◌, ℕ, suc, ◌<◌, ◌≤◌, ◌⊎◌, inl, inr, Bool, true, false, not, cond, ◌&&◌, ◌||◌, leb, Option, Some, None, List, [], ◌∷◌, length, max, refl, sym, ap, ◌∙◌, arith}
 use Rattle.std.specs.List.{find, list_any, AllByRecursion, Any}
 use Rattle.std.specs.Option.{is_some}
 use Rattle.std.proofs.lemmas.Bool.Decides.{nat_tests}
@@ -13,7 +13,7 @@ use Rattle.interval_index.specs.declared.Run.{Run}
 use Rattle.interval_index.specs.Holders.{holder_of, is_same_holder}
 use Rattle.interval_index.proofs.HolderLemmas.{another_found, another_holds}
 use Rattle.interval_index.specs.Runs.{Blocks, IsBefore, AreOrdered}
-use Rattle.interval_index.specs.Tests.{beginning_by, conflicts_with, reaches_lock, blocks}
+use Rattle.interval_index.specs.Tests.{beginning_by, conflicts_with, blocks}
 
 later_out : (P : Type 0) (a c t : ℕ) → (a < c) ⊎ ((a ≡ c) × P) → leb a t ≡ false → leb c t ≡ false
 later_out P a c t (inl h) k = grind (arith, nat_tests)
@@ -50,13 +50,13 @@ regrouped p q r [] = refl
 regrouped p q r (x ∷ xs) = regrouped_at (p x) (q x) (r x) x (find (λ y. p y && (q y && r y)) xs) (find (λ y. (p y && q y) && r y) xs) (regrouped p q r xs)
 
 -- the tests tell what they say
-conflict_holds : (wanted held : Mode) → conflicts_with wanted held ≡ true → Conflict held wanted
+pub conflict_holds : (wanted held : Mode) → conflicts_with wanted held ≡ true → Conflict held wanted
 conflict_holds Read Read h = absurd (cc)
 conflict_holds Read Write h = tt
 conflict_holds Write Read h = tt
 conflict_holds Write Write h = tt
 
-conflict_found : (wanted held : Mode) → Conflict held wanted → conflicts_with wanted held ≡ true
+pub conflict_found : (wanted held : Mode) → Conflict held wanted → conflicts_with wanted held ≡ true
 conflict_found Read Read h = absurd h
 conflict_found Read Write h = refl
 conflict_found Write Read h = refl
@@ -69,13 +69,13 @@ pub record Parts (e : Bool) (a b s t : ℕ) (k : Bool) : Type 0 where
   pub before : a ≤ t
   pub behind : s ≤ b
 
-parts : (e : Bool) (a b s t : ℕ) (k : Bool) → ((k && (not e && leb s b)) && leb a t) ≡ true → Parts e a b s t k
+pub parts : (e : Bool) (a b s t : ℕ) (k : Bool) → ((k && (not e && leb s b)) && leb a t) ≡ true → Parts e a b s t k
 parts true a b s t true h = absurd (cc)
 parts true a b s t false h = absurd (cc)
 parts false a b s t false h = absurd (cc)
 parts false a b s t true h = record { mode = refl; another = refl; before = grind (arith, nat_tests); behind = grind (arith, nat_tests) }
 
-whole : (e : Bool) (a b s t : ℕ) (k : Bool) → Parts e a b s t k → ((k && (not e && leb s b)) && leb a t) ≡ true
+pub whole : (e : Bool) (a b s t : ℕ) (k : Bool) → Parts e a b s t k → ((k && (not e && leb s b)) && leb a t) ≡ true
 whole e a b s t k p = let m = p.mode in let n = p.another in let u = p.before in let v = p.behind in grind (arith, nat_tests)
 
 -- a byte in both of two ranges
@@ -94,10 +94,10 @@ blocks_found holder span wanted run b =
     let in_range = b.meets.2 in
     whole (is_same_holder holder (holder_of run)) run.span.first run.span.last span.first span.last (conflicts_with wanted run.mode) (record { mode = conflict_found wanted run.mode b.conflicts; another = another_found holder (holder_of run) b.another; before = omega arith; behind = omega arith })
 
-any_here : (P : Run → Type 0) (x : Run) (xs : List Run) → P x → Any P (x ∷ xs)
+pub any_here : (P : Run → Type 0) (x : Run) (xs : List Run) → P x → Any P (x ∷ xs)
 any_here P x xs p = (0, x, omega arith, refl, p)
 
-any_there : (P : Run → Type 0) (x : Run) (xs : List Run) → Any P xs → Any P (x ∷ xs)
+pub any_there : (P : Run → Type 0) (x : Run) (xs : List Run) → Any P xs → Any P (x ∷ xs)
 any_there P x xs a = let lt : a.0 < length xs = a.2 in (suc a.0, a.1, omega arith, a.3, a.4)
 
 any_at : (holder : Holder) (span : Span) (wanted : Mode) (x : Run) (xs : List Run) (b : Bool) → blocks holder span wanted x ≡ b → span.first ≤ span.last → x.span.first ≤ x.span.last → (is_some (find (blocks holder span wanted) xs) ≡ true → Any (Blocks holder span wanted) xs) → is_some (cond b (Some x) (find (blocks holder span wanted) xs)) ≡ true → Any (Blocks holder span wanted) (x ∷ xs)

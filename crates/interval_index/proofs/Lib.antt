@@ -1,4 +1,8 @@
 pub mod Blocking
+pub mod Crossing
 pub mod HolderLemmas
+pub mod InTheWay
+pub mod LeastJoins
+pub mod Leasts
 pub mod Order
 pub mod Standings

@@ -1,5 +1,5 @@
 -- The runs that block a lock, and the modes of bytes that do.
-use Rattle.std.proofs.Common.{◌≡◌, ℕ, Some, None, Option, List, sym, ◌∙◌, subst}
+use Rattle.std.proofs.Common.{◌≡◌, Some, None, Option, List, sym, ◌∙◌, subst}
 use Rattle.std.specs.List.{Any}
 use Rattle.range_core.specs.declared.Mode.{Mode}
 use Rattle.range_core.specs.declared.Span.{Span}
@@ -11,7 +11,7 @@ use Rattle.interval_index.specs.Runs.{Blocks}
 use Rattle.interval_index.specs.Standing.{HolderModes, Tells, AreRunsOf, HolderConflict}
 use Rattle.std.proofs.Common.{refl}
 
-any_like : (P Q : Run → Type 0) (runs : List Run) → ((run : Run) → P run → Q run) → Any P runs → Any Q runs
+pub any_like : (P Q : Run → Type 0) (runs : List Run) → ((run : Run) → P run → Q run) → Any P runs → Any Q runs
 any_like P Q runs f a = (a.0, a.1, a.2, a.3, f a.1 a.4)
 
 pub conflict_from_run : (modes : HolderModes) (holder : Holder) (span : Span) (wanted : Mode) (runs : List Run) → AreRunsOf modes runs → Any (Blocks holder span wanted) runs → HolderConflict modes holder span wanted

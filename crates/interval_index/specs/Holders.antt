@@ -1,5 +1,6 @@
 -- Owners of runs.
-use Rattle.std.specs.Prelude.{◌≡◌, ℕ, ◌<◌, ◌⊎◌, Bool, ◌&&◌, ◌==◌}
+use Rattle.std.specs.Prelude.{◌≡◌, ◌<◌, ◌⊎◌, Bool, false, ◌&&◌, ◌||◌, ◌==◌, nat_lt, Option, Some, None}
+use Rattle.std.specs.Bool.{nat_le}
 use Rattle.interval_index.specs.declared.Holder.{Holder}
 use Rattle.interval_index.specs.declared.Run.{Run}
 
@@ -14,3 +15,12 @@ is_same_holder holder other = holder.class == other.class && holder.number == ot
 -- owners by class, and then by number (this project's choice)
 abbrev pub IsBeforeHolder : Holder → Holder → Type 0
 IsBeforeHolder holder other = (holder.class < other.class) ⊎ ((holder.class ≡ other.class) × (holder.number < other.number))
+
+-- the owner comes no later than the other
+abbrev pub is_by : Holder → Holder → Bool
+is_by holder bound = nat_lt holder.class bound.class || (holder.class == bound.class && nat_le holder.number bound.number)
+
+-- there is an owner, and it comes no later than the other
+abbrev pub has_by : Option Holder → Holder → Bool
+has_by None bound = false
+has_by (Some holder) bound = is_by holder bound

@@ -1,5 +1,5 @@
 -- How far runs reach, by owner.
-use Rattle.std.specs.Prelude.{◌≡◌, ℕ, Bool, true, false, ◌&&◌, cond, Option, Some, None, List}
+use Rattle.std.specs.Prelude.{◌≡◌, ℕ, ◌≤◌, Bool, true, false, not, ◌&&◌, cond, Option, Some, None, List}
 use Rattle.std.specs.Bool.{nat_le}
 use Rattle.std.specs.List.{list_any, AllByRecursion}
 use Rattle.range_core.specs.declared.Mode.TheVariants.{Read, Write}
@@ -7,7 +7,8 @@ use Rattle.interval_index.specs.declared.Holder.{Holder}
 use Rattle.interval_index.specs.declared.Run.{Run}
 use Rattle.interval_index.specs.declared.reach.Reach.{Reach}
 use Rattle.interval_index.specs.declared.reach.Reaches.{Reaches}
-use Rattle.interval_index.specs.Holders.{is_same_holder}
+use Rattle.interval_index.specs.declared.least.Least.{Least}
+use Rattle.interval_index.specs.Holders.{holder_of, is_same_holder, is_by, has_by}
 use Rattle.interval_index.specs.Tests.{conflicts_with, is_others_from}
 
 -- there is a last byte, and it is this byte or behind it
@@ -24,7 +25,24 @@ pub record TellsOf (kept : Run → Bool) (reach : Reach) (runs : List Run) : Typ
   pub falls : (byte : ℕ) → is_reached reach.other byte ≡ true → is_reached reach.last byte ≡ true
   pub exact : (holder : Holder) (byte : ℕ) → reaches reach holder byte ≡ list_any (λ run. kept run && is_others_from holder byte run) runs
 
+-- the least owner that isn't this one
+abbrev pub other_than : Holder → Option Holder → Option Holder → Option Holder
+other_than holder None other = None
+other_than holder (Some least) other = cond (is_same_holder holder least) other (Some least)
+
+-- the run is another owner's, who comes no later than the bound
+abbrev pub is_others_by : Holder → Holder → Run → Bool
+is_others_by holder bound run = not (is_same_holder holder (holder_of run)) && is_by (holder_of run) bound
+
+-- no run ends before the least last byte; and of each owner and bound it is told whether one of the runs is another owner's
+-- who comes no later
+pub record TellsLeast (least : Least) (runs : List Run) : Type 0 where
+  pub last : AllByRecursion (λ run. least.last ≤ run.span.last) runs
+  pub falls : (bound : Holder) → has_by least.other bound ≡ true → has_by least.holder bound ≡ true
+  pub exact : (holder bound : Holder) → has_by (other_than holder least.holder least.other) bound ≡ list_any (is_others_by holder bound) runs
+
 -- the reaches tell of the runs that conflict with each mode
 pub record Tells (summary : Reaches) (runs : List Run) : Type 0 where
   pub all : TellsOf (λ run. conflicts_with Write run.mode) summary.all runs
   pub writes : TellsOf (λ run. conflicts_with Read run.mode) summary.writes runs
+  pub least : TellsLeast summary.least runs

@@ -6,7 +6,7 @@ ghost use Rattle.interval_index.specs.Runs.{Blocks};
 ghost use Rattle.interval_index.specs.Standing.{AreRunsOf, HolderConflict, HolderModes, IsFirstInTheWay};
 ghost use Rattle.interval_index.specs.Tests.{beginning_by, blocks, has_key, is_after, without, with_run};
 
-use crate::keys::{After, Key};
+use crate::keys::{After, Beyond, Key};
 use crate::queries::Reaching;
 use crate::reach::Reaches;
 use crate::{Holder, Run};
@@ -98,6 +98,35 @@ impl RunIndex {
         // The proof reads the order of the runs from the field.
         let _ = &self.runs;
         self.first(holder, span, wanted).is_some()
+    }
+
+    /// The least byte of the range that some run blocks, and of the owners of those that block there the least.
+    pub fn first_in_the_way(
+        &self,
+        holder: Holder,
+        span: Span,
+        wanted: Mode,
+    ) -> Option<(u64, Holder)>
+        requires { span.first ≤ span.last }
+        ensures first { (modes : HolderModes) → AreRunsOf modes self.now.runs → IfSome result (λ hit. IsFirstInTheWay modes holder span wanted hit.0 hit.1) }
+        ensures none { (modes : HolderModes) → AreRunsOf modes self.now.runs → IfNone result (¬ HolderConflict modes holder span wanted) }
+    {
+        // The proof reads the order of the runs from the field.
+        let _ = &self.runs;
+        let run = self.first(holder, span, wanted)?;
+        // None of the runs that begin before this one reaches it.
+        if span.first < run.span.first {
+            return Some((run.span.first, run.holder()));
+        }
+        let query = Reaching {
+            holder,
+            byte: span.first,
+            wanted,
+        };
+        let mut least: Option<Holder> = None;
+        self.runs
+            .walk_before(&Beyond(span.first), &query, &mut least);
+        Some((span.first, least?))
     }
 
     /// Holds room for so many more runs in all, counting the room already there.

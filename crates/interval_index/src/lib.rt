@@ -6,6 +6,7 @@ ghost use Rattle.interval_index.specs.Holders.{holder_of};
 
 mod index;
 mod keys;
+mod least;
 mod queries;
 mod reach;
 

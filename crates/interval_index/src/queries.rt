@@ -2,13 +2,15 @@
 ghost use Rattle.std.specs.Prelude.{◌≡◌, List};
 ghost use Rattle.std.specs.List.{list_any};
 ghost use Rattle.interval_index.specs.declared.Run.{Run};
+ghost use Rattle.interval_index.specs.Leasts.{IsLeastOf};
 ghost use Rattle.interval_index.specs.Reaching.{Tells};
 ghost use Rattle.interval_index.specs.Tests.{reaches_lock};
 
+use crate::least::{is_as_early, lesser};
 use crate::reach::Reaches;
 use crate::{Holder, Run};
 use range_core::Mode;
-use summary_tree::Query;
+use summary_tree::{Query, Walk};
 
 /// A run of another owner that ends at the byte or behind it, and whose mode conflicts.
 #[derive(Clone, Copy)]
@@ -34,5 +36,31 @@ impl Query<Run, Reaches> for Reaching {
         reaches
             .conflicting(self.wanted)
             .reaches(self.holder, self.byte)
+    }
+}
+
+impl Walk<Run, Reaches, Option<Holder>> for Reaching {
+    ghost gathers = { IsLeastOf };
+
+    fn see(&self, least: &mut Option<Holder>, run: &Run) {
+        if self.hits(run) {
+            *least = lesser(*least, Some(run.holder()));
+        }
+    }
+
+    // It passes by what has no lesser owner. Where readers conflict too, the least owner of runs that all reach the byte is it.
+    fn see_all(&self, least: &mut Option<Holder>, reaches: &Reaches) -> bool {
+        if !self.may_hit(reaches) {
+            return true;
+        }
+        let other = reaches.least.other_than(self.holder);
+        if is_as_early(*least, other) {
+            return true;
+        }
+        if self.wanted.conflicts_with(Mode::Read) && self.byte <= reaches.least.last() {
+            *least = other;
+            return true;
+        }
+        false
     }
 }

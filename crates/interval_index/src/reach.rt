@@ -4,6 +4,7 @@ ghost use Rattle.interval_index.specs.declared.Run.{Run};
 ghost use Rattle.interval_index.specs.Tests.{conflicts_with};
 ghost use Rattle.interval_index.specs.Reaching.{is_reached, reaches, TellsOf, Tells};
 
+use crate::least::Least;
 use crate::{Holder, Run};
 use range_core::Mode;
 use summary_tree::Summary;
@@ -16,11 +17,12 @@ pub(crate) struct Reach {
     other: Option<u64>,
 }
 
-/// How far all runs reach, and how far those do that exclude others.
+/// How far all runs reach, and how far those do that exclude others; and the least owners.
 #[derive(Clone, Copy)]
 pub struct Reaches {
     all: Reach,
     writes: Reach,
+    pub(crate) least: Least,
 }
 
 /// The later of two last bytes, if there is one.
@@ -133,6 +135,7 @@ impl Summary<Run> for Reaches {
         Reaches {
             all: Reach::nobody(),
             writes: Reach::nobody(),
+            least: Least::nobody(),
         }
     }
 
@@ -142,13 +145,18 @@ impl Summary<Run> for Reaches {
             Mode::Read => Reach::nobody(),
             Mode::Write => reach,
         };
-        Reaches { all: reach, writes }
+        Reaches {
+            all: reach,
+            writes,
+            least: Least::of(run),
+        }
     }
 
     fn join(self, more: Reaches) -> Reaches {
         Reaches {
             all: self.all.join(more.all),
             writes: self.writes.join(more.writes),
+            least: self.least.join(more.least),
         }
     }
 }

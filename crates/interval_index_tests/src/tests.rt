@@ -124,6 +124,28 @@ fn first_of(runs: &[Run], wanted: &Run) -> Option<Run> {
     first
 }
 
+/// The least byte of the wanted range that a run of the list blocks, and the least owner that blocks there.
+fn in_the_way(runs: &[Run], wanted: &Run) -> Option<(u64, Holder)> {
+    let mut least: Option<(u64, u8, u64)> = None;
+    for run in runs {
+        if blocks(run, wanted) {
+            let byte = run.span.first.max(wanted.span.first);
+            let place = (byte, run.class, run.number);
+            if least.is_none_or(|found| place < found) {
+                least = Some(place);
+            }
+        }
+    }
+    let (byte, class, number) = least?;
+    Some((byte, Holder { class, number }))
+}
+
+/// The same of the index.
+fn first_in_the_way(rt: &impl Abort, index: &RunIndex, wanted: &Run) -> Option<(u64, Holder)> {
+    assert!(rt; wanted.span.first <= wanted.span.last);
+    index.first_in_the_way(wanted.holder(), wanted.span, wanted.mode)
+}
+
 /// How many runs of the index stand in the way, told one after another.
 fn told(index: &RunIndex, wanted: &Run) -> u64 {
     let mut run = index.first(wanted.holder(), wanted.span, wanted.mode);
@@ -186,8 +208,45 @@ fn as_a_list_does(rt: HostRuntime) -> Result<(), Fail> {
             first.is_some()
         );
         assert_eq!(rt; told(&index, &asked), counted(&runs, &asked));
+        assert_eq!(rt;
+            first_in_the_way(&rt, &index, &asked),
+            in_the_way(&runs, &asked),
+            "at step {step}"
+        );
         assert_eq!(rt; index.len(), runs.len() as u64);
     }
+    Ok(())
+}
+
+/// Owner n reads the bytes up to n, so the owners from n on are in the way of who writes byte n, and even ones come first.
+#[test]
+fn the_least_of_many_readers(rt: HostRuntime) -> Result<(), Fail> {
+    let mut index = RunIndex::new(rt.alloc());
+    index.reserve(2000)?;
+    for step in 0..2000u64 {
+        let owner = step.wrapping_mul(7919) % 2000;
+        put(&rt, &mut index, run(owner, 0, owner, Mode::Read))?;
+    }
+    for byte in 0..1997u64 {
+        let even = byte.wrapping_add(byte % 2);
+        let asked = run(5000, byte, byte, Mode::Write);
+        assert_eq!(rt;
+            first_in_the_way(&rt, &index, &asked),
+            Some((byte, holder(even)))
+        );
+        let own = run(even, byte, byte, Mode::Write);
+        let next = holder(even.wrapping_add(2));
+        assert_eq!(rt; first_in_the_way(&rt, &index, &own), Some((byte, next)));
+    }
+    let last = run(5000, 1999, 1999, Mode::Write);
+    assert_eq!(rt;
+        first_in_the_way(&rt, &index, &last),
+        Some((1999, holder(1999)))
+    );
+    let own = run(1999, 1999, 1999, Mode::Write);
+    assert_eq!(rt; first_in_the_way(&rt, &index, &own), None);
+    let reader = run(5000, 0, 1999, Mode::Read);
+    assert_eq!(rt; first_in_the_way(&rt, &index, &reader), None);
     Ok(())
 }
 

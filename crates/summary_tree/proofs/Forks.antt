@@ -5,15 +5,16 @@ use Rattle.summary_tree.specs.declared.subtree.Node.{Node}
 use Rattle.summary_tree.specs.declared.subtree.Link.{Link}
 use Rattle.summary_tree.specs.declared.subtree.Link.TheVariants.{Fork}
 use Rattle.summary_tree.specs.Contents.{Parts}
-use Rattle.summary_tree.specs.Nodes.{items_of, nodes_of, parts_behind, IsKeptNode, IsKept}
+use Rattle.summary_tree.specs.Nodes.{excess_of, items_of, nodes_of, parts_behind, IsKeptNode, IsKept}
 
 abbrev items_in : {T : Type 0} → Parts T → List T
 items_in parts = parts.items
 
--- the items and the nodes are those of the node, which is kept
+-- the items, the nodes and the excess are those of the node, which is kept
 pub record AtFork {T S : Type 0} (tells : S → List T → Type 0) (parts : Parts T) (node : Node T S) : Type 0 where
   pub items : parts.items ≡ items_of node
   pub nodes : parts.nodes ≡ nodes_of node
+  pub excess : parts.excess ≡ excess_of node
   pub kept : IsKeptNode tells node
   pub told : tells node.summary parts.items
   pub fits : length parts.items < 2 ^ 64
@@ -23,5 +24,6 @@ at_fork {T} {S} {tells} {link} {parts} {node} {inner} view_is kept is same =
     let all = sym view_is ∙ ap parts_behind is in
     let items : parts.items ≡ items_of inner = ap (λ p. p.items) all ∙ ap items_of (sym same) in
     let nodes : parts.nodes ≡ nodes_of inner = ap (λ p. p.nodes) all ∙ ap nodes_of (sym same) in
+    let excess : parts.excess ≡ excess_of inner = ap (λ p. p.excess) all ∙ ap excess_of (sym same) in
     let whole = subst (IsKeptNode tells) (sym same) (subst (IsKept tells) is kept) in
-    record { items = items; nodes = nodes; kept = whole; told = subst (tells inner.summary) (sym items) whole.summary; fits = omega (arith, whole.count, whole.fits, ap length items) }
+    record { items = items; nodes = nodes; excess = excess; kept = whole; told = subst (tells inner.summary) (sym items) whole.summary; fits = omega (arith, whole.count, whole.fits, ap length items) }

@@ -1,3 +1,4 @@
+pub mod Crossing
 pub mod CutLemmas
 pub mod Depths
 pub mod Forks

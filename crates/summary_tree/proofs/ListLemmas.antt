@@ -1,9 +1,10 @@
 -- Facts on lists and tests.
-use Rattle.std.proofs.Common.{◌≡◌, suc, ◌-◌, ◌<◌, Bool, true, false, cond, ◌||◌, Some, None, List, [], ◌∷◌, ◌++◌, length, slice_index_or, refl, ap, ◌∙◌, arith}
+use Rattle.std.proofs.Common.{◌≡◌, suc, ◌-◌, ◌<◌, Bool, true, false, cond, ◌||◌, Option, Some, None, List, [], ◌∷◌, ◌++◌, length, slice_index_or, refl, ap, ◌∙◌, arith}
 use Rattle.std.specs.List.{find, list_any}
 use Rattle.std.specs.Option.{option_or}
+use Rattle.std.proofs.lemmas.List.{length-append}
 use Rattle.std.proofs.lemmas.List.Folds.{find-append}
-use Rattle.summary_tree.specs.Cuts.{last_passes}
+use Rattle.summary_tree.specs.Cuts.{last_passes, without_first}
 
 none_found_at : {X : Type 0} (p : X → Bool) (x : X) (xs : List X) (b : Bool) → (b || list_any p xs) ≡ false → (list_any p xs ≡ false → find p xs ≡ None) → cond b (Some x) (find p xs) ≡ None
 none_found_at p x xs true h f = absurd (cc)
@@ -45,3 +46,31 @@ among p (x ∷ b) r h = among_at p x b r (p x) h (among p b r)
 -- where some item of b passes, and none of l, the first stands in b
 pub found_among : {X : Type 0} (p : X → Bool) (xs l b r : List X) → xs ≡ l ++ (b ++ r) → find p l ≡ None → list_any p b ≡ true → find p xs ≡ find p b
 found_among p xs l b r is h a = ap (find p) is ∙ (find-append p l (b ++ r) ∙ (ap (λ o. option_or o (find p (b ++ r))) h ∙ among p b r a))
+
+no_item : {X : Type 0} (xs : List X) → length xs ≡ 0 → xs ≡ []
+no_item [] h = refl
+no_item (x ∷ xs) h = absurd (omega arith)
+
+-- where a block and the rest are one item, the rest is none
+pub rest_is_none : {X : Type 0} (xs block rest : List X) → length xs ≡ 1 → 0 < length block → xs ≡ block ++ rest → rest ≡ []
+rest_is_none xs [] rest one b e = absurd (omega arith)
+rest_is_none xs (y ∷ ys) rest one b e = no_item rest (let f : length xs ≡ length ((y ∷ ys) ++ rest) = ap length e in omega (arith, f, length-append (y ∷ ys) rest))
+
+only_at : {X : Type 0} (b : Bool) (y x : X) → cond b (Some y) None ≡ Some x → cond b [] (y ∷ []) ≡ []
+only_at true y x h = refl
+only_at false y x h = absurd (cc)
+
+-- where the only item passes, none is left
+pub only_taken : {X : Type 0} (p : X → Bool) (xs : List X) (x : X) → length xs ≡ 1 → find p xs ≡ Some x → without_first p xs ≡ []
+only_taken p [] x one h = absurd (omega arith)
+only_taken p (y ∷ []) x one h = only_at (p y) y x h
+only_taken p (y ∷ z ∷ zs) x one h = absurd (omega arith)
+
+stays_at : {X : Type 0} (b : Bool) (y : X) (ys rest : List X) (found : Option X) → cond b (Some y) found ≡ None → (found ≡ None → rest ≡ ys) → cond b ys (y ∷ rest) ≡ y ∷ ys
+stays_at true y ys rest found h f = absurd (cc)
+stays_at false y ys rest found h f = ap (λ zs. y ∷ zs) (f h)
+
+-- where none passes, all stay
+pub all_stay : {X : Type 0} (p : X → Bool) (xs : List X) → find p xs ≡ None → without_first p xs ≡ xs
+all_stay p [] h = refl
+all_stay p (y ∷ ys) h = stays_at (p y) y ys (without_first p ys) (find p ys) h (all_stay p ys)

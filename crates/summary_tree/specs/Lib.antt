@@ -2,4 +2,5 @@ pub mod Balance
 pub mod Contents
 pub mod Cuts
 pub mod Nodes
+pub mod Rooms
 pub mod Sides

@@ -1,5 +1,5 @@
 -- What a node stands for, and what holds of it.
-use Rattle.std.specs.Prelude.{◌≡◌, ℕ, ◌+◌, ◌<◌, ◌≤◌, ◌^◌, List, [], ◌++◌, length}
+use Rattle.std.specs.Prelude.{◌≡◌, ℕ, ◌+◌, ◌-◌, ◌<◌, ◌≤◌, ◌^◌, List, [], ◌++◌, length}
 use Rattle.summary_tree.specs.declared.subtree.Node.{Node}
 use Rattle.summary_tree.specs.declared.subtree.Link.{Link}
 use Rattle.summary_tree.specs.declared.subtree.Link.TheVariants.{Empty, Fork}
@@ -14,16 +14,22 @@ items_of node = node.left.items ++ (node.block ++ node.right.items)
 abbrev pub nodes_of : {T S : Type 0} → Node T S → ℕ
 nodes_of node = node.left.nodes + 1 + node.right.nodes
 
+-- by how many items the blocks of a node and of its sides exceed what a part of a split block may have
+abbrev pub excess_of : {T S : Type 0} → Node T S → ℕ
+excess_of node = node.left.excess + (length node.block - 24) + node.right.excess
+
 -- what stands behind a link
 abbrev pub parts_behind : {T S : Type 0} → Link T S → Parts T
-parts_behind Empty = record { items = []; nodes = 0 }
-parts_behind (Fork node) = record { items = items_of node.value; nodes = nodes_of node.value }
+parts_behind Empty = record { items = []; nodes = 0; excess = 0 }
+parts_behind (Fork node) = record { items = items_of node.value; nodes = nodes_of node.value; excess = excess_of node.value }
 
--- the node counts its items and its nodes, none of which is empty, tells of the items, and is balanced
+-- the node counts its items, its nodes, none of which is empty, and their excess, tells of the items, and is balanced
 pub record IsKeptNode {T S : Type 0} (tells : S → List T → Type 0) (node : Node T S) : Type 0 where
   pub count : node.count ≡ length (items_of node)
   pub nodes : node.nodes ≡ nodes_of node
   pub few : node.nodes ≤ node.count
+  pub excess : node.excess ≡ excess_of node
+  pub slight : node.excess ≤ node.count
   pub fits : node.count < 2 ^ 64
   pub filled : 0 < length node.block
   pub summary : tells node.summary (items_of node)

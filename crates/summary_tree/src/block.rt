@@ -1,9 +1,9 @@
 //! Items that lie side by side.
-ghost use Rattle.std.specs.Prelude.{◌≡◌, ◌+◌, ◌<◌, ◌≤◌, [], ◌∷◌, ◌++◌, length, take, drop, true, Some, IfOk, slice_index_or, List};
+ghost use Rattle.std.specs.Prelude.{◌≡◌, ◌+◌, ◌-◌, ◌<◌, ◌≤◌, [], ◌∷◌, ◌++◌, length, take, drop, true, Some, IfOk, slice_index_or, List};
 ghost use Rattle.std.specs.List.{find, position_or_len, insert, remove};
 ghost use Rattle.summary_tree.specs.Cuts.{before, both, first_passes, last_passes, put_before, without_first};
 
-use crate::{BLOCK, Cut, Query, Summary, Walk};
+use crate::{BLOCK, Cut, PART, Query, Summary, Walk};
 use std::alloc::{AllocError, Global};
 use std::marker::Model;
 
@@ -42,6 +42,13 @@ impl<T: Copy, S: Summary<T> + Copy> Block<T, S> {
         ensures few { result ≤ 32 }
     {
         self.items.len()
+    }
+
+    /// How many items there are beyond those that a part of a split block may have.
+    pub(crate) fn excess(&self) -> u64
+        ensures { result ≡ length self.now - 24 }
+    {
+        self.items.len().saturating_sub(PART) as u64
     }
 
     /// The summary of the items.
@@ -95,26 +102,31 @@ impl<T: Copy, S: Summary<T> + Copy> Block<T, S> {
     }
 
     /// Gathers from all items.
-    pub(crate) fn walk<W: Walk<T, S>>(&self, walk: &mut W)
-        ensures { (seen : List T) → W.gathers walk.old seen → W.gathers walk.new (seen ++ self.now) }
+    pub(crate) fn walk<F, W: Walk<T, S, F>>(&self, walk: &W, found: &mut F)
+        ensures { (seen : List T) → W.gathers walk.now found.old seen → W.gathers walk.now found.new (seen ++ self.now) }
     {
-        if walk.see_all(&self.summary) {
+        if walk.see_all(found, &self.summary) {
             return;
         }
         for item in &self.items {
-            walk.see(item);
+            walk.see(found, item);
         }
     }
 
     /// Gathers from the items before a place.
-    pub(crate) fn walk_before<C: Cut<T>, W: Walk<T, S>>(&self, cut: &C, walk: &mut W)
-        ensures { (seen : List T) → W.gathers walk.old seen → W.gathers walk.new (seen ++ before (C.is_behind cut.now) self.now) }
+    pub(crate) fn walk_before<C: Cut<T>, F, W: Walk<T, S, F>>(
+        &self,
+        cut: &C,
+        walk: &W,
+        found: &mut F,
+    )
+        ensures { (seen : List T) → W.gathers walk.now found.old seen → W.gathers walk.now found.new (seen ++ before (C.is_behind cut.now) self.now) }
     {
         for item in &self.items {
             if cut.is_behind(item) {
                 return;
             }
-            walk.see(item);
+            walk.see(found, item);
         }
     }
 
@@ -174,6 +186,8 @@ impl<T: Copy, S: Summary<T> + Copy> Block<T, S> {
         ensures count { length self.new + length next.new ≡ 33 }
         ensures filled { 0 < length self.new }
         ensures next { 0 < length next.new }
+        ensures few { length self.new ≤ 24 }
+        ensures few_next { length next.new ≤ 24 }
     {
         let place = self.place_of(cut);
         self.insert_in_full(place, item, next);
@@ -190,8 +204,6 @@ impl<T: Copy, S: Summary<T> + Copy> Block<T, S> {
     }
 
     /// The same where there is no room: some of the items go into an empty block.
-    ///
-    /// Only an item in the midst splits the items in halves: where items come in order full blocks stay behind.
     fn insert_in_full(&mut self, place: usize, item: T, next: &mut Self)
         requires place { place ≤ length self.old }
         requires full { length self.old ≡ 32 }
@@ -199,18 +211,15 @@ impl<T: Copy, S: Summary<T> + Copy> Block<T, S> {
         ensures items { self.new ++ next.new ≡ insert self.old place item }
         ensures filled { 0 < length self.new }
         ensures next { 0 < length next.new }
+        ensures few { length self.new ≤ 24 }
+        ensures few_next { length next.new ≤ 24 }
     {
-        if place == BLOCK {
-            next.insert(0, item);
-        } else if place == 0 {
-            self.move_from(0, next);
-            self.insert(0, item);
-        } else if place <= BLOCK / 2 {
-            self.move_from(BLOCK / 2, next);
+        let middle = middle_for(place);
+        self.move_from(middle, next);
+        if place <= middle {
             self.insert(place, item);
         } else {
-            self.move_from(BLOCK / 2, next);
-            next.insert(place - BLOCK / 2, item);
+            next.insert(place - middle, item);
         }
     }
 
@@ -236,6 +245,14 @@ impl<T: Copy, S: Summary<T> + Copy> Block<T, S> {
         self.remove(place)
     }
 
+    /// Takes out all items.
+    pub(crate) fn clear(&mut self)
+        ensures { self.new ≡ [] }
+    {
+        self.items.clear();
+        self.summary = S::none();
+    }
+
     /// Moves the items from a place on into an empty block.
     fn move_from(&mut self, place: usize, next: &mut Self)
         requires place { place ≤ length self.old }
@@ -247,6 +264,23 @@ impl<T: Copy, S: Summary<T> + Copy> Block<T, S> {
         next.summary = summary_of(&next.items);
         self.items.truncate(place);
         self.summary = summary_of(&self.items);
+    }
+}
+
+/// Where a full block is split that gets an item at a place: in halves, but where the place is near an end, beside it, so that
+/// items that come in order leave fuller blocks behind.
+fn middle_for(place: usize) -> usize
+    ensures front { 8 ≤ result }
+    ensures back { result ≤ 24 }
+    ensures in_front { place ≤ result → result < 24 }
+    ensures behind { result < place → 8 < result }
+{
+    if place > PART {
+        PART
+    } else if place < BLOCK - PART {
+        BLOCK - PART
+    } else {
+        BLOCK / 2
     }
 }
 

@@ -17,6 +17,12 @@ pub use tree::Tree;
 /// How many items a block holds at most.
 const BLOCK: usize = 32;
 
+/// How many items each part of a full block has at most that was split for one more.
+const PART: usize = 24;
+
+/// How many items are put into such a part until it is split, or more.
+const PUTS: u64 = 9;
+
 /// What is kept of the items of a subtree.
 pub trait Summary<T> {
     /// The summary tells of these items.
@@ -62,17 +68,17 @@ pub trait Cut<T> {
 }
 
 /// What is gathered from items that are gone through in order, with a look at summaries, which may tell enough of the
-/// items below them.
-pub trait Walk<T, S: Summary<T>> {
-    /// What was gathered is that of these items.
-    ghost gathers: { Self → List T → Type 0 };
+/// items below them. What is asked stays as it is.
+pub trait Walk<T, S: Summary<T>, F> {
+    /// What was found is that of these items.
+    ghost gathers: { Self → F → List T → Type 0 };
 
     /// Gathers from an item.
-    fn see(&mut self, item: &T)
-        ensures { (seen : List T) → gathers self.old seen → gathers self.new (seen ++ item.now ∷ []) };
+    fn see(&self, found: &mut F, item: &T)
+        ensures { (seen : List T) → gathers self.now found.old seen → gathers self.now found.new (seen ++ item.now ∷ []) };
 
     /// Gathers from all items that the summary tells of, if it tells enough of them.
-    fn see_all(&mut self, summary: &S) -> bool
-        ensures all { (seen items : List T) → gathers self.old seen → S.tells summary.now items → result ≡ true → gathers self.new (seen ++ items) }
-        ensures none { (seen : List T) → gathers self.old seen → result ≡ false → gathers self.new seen };
+    fn see_all(&self, found: &mut F, summary: &S) -> bool
+        ensures all { (seen items : List T) → gathers self.now found.old seen → S.tells summary.now items → result ≡ true → gathers self.now found.new (seen ++ items) }
+        ensures none { (seen : List T) → gathers self.now found.old seen → result ≡ false → gathers self.now found.new seen };
 }

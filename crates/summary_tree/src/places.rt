@@ -69,6 +69,7 @@ impl<T: Copy, S: Summary<T> + Copy> Places<T, S> {
                 block: Block::new(self.alloc)?,
                 count: 0,
                 nodes: 0,
+                excess: 0,
                 summary: S::none(),
                 right: Subtree::new(),
             },

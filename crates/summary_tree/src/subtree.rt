@@ -8,9 +8,10 @@ mod changing;
 
 use crate::block::Block;
 use crate::{Cut, Query, Summary, Walk};
+pub(crate) use changing::of_one;
 use std::marker::Model;
 
-/// A list of items in nodes, seen as that list and the number of nodes.
+/// A list of items in nodes, seen as that list, the number of nodes, and the excess of their blocks.
 #[cycle(tree)]
 #[derive(Drop)]
 pub(crate) struct Subtree<T: Copy, S: Summary<T> + Copy> {
@@ -33,6 +34,7 @@ pub(crate) struct Node<T: Copy, S: Summary<T> + Copy> {
     pub(crate) block: Block<T, S>,
     pub(crate) count: u64,
     pub(crate) nodes: u64,
+    pub(crate) excess: u64,
     pub(crate) summary: S,
     pub(crate) right: Subtree<T, S>,
 }
@@ -60,6 +62,7 @@ impl<T: Copy, S: Summary<T> + Copy> Subtree<T, S> {
     pub(crate) fn new() -> Self
         ensures items { result.items ≡ [] }
         ensures nodes { result.nodes ≡ 0 }
+        ensures excess { result.excess ≡ 0 }
     {
         Subtree { link: Link::Empty }
     }
@@ -79,10 +82,22 @@ impl<T: Copy, S: Summary<T> + Copy> Subtree<T, S> {
         ensures nodes { result ≡ self.now.nodes }
         ensures few { result ≤ length self.now.items }
         ensures none { result ≡ 0 → self.now.items ≡ [] }
+        ensures no_excess { result ≡ 0 → self.now.excess ≡ 0 }
     {
         match &self.link {
             Link::Empty => 0,
             Link::Fork(node) => node.nodes,
+        }
+    }
+
+    /// By how many items the blocks exceed what a part of a split block may have.
+    pub(crate) fn excess(&self) -> u64
+        ensures excess { result ≡ self.now.excess }
+        ensures few { result ≤ length self.now.items }
+    {
+        match &self.link {
+            Link::Empty => 0,
+            Link::Fork(node) => node.excess,
         }
     }
 
@@ -185,39 +200,44 @@ impl<T: Copy, S: Summary<T> + Copy> Subtree<T, S> {
     }
 
     /// Gathers from all items.
-    pub(crate) fn walk<W: Walk<T, S>>(&self, walk: &mut W)
-        ensures { (seen : List T) → W.gathers walk.old seen → W.gathers walk.new (seen ++ self.now.items) }
+    pub(crate) fn walk<F, W: Walk<T, S, F>>(&self, walk: &W, found: &mut F)
+        ensures { (seen : List T) → W.gathers walk.now found.old seen → W.gathers walk.now found.new (seen ++ self.now.items) }
     {
         match &self.link {
             Link::Empty => {}
             Link::Fork(node) => {
                 let node: &Node<T, S> = node;
-                if walk.see_all(&node.summary) {
+                if walk.see_all(found, &node.summary) {
                     return;
                 }
-                node.left.walk(walk);
-                node.block.walk(walk);
-                node.right.walk(walk);
+                node.left.walk(walk, found);
+                node.block.walk(walk, found);
+                node.right.walk(walk, found);
             }
         }
     }
 
     /// Gathers from the items before a place.
-    pub(crate) fn walk_before<C: Cut<T>, W: Walk<T, S>>(&self, cut: &C, walk: &mut W)
+    pub(crate) fn walk_before<C: Cut<T>, F, W: Walk<T, S, F>>(
+        &self,
+        cut: &C,
+        walk: &W,
+        found: &mut F,
+    )
         requires { IsCutBy (C.is_behind cut.now) self.now.items }
-        ensures { (seen : List T) → W.gathers walk.old seen → W.gathers walk.new (seen ++ before (C.is_behind cut.now) self.now.items) }
+        ensures { (seen : List T) → W.gathers walk.now found.old seen → W.gathers walk.now found.new (seen ++ before (C.is_behind cut.now) self.now.items) }
     {
         match &self.link {
             Link::Empty => {}
             Link::Fork(node) => {
                 let node: &Node<T, S> = node;
                 if node.block.begins_behind(cut) {
-                    node.left.walk_before(cut, walk);
+                    node.left.walk_before(cut, walk, found);
                     return;
                 }
-                node.left.walk(walk);
-                node.block.walk_before(cut, walk);
-                node.right.walk_before(cut, walk);
+                node.left.walk(walk, found);
+                node.block.walk_before(cut, walk, found);
+                node.right.walk_before(cut, walk, found);
             }
         }
     }

@@ -1,14 +1,15 @@
 //! The tree as others see it.
-ghost use Rattle.std.specs.Prelude.{◌≡◌, ◌+◌, ◌*◌, ◌<◌, ◌≤◌, ◌^◌, [], ◌++◌, List, length, IsOk, OnOk, OnErr};
+ghost use Rattle.std.specs.Prelude.{◌≡◌, ◌+◌, ◌*◌, ◌<◌, ◌≤◌, ◌⊎◌, ◌^◌, [], ◌++◌, List, length, IsOk, OnOk, OnErr};
 ghost use Rattle.std.specs.List.{find};
 ghost use Rattle.summary_tree.specs.Cuts.{before, both, IsCutBy, put_before, without_first};
 
 use crate::places::Places;
-use crate::subtree::Subtree;
-use crate::{Cut, Query, Summary, Walk};
+use crate::subtree::{Node, Subtree, of_one};
+use crate::{Cut, PUTS, Query, Summary, Walk};
 use range_core::{Memory, counted};
 use std::alloc::Global;
 use std::marker::Model;
+use std::mem;
 
 /// A list of items, and room for more.
 ///
@@ -19,17 +20,20 @@ pub struct Tree<T: Copy, S: Summary<T> + Copy> {
     /// For how many more items room is held, however many places there are.
     room: u64,
     places: Places<T, S>,
+    /// The node of the last item that was taken out, for the first one to come.
+    kept: Option<Box<Node<T, S>>>,
 }
 
 impl<T: Copy, S: Summary<T> + Copy> Model for Tree<T, S> {
-    ghost use Rattle.std.specs.Prelude.{◌+◌, ◌<◌, ◌≤◌, ◌^◌, length};
+    ghost use Rattle.std.specs.Prelude.{◌≡◌, ◌+◌, ◌<◌, ◌^◌, [], IfSome, length};
     ghost use Rattle.summary_tree.specs.Contents.{Contents};
+    ghost use Rattle.summary_tree.specs.Rooms.{IsHeld};
 
     ghost Value = { Contents T };
 
     ghost view = { λ a. record { items = a.items.items; room = a.room } };
 
-    ghost invariant = { λ a. (a.room ≤ a.places) × (length a.items.items + a.room < 2 ^ 64) };
+    ghost invariant = { λ a. IsHeld a.items a.kept a.room a.places × (length a.items.items + a.room < 2 ^ 64) × IfSome a.kept (λ node. node.value.block ≡ []) };
 }
 
 impl<T: Copy, S: Summary<T> + Copy> Tree<T, S> {
@@ -42,6 +46,7 @@ impl<T: Copy, S: Summary<T> + Copy> Tree<T, S> {
             items: Subtree::new(),
             room: 0,
             places: Places::new(alloc),
+            kept: None,
         }
     }
 
@@ -92,18 +97,18 @@ impl<T: Copy, S: Summary<T> + Copy> Tree<T, S> {
     }
 
     /// Gathers from all items, in order.
-    pub fn walk<W: Walk<T, S>>(&self, walk: &mut W)
-        ensures { (seen : List T) → W.gathers walk.old seen → W.gathers walk.new (seen ++ self.now.items) }
+    pub fn walk<F, W: Walk<T, S, F>>(&self, walk: &W, found: &mut F)
+        ensures { (seen : List T) → W.gathers walk.now found.old seen → W.gathers walk.now found.new (seen ++ self.now.items) }
     {
-        self.items.walk(walk)
+        self.items.walk(walk, found)
     }
 
     /// Gathers from the items before a place, in order.
-    pub fn walk_before<C: Cut<T>, W: Walk<T, S>>(&self, cut: &C, walk: &mut W)
+    pub fn walk_before<C: Cut<T>, F, W: Walk<T, S, F>>(&self, cut: &C, walk: &W, found: &mut F)
         requires { IsCutBy (C.is_behind cut.now) self.now.items }
-        ensures { (seen : List T) → W.gathers walk.old seen → W.gathers walk.new (seen ++ before (C.is_behind cut.now) self.now.items) }
+        ensures { (seen : List T) → W.gathers walk.now found.old seen → W.gathers walk.now found.new (seen ++ before (C.is_behind cut.now) self.now.items) }
     {
-        self.items.walk_before(cut, walk)
+        self.items.walk_before(cut, walk, found)
     }
 
     /// Holds room for so many more items in all, counting the room already there.
@@ -118,7 +123,8 @@ impl<T: Copy, S: Summary<T> + Copy> Tree<T, S> {
     {
         if self.room < count {
             counted(self.items.len(), count)?;
-            self.places.grow(count)?;
+            let places = places_for(self.items.excess(), count);
+            self.places.grow(places)?;
             self.room = count;
         }
         Ok(())
@@ -131,6 +137,13 @@ impl<T: Copy, S: Summary<T> + Copy> Tree<T, S> {
         ensures items { self.new.items ≡ put_before (C.is_behind cut.now) item self.old.items }
         ensures room { self.new.room + 1 ≡ self.old.room }
     {
+        if self.items.len() == 0 {
+            if let Some(node) = mem::replace(&mut self.kept, None) {
+                self.items = of_one(item, node);
+                self.room -= 1;
+                return;
+            }
+        }
         self.items.put(cut, item, &mut self.places);
         self.room -= 1;
     }
@@ -142,6 +155,37 @@ impl<T: Copy, S: Summary<T> + Copy> Tree<T, S> {
         ensures rest { self.new.items ≡ without_first (C.is_behind cut.now) self.old.items }
         ensures room { self.new.room ≡ self.old.room }
     {
+        if self.items.len() == 1 {
+            return self.take_only(cut);
+        }
         self.items.take(cut)
     }
+
+    /// Takes out the only item, if it stands at a place or behind it, and keeps its node.
+    fn take_only<C: Cut<T>>(&mut self, cut: &C) -> Option<T>
+        requires cut { IsCutBy (C.is_behind cut.now) self.old.items }
+        requires only { length self.old.items ≡ 1 }
+        ensures item { result ≡ find (C.is_behind cut.now) self.old.items }
+        ensures rest { self.new.items ≡ without_first (C.is_behind cut.now) self.old.items }
+        ensures room { self.new.room ≡ self.old.room }
+    {
+        // The proof reads from it that there is a node.
+        let nodes = self.items.nodes();
+        let Some(item) = self.items.first_from(cut) else {
+            return None;
+        };
+        let mut node = self.items.take_first();
+        node.block.clear();
+        self.kept = Some(node);
+        Some(item)
+    }
+}
+
+/// How many places hold room for so many items more, beside blocks of this excess: one for each at most.
+fn places_for(excess: u64, count: u64) -> u64
+    requires { excess + count < 2 ^ 64 }
+    ensures held { (count ≤ result) ⊎ (excess + 8 + count ≤ 9 * result) }
+    ensures few { result ≤ count }
+{
+    count.min((excess + count) / PUTS + 2)
 }

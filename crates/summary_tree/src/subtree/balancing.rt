@@ -1,7 +1,7 @@
 //! Nodes whose sides have changed, made whole again.
 ghost use Rattle.std.specs.Prelude.{◌≡◌, ◌+◌, ◌*◌, ◌<◌, ◌≤◌, ◌^◌, length};
 ghost use Rattle.summary_tree.specs.Balance.{IsBalanced, IsNearlyBalanced};
-ghost use Rattle.summary_tree.specs.Nodes.{items_of, nodes_of};
+ghost use Rattle.summary_tree.specs.Nodes.{excess_of, items_of, nodes_of};
 
 use super::{Link, Node, Subtree};
 use crate::Summary;
@@ -24,9 +24,11 @@ pub(super) fn whole<T: Copy, S: Summary<T> + Copy>(mut node: Box<Node<T, S>>) ->
     requires fits { length node.value.left.items + length node.value.block + length node.value.right.items < 2 ^ 64 }
     ensures items { result.items ≡ items_of node.value }
     ensures nodes { result.nodes ≡ nodes_of node.value }
+    ensures excess { result.excess ≡ excess_of node.value }
 {
     node.count = node.left.len() + node.block.len() as u64 + node.right.len();
     node.nodes = node.left.nodes() + 1 + node.right.nodes();
+    node.excess = node.left.excess() + node.block.excess() + node.right.excess();
     node.summary = summary_of(&node);
     Subtree {
         link: Link::Fork(node),
@@ -40,6 +42,7 @@ pub(super) fn rebalanced<T: Copy, S: Summary<T> + Copy>(node: Box<Node<T, S>>) -
     requires fits { length node.value.left.items + length node.value.block + length node.value.right.items < 2 ^ 64 }
     ensures items { result.items ≡ items_of node.value }
     ensures nodes { result.nodes ≡ nodes_of node.value }
+    ensures excess { result.excess ≡ excess_of node.value }
 {
     let left = node.left.nodes();
     let right = node.right.nodes();
@@ -60,6 +63,7 @@ fn turned_right<T: Copy, S: Summary<T> + Copy>(mut top: Box<Node<T, S>>) -> Subt
     requires fits { length top.value.left.items + length top.value.block + length top.value.right.items < 2 ^ 64 }
     ensures items { result.items ≡ items_of top.value }
     ensures nodes { result.nodes ≡ nodes_of top.value }
+    ensures excess { result.excess ≡ excess_of top.value }
 {
     let Link::Fork(mut low) = mem::replace(&mut top.left, Subtree::new()).link else {
         unreachable!()
@@ -87,6 +91,7 @@ fn turned_left<T: Copy, S: Summary<T> + Copy>(mut top: Box<Node<T, S>>) -> Subtr
     requires fits { length top.value.left.items + length top.value.block + length top.value.right.items < 2 ^ 64 }
     ensures items { result.items ≡ items_of top.value }
     ensures nodes { result.nodes ≡ nodes_of top.value }
+    ensures excess { result.excess ≡ excess_of top.value }
 {
     let Link::Fork(mut low) = mem::replace(&mut top.right, Subtree::new()).link else {
         unreachable!()

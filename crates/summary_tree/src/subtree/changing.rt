@@ -1,9 +1,9 @@
 //! Items that come and go.
-ghost use Rattle.std.specs.Prelude.{◌≡◌, ◌+◌, ◌<◌, ◌≤◌, ◌^◌, [], ◌∷◌, ◌++◌, IfNone, length};
+ghost use Rattle.std.specs.Prelude.{◌≡◌, ◌+◌, ◌-◌, ◌*◌, ◌<◌, ◌≤◌, ◌^◌, [], ◌∷◌, ◌++◌, IfNone, length};
 ghost use Rattle.std.specs.List.{find};
 ghost use Rattle.summary_tree.specs.Balance.{IsBalanced, IsOneMoreAtMost};
 ghost use Rattle.summary_tree.specs.Cuts.{IsCutBy, put_before, without_first};
-ghost use Rattle.summary_tree.specs.Nodes.{items_of, nodes_of};
+ghost use Rattle.summary_tree.specs.Nodes.{excess_of, items_of, nodes_of};
 ghost use Rattle.summary_tree.specs.Sides.{IsSideOf};
 
 use super::balancing::{rebalanced, whole};
@@ -22,6 +22,8 @@ enum Side {
 impl<T: Copy, S: Summary<T> + Copy> Subtree<T, S> {
     /// Puts an item in before the first that stands at a place or behind it; a new node, if it wants one, is taken from the
     /// places. It takes no memory.
+    ///
+    /// A block that is split gives up its excess of eight, so a place goes for that and one put, or for nine puts.
     pub(crate) fn put<C: Cut<T>>(&mut self, cut: &C, item: T, places: &mut Places<T, S>)
         requires cut { IsCutBy (C.is_behind cut.now) self.old.items }
         requires place { 0 < places.old }
@@ -30,9 +32,11 @@ impl<T: Copy, S: Summary<T> + Copy> Subtree<T, S> {
         ensures count { length self.new.items ≡ length self.old.items + 1 }
         ensures nodes { IsOneMoreAtMost self.new.nodes self.old.nodes }
         ensures places { IsOneMoreAtMost places.old places.new }
+        ensures first { self.old.items ≡ [] → self.new.excess ≡ 0 }
+        ensures paid { 0 < length self.old.items → self.new.excess + 9 * places.old ≤ self.old.excess + 9 * places.new + 1 }
     {
         match mem::replace(&mut self.link, Link::Empty) {
-            Link::Empty => *self = of_one(item, places),
+            Link::Empty => *self = of_one(item, places.take()),
             Link::Fork(mut node) => match side_of(&node, cut) {
                 Side::Left => {
                     node.left.put(cut, item, places);
@@ -54,6 +58,7 @@ impl<T: Copy, S: Summary<T> + Copy> Subtree<T, S> {
         ensures rest { self.new.items ≡ without_first (C.is_behind cut.now) self.old.items }
         ensures count { length self.new.items ≤ length self.old.items }
         ensures nodes { IsOneMoreAtMost self.old.nodes self.new.nodes }
+        ensures excess { self.new.excess ≤ self.old.excess }
         ensures none { IfNone result (self.new ≡ self.old) }
     {
         match mem::replace(&mut self.link, Link::Empty) {
@@ -81,6 +86,7 @@ impl<T: Copy, S: Summary<T> + Copy> Subtree<T, S> {
         requires fits { length node.value.block + length self.old.items < 2 ^ 64 }
         ensures items { self.new.items ≡ node.value.block ++ self.old.items }
         ensures nodes { self.new.nodes ≡ self.old.nodes + 1 }
+        ensures excess { self.new.excess ≡ (length node.value.block - 24) + self.old.excess }
     {
         match mem::replace(&mut self.link, Link::Empty) {
             Link::Empty => {
@@ -96,10 +102,11 @@ impl<T: Copy, S: Summary<T> + Copy> Subtree<T, S> {
     }
 
     /// Takes out the first node.
-    fn take_first(&mut self) -> Box<Node<T, S>>
+    pub(crate) fn take_first(&mut self) -> Box<Node<T, S>>
         requires { 0 < self.old.nodes }
         ensures items { self.old.items ≡ result.value.block ++ self.new.items }
         ensures nodes { self.old.nodes ≡ self.new.nodes + 1 }
+        ensures excess { self.old.excess ≡ (length result.value.block - 24) + self.new.excess }
         ensures filled { 0 < length result.value.block }
     {
         let Link::Fork(mut node) = mem::replace(&mut self.link, Link::Empty) else {
@@ -115,14 +122,16 @@ impl<T: Copy, S: Summary<T> + Copy> Subtree<T, S> {
     }
 }
 
-/// The tree of one item, in a node of the places.
-fn of_one<T: Copy, S: Summary<T> + Copy>(item: T, places: &mut Places<T, S>) -> Subtree<T, S>
-    requires { 0 < places.old }
+/// The tree of one item, in an empty node.
+pub(crate) fn of_one<T: Copy, S: Summary<T> + Copy>(
+    item: T,
+    mut node: Box<Node<T, S>>,
+) -> Subtree<T, S>
+    requires { node.value.block ≡ [] }
     ensures items { result.items ≡ item ∷ [] }
     ensures nodes { result.nodes ≡ 1 }
-    ensures places { places.old ≡ places.new + 1 }
+    ensures excess { result.excess ≡ 0 }
 {
-    let mut node = places.take();
     node.left = Subtree::new();
     node.right = Subtree::new();
     node.block.put_first(item);
@@ -165,6 +174,7 @@ fn put_here<T: Copy, S: Summary<T> + Copy, C: Cut<T>>(
     ensures count { length result.items ≡ length node.value.left.items + length node.value.block + length node.value.right.items + 1 }
     ensures nodes { IsOneMoreAtMost result.nodes (nodes_of node.value) }
     ensures places { IsOneMoreAtMost places.old places.new }
+    ensures paid { result.excess + 9 * places.old ≤ excess_of node.value + 9 * places.new + 1 }
 {
     if node.block.len() < BLOCK {
         node.block.put(cut, item);
@@ -182,6 +192,7 @@ fn without_block<T: Copy, S: Summary<T> + Copy>(mut node: Box<Node<T, S>>) -> Su
     requires fits { length node.value.left.items + length node.value.block + length node.value.right.items < 2 ^ 64 }
     ensures items { result.items ≡ items_of node.value }
     ensures nodes { IsOneMoreAtMost (nodes_of node.value) result.nodes }
+    ensures excess { result.excess ≡ excess_of node.value }
 {
     if node.block.len() > 0 {
         return whole(node);
@@ -200,6 +211,7 @@ fn joined<T: Copy, S: Summary<T> + Copy>(
     requires fits { length left.items + length right.items < 2 ^ 64 }
     ensures items { result.items ≡ left.items ++ right.items }
     ensures nodes { result.nodes ≡ left.nodes + right.nodes }
+    ensures excess { result.excess ≡ left.excess + right.excess }
 {
     if right.nodes() == 0 {
         return left;

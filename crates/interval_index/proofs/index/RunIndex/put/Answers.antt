@@ -1,11 +1,10 @@
-use Rattle.std.proofs.Common.{◌≡◌, List, sym, ap, ◌∙◌, subst}
+use Rattle.std.proofs.Common.{List, sym, ap, ◌∙◌, subst}
 use Rattle.summary_tree.specs.Cuts.{put_before}
 use Rattle.interval_index.specs.declared.Holder.{Holder}
 use Rattle.interval_index.specs.declared.Run.{Run}
 use Rattle.interval_index.specs.Contents.{RunContents}
-use Rattle.interval_index.specs.Holders.{holder_of}
 use Rattle.interval_index.specs.Runs.{AreOrdered}
-use Rattle.interval_index.specs.Tests.{is_from, with_run}
+use Rattle.interval_index.specs.Tests.{is_from}
 use Rattle.interval_index.proofs.Order.{NoneHas, cut_at, none_has, ordered_with}
 use Rattle.interval_index.proofs.index.RunIndex.put.Goals as goal
 

@@ -1,4 +1,4 @@
-use Rattle.std.proofs.Common.{◌≡◌, List, sym, ap, ◌∙◌, subst}
+use Rattle.std.proofs.Common.{List, sym, ap, ◌∙◌, subst}
 use Rattle.std.specs.List.{find}
 use Rattle.interval_index.specs.declared.Run.{Run}
 use Rattle.interval_index.specs.Contents.{RunContents}

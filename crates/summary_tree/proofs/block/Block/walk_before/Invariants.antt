@@ -4,6 +4,6 @@ use Rattle.summary_tree.proofs.block.Block.walk_before.Given as goal
 
 abbrev pub invariant-loop-item : goal.invariant-loop-item
 invariant-loop-item g l = record {
-  gathered : (seen : List g.row.T.Denot) → g.W.Walk.gathers l.initial.walk seen → g.W.Walk.gathers l.walk (seen ++ take l.item-index l.self);
+  gathered : (seen : List g.row.T.Denot) → g.W.Walk.gathers l.walk l.initial.found seen → g.W.Walk.gathers l.walk l.found (seen ++ take l.item-index l.self);
   before : before (g.C.Cut.is_behind l.cut) l.self ≡ take l.item-index l.self ++ before (g.C.Cut.is_behind l.cut) (drop l.item-index l.self);
 }

@@ -31,7 +31,7 @@ returns-then-begins_behind g t c seen h =
     let s = split_at (g.C.Cut.is_behind c.args.cut.now) c.args.self.now.items n.left.items n.block n.right.items f.items f.kept.filled c.requires in
     let first = same_first p n.block n.right.items f.kept.filled ∙ (sym c.begins_behind.ensures ∙ c.if-begins_behind.true) in
     let e = ap (before p) f.items ∙ before_left p n.left.items (n.block ++ n.right.items) first in
-    subst (λ xs. g.W.Walk.gathers c.walk_before.new.walk (seen ++ xs)) (sym e) (c.walk_before.ensures seen h)
+    subst (λ xs. g.W.Walk.gathers c.args.walk.now c.walk_before.new.found (seen ++ xs)) (sym e) (c.walk_before.ensures seen h)
 
 pub returns-else-begins_behind : goal.returns-else-begins_behind
 returns-else-begins_behind g t c seen h =
@@ -42,4 +42,4 @@ returns-else-begins_behind g t c seen h =
     let none = s.starts (sym c.begins_behind.ensures ∙ c.if-begins_behind.false) in
     let e = ap (before p) f.items ∙ (before_right p n.left.items (n.block ++ n.right.items) none ∙ ap (λ ys. n.left.items ++ ys) (before_both p n.block n.right.items s.rest)) in
     let a : ((seen ++ n.left.items) ++ before p n.block) ++ before p n.right.items ≡ seen ++ (n.left.items ++ (before p n.block ++ before p n.right.items)) = simp append_assoc in
-    subst (g.W.Walk.gathers c.walk_before-in-Fork-2.new.walk) (a ∙ ap (λ ys. seen ++ ys) (sym e)) (c.walk_before-in-Fork-2.ensures _ (c.walk_before-in-Fork.ensures _ (c.walk.ensures seen h)))
+    subst (g.W.Walk.gathers c.args.walk.now c.walk_before-in-Fork-2.new.found) (a ∙ ap (λ ys. seen ++ ys) (sym e)) (c.walk_before-in-Fork-2.ensures _ (c.walk_before-in-Fork.ensures _ (c.walk.ensures seen h)))
