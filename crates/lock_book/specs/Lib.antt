@@ -1,7 +1,7 @@
 pub mod Books
 pub mod Changes
 pub mod Conflicts
-pub mod Covering
+pub mod Indexing
 pub mod Holders
 pub mod Owners
 pub mod OwnerLists

@@ -1,17 +1,17 @@
 //! The locks of one file: who holds which mode on which bytes, and who has locked the whole file.
 ghost use Rattle.std.specs.Prelude.{ℕ, ◌≡◌, None, false};
 ghost use Rattle.lock_book.specs.OwnerLists.{AreInUse};
-ghost use Rattle.lock_book.specs.Covering.{AreCovered, AreCovered-prop};
+ghost use Rattle.lock_book.specs.Indexing.{AreIndexed, AreIndexed-prop};
 
 mod bytes;
 mod conflicts;
-mod cover;
 mod flocks;
 mod holders;
+mod index;
 mod reports;
 
-use self::cover::Cover;
 use self::holders::FlockHolders;
+use self::index::OwnersIndex;
 use crate::Owner;
 use range_core::RangeList;
 use std::alloc::Global;
@@ -24,11 +24,11 @@ use std::collections::BTreeMap;
 #[derive(Drop)]
 pub struct Book {
     owners: BTreeMap<Owner, RangeList>,
-    cover: Cover,
+    index: OwnersIndex,
     flocks: FlockHolders,
     alloc: Global,
     ghost in_use: { AreInUse owners.entries },
-    ghost covered: { AreCovered cover owners.entries } by { AreCovered-prop cover owners.entries },
+    ghost indexed: { AreIndexed index owners.entries } by { AreIndexed-prop index owners.entries },
 }
 
 impl Book {
@@ -44,7 +44,7 @@ impl Book {
     {
         Book {
             owners: BTreeMap::new(alloc),
-            cover: Cover::none(),
+            index: OwnersIndex::none(),
             flocks: FlockHolders::new(alloc),
             alloc,
         }
@@ -58,6 +58,16 @@ impl Book {
 
     /// Whether nobody has a byte lock.
     fn has_no_byte_lock(&self) -> bool
+        ensures { IsTrue result ↔ ((owner : Owner) (byte : ℕ) → byte_modes_of self.now owner byte ≡ None) }
+    {
+        match self.index.get() {
+            Some(index) => index.len() == 0,
+            None => self.lists_are_empty(),
+        }
+    }
+
+    /// What [`Book::has_no_byte_lock`] tells, by the lists of all owners in turn.
+    fn lists_are_empty(&self) -> bool
         ensures { IsTrue result ↔ ((owner : Owner) (byte : ℕ) → byte_modes_of self.now owner byte ≡ None) }
     {
         for (_, list) in &self.owners {

@@ -3,6 +3,7 @@ ghost use Rattle.std.specs.Prelude.{◌≡◌};
 
 use lock_book::{Blocker, Book, Held, Owner};
 use range_core::{Memory, Mode, OFFMAX, Span};
+use std::alloc::Global;
 use std::process::Abort;
 use std::test::Fail;
 
@@ -215,5 +216,205 @@ fn many_owners_come_and_go(rt: HostRuntime) -> Result<(), Fail> {
         assert!(rt; !book.blocked(asker, bytes(0, number), Mode::Write));
     }
     assert!(rt; book.held(3)?.is_empty());
+    Ok(())
+}
+
+/// A lock of one owner on one byte.
+#[derive(Clone, Copy)]
+struct OnByte {
+    owner: Owner,
+    byte: u64,
+    mode: Mode,
+}
+
+/// Up to a hundred owners every second one is a process.
+fn owner(number: u64) -> Owner {
+    if number < 100 && number % 2 == 0 {
+        Owner::Process((number % 100) as u8)
+    } else {
+        Owner::Description(number)
+    }
+}
+
+/// The next number of a sequence that looks random.
+fn next(seed: u64) -> u64 {
+    seed.wrapping_mul(6364136223846793005)
+        .wrapping_add(1442695040888963407)
+}
+
+/// The mode that a number spells.
+fn spelled_mode(seed: u64) -> Mode {
+    if seed % 3 == 0 {
+        Mode::Write
+    } else {
+        Mode::Read
+    }
+}
+
+/// The locks without those of the owner on these bytes, and with this mode there.
+fn set_plainly(
+    alloc: Global,
+    locks: &[OnByte],
+    owner: Owner,
+    span: Span,
+    mode: Option<Mode>,
+) -> Result<Vec<OnByte>, Fail> {
+    let mut rest = Vec::new(alloc);
+    for lock in locks {
+        if lock.owner != owner || lock.byte < span.first || span.last < lock.byte {
+            rest.push(*lock)?;
+        }
+    }
+    if let Some(mode) = mode {
+        for byte in span.first..=span.last {
+            rest.push(OnByte { owner, byte, mode })?;
+        }
+    }
+    Ok(rest)
+}
+
+/// The lock on the least byte that is blocked, of the least owner that blocks there.
+fn first_plainly(locks: &[OnByte], owner: Owner, span: Span, mode: Mode) -> Option<OnByte> {
+    let mut first: Option<OnByte> = None;
+    for lock in locks {
+        let conflicts = lock.owner != owner
+            && span.first <= lock.byte
+            && lock.byte <= span.last
+            && (lock.mode == Mode::Write || mode == Mode::Write);
+        let is_lower = first.is_none_or(|least| {
+            lock.byte < least.byte || (lock.byte == least.byte && lock.owner < least.owner)
+        });
+        if conflicts && is_lower {
+            first = Some(*lock);
+        }
+    }
+    first
+}
+
+/// One change of a book, by a set, a reserved set, a close or a release; all but the set leave the owner's place.
+fn change(
+    rt: &impl Abort,
+    book: &mut Book,
+    way: u64,
+    owner: Owner,
+    span: Span,
+    mode: Option<Mode>,
+) -> Result<(), Fail> {
+    assert!(rt; span.first <= span.last && span.last <= OFFMAX);
+    match way {
+        0 => book.release_owner(owner),
+        1 => book.clear_owner(owner),
+        2 => {
+            book.reserve(owner, 1)?;
+            assert!(rt; book.room(owner) >= 1);
+            book.set_reserved(owner, span, mode);
+        }
+        _ => book.set(owner, span, mode)?,
+    }
+    Ok(())
+}
+
+/// A book and a plain list of the same locks, and the number from which the next change is read off.
+#[derive(Drop)]
+struct Compared {
+    book: Book,
+    locks: Vec<OnByte>,
+    seed: u64,
+    alloc: Global,
+}
+
+impl Compared {
+    fn new(alloc: Global) -> Compared {
+        Compared {
+            book: Book::new(alloc),
+            locks: Vec::new(alloc),
+            seed: 88172645463325252,
+            alloc,
+        }
+    }
+
+    /// A lock of the owner on its own byte and some more, as its first.
+    fn lock(&mut self, rt: &impl Abort, number: u64) -> Result<(), Fail> {
+        assert!(rt; number < 1000);
+        let span = bytes(number % 30, number % 30 + number % 3);
+        let mode = spelled_mode(number);
+        self.book.set(owner(number), span, Some(mode))?;
+        self.locks = set_plainly(self.alloc, &self.locks, owner(number), span, Some(mode))?;
+        Ok(())
+    }
+
+    /// A change that looks random, by one of so many owners.
+    fn change(&mut self, rt: &impl Abort, owners: u64) -> Result<(), Fail> {
+        assert!(rt; owners > 0);
+        self.seed = next(self.seed);
+        let who = owner((self.seed >> 33) % owners);
+        let first = (self.seed >> 40) % 30;
+        let span = bytes(first, first + (self.seed >> 46) % 8);
+        let mode = if (self.seed >> 50) % 4 == 0 {
+            None
+        } else {
+            Some(spelled_mode(self.seed >> 53))
+        };
+        let way = (self.seed >> 56) % 8;
+        change(rt, &mut self.book, way, who, span, mode)?;
+        self.locks = if way < 2 {
+            set_plainly(self.alloc, &self.locks, who, bytes(0, OFFMAX), None)?
+        } else {
+            set_plainly(self.alloc, &self.locks, who, span, mode)?
+        };
+        Ok(())
+    }
+
+    /// Asks the book and the list who is in the way of a lock that looks random, of one of so many owners.
+    fn compare(&mut self, rt: &impl Abort, owners: u64, step: u64) {
+        assert!(rt; owners > 0);
+        self.seed = next(self.seed);
+        let asker = owner((self.seed >> 33) % owners);
+        let first = (self.seed >> 40) % 30;
+        let asked = bytes(first, first + (self.seed >> 46) % 8);
+        let wanted = spelled_mode(self.seed >> 53);
+        let least = first_plainly(&self.locks, asker, asked, wanted);
+        assert!(rt; asked.first <= asked.last && asked.last <= OFFMAX);
+        assert_eq!(rt;
+            self.book.blocked(asker, asked, wanted),
+            least.is_some(),
+            "at step {step}"
+        );
+        let blocker = self.book.first_blocker(asker, asked, wanted);
+        assert_eq!(rt; blocker.is_some(), least.is_some(), "at step {step}");
+        if let (Some(blocker), Some(least)) = (blocker, least) {
+            assert_eq!(rt; blocker.owner, least.owner, "at step {step}");
+            assert_eq!(rt; blocker.mode, least.mode, "at step {step}");
+            assert!(rt; blocker.span.first <= least.byte && least.byte <= blocker.span.last);
+        }
+        assert_eq!(rt; self.book.is_empty(), self.locks.is_empty());
+    }
+}
+
+/// With few owners and with many, who come and go, a book tells who is in the way as a list of all bytes does.
+#[test]
+fn tells_blockers_as_a_list_does(rt: HostRuntime) -> Result<(), Fail> {
+    let mut compared = Compared::new(rt.alloc());
+    for step in 0..600u64 {
+        // Forty owners at first, then five, then forty again.
+        let owners = if step / 200 == 1 { 5 } else { 40 };
+        compared.change(&rt, owners)?;
+        compared.compare(&rt, 40, step);
+    }
+    Ok(())
+}
+
+/// So it does among 500 owners, as they come and once all have locks.
+#[test]
+fn tells_blockers_among_500_owners(rt: HostRuntime) -> Result<(), Fail> {
+    let mut compared = Compared::new(rt.alloc());
+    for number in 0..500u64 {
+        compared.lock(&rt, number)?;
+        compared.compare(&rt, 500, number);
+    }
+    for step in 500..1000u64 {
+        compared.change(&rt, 500)?;
+        compared.compare(&rt, 500, step);
+    }
     Ok(())
 }

@@ -20,11 +20,16 @@ impl Book {
         ensures unlock { mode ≡ None → (¬ SplitsRun (byte_modes_of self.old owner) span) → IsOk result }
         ensures err { OnErr result (SameBook self.old self.new) }
     {
-        self.cover.prepare(self.alloc, mode, &self.owners);
-        self.cover.raise(span, mode);
+        self.index.prepare_set(self.alloc, &self.owners, mode);
         match self.owners.get_mut(&owner) {
             Some(list) => {
-                list.set(span, mode)?;
+                self.index.take_out(owner, list, span);
+                if let Err(refused) = list.set(span, mode) {
+                    // The list is as it was: the runs that were taken out go in again.
+                    self.index.put_in(owner, list, span);
+                    return Err(refused);
+                }
+                self.index.put_in(owner, list, span);
                 if is_idle(list) {
                     self.owners.remove(&owner);
                 }
@@ -38,6 +43,8 @@ impl Book {
                 let mut added = RangeList::new(self.alloc);
                 added.set(span, mode)?;
                 self.owners.insert(owner, added)?;
+                let list = self.owners.get(&owner).unwrap();
+                self.index.put_in(owner, list, span);
                 Ok(())
             }
         }
@@ -53,6 +60,7 @@ impl Book {
         ensures there { sets ≤ room_in self.old owner → IsOk result }
         ensures err { OnErr result (SameBook self.old self.new) }
     {
+        self.index.prepare(self.alloc, &self.owners);
         match self.owners.get_mut(&owner) {
             Some(list) => list.reserve(sets),
             None => {
@@ -86,9 +94,10 @@ impl Book {
         ensures sets { SetsOwnerMode self.old self.new owner span mode }
         ensures room { room_in self.old owner ≤ room_in self.new owner + 1 }
     {
-        self.cover.raise(span, mode);
         let list = self.owners.get_mut(&owner).unwrap();
+        self.index.take_out(owner, list, span);
         list.set_reserved(span, mode);
+        self.index.put_in(owner, list, span);
         if is_idle(list) {
             self.owners.remove(&owner);
         }
@@ -100,7 +109,10 @@ impl Book {
     pub fn release_owner(&mut self, owner: Owner)
         ensures { ReleasesOwner self.old self.new owner }
     {
-        self.owners.remove(&owner);
+        let Some(list) = self.owners.remove(&owner) else {
+            return;
+        };
+        self.index.take_all(owner, &list);
     }
 
     /// Removes all byte locks of the owner; its room stays, for a set that is still to come (POSIX.1-2017 close: the process'
@@ -110,6 +122,7 @@ impl Book {
     {
         match self.owners.get_mut(&owner) {
             Some(list) => {
+                self.index.take_all(owner, list);
                 list.clear();
                 if is_idle(list) {
                     self.owners.remove(&owner);

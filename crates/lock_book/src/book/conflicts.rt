@@ -10,6 +10,7 @@ ghost use Rattle.lock_book.specs.OwnerLists.{modes_in_list, room_in_list};
 ghost use Rattle.lock_book.specs.Books.{byte_modes_of, room_in};
 
 use super::Book;
+use super::index::{holder, owner_of};
 use crate::{Blocker, Owner};
 use range_core::{Mode, RangeList, Span};
 use std::collections::BTreeMap;
@@ -21,9 +22,17 @@ impl Book {
         requires { IsByteRange span }
         ensures { IsTrue result ↔ ByteConflict (byte_modes_of self.now) owner span mode }
     {
-        if self.cover.is_clear(span, mode) {
-            return false;
+        match self.index.get() {
+            Some(index) => index.is_blocked(holder(owner), span, mode),
+            None => self.blocked_by_lists(owner, span, mode),
         }
+    }
+
+    /// What [`Book::blocked`] tells, by the lists of all owners in turn.
+    fn blocked_by_lists(&self, owner: Owner, span: Span, mode: Mode) -> bool
+        requires { IsByteRange span }
+        ensures { IsTrue result ↔ ByteConflict (byte_modes_of self.now) owner span mode }
+    {
         for (other, list) in &self.owners {
             if has_no_lock(list) {
                 continue;
@@ -89,9 +98,22 @@ impl Book {
         ensures hit { IfSome result (λ hit. IsFirstBlocked (byte_modes_of self.now) owner span mode hit.0 hit.1) }
         ensures none { IfNone result (¬ ByteConflict (byte_modes_of self.now) owner span mode) }
     {
-        if self.cover.is_clear(span, mode) {
-            return None;
+        let Some(index) = self.index.get() else {
+            return self.first_hit_in_lists(owner, span, mode);
+        };
+        let (byte, first) = index.first_in_the_way(holder(owner), span, mode)?;
+        match owner_of(first) {
+            Some(other) => Some((byte, other)),
+            None => self.first_hit_in_lists(owner, span, mode),
         }
+    }
+
+    /// What [`Book::first_hit`] tells, by the lists of all owners in turn.
+    fn first_hit_in_lists(&self, owner: Owner, span: Span, mode: Mode) -> Option<(u64, Owner)>
+        requires { IsByteRange span }
+        ensures hit { IfSome result (λ hit. IsFirstBlocked (byte_modes_of self.now) owner span mode hit.0 hit.1) }
+        ensures none { IfNone result (¬ ByteConflict (byte_modes_of self.now) owner span mode) }
+    {
         let mut first: Option<(u64, Owner)> = None;
         for (other, list) in &self.owners {
             if has_no_lock(list) || *other == owner {

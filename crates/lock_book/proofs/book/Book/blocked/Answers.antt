@@ -1,67 +1,20 @@
-use Rattle.std.proofs.Common.{◌≡◌, not, sym, true, false, refl}
-use Rattle.std.specs.Map.Iter.{deref_pair}
-use Rattle.std.proofs.lemmas.Bool.{not-true, not-false}
-use Rattle.std.proofs.lemmas.List.Elements.{All-push}
-use Rattle.std.proofs.lemmas.Map.Iter.{iter_end}
-use Rattle.lock_book.specs.Books.{byte_modes_of}
-use Rattle.lock_book.proofs.OwnerLemmas.{owner_eq, same_from_eq, different_from_eq}
-use Rattle.lock_book.proofs.BlockLemmas.{NeverBlocks, conflict_from_hit, least_none, modes_in_loop, never_itself, never_without_hit, never_without_modes}
-use Rattle.lock_book.proofs.CoverLemmas.{clear_of_conflicts}
+use Rattle.std.proofs.Common.{sym, subst}
+use Rattle.interval_index.specs.declared.Holder.{Holder}
+use Rattle.interval_index.specs.Standing.{HolderConflict}
+use Rattle.lock_book.specs.Books.{byte_modes_of, list_of}
+use Rattle.lock_book.specs.Indexing.{holder_modes}
+use Rattle.lock_book.proofs.IndexedLemmas.{conflict_from, conflict_on}
 use Rattle.lock_book.proofs.book.Book.blocked.Goals as goal
-use Rattle.lock_book.proofs.book.Book.blocked.Goals.{else-ne-via-then-ne+else-is_some, else-ne-via-else-ne}
 
-pub returns-then-is_clear : goal.returns-then-is_clear
-returns-then-is_clear c = (
-  λ h. absurd (let e : false ≡ true = h in cc),
-  λ conflict. absurd (clear_of_conflicts c.args.self.now c.args.owner c.args.span c.args.mode (c.is_clear.ensures c.if-is_clear.true) conflict),
-)
-
-pub returns-then-is_some : goal.returns-then-is_some
-returns-then-is_some c =
-    let gives = c.into_iter-other-iterator.ensures.into_iter_gives in
-    let modes = modes_in_loop c.args.self.now c.loop-other.yielded _ _ _ _ (c.in-Some.other, c.in-Some.list)
-    gives.0 c.loop-other.yielded_by c.in-Some.is c.next.ensures.steps gives.6 in
-    let test : true ≡ not (owner_eq c.in-Some.other.now c.args.owner) = c.if-ne.ensures in (
-      λ _. conflict_from_hit _ _ _ _ c.in-Some.other.now c.first_hit.result (different_from_eq _ _ (not-true _ (sym test)))
-          (sym c.if-is_some.ensures) (rw modes c.first_hit.ensures.hit),
-      λ _. refl,
-    )
-
-pub loop-other-preserved-then-has_no_lock : goal.loop-other-preserved-then-has_no_lock
-loop-other-preserved-then-has_no_lock c =
-    let gives = c.into_iter-other-iterator.ensures.into_iter_gives in
-    let modes = modes_in_loop c.args.self.now c.loop-other.yielded _ _ _ _ (c.in-Some.other, c.in-Some.list)
-    gives.0 c.loop-other.yielded_by c.in-Some.is c.next.ensures.steps gives.6 in (
-      tt,
-      tt,
-      All-push (λ x. NeverBlocks (byte_modes_of c.args.self.now) c.args.owner c.args.span c.args.mode x.0.now) c.loop-other.yielded
-          (c.in-Some.other, c.in-Some.list) c.loop-other.invariant.2
-          (never_without_modes _ _ _ _ _ (rw modes (c.has_no_lock.ensures.0 c.if-has_no_lock.true))),
-    )
-
-pub loop-other-preserved : goal.loop-other-preserved
-loop-other-preserved c =
-    let gives = c.into_iter-other-iterator.ensures.into_iter_gives in
-    let modes = modes_in_loop c.args.self.now c.loop-other.yielded _ _ _ _ (c.in-Some.other, c.in-Some.list)
-    gives.0 c.loop-other.yielded_by c.in-Some.is c.next.ensures.steps gives.6 in
-    let never : NeverBlocks (byte_modes_of c.args.self.now) c.args.owner c.args.span c.args.mode c.in-Some.other.now =
-    elim c.else-ne.branch [
-      | else-ne-via-then-ne+else-is_some w ↦
-          never_without_hit _ _ _ _ _ w.first_hit.result (sym w.if-is_some.ensures) (rw modes w.first_hit.ensures.none)
-      | else-ne-via-else-ne w ↦
-          (let test : false ≡ not (owner_eq c.in-Some.other.now c.args.owner) = w.if-ne.ensures in
-          never_itself _ _ _ _ _ (same_from_eq _ _ (not-false _ (sym test))))
-    ] in (
-      tt,
-      tt,
-      All-push (λ x. NeverBlocks (byte_modes_of c.args.self.now) c.args.owner c.args.span c.args.mode x.0.now) c.loop-other.yielded
-          (c.in-Some.other, c.in-Some.list) c.loop-other.invariant.2 never,
-    )
-
-pub returns : goal.returns
-returns c =
-    let gives = c.into_iter-other-iterator.ensures.into_iter_gives in
-    let whole = (iter_end deref_pair c.args.self.now.owners.entries c.loop-other.yielded _ _ _ _ gives.0 c.loop-other.yielded_by c.in-None.is c.next.ensures.steps).0 in (
-      λ h. absurd (let e : false ≡ true = h in cc),
-      λ conflict. absurd (least_none c.args.self.now c.loop-other.yielded _ _ _ whole c.loop-other.invariant.2 conflict),
+pub returns-in-Some : goal.returns-in-Some
+unfolding byte_modes_of list_of
+returns-in-Some c =
+    let book = c.args.self.now in
+    let modes = byte_modes_of book in
+    let told = c.is_blocked.ensures.modes (holder_modes modes) (c.in-Some.ensures.told book.owners.entries book.indexed) in (
+      λ yes. conflict_from modes c.args.owner c.args.mode c.args.span
+          (subst (λ (h : Holder). HolderConflict (holder_modes modes) h c.args.span c.args.mode) c.holder.ensures (told.0 yes)),
+      λ conflict. told.1
+          (subst (λ (h : Holder). HolderConflict (holder_modes modes) h c.args.span c.args.mode) (sym c.holder.ensures)
+          (conflict_on modes c.args.owner c.args.mode c.args.span conflict)),
     )

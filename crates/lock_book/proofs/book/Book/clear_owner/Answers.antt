@@ -1,7 +1,7 @@
 use Rattle.std.proofs.Common.{arith, ◌≡◌, ◌∙◌, sym, true, refl, Some, None}
 use Rattle.std.proofs.lemmas.Grind.{common_steps}
 use Rattle.lock_book.proofs.BookLemmas.{list_of-not_lent, list_written, PutsAt-removes, PutsList-puts, ClearsOwner-puts, ClearsOwner-nothing}
-use Rattle.lock_book.proofs.CoverLemmas.{AreKept-list, AreKept-removed, AreKept-left}
+use Rattle.lock_book.proofs.KeptLemmas.{AreKept-list, AreKept-removed, AreKept-left, indexed_cleared}
 use Rattle.lock_book.proofs.book.Book.clear_owner.Goals as goal
 
 pub invariant_of-self : goal.invariant_of-self
@@ -10,9 +10,11 @@ invariant_of-self c =
     let list = c.clear.new.self in
     let owners = c.get_mut.follows.lender list in
     let written = list_written book owners c.args.owner _ _ list c.get_mut.ensures.value c.in-Some.is (c.get_mut.follows.holds list) in
-    let kept = AreKept-removed book.cover book c.remove.new.self c.args.owner book.covered
-    (PutsAt-removes book owners c.remove.new.self c.args.owner (Some list) written.1 c.remove.ensures.updates) in
-    record { in_use = kept.in_use; covered = kept.covered }
+    let puts = PutsAt-removes book owners c.remove.new.self c.args.owner (Some list) written.1 c.remove.ensures.updates in
+    let kept = AreKept-removed c.take_all.new.self book c.remove.new.self c.args.owner puts
+    (indexed_cleared book c.remove.new.self c.args.owner None puts book.index c.take_all.new.self book.indexed c.in-Some.list.now
+    written.0 (λ byte. refl) c.take_all.ensures) in
+    record { in_use = kept.in_use; indexed = kept.indexed }
 
 pub invariant_of-self-else-is_idle : goal.invariant_of-self-else-is_idle
 invariant_of-self-else-is_idle c =
@@ -20,10 +22,11 @@ invariant_of-self-else-is_idle c =
     let list = c.clear.new.self in
     let owners = c.get_mut.follows.lender list in
     let written = list_written book owners c.args.owner _ _ list c.get_mut.ensures.value c.in-Some.is (c.get_mut.follows.holds list) in
-    let kept = AreKept-list book.cover book owners c.args.owner list book.covered written.1
+    let kept = AreKept-list c.take_all.new.self book owners c.args.owner list written.1
     (λ idle. let yes : c.is_idle.result ≡ true = c.is_idle.ensures.1 idle in let no = c.if-is_idle.false in cc)
-    (λ byte wanted conflict. absurd (rw (c.clear.ensures.modes byte) at conflict)) in
-    record { in_use = kept.in_use; covered = kept.covered }
+    (indexed_cleared book owners c.args.owner (Some list) written.1 book.index c.take_all.new.self book.indexed c.in-Some.list.now
+    written.0 c.clear.ensures.modes c.take_all.ensures) in
+    record { in_use = kept.in_use; indexed = kept.indexed }
 
 pub returns-then-is_idle : goal.returns-then-is_idle
 returns-then-is_idle c =
@@ -50,5 +53,5 @@ returns-in-None c = grind (arith, common_steps, ClearsOwner-nothing, list_of-not
 
 pub invariant_of-self-in-None : goal.invariant_of-self-in-None
 invariant_of-self-in-None c =
-    let kept = AreKept-left c.args.self.now.cover c.args.self.now _ c.args.self.now.covered c.get_mut.follows.holds-at-none in
-    record { in_use = kept.in_use; covered = kept.covered }
+    let kept = AreKept-left c.args.self.now.index c.args.self.now _ c.args.self.now.indexed c.get_mut.follows.holds-at-none in
+    record { in_use = kept.in_use; indexed = kept.indexed }

@@ -1,87 +1,29 @@
-use Rattle.std.proofs.Common.{arith, ◌≡◌, sym, true, false}
-use Rattle.std.proofs.lemmas.Grind.{common_steps}
-use Rattle.std.specs.Map.Iter.{deref_pair}
-use Rattle.std.proofs.lemmas.Map.Iter.{iter_end}
-use Rattle.lock_book.specs.Books.{byte_modes_of}
-use Rattle.lock_book.proofs.OwnerLemmas.{owner_eq, same_from_eq, different_from_eq}
-use Rattle.lock_book.proofs.BlockLemmas.{NeverBlocks, least_skip, least_replaces, least_stays, none_from_least, first_from_least, modes_in_loop, before_in_loop, never_itself, never_from_none, never_without_modes, first_at_start}
-use Rattle.lock_book.proofs.CoverLemmas.{clear_of_conflicts}
+use Rattle.std.proofs.Common.{sym, subst}
+use Rattle.interval_index.specs.declared.Holder.{Holder}
+use Rattle.interval_index.specs.Standing.{HolderConflict, IsFirstInTheWay}
+use Rattle.lock_book.specs.Books.{byte_modes_of, list_of}
+use Rattle.lock_book.specs.Indexing.{as_holder, holder_modes}
+use Rattle.lock_book.proofs.IndexedLemmas.{IfNone-anyhow, conflict_on, first_from}
 use Rattle.lock_book.proofs.book.Book.first_hit.Goals as goal
-use Rattle.lock_book.proofs.book.Book.first_hit.Goals.{then-has_no_lock-via-then-has_no_lock, then-has_no_lock-via-else-has_no_lock+then-eq}
 
-pub returns-then-is_clear-clause-none : goal.returns-then-is_clear-clause-none
-returns-then-is_clear-clause-none c = clear_of_conflicts c.args.self.now c.args.owner c.args.span c.args.mode (c.is_clear.ensures c.if-is_clear.true)
+pub returns-in_err-byte-clause-none : goal.returns-in_err-byte-clause-none
+unfolding byte_modes_of list_of
+returns-in_err-byte-clause-none c =
+    let book = c.args.self.now in
+    let modes = byte_modes_of book in
+    let none = c.in_err-byte.ensures.none (holder_modes modes) (c.in-Some.ensures.told book.owners.entries book.indexed) in
+    IfNone-anyhow c.from_residual.result (λ conflict. none
+    (subst (λ (h : Holder). HolderConflict (holder_modes modes) h c.args.span c.args.mode) (sym c.holder.ensures)
+    (conflict_on modes c.args.owner c.args.mode c.args.span conflict)))
 
-pub loop-other-preserved-then-has_no_lock : goal.loop-other-preserved-then-has_no_lock
-loop-other-preserved-then-has_no_lock c =
-    let gives = c.into_iter-other-iterator.ensures.into_iter_gives in
-    let modes = modes_in_loop c.args.self.now c.loop-other.yielded _ _ _ _ (c.in-Some.other, c.in-Some.list)
-    gives.0 c.loop-other.yielded_by c.in-Some.is c.next.ensures.steps gives.6 in
-    let never : NeverBlocks (byte_modes_of c.args.self.now) c.args.owner c.args.span c.args.mode c.in-Some.other.now =
-    elim c.then-has_no_lock.branch [
-      | then-has_no_lock-via-then-has_no_lock w ↦
-          never_without_modes _ _ _ _ _ (rw modes (c.has_no_lock.ensures.0 w.if-has_no_lock.true))
-      | then-has_no_lock-via-else-has_no_lock+then-eq w ↦
-          (let test : true ≡ owner_eq c.in-Some.other.now c.args.owner = w.if-eq.ensures in
-          never_itself _ _ _ _ _ (same_from_eq _ _ (sym test)))
-    ] in (
-      tt,
-      tt,
-      least_skip _ _ _ _ c.loop-other.yielded c.loop-other.first (c.in-Some.other, c.in-Some.list) c.loop-other.invariant.2 never,
-    )
-
-pub loop-other-preserved-then-is_lower : goal.loop-other-preserved-then-is_lower
-loop-other-preserved-then-is_lower c =
-    let gives = c.into_iter-other-iterator.ensures.into_iter_gives in
-    let test : false ≡ owner_eq c.in-Some.other.now c.args.owner = c.if-eq.ensures in
-    let modes = modes_in_loop c.args.self.now c.loop-other.yielded _ _ _ _ (c.in-Some.other, c.in-Some.list)
-    gives.0 c.loop-other.yielded_by c.in-Some.is c.next.ensures.steps gives.6 in (
-      tt,
-      tt,
-      least_replaces _ _ _ _ c.loop-other.yielded c.loop-other.first (c.in-Some.other, c.in-Some.list) c.in-Some-first_hit.byte
-          c.loop-other.invariant.2 (different_from_eq _ _ (sym test)) (rw modes c.in-Some-first_hit.ensures.hit) c.if-is_lower.ensures,
-    )
-
-pub loop-other-preserved-else-is_lower : goal.loop-other-preserved-else-is_lower
-loop-other-preserved-else-is_lower c =
-    let gives = c.into_iter-other-iterator.ensures.into_iter_gives in
-    let modes = modes_in_loop c.args.self.now c.loop-other.yielded _ _ _ _ (c.in-Some.other, c.in-Some.list)
-    gives.0 c.loop-other.yielded_by c.in-Some.is c.next.ensures.steps gives.6 in
-    let before = before_in_loop c.args.self.now c.loop-other.yielded _ _ _ _ (c.in-Some.other, c.in-Some.list)
-    gives.0 c.loop-other.yielded_by c.in-Some.is c.next.ensures.steps gives.5 in (
-      tt,
-      tt,
-      least_stays _ _ _ _ c.loop-other.yielded c.loop-other.first (c.in-Some.other, c.in-Some.list) c.in-Some-first_hit.byte
-          c.loop-other.invariant.2 (rw modes c.in-Some-first_hit.ensures.hit) before c.if-is_lower.ensures,
-    )
-
-pub loop-other-preserved : goal.loop-other-preserved
-loop-other-preserved c =
-    let gives = c.into_iter-other-iterator.ensures.into_iter_gives in
-    let modes = modes_in_loop c.args.self.now c.loop-other.yielded _ _ _ _ (c.in-Some.other, c.in-Some.list)
-    gives.0 c.loop-other.yielded_by c.in-Some.is c.next.ensures.steps gives.6 in (
-      tt,
-      tt,
-      least_skip _ _ _ _ c.loop-other.yielded c.loop-other.first (c.in-Some.other, c.in-Some.list) c.loop-other.invariant.2
-          (never_from_none _ _ _ _ _ (rw modes c.in_default.ensures.none)),
-    )
-
-pub returns-clause-hit : goal.returns-clause-hit
-returns-clause-hit c =
-    let gives = c.into_iter-other-iterator.ensures.into_iter_gives in
-    let whole = (iter_end deref_pair c.args.self.now.owners.entries c.loop-other.yielded _ _ _ _ gives.0 c.loop-other.yielded_by c.in-None.is c.next.ensures.steps).0 in
-    first_from_least _ _ _ _ _ _ whole c.loop-other.invariant.2
-
-pub returns-clause-none : goal.returns-clause-none
-returns-clause-none c = grind (arith, common_steps, iter_end, none_from_least)
-
-pub returns-then-byte-span-clause-hit : goal.returns-then-byte-span-clause-hit
-returns-then-byte-span-clause-hit c =
-    let gives = c.into_iter-other-iterator.ensures.into_iter_gives in
-    let test : false ≡ owner_eq c.in-Some.other.now c.args.owner = c.if-eq.ensures in
-    let modes = modes_in_loop c.args.self.now c.loop-other.yielded _ _ _ _ (c.in-Some.other, c.in-Some.list)
-    gives.0 c.loop-other.yielded_by c.in-Some.is c.next.ensures.steps gives.6 in
-    first_at_start c.args.self.now c.loop-other.yielded _ _ _ _ (c.in-Some.other, c.in-Some.list) gives.0 c.loop-other.yielded_by c.in-Some.is c.next.ensures.steps gives.5
-    c.args.owner c.args.span c.args.mode c.in-Some-first_hit.byte c.if-byte-span.true
-    (least_replaces _ _ _ _ c.loop-other.yielded c.loop-other.first (c.in-Some.other, c.in-Some.list) c.in-Some-first_hit.byte
-    c.loop-other.invariant.2 (different_from_eq _ _ (sym test)) (rw modes c.in-Some-first_hit.ensures.hit) c.if-is_lower.ensures)
+pub returns-in-Some-owner_of-clause-hit : goal.returns-in-Some-owner_of-clause-hit
+unfolding byte_modes_of list_of
+returns-in-Some-owner_of-clause-hit c =
+    let book = c.args.self.now in
+    let modes = byte_modes_of book in
+    let byte = c.in_ok-byte.byte in
+    let first = c.in_ok-byte.ensures.first (holder_modes modes) (c.in-Some.ensures.told book.owners.entries book.indexed) in
+    let of_owner =
+    subst (λ (h : Holder). IsFirstInTheWay (holder_modes modes) h c.args.span c.args.mode byte c.in_ok-byte.first) c.holder.ensures first in
+    first_from modes c.args.owner c.args.mode c.args.span byte c.in-Some-owner_of.other
+    (subst (λ (h : Holder). IsFirstInTheWay (holder_modes modes) (as_holder c.args.owner) c.args.span c.args.mode byte h) (sym c.in-Some-owner_of.ensures) of_owner)

@@ -1,39 +1,15 @@
-use Rattle.std.proofs.Common.{ℕ, ◌≡◌, sym, ◌∙◌, ap, true, false, refl, Option, None}
-use Rattle.std.specs.Map.Iter.{deref_pair}
-use Rattle.std.proofs.lemmas.List.Elements.{All-push}
-use Rattle.std.proofs.lemmas.Map.Iter.{iter_end}
-use Rattle.range_core.specs.declared.Mode.{Mode}
-use Rattle.range_core.specs.Changes.{modes_of}
-use Rattle.lock_book.specs.Books.{byte_modes_of}
-use Rattle.lock_book.proofs.BlockLemmas.{modes_in_loop, no_modes}
-use Rattle.lock_book.proofs.RunLemmas.{free_by_runs}
+use Rattle.std.proofs.Common.{sym, ◌∙◌}
+use Rattle.std.proofs.lemmas.Bool.{eq-eqb, eqb-true}
+use Rattle.lock_book.specs.Books.{byte_modes_of, list_of}
+use Rattle.lock_book.proofs.IndexedLemmas.{no_runs, none_without_runs}
 use Rattle.lock_book.proofs.book.Book.has_no_byte_lock.Goals as goal
 
-pub returns-then-not-is_empty : goal.returns-then-not-is_empty
-returns-then-not-is_empty c =
-    let gives = c.into_iter-list-iterator.ensures.into_iter_gives in
-    let modes = modes_in_loop c.args.self.now c.loop-list.yielded _ _ _ _ (c.in-Some.field-0-0, c.in-Some.list)
-    gives.0 c.loop-list.yielded_by c.in-Some.is c.next.ensures.steps gives.6 in
-    let free = free_by_runs (modes_of c.in-Some.list.now) c.runs.result.now c.runs.ensures.runs c.is_empty.result c.is_empty.ensures in (
-      λ h. absurd (let e : false ≡ true = h in cc),
-      λ none. absurd (let yes = free.1 (λ byte. sym (ap (λ (m : ℕ → Option Mode). m byte) modes) ∙ none c.in-Some.field-0-0.now byte) in
-          let no = c.if-not-is_empty.true in cc),
+pub returns-in-Some : goal.returns-in-Some
+unfolding byte_modes_of list_of
+returns-in-Some c =
+    let book = c.args.self.now in
+    let modes = byte_modes_of book in
+    let runs = c.in-Some.index.now.runs in (
+      λ yes. none_without_runs modes runs (c.in-Some.ensures.told book.owners.entries book.indexed) (sym c.len.ensures ∙ eqb-true c.len.result 0 yes),
+      λ none. eq-eqb c.len.result 0 (c.len.ensures ∙ no_runs modes runs (c.in-Some.ensures.kept book.owners.entries book.indexed) none),
     )
-
-pub loop-list-preserved : goal.loop-list-preserved
-loop-list-preserved c =
-    let gives = c.into_iter-list-iterator.ensures.into_iter_gives in
-    let modes = modes_in_loop c.args.self.now c.loop-list.yielded _ _ _ _ (c.in-Some.field-0-0, c.in-Some.list)
-    gives.0 c.loop-list.yielded_by c.in-Some.is c.next.ensures.steps gives.6 in
-    let free = free_by_runs (modes_of c.in-Some.list.now) c.runs.result.now c.runs.ensures.runs c.is_empty.result c.is_empty.ensures in (
-      tt,
-      tt,
-      All-push (λ x. (byte : ℕ) → byte_modes_of c.args.self.now x.0.now byte ≡ None) c.loop-list.yielded (c.in-Some.field-0-0, c.in-Some.list)
-          c.loop-list.invariant.2 (λ byte. ap (λ (m : ℕ → Option Mode). m byte) modes ∙ free.0 c.if-not-is_empty.false byte),
-    )
-
-pub returns : goal.returns
-returns c =
-    let gives = c.into_iter-list-iterator.ensures.into_iter_gives in
-    let whole = (iter_end deref_pair c.args.self.now.owners.entries c.loop-list.yielded _ _ _ _ gives.0 c.loop-list.yielded_by c.in-None.is c.next.ensures.steps).0 in
-    (λ yes. no_modes c.args.self.now c.loop-list.yielded whole c.loop-list.invariant.2, λ none. refl)

@@ -1,10 +1,9 @@
 use Rattle.std.proofs.lemmas.Grind.{common_steps}
 use Rattle.std.proofs.Common.{◌≡◌, ◌∙◌, refl, Some, None, arith}
 use Rattle.std.proofs.lemmas.Result.{on_ok_weaker, on_err_weaker}
-use Rattle.range_core.specs.Changes.{modes_of}
 use Rattle.lock_book.specs.Books.{list_of}
 use Rattle.lock_book.proofs.BookLemmas.{list_of-lent, list_of-not_lent, list_written, PutsAt-adds, PutsList-puts, still_in_use, in_use_by_room, SameButRoom-puts, SameBook-puts, room_in-list}
-use Rattle.lock_book.proofs.CoverLemmas.{AreKept-insert, AreKept-left, AreKept-list, IsCovered-same, IsCovered-before}
+use Rattle.lock_book.proofs.KeptLemmas.{AreKept-insert, AreKept-left, AreKept-list, kept_same}
 use Rattle.lock_book.proofs.book.Book.reserve.Goals as goal
 
 pub returns-in_err-reserve-in-None-clause-there : goal.returns-in_err-reserve-in-None-clause-there
@@ -55,28 +54,28 @@ invariant_of-self c =
     let list = c.reserve.new.self in
     let owners = c.get_mut.follows.lender list in
     let written = list_written book owners c.args.owner _ _ list c.get_mut.ensures.value c.in-Some.is (c.get_mut.follows.holds list) in
-    let kept = AreKept-list book.cover book owners c.args.owner list book.covered written.1
+    let kept = AreKept-list c.prepare.new.self book owners c.args.owner list written.1
     (still_in_use book c.args.owner c.in-Some.list.now list written.0 c.reserve.ensures.modes c.reserve.ensures.kept)
-    (IsCovered-same book.cover book.cover (λ byte wanted may. may) (modes_of c.in-Some.list.now) (modes_of list)
-    (IsCovered-before book book.cover c.args.owner (Some c.in-Some.list.now) book.covered written.0) c.reserve.ensures.modes) in
-    record { in_use = kept.in_use; covered = kept.covered }
+    (kept_same book owners c.args.owner (Some list) written.1 c.prepare.new.self (Some c.in-Some.list.now) written.0 c.reserve.ensures.modes c.prepare.ensures) in
+    record { in_use = kept.in_use; indexed = kept.indexed }
 
 pub invariant_of-self-in-None : goal.invariant_of-self-in-None
 invariant_of-self-in-None c =
     let book = c.args.self.now in
     let added = c.reserve-in-None.new.self in
-    let kept = AreKept-insert book.cover book _ c.insert.new.self c.args.owner added c.insert.result book.covered c.get_mut.follows.holds-at-none
+    let none : list_of book c.args.owner ≡ None = list_of-not_lent _ _ _ c.get_mut.ensures.value c.in-None.is in
+    let kept = AreKept-insert c.prepare.new.self book _ c.insert.new.self c.args.owner added c.insert.result c.get_mut.follows.holds-at-none
     c.insert.ensures.updates c.insert.ensures.err (in_use_by_room added (let room = c.in_ok-reserve-in-None.ensures.ok in omega arith))
-    (IsCovered-same book.cover book.cover (λ byte wanted may. may) (λ byte. None) (modes_of added) (λ byte wanted conflict. absurd conflict)
-    (λ byte. c.reserve-in-None.ensures.modes byte ∙ c.new-list.ensures.modes byte)) in
-    record { in_use = kept.in_use; covered = kept.covered }
+    c.prepare.ensures (λ puts. kept_same book c.insert.new.self c.args.owner (Some added) puts c.prepare.new.self None none
+    (λ byte. c.reserve-in-None.ensures.modes byte ∙ c.new-list.ensures.modes byte) c.prepare.ensures) in
+    record { in_use = kept.in_use; indexed = kept.indexed }
 
 pub invariant_of-self-then-sets-eq0 : goal.invariant_of-self-then-sets-eq0
 invariant_of-self-then-sets-eq0 c =
-    let kept = AreKept-left c.args.self.now.cover c.args.self.now _ c.args.self.now.covered c.get_mut.follows.holds-at-none in
-    record { in_use = kept.in_use; covered = kept.covered }
+    let kept = AreKept-left c.prepare.new.self c.args.self.now _ c.prepare.ensures c.get_mut.follows.holds-at-none in
+    record { in_use = kept.in_use; indexed = kept.indexed }
 
 pub invariant_of-self-in-Break-1 : goal.invariant_of-self-in-Break-1
 invariant_of-self-in-Break-1 c =
-    let kept = AreKept-left c.args.self.now.cover c.args.self.now _ c.args.self.now.covered c.get_mut.follows.holds-at-none in
-    record { in_use = kept.in_use; covered = kept.covered }
+    let kept = AreKept-left c.prepare.new.self c.args.self.now _ c.prepare.ensures c.get_mut.follows.holds-at-none in
+    record { in_use = kept.in_use; indexed = kept.indexed }

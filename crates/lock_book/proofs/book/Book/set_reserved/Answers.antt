@@ -1,8 +1,7 @@
 use Rattle.std.proofs.Common.{◌≡◌, ◌∙◌, sym, true, refl, Some, None, arith}
-use Rattle.range_core.specs.Changes.{modes_of}
 use Rattle.lock_book.specs.Books.{list_of}
 use Rattle.lock_book.proofs.BookLemmas.{list_of-lent, list_written, PutsAt-removes, PutsList-puts, SetsOwnerMode-puts, room_in-list, room_left}
-use Rattle.lock_book.proofs.CoverLemmas.{AreCovered-grown, AreKept-list, AreKept-removed, IsCovered-set, IsCovered-before}
+use Rattle.lock_book.proofs.KeptLemmas.{AreKept-list, AreKept-removed, indexed_set}
 use Rattle.lock_book.proofs.book.Book.set_reserved.Goals as goal
 
 pub set_reserved-requires-clause-room : goal.set_reserved-requires-clause-room
@@ -17,10 +16,12 @@ invariant_of-self c =
     let list = c.set_reserved.new.self in
     let owners = c.get_mut.follows.lender list in
     let written = list_written book owners c.args.owner _ _ list c.get_mut.ensures.value c.unwrap-list.ensures (c.get_mut.follows.holds list) in
-    let kept = AreKept-removed c.raise.new.self book c.remove.new.self c.args.owner
-    (AreCovered-grown book.cover c.raise.new.self c.raise.ensures.kept book book.covered)
-    (PutsAt-removes book owners c.remove.new.self c.args.owner (Some list) written.1 c.remove.ensures.updates) in
-    record { in_use = kept.in_use; covered = kept.covered }
+    let puts = PutsAt-removes book owners c.remove.new.self c.args.owner (Some list) written.1 c.remove.ensures.updates in
+    let idle = c.is_idle.ensures.0 c.if-is_idle.true in
+    let kept = AreKept-removed c.put_in.new.self book c.remove.new.self c.args.owner puts
+    (indexed_set book c.remove.new.self c.args.owner None puts book.index c.take_out.new.self book.indexed c.unwrap-list.result.now list c.put_in.new.self c.args.span c.args.mode
+    written.0 (λ byte. sym (idle.free byte)) c.set_reserved.ensures.modes c.take_out.ensures c.put_in.ensures) in
+    record { in_use = kept.in_use; indexed = kept.indexed }
 
 pub invariant_of-self-else-is_idle : goal.invariant_of-self-else-is_idle
 invariant_of-self-else-is_idle c =
@@ -28,12 +29,11 @@ invariant_of-self-else-is_idle c =
     let list = c.set_reserved.new.self in
     let owners = c.get_mut.follows.lender list in
     let written = list_written book owners c.args.owner _ _ list c.get_mut.ensures.value c.unwrap-list.ensures (c.get_mut.follows.holds list) in
-    let kept = AreKept-list c.raise.new.self book owners c.args.owner list
-    (AreCovered-grown book.cover c.raise.new.self c.raise.ensures.kept book book.covered) written.1
+    let kept = AreKept-list c.put_in.new.self book owners c.args.owner list written.1
     (λ idle. let yes : c.is_idle.result ≡ true = c.is_idle.ensures.1 idle in let no = c.if-is_idle.false in cc)
-    (IsCovered-set book.cover c.raise.new.self c.raise.ensures.kept (modes_of c.unwrap-list.result.now) (modes_of list) c.args.span c.args.mode
-    (IsCovered-before book book.cover c.args.owner (Some c.unwrap-list.result.now) book.covered written.0) c.raise.ensures.raised c.set_reserved.ensures.modes) in
-    record { in_use = kept.in_use; covered = kept.covered }
+    (indexed_set book owners c.args.owner (Some list) written.1 book.index c.take_out.new.self book.indexed c.unwrap-list.result.now list c.put_in.new.self c.args.span c.args.mode
+    written.0 (λ byte. refl) c.set_reserved.ensures.modes c.take_out.ensures c.put_in.ensures) in
+    record { in_use = kept.in_use; indexed = kept.indexed }
 
 pub returns-then-is_idle-clause-sets : goal.returns-then-is_idle-clause-sets
 returns-then-is_idle-clause-sets c =

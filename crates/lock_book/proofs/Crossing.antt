@@ -1,0 +1,26 @@
+-- A book may cross threads: that of its index is known, and not searched for.
+use denote.Param.Send.{sendable, IsSend}
+use denote.Param.SendFields.{declared_send, as_row_send}
+use Rattle.std.proofs.Crossing.{crosses, send}
+use Rattle.std.proofs.MapsCrossing.{BTreeMap-send}
+use Rattle.range_core.specs.contracts.RangeList as list
+use Rattle.interval_index.proofs.Crossing.{runs_send}
+use Rattle.lock_book.specs.contracts.Book as book
+use Rattle.lock_book.specs.contracts.Owner as owner
+use Rattle.lock_book.specs.contracts.book.holders.FlockHolders as holders
+use Rattle.lock_book.specs.contracts.book.index.OwnersIndex as index
+
+index_send : IsSend index.the_row
+index_send = search (sendable, runs_send) depth 20
+
+owner_send : IsSend owner.the_row
+owner_send = search sendable depth 20
+
+list_send : IsSend list.the_row
+list_send = search (sendable, crosses) depth 40
+
+holders_send : IsSend holders.the_row
+holders_send = search (BTreeMap-send, sendable, crosses) depth 20
+
+pub book_send : IsSend book.the_row
+book_send = search (BTreeMap-send, owner_send, list_send, index_send, holders_send, send, declared_send, as_row_send, tt) depth 20

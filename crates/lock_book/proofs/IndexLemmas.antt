@@ -1,0 +1,203 @@
+-- What takes and puts leave of the runs that an index keeps: for `take_runs`, `put_runs` and others.
+use Rattle.std.proofs.Common.{◌≡◌, ◌==◌, ℕ, ◌<◌, ◌+◌, inl, inr, Bool, true, false, not, ◌&&◌, ◌||◌, cond, List, [], ◌∷◌, All, length, get_or, take, refl, sym, ap, ◌∙◌, subst, arith}
+use Rattle.std.specs.List.{list_any}
+use Rattle.std.proofs.lemmas.Bool.{cases_Bool, and_from, and_parts, or_left, or_right, or_cases, not-true, not_from_false}
+use Rattle.std.proofs.lemmas.Bool.Decides.{nat_tests}
+use Rattle.std.proofs.lemmas.List.Elements.{All-cons, All-head, All-tail, All-weaker, All-filter, filter_passes}
+use Rattle.std.proofs.lemmas.List.Folds.{list_any_more}
+use Rattle.std.proofs.lemmas.Map.Views.{any-filter_same}
+use Rattle.range_core.specs.declared.Mode.{Mode}
+use Rattle.range_core.specs.declared.Span.{Span}
+use Rattle.range_core.specs.Ranges.{IsRun}
+use Rattle.summary_tree.specs.Cuts.{put_before}
+use Rattle.interval_index.specs.declared.Holder.{Holder}
+use Rattle.interval_index.specs.declared.Run.{Run}
+use Rattle.interval_index.specs.Holders.{holder_of}
+use Rattle.interval_index.specs.Standing.{HolderModes}
+use Rattle.interval_index.specs.Tests.{has_key, is_from, without, with_run}
+use Rattle.lock_book.specs.Indexing.{AreRunsWhere, IsRunOf, is_listed}
+
+-- of keys (f, k, o), (a, l, b) and (c, m, d)
+abbrev is_key : ℕ → ℕ → ℕ → ℕ → ℕ → ℕ → Bool
+is_key f k o a l b = f == a && (k == l && o == b)
+
+key_itself : (a l b : ℕ) → is_key a l b a l b ≡ true
+key_itself a l b = grind (arith, nat_tests)
+
+key_turned : (f k o a l b : ℕ) → is_key f k o a l b ≡ true → is_key a l b f k o ≡ true
+key_turned f k o a l b h = grind (arith, nat_tests)
+
+key_passed : (f k o a l b c m d : ℕ) → is_key a l b c m d ≡ true → is_key f k o a l b ≡ false → is_key f k o c m d ≡ false
+key_passed f k o a l b c m d h e = grind (arith, nat_tests)
+
+-- a run has its key
+pub has_key-self : (run : Run) → has_key run.span.first (holder_of run) run ≡ true
+has_key-self run = key_itself run.span.first run.class run.number
+
+-- a run has the key of one that has its key
+pub has_key-turned : (run other : Run) → has_key run.span.first (holder_of run) other ≡ true → has_key other.span.first (holder_of other) run ≡ true
+has_key-turned run other h = key_turned run.span.first run.class run.number other.span.first other.class other.number h
+
+-- what hasn't a key shares it with no run of its own key
+pub has_key-passed : (first : ℕ) (holder : Holder) (run other : Run) → has_key run.span.first (holder_of run) other ≡ true → has_key first holder run ≡ false
+    → has_key first holder other ≡ false
+has_key-passed first holder run other h e =
+    key_passed first holder.class holder.number run.span.first run.class run.number other.span.first other.class other.number h e
+
+-- what is kept of some modes is kept of others, by another test, where that takes the same runs
+pub AreRunsWhere-moves : (old new : HolderModes) (passes kept : Run → Bool) (runs : List Run)
+    → ((run : Run) → IsRunOf old run → passes run ≡ true → IsRunOf new run × (kept run ≡ true))
+    → ((run : Run) → IsRunOf new run → kept run ≡ true → IsRunOf old run × (passes run ≡ true)) → AreRunsWhere old passes runs → AreRunsWhere new kept runs
+AreRunsWhere-moves old new passes kept runs there back are = record {
+  each = All-weaker (λ run. IsRunOf old run × (passes run ≡ true)) (λ run. IsRunOf new run × (kept run ≡ true)) (λ run h. there run h.0 h.1) runs are.each;
+  every = λ run is keeps. let h = back run is keeps in are.every run h.0 h.1;
+}
+
+-- also of the same modes by a test that agrees
+pub AreRunsWhere-agrees : (modes : HolderModes) (passes kept : Run → Bool) (runs : List Run) → ((run : Run) → IsRunOf modes run → kept run ≡ passes run)
+    → AreRunsWhere modes passes runs → AreRunsWhere modes kept runs
+AreRunsWhere-agrees modes passes kept runs agrees are =
+    AreRunsWhere-moves modes modes passes kept runs (λ run is h. (is, agrees run is ∙ h)) (λ run is h. (is, sym (agrees run is) ∙ h)) are
+
+module _ (modes : HolderModes) (passes : Run → Bool) where
+  -- a take leaves those of another key
+  pub AreRunsWhere-takes : (first : ℕ) (holder : Holder) (runs : List Run) → AreRunsWhere modes passes runs
+      → AreRunsWhere modes (λ run. passes run && not (has_key first holder run)) (without first holder runs)
+  AreRunsWhere-takes first holder runs are = record {
+    each = λ k d within.
+        let was = All-filter (λ run. not (has_key first holder run)) (λ run. IsRunOf modes run × (passes run ≡ true)) runs are.each k d within in
+        (was.0, and_from _ _ was.1 (filter_passes (λ run. not (has_key first holder run)) runs k d within));
+    every = λ run is keeps.
+        let parts = and_parts _ _ keeps in
+        any-filter_same (has_key run.span.first (holder_of run)) (λ other. not (has_key first holder other)) true
+        (λ other same. not_from_false _ (has_key-passed first holder run other same (not-true _ parts.1))) runs
+        ∙ are.every run is parts.0;
+  }
+
+  or_swaps : (a b c : Bool) → (a || (b || c)) ≡ (b || (a || c))
+  or_swaps true true c = refl
+  or_swaps true false c = refl
+  or_swaps false b c = refl
+
+  any_put_at : (test : Run → Bool) (run x : Run) (xs ys : List Run) (b : Bool) → list_any test ys ≡ (test run || list_any test xs)
+      → list_any test (cond b (run ∷ x ∷ xs) (x ∷ ys)) ≡ (test run || (test x || list_any test xs))
+  any_put_at test run x xs ys true h = refl
+  any_put_at test run x xs ys false h = ap (λ b. test x || b) h ∙ or_swaps (test x) (test run) (list_any test xs)
+
+  -- what passes is found among more where it was, or is the one that was put
+  any-put : (test p : Run → Bool) (run : Run) (xs : List Run) → list_any test (put_before p run xs) ≡ (test run || list_any test xs)
+  any-put test p run [] = refl
+  any-put test p run (x ∷ xs) = any_put_at test run x xs (put_before p run xs) (p x) (any-put test p run xs)
+
+  all_put_at : (P : Run → Type 0) (run x : Run) (xs ys : List Run) (b : Bool) → P run → All P (x ∷ xs) → All P ys → All P (cond b (run ∷ x ∷ xs) (x ∷ ys))
+  all_put_at P run x xs ys true h all more = All-cons P run (x ∷ xs) h all
+  all_put_at P run x xs ys false h all more = All-cons P x ys (All-head P x xs all) more
+
+  All-put : (P : Run → Type 0) (p : Run → Bool) (run : Run) (xs : List Run) → P run → All P xs → All P (put_before p run xs)
+  All-put P p run [] h all = All-cons P run [] h all
+  All-put P p run (x ∷ xs) h all = all_put_at P run x xs (put_before p run xs) (p x) h all (All-put P p run xs h (All-tail P x xs all))
+
+  -- a put adds one
+  pub AreRunsWhere-puts : (run : Run) (runs : List Run) → IsRunOf modes run → AreRunsWhere modes passes runs
+      → AreRunsWhere modes (λ other. passes other || has_key run.span.first (holder_of run) other) (with_run run (without run.span.first (holder_of run) runs))
+  AreRunsWhere-puts run runs is_run are =
+      let first = run.span.first in
+      let holder = holder_of run in
+      let kept = λ (other : Run). passes other || has_key first holder other in
+      record {
+        each = All-put (λ other. IsRunOf modes other × (kept other ≡ true)) (is_from first holder) run (without first holder runs)
+            (is_run, or_right (passes run) (has_key first holder run) (has_key-self run))
+            (All-weaker (λ other. IsRunOf modes other × (passes other ≡ true)) (λ other. IsRunOf modes other × (kept other ≡ true))
+            (λ other h. (h.0, or_left (passes other) (has_key first holder other) h.1)) (without first holder runs)
+            (All-filter (λ other. not (has_key first holder other)) (λ other. IsRunOf modes other × (passes other ≡ true)) runs are.each));
+        every = λ other is keeps.
+            let test = has_key other.span.first (holder_of other) in
+            any-put test (is_from first holder) run (without first holder runs)
+            ∙ elim (cases_Bool (has_key first holder other)) [
+              | inl same ↦ or_left (test run) (list_any test (without first holder runs)) (has_key-turned run other same)
+              | inr apart ↦
+                  or_right (test run) (list_any test (without first holder runs))
+                  (any-filter_same test (λ x. not (has_key first holder x)) true
+                  (λ x same. not_from_false _ (has_key-passed first holder other x same apart)) runs
+                  ∙ are.every other is (elim (or_cases _ _ keeps) [
+                    | inl h ↦ h
+                    | inr h ↦ absurd (let e : true ≡ false = sym h ∙ apart in cc)
+                  ]))
+            ];
+      }
+
+and-true : (a : Bool) → (a && true) ≡ a
+and-true true = refl
+and-true false = refl
+
+or-false : (a : Bool) → (a || false) ≡ a
+or-false true = refl
+or-false false = refl
+
+and_not_or : (a b c : Bool) → (a && not (b || c)) ≡ ((a && not b) && not c)
+and_not_or true true c = refl
+and_not_or true false c = refl
+and_not_or false b c = refl
+
+or_or : (a b c : Bool) → (a || (b || c)) ≡ ((a || b) || c)
+or_or true b c = refl
+or_or false b c = refl
+
+module _ (holder : Holder) (list : List (Mode × Span)) where
+  -- one more of the list, as at a step of a loop
+  listed_more : (run : Run) (k : ℕ) (d : Mode × Span) → k < length list
+      → is_listed holder (take (k + 1) list) run ≡ (is_listed holder (take k list) run || has_key (get_or list k d).1.first holder run)
+  listed_more run k d within = list_any_more (λ listed. has_key listed.1.first holder run) list k d within
+
+  module _ (modes : HolderModes) (passes : Run → Bool) (runs : List Run) where
+    -- none of it, as before a loop
+    pub takes_none : AreRunsWhere modes passes runs → AreRunsWhere modes (λ run. passes run && not (is_listed holder (take 0 list) run)) runs
+    takes_none are =
+        AreRunsWhere-agrees modes passes (λ run. passes run && not (is_listed holder (take 0 list) run)) runs (λ run is. and-true (passes run)) are
+
+    pub puts_none : AreRunsWhere modes passes runs → AreRunsWhere modes (λ run. passes run || is_listed holder (take 0 list) run) runs
+    puts_none are = AreRunsWhere-agrees modes passes (λ run. passes run || is_listed holder (take 0 list) run) runs (λ run is. or-false (passes run)) are
+
+    -- and all of it, as behind one
+    pub takes_all : (k : ℕ) → take k list ≡ list → AreRunsWhere modes (λ run. passes run && not (is_listed holder (take k list) run)) runs
+        → AreRunsWhere modes (λ run. passes run && not (is_listed holder list run)) runs
+    takes_all k all are = subst (λ (l : List (Mode × Span)). AreRunsWhere modes (λ run. passes run && not (is_listed holder l run)) runs) all are
+
+    pub puts_all : (k : ℕ) → take k list ≡ list → AreRunsWhere modes (λ run. passes run || is_listed holder (take k list) run) runs
+        → AreRunsWhere modes (λ run. passes run || is_listed holder list run) runs
+    puts_all k all are = subst (λ (l : List (Mode × Span)). AreRunsWhere modes (λ run. passes run || is_listed holder l run) runs) all are
+
+  module _ (modes : HolderModes) (passes : Run → Bool) (k : ℕ) (d : Mode × Span) (within : k < length list) (runs : List Run) where
+    pub takes_more : AreRunsWhere modes (λ run. passes run && not (is_listed holder (take k list) run)) runs
+        → AreRunsWhere modes (λ run. passes run && not (is_listed holder (take (k + 1) list) run)) (without (get_or list k d).1.first holder runs)
+    takes_more are =
+        AreRunsWhere-agrees modes _ (λ run. passes run && not (is_listed holder (take (k + 1) list) run)) (without (get_or list k d).1.first holder runs)
+        (λ run is. ap (λ b. passes run && not b) (listed_more run k d within) ∙ and_not_or (passes run) (is_listed holder (take k list) run) (has_key (get_or list k d).1.first holder run))
+        (AreRunsWhere-takes modes (λ run. passes run && not (is_listed holder (take k list) run)) (get_or list k d).1.first holder runs are)
+
+    pub puts_more : (run : Run) → run ≡ record { span = (get_or list k d).1; number = holder.number; class = holder.class; mode = (get_or list k d).0 }
+        → IsRunOf modes run → AreRunsWhere modes (λ other. passes other || is_listed holder (take k list) other) runs
+        → AreRunsWhere modes (λ other. passes other || is_listed holder (take (k + 1) list) other) (with_run run (without run.span.first (holder_of run) runs))
+    puts_more run made is_run are =
+        AreRunsWhere-agrees modes _ (λ other. passes other || is_listed holder (take (k + 1) list) other) (with_run run (without run.span.first (holder_of run) runs))
+        (λ other is.
+        ap (λ b. passes other || b) (listed_more other k d within)
+        ∙ or_or (passes other) (is_listed holder (take k list) other) (has_key (get_or list k d).1.first holder other)
+        ∙ ap (λ (r : Run). (passes other || is_listed holder (take k list) other) || has_key r.span.first (holder_of r) other) (sym made))
+        (AreRunsWhere-puts modes (λ other. passes other || is_listed holder (take k list) other) run runs is_run are)
+
+    -- where the list was asked by a holder that is this one
+    pub takes_step : (new : List Run) (asked : Holder) → asked ≡ holder → new ≡ without (get_or list k d).1.first asked runs
+        → AreRunsWhere modes (λ run. passes run && not (is_listed holder (take k list) run)) runs
+        → AreRunsWhere modes (λ run. passes run && not (is_listed holder (take (k + 1) list) run)) new
+    takes_step new asked same is are =
+        subst (λ (l : List Run). AreRunsWhere modes (λ run. passes run && not (is_listed holder (take (k + 1) list) run)) l)
+        (sym (is ∙ ap (λ (h : Holder). without (get_or list k d).1.first h runs) same)) (takes_more are)
+
+    pub puts_step : (new : List Run) (run : Run) → run ≡ record { span = (get_or list k d).1; number = holder.number; class = holder.class; mode = (get_or list k d).0 }
+        → new ≡ with_run run (without run.span.first (holder_of run) runs) → All (λ listed. IsRun (modes holder) listed.1.first listed.0 listed.1) list
+        → AreRunsWhere modes (λ other. passes other || is_listed holder (take k list) other) runs
+        → AreRunsWhere modes (λ other. passes other || is_listed holder (take (k + 1) list) other) new
+    puts_step new run made is each are =
+        subst (λ (l : List Run). AreRunsWhere modes (λ other. passes other || is_listed holder (take (k + 1) list) other) l) (sym is)
+        (puts_more run made (subst (λ (r : Run). IsRunOf modes r) (sym made) (each k d within)) are)

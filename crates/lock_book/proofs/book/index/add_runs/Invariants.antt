@@ -1,0 +1,13 @@
+use Rattle.std.proofs.Common.{◌||◌, Bool, All, take}
+use Rattle.range_core.specs.Ranges.{IsRun}
+use Rattle.interval_index.specs.declared.Run.{Run}
+use Rattle.interval_index.specs.Standing.{HolderModes}
+use Rattle.lock_book.specs.Indexing.{AreRunsWhere, as_holder, is_listed}
+use Rattle.lock_book.proofs.book.index.add_runs.Given as goal
+
+-- the runs so far are put in
+abbrev pub invariant-loop-mode : goal.invariant-loop-mode
+invariant-loop-mode l =
+    (modes : HolderModes) (passes : Run → Bool) → All (λ run. IsRun (modes (as_holder l.owner)) run.1.first run.0 run.1) l.list
+    → AreRunsWhere modes passes l.initial.index.runs
+    → AreRunsWhere modes (λ run. passes run || is_listed (as_holder l.owner) (take l.mode-index l.list) run) l.index.runs

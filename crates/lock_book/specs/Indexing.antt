@@ -1,0 +1,93 @@
+-- What an index keeps of the byte locks on one file (the words are this project's choice).
+use Rattle.std.specs.Prelude.{◌≡◌, ℕ, ◌+◌, ◌<◌, ◌≤◌, ◌==◌, ◌&&◌, Bool, true, not, if◌then◌else◌, Some, None, List, All, length}
+use Rattle.std.specs.Bool.{nat_le}
+use Rattle.std.specs.List.{AllWithin, list_any}
+use Rattle.std.specs.Map.{lookup}
+use Rattle.std.proofs.Props.{props}
+use Rattle.range_core.specs.declared.Span.{Span}
+use Rattle.range_core.specs.declared.list.RangeList.{RangeList}
+use Rattle.range_core.specs.declared.Mode.{Mode}
+use Rattle.range_core.specs.Ranges.{IsRun}
+use Rattle.interval_index.specs.declared.Holder.{Holder}
+use Rattle.interval_index.specs.declared.Run.{Run}
+use Rattle.interval_index.specs.Contents.{RunContents}
+use Rattle.interval_index.specs.Holders.{holder_of, is_same_holder}
+use Rattle.interval_index.specs.Standing.{HolderModes}
+use Rattle.interval_index.specs.Tests.{has_key}
+use Rattle.lock_book.specs.declared.Owner.{Owner}
+use Rattle.lock_book.specs.declared.Owner.TheVariants.{Process, Description}
+use Rattle.lock_book.specs.declared.book.index.OwnersIndex.{OwnersIndex}
+use Rattle.lock_book.specs.Conflicts.{ByteModes}
+use Rattle.lock_book.specs.Owners.{is_same_owner}
+use Rattle.lock_book.specs.OwnerLists.{modes_in_list}
+
+-- the owner as two numbers, which are ordered as the owners are
+abbrev pub as_holder : Owner → Holder
+as_holder (Process p) = record { class = 0; number = p }
+as_holder (Description d) = record { class = 1; number = d }
+
+-- what each owner has, asked by these numbers
+abbrev pub holder_modes : ByteModes → HolderModes
+holder_modes modes holder =
+    if holder.class == 0 then modes (Process holder.number) else (if holder.class == 1 then modes (Description holder.number) else (λ byte. None))
+
+-- the byte locks that these lists stand for
+abbrev pub modes_among : List (Owner × RangeList) → ByteModes
+modes_among lists owner = modes_in_list (lookup (is_same_owner owner) lists)
+
+-- the run is a largest range on all of which its owner has this one mode
+abbrev pub IsRunOf : HolderModes → Run → Type 0
+IsRunOf modes run = IsRun (modes (holder_of run)) run.span.first run.mode run.span
+
+-- whether the other range shares a byte with this one, or lies right beside it
+abbrev pub touches : Span → Span → Bool
+touches span other = nat_le other.first (span.last + 1) && nat_le span.first (other.last + 1)
+
+-- of the runs just those from this place to that one touch the range
+pub record AreTouched (runs : List (Mode × Span)) (span : Span) (start end : ℕ) : Type 0 where
+  pub ordered : start ≤ end
+  pub within : end ≤ length runs
+  pub before : AllWithin (λ run. run.1.last + 1 < span.first) runs 0 start
+  pub between : AllWithin (λ run. touches span run.1 ≡ true) runs start end
+  pub behind : AllWithin (λ run. span.last + 1 < run.1.first) runs end (length runs)
+
+-- whether the run is another owner's
+abbrev pub is_others : Holder → Run → Bool
+is_others holder run = not (is_same_holder holder (holder_of run))
+
+-- whether the run is another owner's, or doesn't touch the range
+abbrev pub is_outside : Holder → Span → Run → Bool
+is_outside holder span run = not (is_same_holder holder (holder_of run) && touches span run.span)
+
+-- whether the run is the owner's, and begins where one of these does
+abbrev pub is_listed : Holder → List (Mode × Span) → Run → Bool
+is_listed holder list run = list_any (λ listed. has_key listed.1.first holder run) list
+
+-- these are the owners' runs that pass
+pub record AreRunsWhere (modes : HolderModes) (passes : Run → Bool) (runs : List Run) : Type 0 where
+  pub each : All (λ run. IsRunOf modes run × (passes run ≡ true)) runs
+  pub every : (run : Run) → IsRunOf modes run → passes run ≡ true → list_any (has_key run.span.first (holder_of run)) runs ≡ true
+
+-- where there is an index, it keeps the owners' runs that pass
+abbrev pub IsKeptWhere : OwnersIndex → ByteModes → (Run → Bool) → Type 0
+IsKeptWhere index modes passes = (contents : RunContents) → index.runs ≡ Some contents → AreRunsWhere (holder_modes modes) passes contents.runs
+
+-- it keeps the runs of all owners
+abbrev pub IsKeptAs : OwnersIndex → ByteModes → Type 0
+IsKeptAs index modes = IsKeptWhere index modes (λ run. true)
+
+-- it keeps them but for those of the owner that touch the range
+abbrev pub IsKeptOutside : OwnersIndex → ByteModes → Owner → Span → Type 0
+IsKeptOutside index modes owner span = IsKeptWhere index modes (is_outside (as_holder owner) span)
+
+-- it keeps those of the other owners
+abbrev pub IsKeptWithout : OwnersIndex → ByteModes → Owner → Type 0
+IsKeptWithout index modes owner = IsKeptWhere index modes (is_others (as_holder owner))
+
+-- it keeps the runs of all lists
+abbrev pub AreIndexed : OwnersIndex → List (Owner × RangeList) → Type 0
+AreIndexed index lists = IsKeptAs index (modes_among lists)
+
+-- it does so in one way at most
+pub AreIndexed-prop : (index : OwnersIndex) (lists : List (Owner × RangeList)) → IsProp (AreIndexed index lists)
+AreIndexed-prop index lists = hlevel props

@@ -1,0 +1,251 @@
+//! The runs of all owners of a file together, where there are many owners.
+ghost use Rattle.std.specs.Prelude.{ℕ, ◌≡◌, ◌==◌, ◌<◌, ◌&&◌, ◌||◌, Bool, true, not, IsTrue, IfSome, None, List, All, AllPairs};
+ghost use Rattle.std.specs.List.{list_any};
+ghost use Rattle.range_core.specs.declared.Mode.{Mode};
+ghost use Rattle.range_core.specs.declared.Span.{Span};
+ghost use Rattle.range_core.specs.declared.list.RangeList.{RangeList};
+ghost use Rattle.range_core.specs.Ranges.{IsByteRange, IsRun};
+ghost use Rattle.range_core.specs.Changes.{modes_of};
+ghost use Rattle.interval_index.specs.declared.Run.{Run};
+ghost use Rattle.interval_index.specs.Standing.{AreRunsOf, HolderModes};
+ghost use Rattle.lock_book.specs.declared.Owner.{Owner};
+ghost use Rattle.lock_book.specs.Conflicts.{ByteModes};
+ghost use Rattle.lock_book.specs.Indexing.{AreIndexed, AreRunsWhere, AreTouched, IsKeptAs, IsKeptOutside, IsKeptWithout, as_holder, holder_modes, is_listed, modes_among, touches};
+
+use crate::Owner;
+use interval_index::{Holder, Run, RunIndex};
+use range_core::{Mode, RangeList, Span, lists_stand_for_runs};
+use std::alloc::Global;
+use std::collections::BTreeMap;
+
+/// Beyond so many owners a file has an index. It goes where no more are left, with few runs.
+const FEW_OWNERS: usize = 8;
+
+/// With so many runs, and few owners, an index goes: were it dropped when owners go, a few who come and go would make it
+/// each time.
+const FEW_RUNS: u64 = 4;
+
+/// For how many runs an index has room: one for each process that may wait.
+const SPARE_RUNS: u64 = 64;
+
+/// The runs of all owners of a file, or none: it is a help and no more, and where its memory is refused there is none.
+#[derive(Drop)]
+pub struct OwnersIndex {
+    runs: Option<RunIndex>,
+}
+
+impl OwnersIndex {
+    /// No index. It takes no memory.
+    pub fn none() -> OwnersIndex
+        ensures { result.runs ≡ None }
+    {
+        OwnersIndex { runs: None }
+    }
+
+    /// The index, if there is one: where it keeps the runs of all lists, it tells what each owner has.
+    pub fn get(&self) -> Option<&RunIndex>
+        ensures kept { (lists : List (Owner × RangeList)) → AreIndexed self.now lists
+            → IfSome result (λ index. AreRunsWhere (holder_modes (modes_among lists)) (λ run. true) index.now.runs) }
+        ensures told { (lists : List (Owner × RangeList)) → AreIndexed self.now lists
+            → IfSome result (λ index. AreRunsOf (holder_modes (modes_among lists)) index.now.runs) }
+    {
+        // A byte that has a mode lies in some largest range.
+        lists_stand_for_runs();
+        self.runs.as_ref()
+    }
+
+    /// Readies the index for one more set: makes it where there are many owners and none, drops it where few are left with few
+    /// runs, and holds room.
+    pub fn prepare(&mut self, alloc: Global, owners: &BTreeMap<Owner, RangeList>)
+        requires { AreIndexed self.old owners.now.entries }
+        ensures { AreIndexed self.new owners.now.entries }
+    {
+        if !self.is_wanted(owners.len()) {
+            self.runs = None;
+            return;
+        }
+        if let Some(index) = &mut self.runs {
+            // Where that fails there is still the room that is left.
+            let _ = index.reserve(SPARE_RUNS);
+            return;
+        }
+        self.runs = index_of(alloc, owners);
+    }
+
+    /// Readies the index for one more set, as [`OwnersIndex::prepare`]; for an unlock, which goes on in the room that is held, it asks for none.
+    pub fn prepare_set(&mut self, alloc: Global, owners: &BTreeMap<Owner, RangeList>, mode: Option<Mode>)
+        requires { AreIndexed self.old owners.now.entries }
+        ensures { AreIndexed self.new owners.now.entries }
+    {
+        if mode.is_some() {
+            self.prepare(alloc, owners);
+        }
+    }
+
+    /// Whether there are so many owners, or runs in the index, that there is to be one.
+    fn is_wanted(&self, owners: usize) -> bool {
+        owners > FEW_OWNERS
+            || self
+                .runs
+                .as_ref()
+                .is_some_and(|index| index.len() > FEW_RUNS)
+    }
+
+    /// Takes out the runs of the owner that share a byte with the span or lie right beside it. It takes no memory.
+    pub fn take_out(&mut self, owner: Owner, list: &RangeList, span: Span)
+        requires { IsByteRange span }
+        ensures { (modes : ByteModes) → ((byte : ℕ) → modes owner byte ≡ modes_of list.now byte) → IsKeptAs self.old modes
+            → IsKeptOutside self.new modes owner span }
+    {
+        if let Some(index) = &mut self.runs {
+            take_runs(index, owner, touching(list, span));
+        }
+    }
+
+    /// Takes out all runs of the owner. It takes no memory.
+    pub fn take_all(&mut self, owner: Owner, list: &RangeList)
+        ensures { (modes : ByteModes) → ((byte : ℕ) → modes owner byte ≡ modes_of list.now byte) → IsKeptAs self.old modes
+            → IsKeptWithout self.new modes owner }
+    {
+        if let Some(index) = &mut self.runs {
+            take_runs(index, owner, list.runs());
+        }
+    }
+
+    /// Puts in the runs of the owner that share a byte with the span or lie right beside it, in room that is held; without
+    /// that room there is no index any more. It takes no memory.
+    pub fn put_in(&mut self, owner: Owner, list: &RangeList, span: Span)
+        requires { IsByteRange span }
+        ensures { (modes : ByteModes) → ((byte : ℕ) → modes owner byte ≡ modes_of list.now byte) → IsKeptOutside self.old modes owner span
+            → IsKeptAs self.new modes }
+    {
+        let Some(index) = &mut self.runs else {
+            return;
+        };
+        if !put_runs(index, owner, touching(list, span)) {
+            self.runs = None;
+        }
+    }
+}
+
+/// Takes out the runs of the owner that begin where these do.
+fn take_runs(index: &mut RunIndex, owner: Owner, list: &[(Mode, Span)])
+    ensures { (modes : HolderModes) (passes : Run → Bool) → AreRunsWhere modes passes index.old.runs
+        → AreRunsWhere modes (λ run. passes run && not (is_listed (as_holder owner) list.now run)) index.new.runs }
+{
+    for (_, span) in list {
+        index.take(span.first, holder(owner));
+    }
+}
+
+/// Puts in these runs of the owner, in room that is held, and tells whether there was room.
+fn put_runs(index: &mut RunIndex, owner: Owner, list: &[(Mode, Span)]) -> bool
+    requires { All (λ run. IsByteRange run.1) list.now }
+    ensures { IsTrue result → (modes : HolderModes) (passes : Run → Bool)
+        → All (λ run. IsRun (modes (as_holder owner)) run.1.first run.0 run.1) list.now → AreRunsWhere modes passes index.old.runs
+        → AreRunsWhere modes (λ run. passes run || is_listed (as_holder owner) list.now run) index.new.runs }
+{
+    for (mode, span) in list {
+        if index.room() == 0 {
+            return false;
+        }
+        index.put(run_of(owner, *mode, *span));
+    }
+    true
+}
+
+/// Puts in these runs of the owner, and tells whether there was memory.
+fn add_runs(index: &mut RunIndex, owner: Owner, list: &[(Mode, Span)]) -> bool
+    requires { All (λ run. IsByteRange run.1) list.now }
+    ensures { IsTrue result → (modes : HolderModes) (passes : Run → Bool)
+        → All (λ run. IsRun (modes (as_holder owner)) run.1.first run.0 run.1) list.now → AreRunsWhere modes passes index.old.runs
+        → AreRunsWhere modes (λ run. passes run || is_listed (as_holder owner) list.now run) index.new.runs }
+{
+    for (mode, span) in list {
+        if index.reserve(1).is_err() {
+            return false;
+        }
+        index.put(run_of(owner, *mode, *span));
+    }
+    true
+}
+
+/// An index of the runs of these lists, with room for more.
+fn index_of(alloc: Global, owners: &BTreeMap<Owner, RangeList>) -> Option<RunIndex>
+    ensures { IfSome result (λ index. AreRunsWhere (holder_modes (modes_among owners.now.entries)) (λ run. true) index.runs) }
+{
+    let mut index = RunIndex::new(alloc);
+    for (owner, list) in owners {
+        if !add_runs(&mut index, *owner, list.runs()) {
+            return None;
+        }
+    }
+    // Where that fails there is still the room that is left.
+    let _ = index.reserve(SPARE_RUNS);
+    Some(index)
+}
+
+/// The runs of the list that share a byte with the span or lie right beside it.
+fn touching(list: &RangeList, span: Span) -> &[(Mode, Span)]
+    requires { IsByteRange span }
+    ensures each { All (λ run. IsRun (modes_of list.now) run.1.first run.0 run.1) result.now }
+    ensures ranges { All (λ run. IsByteRange run.1) result.now }
+    ensures touch { All (λ run. touches span run.1 ≡ true) result.now }
+    ensures every { (mode : Mode) (run : Span) → IsRun (modes_of list.now) run.first mode run → touches span run ≡ true
+        → list_any (λ listed. listed.1.first == run.first) result.now ≡ true }
+{
+    let runs = list.runs();
+    let (start, end) = touched(runs, span);
+    &runs[start..end]
+}
+
+/// From where to where the runs stand that share a byte with the span or lie right beside it.
+fn touched(runs: &[(Mode, Span)], span: Span) -> (usize, usize)
+    requires span { IsByteRange span }
+    requires rising { AllPairs (λ run other. run.1.last < other.1.first) runs.now }
+    requires ranges { All (λ run. IsByteRange run.1) runs.now }
+    ensures { AreTouched runs.now span result.0 result.1 }
+{
+    let before = span.first.saturating_sub(1);
+    let behind = span.last + 1;
+    let start = runs.partition_point(|run| run.1.last < before);
+    let end = runs.partition_point(|run| run.1.first <= behind);
+    (start, end)
+}
+
+/// The run of an owner.
+fn run_of(owner: Owner, mode: Mode, span: Span) -> Run
+    ensures { result ≡ record { span = span; number = (as_holder owner).number; class = (as_holder owner).class; mode = mode } }
+{
+    let holder = holder(owner);
+    Run {
+        span,
+        number: holder.number,
+        class: holder.class,
+        mode,
+    }
+}
+
+/// The owner as the index orders it: the processes come before the descriptions.
+pub fn holder(owner: Owner) -> Holder
+    ensures { result ≡ as_holder owner }
+{
+    match owner {
+        Owner::Process(number) => Holder {
+            class: 0,
+            number: u64::from(number),
+        },
+        Owner::Description(number) => Holder { class: 1, number },
+    }
+}
+
+/// The owner that the index orders so, if there is one.
+pub fn owner_of(holder: Holder) -> Option<Owner>
+    ensures { IfSome result (λ owner. as_holder owner ≡ holder) }
+{
+    match holder.class {
+        0 => Some(Owner::Process(u8::try_from(holder.number).ok()?)),
+        1 => Some(Owner::Description(holder.number)),
+        _ => None,
+    }
+}
