@@ -1,5 +1,6 @@
-pub mod unique
-pub mod some
-pub mod kept
-pub mod calls
 pub mod ChoiceLemmas
+pub mod Crossing
+pub mod calls
+pub mod kept
+pub mod some
+pub mod unique
