@@ -17,6 +17,7 @@ use Rattle.session_core.specs.SessionView.{manager_of, events_in, sent_of}
 use Rattle.call_table.specs.Shown.{hub_setup, IsClientOf, SameClient}
 use Rattle.call_table.specs.declared.hub.Hub.{Hub}
 use Rattle.call_table.specs.declared.client.Client.{Client}
+use Rattle.table_steps.specs.declared.client_view.ClientView.{ClientView}
 use Rattle.table_steps.specs.declared.setup.Setup.{Setup}
 use Rattle.call_table.specs.declared.desk.Desk.{Desk}
 use Rattle.call_table.specs.Desks.{IsOpened}
@@ -25,7 +26,7 @@ use Rattle.script_core.specs.ReportText.{AreCounts}
 use Rattle.script_core.specs.Output.{processes_in}
 use Rattle.replay_core.specs.declared.caller.Caller.{Caller}
 use Rattle.replay_core.specs.declared.threads.ThreadReport.{ThreadReport}
-use Rattle.replay_core.specs.Callers.{SameCaller, AreAtHub, AreNew, AreOf, IsOf}
+use Rattle.replay_core.specs.Callers.{SameCaller, AreReady, AreNew, AreOf, IsOf}
 use Rattle.replay_core.specs.Gathering.{IsGathered, AreGathered}
 use Rattle.replay_core.specs.Interleaving.{IsThreadReport}
 use Rattle.replay_core.specs.Rooms.{IsServed}
@@ -36,13 +37,14 @@ use Rattle.replay_core.proofs.ListLemmas.{item_of_grown}
 pub still_of_hub : (hub : Hub) (old new : Client) → IsClientOf hub old → SameClient old new → IsClientOf hub new
 still_of_hub hub old new of same = record { table = same.table ∙ of.table; setup = same.setup ∙ of.setup }
 
--- the callers of a hub just opened are at it
-pub at_hub : (setup : Setup) (hub : Hub) (clients : List Client) (desk : Desk) (callers : List Caller) → IsOpened setup hub clients desk
-    → map (λ (caller : Caller). caller.client) callers ≡ clients → AreAtHub hub callers
-at_hub setup hub clients desk callers opened same = λ i caller here.
-    (opened.client_of_hub i caller.client
+-- the callers of a hub just opened are ready
+pub are_ready : (setup : Setup) (hub : Hub) (clients : List Client) (desk : Desk) (callers : List Caller) → IsOpened setup hub clients desk
+    → map (λ (caller : Caller). caller.client) callers ≡ clients → AreReady hub callers
+are_ready setup hub clients desk callers opened same = λ i caller here.
+    let of = opened.client_of_hub i caller.client
     (ap (λ (l : List Client). slice_get l i) (sym same) ∙ slice_get-map (λ (x : Caller). x.client) callers i
-    ∙ ap (option_map (λ (x : Caller). x.client)) here)).0
+    ∙ ap (option_map (λ (x : Caller). x.client)) here) in
+    record { client = of.0; unposted = ap (λ (v : ClientView). v.posted) of.1 }
 
 -- and its clients did nothing yet
 pub are_new : (setup : Setup) (hub : Hub) (clients : List Client) (desk : Desk) → IsOpened setup hub clients desk → AreNew clients
@@ -78,7 +80,7 @@ gathered_more journal done caller collected answers before one = (
 )
 
 -- an item of a list
-some_at : {X : Type 0} (xs : List X) (i : ℕ) → i < length xs → (x : X) × (slice_get xs i ≡ Some x)
+pub some_at : {X : Type 0} (xs : List X) (i : ℕ) → i < length xs → (x : X) × (slice_get xs i ≡ Some x)
 some_at [] i below = absurd (omega (arith, below))
 some_at (x ∷ xs) zero below = (x, refl)
 some_at (x ∷ xs) (suc i) below = some_at xs i (omega (arith, below))
@@ -99,12 +101,12 @@ gathered_of journal arrivals callers collected each gathered i answers here =
     )
 
 -- of each process so much is known
-pub reports : (script : Meaning) (hub : Hub) (callers : List Caller) (counts : List ℕ) (report : ThreadReport)
+pub reports : (told : ℕ → ℕ → Type 0) (script : Meaning) (hub : Hub) (callers : List Caller) (counts : List ℕ) (report : ThreadReport)
     → (hub_setup hub).rules ≡ script.rules → (hub_setup hub).processes ≡ processes_in script
     → length callers ≡ processes_in script → AreOf script.arrivals callers
     → length counts ≡ processes_in script → AreCounts counts (λ p. length (requests_sent p script.arrivals))
-    → IsServed hub callers counts report → IsThreadReport script report
-reports script hub callers counts report rules processes all each one_each sent served =
+    → IsServed told hub callers counts report → IsThreadReport script report
+reports told script hub callers counts report rules processes all each one_each sent served =
     let journal = events_in report.session in
     let manager = manager_of report.session in
     let collected = map vec_items report.collected.items in

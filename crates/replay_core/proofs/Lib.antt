@@ -7,3 +7,4 @@ pub mod ListLemmas
 pub mod OutputLemmas
 pub mod VerdictLaws
 pub mod OutputVerdictLaws
+pub mod WatchingLemmas

@@ -1,5 +1,5 @@
 -- The callers at a table (the words are this project's choice).
-use Rattle.std.specs.Prelude.{◌≡◌, ℕ, ◌+◌, ◌≤◌, Some, List, true, length, slice_get}
+use Rattle.std.specs.Prelude.{◌≡◌, ℕ, ◌+◌, Some, List, [], true, length, slice_get}
 use Rattle.lock_manager.specs.declared.request.Request.{Request}
 use Rattle.session_core.specs.Mail.{requests_sent}
 use Rattle.table_steps.specs.declared.setup.Setup.{Setup}
@@ -8,6 +8,7 @@ use Rattle.call_table.specs.declared.hub.Hub.{Hub}
 use Rattle.table_steps.specs.Views.{new_client}
 use Rattle.call_table.specs.Shown.{client_view, IsClientOf, SameClient}
 use Rattle.replay_core.specs.declared.caller.Caller.{Caller}
+use Rattle.replay_core.specs.Watching.{IsToldOf}
 
 -- it is the same process, with the same client and the same requests
 pub record SameCaller (old new : Caller) : Type 0 where
@@ -22,7 +23,7 @@ pub record HasEnded (old new : Caller) : Type 0 where
 
 -- this was told of the process of each request that the caller posted
 abbrev pub WasTold : (ℕ → ℕ → Type 0) → Caller → Type 0
-WasTold told caller = (n : ℕ) → 1 ≤ n → n ≤ length (client_view caller.client).posted → told caller.process n
+WasTold told caller = IsToldOf told caller.process (length (client_view caller.client).posted)
 
 -- each has the client of the process that its place names, from process 1 on, which did nothing yet
 abbrev pub AreNew : List Client → Type 0
@@ -38,6 +39,11 @@ pub record IsOf (arrivals : List (ℕ × Request)) (p : ℕ) (caller : Caller) :
 abbrev pub AreOf : List (ℕ × Request) → List Caller → Type 0
 AreOf arrivals callers = (i : ℕ) (caller : Caller) → slice_get callers i ≡ Some caller → IsOf arrivals (i + 1) caller
 
--- the clients are of this hub
-abbrev pub AreAtHub : Hub → List Caller → Type 0
-AreAtHub hub callers = (i : ℕ) (caller : Caller) → slice_get callers i ≡ Some caller → IsClientOf hub caller.client
+-- its client is of this hub, and has posted nothing
+pub record IsReady (hub : Hub) (caller : Caller) : Type 0 where
+  pub client : IsClientOf hub caller.client
+  pub unposted : (client_view caller.client).posted ≡ []
+
+-- so each is
+abbrev pub AreReady : Hub → List Caller → Type 0
+AreReady hub callers = (i : ℕ) (caller : Caller) → slice_get callers i ≡ Some caller → IsReady hub caller

@@ -9,3 +9,4 @@ pub mod Jobs
 pub mod Places
 pub mod Replays
 pub mod Rooms
+pub mod Watching

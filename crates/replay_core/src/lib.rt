@@ -11,8 +11,9 @@ mod laws;
 mod pause;
 mod replays;
 mod threads;
+mod watch;
 
-pub use caller::{Answer, Watch};
+pub use caller::Answer;
 pub use checks::{Outcome, check};
 pub use devices::{DeviceFault, FromReader, Sink, Source, ToWriter};
 pub use in_threads::{Nobody, replay_in_threads};
@@ -20,3 +21,4 @@ pub use job::{Detail, Job, perform};
 pub use laws::{journals_have_one_verdict, outputs_are_judged_legal};
 pub use replays::{RunFault, replay};
 pub use threads::{ThreadReport, replay_threads};
+pub use watch::Watch;

@@ -3,7 +3,7 @@ use lock_manager::Reply;
 use replay_core::{Answer, RunFault, Watch, replay_threads};
 use script_core::parse;
 use std::process::Abort;
-use std::sync::atomic::{AtomicBool, Ordering};
+use std::sync::atomic::{AtomicBool, AtomicU64, Ordering};
 use std::test::Fail;
 use std::thread;
 
@@ -76,5 +76,55 @@ fn two_processes_meet_at_their_watch(rt: HostRuntime) -> Result<(), Fail> {
     let second: &[Answer] = &[(1, Reply::Fd(0), 2)];
     assert!(rt; report.collected[0].as_slice() == first);
     assert!(rt; report.collected[1].as_slice() == second);
+    Ok(())
+}
+
+/// Process 1 requests six times, more than it may have posted without an answer, and process 2 twice.
+const TWO_AND_SIX: &[u8] =
+    b"1 fork 2\n2 open 0 r\n1 open 0 r\n2 close 0\n1 close 0\n1 open 1 r\n1 close 0\n1 open 2 r\n";
+
+/// Counts what it is told of each of two processes.
+#[derive(Drop)]
+struct Counting {
+    first: AtomicU64,
+    second: AtomicU64,
+    /// It was told of a number that isn't the next one of the process, or of another process.
+    astray: AtomicBool,
+}
+
+impl Counting {
+    /// Whether this is the next number of the process.
+    fn is_next(&self, p: u8, n: u64) -> bool {
+        let count = match p {
+            1 => &self.first,
+            2 => &self.second,
+            _ => return false,
+        };
+        count.fetch_add(1, Ordering::SeqCst).checked_add(1) == Some(n)
+    }
+}
+
+impl Watch for Counting {
+    fn posted(&self, p: u8, n: u64) {
+        if !self.is_next(p, n) {
+            self.astray.store(true, Ordering::SeqCst);
+        }
+    }
+}
+
+/// Each post is told once, by the process and the number of the request, in the order in which the process posts.
+#[test]
+fn each_post_is_told_once(rt: HostRuntime) -> Result<(), Fail> {
+    let alloc = rt.alloc();
+    let script = parse(alloc, TWO_AND_SIX).map_err(RunFault::from)?;
+    let counting = Counting {
+        first: AtomicU64::new(0),
+        second: AtomicU64::new(0),
+        astray: AtomicBool::new(false),
+    };
+    let _report = replay_threads(&rt, alloc, &script, &counting)?;
+    assert!(rt; !counting.astray.load(Ordering::SeqCst));
+    assert!(rt; counting.first.load(Ordering::SeqCst) == 6);
+    assert!(rt; counting.second.load(Ordering::SeqCst) == 2);
     Ok(())
 }

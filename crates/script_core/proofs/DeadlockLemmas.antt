@@ -31,7 +31,7 @@ first_at Holds xs i x within none holds = record {
 }
 
 -- of the first it holds
-first_any : {X : Type 0} (P : X → Type 0) (xs : List X) (x : X) → IsFirstOf P xs x → Any P xs
+pub first_any : {X : Type 0} (P : X → Type 0) (xs : List X) (x : X) → IsFirstOf P xs x → Any P xs
 first_any P xs x h =
     let whole = ap length h.place in
     let sum = length-append h.before (x ∷ h.after) in

@@ -40,10 +40,10 @@ lines_say file (suc more) bytes flocks report h =
 abbrev SaysIt : ℕ → Owner → ℕ → Mode → Held → Type 0
 SaysIt file owner byte mode line = IsFalse line.whole × (line.file ≡ file) × (line.owner ≡ owner) × (line.mode ≡ mode) × Covers line.span byte
 
-any_left : (P : Held → Type 0) (xs ys : List Held) → Any P xs → Any P (xs ++ ys)
+pub any_left : (P : Held → Type 0) (xs ys : List Held) → Any P xs → Any P (xs ++ ys)
 any_left P xs ys (k, x, within, is, holds) = (k, x, (let more = length-append xs ys in omega arith), get_or_append_left xs ys x k within ∙ is, holds)
 
-any_right : (P : Held → Type 0) (xs ys : List Held) → Any P ys → Any P (xs ++ ys)
+pub any_right : (P : Held → Type 0) (xs ys : List Held) → Any P ys → Any P (xs ++ ys)
 any_right P xs ys (k, x, within, is, holds) = (length xs + k, x, (let more = length-append xs ys in omega arith), get_or-append-add xs ys k x ∙ is, holds)
 
 file_has : (file : ℕ) (bytes : ByteModes) (flocks : FlockModes) (report : List Held) (owner : Owner) (byte : ℕ) (mode : Mode)
@@ -72,7 +72,7 @@ unfolding IsHeldReport
 report_says bytes flocks report h = lines_say 0 64 bytes flocks report h
 
 -- and what is held it says
-report_has : (bytes : ℕ → ByteModes) (flocks : ℕ → FlockModes) (report : List Held) (file : ℕ) (owner : Owner) (byte : ℕ) (mode : Mode)
+pub report_has : (bytes : ℕ → ByteModes) (flocks : ℕ → FlockModes) (report : List Held) (file : ℕ) (owner : Owner) (byte : ℕ) (mode : Mode)
     → IsHeldReport bytes flocks report
     → file < 64 → bytes file owner byte ≡ Some mode → Any (SaysIt file owner byte mode) report
 unfolding IsHeldReport

@@ -53,7 +53,7 @@ one_of_bytes S p n fd cmd lock v w h k = grind (arith, common_steps)
 one_of_whole : (S : State) (p n fd : ℕ) (op : FlockOp) (v w : Wait) → AsksForWhole S p n fd op v → AsksForWhole S p n fd op w → v ≡ w
 one_of_whole S p n fd op v w h k = grind (arith, common_steps)
 
-asks_once : (S : State) (p n : ℕ) (request : Request) (v w : Wait) → AsksFor S p n request v → AsksFor S p n request w → v ≡ w
+pub asks_once : (S : State) (p n : ℕ) (request : Request) (v w : Wait) → AsksFor S p n request v → AsksFor S p n request w → v ≡ w
 asks_once S p n (Lk fd cmd lock) v w h k = one_of_bytes S p n fd cmd lock v w h k
 asks_once S p n (Flock fd op nb) v w h k = one_of_whole S p n fd op v w h k
 asks_once S p n (OpenFile file access) v w h k = absurd h

@@ -64,7 +64,7 @@ numbered_file : (descriptions : List OpenFileDescription) (number : ℕ) (opened
 numbered_file descriptions zero opened h is = absurd (cc)
 numbered_file descriptions (suc k) opened h is = all_at (λ (o : OpenFileDescription). o.file < FILES) descriptions k opened h is
 
-look_file : (D : Descriptors) (p fd : ℕ) (look : Look) → InFiles D.descriptions → look_at D p fd ≡ Some look → look.file < FILES
+pub look_file : (D : Descriptors) (p fd : ℕ) (look : Look) → InFiles D.descriptions → look_at D p fd ≡ Some look → look.file < FILES
 look_file D p fd look h is = grind (arith, common_steps, numbered_file)
 
 -- a lock that is set changes neither

@@ -104,7 +104,7 @@ pub each_middle : {X : Type 0} (P : X → Type 0) (xs : List X) (x : X) (ys : Li
 each_middle P [] x ys all = all
 each_middle P (first ∷ xs) x ys all = let rest = each_middle P xs x ys all.1 in (rest.0, (all.0, rest.1))
 
-apart_middle : (before : List Wait) (wait : Wait) (after : List Wait) → AreApart (before ++ wait ∷ after)
+pub apart_middle : (before : List Wait) (wait : Wait) (after : List Wait) → AreApart (before ++ wait ∷ after)
     → AreApart (before ++ after) × Each (λ other. other.p ≢ wait.p) (before ++ after)
 apart_middle [] wait after apart = (apart.1, apart.0)
 apart_middle (first ∷ before) wait after apart =

@@ -41,4 +41,6 @@ pub mod OutcomeFitLemmas
 pub mod RunFitLemmas
 pub mod ReportFitLemmas
 pub mod OutputReadingLaws
+pub mod explained
+pub mod gone
 pub mod lengths

@@ -84,7 +84,7 @@ answers_fit rules S T p n reply outcome h same locks writable is =
       few = inl (omega (arith, few, waits));
     })
 
-same_all : (S : State) → SameProcesses S S
+pub same_all : (S : State) → SameProcesses S S
 same_all S = record { states = refl; waits = refl; alive = λ p. refl }
 
 refused_fits : (rules : Rules) (S : State) (p n : ℕ) (error : Errno) (outcome : Outcome) → IsAtHand rules S p n → outcome ≡ refused S p n error
@@ -101,7 +101,7 @@ small_descriptor : (limits : Limits) (fd : ℕ) → fd < descriptor_limit limits
 small_descriptor Small fd within = omega (arith, within)
 small_descriptor Wide fd within = omega (arith, within)
 
-same_but : (S : State) (D : Descriptors) → ((p : ℕ) → D.ever_alive p ≡ S.descriptors.ever_alive p) → SameProcesses S (record S { descriptors = D })
+pub same_but : (S : State) (D : Descriptors) → ((p : ℕ) → D.ever_alive p ≡ S.descriptors.ever_alive p) → SameProcesses S (record S { descriptors = D })
 same_but S D alive = record { states = refl; waits = refl; alive = alive }
 
 -- other descriptors
@@ -117,17 +117,17 @@ dup_fits : (rules : Rules) (S : State) (p n fd : ℕ) (outcome : Outcome) → Is
 dup_fits rules S p n fd outcome h h2 = grind (arith, common_steps, answers_fit, same_files, small_descriptor, refusal_fits)
 
 -- what is released leaves the processes
-same_released : (S : State) (D : Descriptors) (p : ℕ) (released : Released) → ((q : ℕ) → D.ever_alive q ≡ S.descriptors.ever_alive q)
+pub same_released : (S : State) (D : Descriptors) (p : ℕ) (released : Released) → ((q : ℕ) → D.ever_alive q ≡ S.descriptors.ever_alive q)
     → SameProcesses S (with_released S D p released)
 same_released S D p released alive = record { states = refl; waits = refl; alive = alive }
 
-moved_alive : (old : Descriptors) (p fd to description : ℕ) (released : Released) (new : Descriptors) (same : Bool)
+pub moved_alive : (old : Descriptors) (p fd to description : ℕ) (released : Released) (new : Descriptors) (same : Bool)
     → MatchBool same ((released ≡ nothing) × SameDescriptors new old)
     (SameDescriptors new (with_descriptor old p to description) × AreReleased old new p (λ k. k == to) released)
     → (q : ℕ) → new.ever_alive q ≡ old.ever_alive q
 moved_alive old p fd to description released new same is q = grind (arith, common_steps)
 
-moved_descriptions : (old : Descriptors) (p fd to description : ℕ) (released : Released) (new : Descriptors) (same : Bool)
+pub moved_descriptions : (old : Descriptors) (p fd to description : ℕ) (released : Released) (new : Descriptors) (same : Bool)
     → MatchBool same ((released ≡ nothing) × SameDescriptors new old)
     (SameDescriptors new (with_descriptor old p to description) × AreReleased old new p (λ k. k == to) released)
     → new.descriptions ≡ old.descriptions
@@ -179,7 +179,7 @@ locked_fits rules S U wait grants outcome h fits told few fit is = grind (arith,
 -- ---- lock commands
 
 -- no byte lies past the largest offset
-abbrev IsWithin : Span → Type 0
+abbrev pub IsWithin : Span → Type 0
 IsWithin span = (span.first ≤ OFFMAX) × (span.last ≤ OFFMAX)
 
 -- a mode that is held was set by a change, whose owner and bytes fit
@@ -282,7 +282,7 @@ between : (first last : ℤ) (span : Span) (low high far : Bool) → int_lt firs
     → (int_lt first (pos 0) ≡ false → (n : ℕ) × (last ≡ pos n)) → range_between first last ≡ Ok span → IsWithin span
 between first last span low high far h h2 h3 h4 h5 = grind (arith, common_steps, within_file)
 
-resolved_within : (lock : Lock) (look : Look) (span : Span) → resolution lock.whence lock.start lock.len look.offset look.size ≡ Ok span → IsWithin span
+pub resolved_within : (lock : Lock) (look : Look) (span : Span) → resolution lock.whence lock.start lock.len look.offset look.size ≡ Ok span → IsWithin span
 resolved_within lock look span is = grind (arith, common_steps, between, not_negative, ints)
 
 described_fits : (rules : Rules) (S : State) (p n : ℕ) (cmd : LkCmd) (lock : Lock) (look : Look) (outcome : Outcome) → IsAtHand rules S p n
@@ -372,15 +372,15 @@ fork_fits : (rules : Rules) (processes : ℕ) (S : State) (p n child : ℕ) (out
 fork_fits rules processes S p n child outcome h h2 = grind (arith, common_steps, others_wait, few_wait, same_files, each_both, eq-eqb, cases_eq, refusal_fits)
 
 -- the waits of all others
-each_other : (P : Wait → Type 0) (waits : List Wait) (p : ℕ) → Each P waits → Each P (without_wait_of waits p)
+pub each_other : (P : Wait → Type 0) (waits : List Wait) (p : ℕ) → Each P waits → Each P (without_wait_of waits p)
 each_other P [] p all = tt
 each_other P (wait ∷ waits) p all = grind (arith, common_steps, each_other P waits)
 
-others_left : (waits : List Wait) (p : ℕ) → Each (λ wait. wait.p ≢ p) (without_wait_of waits p)
+pub others_left : (waits : List Wait) (p : ℕ) → Each (λ wait. wait.p ≢ p) (without_wait_of waits p)
 others_left [] p = tt
 others_left (wait ∷ waits) p = grind (arith, common_steps, eq-eqb, cases_eq, others_left waits)
 
-apart_left : (waits : List Wait) (p : ℕ) → AreApart waits → AreApart (without_wait_of waits p)
+pub apart_left : (waits : List Wait) (p : ℕ) → AreApart waits → AreApart (without_wait_of waits p)
 apart_left [] p apart = tt
 apart_left (wait ∷ waits) p apart = grind (arith, common_steps, each_other, apart_left waits)
 

@@ -240,3 +240,14 @@ without_comments text = flat_map (λ line. line ++ 10 ∷ []) (filter (λ line. 
 -- what is explained of a script is, without the lines that begin with `#`, its output
 abbrev pub ExplanationsAreComments : Type 0
 ExplanationsAreComments = (states : States) (bytes text : List ℕ) → IsExplained states bytes text → IsOutput bytes (without_comments text)
+
+-- with the same states, two texts that explain one run from the opening are equal
+abbrev pub RunsHaveOneExplanation : Type 0
+RunsHaveOneExplanation =
+    (states : States) (rules : Rules) (processes : ℕ) (journal : List Event) (S T : State) (text other : List ℕ)
+    → ExplainsRun states rules processes 1 opening_state journal S text → ExplainsRun states rules processes 1 opening_state journal T other
+    → text ≡ other
+
+-- with the same states, two explained texts of one script are equal
+abbrev pub ScriptsHaveOneExplanation : Type 0
+ScriptsHaveOneExplanation = (states : States) (bytes text other : List ℕ) → IsExplained states bytes text → IsExplained states bytes other → text ≡ other

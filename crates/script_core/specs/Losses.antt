@@ -1,5 +1,6 @@
 -- Which locks went with an event (which are told is this project's choice).
-use Rattle.std.specs.Prelude.{◌≡◌, ℕ, zero, suc, ◌==◌, ◌&&◌, ◌||◌, not, nat_lt, if◌then◌else◌, Bool, true, false, MatchBool, MatchOption, Option, Some, None, is_some, option_map, option_to_list, List, [], ◌∷◌, ◌++◌, map, filter}
+use Rattle.std.specs.Prelude.{◌≡◌, ℕ, zero, suc, ◌==◌, ◌&&◌, ◌||◌, not, nat_lt, if◌then◌else◌, Bool, true, false, MatchBool, MatchOption, Option, Some, None, is_some, is_none, option_map, option_to_list, List, [], ◌∷◌, ◌++◌, map, filter, ◌≤◌}
+use Rattle.std.specs.List.{list_any}
 use Rattle.range_core.specs.declared.Mode.{Mode}
 use Rattle.range_core.specs.declared.Span.{Span}
 use Rattle.range_core.specs.Ranges.{AreRuns}
@@ -9,6 +10,7 @@ use Rattle.fd_table.specs.Descriptors.{Descriptors, descriptor_limit, look_at}
 use Rattle.lock_book.specs.declared.Held.{Held}
 use Rattle.lock_book.specs.declared.Owner.{Owner}
 use Rattle.lock_book.specs.declared.Owner.TheVariants.{Process, Description}
+use Rattle.lock_book.specs.Owners.{is_same_owner}
 use Rattle.lock_book.specs.Changes.{mode_in, flock_mode_in, whole_file}
 use Rattle.lock_book.specs.Reports.{IsHeldReport}
 use Rattle.lock_manager.specs.declared.request.FlockOp.TheVariants.{Sh, Ex, Un}
@@ -16,7 +18,11 @@ use Rattle.lock_manager.specs.declared.request.ProcState.{ProcState}
 use Rattle.lock_manager.specs.declared.request.ProcState.TheVariants.{Unborn, Live, Waiting, Ended}
 use Rattle.lock_manager.specs.declared.request.Request.{Request}
 use Rattle.lock_manager.specs.declared.request.Request.TheVariants.{OpenFile, Dup, DupTo, CloseFd, Seek, Resize, Lk, Flock, Fork, Exit, Signal, Kill}
-use Rattle.lock_manager.specs.State.{State}
+use Rattle.lock_manager.specs.declared.request.Rules.{Rules}
+use Rattle.lock_manager.specs.State.{State, opening_state}
+use Rattle.lock_manager.specs.LockWords.{wanted_mode}
+use Rattle.session_core.specs.Event.{Event}
+use Rattle.session_core.specs.Runs.{IsStep, Leads}
 use Rattle.script_core.specs.declared.losses.Closing.{Closing}
 use Rattle.script_core.specs.declared.losses.Closing.TheVariants.{Nothing, OneOf, AllOf}
 
@@ -157,3 +163,39 @@ lost_of T (Some held) = if has_flock T held.file held.owner then [] else held �
 -- is first removed")
 abbrev pub lost : State → State → ℕ → Request → List Held
 lost S T p request = lost_of T (flock_before S p request)
+
+-- whether the line of a report says a lock at this place: on the whole of the file or on its bytes, and of this owner
+abbrev pub is_at : Bool → ℕ → Owner → Held → Bool
+is_at whole file owner held = (if whole then held.whole else not held.whole) && (held.file == file) && is_same_owner held.owner owner
+
+-- the lines of the earlier report whose owner has none on that file in the later one, byte locks and flock locks apart
+abbrev pub gone : List Held → List Held → List Held
+gone before after = filter (λ held. not (list_any (is_at held.whole held.file held.owner) after)) before
+
+-- whether the request is for an unlock (POSIX.1-2017 fcntl, F_UNLCK; flock(2), LOCK_UN)
+abbrev pub is_unlock : Request → Bool
+is_unlock (OpenFile file access) = false
+is_unlock (Dup fd) = false
+is_unlock (DupTo fd to) = false
+is_unlock (CloseFd fd) = false
+is_unlock (Seek fd offset) = false
+is_unlock (Resize fd size) = false
+is_unlock (Lk fd cmd lock) = is_none (wanted_mode lock.kind)
+is_unlock (Flock fd Sh nb) = false
+is_unlock (Flock fd Ex nb) = false
+is_unlock (Flock fd Un nb) = true
+is_unlock (Fork child) = false
+is_unlock Exit = false
+is_unlock (Signal target) = false
+is_unlock (Kill target) = false
+
+-- in a run from the opening, the locks that an event releases and those that it loses are the lines of the report before it whose owner has
+-- none on that file in the report behind it, byte locks and flock locks apart; an unlock releases and loses none
+abbrev pub LossesAreDifferences : Type 0
+LossesAreDifferences =
+    (rules : Rules) (processes : ℕ) (events : List Event) (S : State) (event : Event) (T : State) (before after released : List Held)
+    → 1 ≤ processes → Leads rules processes opening_state events S → IsStep rules processes S event T
+    → IsHeldReport (mode_in S.changes) (flock_mode_in S.flock_changes) before
+    → IsHeldReport (mode_in T.changes) (flock_mode_in T.flock_changes) after
+    → AreReleased processes (descriptor_limit rules.limits) S (closed_by rules.limits S event.p event.request) released
+    → released ++ lost S T event.p event.request ≡ (if is_unlock event.request then [] else gone before after)

@@ -1,7 +1,8 @@
 //! Laws of the definitions of a script and its output. Each is the contract of a function that does nothing.
-ghost use Rattle.script_core.specs.Explaining.{ExplanationsAreComments};
+ghost use Rattle.script_core.specs.Explaining.{ExplanationsAreComments, RunsHaveOneExplanation, ScriptsHaveOneExplanation};
 ghost use Rattle.script_core.specs.JournalReading.{EntriesAreReadBack, JournalsAreReadBack, JournalsHaveOneEnd, LinesHaveOneMeaning};
 ghost use Rattle.script_core.specs.JournalView.{OneIsTold};
+ghost use Rattle.script_core.specs.Losses.{LossesAreDifferences};
 ghost use Rattle.script_core.specs.Output.{OutputsAreShort, ScriptsHaveOneOutput};
 ghost use Rattle.script_core.specs.OutputReading.{OutputsAreLegal};
 ghost use Rattle.script_core.specs.ReportReading.{ReportsAreReadBack};
@@ -73,3 +74,22 @@ pub fn outputs_are_short()
 pub fn explanations_are_comments()
     ensures { ExplanationsAreComments }
 {}
+
+/// What is explained has one text: with the same states, two texts that explain one run from the opening are equal, and so are two explained
+/// texts of one script.
+pub fn explanations_have_one_text()
+    ensures run { RunsHaveOneExplanation }
+    ensures script { ScriptsHaveOneExplanation }
+{
+    locks_have_one_report();
+    arrivals_have_one_drain();
+    step_has_one_outcome();
+}
+
+/// The locks that an event of a run releases, and those that it loses, are the difference of two reports: the lines of the report before it
+/// whose owner has none on that file in the report behind it, byte locks and flock locks apart. An unlock releases and loses none.
+pub fn losses_are_differences()
+    ensures { LossesAreDifferences }
+{
+    locks_have_one_report();
+}

@@ -34,9 +34,9 @@ pub use entry::parse_entry;
 pub use explain::write_explained;
 pub use journal::{JournalFault, JournalReader};
 pub use laws::{
-    explanations_are_comments, headers_change_nothing_else, journals_are_read_back,
-    journals_have_one_end, lines_have_one_answer, outputs_are_legal, outputs_are_short,
-    reports_are_read_back, scripts_have_one_output,
+    explanations_are_comments, explanations_have_one_text, headers_change_nothing_else,
+    journals_are_read_back, journals_have_one_end, lines_have_one_answer, losses_are_differences,
+    outputs_are_legal, outputs_are_short, reports_are_read_back, scripts_have_one_output,
 };
 pub use reader::ScriptReader;
 pub use report::{ReportFault, ReportLine, ReportReader};

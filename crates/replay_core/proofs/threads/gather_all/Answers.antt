@@ -1,24 +1,31 @@
 use Rattle.std.proofs.Common.{◌≡◌, refl, ◌∙◌, ap, sym, subst, ℕ, ◌≤◌, List, [], ◌∷◌, ◌++◌, map, length, vec_len, Vec, Global, arith, append-nil, vec_items}
 use Rattle.std.specs.Vec.Iter.{into_iter_items}
 use Rattle.std.proofs.lemmas.List.{length-map, map-append, nil_from_length}
+use Rattle.std.proofs.lemmas.List.Elements.{All-head, All-same, All-rest}
 use Rattle.std.proofs.lemmas.Option.{slice_get_within}
 use Rattle.lock_manager.specs.declared.request.Reply.{Reply}
 use Rattle.session_core.specs.Event.{Event}
 use Rattle.call_table.specs.Desks.{desk_view}
 use Rattle.replay_core.specs.declared.caller.Caller.{Caller}
 use Rattle.replay_core.specs.declared.threads.place.Place.{Place}
-use Rattle.replay_core.specs.Gathering.{AreGathered, IsGathered}
-use Rattle.replay_core.specs.Places.{started}
+use Rattle.replay_core.specs.Gathering.{AreGathered, IsGathered, AreToldOf, HasLeft}
+use Rattle.replay_core.specs.Places.{started, IsFor}
 use Rattle.replay_core.proofs.ListLemmas.{next_of, done_more}
 use Rattle.replay_core.proofs.GatheringLemmas.{still_of_hub, gathered_before, gathered_more}
+use Rattle.replay_core.proofs.WatchingLemmas.{watched_before, told_more}
 use Rattle.replay_core.proofs.threads.gather_all.Goals as goal
 
-pub end-caller-requires : goal.end-caller-requires
-end-caller-requires g c =
+pub end-caller-requires-clause-ready : goal.end-caller-requires-clause-ready
+end-caller-requires-clause-ready g c κs within =
     let inv = c.loop-place.invariant in
     c.requires.callers (length inv.done) (started c.in-Some.place)
     (next_of inv.done (map started (into_iter_items c.loop-place.place-iterator)) (map started c.args.places.items)
     (started c.in-Some.place) (map started (into_iter_items c.next.new.self)) inv.all (ap (map started) c.in-Some.ensures.steps.0))
+
+pub end-caller-requires-clause-watch : goal.end-caller-requires-clause-watch
+end-caller-requires-clause-watch g c κs within =
+    All-head (IsFor c.args.watch.now) c.in-Some.place (into_iter_items c.next.new.self)
+    (All-same (IsFor c.args.watch.now) _ _ (sym c.in-Some.ensures.steps.0) c.loop-place.invariant.watch)
 
 pub meet-met-requires-clause-client : goal.meet-met-requires-clause-client
 meet-met-requires-clause-client g c =
@@ -26,8 +33,8 @@ meet-met-requires-clause-client g c =
     still_of_hub c.args.hub.now (started c.in-Some.place).client c.end-caller.result.client
     (c.requires.callers (length inv.done) (started c.in-Some.place)
     (next_of inv.done (map started (into_iter_items c.loop-place.place-iterator)) (map started c.args.places.items)
-    (started c.in-Some.place) (map started (into_iter_items c.next.new.self)) inv.all (ap (map started) c.in-Some.ensures.steps.0)))
-    c.end-caller.ensures.same.client
+    (started c.in-Some.place) (map started (into_iter_items c.next.new.self)) inv.all (ap (map started) c.in-Some.ensures.steps.0))).client
+    c.end-caller.ensures.ended.same.client
 
 pub push_reserved-requires : goal.push_reserved-requires
 push_reserved-requires g c =
@@ -53,6 +60,8 @@ loop-place-init g c = record {
     ap (λ (l : List (Vec (ℕ × Reply × ℕ) Global)). length (map vec_items l)) c.requires.none,
     λ i caller answers none is. absurd (let below = slice_get_within [] i caller none in omega (arith, below)),
   );
+  watch = All-same (IsFor c.args.watch.now) _ _ c.into_iter-place-iterator.ensures.into_iter_gives.0 c.requires.watch;
+  told = λ i caller none. absurd (let below = slice_get_within [] i caller none in omega (arith, below));
 }
 
 pub loop-place-preserved : goal.loop-place-preserved
@@ -77,7 +86,11 @@ loop-place-preserved g c =
       gathered = subst (λ (l : List (List (ℕ × Reply × ℕ))). AreGathered J (inv.done ++ caller ∷ []) l)
           (sym (ap (map vec_items) c.push_reserved.ensures.items ∙ map-append vec_items c.loop-place.collected.items (answers ∷ [])))
           (gathered_more J inv.done caller (map vec_items c.loop-place.collected.items) answers.items inv.gathered
-          (gathered_before J caller c.end-caller.result answers.items c.end-caller.ensures.same met));
+          (gathered_before J caller c.end-caller.result answers.items c.end-caller.ensures.ended.same met));
+      watch = All-rest (IsFor c.args.watch.now) c.in-Some.place (into_iter_items c.next.new.self) _ c.in-Some.ensures.steps.0 inv.watch;
+      told = told_more (g.W.Watch.told c.args.watch.now) J inv.done caller inv.told
+          (watched_before (g.W.Watch.told c.args.watch.now) J caller c.end-caller.result c.end-caller.ensures.ended.same c.end-caller.ensures.told
+          (subst (λ (j : List Event). HasLeft j c.end-caller.result) inv.journal c.meet-met.ensures.left));
     }
 
 pub returns-clause-gathered : goal.returns-clause-gathered
@@ -86,7 +99,18 @@ returns-clause-gathered g c =
     let left = c.loop-place.place-iterator in
     let none : into_iter_items left ≡ [] = nil_from_length (into_iter_items left) (omega (arith, c.in-None.ensures.steps.0, left.rest.ok.0)) in
     let all : inv.done ≡ map started c.args.places.items =
-    sym (append-nil inv.done) ∙ ap (λ (l : List Place). inv.done ++ map started l) (sym none) ∙ inv.all in
+    sym (append-nil inv.done) ∙ ap (λ (l : List (Place _)). inv.done ++ map started l) (sym none) ∙ inv.all in
     subst (λ (j : List Event). AreGathered j (map started c.args.places.items) (map vec_items c.loop-place.collected.items))
     (sym (c.into_session-session.ensures.journal ∙ inv.journal))
     (subst (λ (l : List Caller). AreGathered (desk_view c.args.desk).journal l (map vec_items c.loop-place.collected.items)) all inv.gathered)
+
+pub returns-clause-told : goal.returns-clause-told
+returns-clause-told g c =
+    let inv = c.loop-place.invariant in
+    let left = c.loop-place.place-iterator in
+    let none : into_iter_items left ≡ [] = nil_from_length (into_iter_items left) (omega (arith, c.in-None.ensures.steps.0, left.rest.ok.0)) in
+    let all : inv.done ≡ map started c.args.places.items =
+    sym (append-nil inv.done) ∙ ap (λ (l : List (Place _)). inv.done ++ map started l) (sym none) ∙ inv.all in
+    subst (λ (j : List Event). AreToldOf (g.W.Watch.told c.args.watch.now) j (map started c.args.places.items))
+    (sym (c.into_session-session.ensures.journal ∙ inv.journal))
+    (subst (λ (l : List Caller). AreToldOf (g.W.Watch.told c.args.watch.now) (desk_view c.args.desk).journal l) all inv.told)

@@ -1,9 +1,9 @@
-use Rattle.std.proofs.Common.{◌≡◌, ◌≤◌, List, ◌++◌, map, vec_len, vec_capacity, vec_items}
+use Rattle.std.proofs.Common.{◌≡◌, ◌≤◌, List, ◌++◌, All, map, vec_len, vec_capacity, vec_items}
 use Rattle.std.specs.Vec.Iter.{into_iter_items}
 use Rattle.call_table.specs.Desks.{desk_view, session_in, SameDesk}
 use Rattle.replay_core.specs.declared.caller.Caller.{Caller}
-use Rattle.replay_core.specs.Gathering.{AreGathered}
-use Rattle.replay_core.specs.Places.{started}
+use Rattle.replay_core.specs.Gathering.{AreGathered, AreToldOf}
+use Rattle.replay_core.specs.Places.{started, IsFor}
 use Rattle.replay_core.proofs.threads.gather_all.Given as goal
 
 abbrev pub invariant-loop-place : goal.invariant-loop-place
@@ -15,4 +15,6 @@ invariant-loop-place g l = record {
   session : session_in l.desk ≡ session_in l.fn.desk;
   journal : (desk_view l.desk).journal ≡ (desk_view l.fn.desk).journal;
   gathered : AreGathered (desk_view l.fn.desk).journal done (map vec_items l.collected.items);
+  watch : All (IsFor l.fn.watch) (into_iter_items l.place-iterator);
+  told : AreToldOf (g.W.Watch.told l.fn.watch) (desk_view l.fn.desk).journal done;
 }

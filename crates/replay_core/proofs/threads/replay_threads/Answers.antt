@@ -1,10 +1,11 @@
-use Rattle.std.proofs.Common.{◌≡◌, ◌∙◌, ap, subst, ℕ, List, length, arith}
+use Rattle.std.proofs.Common.{◌≡◌, ◌∙◌, ap, subst, ℕ, List, Vec, Global, length, arith}
 use Rattle.std.proofs.lemmas.List.{length-map}
 use Rattle.std.proofs.lemmas.Result.{IfOk-weaker}
 use Rattle.fd_table.specs.Descriptors.{process_limit}
 use Rattle.lock_manager.specs.declared.request.Request.{Request}
 use Rattle.lock_manager.specs.declared.request.Rules.{Rules}
 use Rattle.session_core.specs.Mail.{requests_sent}
+use Rattle.session_core.specs.SessionView.{events_in}
 use Rattle.call_table.specs.declared.client.Client.{Client}
 use Rattle.table_steps.specs.declared.setup.Setup.{Setup}
 use Rattle.script_core.specs.ScriptText.{Meaning}
@@ -13,7 +14,8 @@ use Rattle.script_core.specs.Output.{processes_in}
 use Rattle.replay_core.specs.declared.caller.Caller.{Caller}
 use Rattle.replay_core.specs.Callers.{AreOf}
 use Rattle.replay_core.specs.Rooms.{IsServed}
-use Rattle.replay_core.proofs.GatheringLemmas.{are_new, at_hub, reports}
+use Rattle.replay_core.proofs.GatheringLemmas.{are_new, are_ready, reports}
+use Rattle.replay_core.proofs.WatchingLemmas.{all_watched}
 use Rattle.replay_core.proofs.threads.replay_threads.Goals as goal
 
 pub make_callers-requires-clause-new : goal.make_callers-requires-clause-new
@@ -22,7 +24,7 @@ make_callers-requires-clause-new g c =
 
 pub serve_in_scope-requires-clause-callers : goal.serve_in_scope-requires-clause-callers
 serve_in_scope-requires-clause-callers g c κs within =
-    at_hub _ c.in_ok-hub.hub c.in_ok-hub.clients.items c.in_ok-hub.desk c.in_ok-callers.callers.items
+    are_ready _ c.in_ok-hub.hub c.in_ok-hub.clients.items c.in_ok-hub.desk c.in_ok-callers.callers.items
     c.in_ok-hub.ensures.opened c.in_ok-callers.ensures.clients
 
 pub returns-clause-ok : goal.returns-clause-ok
@@ -47,7 +49,26 @@ returns-clause-ok g c =
     subst (λ (arrivals : List (ℕ × Request)). AreCounts counts.items (λ p. length (requests_sent p arrivals)))
     (c.deref.ensures.value ∙ arrivals_are) c.in_ok-counts.ensures.counts in
     IfOk-weaker c.serve_in_scope.result _ _
-    (λ report served. reports script hub callers.items counts.items report
+    (λ report served. reports (g.W.Watch.told c.args.watch.now) script hub callers.items counts.items report
     (ap (λ (s : Setup). s.rules) opened.setup_is ∙ rules_are) (ap (λ (s : Setup). s.processes) opened.setup_is ∙ processes_are)
-    all each one_each sent (subst (λ (l : List ℕ). IsServed hub callers.items l report) c.deref-3.ensures.value served))
+    all each one_each sent
+    (subst (λ (l : Vec ℕ Global). IsServed (g.W.Watch.told c.args.watch.now) hub callers.items l.items report) c.of_counts-service.ensures served))
+    c.serve_in_scope.ensures.ok
+
+pub returns-clause-told : goal.returns-clause-told
+returns-clause-told g c =
+    let script : Meaning = c.args.script.now in
+    let callers = c.in_ok-callers.callers in
+    let opened = c.in_ok-hub.ensures.opened in
+    let rules_are : c.script.inside.rules ≡ script.rules = ap (λ (m : Meaning). m.rules) c.script.view_is in
+    let processes_are : c.processes-processes.result ≡ processes_in script =
+    c.processes-processes.ensures ∙ ap (λ (r : Rules). process_limit r.limits) rules_are in
+    let arrivals_are = ap (λ (m : Meaning). m.arrivals) c.script.view_is in
+    let clients = ap (λ (l : List Client). length l) c.in_ok-callers.ensures.clients in
+    let mapped = length-map callers.items (λ (caller : Caller). caller.client) in
+    let all : length callers.items ≡ processes_in script = omega (arith, clients, mapped, opened.all, processes_are) in
+    let each : AreOf script.arrivals callers.items =
+    subst (λ (arrivals : List (ℕ × Request)). AreOf arrivals callers.items) (c.deref-2.ensures.value ∙ arrivals_are) c.in_ok-callers.ensures.callers in
+    IfOk-weaker c.serve_in_scope.result _ _
+    (λ report served. all_watched (g.W.Watch.told c.args.watch.now) script callers.items (events_in report.session) all each served.all_told)
     c.serve_in_scope.ensures.ok

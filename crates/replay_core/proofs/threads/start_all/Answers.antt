@@ -1,7 +1,11 @@
-use Rattle.std.proofs.Common.{map, length}
+use Rattle.std.proofs.Common.{◌≡◌, ◌∙◌, ap, sym, subst, ℕ, ◌≤◌, List, [], ◌∷◌, ◌++◌, map, length, vec_len}
+use Rattle.std.proofs.lemmas.List.{map-append}
+use Rattle.std.proofs.lemmas.List.Elements.{All-push, All-same}
 use Rattle.std.specs.Vec.Iter.{into_iter_items}
-use Rattle.replay_core.specs.Places.{started}
-use Rattle.replay_core.proofs.ListLemmas.{next_of}
+use Rattle.replay_core.specs.declared.caller.Caller.{Caller}
+use Rattle.replay_core.specs.declared.threads.place.Place.{Place}
+use Rattle.replay_core.specs.Places.{started, IsFor}
+use Rattle.replay_core.proofs.ListLemmas.{next_of, done_more}
 use Rattle.replay_core.proofs.threads.start_all.Goals as goal
 
 pub start-requires-after_bounds : goal.start-requires-after_bounds
@@ -10,3 +14,22 @@ start-requires-after_bounds g c κs within =
     c.requires.callers (length done) c.in-Some.caller
     (next_of done (into_iter_items c.loop-caller.caller-iterator) c.args.callers.items c.in-Some.caller
     (into_iter_items c.next.new.self) c.loop-caller.invariant.all c.in-Some.ensures.steps.0)
+
+pub loop-caller-preserved : goal.loop-caller-preserved
+loop-caller-preserved g c =
+    let inv = c.loop-caller.invariant in
+    let places = c.loop-caller.places.items in
+    let place = c.in_ok-place.place in
+    let rest = into_iter_items c.loop-caller.caller-iterator in
+    let behind = into_iter_items c.next.new.self in
+    let items : c.push_reserved.new.self.items ≡ places ++ place ∷ [] = c.push_reserved.ensures.items in
+    let here : rest ≡ started place ∷ behind =
+    c.in-Some.ensures.steps.0 ∙ ap (λ (caller : Caller). caller ∷ behind) (sym c.in_ok-place.ensures.started) in
+    record {
+      all = ap (λ (l : List (Place _)). map started l ++ behind) items
+          ∙ ap (λ (l : List Caller). l ++ behind) (map-append started places (place ∷ []))
+          ∙ done_more (map started places) rest c.args.callers.items (started place) behind inv.all here;
+      room = subst (λ (n : ℕ). vec_len c.args.callers ≤ n) (sym c.push_reserved.ensures.capacity) inv.room;
+      watch = All-same (IsFor c.args.watch.now) _ _ items
+          (All-push (IsFor c.args.watch.now) places place inv.watch c.in_ok-place.ensures.watch);
+    }

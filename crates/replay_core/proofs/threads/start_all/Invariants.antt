@@ -1,10 +1,11 @@
-use Rattle.std.proofs.Common.{◌≡◌, ◌≤◌, ◌++◌, map, vec_len, vec_capacity}
+use Rattle.std.proofs.Common.{◌≡◌, ◌≤◌, ◌++◌, All, map, vec_len, vec_capacity}
 use Rattle.std.specs.Vec.Iter.{into_iter_items}
-use Rattle.replay_core.specs.Places.{started}
+use Rattle.replay_core.specs.Places.{started, IsFor}
 use Rattle.replay_core.proofs.threads.start_all.Given as goal
 
 abbrev pub invariant-loop-caller : goal.invariant-loop-caller
 invariant-loop-caller g l = record {
   all : map started l.places.items ++ into_iter_items l.caller-iterator ≡ l.fn.callers.items;
   room : vec_len l.fn.callers ≤ vec_capacity l.places;
+  watch : All (IsFor l.fn.watch) l.places.items;
 }

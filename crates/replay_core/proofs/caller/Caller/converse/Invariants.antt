@@ -6,4 +6,4 @@ abbrev pub invariant-loop : goal.invariant-loop
 invariant-loop g l =
     (goal.iterator-loop g).can_next l.iterator' × (goal.iterator-loop g).is_finite l.iterator'
     × SameCaller l.fn.self l.self × IsClientOf l.hub l.self.client
-    × (WasTold (g.W.Watch.told l.fn.watch) l.fn.self → WasTold (g.W.Watch.told l.fn.watch) l.self)
+    × WasTold (g.W.Watch.told l.fn.watch) l.self
