@@ -5,6 +5,7 @@ from __future__ import annotations
 import argparse
 import json
 import os
+import shlex
 import shutil
 import signal
 import subprocess
@@ -35,6 +36,7 @@ STEPS: dict[str, tuple[Callable[[Path], None], float]] = {
     "made-by-mknod": (special.made_by_mknod, 60),
     "another-user": (special.another_user, 60),
     "refusals": (special.refusals, 120),
+    "listing": (special.listing, 120),
     "package-tool": (programs.package_tool, 60),
     "mail-store": (programs.mail_store, 60),
     "counting": (programs.counting, 180),
@@ -44,7 +46,7 @@ STEPS: dict[str, tuple[Callable[[Path], None], float]] = {
     "random-scripts": (corpus.random_scripts, 900),
 }
 # What a tmpfs has nothing of.
-ON_THE_MOUNT_ALONE = ("refusals",)
+ON_THE_MOUNT_ALONE = ("refusals", "listing")
 # What lockreplay judges.
 LOCKREPLAYS = ("corpus", "random-scripts")
 # What only root can try: another user is to be let in.
@@ -169,6 +171,8 @@ def main() -> int:
         signal.signal(number, lambda signal_number, _: sys.exit(128 + signal_number))
     left_out = (() if "LOCKREPLAY" in os.environ else LOCKREPLAYS) + (() if os.geteuid() == 0 else ROOTS_ALONE)
     names = options.only or [name for name in STEPS if name not in left_out]
+    # (for the step that has it print the list)
+    os.environ["LOCKFS"] = shlex.join(options.lockfs)
     tally = Tally()
     try:
         with Places(options.lockfs) as places:

@@ -1,9 +1,11 @@
-"""Files that are made by mknod, what another user makes, and the log of what was refused."""
+"""Files that are made by mknod, what another user makes, the log of what was refused, and the list of locks."""
 
 from __future__ import annotations
 
 import os
+import shlex
 import stat
+import subprocess
 from pathlib import Path
 
 from fusetest.observe import Child, see, word_of
@@ -117,3 +119,34 @@ def refusals(path: Path) -> None:
     below = path.parent.parent / "beneath" / path.name
     lines = [line.partition(" ")[2] for line in (path.parent.parent / "log").read_text().splitlines() if line.endswith(f" {below}")]
     see("the log", "; ".join(lines), "; ".join(f"{line} {below}" for line in due))
+
+
+def listing(path: Path) -> None:
+    """lockfs --list tells who holds what and who waits for whom, as the file does that it reads."""
+
+    def listed() -> str:
+        told = subprocess.run([*shlex.split(os.environ["LOCKFS"]), "--list", str(path.parent)], stdout=subprocess.PIPE, text=True, check=True)
+        lines = told.stdout.splitlines()
+        see("the first line names the columns", lines[0], "KIND PID MODE FIRST LAST BLOCKER FILE")
+        return "; ".join(line[: -len(path.name) - 1] for line in lines if line.endswith(f" {path.name}"))
+
+    us = os.getpid()
+    held = opened(path)
+    see("nothing is locked", listed(), "")
+    ask(held, "setlk", "w", 0, 10)
+    ask(held, "setlk", "u", 4, 2)
+    flock(held, "sh", True)
+    locks = [f"FCNTL {us} WRITE 0 3 -", f"FCNTL {us} WRITE 6 9 -", f"FLOCK {us} READ 0 - -"]
+    see("the locks", listed(), "; ".join(locks))
+    reader, writer = waiter(path, "setlkw", "r", 5, 0), waiter(path, "flock", "ex", 0, 0)
+    waits = [f"FCNTL {reader.pid} READ* 5 - {us}", f"FLOCK {writer.pid} WRITE* 0 - {us}"]
+    see("and the waits", listed(), "; ".join(locks + waits))
+    ask(held, "setlk", "u", 0, 0)
+    see("the reader is granted", reader.hear(), "ok")
+    see("and is told", listed(), "; ".join([f"FCNTL {reader.pid} READ 5 - -", locks[2], waits[1]]))
+    os.close(held)
+    see("the writer is granted", writer.hear(), "ok")
+    stop(reader, writer)
+    name = ".lockfs-locks"
+    see("no folder lists the file", str(name in os.listdir(path.parent)), "False")
+    see("and it is there to be read", stat.filemode(os.stat(path.parent / name).st_mode), "-r--r--r--")

@@ -2,11 +2,12 @@
  * description locks and flock.
  *
  *   lockfs [-f] [--kernel-locks] [--log FILE] [-o allow_other] FOLDER MOUNTPOINT
+ *   lockfs --list MOUNTPOINT
  *
  * It returns once MOUNTPOINT is mounted, and serves until `fusermount3 -u MOUNTPOINT` or a SIGTERM; with -f it stays in the foreground. With
  * --kernel-locks it answers no lock request, so the kernel's own locks hold on the mount: for measurements. With --log it adds a line to
  * FILE for each lock request that it refuses. With -o allow_other all users have the mount; what a user makes there is the user's where
- * lockfs is root's.
+ * lockfs is root's. With --list it prints the locks and waits of a mount, as a file of the mount reads that no folder of it lists.
  *
  * One thread reads requests and answers them. What a lock request comes to is the library's to say: nothing here compares locks, queues a
  * wait or looks for a deadlock. To the library a file is its node's number, an owner the number that the kernel gives it, a ticket the
@@ -32,8 +33,8 @@
 #include <time.h>
 #include <unistd.h>
 
-/* Who last asked for byte locks as an owner, and through which open file: for the pid that F_GETLK tells, until the owner's locks go by
- * a flush or by the last close of the open file. */
+/* Who last asked for byte locks, or for a flock lock, as an owner, and through which open file: for the pid that F_GETLK and the list of
+ * locks tell, until the owner's locks go by a flush or by the last close of the open file. */
 struct asker {
     uint64_t owner, open_file;
     pid_t pid;
@@ -110,19 +111,28 @@ static const char *name_of(int error) {
     }
 }
 
-/* A line: the second, the thread, what it asked for (start and length, 0 to the end), the error, and the file in the folder, in which what
- * isn't printed is told as a question mark. */
+/* The file's name in the folder, in which what isn't printed is told as a question mark. */
+struct name {
+    char text[PATH_MAX + 1];
+};
+
+static struct name name_in_folder(fuse_ino_t file) {
+    struct name name;
+    struct path path = path_of(file);
+    ssize_t size = readlink(path.text, name.text, sizeof name.text - 1);
+    for (ssize_t at = 0; at < size; at++)
+        if ((unsigned char)name.text[at] < ' ') name.text[at] = '?';
+    name.text[size < 0 ? 0 : size] = '\0';
+    return name;
+}
+
+/* A line: the second, the thread, what it asked for (start and length, 0 to the end), the error, and the file. */
 static void tell_refusal(const struct asked *asked, int error) {
     struct timespec now;
     clock_gettime(CLOCK_REALTIME, &now);
-    char name[PATH_MAX + 1];
-    struct path path = path_of(asked->file);
-    ssize_t size = readlink(path.text, name, sizeof name - 1);
-    for (ssize_t at = 0; at < size; at++)
-        if ((unsigned char)name[at] < ' ') name[at] = '?';
-    name[size < 0 ? 0 : size] = '\0';
+    struct name name = name_in_folder(asked->file);
     fprintf(refusals, "%lld.%06ld %d %s: %s %s\n", (long long)now.tv_sec, now.tv_nsec / 1000, (int)asked->thread, asked->words,
-            name_of(error), name);
+            name_of(error), name.text);
     fflush(refusals);
 }
 
@@ -299,11 +309,124 @@ static void lockfs_flock(fuse_req_t request, fuse_ino_t file, struct fuse_file_i
     int kind = operation & ~LOCK_NB;
     uint32_t mode = kind == LOCK_UN ? DEHOKUNA_UNLOCK : kind == LOCK_SH ? DEHOKUNA_READ : DEHOKUNA_WRITE;
     struct asked asked = asked_by_flock(request, file, operation);
+    /* (where there is no memory, the list of locks won't have the pid) */
+    if (mode != DEHOKUNA_UNLOCK) remember(node_of(file), info->lock_owner, info->fh, fuse_req_ctx(request)->pid);
     answer(request, &asked,
            mode == DEHOKUNA_UNLOCK || operation & LOCK_NB
                ? dehokuna_flock(&server, file, info->lock_owner, mode)
                : dehokuna_flock_wait(&server, ticket_of(request), file, info->lock_owner, mode));
 }
+
+/* ---- The list of locks */
+
+/* The file of the mount that reads as all locks and waits, as they stand when it is opened. */
+#define LISTING_NAME ".lockfs-locks"
+static struct node listing = {.descriptor = -1};
+
+/* The list as it was when it was opened. */
+struct list {
+    char *text;
+    size_t size;
+};
+
+/* A lock, or a wait with the pid of who is in its way. */
+struct line {
+    const char *kind;
+    uint32_t mode;
+    uint64_t first, last;
+    pid_t pid, blocker;
+    bool waits;
+};
+
+static bool is_listing(fuse_ino_t file) { return node_of(file) == &listing; }
+
+/* The kind, the pid, the mode (of a wait with a star), the first and the last byte, whose wait is in whose way, and the file; what isn't
+ * known is a hyphen, as the last byte of a lock to the end. */
+static void print_line(FILE *out, fuse_ino_t file, const struct line *line) {
+    char pid[24] = "-", blocker[24] = "-", last[24] = "-";
+    if (line->pid) snprintf(pid, sizeof pid, "%d", (int)line->pid);
+    if (line->blocker) snprintf(blocker, sizeof blocker, "%d", (int)line->blocker);
+    if (line->last < DEHOKUNA_LARGEST_OFFSET) snprintf(last, sizeof last, "%llu", (unsigned long long)line->last);
+    struct name name = name_in_folder(file), folder = name_in_folder(FUSE_ROOT_ID);
+    size_t size = strlen(folder.text);
+    bool is_below = !strncmp(name.text, folder.text, size) && name.text[size] == '/';
+    fprintf(out, "%s %s %s%s %llu %s %s %s\n", line->kind, pid, line->mode == DEHOKUNA_READ ? "READ" : "WRITE", line->waits ? "*" : "",
+            (unsigned long long)line->first, last, blocker, is_below ? name.text + size + 1 : name.text);
+}
+
+static void print_locks(FILE *out, fuse_ino_t file) {
+    struct dehokuna_blocker lock = {0};
+    struct dehokuna_flock_lock flock = {0};
+    for (uint64_t first = 0; dehokuna_next_lock(&server, file, lock.owner, first, &lock); first = lock.last + 1)
+        print_line(out, file, &(struct line){"FCNTL", lock.mode, lock.first, lock.last, pid_of(node_of(file), lock.owner), 0, false});
+    for (uint64_t from = 0; dehokuna_next_flock(&server, file, from, &flock); from = flock.owner + 1) {
+        const struct line line = {"FLOCK", flock.mode, 0, DEHOKUNA_LARGEST_OFFSET, pid_of(node_of(file), flock.owner), 0, false};
+        print_line(out, file, &line);
+        if (flock.owner == UINT64_MAX) return;
+    }
+}
+
+/* The thread that sent the request that waits. */
+static pid_t pid_of_request(uint64_t ticket) { return fuse_req_ctx((fuse_req_t)(uintptr_t)ticket)->pid; }
+
+static void print_waits(FILE *out, fuse_ino_t file) {
+    struct dehokuna_waiting wait;
+    for (uint64_t place = 0; dehokuna_wait_at(&server, file, place, &wait); place++) {
+        const bool by_wait = wait.obstacle == DEHOKUNA_BY_WAIT;
+        const pid_t blocker = by_wait ? pid_of_request(wait.behind) : pid_of(node_of(file), wait.blocker.owner);
+        const char *kind = wait.family == DEHOKUNA_BYTES ? "FCNTL" : "FLOCK";
+        print_line(out, file, &(struct line){kind, wait.mode, wait.first, wait.last, pid_of_request(wait.ticket), blocker, true});
+    }
+}
+
+/* NULL: there is no memory. */
+static struct list *make_list(void) {
+    struct list *list = malloc(sizeof *list);
+    FILE *out = list ? open_memstream(&list->text, &list->size) : NULL;
+    if (!out) {
+        free(list);
+        return NULL;
+    }
+    fprintf(out, "KIND PID MODE FIRST LAST BLOCKER FILE\n");
+    uint64_t file;
+    for (uint64_t from = 0; dehokuna_next_file(&server, from, &file); from = file + 1) print_locks(out, file), print_waits(out, file);
+    if (!fclose(out)) return list;
+    free(list->text);
+    free(list);
+    return NULL;
+}
+
+static struct stat listing_described(void) {
+    const struct stat described = {.st_ino = (ino_t)(uintptr_t)&listing, .st_mode = S_IFREG | 0444, .st_nlink = 1};
+    return described;
+}
+
+static void look_up_listing(fuse_req_t request) {
+    const struct fuse_entry_param entry = {.ino = (uintptr_t)&listing, .attr = listing_described()};
+    fuse_reply_entry(request, &entry);
+}
+
+static void open_listing(fuse_req_t request, struct fuse_file_info *info) {
+    struct list *list = (info->flags & O_ACCMODE) == O_RDONLY ? make_list() : NULL;
+    info->fh = (uintptr_t)list;
+    info->direct_io = 1;
+    if (list) fuse_reply_open(request, info);
+    else fuse_reply_err(request, (info->flags & O_ACCMODE) == O_RDONLY ? ENOMEM : EACCES);
+}
+
+static void read_listing(fuse_req_t request, size_t size, off_t from, const struct fuse_file_info *info) {
+    const struct list *list = (const struct list *)(uintptr_t)info->fh;
+    const size_t start = (size_t)from < list->size ? (size_t)from : list->size;
+    fuse_reply_buf(request, list->text + start, size < list->size - start ? size : list->size - start);
+}
+
+static void free_list(const struct fuse_file_info *info) {
+    struct list *list = (struct list *)(uintptr_t)info->fh;
+    free(list->text);
+    free(list);
+}
+
+/* ---- Closes */
 
 /* A descriptor is closed: the record locks of its process on the file go. */
 static void lockfs_flush(fuse_req_t request, fuse_ino_t file, struct fuse_file_info *info) {
@@ -318,7 +441,8 @@ static void lockfs_flush(fuse_req_t request, fuse_ino_t file, struct fuse_file_i
 static void lockfs_release(fuse_req_t request, fuse_ino_t file, struct fuse_file_info *info) {
     dehokuna_release(&server, file, info->fh, info->flock_release, info->lock_owner);
     forget_askers(node_of(file), came_through, info->fh);
-    close((int)info->fh);
+    if (is_listing(file)) free_list(info);
+    else close((int)info->fh);
     answer_close(request);
 }
 
@@ -364,6 +488,10 @@ static int look_up(fuse_ino_t parent, const char *name, struct fuse_entry_param 
 }
 
 static void lockfs_lookup(fuse_req_t request, fuse_ino_t parent, const char *name) {
+    if (node_of(parent) == &root && !strcmp(name, LISTING_NAME)) {
+        look_up_listing(request);
+        return;
+    }
     struct fuse_entry_param entry;
     int error = look_up(parent, name, &entry);
     if (error) fuse_reply_err(request, error);
@@ -372,7 +500,7 @@ static void lockfs_lookup(fuse_req_t request, fuse_ino_t parent, const char *nam
 
 static void lockfs_forget(fuse_req_t request, fuse_ino_t file, uint64_t lookups) {
     struct node *node = node_of(file);
-    if (node != &root && (node->lookups -= lookups) == 0) {
+    if (node != &root && node != &listing && (node->lookups -= lookups) == 0) {
         tdelete(node, &nodes, compare_nodes);
         forget_askers(node, is_any, 0);
         close(node->descriptor);
@@ -386,8 +514,9 @@ static void answer_call(fuse_req_t request, int result) { fuse_reply_err(request
 
 static void lockfs_getattr(fuse_req_t request, fuse_ino_t file, struct fuse_file_info *info) {
     (void)info;
-    struct stat described;
-    if (fstatat(node_of(file)->descriptor, "", &described, AT_EMPTY_PATH) < 0) fuse_reply_err(request, errno);
+    struct stat described = listing_described();
+    if (is_listing(file)) fuse_reply_attr(request, &described, 0);
+    else if (fstatat(node_of(file)->descriptor, "", &described, AT_EMPTY_PATH) < 0) fuse_reply_err(request, errno);
     else fuse_reply_attr(request, &described, 0);
 }
 
@@ -426,6 +555,10 @@ static void lockfs_setattr(fuse_req_t request, fuse_ino_t file, struct stat *wan
 static int open_flags(const struct fuse_file_info *info) { return (info->flags & ~(O_NOFOLLOW | O_APPEND)) | O_CLOEXEC; }
 
 static void lockfs_open(fuse_req_t request, fuse_ino_t file, struct fuse_file_info *info) {
+    if (is_listing(file)) {
+        open_listing(request, info);
+        return;
+    }
     struct path path = path_of(file);
     int descriptor = open(path.text, open_flags(info));
     if (descriptor < 0) {
@@ -479,7 +612,10 @@ static void lockfs_create(fuse_req_t request, fuse_ino_t parent, const char *nam
 }
 
 static void lockfs_read(fuse_req_t request, fuse_ino_t file, size_t size, off_t from, struct fuse_file_info *info) {
-    (void)file;
+    if (is_listing(file)) {
+        read_listing(request, size, from, info);
+        return;
+    }
     struct fuse_bufvec buffer = FUSE_BUFVEC_INIT(size);
     buffer.buf[0].flags = FUSE_BUF_IS_FD | FUSE_BUF_FD_SEEK;
     buffer.buf[0].fd = (int)info->fh;
@@ -636,6 +772,22 @@ static bool read_command(int count, char **words, struct command *command) {
     return command->mountpoint;
 }
 
+/* Prints the list of a mount; false where it has none. */
+static bool print_list(const char *mountpoint) {
+    char name[PATH_MAX];
+    int size = snprintf(name, sizeof name, "%s/%s", mountpoint, LISTING_NAME);
+    FILE *list = size < (int)sizeof name ? fopen(name, "re") : NULL;
+    if (!list) {
+        perror(mountpoint);
+        return false;
+    }
+    char part[4096];
+    for (size_t read; (read = fread(part, 1, sizeof part, list)) > 0;) fwrite(part, 1, read, stdout);
+    bool is_whole = !ferror(list) && !fflush(stdout) && !ferror(stdout);
+    fclose(list);
+    return is_whole;
+}
+
 static bool serve(struct fuse_session *session, const struct command *command) {
     /* (absolute, since fuse_daemonize changes the working folder) */
     char *mountpoint = realpath(command->mountpoint, NULL);
@@ -671,8 +823,10 @@ static void forget_node(void *node) {
 
 int main(int count, char **words) {
     struct command command = {0};
+    if (count == 3 && !strcmp(words[1], "--list")) return print_list(words[2]) ? 0 : 1;
     if (!read_command(count, words, &command)) {
-        fprintf(stderr, "usage: lockfs [-f] [--kernel-locks] [--log FILE] [-o allow_other] FOLDER MOUNTPOINT\n");
+        fprintf(stderr, "usage: lockfs [-f] [--kernel-locks] [--log FILE] [-o allow_other] FOLDER MOUNTPOINT\n"
+                        "       lockfs --list MOUNTPOINT\n");
         return 2;
     }
     root.descriptor = open(command.folder, O_PATH | O_DIRECTORY | O_CLOEXEC);
@@ -685,7 +839,7 @@ int main(int count, char **words) {
         perror(command.log);
         return 1;
     }
-    if (!dehokuna_create(&server, DEHOKUNA_HELD)) {
+    if (!dehokuna_create(&server, DEHOKUNA_HELD | DEHOKUNA_ATOMIC)) {
         fprintf(stderr, "lockfs: no memory\n");
         return 1;
     }

@@ -88,8 +88,8 @@ rust_static() {
 # Whether each function of the header stands in its manual page and in both bindings.
 each_is_bound() {
     for called in $(sed -n 's/^[a-z].*[ *]dehokuna_\([a-z_]*\)(.*/\1/p' "$installed/include/dehokuna.h"); do
-        for place in "../docs/dehokuna.3 dehokuna_$called" "python/dehokuna/_library.py \"$called\"" "rust/dehokuna-sys/src/lib.rs dehokuna_$called" "rust/dehokuna/src/lib.rs dehokuna_$called"; do
-            grep -qw -- "${place#* }" "${place%% *}" || { echo "${place%% *} lacks dehokuna_$called"; return 1; }
+        for place in "../docs/dehokuna.3 dehokuna_$called" "python/dehokuna/_library.py \"$called\"" "rust/dehokuna-sys/src/lib.rs dehokuna_$called" "rust/dehokuna/src dehokuna_$called"; do
+            grep -rqw -- "${place#* }" "${place%% *}" || { echo "${place%% *} lacks dehokuna_$called"; return 1; }
         done
     done
 }

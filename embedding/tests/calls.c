@@ -180,6 +180,51 @@ static void last_closes(struct dehokuna_server *server) {
     dehokuna_flush(server, FILE_A, 4);
 }
 
+static bool has_counts(const struct dehokuna_server *server, uint64_t first, uint64_t last, struct dehokuna_counts right) {
+    struct dehokuna_counts told = {9, 9, 9};
+    dehokuna_counts(server, first, last, &told);
+    return told.runs == right.runs && told.flock_locks == right.flock_locks && told.waits == right.waits
+           && dehokuna_has_locks(server, first, last) == (right.runs + right.flock_locks > 0);
+}
+
+/* Two clients, with owners 0x10000 to 0x1ffff and 0x20000 to 0x2ffff; the first one is gone, and then a file. */
+static void clients(struct dehokuna_server *server) {
+    const uint64_t one = 0x10000, end = 0x1ffff, other = 0x20000;
+    CHECK(has_counts(server, 0, UINT64_MAX, (struct dehokuna_counts){0, 0, 0}));
+    CHECK(dehokuna_set(server, FILE_A, one, 0, 9, DEHOKUNA_WRITE) == DEHOKUNA_DONE);
+    CHECK(dehokuna_set(server, FILE_A, one, 4, 5, DEHOKUNA_READ) == DEHOKUNA_DONE);
+    CHECK(dehokuna_set(server, FILE_B, end, 0, 9, DEHOKUNA_WRITE) == DEHOKUNA_DONE);
+    CHECK(dehokuna_flock(server, FILE_A, one + 1, DEHOKUNA_WRITE) == DEHOKUNA_DONE);
+    CHECK(dehokuna_note(server, FILE_A, one, 50) && dehokuna_note(server, FILE_A, other, 50));
+    CHECK(dehokuna_wait(server, 90, FILE_B, other, 0, 0, DEHOKUNA_WRITE, true) == DEHOKUNA_WAITS);
+    CHECK(dehokuna_flock_wait(server, 91, FILE_A, other, DEHOKUNA_READ) == DEHOKUNA_WAITS);
+    CHECK(dehokuna_wait(server, 92, FILE_B, one + 2, 0, 0, DEHOKUNA_WRITE, true) == DEHOKUNA_WAITS);
+    CHECK(dehokuna_flock_wait(server, 93, FILE_A, end, DEHOKUNA_WRITE) == DEHOKUNA_WAITS);
+    CHECK(dehokuna_wait(server, 94, FILE_A, other, 9, 9, DEHOKUNA_WRITE, true) == DEHOKUNA_WAITS);
+    CHECK(dehokuna_wait(server, 95, FILE_A, one + 3, 8, 9, DEHOKUNA_WRITE, true) == DEHOKUNA_WAITS);
+    CHECK(has_counts(server, one, end, (struct dehokuna_counts){4, 1, 3}));
+    CHECK(has_counts(server, one, one, (struct dehokuna_counts){3, 0, 0}));
+    CHECK(has_counts(server, one + 1, end - 1, (struct dehokuna_counts){0, 1, 2}));
+    CHECK(has_counts(server, other, UINT64_MAX, (struct dehokuna_counts){0, 0, 3}));
+    CHECK(has_counts(server, end, one, (struct dehokuna_counts){0, 0, 0}));
+    dehokuna_forget_owners(server, end, one);
+    CHECK(has_counts(server, one, end, (struct dehokuna_counts){4, 1, 3}) && granted(server) == 0);
+    dehokuna_forget_owners(server, one, end);
+    CHECK(has_counts(server, one, end, (struct dehokuna_counts){0, 0, 0}));
+    CHECK(granted(server) == 91 && granted(server) == 94 && granted(server) == 90 && granted(server) == 0);
+    CHECK(has_counts(server, other, other, (struct dehokuna_counts){2, 1, 0}));
+    dehokuna_release(server, FILE_A, 50, false, 0);
+    CHECK(has_counts(server, other, other, (struct dehokuna_counts){1, 1, 0}));
+    CHECK(dehokuna_wait(server, 90, FILE_B, ANN, 0, 0, DEHOKUNA_READ, true) == DEHOKUNA_WAITS);
+    CHECK(dehokuna_flock(server, FILE_B, BOB, DEHOKUNA_WRITE) == DEHOKUNA_DONE);
+    dehokuna_forget_file(server, FILE_B);
+    CHECK(granted(server) == 0 && !dehokuna_cancel(server, 90));
+    CHECK(has_counts(server, 0, UINT64_MAX, (struct dehokuna_counts){0, 1, 0}));
+    CHECK(dehokuna_flock(server, FILE_A, ANN, DEHOKUNA_WRITE) == DEHOKUNA_BLOCKED);
+    dehokuna_forget_owners(server, 0, UINT64_MAX);
+    CHECK(has_counts(server, 0, UINT64_MAX, (struct dehokuna_counts){0, 0, 0}));
+}
+
 /* Many owners, files and waits: more than any table that might have been sized in advance. */
 static void many(struct dehokuna_server *server) {
     enum { COUNT = 1000 };
@@ -214,6 +259,53 @@ static void policies(void) {
     dehokuna_destroy(&held);
     dehokuna_destroy(&queue);
     CHECK(!held.at && !queue.at);
+}
+
+/* A lock that becomes shared stays before a writer that waits where conversions are atomic, and is lost to him where they go step by step;
+ * of two readers that ask to write the second one, or the first one, gets the lock. */
+static void conversions(void) {
+    for (uint32_t atomic = 0; atomic <= DEHOKUNA_ATOMIC; atomic += DEHOKUNA_ATOMIC) {
+        struct dehokuna_server server = {0};
+        CHECK(dehokuna_create(&server, DEHOKUNA_HELD | atomic));
+        CHECK(dehokuna_flock(&server, FILE_A, ANN, DEHOKUNA_WRITE) == DEHOKUNA_DONE);
+        CHECK(dehokuna_flock_wait(&server, 1, FILE_A, BOB, DEHOKUNA_WRITE) == DEHOKUNA_WAITS);
+        CHECK(dehokuna_flock(&server, FILE_A, ANN, DEHOKUNA_READ) == (atomic ? DEHOKUNA_DONE : DEHOKUNA_BLOCKED));
+        CHECK(granted(&server) == (atomic ? 0 : 1));
+        CHECK(dehokuna_flock(&server, FILE_A, CAT, DEHOKUNA_READ) == (atomic ? DEHOKUNA_DONE : DEHOKUNA_BLOCKED));
+        dehokuna_flock_release(&server, FILE_A, ANN);
+        dehokuna_flock_release(&server, FILE_A, CAT);
+        CHECK(granted(&server) == (atomic ? 1 : 0));
+        dehokuna_flock_release(&server, FILE_A, BOB);
+        CHECK(dehokuna_flock(&server, FILE_A, ANN, DEHOKUNA_READ) == DEHOKUNA_DONE);
+        CHECK(dehokuna_flock(&server, FILE_A, BOB, DEHOKUNA_READ) == DEHOKUNA_DONE);
+        CHECK(dehokuna_flock_wait(&server, 1, FILE_A, ANN, DEHOKUNA_WRITE) == DEHOKUNA_WAITS);
+        CHECK(dehokuna_flock_wait(&server, 2, FILE_A, BOB, DEHOKUNA_WRITE) == (atomic ? DEHOKUNA_DONE : DEHOKUNA_WAITS));
+        CHECK(granted(&server) == (atomic ? 0 : 1));
+        dehokuna_destroy(&server);
+    }
+}
+
+/* In a queue nobody stands behind a wait for what he has, in the same mode or a lesser one; for one byte more, or to write what he may
+ * read, he does, and closes a cycle. The lock that an atomic conversion takes off counts. */
+static void holders_in_a_queue(void) {
+    struct dehokuna_server server = {0};
+    CHECK(dehokuna_create(&server, DEHOKUNA_QUEUE | DEHOKUNA_ATOMIC));
+    CHECK(dehokuna_set(&server, FILE_A, ANN, 0, 9, DEHOKUNA_READ) == DEHOKUNA_DONE);
+    CHECK(dehokuna_set(&server, FILE_A, ANN, 20, 29, DEHOKUNA_WRITE) == DEHOKUNA_DONE);
+    CHECK(dehokuna_wait(&server, 1, FILE_A, BOB, 0, DEHOKUNA_LARGEST_OFFSET, DEHOKUNA_WRITE, true) == DEHOKUNA_WAITS);
+    CHECK(dehokuna_wait(&server, 2, FILE_A, ANN, 0, 9, DEHOKUNA_READ, true) == DEHOKUNA_DONE);
+    CHECK(dehokuna_wait(&server, 2, FILE_A, ANN, 22, 23, DEHOKUNA_WRITE, true) == DEHOKUNA_DONE);
+    CHECK(dehokuna_wait(&server, 2, FILE_A, ANN, 24, 29, DEHOKUNA_READ, true) == DEHOKUNA_DONE);
+    CHECK(dehokuna_wait(&server, 2, FILE_A, ANN, 0, 10, DEHOKUNA_READ, true) == DEHOKUNA_DEADLOCK);
+    CHECK(dehokuna_wait(&server, 2, FILE_A, ANN, 9, 20, DEHOKUNA_READ, true) == DEHOKUNA_DEADLOCK);
+    CHECK(dehokuna_wait(&server, 2, FILE_A, ANN, 0, 9, DEHOKUNA_WRITE, true) == DEHOKUNA_DEADLOCK);
+    CHECK(dehokuna_wait(&server, 2, FILE_A, ANN, 24, 29, DEHOKUNA_WRITE, true) == DEHOKUNA_DEADLOCK);
+    CHECK(granted(&server) == 0);
+    CHECK(dehokuna_flock(&server, FILE_A, ANN, DEHOKUNA_WRITE) == DEHOKUNA_DONE);
+    CHECK(dehokuna_flock_wait(&server, 3, FILE_A, BOB, DEHOKUNA_WRITE) == DEHOKUNA_WAITS);
+    CHECK(dehokuna_flock_wait(&server, 2, FILE_A, ANN, DEHOKUNA_READ) == DEHOKUNA_DONE && granted(&server) == 0);
+    CHECK(dehokuna_flock_wait(&server, 2, FILE_A, ANN, DEHOKUNA_WRITE) == DEHOKUNA_WAITS && granted(&server) == 3);
+    dehokuna_destroy(&server);
 }
 
 /* What names no range or no mode is refused before all else, and changes nothing; a last byte behind the largest is the largest. */
@@ -255,7 +347,9 @@ static void invalid_calls(void) {
     CHECK(dehokuna_get(&server, FILE_A, CAT, end, UINT64_MAX, DEHOKUNA_READ, &told) == DEHOKUNA_BLOCKED && told.last == end);
     CHECK(dehokuna_set(&server, FILE_A, ANN, 0, end + 1, DEHOKUNA_UNLOCK) == DEHOKUNA_DONE && is_free(&server, FILE_A, CAT, 0, end));
     dehokuna_destroy(&server);
-    for (uint32_t policy = 2; policy < 40; policy++) CHECK(!dehokuna_create(&server, policy) && !server.at);
+    for (uint32_t policy = 2; policy < 40; policy++)
+        CHECK(!dehokuna_create(&server, policy) && !dehokuna_create(&server, policy | DEHOKUNA_ATOMIC) && !server.at);
+    CHECK(!dehokuna_create(&server, 2 * DEHOKUNA_ATOMIC) && !dehokuna_create(&server, 3 * DEHOKUNA_ATOMIC) && !server.at);
     CHECK(!dehokuna_create(&server, UINT32_MAX) && !server.at);
 }
 
@@ -375,10 +469,110 @@ static void ends_without_memory(void) {
         are_granted &= owner == 3 || (dehokuna_next_grant(&server, &ticket) && ticket == owner);
     CHECK(are_granted && !dehokuna_next_grant(&server, &ticket));
     dehokuna_flock_release(&server, FILE_A, 2);
-    CHECK(!was_refused);
+    dehokuna_forget_owners(&server, 10, 19);
+    CHECK(has_counts(&server, 10, 19, (struct dehokuna_counts){0, 0, 0}) && has_counts(&server, 21, 21, (struct dehokuna_counts){2, 1, 0}));
     for (uint64_t owner = 1; owner < OWNERS; owner += 2)
         are_done &= dehokuna_set(&server, FILE_A, owner, 0, DEHOKUNA_LARGEST_OFFSET, DEHOKUNA_UNLOCK) == DEHOKUNA_DONE;
-    CHECK(are_done && !was_refused);
+    CHECK(are_done);
+    CHECK(!was_refused);
+    growths_left = -1;
+    dehokuna_destroy(&server);
+}
+
+static bool is_next_lock(const struct dehokuna_server *server, uint64_t owner, uint64_t first, struct dehokuna_blocker right) {
+    struct dehokuna_blocker told = {0};
+    return dehokuna_next_lock(server, FILE_A, owner, first, &told) && told.owner == right.owner && told.first == right.first
+           && told.last == right.last && told.mode == right.mode;
+}
+
+static bool is_next_flock(const struct dehokuna_server *server, uint64_t from, uint64_t owner, uint32_t mode) {
+    struct dehokuna_flock_lock told = {0};
+    return dehokuna_next_flock(server, FILE_A, from, &told) && told.owner == owner && told.mode == mode;
+}
+
+static bool is_next_wait(const struct dehokuna_server *server, struct dehokuna_owner_wait from, uint64_t last,
+                         struct dehokuna_owner_wait right) {
+    struct dehokuna_owner_wait told = {0};
+    return dehokuna_next_wait(server, from.owner, from.file, from.ticket, last, &told) && told.owner == right.owner && told.file == right.file
+           && told.ticket == right.ticket;
+}
+
+/* What is listed where there is nothing: false, and the last argument stays. */
+static void lists_nothing(const struct dehokuna_server *server) {
+    uint64_t file = 4;
+    struct dehokuna_blocker lock = {4, 4, 4, 4};
+    struct dehokuna_flock_lock flock = {4, 4};
+    struct dehokuna_waiting waiting = {.ticket = 4, .behind = 4};
+    struct dehokuna_owner_wait wait = {4, 4, 4};
+    CHECK(!dehokuna_next_file(server, 0, &file) && file == 4);
+    CHECK(!dehokuna_next_lock(server, FILE_A, 0, 0, &lock) && lock.owner == 4 && lock.first == 4 && lock.last == 4 && lock.mode == 4);
+    CHECK(!dehokuna_next_flock(server, FILE_A, 0, &flock) && flock.owner == 4 && flock.mode == 4);
+    CHECK(!dehokuna_wait_at(server, FILE_A, 0, &waiting) && waiting.ticket == 4 && waiting.behind == 4);
+    CHECK(!dehokuna_next_wait(server, 0, 0, 0, UINT64_MAX, &wait) && wait.owner == 4 && wait.file == 4 && wait.ticket == 4);
+}
+
+/* Locks by owner and first byte, and flock locks by owner, each from a place on. */
+static void lists_locks(const struct dehokuna_server *server) {
+    const struct dehokuna_blocker first = {ANN, 0, 3, DEHOKUNA_WRITE}, second = {ANN, 6, 9, DEHOKUNA_WRITE};
+    const struct dehokuna_blocker third = {CAT, 20, DEHOKUNA_LARGEST_OFFSET, DEHOKUNA_READ};
+    struct dehokuna_blocker lock = {0};
+    struct dehokuna_flock_lock flock = {0};
+    CHECK(is_next_lock(server, 0, 0, first) && is_next_lock(server, ANN, 0, first));
+    CHECK(is_next_lock(server, ANN, 1, second) && is_next_lock(server, ANN, 6, second));
+    CHECK(is_next_lock(server, ANN, 7, third) && is_next_lock(server, BOB, 0, third) && is_next_lock(server, CAT, 20, third));
+    CHECK(!dehokuna_next_lock(server, FILE_A, CAT, 21, &lock) && !dehokuna_next_lock(server, FILE_B, 0, 0, &lock));
+    CHECK(is_next_flock(server, 0, BOB, DEHOKUNA_READ) && is_next_flock(server, BOB, BOB, DEHOKUNA_READ));
+    CHECK(is_next_flock(server, BOB + 1, UINT64_MAX, DEHOKUNA_READ) && is_next_flock(server, UINT64_MAX, UINT64_MAX, DEHOKUNA_READ));
+    CHECK(!dehokuna_next_flock(server, FILE_B, 0, &flock));
+}
+
+/* Waits in order of arrival, each with what is in its way: the first lock, the flock lock of the least owner, or the first earlier wait. */
+static void lists_waits(const struct dehokuna_server *server) {
+    struct dehokuna_waiting told = {0};
+    CHECK(dehokuna_wait_at(server, FILE_A, 0, &told) && told.ticket == 70 && told.owner == BOB && told.first == 5 && told.last == 30);
+    CHECK(told.mode == DEHOKUNA_WRITE && told.family == DEHOKUNA_BYTES && told.detect && told.obstacle == DEHOKUNA_BY_LOCK && told.behind == 0);
+    CHECK(told.blocker.owner == ANN && told.blocker.first == 6 && told.blocker.last == 9 && told.blocker.mode == DEHOKUNA_WRITE);
+    CHECK(dehokuna_wait_at(server, FILE_A, 1, &told) && told.ticket == 71 && told.owner == CAT && told.first == 10 && told.last == 11);
+    CHECK(told.mode == DEHOKUNA_READ && !told.detect && told.obstacle == DEHOKUNA_BY_WAIT && told.behind == 70);
+    CHECK(told.blocker.owner == 0 && told.blocker.first == 0 && told.blocker.last == 0 && told.blocker.mode == 0);
+    CHECK(dehokuna_wait_at(server, FILE_A, 2, &told) && told.ticket == 72 && told.owner == CAT && told.family == DEHOKUNA_WHOLE);
+    CHECK(told.mode == DEHOKUNA_WRITE && told.first == 0 && told.last == DEHOKUNA_LARGEST_OFFSET && told.obstacle == DEHOKUNA_BY_FLOCK);
+    CHECK(told.blocker.owner == BOB && told.blocker.mode == DEHOKUNA_READ && told.blocker.last == DEHOKUNA_LARGEST_OFFSET);
+    CHECK(!dehokuna_wait_at(server, FILE_A, 3, &told) && !dehokuna_wait_at(server, FILE_A, UINT64_MAX, &told));
+    const struct dehokuna_owner_wait none = {0, 0, 0}, bob = {BOB, FILE_A, 70};
+    const struct dehokuna_owner_wait one = {CAT, FILE_A, 71}, two = {CAT, FILE_A, 72}, away = {CAT, FILE_B, 7};
+    struct dehokuna_owner_wait wait = {0};
+    CHECK(is_next_wait(server, none, UINT64_MAX, bob) && is_next_wait(server, bob, BOB, bob));
+    CHECK(is_next_wait(server, (struct dehokuna_owner_wait){BOB, FILE_A, 71}, CAT, one) && is_next_wait(server, one, CAT, one));
+    CHECK(is_next_wait(server, (struct dehokuna_owner_wait){CAT, FILE_A, 72}, CAT, two));
+    CHECK(is_next_wait(server, (struct dehokuna_owner_wait){CAT, FILE_A, 73}, CAT, away));
+    CHECK(!dehokuna_next_wait(server, CAT, FILE_B, 8, UINT64_MAX, &wait) && !dehokuna_next_wait(server, BOB, FILE_A, 71, BOB, &wait));
+}
+
+/* Each listing, of a server in which all of it stands, and of one without. No memory is taken. */
+static void listings(void) {
+    struct dehokuna_server server = {0};
+    uint64_t file = 0;
+    CHECK(dehokuna_create(&server, DEHOKUNA_QUEUE));
+    lists_nothing(&server);
+    CHECK(dehokuna_set(&server, FILE_A, ANN, 0, 9, DEHOKUNA_WRITE) == DEHOKUNA_DONE);
+    CHECK(dehokuna_set(&server, FILE_A, ANN, 4, 5, DEHOKUNA_UNLOCK) == DEHOKUNA_DONE);
+    CHECK(dehokuna_set(&server, FILE_A, CAT, 20, DEHOKUNA_LARGEST_OFFSET, DEHOKUNA_READ) == DEHOKUNA_DONE);
+    CHECK(dehokuna_flock(&server, FILE_A, UINT64_MAX, DEHOKUNA_READ) == DEHOKUNA_DONE);
+    CHECK(dehokuna_flock(&server, FILE_A, BOB, DEHOKUNA_READ) == DEHOKUNA_DONE);
+    CHECK(dehokuna_wait(&server, 70, FILE_A, BOB, 5, 30, DEHOKUNA_WRITE, true) == DEHOKUNA_WAITS);
+    CHECK(dehokuna_wait(&server, 71, FILE_A, CAT, 10, 11, DEHOKUNA_READ, false) == DEHOKUNA_WAITS);
+    CHECK(dehokuna_flock_wait(&server, 72, FILE_A, CAT, DEHOKUNA_WRITE) == DEHOKUNA_WAITS);
+    CHECK(dehokuna_flock(&server, FILE_B, ANN, DEHOKUNA_WRITE) == DEHOKUNA_DONE);
+    CHECK(dehokuna_flock_wait(&server, 7, FILE_B, CAT, DEHOKUNA_WRITE) == DEHOKUNA_WAITS);
+    growths_left = 0;
+    CHECK(dehokuna_next_file(&server, 0, &file) && file == FILE_A && dehokuna_next_file(&server, FILE_A, &file) && file == FILE_A);
+    CHECK(dehokuna_next_file(&server, FILE_A + 1, &file) && file == FILE_B && !dehokuna_next_file(&server, FILE_B + 1, &file));
+    lists_waits(&server);
+    dehokuna_flock_release(&server, FILE_B, ANN);
+    dehokuna_flock_release(&server, FILE_B, CAT);
+    lists_locks(&server);
+    CHECK(!was_refused);
     growths_left = -1;
     dehokuna_destroy(&server);
 }
@@ -393,7 +587,7 @@ static bool keep(struct dehokuna_server *server, uint64_t file) {
 }
 
 /* In each way an owner sets byte locks on the file that the keeper keeps, and is rid of them: the ways in which an owner comes. */
-enum { SET_WAYS = 5 };
+enum { SET_WAYS = 6 };
 static bool comes_for_bytes(struct dehokuna_server *server, uint64_t file, uint64_t owner, int way) {
     const uint64_t end = DEHOKUNA_LARGEST_OFFSET;
     bool is_right = dehokuna_set(server, file, owner, KEPT, 9, DEHOKUNA_READ) == DEHOKUNA_BLOCKED;
@@ -409,6 +603,7 @@ static bool comes_for_bytes(struct dehokuna_server *server, uint64_t file, uint6
         is_right &= dehokuna_set(server, file, owner, 16, end, DEHOKUNA_UNLOCK) == DEHOKUNA_DONE;
         dehokuna_release(server, file, OPEN_FILE, false, 0);
         break;
+    case 4: dehokuna_forget_owners(server, owner, owner); break;
     default:
         is_right &= dehokuna_set(server, file, owner, 0, end, DEHOKUNA_UNLOCK) == DEHOKUNA_DONE;
         is_right &= dehokuna_note(server, file, owner, OPEN_FILE + 1);
@@ -418,7 +613,7 @@ static bool comes_for_bytes(struct dehokuna_server *server, uint64_t file, uint6
 }
 
 /* In each way an owner waits for the byte that the keeper keeps, and is rid of the wait or of the lock. */
-enum { WAIT_WAYS = 4 };
+enum { WAIT_WAYS = 5 };
 static bool waits_for_bytes(struct dehokuna_server *server, uint64_t file, uint64_t owner, int way) {
     const uint64_t ticket = owner;
     bool is_right = dehokuna_wait(server, ticket, file, owner, KEPT, 9, DEHOKUNA_WRITE, way != 3) == DEHOKUNA_WAITS;
@@ -437,6 +632,10 @@ static bool waits_for_bytes(struct dehokuna_server *server, uint64_t file, uint6
         is_right &= granted(server) == ticket;
         dehokuna_flush(server, file, owner);
         break;
+    case 4:
+        is_right &= dehokuna_set(server, file, owner, 10, 19, DEHOKUNA_WRITE) == DEHOKUNA_DONE;
+        dehokuna_forget_owners(server, owner, owner);
+        return is_right;
     default:
         dehokuna_flush(server, file, KEEPER);
         is_right &= granted(server) == ticket;
@@ -446,7 +645,7 @@ static bool waits_for_bytes(struct dehokuna_server *server, uint64_t file, uint6
 }
 
 /* In each way an owner asks for a flock lock beside that of the keeper, and is rid of the lock or the wait. */
-enum { FLOCK_WAYS = 9 };
+enum { FLOCK_WAYS = 10 };
 static bool comes_for_flock(struct dehokuna_server *server, uint64_t file, uint64_t owner, int way) {
     const uint64_t ticket = owner;
     const uint32_t done = DEHOKUNA_DONE, blocked = DEHOKUNA_BLOCKED, waits = DEHOKUNA_WAITS;
@@ -464,6 +663,10 @@ static bool comes_for_flock(struct dehokuna_server *server, uint64_t file, uint6
     if (way == 7) {
         is_right &= dehokuna_flock(server, file, owner, DEHOKUNA_WRITE) == blocked;
         return is_right && dehokuna_cancel(server, ticket);
+    }
+    if (way == 8) {
+        dehokuna_forget_owners(server, owner, owner);
+        return is_right;
     }
     dehokuna_flock_release(server, file, KEEPER);
     is_right &= granted(server) == ticket;
@@ -507,6 +710,24 @@ static long taken_after_files(uint64_t files) {
         dehokuna_flock_release(&server, file, KEEPER);
     }
     CHECK(is_right);
+    const long taken = blocks - before;
+    dehokuna_destroy(&server);
+    return taken;
+}
+
+/* The same of so many files that are gone with a lock, a wait and a note of each kind. */
+static long taken_after_gone_files(uint64_t files) {
+    const long before = blocks;
+    struct dehokuna_server server = {0};
+    CHECK(dehokuna_create(&server, DEHOKUNA_HELD));
+    bool is_right = true;
+    for (uint64_t file = 0; file < files; file++) {
+        is_right &= keep(&server, file) && dehokuna_note(&server, file, ANN, OPEN_FILE);
+        is_right &= dehokuna_wait(&server, 2 * file, file, ANN, KEPT, 9, DEHOKUNA_READ, true) == DEHOKUNA_WAITS;
+        is_right &= dehokuna_flock_wait(&server, 2 * file + 1, file, ANN, DEHOKUNA_WRITE) == DEHOKUNA_WAITS;
+        dehokuna_forget_file(&server, file);
+    }
+    CHECK(is_right && granted(&server) == 0);
     const long taken = blocks - before;
     dehokuna_destroy(&server);
     return taken;
@@ -579,7 +800,41 @@ static void nothing_is_left(void) {
     const long before = blocks, kept = taken_beside_a_keeper(0), made = taken_after_files(0);
     CHECK(taken_beside_a_keeper(COMERS) <= kept + USED_ONCE);
     CHECK(taken_after_files(COMERS) <= made + USED_ONCE);
+    CHECK(taken_after_gone_files(COMERS) <= made + USED_ONCE);
     CHECK(blocks == before);
+}
+
+/* The export of a situation, word by word, each as eight bytes, the lowest first (docs/EMBEDDING.md, "The state as bytes"). */
+static void exports(void) {
+    static const uint64_t words[] = {1, 1, 0,                                  /* the version, the queue policy, and the conversion */
+                                     2,                                        /* files */
+                                     FILE_A, 1, ANN, 4, 9, DEHOKUNA_WRITE,     /* a byte lock of Ann */
+                                     0, 1, 70, BOB, 0, 5, 5, DEHOKUNA_READ, 1, /* no flock lock, and Bob, who waits for a byte of it */
+                                     FILE_B, 0, 1, CAT, DEHOKUNA_WRITE, 0,     /* a flock lock of Cat */
+                                     1, 71,                                    /* a grant that wasn't fetched */
+                                     0,                                        /* nobody is crossed */
+                                     1, FILE_A, ANN, 12};                      /* a note */
+    enum { WORDS = sizeof words / sizeof *words, SIZE = 8 * WORDS };
+    uint8_t right[SIZE], out[SIZE + 1];
+    for (size_t place = 0; place < SIZE; place++) right[place] = (uint8_t)(words[place / 8] >> 8 * (place % 8));
+    struct dehokuna_server server = {0};
+    CHECK(dehokuna_create(&server, DEHOKUNA_QUEUE));
+    CHECK(dehokuna_export_size(&server) == 8 * 7);
+    CHECK(dehokuna_flock(&server, FILE_B, BOB, DEHOKUNA_READ) == DEHOKUNA_DONE);
+    CHECK(dehokuna_flock_wait(&server, 71, FILE_B, CAT, DEHOKUNA_WRITE) == DEHOKUNA_WAITS);
+    CHECK(dehokuna_set(&server, FILE_A, ANN, 4, 9, DEHOKUNA_WRITE) == DEHOKUNA_DONE);
+    CHECK(dehokuna_wait(&server, 70, FILE_A, BOB, 5, 5, DEHOKUNA_READ, true) == DEHOKUNA_WAITS);
+    CHECK(dehokuna_note(&server, FILE_A, ANN, 12));
+    dehokuna_flock_release(&server, FILE_B, BOB);
+    const long before = blocks;
+    CHECK(dehokuna_export_size(&server) == SIZE);
+    memset(out, 0xee, sizeof out);
+    CHECK(dehokuna_export(&server, out, SIZE - 1) == SIZE);
+    CHECK(out[0] == 0xee && out[SIZE - 1] == 0xee);
+    CHECK(dehokuna_export(&server, out, SIZE + 1) == SIZE);
+    CHECK(memcmp(out, right, SIZE) == 0 && out[SIZE] == 0xee);
+    CHECK(blocks == before);
+    dehokuna_destroy(&server);
 }
 
 int main(void) {
@@ -590,12 +845,17 @@ int main(void) {
     deadlocks(&server);
     flock_locks(&server);
     last_closes(&server);
+    clients(&server);
     many(&server);
     dehokuna_destroy(&server);
     CHECK(!server.at);
     policies();
+    conversions();
+    holders_in_a_queue();
     invalid_calls();
+    exports();
     moved();
+    listings();
     refusals();
     unlocks_without_memory();
     ends_without_memory();

@@ -1,12 +1,12 @@
 -- What a whole call comes to is determined, and so what a run of calls does: for `replicas_agree`.
-use Rattle.std.proofs.Common.{arith, zero, suc, ℕ, ◌≡◌, ◌≢◌, ◌+◌, ◌<◌, ◌≤◌, ◌∙◌, ◌⊎◌, inl, inr, sym, ap, subst, refl, true, false, Bool, Option, Some, None, List, [], ◌∷◌, ◌++◌, All, Any, AllPairs, Contains, append-nil, length, length-append, get_or}
+use Rattle.std.proofs.Common.{arith, zero, suc, ℕ, ◌≡◌, ◌≢◌, ◌+◌, ◌<◌, ◌≤◌, ◌∙◌, inl, inr, sym, ap, subst, refl, true, false, Bool, Option, Some, None, List, [], ◌∷◌, ◌++◌, Any, AllPairs, Contains, append-nil, length, length-append, get_or}
 use Rattle.std.proofs.lemmas.Grind.{common_steps}
 use Rattle.std.proofs.lemmas.Bool.{cases_eq, cases_lt, cases_order, eqb-true}
-use Rattle.std.proofs.lemmas.List.Elements.{Contains-append_cases, Contains-append_right}
+use Rattle.std.proofs.lemmas.List.Elements.{Contains-append_cases}
 use Rattle.std.proofs.lemmas.Option.{same_Some}
 use Rattle.std.proofs.Math.Logic.{∥∥₁_elim}
 use mathlib.Core.HLevel.{⊥_prop}
-use Rattle.std.specs.Prelude.{◌==◌, if◌then◌else◌, filter}
+use Rattle.std.specs.Prelude.{◌==◌, if◌then◌else◌}
 use Rattle.range_core.specs.declared.Mode.{Mode}
 use Rattle.range_core.specs.declared.Span.{Span}
 use Rattle.range_core.specs.Ranges.{Modes, IsRun}
@@ -20,18 +20,18 @@ use Rattle.lock_server.specs.declared.Pending.{Pending}
 use Rattle.lock_server.specs.Agreement.{GetComesTo, Through}
 use Rattle.lock_server.specs.Calls.{CancelComesTo, Cancels, Forgets, ForgetsIn, ForgetsOn, IsStrangerOn, LeavesOn, is_other_wait}
 use Rattle.lock_server.specs.Closing.{Closes}
-use Rattle.lock_server.specs.Files.{FileState, SameFile, SameLocks, by_owner}
-use Rattle.lock_server.specs.Locks.{IsFirstLock, as_blocker}
+use Rattle.lock_server.specs.Files.{FileState, by_owner}
+use Rattle.lock_server.specs.Locks.{as_blocker}
 use Rattle.lock_server.specs.Openings.{ForgetsOwner, ForgetsThrough, SameOpenings, SeesOn}
 use Rattle.lock_server.specs.Pendings.{owners_of, tickets_of}
 use Rattle.lock_server.specs.Safety.{AreTicketsOnce}
 use Rattle.lock_server.specs.Settling.{IsSettled, Settles}
-use Rattle.lock_server.specs.States.{Crosses, SameState, SettlesFile, State, WaitsOn, IsPending}
+use Rattle.lock_server.specs.States.{Crosses, SettlesFile, State, WaitsOn}
 use Rattle.lock_server.proofs.CrossLemmas.{contains_none, contains_other}
 use Rattle.lock_server.proofs.ForgetLemmas.{filter_all}
 use Rattle.lock_server.proofs.LeaveLemmas.{Any-at}
 use Rattle.lock_server.proofs.OutcomeLaws.{none_next, split_one, state_one, then_settled_one, unchanged_one}
-use Rattle.lock_server.proofs.StateLemmas.{SameFile-itself, SameFile-then, file_from_same, state_from_same}
+use Rattle.lock_server.proofs.StateLemmas.{SameFile-itself, SameFile-then, file_from_same}
 
 -- the first lock in the way is one
 one_byte : (modes : ByteModes) (owner : Owner) (span : Span) (wanted : Mode) (b c : ℕ) (one other : Owner)

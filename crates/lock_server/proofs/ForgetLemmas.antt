@@ -1,5 +1,5 @@
 -- An owner that is forgotten, on one file and then on all: for `dismiss` and `forget`.
-use Rattle.std.proofs.Common.{rules, ℕ, ◌≡◌, ◌≢◌, ◌+◌, ◌<◌, ◌≤◌, ◌∙◌, inl, inr, sym, ap, refl, subst, arith, cond, Bool, false, Option, Some, None, List, [], ◌∷◌, ◌++◌, All, Contains, length, length-append}
+use Rattle.std.proofs.Common.{rules, ℕ, ◌≡◌, ◌≢◌, ◌+◌, ◌<◌, ◌≤◌, ◌∙◌, inl, inr, sym, ap, refl, subst, arith, cond, not, Bool, false, Option, Some, None, List, [], ◌∷◌, ◌++◌, All, Contains, length, length-append}
 use Rattle.std.proofs.lemmas.Grind.{common_steps}
 use Rattle.std.specs.Prelude.{IsTrue, AllPairs, MatchOption, filter}
 use Rattle.std.proofs.lemmas.Bool.{cases_eq, cases_lt}
@@ -10,19 +10,20 @@ use Rattle.wait_core.specs.declared.Policy.{Policy}
 use Rattle.lock_server.specs.declared.Pending.{Pending}
 use Rattle.lock_server.specs.Calls.{DismissesOn, Forgets, ForgetsIn, ForgetsOn, IsStrangerOn, ReleasesOn, is_other_wait}
 use Rattle.lock_server.specs.Files.{FileState, SameFile, SameLocks, untouched}
+use Rattle.lock_server.specs.Pendings.{is_byte_wait}
 use Rattle.lock_server.specs.States.{ChangesFile, Crosses, HasDetected, SameState, SettlesFile, State}
 use Rattle.lock_server.proofs.SettleLemmas.{crosses_then, detected_before}
 use Rattle.lock_server.proofs.StateLemmas.{SameFile-itself, SameFile-then, state_from_same}
 
--- some of the owner's waits for byte locks have left the file, and all locks stay
-pub record IsDismissing (S : State) (file owner : ℕ) (T : State) : Type 0 where
+-- some of these waits have left the file, and all locks stay
+pub record IsDismissing (S : State) (file : ℕ) (is_one : Pending → Bool) (T : State) : Type 0 where
   pub locks : SameLocks (S.files file) (T.files file)
-  pub kept : filter (is_other_wait owner) (T.files file).waits ≡ filter (is_other_wait owner) (S.files file).waits
+  pub kept : filter (λ wait. not (is_one wait)) (T.files file).waits ≡ filter (λ wait. not (is_one wait)) (S.files file).waits
   pub changes : ChangesFile S file [] T
 
 -- at first none of them
-pub dismissing_none : (S : State) (file owner : ℕ) → Crosses S [] S → IsDismissing S file owner S
-dismissing_none S file owner crossed = grind (arith, common_steps, SameFile-itself)
+pub dismissing_none : (S : State) (file : ℕ) (is_one : Pending → Bool) → Crosses S [] S → IsDismissing S file is_one S
+dismissing_none S file is_one crossed = grind (arith, common_steps, SameFile-itself)
 
 -- what a filter drops doesn't count
 filter_without : (p : Pending → Bool) (before after : List Pending) (wait : Pending) → p wait ≡ false
@@ -37,27 +38,29 @@ filter_all p (wait ∷ waits) all =
     ap (λ (b : Bool). cond b (wait ∷ filter p waits) (filter p waits)) (All-head Passes wait waits all)
     ∙ ap (λ (ws : List Pending). wait ∷ ws) (filter_all p waits (All-tail Passes wait waits all))
 
--- one of its waits more
-pub dismissing_more : (S : State) (file owner : ℕ) (M T : State) → IsDismissing S file owner M → DismissesOn M file owner T → IsDismissing S file owner T
-dismissing_more S file owner M T so_far one = grind (arith, common_steps, filter_without, SameFile-then, crosses_then, detected_before)
+-- one of them more
+pub dismissing_more : (S : State) (file : ℕ) (is_one : Pending → Bool) (M T : State) → IsDismissing S file is_one M → DismissesOn M file is_one T
+    → IsDismissing S file is_one T
+dismissing_more S file is_one M T so_far one = grind (arith, common_steps, filter_without, SameFile-then, crosses_then, detected_before)
 
 -- who has a detected wait after a release had it before
 released_before : (M : State) (file owner : ℕ) (T : State) → ReleasesOn M file Bytes owner T → (other : ℕ) → HasDetected T other → HasDetected M other
 released_before M file owner T releases other has = search (rules, cases_eq)
 
--- none of its waits is left, and then its byte locks go
-released_last : (S : State) (file owner : ℕ) (M T : State) → IsDismissing S file owner M
+-- none of an owner's waits for byte locks is left, and then its byte locks go
+released_last : (S : State) (file owner : ℕ) (M T : State) → IsDismissing S file (is_byte_wait owner) M
     → All (λ wait. IsTrue (is_other_wait owner wait)) (M.files file).waits → ReleasesOn M file Bytes owner T → ForgetsOn S file owner T
 released_last S file owner M T so_far all releases = grind (arith, common_steps, filter_all, SameFile-then, crosses_then, released_before)
 
-pub all_dismissed : (S : State) (file owner : ℕ) (M N T : State) → IsDismissing S file owner M
+pub all_dismissed : (S : State) (file owner : ℕ) (M N T : State) → IsDismissing S file (is_byte_wait owner) M
     → All (λ wait. IsTrue (is_other_wait owner wait)) (M.files file).waits → SameState M N → ReleasesOn N file Bytes owner T → ForgetsOn S file owner T
 all_dismissed S file owner M N T so_far all same releases =
     released_last S file owner M T so_far all (subst (λ (U : State). ReleasesOn U file Bytes owner T) (state_from_same M N same) releases)
 
 -- one wait that is dismissed is one wait less
-pub fewer_after : (M : State) (file owner : ℕ) (T : State) → DismissesOn M file owner T → length (T.files file).waits < length (M.files file).waits
-fewer_after M file owner T one = grind (arith, common_steps, length-append)
+pub fewer_after : (M : State) (file : ℕ) (is_one : Pending → Bool) (T : State) → DismissesOn M file is_one T
+    → length (T.files file).waits < length (M.files file).waits
+fewer_after M file is_one T one = grind (arith, common_steps, length-append)
 
 -- the least file that is not looked at, where those up to this one are
 abbrev pub next_of : Option ℕ → ℕ

@@ -3,10 +3,13 @@ use Rattle.std.proofs.Common.{arith, ℕ, ◌≡◌, ◌∙◌, ◌⊎◌, inl, 
 use Rattle.std.proofs.lemmas.Grind.{common_steps}
 use Rattle.std.specs.Prelude.{IsTrue}
 use Rattle.std.proofs.lemmas.Bool.{cases_eq}
+use Rattle.wait_core.specs.declared.Family.{Family}
+use Rattle.wait_core.specs.declared.Family.TheVariants.{Bytes, Whole}
 use Rattle.wait_core.specs.declared.Policy.{Policy}
+use Rattle.wait_core.specs.declared.Policy.TheVariants.{Held, Queue}
 use Rattle.lock_server.specs.declared.Pending.{Pending}
 use Rattle.lock_server.specs.Files.{FileState, Joins}
-use Rattle.lock_server.specs.Settling.{IsSettled, IsWaitBlocked}
+use Rattle.lock_server.specs.Settling.{AllBlocked, HasIn, IsSettled, IsWaitBlocked}
 use Rattle.lock_server.specs.States.{State}
 use Rattle.lock_server.specs.Deadlock.{IsBlockedByOwner, WaitsFor, WaitsForOn, WaitsUncrossed, IsFreeOfCycles}
 use Rattle.lock_server.specs.Safety.{IsCompatible, IsSafe, AreTicketsOnce}
@@ -14,8 +17,8 @@ use Rattle.lock_server.specs.Calls.{Suspends, IsRefused}
 use Rattle.lock_server.proofs.ReachedLemmas.{another_blocks}
 use Rattle.lock_server.proofs.ChainLemmas.{chain_weaker, free_joined}
 use Rattle.lock_server.proofs.ListLemmas.{no_place}
-use Rattle.lock_server.proofs.ReadyLemmas.{AllBlocked-push, as_waits-append}
-use Rattle.lock_server.proofs.SafeLemmas.{waiter_detected}
+use Rattle.lock_server.proofs.ReadyLemmas.{AllBlocked-push}
+use Rattle.lock_server.proofs.SafeLemmas.{IsSafeBut, waiter_detected}
 use Rattle.lock_server.proofs.StateLemmas.{file_from_same}
 use Rattle.lock_server.proofs.StepLemmas.{still_blocked}
 
@@ -30,10 +33,27 @@ joined_is F wait G joins i = record {
   waits = joins.waits i;
 }
 
+-- who is in the longer list has the same, and is blocked by the same
+has_before : (family : Family) (F : FileState) (wait one : Pending) → HasIn family (with_wait F wait) one → HasIn family F one
+has_before Bytes F wait one has = has
+has_before Whole F wait one has = has
+
+blocked_still : (policy : Policy) (F : FileState) (wait : Pending) (earlier : List Pending) (one : Pending) → IsWaitBlocked policy F earlier one
+    → IsWaitBlocked policy (with_wait F wait) earlier one
+blocked_still Held F wait earlier one held = held
+blocked_still Queue F wait earlier one (inl held) = inl held
+blocked_still Queue F wait earlier one (inr behind) = inr (behind.0, λ has. behind.1 (has_before one.family F wait one has))
+
+all_blocked_still : (policy : Policy) (F : FileState) (wait : Pending) (earlier waits : List Pending) → AllBlocked policy F earlier waits
+    → AllBlocked policy (with_wait F wait) earlier waits
+all_blocked_still policy F wait earlier [] all = tt
+all_blocked_still policy F wait earlier (one ∷ waits) all =
+    (blocked_still policy F wait earlier one all.0, all_blocked_still policy F wait (earlier ++ one ∷ []) waits all.1)
+
 -- a blocked wait joins blocked ones
 joined_settled : (policy : Policy) (F : FileState) (wait : Pending) → IsSettled policy F → IsWaitBlocked policy F F.waits wait
     → IsSettled policy (with_wait F wait)
-joined_settled policy F wait settled blocked = grind (arith, common_steps, as_waits-append, AllBlocked-push)
+joined_settled policy F wait settled blocked = all_blocked_still policy F wait [] (F.waits ++ wait ∷ []) (AllBlocked-push policy F [] F.waits wait settled blocked)
 
 -- a place in the longer list is one in the list, or the last
 record IsFrom (waits before : List Pending) (one wait : Pending) : Type 0 where
@@ -133,6 +153,15 @@ module _ (policy : Policy) (S : State) (file : ℕ) (wait : Pending) (T : State)
     | inl is ↦ subst (λ (f : ℕ). P (T.files f)) (sym is) (subst P (sym longer) here)
     | inr differs ↦ subst P (sym (file_from_same (S.files other) (T.files other) (suspends.changes.others other differs))) (before other)
   ]
+
+  -- a wait that closes no cycle joins, be it blocked or not
+  pub safe_but_joined : IsSafeBut policy file S → ¬ IsRefused policy S file wait → IsSafeBut policy file T
+  safe_but_joined safe open_still = record {
+    compatible = at_each_file IsCompatible safe.compatible (let was = safe.compatible file in record { bytes = was.bytes; flocks = was.flocks });
+    settled = λ other differs.
+        subst (λ (F : FileState). IsSettled policy F) (sym (file_from_same (S.files other) (T.files other) (suspends.changes.others other differs))) (safe.settled other differs);
+    free_of_cycles = joined_free open_still safe.free_of_cycles;
+  }
 
   -- a blocked wait that closes no cycle joins
   pub safe_joined : IsSafe policy S → IsWaitBlocked policy (S.files file) (S.files file).waits wait → ¬ IsRefused policy S file wait

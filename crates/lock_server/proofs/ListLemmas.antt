@@ -1,15 +1,12 @@
 -- Some element of a list: of one that was mapped, and of waits that block; for `LockServer::flock_or_wait`, `LockFile::is_blocked_at` and
 -- `LockFile::is_wait_blocked`.
-use Rattle.std.proofs.Common.{rules, ◌≡◌, ◌⊎◌, inl, inr, sym, subst, refl, arith, zero, suc, List, [], ◌∷◌, ◌++◌, Any, length}
-use Rattle.std.proofs.lemmas.Grind.{common_steps}
-use Rattle.std.specs.Prelude.{◌↔◌, Bool, IsTrue, map}
+use Rattle.std.proofs.Common.{◌≡◌, ◌⊎◌, inl, inr, sym, subst, refl, arith, zero, suc, List, [], ◌∷◌, ◌++◌, Any, length}
+use Rattle.std.specs.Prelude.{◌↔◌, Bool, IsTrue}
 use Rattle.wait_core.specs.declared.Policy.{Policy}
 use Rattle.wait_core.specs.declared.Policy.TheVariants.{Held, Queue}
-use Rattle.wait_core.specs.Blocking.{WaitsConflict}
 use Rattle.lock_server.specs.declared.Pending.{Pending}
-use Rattle.lock_server.specs.Pendings.{as_wait, as_waits}
 use Rattle.lock_server.specs.Files.{FileState}
-use Rattle.lock_server.specs.Settling.{IsHeldBack, IsWaitBlocked, PendingsConflict}
+use Rattle.lock_server.specs.Settling.{IsBlockedUnless, IsHeldBack, PendingsConflict}
 
 module _ {X : Type 0} where
   pub Any-nil : (P : X → Type 0) → ¬ Any P []
@@ -30,37 +27,23 @@ pub no_place : (before : List Pending) (wait : Pending) (after : List Pending) �
 no_place [] wait after e = let h : [] ≡ wait ∷ after = e in cc
 no_place (first ∷ before) wait after e = let h : [] ≡ first ∷ (before ++ wait ∷ after) = e in cc
 
--- what holds of an element's image holds of an element of the image
-pub Any-map : {X Y : Type 0} (f : X → Y) (P : Y → Type 0) (xs : List X) → Any (λ x. P (f x)) xs → Any P (map f xs)
-Any-map f P xs h = grind (arith, common_steps)
-
--- and back
-pub Any-unmap : {X Y : Type 0} (f : X → Y) (P : Y → Type 0) (xs : List X) → Any P (map f xs) → Any (λ x. P (f x)) xs
-Any-unmap f P [] any = absurd (Any-nil P any)
-Any-unmap f P (x ∷ xs) any = elim (Any-cons P (f x) (map f xs) any) [
-  | inl here ↦ Any-here _ x xs here
-  | inr there ↦ Any-there _ x xs (Any-unmap f P xs there)
-]
-
 pub Any-weaker : {X : Type 0} (P Q : X → Type 0) → ((x : X) → P x → Q x) → (xs : List X) → Any P xs → Any Q xs
 Any-weaker P Q weaker xs (k, x, within, is, holds) = (k, x, within, is, weaker x holds)
 
--- one of these waits conflicts with the wait, as the server and as `wait_core` say it
-pub conflicts_there : (wait : Pending) (earlier : List Pending) → Any (λ v. PendingsConflict v wait) earlier
-    → Any (λ v. WaitsConflict v (as_wait wait)) (as_waits earlier)
-conflicts_there wait earlier any = grind (arith, common_steps, Any-map, Any-weaker)
-
-pub conflicts_here : (wait : Pending) (earlier : List Pending) → Any (λ v. WaitsConflict v (as_wait wait)) (as_waits earlier)
-    → Any (λ v. PendingsConflict v wait) earlier
-conflicts_here wait earlier any = search (rules, Any-weaker, Any-unmap)
-
 -- blocked by an earlier wait, where no lock is in the way
-pub queued : (F : FileState) (earlier : List Pending) (wait : Pending) (any : Bool) → ¬ IsHeldBack F wait
-    → IsTrue any ↔ Any (λ v. PendingsConflict v wait) earlier
-    → IsTrue any ↔ IsWaitBlocked Queue F earlier wait
-queued F earlier wait any free says = grind (arith, common_steps, conflicts_there, conflicts_here)
+pub queued : (F : FileState) (earlier : List Pending) (wait : Pending) (Had : Type 0) (any : Bool) → ¬ IsHeldBack F wait
+    → IsTrue any ↔ (Any (λ v. PendingsConflict v wait) earlier × ¬ Had) → IsTrue any ↔ IsBlockedUnless Queue F earlier wait Had
+queued F earlier wait Had any free says = (λ is. inr (says.0 is), λ blocked. elim blocked [ inl held ↦ absurd (free held) | inr behind ↦ says.1 behind ])
+
+-- blocked whichever way it is said what the owner had
+pub unless_same : (policy : Policy) (F : FileState) (earlier : List Pending) (wait : Pending) (Had Did : Type 0) → Had ↔ Did
+    → IsBlockedUnless policy F earlier wait Had → IsBlockedUnless policy F earlier wait Did
+unless_same Held F earlier wait Had Did same blocked = blocked
+unless_same Queue F earlier wait Had Did same (inl held) = inl held
+unless_same Queue F earlier wait Had Did same (inr behind) = inr (behind.0, λ did. behind.1 (same.1 did))
 
 -- blocked by a lock
-pub held_back : (policy : Policy) (F : FileState) (earlier : List Pending) (wait : Pending) → IsHeldBack F wait → IsWaitBlocked policy F earlier wait
-held_back Held F earlier wait held = held
-held_back Queue F earlier wait held = inl held
+pub held_back : (policy : Policy) (F : FileState) (earlier : List Pending) (wait : Pending) (Had : Type 0) → IsHeldBack F wait
+    → IsBlockedUnless policy F earlier wait Had
+held_back Held F earlier wait Had held = held
+held_back Queue F earlier wait Had held = inl held

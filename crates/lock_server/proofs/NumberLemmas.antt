@@ -1,5 +1,5 @@
 -- Byte locks by owner's number and by owner are the same locks where no process has one: for `LockFile` and `Pending::is_blocked_by_lock`.
-use Rattle.std.proofs.Common.{ℕ, ◌≡◌, sym, refl, subst, Option, None}
+use Rattle.std.proofs.Common.{ℕ, ◌≡◌, sym, refl, subst}
 use Rattle.range_core.specs.declared.Mode.{Mode}
 use Rattle.range_core.specs.declared.Span.{Span}
 use Rattle.lock_book.specs.declared.Blocker.{Blocker}

@@ -1,29 +1,25 @@
 -- What the parts of a call come to is determined: for `replicas_agree`. Two outcomes of one state are one, as an equation.
-use Rattle.std.proofs.Common.{arith, ℕ, ◌≡◌, ◌≢◌, ◌+◌, ◌<◌, ◌∙◌, ◌⊎◌, inl, inr, sym, ap, subst, refl, true, false, Bool, Option, Some, None, List, [], ◌∷◌, ◌++◌, Any, AllPairs, Contains, append_assoc, append-nil, length, length-append, get_or, slice_index_or}
+use Rattle.std.proofs.Common.{arith, ℕ, ◌≡◌, ◌≢◌, ◌∙◌, inl, inr, sym, ap, subst, refl, true, false, Bool, Option, Some, None, List, [], ◌∷◌, ◌++◌, Any, append_assoc, append-nil, length}
 use Rattle.std.proofs.lemmas.Grind.{common_steps}
-use Rattle.std.proofs.lemmas.Bool.{cases_eq, cases_lt, cases_order}
-use Rattle.std.proofs.lemmas.List.{get_or-append-add}
-use Rattle.std.specs.Prelude.{IsTrue, IsFalse}
+use Rattle.std.proofs.lemmas.Bool.{cases_eq}
+use Rattle.std.specs.Prelude.{IsTrue}
 use Rattle.range_core.specs.declared.Mode.{Mode}
 use Rattle.range_core.specs.declared.Span.{Span}
 use Rattle.range_core.specs.Facts.{MatchFact}
 use Rattle.wait_core.specs.declared.Family.{Family}
 use Rattle.wait_core.specs.declared.Family.TheVariants.{Bytes, Whole}
 use Rattle.wait_core.specs.declared.Policy.{Policy}
-use Rattle.wait_core.specs.declared.Wait.{Wait}
-use Rattle.wait_core.specs.Locks.{Locks}
-use Rattle.wait_core.specs.Blocking.{AllBlocked, IsBlocked}
 use Rattle.lock_server.specs.declared.Answer.{Answer}
+use Rattle.lock_server.specs.declared.Conversion.{Conversion}
+use Rattle.lock_server.specs.declared.Conversion.TheVariants.{Stepwise, Atomic}
 use Rattle.lock_server.specs.declared.Pending.{Pending}
+use Rattle.lock_server.specs.declared.Rules.{Rules}
 use Rattle.lock_server.specs.declared.WaitAnswer.{WaitAnswer}
-use Rattle.lock_server.specs.Calls.{CancelComesTo, Cancels, Changes, ConvertsFrom, FetchComesTo, FlockComesTo, FlockOpComesTo, FlockWaitComesTo, LeavesOn, Releases, ReleasesOn, SetComesTo, SetsOn, Suspends, TestComesTo, WaitComesTo, IsRefused, IsSetHeldBack, byte_request, flock_request, given_by, no_ticket}
-use Rattle.lock_server.specs.Files.{FileState, GetsLock, SameFile, SameLocks, SetsLock, Unlocks, locks_on}
-use Rattle.lock_server.specs.Pendings.{as_wait, as_waits, owners_of, tickets_of}
-use Rattle.lock_server.specs.Safety.{AreTicketsOnce}
-use Rattle.lock_server.specs.Settling.{Grants, IsHeldBack, IsNext, IsSettled, IsWaitBlocked, Settles}
-use Rattle.lock_server.specs.States.{Crosses, HasDetected, IsDetectedOf, SameState, SettlesFile, State, WaitsOn, IsPending}
-use Rattle.lock_server.proofs.LeaveLemmas.{Any-at}
-use Rattle.lock_server.proofs.ReadyLemmas.{as_waits-append}
+use Rattle.lock_server.specs.Calls.{Changes, ConversionComesTo, FetchComesTo, FlockFrom, FlockOpComesTo, FlockWaitComesTo, FlockWaitFrom, Releases, ReleasesOn, SetComesTo, Suspends, TestAtOnceComesTo, TestComesTo, WaitAtOnceComesTo, WaitComesTo, WaitConversionComesTo, byte_request, flock_request, given_by, no_ticket}
+use Rattle.lock_server.specs.Files.{FileState, GetsLock, SameFile, SameLocks, SetsLock, Unlocks}
+use Rattle.lock_server.specs.Pendings.{owners_of, tickets_of}
+use Rattle.lock_server.specs.Settling.{AllBlocked, Grants, HasAlready, IsNext, IsSettled, IsWaitBlocked, Settles}
+use Rattle.lock_server.specs.States.{Crosses, HasDetected, IsDetectedOf, SameState, SettlesFile, State}
 use Rattle.lock_server.proofs.StateLemmas.{SameFile-itself, file_from_same, state_from_same}
 
 -- the same choice is made twice, and both ways lead to R
@@ -44,14 +40,14 @@ sets_one Bytes F owner span mode G H one other =
 sets_one Whole F owner span mode G H one other =
     record { bytes = λ any byte. other.bytes any byte ∙ sym (one.bytes any byte); flocks = λ any. other.flocks any ∙ sym (one.flocks any) }
 
-unlocks_one : (family : Family) (F : FileState) (owner : ℕ) (G H : FileState) → Unlocks family F owner G → Unlocks family F owner H → SameLocks G H
+pub unlocks_one : (family : Family) (F : FileState) (owner : ℕ) (G H : FileState) → Unlocks family F owner G → Unlocks family F owner H → SameLocks G H
 unlocks_one Bytes F owner G H one other =
     record { bytes = λ any byte. other.bytes any byte ∙ sym (one.bytes any byte); flocks = λ any. other.flocks any ∙ sym (one.flocks any) }
 unlocks_one Whole F owner G H one other =
     record { bytes = λ any byte. other.bytes any byte ∙ sym (one.bytes any byte); flocks = λ any. other.flocks any ∙ sym (one.flocks any) }
 
 -- two tests that pass together are one
-bool_one : (a b : Bool) → (IsTrue a → IsTrue b) → (IsTrue b → IsTrue a) → b ≡ a
+pub bool_one : (a b : Bool) → (IsTrue a → IsTrue b) → (IsTrue b → IsTrue a) → b ≡ a
 bool_one true true there back = refl
 bool_one true false there back = there refl
 bool_one false true there back = sym (back refl)
@@ -64,7 +60,7 @@ detected_one T U owner same has =
 same_back : (F G : FileState) → SameFile F G → SameFile G F
 same_back F G same = grind (arith, common_steps)
 
-crossed_one : (S T U : State) (given : List ℕ) → Crosses S given T → Crosses S given U → ((file : ℕ) → SameFile (T.files file) (U.files file)) → (owner : ℕ)
+pub crossed_one : (S T U : State) (given : List ℕ) → Crosses S given T → Crosses S given U → ((file : ℕ) → SameFile (T.files file) (U.files file)) → (owner : ℕ)
     → U.crossed owner ≡ T.crossed owner
 crossed_one S T U given one other same owner = bool_one (T.crossed owner) (U.crossed owner)
     (λ is. let h = (one owner).0 is in (other owner).1 (detected_one T U owner same h.0, h.1))
@@ -94,59 +90,59 @@ split_one {X} (y ∷ before) x after (y' ∷ before') x' after' e as_many =
     let first : y' ∷ before' ≡ y ∷ before = ap (λ (z : X). z ∷ before') here ∙ ap (λ (l : List X). y ∷ l) rest.0 in
     (first, rest.1, rest.2)
 
-still_blocked : (policy : Policy) (locks : Locks) (earlier : List Wait) (wait : Wait) → IsBlocked policy locks earlier wait
-    → IsBlocked policy locks (earlier ++ []) wait
-still_blocked policy locks earlier wait h = grind (arith, common_steps, append-nil)
+still_blocked : (policy : Policy) (F : FileState) (earlier : List Pending) (wait : Pending) → IsWaitBlocked policy F earlier wait
+    → IsWaitBlocked policy F (earlier ++ []) wait
+still_blocked policy F earlier wait h = subst (λ (es : List Pending). IsWaitBlocked policy F es wait) (sym (append-nil earlier)) h
 
 -- of two such splits of one list, each with blocked waits before a wait that isn't blocked, both are the same
-next_one : (policy : Policy) (locks : Locks) (earlier : List Wait) (before : List Pending) (wait : Pending) (after before' : List Pending) (wait' : Pending)
+next_one : (policy : Policy) (F : FileState) (earlier before : List Pending) (wait : Pending) (after before' : List Pending) (wait' : Pending)
     (after' : List Pending)
-    → AllBlocked policy locks earlier (as_waits before) → ¬ IsBlocked policy locks (earlier ++ as_waits before) (as_wait wait)
-    → AllBlocked policy locks earlier (as_waits before') → ¬ IsBlocked policy locks (earlier ++ as_waits before') (as_wait wait')
+    → AllBlocked policy F earlier before → ¬ IsWaitBlocked policy F (earlier ++ before) wait
+    → AllBlocked policy F earlier before' → ¬ IsWaitBlocked policy F (earlier ++ before') wait'
     → before ++ wait ∷ after ≡ before' ++ wait' ∷ after' → (before' ≡ before) × (wait' ≡ wait) × (after' ≡ after)
-next_one policy locks earlier [] wait after [] wait' after' blocked ready blocked' ready' e = (refl, cc, cc)
-next_one policy locks earlier [] wait after (v ∷ before') wait' after' blocked ready blocked' ready' e =
+next_one policy F earlier [] wait after [] wait' after' blocked ready blocked' ready' e = (refl, cc, cc)
+next_one policy F earlier [] wait after (v ∷ before') wait' after' blocked ready blocked' ready' e =
     let same : v ≡ wait = cc in
-    absurd (ready (still_blocked policy locks earlier (as_wait wait) (subst (λ (w : Pending). IsBlocked policy locks earlier (as_wait w)) same blocked'.0)))
-next_one policy locks earlier (v ∷ before) wait after [] wait' after' blocked ready blocked' ready' e =
+    absurd (ready (still_blocked policy F earlier wait (subst (λ (w : Pending). IsWaitBlocked policy F earlier w) same blocked'.0)))
+next_one policy F earlier (v ∷ before) wait after [] wait' after' blocked ready blocked' ready' e =
     let same : v ≡ wait' = cc in
-    absurd (ready' (still_blocked policy locks earlier (as_wait wait') (subst (λ (w : Pending). IsBlocked policy locks earlier (as_wait w)) same blocked.0)))
-next_one policy locks earlier (v ∷ before) wait after (v' ∷ before') wait' after' blocked ready blocked' ready' e =
+    absurd (ready' (still_blocked policy F earlier wait' (subst (λ (w : Pending). IsWaitBlocked policy F earlier w) same blocked.0)))
+next_one policy F earlier (v ∷ before) wait after (v' ∷ before') wait' after' blocked ready blocked' ready' e =
     let same : v' ≡ v = cc in
     let there : before ++ wait ∷ after ≡ before' ++ wait' ∷ after' = cc in
-    let blocked_rest : AllBlocked policy locks (earlier ++ as_wait v ∷ []) (as_waits before') =
-    subst (λ (w : Pending). AllBlocked policy locks (earlier ++ as_wait w ∷ []) (as_waits before')) same blocked'.1 in
-    let ready_rest : ¬ IsBlocked policy locks (earlier ++ as_wait v ∷ as_waits before') (as_wait wait') =
-    subst (λ (w : Pending). ¬ IsBlocked policy locks (earlier ++ as_wait w ∷ as_waits before') (as_wait wait')) same ready' in
+    let blocked_rest : AllBlocked policy F (earlier ++ v ∷ []) before' =
+    subst (λ (w : Pending). AllBlocked policy F (earlier ++ w ∷ []) before') same blocked'.1 in
+    let ready_rest : ¬ IsWaitBlocked policy F (earlier ++ v ∷ before') wait' =
+    subst (λ (w : Pending). ¬ IsWaitBlocked policy F (earlier ++ w ∷ before') wait') same ready' in
     let rest : (before' ≡ before) × (wait' ≡ wait) × (after' ≡ after) =
-    next_one policy locks (earlier ++ as_wait v ∷ []) before wait after before' wait' after' blocked.1
-    (λ h. ready (subst (λ (es : List Wait). IsBlocked policy locks es (as_wait wait)) (append_assoc earlier (as_wait v ∷ []) (as_waits before)) h))
+    next_one policy F (earlier ++ v ∷ []) before wait after before' wait' after' blocked.1
+    (λ h. ready (subst (λ (es : List Pending). IsWaitBlocked policy F es wait) (append_assoc earlier (v ∷ []) before) h))
     blocked_rest
-    (λ h. ready_rest (subst (λ (es : List Wait). IsBlocked policy locks es (as_wait wait')) (append_assoc earlier (as_wait v ∷ []) (as_waits before')) h))
+    (λ h. ready_rest (subst (λ (es : List Pending). IsWaitBlocked policy F es wait') (append_assoc earlier (v ∷ []) before') h))
     there in
     let first : v' ∷ before' ≡ v ∷ before = ap (λ (w : Pending). w ∷ before') same ∙ ap (λ (l : List Pending). v ∷ l) rest.0 in
     (first, rest.1, rest.2)
 
 -- of waits that are all blocked, the one between these others is blocked
-blocked_at : (policy : Policy) (locks : Locks) (earlier before : List Wait) (wait : Wait) (after : List Wait)
-    → AllBlocked policy locks earlier (before ++ wait ∷ after) → IsBlocked policy locks (earlier ++ before) wait
-blocked_at policy locks earlier [] wait after h = still_blocked policy locks earlier wait h.0
-blocked_at policy locks earlier (v ∷ before) wait after h =
-    grind (arith, common_steps, append_assoc, blocked_at policy locks (earlier ++ v ∷ []) before wait after)
+pub blocked_at : (policy : Policy) (F : FileState) (earlier before : List Pending) (wait : Pending) (after : List Pending)
+    → AllBlocked policy F earlier (before ++ wait ∷ after) → IsWaitBlocked policy F (earlier ++ before) wait
+blocked_at policy F earlier [] wait after h = still_blocked policy F earlier wait h.0
+blocked_at policy F earlier (v ∷ before) wait after h =
+    subst (λ (es : List Pending). IsWaitBlocked policy F es wait) (append_assoc earlier (v ∷ []) before)
+    (blocked_at policy F (earlier ++ v ∷ []) before wait after h.1)
 
 -- on a settled file none is next
 pub none_next : (policy : Policy) (F : FileState) (before : List Pending) (wait : Pending) (after : List Pending) → IsSettled policy F
     → ¬ IsNext policy F before wait after
 none_next policy F before wait after settled next =
-    next.is_next.ready (blocked_at policy (locks_on F) [] (as_waits before) (as_wait wait) (as_waits after)
-    (subst (λ (ws : List Wait). AllBlocked policy (locks_on F) [] ws) next.is_next.place settled))
+    next.ready (blocked_at policy F [] before wait after (subst (λ (ws : List Pending). AllBlocked policy F [] ws) next.place settled))
 
 -- a grant leaves one file
 granted_one : (policy : Policy) (F : FileState) (wait wait' : Pending) (G H : FileState) → Grants policy F wait G → Grants policy F wait' H
     → (wait' ≡ wait) × (H ≡ G)
 granted_one policy F wait wait' G H one other =
-    let same = next_one policy (locks_on F) [] one.before wait one.after other.before wait' other.after one.is_next.is_next.earliest one.is_next.is_next.ready
-    other.is_next.is_next.earliest other.is_next.is_next.ready (sym one.is_next.place ∙ other.is_next.place) in
+    let same = next_one policy F [] one.before wait one.after other.before wait' other.after one.is_next.earliest one.is_next.ready
+    other.is_next.earliest other.is_next.ready (sym one.is_next.place ∙ other.is_next.place) in
     let gets : GetsLock F wait H = subst (λ (w : Pending). GetsLock F w H) same.1 other.gets in
     let waits : H.waits ≡ G.waits =
     other.waits ∙ ap (λ (l : List Pending). l ++ other.after) same.0 ∙ ap (λ (l : List Pending). one.before ++ l) same.2 ∙ sym one.waits in
@@ -188,14 +184,16 @@ changes_one policy S file family owner span mode T U one other =
     (record { locks = sets_one family (S.files file) owner span mode (B.files file) (B'.files file) set.sets set'.sets; waits = set'.waits ∙ sym set.waits })
     (set'.changes.grants ∙ sym set.changes.grants) set.changes.crossed set'.changes.crossed) one.settles other.settles
 
+released_one : (S : State) (file : ℕ) (family : Family) (owner : ℕ) (B B' : State) → ReleasesOn S file family owner B → ReleasesOn S file family owner B'
+    → B' ≡ B
+released_one S file family owner B B' gone gone' = state_one S B B' file [] gone.changes.others gone'.changes.others
+    (record { locks = unlocks_one family (S.files file) owner (B.files file) (B'.files file) gone.unlocks gone'.unlocks; waits = gone'.waits ∙ sym gone.waits })
+    (gone'.changes.grants ∙ sym gone.changes.grants) gone.changes.crossed gone'.changes.crossed
+
 pub releases_one : (policy : Policy) (S : State) (file : ℕ) (family : Family) (owner : ℕ) (T U : State)
     → Releases policy S file family owner T → Releases policy S file family owner U → U ≡ T
 releases_one policy S file family owner T U one other =
-    let gone = one.releases in let gone' = other.releases in let B = one.between in let B' = other.between in
-    then_settled_one policy B B' file T U
-    (state_one S B B' file [] gone.changes.others gone'.changes.others
-    (record { locks = unlocks_one family (S.files file) owner (B.files file) (B'.files file) gone.unlocks gone'.unlocks; waits = gone'.waits ∙ sym gone.waits })
-    (gone'.changes.grants ∙ sym gone.changes.grants) gone.changes.crossed gone'.changes.crossed) one.settles other.settles
+    then_settled_one policy one.between other.between file T U (released_one S file family owner one.between other.between one.releases other.releases) one.settles other.settles
 
 -- two states that are one state
 pub unchanged_one : (S T U : State) → SameState S T → SameState S U → U ≡ T
@@ -233,28 +231,68 @@ wait_one policy S file wanted answer T answer' U = match_one
     (λ h k. (k.0 ∙ sym h.0, suspends_one S file wanted T U h.1 k.1)))
     (λ h k. (k.0 ∙ sym h.0, changes_one policy S file wanted.family wanted.owner wanted.span (Some wanted.mode) T U h.1 k.1))
 
-flock_from_one : (policy : Policy) (S : State) (file : ℕ) (wanted : Pending) (held : Option Mode) (answer : Answer) (T : State) (answer' : Answer) (U : State)
-    → FlockComesTo policy S file wanted held answer T → FlockComesTo policy S file wanted held answer' U → (answer' ≡ answer) × (U ≡ T)
-flock_from_one policy S file wanted None answer T answer' U h k = test_one policy S file wanted answer T answer' U h k
-flock_from_one policy S file wanted (Some held) answer T answer' U h k = match_one
-    (λ h k. (k.0 ∙ sym h.0, unchanged_one S T U h.1 k.1))
-    (λ h k. test_one policy h.0 file wanted answer T answer' U h.2
-    (subst (λ (B : State). TestComesTo policy B file wanted answer' U) (releases_one policy S file Whole wanted.owner h.0 k.0 h.1 k.1) k.2)) h k
+-- a request that is tested before any wait is granted
+test_at_once_one : (policy : Policy) (S : State) (file : ℕ) (wanted : Pending) (answer : Answer) (T : State) (answer' : Answer) (U : State)
+    → TestAtOnceComesTo policy S file wanted answer T → TestAtOnceComesTo policy S file wanted answer' U → (answer' ≡ answer) × (U ≡ T)
+test_at_once_one policy S file wanted answer T answer' U = match_one
+    (λ h k. (k.0 ∙ sym h.0, file_settled_one policy S file T U h.1 k.1))
+    (λ h k. (k.0 ∙ sym h.0, changes_one policy S file wanted.family wanted.owner wanted.span (Some wanted.mode) T U h.1 k.1))
 
-pub flock_one : (policy : Policy) (S : State) (file owner : ℕ) (mode : Option Mode) (answer : Answer) (T : State) (answer' : Answer) (U : State)
-    → FlockOpComesTo policy S file owner mode answer T → FlockOpComesTo policy S file owner mode answer' U → (answer' ≡ answer) × (U ≡ T)
-flock_one policy S file owner None answer T answer' U h k = (k.0 ∙ sym h.0, releases_one policy S file Whole owner T U h.1 k.1)
-flock_one policy S file owner (Some mode) answer T answer' U h k =
-    flock_from_one policy S file (flock_request no_ticket owner mode) ((S.files file).flocks owner) answer T answer' U h k
+wait_at_once_one : (policy : Policy) (Had : Type 0) (S : State) (file : ℕ) (wanted : Pending) (answer : WaitAnswer) (T : State) (answer' : WaitAnswer)
+    (U : State)
+    → WaitAtOnceComesTo policy Had S file wanted answer T → WaitAtOnceComesTo policy Had S file wanted answer' U → (answer' ≡ answer) × (U ≡ T)
+wait_at_once_one policy Had S file wanted answer T answer' U = match_one
+    (λ h k. (k.0 ∙ sym h.0, then_settled_one policy h.1 k.1 file T U (suspends_one S file wanted h.1 k.1 h.2 k.2) h.3 k.3))
+    (λ h k. (k.0 ∙ sym h.0, changes_one policy S file wanted.family wanted.owner wanted.span (Some wanted.mode) T U h.1 k.1))
 
-pub flock_wait_one : (policy : Policy) (S : State) (file : ℕ) (wanted : Pending) (held : Option Mode) (answer : WaitAnswer) (T : State)
+-- a conversion by flock
+conversion_one : (conversion : Conversion) (policy : Policy) (S : State) (file : ℕ) (wanted : Pending) (answer : Answer) (T : State) (answer' : Answer)
+    (U : State)
+    → ConversionComesTo conversion policy S file wanted answer T → ConversionComesTo conversion policy S file wanted answer' U → (answer' ≡ answer) × (U ≡ T)
+conversion_one Stepwise policy S file wanted answer T answer' U h k =
+    test_one policy h.0 file wanted answer T answer' U h.2
+    (subst (λ (B : State). TestComesTo policy B file wanted answer' U) (releases_one policy S file Whole wanted.owner h.0 k.0 h.1 k.1) k.2)
+conversion_one Atomic policy S file wanted answer T answer' U h k =
+    test_at_once_one policy h.0 file wanted answer T answer' U h.2
+    (subst (λ (B : State). TestAtOnceComesTo policy B file wanted answer' U) (released_one S file Whole wanted.owner h.0 k.0 h.1 k.1) k.2)
+
+wait_conversion_one : (conversion : Conversion) (policy : Policy) (S : State) (file : ℕ) (wanted : Pending) (answer : WaitAnswer) (T : State)
     (answer' : WaitAnswer) (U : State)
-    → FlockWaitComesTo policy S file wanted held answer T → FlockWaitComesTo policy S file wanted held answer' U → (answer' ≡ answer) × (U ≡ T)
-flock_wait_one policy S file wanted None answer T answer' U h k = wait_one policy S file wanted answer T answer' U h k
-flock_wait_one policy S file wanted (Some held) answer T answer' U h k = match_one
+    → WaitConversionComesTo conversion policy S file wanted answer T → WaitConversionComesTo conversion policy S file wanted answer' U
+    → (answer' ≡ answer) × (U ≡ T)
+wait_conversion_one Stepwise policy S file wanted answer T answer' U h k =
+    wait_one policy h.0 file wanted answer T answer' U h.2
+    (subst (λ (B : State). WaitComesTo policy B file wanted answer' U) (releases_one policy S file Whole wanted.owner h.0 k.0 h.1 k.1) k.2)
+wait_conversion_one Atomic policy S file wanted answer T answer' U h k =
+    wait_at_once_one policy (HasAlready (S.files file) wanted) h.0 file wanted answer T answer' U h.2
+    (subst (λ (B : State). WaitAtOnceComesTo policy (HasAlready (S.files file) wanted) B file wanted answer' U) (released_one S file Whole wanted.owner h.0 k.0 h.1 k.1) k.2)
+
+flock_from_one : (rules : Rules) (S : State) (file : ℕ) (wanted : Pending) (held : Option Mode) (answer : Answer) (T : State) (answer' : Answer) (U : State)
+    → FlockFrom rules S file wanted held answer T → FlockFrom rules S file wanted held answer' U → (answer' ≡ answer) × (U ≡ T)
+flock_from_one rules S file wanted None answer T answer' U h k = test_one rules.policy S file wanted answer T answer' U h k
+flock_from_one rules S file wanted (Some held) answer T answer' U h k =
+    conversion_one rules.conversion rules.policy S file wanted answer T answer' U h k
+
+pub flock_one : (rules : Rules) (S : State) (file owner : ℕ) (mode : Option Mode) (answer : Answer) (T : State) (answer' : Answer) (U : State)
+    → FlockOpComesTo rules S file owner mode answer T → FlockOpComesTo rules S file owner mode answer' U → (answer' ≡ answer) × (U ≡ T)
+flock_one rules S file owner None answer T answer' U h k = (k.0 ∙ sym h.0, releases_one rules.policy S file Whole owner T U h.1 k.1)
+flock_one rules S file owner (Some mode) answer T answer' U h k = match_one
     (λ h k. (k.0 ∙ sym h.0, unchanged_one S T U h.1 k.1))
-    (λ h k. wait_one policy h.0 file wanted answer T answer' U h.2
-    (subst (λ (B : State). WaitComesTo policy B file wanted answer' U) (releases_one policy S file Whole wanted.owner h.0 k.0 h.1 k.1) k.2)) h k
+    (flock_from_one rules S file (flock_request no_ticket owner mode) ((S.files file).flocks owner) answer T answer' U) h k
+
+flock_wait_from_one : (rules : Rules) (S : State) (file : ℕ) (wanted : Pending) (held : Option Mode) (answer : WaitAnswer) (T : State)
+    (answer' : WaitAnswer) (U : State)
+    → FlockWaitFrom rules S file wanted held answer T → FlockWaitFrom rules S file wanted held answer' U → (answer' ≡ answer) × (U ≡ T)
+flock_wait_from_one rules S file wanted None answer T answer' U h k = wait_one rules.policy S file wanted answer T answer' U h k
+flock_wait_from_one rules S file wanted (Some held) answer T answer' U h k =
+    wait_conversion_one rules.conversion rules.policy S file wanted answer T answer' U h k
+
+pub flock_wait_one : (rules : Rules) (S : State) (file : ℕ) (wanted : Pending) (held : Option Mode) (answer : WaitAnswer) (T : State)
+    (answer' : WaitAnswer) (U : State)
+    → FlockWaitComesTo rules S file wanted held answer T → FlockWaitComesTo rules S file wanted held answer' U → (answer' ≡ answer) × (U ≡ T)
+flock_wait_one rules S file wanted held answer T answer' U = match_one
+    (λ h k. (k.0 ∙ sym h.0, unchanged_one S T U h.1 k.1))
+    (flock_wait_from_one rules S file wanted held answer T answer' U)
 
 -- the oldest grant
 pub fetch_one : (S : State) (told : Option ℕ) (T : State) (told' : Option ℕ) (U : State) → FetchComesTo S told T → FetchComesTo S told' U

@@ -21,7 +21,7 @@ record IsAtRest (policy : Policy) (S : State) : Type 0 where
   free_of_cycles : IsFreeOfCycles policy S
 
 -- settling ends in a settled file
-settled_end : (policy : Policy) (F : FileState) (granted : List Pending) (G : FileState) → Settles policy F granted G → IsSettled policy G
+pub settled_end : (policy : Policy) (F : FileState) (granted : List Pending) (G : FileState) → Settles policy F granted G → IsSettled policy G
 settled_end policy F [] G settles = subst (λ (H : FileState). IsSettled policy H) (sym (file_from_same F G settles.1)) settles.0
 settled_end policy F (wait ∷ granted) G settles = settled_end policy settles.0 granted G settles.2
 

@@ -70,26 +70,34 @@ waiter_detected policy T one other step = record {
       (Any-at (IsDetectedOf one) step.on_file.before step.on_file.after step.on_file.wait (step.on_file.detected, step.on_file.of_one));
 }
 
--- a step was there before, or leads to an owner that is given a lock
-steps_from : (policy : Policy) (given : List ℕ) (S : State) (file : ℕ) (T : State) → Moves given S file T → (one other : ℕ)
+-- changes of files that give locks to these owners alone: a step was there before, or leads to one of these
+steps_from : (policy : Policy) (given : List ℕ) (S T : State) → ((file : ℕ) → MovesFile given (S.files file) (T.files file)) → (one other : ℕ)
     → WaitsFor policy T one other → WaitsFor policy S one other ⊎ Contains given other
-steps_from policy given S file T moves one other step =
-    let locks = at_each (λ F G. LocksFrom (Contains given) F G) S file T (locks_itself (Contains given)) moves.others moves.here.locks step.file in
-    let waits = at_each (λ F G. IsWithin G.waits F.waits) S file T (λ F. within_itself F.waits) moves.others moves.here.waits step.file in
-    elim (step_from (Contains given) (S.files step.file) (T.files step.file) locks policy waits one other step.on_file) [
+steps_from policy given S T moves one other step =
+    let moved = moves step.file in
+    elim (step_from (Contains given) (S.files step.file) (T.files step.file) moved.locks policy moved.waits one other step.on_file) [
       | inl was ↦ inl (record { file = step.file; on_file = was })
       | inr is ↦ inr is
     ]
 
 -- no cycle of uncrossed owners is closed: an owner that is given a lock is crossed, or has no step
-moves_free : (policy : Policy) (given : List ℕ) (S : State) (file : ℕ) (T : State) → Moves given S file T → IsFreeOfCycles policy S → IsFreeOfCycles policy T
-moves_free policy given S file T moves free owner through chain =
+pub all_move_free : (policy : Policy) (given : List ℕ) (S T : State) → ((file : ℕ) → MovesFile given (S.files file) (T.files file)) → Crosses S given T
+    → IsFreeOfCycles policy S → IsFreeOfCycles policy T
+all_move_free policy given S T moves crosses free owner through chain =
     free_on (WaitsUncrossed policy S) (WaitsUncrossed policy T)
-    (λ p q r step next. elim (steps_from policy given S file T moves p q step.0) [
-      | inl was ↦ (was, λ crossed. step.1 ((moves.crossed p).1 (waiter_detected policy T p q step.0, inl crossed)))
-      | inr is ↦ absurd (next.1 ((moves.crossed q).1 (waiter_detected policy T q r next.0, inr is)))
+    (λ p q r step next. elim (steps_from policy given S T moves p q step.0) [
+      | inl was ↦ (was, λ crossed. step.1 ((crosses p).1 (waiter_detected policy T p q step.0, inl crossed)))
+      | inr is ↦ absurd (next.1 ((crosses q).1 (waiter_detected policy T q r next.0, inr is)))
     ])
     (λ p led. free p led.0 led.1) owner (through, chain)
+
+stays_move : (given : List ℕ) (F : FileState) → MovesFile given F F
+stays_move given F = record { locks = locks_itself (Contains given) F; waits = within_itself F.waits; compatible = λ h. h }
+
+-- the same of one file
+pub moves_free : (policy : Policy) (given : List ℕ) (S : State) (file : ℕ) (T : State) → Moves given S file T → IsFreeOfCycles policy S → IsFreeOfCycles policy T
+moves_free policy given S file T moves =
+    all_move_free policy given S T (at_each (MovesFile given) S file T (stays_move given) moves.others moves.here) moves.crossed
 
 -- a change of one file keeps what holds but for its waits
 pub safe_moved : (policy : Policy) (given : List ℕ) (S : State) (file : ℕ) (T : State) → Moves given S file T → IsSafeBut policy file S

@@ -10,13 +10,14 @@ use Rattle.wait_core.specs.declared.Policy.{Policy}
 use Rattle.lock_server.specs.declared.Pending.{Pending}
 use Rattle.lock_server.specs.declared.Answer.TheVariants.{Done}
 use Rattle.lock_server.specs.declared.table.Table.{Table}
+use Rattle.lock_server.specs.Pendings.{owners_of}
 use Rattle.lock_server.specs.Settling.{IsSettled, IsWaitBlocked}
 use Rattle.lock_server.specs.States.{State, SameState, SettlesFile}
 use Rattle.lock_server.specs.Safety.{IsSafe, AreTicketsOnce}
 use Rattle.lock_server.specs.TableView.{StaysSafe, table_state, table_policy}
 use Rattle.lock_server.specs.Calls.{FetchComesTo, SetsOn, Changes, Releases, ReleasesOn, IsRefused, SetComesTo, Suspends, IsSetHeldBack, byte_request, given_by, no_ticket}
-use Rattle.lock_server.proofs.JoinLemmas.{safe_joined}
-use Rattle.lock_server.proofs.SafeLemmas.{Moves, moves_given, moves_unset, safe_but, safe_fetched, safe_settled}
+use Rattle.lock_server.proofs.JoinLemmas.{safe_but_joined, safe_joined}
+use Rattle.lock_server.proofs.SafeLemmas.{Moves, moves_given, moves_settled, moves_unset, safe_but, safe_fetched, safe_moved, safe_settled, safe_with}
 use Rattle.lock_server.proofs.TakenLemmas.{tickets_once}
 use Rattle.lock_server.proofs.StateLemmas.{state_from_same}
 
@@ -70,6 +71,27 @@ pub safe_rested : (old new : Table) (given : List ℕ) (B : State) (file : ℕ) 
     → ComesToRest (table_policy old) B file (table_state new) → ∥ IsSafe (table_policy new) (table_state new) ∥₁
 safe_rested old new given B file holds policy moves rest =
     ∥∥₁_map holds (λ safe. safe_at (table_policy old) new policy (safe_at_rest (table_policy old) given (table_state old) B file (table_state new) safe moves rest (tickets_once new)))
+
+-- and after two changes of one file, before that came to rest
+pub safe_rested_twice : (old new : Table) (given more : List ℕ) (M B : State) (file : ℕ) → ∥ IsSafe (table_policy old) (table_state old) ∥₁
+    → table_policy new ≡ table_policy old → Moves given (table_state old) file M → Moves more M file B
+    → ComesToRest (table_policy old) B file (table_state new) → ∥ IsSafe (table_policy new) (table_state new) ∥₁
+safe_rested_twice old new given more M B file holds policy first next rest =
+    let S = table_state old in let of_old = table_policy old in
+    ∥∥₁_map holds (λ safe. safe_at of_old new policy
+    (safe_settled of_old more M B file (table_state new) (safe_moved of_old given S file M first (safe_but of_old file S safe)) next rest.settles rest.settled (tickets_once new)))
+
+-- and after a change, and a wait that joined and closes no cycle
+pub safe_rested_joined : (old new : Table) (given : List ℕ) (M : State) (file : ℕ) (wait : Pending) (N : State) → ∥ IsSafe (table_policy old) (table_state old) ∥₁
+    → table_policy new ≡ table_policy old → Moves given (table_state old) file M → Suspends M file wait N → ¬ IsRefused (table_policy old) M file wait
+    → ComesToRest (table_policy old) N file (table_state new) → ∥ IsSafe (table_policy new) (table_state new) ∥₁
+safe_rested_joined old new given M file wait N holds policy moves suspends passed rest =
+    let S = table_state old in let T = table_state new in let of_old = table_policy old in
+    ∥∥₁_map holds (λ safe. safe_at of_old new policy
+    (safe_with of_old file T
+    (safe_moved of_old (owners_of rest.settles.granted) N file T (moves_settled of_old N file T rest.settles)
+    (safe_but_joined of_old M file wait N suspends (safe_moved of_old given S file M moves (safe_but of_old file S safe)) passed))
+    rest.settled (tickets_once new)))
 
 pub safe_after_fetch : (old new : Table) (result : Option ℕ) → ∥ IsSafe (table_policy old) (table_state old) ∥₁ → table_policy new ≡ table_policy old
     → FetchComesTo (table_state old) result (table_state new) → ∥ IsSafe (table_policy new) (table_state new) ∥₁

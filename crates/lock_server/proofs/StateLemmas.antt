@@ -27,3 +27,6 @@ SameFile-itself F = record { locks = SameLocks-itself F; waits = refl }
 
 pub SameFile-then : (F G H : FileState) → SameFile F G → SameFile G H → SameFile F H
 SameFile-then F G H one other = grind (arith, common_steps)
+
+pub SameState-itself : (S : State) → SameState S S
+SameState-itself S = record { files = λ file. SameFile-itself (S.files file); grants = refl; crossed = λ owner. refl }

@@ -1,11 +1,11 @@
 -- The entries of files: for `Table::add_steps`, `Table::blocker`, `Table::blocks` and `Table::holds_back`.
-use Rattle.std.proofs.Common.{ℕ, ◌≡◌, ◌∙◌, sym, ap, Option, Some, None, inl, inr, []}
+use Rattle.std.proofs.Common.{ℕ, ◌≡◌, ◌∙◌, sym, ap, arith, Option, Some, None, inl, inr, []}
 use Rattle.std.specs.Ordering.{nat_cmp}
 use Rattle.std.specs.BTreeMap.{get}
 use Rattle.std.specs.Borrow.{Bor}
 use Rattle.std.specs.Option.{option_copied}
 use Rattle.range_core.specs.declared.Mode.{Mode}
-use Rattle.range_core.specs.Ranges.{HeldConflicts}
+use Rattle.range_core.specs.Ranges.{HeldConflicts, IsByteRange}
 use Rattle.lock_book.specs.declared.Owner.{Owner}
 use Rattle.lock_book.specs.declared.Owner.TheVariants.{Process, Description}
 use Rattle.wait_core.specs.declared.Family.{Family}
@@ -16,7 +16,7 @@ use Rattle.wait_core.specs.Blocking.{IsBlockedIn}
 use Rattle.lock_server.specs.declared.Pending.{Pending}
 use Rattle.lock_server.specs.Pendings.{as_wait}
 use Rattle.lock_server.specs.Files.{by_owner, locks_on, untouched}
-use Rattle.lock_server.specs.Settling.{IsHeldBack, IsWaitBlocked}
+use Rattle.lock_server.specs.Settling.{HasAlready, HasIn, IsBlockedUnless, IsHeldBack}
 use Rattle.lock_server.proofs.ListLemmas.{Any-nil}
 use Rattle.lock_server.specs.declared.file.LockFile.{LockFile}
 use Rattle.lock_server.specs.declared.table.Table.{Table}
@@ -48,6 +48,14 @@ free_in Whole wait conflict = conflict.conflicts
 pub untouched_free : (wait : Pending) → ¬ IsHeldBack untouched wait
 untouched_free wait held = free_in wait.family wait held
 
-pub untouched_open : (policy : Policy) (wait : Pending) → ¬ IsWaitBlocked policy untouched [] wait
-untouched_open Held wait blocked = untouched_free wait blocked
-untouched_open Queue wait blocked = elim blocked [ inl held ↦ untouched_free wait held | inr any ↦ Any-nil _ any ]
+pub untouched_open : (policy : Policy) (wait : Pending) (Had : Type 0) → ¬ IsBlockedUnless policy untouched [] wait Had
+untouched_open Held wait Had blocked = untouched_free wait blocked
+untouched_open Queue wait Had blocked = elim blocked [ inl held ↦ untouched_free wait held | inr behind ↦ Any-nil _ behind.0 ]
+
+lacks_in : (family : Family) (wait : Pending) → IsByteRange wait.span → ¬ HasIn family untouched wait
+lacks_in Bytes wait range has = has wait.span.first (omega arith, range.0)
+lacks_in Whole wait range has = has
+
+-- and nobody has anything
+pub untouched_lacks : (wait : Pending) → IsByteRange wait.span → ¬ HasAlready untouched wait
+untouched_lacks wait range has = lacks_in wait.family wait range has

@@ -7,14 +7,17 @@ use Rattle.lock_book.specs.Changes.{whole_file}
 use Rattle.wait_core.specs.declared.Family.{Family}
 use Rattle.wait_core.specs.declared.Family.TheVariants.{Bytes, Whole}
 use Rattle.wait_core.specs.declared.Policy.{Policy}
+use Rattle.lock_server.specs.declared.Conversion.{Conversion}
+use Rattle.lock_server.specs.declared.Conversion.TheVariants.{Stepwise, Atomic}
 use Rattle.lock_server.specs.declared.Pending.{Pending}
+use Rattle.lock_server.specs.declared.Rules.{Rules}
 use Rattle.lock_server.specs.declared.Answer.{Answer}
 use Rattle.lock_server.specs.declared.Answer.TheVariants.{Done, Blocked}
 use Rattle.lock_server.specs.declared.WaitAnswer.{WaitAnswer}
 use Rattle.lock_server.specs.declared.WaitAnswer.TheVariants as told
 use Rattle.lock_server.specs.Pendings.{is_byte_wait}
 use Rattle.lock_server.specs.Files.{FileState, SameFile, SetsLock, Unlocks, Joins, Leaves}
-use Rattle.lock_server.specs.Settling.{IsHeldBack, IsWaitBlocked}
+use Rattle.lock_server.specs.Settling.{HasAlready, IsBlockedUnless, IsHeldBack, IsWaitBlocked}
 use Rattle.lock_server.specs.States.{State, SameState, IsPending, ChangesFile, SettlesFile}
 use Rattle.lock_server.specs.Deadlock.{ClosesCycle}
 
@@ -128,46 +131,73 @@ FetchComesTo S None T = (S.grants ≡ []) × SameState S T
 FetchComesTo S (Some ticket) T =
     (S.grants ≡ ticket ∷ T.grants) × ((file : ℕ) → SameFile (S.files file) (T.files file)) × ((owner : ℕ) → T.crossed owner ≡ S.crossed owner)
 
--- the first half of a conversion by flock: the old lock is removed, and the file is settled (flock(2), "converting a lock")
-abbrev pub Converts : Policy → State → ℕ → ℕ → State → Type 0
-Converts policy S file owner T = Releases policy S file Whole owner T
+-- the old lock of an atomic conversion was removed, and the request doesn't wait: a lock in the way refuses it, and else its lock is set;
+-- then the file is settled, once (flock(2), "Converting a lock", as Linux does it)
+abbrev pub TestAtOnceComesTo : Policy → State → ℕ → Pending → Answer → State → Type 0
+TestAtOnceComesTo policy S file wanted answer T =
+    MatchFact (IsHeldBack (S.files file) wanted) ((answer ≡ Blocked) × SettlesFile policy S file T) ((answer ≡ Done) × Gives policy S file wanted T)
 
--- the same of an owner with this mode, if any: without one nothing changes (flock(2))
-abbrev pub ConvertsFrom : Policy → State → ℕ → ℕ → Option Mode → State → Type 0
-ConvertsFrom policy S file owner None T = SameState S T
-ConvertsFrom policy S file owner (Some held) T = Converts policy S file owner T
+-- flock that doesn't wait, of an owner that converts a lock: step by step the old lock is removed and the file settled, and then the
+-- request is tested as any other; an atomic one is tested before any wait is granted (flock(2), "Converting a lock")
+abbrev pub ConversionComesTo : Conversion → Policy → State → ℕ → Pending → Answer → State → Type 0
+ConversionComesTo Stepwise policy S file wanted answer T =
+    (between : State) × Releases policy S file Whole wanted.owner between × TestComesTo policy between file wanted answer T
+ConversionComesTo Atomic policy S file wanted answer T =
+    (between : State) × ReleasesOn S file Whole wanted.owner between × TestAtOnceComesTo policy between file wanted answer T
 
--- flock that doesn't wait, of an owner with this mode, if any: the mode that is held changes nothing; another one is removed and
--- the file settled, and then the request is tested (flock(2))
-abbrev pub FlockComesTo : Policy → State → ℕ → Pending → Option Mode → Answer → State → Type 0
-FlockComesTo policy S file wanted None answer T = TestComesTo policy S file wanted answer T
-FlockComesTo policy S file wanted (Some held) answer T =
-    MatchFact (held ≡ wanted.mode) ((answer ≡ Done) × SameState S T)
-    ((between : State) × Converts policy S file wanted.owner between × TestComesTo policy between file wanted answer T)
+-- flock that doesn't wait, of an owner with another mode, if any (flock(2))
+abbrev pub FlockFrom : Rules → State → ℕ → Pending → Option Mode → Answer → State → Type 0
+FlockFrom rules S file wanted None answer T = TestComesTo rules.policy S file wanted answer T
+FlockFrom rules S file wanted (Some held) answer T = ConversionComesTo rules.conversion rules.policy S file wanted answer T
+
+-- flock that doesn't wait, of an owner with this mode, if any: the mode that is held changes nothing (flock(2))
+abbrev pub FlockComesTo : Rules → State → ℕ → Pending → Option Mode → Answer → State → Type 0
+FlockComesTo rules S file wanted held answer T =
+    MatchFact (held ≡ Some wanted.mode) ((answer ≡ Done) × SameState S T) (FlockFrom rules S file wanted held answer T)
 
 -- flock that doesn't wait, with LOCK_UN where there is no mode, which is never refused (flock(2))
-abbrev pub FlockOpComesTo : Policy → State → ℕ → ℕ → Option Mode → Answer → State → Type 0
-FlockOpComesTo policy S file owner None answer T = (answer ≡ Done) × Releases policy S file Whole owner T
-FlockOpComesTo policy S file owner (Some mode) answer T =
-    FlockComesTo policy S file (flock_request no_ticket owner mode) ((S.files file).flocks owner) answer T
+abbrev pub FlockOpComesTo : Rules → State → ℕ → ℕ → Option Mode → Answer → State → Type 0
+FlockOpComesTo rules S file owner None answer T = (answer ≡ Done) × Releases rules.policy S file Whole owner T
+FlockOpComesTo rules S file owner (Some mode) answer T =
+    FlockComesTo rules S file (flock_request no_ticket owner mode) ((S.files file).flocks owner) answer T
 
--- flock that may wait, in the same way (flock(2))
-abbrev pub FlockWaitComesTo : Policy → State → ℕ → Pending → Option Mode → WaitAnswer → State → Type 0
-FlockWaitComesTo policy S file wanted None answer T = WaitComesTo policy S file wanted answer T
-FlockWaitComesTo policy S file wanted (Some held) answer T =
-    MatchFact (held ≡ wanted.mode) ((answer ≡ told.Done) × SameState S T)
-    ((between : State) × Converts policy S file wanted.owner between × WaitComesTo policy between file wanted answer T)
+-- the old lock of an atomic conversion was removed, and the request may wait: it joins the waits where a lock is in its way or, under the
+-- queue policy and where its owner hadn't had as much (Had), an earlier wait; else its lock is set; then the file is settled, once
+-- (flock(2), "Converting a lock", as Linux does it; the queue policy is this project's choice)
+abbrev pub WaitAtOnceComesTo : Policy → Type 0 → State → ℕ → Pending → WaitAnswer → State → Type 0
+WaitAtOnceComesTo policy Had S file wanted answer T =
+    MatchFact (IsBlockedUnless policy (S.files file) (S.files file).waits wanted Had)
+    ((answer ≡ told.Waits) × (joined : State) × Suspends S file wanted joined × SettlesFile policy joined file T)
+    ((answer ≡ told.Done) × Gives policy S file wanted T)
+
+-- flock that may wait, of an owner that converts a lock, in the same way (flock(2), "Converting a lock")
+abbrev pub WaitConversionComesTo : Conversion → Policy → State → ℕ → Pending → WaitAnswer → State → Type 0
+WaitConversionComesTo Stepwise policy S file wanted answer T =
+    (between : State) × Releases policy S file Whole wanted.owner between × WaitComesTo policy between file wanted answer T
+WaitConversionComesTo Atomic policy S file wanted answer T =
+    (between : State) × ReleasesOn S file Whole wanted.owner between
+    × WaitAtOnceComesTo policy (HasAlready (S.files file) wanted) between file wanted answer T
+
+-- flock that may wait, of an owner with another mode, if any (flock(2))
+abbrev pub FlockWaitFrom : Rules → State → ℕ → Pending → Option Mode → WaitAnswer → State → Type 0
+FlockWaitFrom rules S file wanted None answer T = WaitComesTo rules.policy S file wanted answer T
+FlockWaitFrom rules S file wanted (Some held) answer T = WaitConversionComesTo rules.conversion rules.policy S file wanted answer T
+
+-- flock that may wait, of an owner with this mode, if any: the mode that is held changes nothing (flock(2))
+abbrev pub FlockWaitComesTo : Rules → State → ℕ → Pending → Option Mode → WaitAnswer → State → Type 0
+FlockWaitComesTo rules S file wanted held answer T =
+    MatchFact (held ≡ Some wanted.mode) ((answer ≡ told.Done) × SameState S T) (FlockWaitFrom rules S file wanted held answer T)
 
 -- whether the wait is none for byte locks of this owner (this project's choice)
 abbrev pub is_other_wait : ℕ → Pending → Bool
 is_other_wait owner wait = not (is_byte_wait owner wait)
 
--- one wait of the owner for byte locks leaves the file, and no wait is granted yet (this project's choice)
-pub record DismissesOn (S : State) (file owner : ℕ) (T : State) : Type 0 where
+-- one of these waits leaves the file, and no wait is granted yet (this project's choice)
+pub record DismissesOn (S : State) (file : ℕ) (is_one : Pending → Bool) (T : State) : Type 0 where
   pub before : List Pending
   pub wait : Pending
   pub after : List Pending
-  pub of_owner : IsTrue (is_byte_wait owner wait)
+  pub of_them : IsTrue (is_one wait)
   pub leaves : Leaves (S.files file) before wait after (T.files file)
   pub changes : ChangesFile S file [] T
 

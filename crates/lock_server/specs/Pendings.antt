@@ -12,10 +12,6 @@ abbrev pub as_wait : Pending → Wait
 as_wait wait =
     record { p = 0; n = wait.ticket; file = 0; family = wait.family; owner = Description wait.owner; span = wait.span; mode = wait.mode }
 
--- the waits so seen, in the same order (this project's choice)
-abbrev pub as_waits : List Pending → List Wait
-as_waits waits = map as_wait waits
-
 -- the tickets of the waits, in the same order (this project's choice)
 abbrev pub tickets_of : List Pending → List ℕ
 tickets_of waits = map (λ wait. wait.ticket) waits

@@ -1,16 +1,17 @@
 -- What a table stands for (the words are this project's choice).
-use Rattle.std.specs.Prelude.{◌≡◌, ◌≢◌, ℕ, Option, Some}
+use Rattle.std.specs.Prelude.{◌≡◌, ◌≢◌, ℕ, Bool, [], Option, Some}
 use Rattle.std.specs.BTreeMap.{get}
 use Rattle.std.specs.Ordering.{nat_cmp}
 use Rattle.wait_core.specs.declared.Policy.{Policy}
 use Rattle.lock_server.specs.declared.file.LockFile.{LockFile}
 use Rattle.lock_server.specs.declared.table.Table.{Table}
+use Rattle.lock_server.specs.Clients.{StripsLocks}
 use Rattle.lock_server.specs.FileView.{state_at}
 use Rattle.lock_server.specs.Files.{SameFile, untouched}
 use Rattle.lock_server.specs.Safety.{IsSafe}
 use Rattle.lock_server.specs.TicketsView.{grants_of}
 use Rattle.lock_server.specs.WaitersView.{crossed_of}
-use Rattle.lock_server.specs.States.{State}
+use Rattle.lock_server.specs.States.{State, ChangesFile}
 
 -- the entry of the file, where it has a lock or a wait
 unfoldable pub entry_of : Table → ℕ → Option LockFile
@@ -52,3 +53,14 @@ KeepsEntries old new = (file : ℕ) → entry_of new file ≡ entry_of old file
 -- what holds between two calls holds afterwards, where it held before
 abbrev pub StaysSafe : Table → Table → Type 0
 StaysSafe old new = ∥ IsSafe (table_policy old) (table_state old) ∥₁ → ∥ IsSafe (table_policy new) (table_state new) ∥₁
+
+-- all waits leave the file, and none is granted
+pub record AllLeave (S : State) (file : ℕ) (T : State) : Type 0 where
+  pub waits : (T.files file).waits ≡ []
+  pub changes : ChangesFile S file [] T
+
+-- of these owners all locks leave the file, the waits stay, and none is granted yet
+pub record StripsLocksOn (S : State) (file : ℕ) (gone : ℕ → Bool) (T : State) : Type 0 where
+  pub strips : StripsLocks (S.files file) gone (T.files file)
+  pub waits : (T.files file).waits ≡ (S.files file).waits
+  pub changes : ChangesFile S file [] T

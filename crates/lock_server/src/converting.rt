@@ -1,32 +1,92 @@
-//! flock requests that may convert a lock: that one goes, and the request is then tested (flock(2), "converting a lock").
+//! flock requests that may convert a lock: that one goes, and the request is then tested (flock(2), "Converting a lock").
 ghost use Rattle.std.specs.Prelude.{◌≡◌, false};
 ghost use Rattle.range_core.specs.Ranges.{IsByteRange};
-ghost use Rattle.lock_server.specs.Calls.{ConvertsFrom, flock_request as flock_request_of, no_ticket, TestComesTo, WaitComesTo};
+ghost use Rattle.wait_core.specs.declared.Family.TheVariants.{Whole};
+ghost use Rattle.lock_server.specs.Calls.{flock_request as flock_request_of, FlockFrom, FlockWaitFrom, no_ticket, Releases, ReleasesOn};
+ghost use Rattle.lock_server.specs.Calls.{TestAtOnceComesTo, TestComesTo, WaitAtOnceComesTo, WaitComesTo};
+ghost use Rattle.lock_server.specs.Settling.{HasAlready};
+ghost use Rattle.lock_server.specs.States.{State};
 ghost use Rattle.lock_server.specs.TableRoom.{HasFlockPlace, HasRoomFor, KeepsRoomOn};
 ghost use Rattle.lock_server.specs.TableView.{IsSwept, KeepsOthers, StaysSafe, table_state, table_policy};
 
 use crate::requests::{NO_TICKET, flock_request};
 use crate::table::Table;
-use crate::{Answer, Family, Mode, Pending, WaitAnswer};
+use crate::{Answer, Conversion, Family, Mode, Pending, WaitAnswer};
 
-/// The first half of a conversion: a flock lock that is held is removed, and the file is settled.
-pub(crate) fn convert(table: &mut Table, file: u64, owner: u64, held: Option<Mode>)
+/// A flock request that doesn't wait, of an owner with another mode, if any, in the place that is kept.
+pub(crate) fn flock(
+    table: &mut Table,
+    conversion: Conversion,
+    file: u64,
+    owner: u64,
+    held: Option<Mode>,
+    mode: Mode,
+) -> Answer
     requires { HasFlockPlace table.old file owner }
-    ensures converts { ConvertsFrom (table_policy table.old) (table_state table.old) file owner held (table_state table.new) }
+    ensures comes_to { FlockFrom (record { policy = table_policy table.old; conversion = conversion }) (table_state table.old) file
+        (flock_request_of no_ticket owner mode) held result (table_state table.new) }
+    ensures policy { table_policy table.new ≡ table_policy table.old }
+    ensures safe { StaysSafe table.old table.new }
+    ensures others { KeepsOthers table.old table.new file }
+    ensures swept { IsSwept table.new file }
+{
+    match held {
+        None => flock_or_refuse(table, file, owner, mode),
+        Some(_) => match conversion {
+            Conversion::Stepwise => {
+                convert(table, file, owner);
+                flock_or_refuse(table, file, owner, mode)
+            }
+            Conversion::Atomic => convert_or_refuse(table, file, owner, mode),
+        },
+    }
+}
+
+/// A flock request that may wait, of an owner with another mode, if any, in the room that was taken.
+pub(crate) fn flock_wait(
+    table: &mut Table,
+    conversion: Conversion,
+    file: u64,
+    held: Option<Mode>,
+    wanted: Pending,
+) -> WaitAnswer
+    requires range { IsByteRange wanted.span }
+    requires flock { (wanted.family ≡ Family.Whole) × (wanted.detect ≡ false) }
+    requires room { HasRoomFor table.old file wanted }
+    ensures comes_to { FlockWaitFrom (record { policy = table_policy table.old; conversion = conversion }) (table_state table.old) file
+        wanted held result (table_state table.new) }
+    ensures policy { table_policy table.new ≡ table_policy table.old }
+    ensures safe { StaysSafe table.old table.new }
+    ensures others { KeepsOthers table.old table.new file }
+    ensures swept { IsSwept table.new file }
+{
+    let Some(_) = held else {
+        return flock_or_wait(table, file, wanted);
+    };
+    match conversion {
+        Conversion::Stepwise => {
+            convert(table, file, wanted.owner);
+            flock_or_wait(table, file, wanted)
+        }
+        Conversion::Atomic => convert_or_wait(table, file, wanted),
+    }
+}
+
+/// The first half of a conversion step by step: the flock lock of the holder is removed, and the file is settled.
+fn convert(table: &mut Table, file: u64, holder: u64)
+    requires { HasFlockPlace table.old file holder }
+    ensures converts { Releases (table_policy table.old) (table_state table.old) file Whole holder (table_state table.new) }
     ensures room { KeepsRoomOn table.old table.new file }
     ensures policy { table_policy table.new ≡ table_policy table.old }
     ensures safe { StaysSafe table.old table.new }
     ensures others { KeepsOthers table.old table.new file }
 {
-    if held.is_none() {
-        return;
-    }
-    table.set_flock(file, owner, None);
+    table.set_flock(file, holder, None);
     table.settle(file);
 }
 
 /// The second half where the request doesn't wait: it is tested, and set in the place that is kept.
-pub(crate) fn flock_or_refuse(table: &mut Table, file: u64, owner: u64, mode: Mode) -> Answer
+fn flock_or_refuse(table: &mut Table, file: u64, owner: u64, mode: Mode) -> Answer
     requires { HasFlockPlace table.old file owner }
     ensures comes_to { TestComesTo (table_policy table.old) (table_state table.old) file (flock_request_of no_ticket owner mode) result (table_state table.new) }
     ensures policy { table_policy table.new ≡ table_policy table.old }
@@ -45,7 +105,7 @@ pub(crate) fn flock_or_refuse(table: &mut Table, file: u64, owner: u64, mode: Mo
 }
 
 /// The second half where the request may wait: it is set or joins the waits, in the room that was taken.
-pub(crate) fn flock_or_wait(table: &mut Table, file: u64, wanted: Pending) -> WaitAnswer
+fn flock_or_wait(table: &mut Table, file: u64, wanted: Pending) -> WaitAnswer
     requires range { IsByteRange wanted.span }
     requires flock { (wanted.family ≡ Family.Whole) × (wanted.detect ≡ false) }
     requires room { HasRoomFor table.old file wanted }
@@ -57,6 +117,56 @@ pub(crate) fn flock_or_wait(table: &mut Table, file: u64, wanted: Pending) -> Wa
 {
     if table.blocks(file, &wanted) {
         table.join(file, wanted);
+        return WaitAnswer::Waits;
+    }
+    table.set_flock(file, wanted.owner, Some(wanted.mode));
+    table.give_back(wanted.ticket);
+    table.settle(file);
+    WaitAnswer::Done
+}
+
+/// An atomic conversion that doesn't wait: the flock lock is removed, the request is tested and set in the place that is kept, and
+/// then the file is settled.
+fn convert_or_refuse(table: &mut Table, file: u64, owner: u64, mode: Mode) -> Answer
+    requires { HasFlockPlace table.old file owner }
+    ensures comes_to { (between : State) × ReleasesOn (table_state table.old) file Whole owner between
+        × TestAtOnceComesTo (table_policy table.old) between file (flock_request_of no_ticket owner mode) result (table_state table.new) }
+    ensures policy { table_policy table.new ≡ table_policy table.old }
+    ensures safe { StaysSafe table.old table.new }
+    ensures others { KeepsOthers table.old table.new file }
+    ensures swept { IsSwept table.new file }
+{
+    let wanted = flock_request(NO_TICKET, owner, mode);
+    table.set_flock(file, owner, None);
+    if table.holds_back(file, &wanted) {
+        table.settle(file);
+        table.give_back_place(file, wanted.owner);
+        return Answer::Blocked;
+    }
+    table.set_flock(file, owner, Some(mode));
+    table.settle(file);
+    Answer::Done
+}
+
+/// The same where the request may wait: it joins the waits where it is blocked, in the room that was taken.
+fn convert_or_wait(table: &mut Table, file: u64, wanted: Pending) -> WaitAnswer
+    requires range { IsByteRange wanted.span }
+    requires flock { (wanted.family ≡ Family.Whole) × (wanted.detect ≡ false) }
+    requires room { HasRoomFor table.old file wanted }
+    ensures comes_to { (between : State) × ReleasesOn (table_state table.old) file Whole wanted.owner between
+        × WaitAtOnceComesTo (table_policy table.old) (HasAlready ((table_state table.old).files file) wanted) between file wanted result
+        (table_state table.new) }
+    ensures policy { table_policy table.new ≡ table_policy table.old }
+    ensures safe { StaysSafe table.old table.new }
+    ensures others { KeepsOthers table.old table.new file }
+    ensures swept { IsSwept table.new file }
+{
+    let had = table.has_already(file, &wanted);
+    table.set_flock(file, wanted.owner, None);
+    if table.blocks_unless(file, &wanted, had) {
+        table.join(file, wanted);
+        table.settle(file);
+        table.sweep(file);
         return WaitAnswer::Waits;
     }
     table.set_flock(file, wanted.owner, Some(wanted.mode));

@@ -2,27 +2,37 @@
 ghost use Rattle.std.specs.Prelude.{All};
 ghost use Rattle.range_core.specs.Ranges.{IsByteRange};
 ghost use Rattle.lock_book.specs.Books.{byte_modes_of};
+ghost use Rattle.lock_server.specs.FlockOwners.{AreKnown};
 ghost use Rattle.lock_server.specs.Locks.{AreOfNumbers};
 ghost use Rattle.lock_server.specs.Room.{HasRoom};
 
 mod blockers;
 mod bytes;
+mod clients;
+mod counting;
+mod export;
 mod flocks;
+mod having;
 mod list;
+mod listing;
 
 use crate::Pending;
 use lock_book::Book;
 use std::alloc::Global;
+use std::collections::BTreeSet;
 
 /// The locks on one file, and its waits in order of arrival. Owners are numbers, of descriptions in the book. Room is held for the grant
 /// of each wait.
 #[derive(Drop)]
 pub struct LockFile {
     book: Book,
+    /// The owners for whose flock lock the book keeps a place: a book tells of an owner whether it does, and lists none.
+    flock_owners: BTreeSet<u64>,
     waits: Vec<Pending>,
     ghost ranges: { All (λ wait. IsByteRange wait.span) waits.items },
     ghost room: { HasRoom book waits.items },
     ghost numbers: { AreOfNumbers (byte_modes_of book) },
+    ghost known: { AreKnown flock_owners book },
 }
 
 #[tactic(auto, unfolding(crate::specs::FileView::file_state))]
@@ -37,6 +47,7 @@ impl LockFile {
     {
         LockFile {
             book: Book::new(alloc),
+            flock_owners: BTreeSet::new(alloc),
             waits: Vec::new(alloc),
         }
     }

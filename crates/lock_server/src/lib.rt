@@ -7,18 +7,43 @@ mod closing;
 mod converting;
 mod file;
 mod laws;
+mod leaving;
 mod openings;
+mod owner_waits;
+mod owners;
 mod requests;
 mod server;
 mod table;
 mod tickets;
 mod waiters;
+mod words;
 
-pub use laws::{files_are_kept_while_in_use, replicas_agree, servers_are_safe};
+pub use laws::{
+    exports_tell_states, files_are_kept_while_in_use, listings_tell_all, queue_is_kept,
+    replicas_agree, servers_are_safe,
+};
 pub use range_core::{Memory, Mode, OFFMAX, Span};
 pub use server::LockServer;
 use thiserror::Error;
 pub use wait_core::{Family, Policy};
+
+/// What a server goes by; it stays from its making on (this project's choice).
+#[derive(Clone, Copy, Debug, PartialEq, Eq)]
+pub struct Rules {
+    /// Whether a wait is blocked by locks alone, or also by the earlier waits.
+    pub policy: Policy,
+    /// How a flock lock gets another mode.
+    pub conversion: Conversion,
+}
+
+/// How a flock lock gets another mode: the old lock goes first, and may be lost (flock(2), "Converting a lock").
+#[derive(Clone, Copy, Debug, PartialEq, Eq)]
+pub enum Conversion {
+    /// The old lock goes and the waits are settled; then the request is tested as any other (flock(2)).
+    Stepwise,
+    /// The old lock goes and the request is tested before any wait is granted; then the waits are settled, once (what Linux does).
+    Atomic,
+}
 
 /// A byte lock that is in the way of another one (POSIX.1-2017 fcntl, `F_GETLK`).
 #[derive(Clone, Copy, Debug, PartialEq, Eq)]
@@ -29,6 +54,37 @@ pub struct Lock {
     pub mode: Mode,
     /// The largest range of this mode round the byte that is blocked, also past the range that was asked for.
     pub span: Span,
+}
+
+/// A flock lock (flock(2)).
+#[derive(Clone, Copy, Debug, PartialEq, Eq)]
+pub struct FlockLock {
+    /// Whose lock it is, as the server was given the owner's number.
+    pub owner: u64,
+    /// `Read` is `LOCK_SH`, `Write` is `LOCK_EX`.
+    pub mode: Mode,
+}
+
+/// A wait, by who waits and where. Waits are ordered by owner, then by file, and then by ticket (this project's choice).
+#[derive(Clone, Copy, Debug, PartialEq, Eq)]
+pub struct OwnerWait {
+    /// Whose the lock would be.
+    pub owner: u64,
+    /// On which file.
+    pub file: u64,
+    /// The caller's name for the request.
+    pub ticket: u64,
+}
+
+/// How many locks and waits the owners of a client have, on all files. A count past the largest number is told as that.
+#[derive(Clone, Copy, Debug, PartialEq, Eq)]
+pub struct Counts {
+    /// Byte locks: of each owner and file the largest ranges of one mode (fcntl_locking(2), "splitting, shrinking, or coalescing").
+    pub runs: usize,
+    /// flock locks (flock(2)).
+    pub flock_locks: usize,
+    /// Requests that wait, for byte locks and for flock locks.
+    pub waits: usize,
 }
 
 /// A request for a lock on one file, as it waits or would wait (POSIX.1-2017 fcntl, `F_SETLKW`; flock(2)).
@@ -46,6 +102,26 @@ pub struct Pending {
     pub mode: Mode,
     /// Whether it takes part in the search for deadlocks.
     pub detect: bool,
+}
+
+/// What is in the way of a wait (POSIX.1-2017 fcntl, `F_SETLKW`; flock(2)).
+#[derive(Clone, Copy, Debug, PartialEq, Eq)]
+pub enum Obstacle {
+    /// A byte lock: the first one, as [`LockServer::get`] tells it.
+    Lock(Lock),
+    /// A flock lock: that of the least owner.
+    Flock(FlockLock),
+    /// No lock, but under [`Policy::Queue`] a wait that came before: the ticket of the first.
+    Wait(u64),
+}
+
+/// A wait, and what is in its way.
+#[derive(Clone, Copy, Debug, PartialEq, Eq)]
+pub struct Waiting {
+    /// The request that waits.
+    pub pending: Pending,
+    /// What is in its way.
+    pub obstacle: Obstacle,
 }
 
 /// What a request that doesn't wait is told (POSIX.1-2017 fcntl, `F_SETLK`; flock(2), `LOCK_NB`).

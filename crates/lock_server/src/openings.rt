@@ -1,7 +1,11 @@
 //! Through which open file each owner was last seen on each file, until it is flushed there.
-ghost use Rattle.std.specs.Prelude.{◌≡◌, ◌<◌, ◌↔◌, ℕ, None, Some, IfSome, IfNone, IsTrue, OnOk, OnErr};
+ghost use Rattle.std.specs.Prelude.{◌≡◌, ◌<◌, ◌↔◌, ℕ, if◌then◌else◌, None, Some, IfSome, IfNone, IsTrue, OnOk, OnErr};
+ghost use Rattle.lock_server.specs.Clients.{ForgetsSeen, ForgetsSeenOn, is_within};
+
+mod export;
 
 use crate::Memory;
+use crate::owners::Owners;
 use std::alloc::Global;
 use std::collections::BTreeMap;
 use std::ops::Bound;
@@ -43,6 +47,20 @@ impl Seen {
         self.owners.remove(&owner);
     }
 
+    /// The owners aren't known any more. It takes no memory.
+    pub fn forget_all(&mut self, owners: Owners)
+        ensures { (owner : ℕ) → open_of self.new owner ≡ (if is_within owners.first owners.last owner then None else open_of self.old owner) }
+    {
+        let mut above = owners.before();
+        while let Some(owner) = self.next_owner(above) {
+            if owners.last < owner {
+                return;
+            }
+            self.forget(owner);
+            above = Some(owner);
+        }
+    }
+
     /// Whether no owner is known.
     pub fn is_empty(&self) -> bool
         ensures { IsTrue result ↔ ((owner : ℕ) → open_of self.now owner ≡ None) }
@@ -82,7 +100,7 @@ pub struct Openings {
 #[tactic(auto, unfolding(crate::specs::OpeningsView::open_of, crate::specs::OpeningsView::through_at))]
 impl Openings {
     ghost use Rattle.lock_server.specs.Openings.{ForgetsOwner, is_number, SameOpenings, SeesOn};
-    ghost use Rattle.lock_server.specs.OpeningsView.{HasSeen, IsAbove, through_at};
+    ghost use Rattle.lock_server.specs.OpeningsView.{ForgetsSeenOf, HasSeen, IsAbove, through_at};
 
     /// No owner. It takes no memory.
     pub fn new(alloc: Global) -> Openings
@@ -132,11 +150,36 @@ impl Openings {
     pub fn forget_owner(&mut self, owner: u64)
         ensures { ForgetsOwner (through_at self.old) (through_at self.new) owner }
     {
+        self.forget_owners(Owners::one(owner));
+    }
+
+    /// The owners aren't known any more on any file. It takes no memory, and looks at each file where some owner is known.
+    pub fn forget_owners(&mut self, owners: Owners)
+        ensures { ForgetsSeen (through_at self.old) (through_at self.new) (is_within owners.first owners.last) }
+    {
         let mut above = None;
         while let Some(file) = self.next_file(above) {
-            self.forget(file, owner);
+            self.forget_on(file, owners);
             above = Some(file);
         }
+    }
+
+    /// The owners aren't known any more on the file.
+    fn forget_on(&mut self, file: u64, owners: Owners)
+        ensures { ForgetsSeenOf (through_at self.old) (through_at self.new) file (is_within owners.first owners.last) }
+    {
+        let Some(seen) = self.files.get_mut(&file) else {
+            return;
+        };
+        seen.forget_all(owners);
+        self.sweep(file);
+    }
+
+    /// No owner is known any more on the file. It takes no memory.
+    pub fn forget_file(&mut self, file: u64)
+        ensures { ForgetsSeenOn (through_at self.old) (through_at self.new) file }
+    {
+        self.files.remove(&file);
     }
 
     /// The open file through which the owner was last seen on the file.

@@ -4,12 +4,16 @@ ghost use Rattle.lock_server.specs.Calls.{byte_request as byte_request_of, flock
 ghost use Rattle.lock_server.specs.Safety.{IsSafe};
 ghost use Rattle.lock_server.specs.TableView.{AreSwept, table_state, table_policy};
 
+mod clients;
+mod export;
+mod listing;
+
 use crate::openings::Openings;
 use crate::requests::{NO_TICKET, byte_request, flock_request};
 use crate::table::Table;
 use crate::{
-    Answer, Family, Lock, Memory, Mode, Pending, Policy, Span, WaitAnswer, WaitFault, closing,
-    converting,
+    Answer, Conversion, Family, Lock, Memory, Mode, Pending, Rules, Span, WaitAnswer, WaitFault,
+    closing, converting,
 };
 use std::alloc::Global;
 
@@ -19,11 +23,12 @@ use std::alloc::Global;
 pub struct LockServer {
     table: Table,
     openings: Openings,
+    conversion: Conversion,
     ghost safe: { ∥ IsSafe (table_policy table) (table_state table) ∥₁ },
     ghost swept: { AreSwept table },
 }
 
-#[tactic(auto, unfolding(crate::specs::ServerView::state_of, crate::specs::ServerView::policy_of, crate::specs::ServerView::through_of, crate::specs::ServerView::KeepsFile))]
+#[tactic(auto, unfolding(crate::specs::ServerView::state_of, crate::specs::ServerView::rules_of, crate::specs::ServerView::through_of, crate::specs::ServerView::KeepsFile))]
 impl LockServer {
     ghost use Rattle.std.specs.Prelude.{◌↔◌, ℕ, IfOk, IfSome, IfNone, IsOk, IsTrue, OnErr, OnOk, Some, None, false};
     ghost use Rattle.range_core.specs.Ranges.{IsByteRange, SplitsRun};
@@ -33,18 +38,19 @@ impl LockServer {
     ghost use Rattle.lock_server.specs.Files.{SameFile, untouched};
     ghost use Rattle.lock_server.specs.Locks.{IsFirstLock, IsInTheWay};
     ghost use Rattle.lock_server.specs.Openings.{ForgetsOwner, ForgetsThrough, SameOpenings, SeesOn};
-    ghost use Rattle.lock_server.specs.ServerView.{KeepsFile, policy_of, state_of, through_of};
+    ghost use Rattle.lock_server.specs.ServerView.{KeepsFile, rules_of, state_of, through_of};
     ghost use Rattle.lock_server.specs.States.{IsTaken, opening, SameState};
 
     /// No lock and no wait. It takes no memory.
-    pub fn new(alloc: Global, policy: Policy) -> LockServer
+    pub fn new(alloc: Global, rules: Rules) -> LockServer
         ensures opening { SameState opening (state_of result) }
-        ensures policy { policy_of result ≡ policy }
+        ensures rules { rules_of result ≡ rules }
         ensures openings { (file owner : ℕ) → through_of result file owner ≡ None }
     {
         LockServer {
-            table: Table::new(alloc, policy),
+            table: Table::new(alloc, rules.policy),
             openings: Openings::new(alloc),
+            conversion: rules.conversion,
         }
     }
 
@@ -71,11 +77,11 @@ impl LockServer {
         mode: Option<Mode>,
     ) -> Result<Answer, Memory>
         requires { IsByteRange span }
-        ensures ok { IfOk result (λ answer. SetComesTo (policy_of self.old) (state_of self.old) file owner span mode answer (state_of self.new)) }
+        ensures ok { IfOk result (λ answer. SetComesTo (rules_of self.old).policy (state_of self.old) file owner span mode answer (state_of self.new)) }
         ensures unlock { mode ≡ None → (¬ SplitsRun (((state_of self.old).files file).bytes owner) span) → IsOk result }
         ensures gone { result ≡ Ok Answer.Done → SameFile ((state_of self.new).files file) untouched → ¬ KeepsFile self.new file }
         ensures err { OnErr result (SameState (state_of self.old) (state_of self.new)) }
-        ensures policy { policy_of self.new ≡ policy_of self.old }
+        ensures rules { rules_of self.new ≡ rules_of self.old }
         ensures openings { SameOpenings (through_of self.old) (through_of self.new) }
     {
         if self.is_held_back(file, owner, span, mode) {
@@ -103,11 +109,11 @@ impl LockServer {
         detect: bool,
     ) -> Result<WaitAnswer, WaitFault>
         requires { IsByteRange span }
-        ensures ok { IfOk result (λ answer. WaitComesTo (policy_of self.old) (state_of self.old) file
+        ensures ok { IfOk result (λ answer. WaitComesTo (rules_of self.old).policy (state_of self.old) file
             (byte_request_of ticket owner span mode detect) answer (state_of self.new)) }
         ensures taken { (result ≡ Err WaitFault.TicketTaken) ↔ IsTaken (state_of self.old) ticket }
         ensures err { OnErr result (SameState (state_of self.old) (state_of self.new)) }
-        ensures policy { policy_of self.new ≡ policy_of self.old }
+        ensures rules { rules_of self.new ≡ rules_of self.old }
         ensures openings { SameOpenings (through_of self.old) (through_of self.new) }
     {
         if self.table.is_taken(ticket) {
@@ -130,8 +136,8 @@ impl LockServer {
     /// Ends the wait with the ticket; false where there is none, be it granted or unknown (POSIX.1-2017 fcntl, `EINTR`; FUSE,
     /// interrupt). It takes no memory.
     pub fn cancel(&mut self, ticket: u64) -> bool
-        ensures comes_to { CancelComesTo (policy_of self.old) (state_of self.old) ticket result (state_of self.new) }
-        ensures policy { policy_of self.new ≡ policy_of self.old }
+        ensures comes_to { CancelComesTo (rules_of self.old).policy (state_of self.old) ticket result (state_of self.new) }
+        ensures rules { rules_of self.new ≡ rules_of self.old }
         ensures openings { SameOpenings (through_of self.old) (through_of self.new) }
     {
         match self.table.cancel(ticket) {
@@ -152,16 +158,16 @@ impl LockServer {
         ensures ok { OnOk result (SeesOn (through_of self.old) (through_of self.new) file owner (Some open_file)) }
         ensures err { OnErr result (SameOpenings (through_of self.old) (through_of self.new)) }
         ensures same { SameState (state_of self.old) (state_of self.new) }
-        ensures policy { policy_of self.new ≡ policy_of self.old }
+        ensures rules { rules_of self.new ≡ rules_of self.old }
     {
         self.openings.note(file, owner, open_file)
     }
 
     /// Removes all byte locks of the owner on the file; its waits stay (POSIX.1-2017 close; FUSE, flush). It takes no memory.
     pub fn flush(&mut self, file: u64, owner: u64)
-        ensures flushes { Releases (policy_of self.old) (state_of self.old) file Family.Bytes owner (state_of self.new) }
+        ensures flushes { Releases (rules_of self.old).policy (state_of self.old) file Family.Bytes owner (state_of self.new) }
         ensures gone { SameFile ((state_of self.new).files file) untouched → ¬ KeepsFile self.new file }
-        ensures policy { policy_of self.new ≡ policy_of self.old }
+        ensures rules { rules_of self.new ≡ rules_of self.old }
         ensures openings { SeesOn (through_of self.old) (through_of self.new) file owner None }
     {
         self.table.release(file, owner);
@@ -173,24 +179,25 @@ impl LockServer {
     /// Removes all byte locks of the owner on all files, and its waits for byte locks, the files rising (POSIX.1-2017 _Exit). It
     /// takes no memory, and looks at each file that has a lock or a wait.
     pub fn forget(&mut self, owner: u64)
-        ensures forgets { Forgets (policy_of self.old) (state_of self.old) owner (state_of self.new) }
-        ensures policy { policy_of self.new ≡ policy_of self.old }
+        ensures forgets { Forgets (rules_of self.old).policy (state_of self.old) owner (state_of self.new) }
+        ensures rules { rules_of self.new ≡ rules_of self.old }
         ensures openings { ForgetsOwner (through_of self.old) (through_of self.new) owner }
     {
         self.table.forget(owner);
         self.openings.forget_owner(owner);
     }
 
-    /// Sets or removes the flock lock of the owner on the file; `Blocked` where another owner's lock is in the way. A conversion
-    /// removes the old lock and settles the waits, and is then tested, so it may lose its lock (flock(2), `LOCK_NB`; FUSE, flock).
+    /// Sets or removes the flock lock of the owner on the file; `Blocked` where another owner's lock is in the way. A conversion, to
+    /// another mode, loses the old lock where it is refused; whether waits come before it is said by the rules' [`Conversion`]
+    /// (flock(2), `LOCK_NB`; FUSE, flock).
     ///
     /// `Memory`, which never comes of an unlock, leaves everything as it was.
     pub fn flock(&mut self, file: u64, owner: u64, mode: Option<Mode>) -> Result<Answer, Memory>
-        ensures ok { IfOk result (λ answer. FlockOpComesTo (policy_of self.old) (state_of self.old) file owner mode answer (state_of self.new)) }
+        ensures ok { IfOk result (λ answer. FlockOpComesTo (rules_of self.old) (state_of self.old) file owner mode answer (state_of self.new)) }
         ensures unlock { mode ≡ None → IsOk result }
         ensures gone { mode ≡ None → SameFile ((state_of self.new).files file) untouched → ¬ KeepsFile self.new file }
         ensures err { OnErr result (SameState (state_of self.old) (state_of self.new)) }
-        ensures policy { policy_of self.new ≡ policy_of self.old }
+        ensures rules { rules_of self.new ≡ rules_of self.old }
         ensures openings { SameOpenings (through_of self.old) (through_of self.new) }
     {
         let Some(mode) = mode else {
@@ -202,8 +209,8 @@ impl LockServer {
             return Ok(Answer::Done);
         }
         self.table.place_flock(file, owner)?;
-        converting::convert(&mut self.table, file, owner, held);
-        Ok(converting::flock_or_refuse(&mut self.table, file, owner, mode))
+        let conversion = self.conversion;
+        Ok(converting::flock(&mut self.table, conversion, file, owner, held, mode))
     }
 
     /// The same as `flock` of a mode, but that the request waits where it is blocked; no deadlock is looked for (flock(2)).
@@ -217,11 +224,11 @@ impl LockServer {
         owner: u64,
         mode: Mode,
     ) -> Result<WaitAnswer, WaitFault>
-        ensures ok { IfOk result (λ answer. FlockWaitComesTo (policy_of self.old) (state_of self.old) file
+        ensures ok { IfOk result (λ answer. FlockWaitComesTo (rules_of self.old) (state_of self.old) file
             (flock_request_of ticket owner mode) (((state_of self.old).files file).flocks owner) answer (state_of self.new)) }
         ensures taken { (result ≡ Err WaitFault.TicketTaken) ↔ IsTaken (state_of self.old) ticket }
         ensures err { OnErr result (SameState (state_of self.old) (state_of self.new)) }
-        ensures policy { policy_of self.new ≡ policy_of self.old }
+        ensures rules { rules_of self.new ≡ rules_of self.old }
         ensures openings { SameOpenings (through_of self.old) (through_of self.new) }
     {
         if self.table.is_taken(ticket) {
@@ -233,16 +240,16 @@ impl LockServer {
         }
         let wanted = flock_request(ticket, owner, mode);
         self.table.reserve(file, &wanted)?;
-        converting::convert(&mut self.table, file, owner, held);
-        Ok(converting::flock_or_wait(&mut self.table, file, wanted))
+        let conversion = self.conversion;
+        Ok(converting::flock_wait(&mut self.table, conversion, file, held, wanted))
     }
 
     /// Removes the flock lock of the owner on the file; its waits stay (flock(2), `LOCK_UN` and last close; FUSE, release with
     /// `FUSE_RELEASE_FLOCK_UNLOCK`). It takes no memory.
     pub fn flock_release(&mut self, file: u64, owner: u64)
-        ensures releases { Releases (policy_of self.old) (state_of self.old) file Family.Whole owner (state_of self.new) }
+        ensures releases { Releases (rules_of self.old).policy (state_of self.old) file Family.Whole owner (state_of self.new) }
         ensures gone { SameFile ((state_of self.new).files file) untouched → ¬ KeepsFile self.new file }
-        ensures policy { policy_of self.new ≡ policy_of self.old }
+        ensures rules { rules_of self.new ≡ rules_of self.old }
         ensures openings { SameOpenings (through_of self.old) (through_of self.new) }
     {
         self.table.release_flock(file, owner);
@@ -255,9 +262,9 @@ impl LockServer {
     /// locks; flock(2); FUSE, release, which names no owner of byte locks). It takes no memory, and looks at each owner that was seen
     /// on the file.
     pub fn release(&mut self, file: u64, open_file: u64, flock_owner: Option<u64>)
-        ensures closes { Closes (policy_of self.old) (state_of self.old) (through_of self.old) file open_file flock_owner (state_of self.new) }
+        ensures closes { Closes (rules_of self.old).policy (state_of self.old) (through_of self.old) file open_file flock_owner (state_of self.new) }
         ensures gone { SameFile ((state_of self.new).files file) untouched → ¬ KeepsFile self.new file }
-        ensures policy { policy_of self.new ≡ policy_of self.old }
+        ensures rules { rules_of self.new ≡ rules_of self.old }
         ensures openings { ForgetsThrough (through_of self.old) (through_of self.new) file open_file }
     {
         self.table.release_flock_of(file, flock_owner);
@@ -269,7 +276,7 @@ impl LockServer {
     /// The ticket of the oldest grant that wasn't fetched, which is told once; `None` where there is none. It takes no memory.
     pub fn next_grant(&mut self) -> Option<u64>
         ensures fetched { FetchComesTo (state_of self.old) result (state_of self.new) }
-        ensures policy { policy_of self.new ≡ policy_of self.old }
+        ensures rules { rules_of self.new ≡ rules_of self.old }
         ensures openings { SameOpenings (through_of self.old) (through_of self.new) }
     {
         self.table.next_grant()
@@ -291,7 +298,7 @@ impl LockServer {
     /// Whether the request is detected and would close a cycle, were it to wait.
     fn closes_cycle(&self, file: u64, wanted: &Pending) -> Result<bool, Memory>
         requires { IsByteRange wanted.now.span }
-        ensures { IfOk result (λ cycle. IsTrue cycle ↔ IsRefused (policy_of self.now) (state_of self.now) file wanted.now) }
+        ensures { IfOk result (λ cycle. IsTrue cycle ↔ IsRefused (rules_of self.now).policy (state_of self.now) file wanted.now) }
     {
         if wanted.detect {
             self.table.would_cycle(file, wanted)

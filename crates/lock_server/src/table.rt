@@ -2,9 +2,13 @@
 ghost use Rattle.lock_server.specs.Index.{IsIndexed};
 
 mod bytes;
+mod clients;
+mod counting;
 mod deadlock;
 mod entries;
+mod export;
 mod flocks;
+mod listing;
 mod settling;
 mod waiting;
 

@@ -3,6 +3,8 @@ ghost use Rattle.std.specs.Prelude.{◌≡◌, ◌≢◌, ◌+◌, ◌≤◌, �
 ghost use Rattle.std.specs.VecDeque.{deque_len, deque_capacity};
 ghost use Rattle.lock_server.specs.Owed.{owed};
 
+mod export;
+
 use crate::Memory;
 use std::alloc::Global;
 use std::collections::{BTreeMap, VecDeque};

@@ -1,6 +1,8 @@
 //! The owners with waits that take part in the search for deadlocks.
 ghost use Rattle.std.specs.Prelude.{◌≡◌, ◌≢◌, ◌++◌, ◌↔◌, ℕ, [], ◌∷◌, false, None, IsTrue, OnOk, length};
 
+mod export;
+
 use crate::{Memory, Mode, Pending};
 use std::alloc::Global;
 use std::collections::BTreeMap;

@@ -7,9 +7,9 @@ use Rattle.lock_server.specs.declared.Answer.{Answer}
 use Rattle.lock_server.specs.declared.WaitAnswer.{WaitAnswer}
 use Rattle.lock_server.specs.declared.WaitFault.{WaitFault}
 use Rattle.lock_server.specs.declared.WaitFault.TheVariants as fault
-use Rattle.wait_core.specs.declared.Policy.{Policy}
+use Rattle.lock_server.specs.declared.Rules.{Rules}
 use Rattle.lock_server.specs.declared.server.LockServer.{LockServer}
-use Rattle.lock_server.specs.ServerView.{policy_of, state_of}
+use Rattle.lock_server.specs.ServerView.{rules_of, state_of}
 use Rattle.lock_server.specs.States.{State, SameState, IsTaken}
 use Rattle.lock_server_c.specs.declared.handle.Handle.{Handle}
 use Rattle.lock_server_c.specs.declared.status.TheConstants.{TICKET_TAKEN}
@@ -36,8 +36,8 @@ taken_told handle server answer status ticket before told_by known = grind (arit
 
 -- what a request that may wait tells, of the servers in the handle before and after
 pub wait_goes : (old new : Handle) (server next : LockServer) (answer : Result WaitAnswer WaitFault) (status : ℕ)
-    (comes_to : Policy → State → WaitAnswer → State → Type 0)
-    → old.server ≡ Some server → new.server ≡ Some next → status ≡ wait_status_of answer → policy_of next ≡ policy_of server
-    → IfOk answer (λ a. comes_to (policy_of server) (state_of server) a (state_of next)) → OnErr answer (SameState (state_of server) (state_of next))
+    (comes_to : Rules → State → WaitAnswer → State → Type 0)
+    → old.server ≡ Some server → new.server ≡ Some next → status ≡ wait_status_of answer → rules_of next ≡ rules_of server
+    → IfOk answer (λ a. comes_to (rules_of server) (state_of server) a (state_of next)) → OnErr answer (SameState (state_of server) (state_of next))
     → AnswersWait old new status comes_to
-wait_goes old new server next answer status comes_to before after told_by policy ok err = grind (arith, common_steps, wait_told)
+wait_goes old new server next answer status comes_to before after told_by same ok err = grind (arith, common_steps, wait_told)

@@ -5,7 +5,8 @@ use Rattle.range_core.specs.declared.TheConstants.{OFFMAX}
 use Rattle.range_core.specs.declared.Mode.{Mode}
 use Rattle.range_core.specs.declared.Mode.TheVariants.{Read, Write}
 use Rattle.range_core.specs.declared.Span.{Span}
-use Rattle.wait_core.specs.declared.Policy.{Policy}
+use Rattle.lock_server.specs.declared.Conversion.TheVariants.{Stepwise, Atomic}
+use Rattle.lock_server.specs.declared.Rules.{Rules}
 use Rattle.wait_core.specs.declared.Policy.TheVariants.{Held, Queue}
 
 -- the mode of a lock: 1 is a read lock, 2 a write lock
@@ -21,9 +22,14 @@ abbrev pub number_of : Mode → ℕ
 number_of Read = 1
 number_of Write = 2
 
--- the policy: 0 is that of locks that are held alone, 1 the queue
-abbrev pub policy_for : ℕ → Option Policy
-policy_for number = if number == 0 then Some Held else (if number == 1 then Some Queue else None)
+-- the rules: 0 is the policy of locks that are held alone, 1 the queue, where conversions by flock go step by step; or'd with 256,
+-- conversions are atomic
+abbrev pub rules_for : ℕ → Option Rules
+rules_for number =
+    if number == 0 then Some (record { policy = Held; conversion = Stepwise })
+    else (if number == 1 then Some (record { policy = Queue; conversion = Stepwise })
+    else (if number == 256 then Some (record { policy = Held; conversion = Atomic })
+    else (if number == 257 then Some (record { policy = Queue; conversion = Atomic }) else None)))
 
 -- the bytes from the first to the last one, where these are in order and the first is a byte of a file; a last one behind the largest
 -- offset means to the end of the file

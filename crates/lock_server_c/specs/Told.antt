@@ -4,8 +4,9 @@ use Rattle.range_core.specs.declared.Mode.{Mode}
 use Rattle.range_core.specs.declared.Span.{Span}
 use Rattle.range_core.specs.declared.memory.Memory.{Memory}
 use Rattle.range_core.specs.Ranges.{SplitsRun}
-use Rattle.wait_core.specs.declared.Policy.{Policy}
+use Rattle.lock_server.specs.declared.Counts.{Counts}
 use Rattle.lock_server.specs.declared.Lock.{Lock}
+use Rattle.lock_server.specs.declared.Rules.{Rules}
 use Rattle.lock_server.specs.declared.server.LockServer.{LockServer}
 use Rattle.lock_server.specs.declared.Answer.{Answer}
 use Rattle.lock_server.specs.declared.Answer.TheVariants.{Done, Blocked}
@@ -13,20 +14,22 @@ use Rattle.lock_server.specs.declared.WaitAnswer.{WaitAnswer}
 use Rattle.lock_server.specs.declared.WaitAnswer.TheVariants as told
 use Rattle.lock_server.specs.declared.WaitFault.{WaitFault}
 use Rattle.lock_server.specs.declared.WaitFault.TheVariants as fault
+use Rattle.lock_server.specs.Counting.{AreCounts}
 use Rattle.lock_server.specs.Locks.{IsFirstLock, IsInTheWay}
 use Rattle.lock_server.specs.States.{State, SameState}
-use Rattle.lock_server.specs.ServerView.{policy_of, state_of, through_of}
+use Rattle.lock_server.specs.ServerView.{rules_of, state_of, through_of}
 use Rattle.lock_server_c.specs.declared.status.TheConstants.{DONE, BLOCKED, WAITS, DEADLOCK, TICKET_TAKEN, NO_MEMORY, INVALID}
 use Rattle.lock_server_c.specs.declared.bytes.BlockerOut.{BlockerOut}
+use Rattle.lock_server_c.specs.declared.clients.CountsOut.{CountsOut}
 use Rattle.lock_server_c.specs.declared.handle.Handle.{Handle}
 use Rattle.lock_server_c.specs.Numbers.{number_of}
 use Rattle.lock_server_c.specs.Owned.{BothHave}
 
--- the handle has a server before the call and after it, of one policy, and the call takes the one's state to the other's
+-- the handle has a server before the call and after it, of the same rules, and the call takes the one's state to the other's
 -- (this project's choice)
-abbrev pub Goes : Handle → Handle → (Policy → State → State → Type 0) → Type 0
+abbrev pub Goes : Handle → Handle → (Rules → State → State → Type 0) → Type 0
 Goes old new comes_to =
-    BothHave old.server new.server (λ server next. (policy_of next ≡ policy_of server) × comes_to (policy_of server) (state_of server) (state_of next))
+    BothHave old.server new.server (λ server next. (rules_of next ≡ rules_of server) × comes_to (rules_of server) (state_of server) (state_of next))
 
 -- the call takes what is known of owners and open files before it to what is known after it (this project's choice)
 abbrev pub Seen : Handle → Handle → ((ℕ → ℕ → Option ℕ) → (ℕ → ℕ → Option ℕ) → Type 0) → Type 0
@@ -46,12 +49,12 @@ WaitTold status S T comes_to =
     ⊎ (((status ≡ TICKET_TAKEN) ⊎ (status ≡ NO_MEMORY)) × SameState S T)))
 
 -- the call takes the one handle's server to the other's, and tells this of its answer (this project's choice)
-abbrev pub Answers : Handle → Handle → ℕ → (Policy → State → Answer → State → Type 0) → Type 0
-Answers old new status comes_to = Goes old new (λ policy S T. AnswerTold status S T (λ answer. comes_to policy S answer T))
+abbrev pub Answers : Handle → Handle → ℕ → (Rules → State → Answer → State → Type 0) → Type 0
+Answers old new status comes_to = Goes old new (λ rules S T. AnswerTold status S T (λ answer. comes_to rules S answer T))
 
 -- the same of a request that may wait (this project's choice)
-abbrev pub AnswersWait : Handle → Handle → ℕ → (Policy → State → WaitAnswer → State → Type 0) → Type 0
-AnswersWait old new status comes_to = Goes old new (λ policy S T. WaitTold status S T (λ answer. comes_to policy S answer T))
+abbrev pub AnswersWait : Handle → Handle → ℕ → (Rules → State → WaitAnswer → State → Type 0) → Type 0
+AnswersWait old new status comes_to = Goes old new (λ rules S T. WaitTold status S T (λ answer. comes_to rules S answer T))
 
 -- what the owner has by flock on the file
 abbrev pub flock_mode : State → ℕ → ℕ → Option Mode
@@ -95,3 +98,13 @@ abbrev pub GetTold : ℕ → LockServer → ℕ → ℕ → Span → Mode → Bl
 GetTold status server file owner span mode old new =
     ((status ≡ BLOCKED) × LockTold server file owner span mode new)
     ⊎ ((status ≡ DONE) × (¬ IsInTheWay ((state_of server).files file) owner span mode) × (new ≡ old))
+
+-- what C is told of counts
+abbrev pub counts_out_of : Counts → CountsOut
+counts_out_of counts = record { runs = counts.runs; flock_locks = counts.flock_locks; waits = counts.waits }
+
+-- C is told how many runs, flock locks and waits the owners from the first to the last have (this project's choice)
+pub record CountsTold (server : LockServer) (first last : ℕ) (out : CountsOut) : Type 0 where
+  pub counts : Counts
+  pub are : AreCounts (state_of server) first last counts
+  pub written : out ≡ counts_out_of counts

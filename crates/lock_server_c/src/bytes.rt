@@ -15,7 +15,7 @@ use crate::handle::Handle;
 use crate::{numbers, status};
 use lock_server::{Lock, Mode, Span};
 
-/// A byte lock that blocks, as C is told of it (`struct dehokuna_blocker`).
+/// A byte lock that blocks, or that is listed, as C is told of it (`struct dehokuna_blocker`).
 #[repr(C)]
 #[derive(Drop)]
 pub struct BlockerOut {
@@ -75,8 +75,8 @@ fn get(
     }
 }
 
-/// What C is told of a lock that is in the way.
-fn told(lock: Lock) -> BlockerOut
+/// What C is told of a byte lock.
+pub(crate) fn told(lock: Lock) -> BlockerOut
     ensures { result ≡ out_of lock }
 {
     BlockerOut {
@@ -99,7 +99,7 @@ pub extern "C" fn dehokuna_set(
 ) -> u32
     requires { IsSome handle.old.server }
     ensures ok { Asks (change_of first last mode) handle.old handle.new result
-        (λ asked. Answers handle.old handle.new result (λ policy S. SetComesTo policy S file owner asked.0 asked.1)) }
+        (λ asked. Answers handle.old handle.new result (λ rules S. SetComesTo rules.policy S file owner asked.0 asked.1)) }
     ensures unlock { MatchOption (change_of first last mode) (Unit {0}) (λ asked. Has handle.old.server (λ server.
         asked.1 ≡ None → (¬ SplitsLock server file owner asked.0) → result ≢ NO_MEMORY)) }
     ensures openings { Seen handle.old handle.new SameOpenings }
@@ -115,7 +115,7 @@ pub extern "C" fn dehokuna_set(
 fn set(handle: &mut Handle, file: u64, owner: u64, span: Span, mode: Option<Mode>) -> u32
     requires server { IsSome handle.old.server }
     requires range { IsByteRange span }
-    ensures ok { Answers handle.old handle.new result (λ policy S. SetComesTo policy S file owner span mode) }
+    ensures ok { Answers handle.old handle.new result (λ rules S. SetComesTo rules.policy S file owner span mode) }
     ensures unlock { Has handle.old.server (λ server. mode ≡ None → (¬ SplitsLock server file owner span) → result ≢ NO_MEMORY) }
     ensures openings { Seen handle.old handle.new SameOpenings }
 {
@@ -137,7 +137,7 @@ pub extern "C" fn dehokuna_wait(
 ) -> u32
     requires { IsSome handle.old.server }
     ensures ok { Asks (lock_of first last mode) handle.old handle.new result (λ asked. AnswersWait handle.old handle.new result
-        (λ policy S. WaitComesTo policy S file (byte_request_of ticket owner asked.0 asked.1 detect))) }
+        (λ rules S. WaitComesTo rules.policy S file (byte_request_of ticket owner asked.0 asked.1 detect))) }
     ensures taken { MatchOption (lock_of first last mode) (Unit {0}) (λ asked. Has handle.old.server (λ server.
         (result ≡ TICKET_TAKEN) ↔ IsTaken (state_of server) ticket)) }
     ensures openings { Seen handle.old handle.new SameOpenings }
@@ -162,7 +162,7 @@ fn wait(
     requires server { IsSome handle.old.server }
     requires range { IsByteRange span }
     ensures ok { AnswersWait handle.old handle.new result
-        (λ policy S. WaitComesTo policy S file (byte_request_of ticket owner span mode detect)) }
+        (λ rules S. WaitComesTo rules.policy S file (byte_request_of ticket owner span mode detect)) }
     ensures taken { Has handle.old.server (λ server. (result ≡ TICKET_TAKEN) ↔ IsTaken (state_of server) ticket) }
     ensures openings { Seen handle.old handle.new SameOpenings }
 {
@@ -176,7 +176,7 @@ fn wait(
 #[unsafe(no_mangle)]
 pub extern "C" fn dehokuna_flush(handle: &mut Handle, file: u64, owner: u64)
     requires { IsSome handle.old.server }
-    ensures flushes { Goes handle.old handle.new (λ policy S T. Releases policy S file Bytes owner T) }
+    ensures flushes { Goes handle.old handle.new (λ rules S T. Releases rules.policy S file Bytes owner T) }
     ensures openings { Seen handle.old handle.new (λ old new. SeesOn old new file owner None) }
 {
     handle.server().flush(file, owner);
@@ -186,7 +186,7 @@ pub extern "C" fn dehokuna_flush(handle: &mut Handle, file: u64, owner: u64)
 #[unsafe(no_mangle)]
 pub extern "C" fn dehokuna_forget(handle: &mut Handle, owner: u64)
     requires { IsSome handle.old.server }
-    ensures forgets { Goes handle.old handle.new (λ policy S T. Forgets policy S owner T) }
+    ensures forgets { Goes handle.old handle.new (λ rules S T. Forgets rules.policy S owner T) }
     ensures openings { Seen handle.old handle.new (λ old new. ForgetsOwner old new owner) }
 {
     handle.server().forget(owner);

@@ -19,7 +19,7 @@ use lock_server::Mode;
 pub extern "C" fn dehokuna_flock(handle: &mut Handle, file: u64, owner: u64, mode: u32) -> u32
     requires { IsSome handle.old.server }
     ensures ok { Asks (wanted_of mode) handle.old handle.new result
-        (λ asked. Answers handle.old handle.new result (λ policy S. FlockOpComesTo policy S file owner asked)) }
+        (λ asked. Answers handle.old handle.new result (λ rules S. FlockOpComesTo rules S file owner asked)) }
     ensures unlock { wanted_of mode ≡ Some None → result ≢ NO_MEMORY }
     ensures openings { Seen handle.old handle.new SameOpenings }
 {
@@ -33,7 +33,7 @@ pub extern "C" fn dehokuna_flock(handle: &mut Handle, file: u64, owner: u64, mod
 #[tactic(auto, using(crate::proofs::ToldLemmas::answer_told))]
 fn flock(handle: &mut Handle, file: u64, owner: u64, mode: Option<Mode>) -> u32
     requires { IsSome handle.old.server }
-    ensures ok { Answers handle.old handle.new result (λ policy S. FlockOpComesTo policy S file owner mode) }
+    ensures ok { Answers handle.old handle.new result (λ rules S. FlockOpComesTo rules S file owner mode) }
     ensures unlock { mode ≡ None → result ≢ NO_MEMORY }
     ensures openings { Seen handle.old handle.new SameOpenings }
 {
@@ -52,7 +52,7 @@ pub extern "C" fn dehokuna_flock_wait(
 ) -> u32
     requires { IsSome handle.old.server }
     ensures ok { Asks (mode_of mode) handle.old handle.new result (λ asked. AnswersWait handle.old handle.new result
-        (λ policy S. FlockWaitComesTo policy S file (flock_request_of ticket owner asked) (flock_mode S file owner))) }
+        (λ rules S. FlockWaitComesTo rules S file (flock_request_of ticket owner asked) (flock_mode S file owner))) }
     ensures taken { MatchOption (mode_of mode) (Unit {0}) (λ asked. Has handle.old.server (λ server.
         (result ≡ TICKET_TAKEN) ↔ IsTaken (state_of server) ticket)) }
     ensures openings { Seen handle.old handle.new SameOpenings }
@@ -68,7 +68,7 @@ pub extern "C" fn dehokuna_flock_wait(
 fn flock_wait(handle: &mut Handle, ticket: u64, file: u64, owner: u64, mode: Mode) -> u32
     requires { IsSome handle.old.server }
     ensures ok { AnswersWait handle.old handle.new result
-        (λ policy S. FlockWaitComesTo policy S file (flock_request_of ticket owner mode) (flock_mode S file owner)) }
+        (λ rules S. FlockWaitComesTo rules S file (flock_request_of ticket owner mode) (flock_mode S file owner)) }
     ensures taken { Has handle.old.server (λ server. (result ≡ TICKET_TAKEN) ↔ IsTaken (state_of server) ticket) }
     ensures openings { Seen handle.old handle.new SameOpenings }
 {
@@ -80,7 +80,7 @@ fn flock_wait(handle: &mut Handle, ticket: u64, file: u64, owner: u64, mode: Mod
 #[unsafe(no_mangle)]
 pub extern "C" fn dehokuna_flock_release(handle: &mut Handle, file: u64, owner: u64)
     requires { IsSome handle.old.server }
-    ensures releases { Goes handle.old handle.new (λ policy S T. Releases policy S file Whole owner T) }
+    ensures releases { Goes handle.old handle.new (λ rules S T. Releases rules.policy S file Whole owner T) }
     ensures openings { Seen handle.old handle.new SameOpenings }
 {
     handle.server().flock_release(file, owner);

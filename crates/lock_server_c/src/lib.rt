@@ -3,9 +3,12 @@
 #![tactic(auto)]
 
 mod bytes;
+mod clients;
+mod export;
 mod flocks;
 mod handle;
 mod life;
+mod listing;
 mod loose;
 mod numbers;
 mod openings;

@@ -1,8 +1,8 @@
 //! The life of a server.
 ghost use Rattle.std.specs.Prelude.{◌≡◌, ℕ, None, Some, IsSome, IsTrue, IsFalse};
-ghost use Rattle.lock_server.specs.ServerView.{policy_of, state_of, through_of};
+ghost use Rattle.lock_server.specs.ServerView.{rules_of, state_of, through_of};
 ghost use Rattle.lock_server.specs.States.{SameState, opening};
-ghost use Rattle.lock_server_c.specs.Numbers.{policy_for};
+ghost use Rattle.lock_server_c.specs.Numbers.{rules_for};
 ghost use Rattle.lock_server_c.specs.Owned.{Has};
 
 use crate::handle::Handle;
@@ -10,18 +10,18 @@ use crate::numbers;
 use lock_server::LockServer;
 use std::alloc::Global;
 
-/// Makes a server without locks and waits; `false` where there is no memory, or the number is no policy's, and the handle then has none.
+/// Makes a server without locks and waits; `false` where there is no memory, or the number names no rules, and the handle then has none.
 #[unsafe(no_mangle)]
-pub extern "C" fn dehokuna_create(alloc: Global, handle: &mut Handle, policy: u32) -> bool
+pub extern "C" fn dehokuna_create(alloc: Global, handle: &mut Handle, rules: u32) -> bool
     requires { handle.old.server ≡ None }
-    ensures made { IsTrue result → Has handle.new.server (λ server. (policy_for policy ≡ Some (policy_of server)) × SameState opening (state_of server)) }
+    ensures made { IsTrue result → Has handle.new.server (λ server. (rules_for rules ≡ Some (rules_of server)) × SameState opening (state_of server)) }
     ensures openings { IsTrue result → Has handle.new.server (λ server. (file owner : ℕ) → through_of server file owner ≡ None) }
     ensures none { IsFalse result → handle.new.server ≡ None }
 {
-    let Some(policy) = numbers::policy(policy) else {
+    let Some(rules) = numbers::rules(rules) else {
         return false;
     };
-    match Box::new(alloc, LockServer::new(alloc, policy)) {
+    match Box::new(alloc, LockServer::new(alloc, rules)) {
         Ok(server) => {
             handle.put(server);
             true

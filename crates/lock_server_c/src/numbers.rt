@@ -1,9 +1,9 @@
 //! What C's numbers ask for (`enum dehokuna_mode`, `enum dehokuna_policy`, ranges).
 ghost use Rattle.std.specs.Prelude.{◌≡◌, IfSome};
 ghost use Rattle.range_core.specs.Ranges.{IsByteRange};
-ghost use Rattle.lock_server_c.specs.Numbers.{change_of, lock_of, mode_of, number_if, number_of, policy_for, span_of, wanted_of};
+ghost use Rattle.lock_server_c.specs.Numbers.{change_of, lock_of, mode_of, number_if, number_of, rules_for, span_of, wanted_of};
 
-use lock_server::{Mode, OFFMAX, Policy, Span};
+use lock_server::{Conversion, Mode, OFFMAX, Policy, Rules, Span};
 
 /// The mode of a lock: 1 is a read lock, 2 a write lock.
 pub(crate) fn mode(number: u32) -> Option<Mode>
@@ -36,15 +36,18 @@ pub(crate) fn number(mode: Mode) -> u32
     }
 }
 
-/// The policy: 0 is that of locks that are held alone, 1 the queue.
-pub(crate) fn policy(number: u32) -> Option<Policy>
-    ensures { result ≡ policy_for number }
+/// The rules: 0 is the policy of locks that are held alone, 1 the queue; or'd with 256, conversions by flock are atomic.
+pub(crate) fn rules(number: u32) -> Option<Rules>
+    ensures { result ≡ rules_for number }
 {
-    match number {
-        0 => Some(Policy::Held),
-        1 => Some(Policy::Queue),
-        _ => None,
-    }
+    let (policy, conversion) = match number {
+        0 => (Policy::Held, Conversion::Stepwise),
+        1 => (Policy::Queue, Conversion::Stepwise),
+        256 => (Policy::Held, Conversion::Atomic),
+        257 => (Policy::Queue, Conversion::Atomic),
+        _ => return None,
+    };
+    Some(Rules { policy, conversion })
 }
 
 /// The bytes from the first to the last one, to the end of the file where the last is behind [`OFFMAX`].

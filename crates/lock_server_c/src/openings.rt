@@ -2,7 +2,7 @@
 ghost use Rattle.std.specs.Prelude.{◌≡◌, Some, IsSome, IsTrue, IsFalse};
 ghost use Rattle.lock_server.specs.Closing.{Closes};
 ghost use Rattle.lock_server.specs.Openings.{ForgetsThrough, SameOpenings, SeesOn};
-ghost use Rattle.lock_server.specs.ServerView.{policy_of, state_of, through_of};
+ghost use Rattle.lock_server.specs.ServerView.{rules_of, state_of, through_of};
 ghost use Rattle.lock_server.specs.States.{SameState};
 ghost use Rattle.lock_server_c.specs.Numbers.{number_if};
 ghost use Rattle.lock_server_c.specs.Owned.{BothHave};
@@ -15,7 +15,7 @@ use crate::numbers;
 #[unsafe(no_mangle)]
 pub extern "C" fn dehokuna_note(handle: &mut Handle, file: u64, owner: u64, open_file: u64) -> bool
     requires { IsSome handle.old.server }
-    ensures same { Goes handle.old handle.new (λ policy S T. SameState S T) }
+    ensures same { Goes handle.old handle.new (λ rules S T. SameState S T) }
     ensures noted { IsTrue result → Seen handle.old handle.new (λ old new. SeesOn old new file owner (Some open_file)) }
     ensures refused { IsFalse result → Seen handle.old handle.new SameOpenings }
 {
@@ -35,8 +35,8 @@ pub extern "C" fn dehokuna_release(
 )
     requires { IsSome handle.old.server }
     ensures closes { BothHave handle.old.server handle.new.server (λ server next.
-        Closes (policy_of server) (state_of server) (through_of server) file open_file (number_if has_flock_owner flock_owner) (state_of next)) }
-    ensures policy { BothHave handle.old.server handle.new.server (λ server next. policy_of next ≡ policy_of server) }
+        Closes (rules_of server).policy (state_of server) (through_of server) file open_file (number_if has_flock_owner flock_owner) (state_of next)) }
+    ensures rules { BothHave handle.old.server handle.new.server (λ server next. rules_of next ≡ rules_of server) }
     ensures forgets { Seen handle.old handle.new (λ old new. ForgetsThrough old new file open_file) }
 {
     let flock_owner = numbers::given(has_flock_owner, flock_owner);

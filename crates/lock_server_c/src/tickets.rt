@@ -10,7 +10,7 @@ use crate::handle::Handle;
 #[unsafe(no_mangle)]
 pub extern "C" fn dehokuna_cancel(handle: &mut Handle, ticket: u64) -> bool
     requires { IsSome handle.old.server }
-    ensures comes_to { Goes handle.old handle.new (λ policy S T. CancelComesTo policy S ticket result T) }
+    ensures comes_to { Goes handle.old handle.new (λ rules S T. CancelComesTo rules.policy S ticket result T) }
     ensures openings { Seen handle.old handle.new SameOpenings }
 {
     handle.server().cancel(ticket)
@@ -20,8 +20,8 @@ pub extern "C" fn dehokuna_cancel(handle: &mut Handle, ticket: u64) -> bool
 #[unsafe(no_mangle)]
 pub extern "C" fn dehokuna_next_grant(handle: &mut Handle, ticket: &mut u64) -> bool
     requires { IsSome handle.old.server }
-    ensures some { IsTrue result → Goes handle.old handle.new (λ policy S T. FetchComesTo S (Some ticket.new) T) }
-    ensures none { IsFalse result → Goes handle.old handle.new (λ policy S T. FetchComesTo S None T) }
+    ensures some { IsTrue result → Goes handle.old handle.new (λ rules S T. FetchComesTo S (Some ticket.new) T) }
+    ensures none { IsFalse result → Goes handle.old handle.new (λ rules S T. FetchComesTo S None T) }
     ensures kept { IsFalse result → ticket.new ≡ ticket.old }
     ensures openings { Seen handle.old handle.new SameOpenings }
 {

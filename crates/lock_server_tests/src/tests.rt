@@ -1,7 +1,10 @@
 //! What the calls of a server do, in the words of the rules.
 mod calls;
+mod clients;
 mod example;
+mod export;
 mod large;
+mod listing;
 mod model;
 mod pair;
 mod rule;

@@ -15,21 +15,25 @@ Nothing here locks a file of the machine. Each call is one of libdehokuna, whose
 
 from ._library import TO_THE_END, VERSION
 from .errors import Blocked, Deadlock, Invalid, LockError, NoLocks, TicketTaken
-from .server import Blocker, LockServer, Mode, Policy
+from .server import Blocker, Counts, FlockLock, LockServer, Mode, OwnerWait, Policy, Waiting
 
 __version__ = VERSION
 
 __all__ = [
     "Blocked",
     "Blocker",
+    "Counts",
     "Deadlock",
+    "FlockLock",
     "Invalid",
     "LockError",
     "LockServer",
     "Mode",
     "NoLocks",
+    "OwnerWait",
     "Policy",
     "TicketTaken",
     "TO_THE_END",
+    "Waiting",
     "__version__",
 ]

@@ -4,7 +4,7 @@ from __future__ import annotations
 
 import ctypes
 import os
-from ctypes import POINTER, c_bool, c_uint32, c_uint64, c_void_p
+from ctypes import POINTER, c_bool, c_size_t, c_uint8, c_uint32, c_uint64, c_void_p
 from pathlib import Path
 
 VERSION = "0.2.0"
@@ -25,6 +25,41 @@ class BlockerOut(ctypes.Structure):
     _fields_ = [("owner", c_uint64), ("first", c_uint64), ("last", c_uint64), ("mode", c_uint32)]
 
 
+class FlockOut(ctypes.Structure):
+    """struct dehokuna_flock_lock."""
+
+    _fields_ = [("owner", c_uint64), ("mode", c_uint32)]
+
+
+class WaitingOut(ctypes.Structure):
+    """struct dehokuna_waiting."""
+
+    _fields_ = [
+        ("ticket", c_uint64),
+        ("owner", c_uint64),
+        ("first", c_uint64),
+        ("last", c_uint64),
+        ("mode", c_uint32),
+        ("family", c_uint32),
+        ("detect", c_bool),
+        ("obstacle", c_uint32),
+        ("blocker", BlockerOut),
+        ("behind", c_uint64),
+    ]
+
+
+class OwnerWaitOut(ctypes.Structure):
+    """struct dehokuna_owner_wait."""
+
+    _fields_ = [("owner", c_uint64), ("file", c_uint64), ("ticket", c_uint64)]
+
+
+class CountsOut(ctypes.Structure):
+    """struct dehokuna_counts."""
+
+    _fields_ = [("runs", c_uint64), ("flock_locks", c_uint64), ("waits", c_uint64)]
+
+
 # What each function answers, and what it takes behind the server.
 NUMBER = c_uint64
 FUNCTIONS = {
@@ -37,11 +72,22 @@ FUNCTIONS = {
     "note": (c_bool, [NUMBER, NUMBER, NUMBER]),
     "flush": (None, [NUMBER, NUMBER]),
     "forget": (None, [NUMBER]),
+    "forget_owners": (None, [NUMBER, NUMBER]),
+    "forget_file": (None, [NUMBER]),
+    "has_locks": (c_bool, [NUMBER, NUMBER]),
+    "counts": (None, [NUMBER, NUMBER, POINTER(CountsOut)]),
     "flock": (c_uint32, [NUMBER, NUMBER, c_uint32]),
     "flock_wait": (c_uint32, [NUMBER, NUMBER, NUMBER, c_uint32]),
     "flock_release": (None, [NUMBER, NUMBER]),
     "release": (None, [NUMBER, NUMBER, c_bool, NUMBER]),
     "next_grant": (c_bool, [POINTER(NUMBER)]),
+    "export_size": (c_size_t, []),
+    "export": (c_size_t, [POINTER(c_uint8), c_size_t]),
+    "next_file": (c_bool, [NUMBER, POINTER(NUMBER)]),
+    "next_lock": (c_bool, [NUMBER, NUMBER, NUMBER, POINTER(BlockerOut)]),
+    "next_flock": (c_bool, [NUMBER, NUMBER, POINTER(FlockOut)]),
+    "wait_at": (c_bool, [NUMBER, NUMBER, POINTER(WaitingOut)]),
+    "next_wait": (c_bool, [NUMBER, NUMBER, NUMBER, NUMBER, POINTER(OwnerWaitOut)]),
 }
 
 

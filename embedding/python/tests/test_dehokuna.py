@@ -2,11 +2,12 @@
 
 import doctest
 import errno
+import struct
 import threading
 import unittest
 
 import dehokuna
-from dehokuna import TO_THE_END, Blocked, Blocker, Deadlock, Invalid, LockServer, Mode, Policy, TicketTaken
+from dehokuna import TO_THE_END, Blocked, Blocker, Counts, Deadlock, FlockLock, Invalid, LockServer, Mode, OwnerWait, Policy, TicketTaken, Waiting
 
 FILE, OTHER = 7, 2**64 - 1
 ANN, BOB, CAT = 1, 2**63 + 2, 3
@@ -19,6 +20,50 @@ class ServerTest(unittest.TestCase):
 
     def granted(self):
         return list(self.server.grants())
+
+
+class Listings(ServerTest):
+    def setUp(self):
+        self.server = LockServer(Policy.QUEUE)
+        self.addCleanup(self.server.close)
+
+    def test_nothing_is_listed_of_nothing(self):
+        self.assertEqual([*self.server.files(), *self.server.locks(FILE), *self.server.flocks(FILE), *self.server.waits(FILE)], [])
+        self.assertEqual(list(self.server.waits_of()), [])
+
+    def test_files_and_locks_come_in_order(self):
+        self.server.set(FILE, BOB, 20, mode=Mode.READ)
+        self.server.set(FILE, ANN, 0, 9)
+        self.server.set(FILE, ANN, 4, 5, Mode.UNLOCK)
+        self.server.flock(OTHER, BOB, Mode.READ)
+        self.server.flock(OTHER, ANN, Mode.READ)
+        self.assertEqual((list(self.server.files()), list(self.server.files(FILE + 1))), ([FILE, OTHER], [OTHER]))
+        ann = [Blocker(ANN, 0, 3, Mode.WRITE), Blocker(ANN, 6, 9, Mode.WRITE)]
+        self.assertEqual(list(self.server.locks(FILE)), [*ann, Blocker(BOB, 20, TO_THE_END, Mode.READ)])
+        self.assertEqual(list(self.server.flocks(OTHER)), [FlockLock(ANN, Mode.READ), FlockLock(BOB, Mode.READ)])
+        self.assertEqual((list(self.server.locks(OTHER)), list(self.server.flocks(FILE))), ([], []))
+
+    def test_a_wait_is_told_with_what_is_in_its_way(self):
+        self.server.set(FILE, ANN, 6, 9)
+        self.server.flock(OTHER, ANN, Mode.READ)
+        self.assertFalse(self.server.wait(70, FILE, BOB, 5, 30))
+        self.assertFalse(self.server.wait(OTHER, FILE, CAT, 10, 11, Mode.READ, detect=False))
+        self.assertFalse(self.server.flock_wait(7, OTHER, CAT))
+        first = Waiting(70, BOB, (5, 30), Mode.WRITE, True, Blocker(ANN, 6, 9, Mode.WRITE))
+        self.assertEqual(list(self.server.waits(FILE)), [first, Waiting(OTHER, CAT, (10, 11), Mode.READ, False, 70)])
+        self.assertEqual(list(self.server.waits(OTHER)), [Waiting(7, CAT, None, Mode.WRITE, False, FlockLock(ANN, Mode.READ))])
+        cat = [OwnerWait(CAT, FILE, OTHER), OwnerWait(CAT, OTHER, 7)]
+        self.assertEqual(list(self.server.waits_of()), [*cat, OwnerWait(BOB, FILE, 70)])
+        self.assertEqual(list(self.server.waits_of(CAT, CAT)), cat)
+
+    def test_a_list_goes_on_while_the_server_changes(self):
+        for file in range(5):
+            self.server.set(file, ANN)
+        seen = []
+        for file in self.server.files():
+            seen.append(file)
+            self.server.flush(file + 1, ANN)
+        self.assertEqual(seen, [0, 2, 4])
 
 
 class ByteLocks(ServerTest):
@@ -66,6 +111,34 @@ class ByteLocks(ServerTest):
         self.server.forget(ANN)
         self.assertEqual(self.granted(), [])
 
+    def test_a_client_that_is_gone_leaves_nothing(self):
+        first, last, other = 0x10000, 0x1FFFF, 0x20000
+        self.server.set(FILE, first, 0, 9)
+        self.server.set(OTHER, last, 0, 9)
+        self.server.flock(FILE, first + 1)
+        self.assertFalse(self.server.wait(70, FILE, other, 5, 5))
+        self.assertFalse(self.server.wait(71, FILE, last, 0, 0))
+        self.assertTrue(self.server.has_locks(first, last))
+        self.assertFalse(self.server.has_locks(other, 2**64 - 1))
+        self.assertEqual(self.server.counts(first, last), Counts(runs=2, flock_locks=1, waits=1))
+        self.server.forget_owners(first, last)
+        self.assertEqual(self.granted(), [70])
+        self.assertEqual(self.server.counts(0, 2**64 - 1), Counts(runs=1, flock_locks=0, waits=0))
+        self.assertFalse(self.server.has_locks(first, last))
+        self.server.forget_owners(other + 1, other)
+        self.assertTrue(self.server.has_locks(other, other))
+        with self.assertRaises(OverflowError):
+            self.server.forget_owners(0, 2**64)
+
+    def test_a_file_that_is_gone_grants_nothing(self):
+        self.server.set(FILE, ANN)
+        self.server.flock(FILE, ANN)
+        self.assertFalse(self.server.wait(70, FILE, BOB))
+        self.server.forget_file(FILE)
+        self.assertEqual(self.granted(), [])
+        self.assertFalse(self.server.cancel(70))
+        self.assertEqual(self.server.counts(0, 2**64 - 1), Counts(0, 0, 0))
+
     def test_a_cycle_is_a_deadlock(self):
         self.server.set(FILE, ANN, 0, 0)
         self.server.set(FILE, BOB, 1, 1)
@@ -110,6 +183,17 @@ class Flocks(ServerTest):
         self.server.flock_release(FILE, BOB)
         self.assertEqual(self.granted(), [70])
 
+    def test_an_atomic_conversion_comes_before_the_waits(self):
+        for atomic in (True, False):
+            with self.subTest(atomic=atomic), LockServer(atomic=atomic) as server:
+                server.flock(FILE, ANN)
+                self.assertFalse(server.flock_wait(70, FILE, BOB))
+                if atomic:
+                    server.flock(FILE, ANN, Mode.READ)
+                else:
+                    self.assertRaises(Blocked, server.flock, FILE, ANN, Mode.READ)
+                self.assertEqual(list(server.grants()), [] if atomic else [70])
+
     def test_byte_locks_are_apart(self):
         self.server.flock(FILE, ANN)
         self.server.set(FILE, BOB)
@@ -142,6 +226,17 @@ class Words(ServerTest):
                 self.server.flush(wrong, ANN)
         with self.assertRaises(TypeError):
             self.server.flush("7", ANN)
+
+    def test_an_export_tells_states_apart(self):
+        with LockServer() as other:
+            self.assertEqual(self.server.export(), struct.pack("<7Q", 1, 0, 0, 0, 0, 0, 0))
+            self.server.set(FILE, BOB, 4, 9, Mode.READ)
+            self.assertNotEqual(self.server.export(), other.export())
+            other.set(FILE, BOB, 7, 9, Mode.READ)
+            other.set(FILE, BOB, 4, 6, Mode.READ)
+            locked = struct.pack("<15Q", 1, 0, 0, 1, FILE, 1, BOB, 4, 9, 1, 0, 0, 0, 0, 0)
+            self.assertEqual(self.server.export(), locked)
+            self.assertEqual(other.export(), locked)
 
     def test_another_policy_is_refused(self):
         with self.assertRaises(ValueError):

@@ -71,7 +71,7 @@ impl LockFile {
 }
 
 /// Whether the wait is for byte locks of this owner.
-pub(super) fn is_for_bytes(wait: &Pending, owner: u64) -> bool
+fn is_for_bytes(wait: &Pending, owner: u64) -> bool
     ensures { result ≡ is_byte_wait owner wait.now }
 {
     wait.family == Family::Bytes && wait.owner == owner

@@ -23,8 +23,18 @@ impl LockFile {
     pub fn place_flock(&mut self, owner: u64) -> Result<(), Memory>
         ensures same { SameFile (file_state self.old) (file_state self.new) }
         ensures ok { OnOk result (IsTrue (keeps_place self.new owner)) }
+        ensures room { KeepsFlockRoom self.old self.new }
     {
-        self.book.flock_reserve(owner)
+        let is_new = self.flock_owners.insert(owner)?;
+        match self.book.flock_reserve(owner) {
+            Ok(()) => Ok(()),
+            Err(memory) => {
+                if is_new {
+                    self.flock_owners.remove(&owner);
+                }
+                Err(memory)
+            }
+        }
     }
 
     /// Sets the flock mode of the owner, or removes it, in the place that is kept, which stays. No conflict is looked for, and no
@@ -47,6 +57,7 @@ impl LockFile {
             self.book.flock_set_reserved(owner, None);
         } else {
             self.book.release_flock(owner);
+            self.flock_owners.remove(&owner);
         }
     }
 
@@ -58,6 +69,7 @@ impl LockFile {
     {
         if self.flock_mode(owner).is_none() && !self.waits_for_flock(owner) {
             self.book.release_flock(owner);
+            self.flock_owners.remove(&owner);
         }
     }
 

@@ -1,15 +1,14 @@
 //! The waits on one file.
 ghost use Rattle.std.specs.Prelude.{◌≡◌, ◌≢◌, ◌==◌, ◌<◌, ◌≤◌, ◌+◌, ◌↔◌, ℕ, List, [], Some, All, Any, IfSome, IfNone, IsTrue, OnOk, OnErr, length, take, position, slice_get, vec_len, vec_capacity};
 ghost use Rattle.range_core.specs.Ranges.{IsByteRange};
-ghost use Rattle.lock_server.specs.Calls.{is_other_wait};
 ghost use Rattle.lock_server.specs.Files.{GetsLock, Joins, Leaves, SameFile, SameLocks, FileState};
 ghost use Rattle.lock_server.specs.FileView.{file_state};
-ghost use Rattle.lock_server.specs.Pendings.{is_byte_wait};
-ghost use Rattle.lock_server.specs.Settling.{Grants, IsHeldBack, IsSettled, IsWaitBlocked};
+ghost use Rattle.lock_server.specs.Leaving.{is_leaving, is_staying};
+ghost use Rattle.lock_server.specs.Settling.{Grants, HasAlready, IsBlockedUnless, IsHeldBack, IsSettled, IsWaitBlocked, PendingsConflict};
 ghost use Rattle.lock_server.specs.Waiting.{IsReadyAt, IsReserved, IsReservedIn, KeepsFlockRoom, LeavesAt};
 
 use super::LockFile;
-use super::bytes::is_for_bytes;
+use crate::leaving::Leaving;
 use crate::{Family, Memory, Pending, Policy};
 use lock_book::Owner;
 
@@ -35,10 +34,39 @@ impl LockFile {
         requires { IsByteRange wait.now.span }
         ensures { IsTrue result ↔ IsWaitBlocked policy (file_state self.now) (file_state self.now).waits wait.now }
     {
+        self.is_blocked_behind(policy, &self.waits, wait)
+    }
+
+    /// Whether the wait would be blocked, were it to join and had its owner what it is for, or hadn't.
+    pub fn is_blocked_unless(&self, policy: Policy, wait: &Pending, had: bool) -> bool
+        requires { IsByteRange wait.now.span }
+        ensures { IsTrue result ↔ IsBlockedUnless policy (file_state self.now) (file_state self.now).waits wait.now (IsTrue had) }
+    {
         match policy {
             Policy::Held => self.holds_back(wait),
-            Policy::Queue => self.holds_back(wait) || wait.conflicts_with_any(&self.waits),
+            Policy::Queue => {
+                self.holds_back(wait) || (!had && wait.conflicts_with_any(&self.waits))
+            }
         }
+    }
+
+    /// Whether the wait is blocked, where these came before it.
+    fn is_blocked_behind(&self, policy: Policy, earlier: &[Pending], wait: &Pending) -> bool
+        requires { IsByteRange wait.now.span }
+        ensures { IsTrue result ↔ IsWaitBlocked policy (file_state self.now) earlier.now wait.now }
+    {
+        match policy {
+            Policy::Held => self.holds_back(wait),
+            Policy::Queue => self.holds_back(wait) || self.is_queued_behind(earlier, wait),
+        }
+    }
+
+    /// Whether one of these waits conflicts with the wait, which is for more than its owner has.
+    fn is_queued_behind(&self, earlier: &[Pending], wait: &Pending) -> bool
+        requires { IsByteRange wait.now.span }
+        ensures { IsTrue result ↔ (Any (λ v. PendingsConflict v wait.now) earlier.now × ¬ HasAlready (file_state self.now) wait.now) }
+    {
+        wait.conflicts_with_any(earlier) && !self.has_already(wait)
     }
 
     /// The place of the earliest wait that nothing blocks, and `None` where each is blocked (POSIX leaves open which waiting
@@ -61,11 +89,7 @@ impl LockFile {
         ensures { (wait : Pending) → slice_get (file_state self.now).waits i ≡ Some wait
             → IsTrue result ↔ IsWaitBlocked policy (file_state self.now) (take i (file_state self.now).waits) wait }
     {
-        let wait = &self.waits[i];
-        match policy {
-            Policy::Held => self.holds_back(wait),
-            Policy::Queue => self.holds_back(wait) || wait.conflicts_with_any(&self.waits[..i]),
-        }
+        self.is_blocked_behind(policy, &self.waits[..i], &self.waits[i])
     }
 
     /// Holds room for the wait to join and to be granted.
@@ -81,7 +105,7 @@ impl LockFile {
                 let waits = self.byte_waits(wait.owner);
                 self.book.reserve(Owner::Description(wait.owner), waits + 1)
             }
-            Family::Whole => self.book.flock_reserve(wait.owner),
+            Family::Whole => self.place_flock(wait.owner),
         }
     }
 
@@ -140,14 +164,14 @@ impl LockFile {
         Some(wait)
     }
 
-    /// The first wait for byte locks of the owner leaves the list, where there is one. It takes no memory.
-    pub fn dismiss(&mut self, owner: u64) -> Option<Pending>
-        ensures some { IfSome result (λ wait. IsTrue (is_byte_wait owner wait) × (before : List Pending) × (later : List Pending)
+    /// The first of the waits that are to leave leaves the list, where there is one. It takes no memory.
+    pub fn dismiss(&mut self, leaving: Leaving) -> Option<Pending>
+        ensures some { IfSome result (λ wait. IsTrue (is_leaving leaving wait) × (before : List Pending) × (later : List Pending)
             × Leaves (file_state self.old) before wait later (file_state self.new)) }
-        ensures none { IfNone result (All (λ wait. IsTrue (is_other_wait owner wait)) (file_state self.old).waits
+        ensures none { IfNone result (All (λ wait. IsTrue (is_staying leaving wait)) (file_state self.old).waits
             × SameFile (file_state self.old) (file_state self.new)) }
     {
-        let place = self.place_of_owner(owner)?;
+        let place = self.place_leaving(leaving)?;
         Some(self.remove_at(place))
     }
 
@@ -158,11 +182,11 @@ impl LockFile {
         self.waits.iter().position(|wait| wait.ticket == ticket)
     }
 
-    /// The place of the earliest wait for byte locks of the owner.
-    fn place_of_owner(&self, owner: u64) -> Option<usize>
-        ensures { result ≡ position (is_byte_wait owner) (file_state self.now).waits }
+    /// The place of the earliest wait that is to leave.
+    fn place_leaving(&self, leaving: Leaving) -> Option<usize>
+        ensures { result ≡ position (is_leaving leaving) (file_state self.now).waits }
     {
-        self.waits.iter().position(|wait| is_for_bytes(wait, owner))
+        self.waits.iter().position(|wait| leaving.contains(wait))
     }
 
     /// The wait at this place leaves the list; the room for its lock is still there.

@@ -1,14 +1,16 @@
 //! Byte locks that are asked for without waiting.
 ghost use Rattle.std.specs.Prelude.{◌≡◌, ◌↔◌, ◌<◌, ℕ, None, All, IsFalse, IsOk, IsTrue, IfSome, IfNone, OnOk, OnErr, MatchOption};
 ghost use Rattle.range_core.specs.Ranges.{IsByteRange, SplitsRun};
-ghost use Rattle.lock_server.specs.Calls.{DismissesOn, Forgets, ForgetsOn, is_other_wait, ReleasesOn, SetsOn};
+ghost use Rattle.lock_server.specs.Calls.{DismissesOn, Forgets, ForgetsOn, ReleasesOn, SetsOn};
 ghost use Rattle.lock_server.specs.Files.{SameFile, untouched};
+ghost use Rattle.lock_server.specs.Leaving.{is_leaving, is_staying};
 ghost use Rattle.lock_server.specs.Locks.{IsFirstLock, IsInTheWay};
 ghost use Rattle.lock_server.specs.Settling.{IsHeldBack};
 ghost use Rattle.lock_server.specs.States.{SameState};
 ghost use Rattle.lock_server.specs.TableView.{AreSwept, HasEntry, IsSwept, KeepsOthers, table_state, table_policy};
 
 use super::Table;
+use crate::leaving::Leaving;
 use crate::{Family, Lock, Memory, Mode, Pending, Span};
 use std::ops::Bound;
 
@@ -95,14 +97,14 @@ impl Table {
         ensures others { KeepsOthers self.old self.new file }
     {
         // The waits go first: as long as one stands, the owner's room on the file stays at its release.
-        while self.dismiss_one(file, owner) {}
+        while self.dismiss_one(file, Leaving::BytesOf(owner)) {}
         self.release(file, owner);
     }
 
-    /// The first wait on the file for byte locks of the owner leaves the list; false where there is none.
-    fn dismiss_one(&mut self, file: u64, owner: u64) -> bool
-        ensures one { IsTrue result → DismissesOn (table_state self.old) file owner (table_state self.new) }
-        ensures none { IsFalse result → All (λ wait. IsTrue (is_other_wait owner wait)) ((table_state self.old).files file).waits
+    /// The first of the waits on the file that are to leave leaves it; false where there is none.
+    pub(super) fn dismiss_one(&mut self, file: u64, leaving: Leaving) -> bool
+        ensures one { IsTrue result → DismissesOn (table_state self.old) file (is_leaving leaving) (table_state self.new) }
+        ensures none { IsFalse result → All (λ wait. IsTrue (is_staying leaving wait)) ((table_state self.old).files file).waits
             × SameState (table_state self.old) (table_state self.new) }
         ensures policy { table_policy self.new ≡ table_policy self.old }
         ensures others { KeepsOthers self.old self.new file }
@@ -110,7 +112,7 @@ impl Table {
         let Some(locks) = self.files.get_mut(&file) else {
             return false;
         };
-        let Some(wait) = locks.dismiss(owner) else {
+        let Some(wait) = locks.dismiss(leaving) else {
             return false;
         };
         self.tickets.forget(wait.ticket);
@@ -148,6 +150,7 @@ impl Table {
     /// The least file with an entry, above this one where one is given.
     pub fn next_file(&self, above: Option<u64>) -> Option<u64>
         ensures above { IfSome result (λ file. MatchOption above (Unit {0}) (λ least. least < file)) }
+        ensures entry { IfSome result (HasEntry self.now) }
         ensures least { IfSome result (λ file. (other : ℕ) → MatchOption above (Unit {0}) (λ least. least < other) → other < file
             → SameFile untouched ((table_state self.now).files other)) }
         ensures none { IfNone result ((file : ℕ) → MatchOption above (Unit {0}) (λ least. least < file)

@@ -3,7 +3,7 @@ ghost use Rattle.std.specs.Prelude.{◌≡◌, ◌↔◌, None, Some, IsTrue, If
 ghost use Rattle.range_core.specs.Ranges.{IsByteRange};
 ghost use Rattle.lock_server.specs.Calls.{LeavesOn, Suspends};
 ghost use Rattle.lock_server.specs.TableRoom.{HasRoomFor};
-ghost use Rattle.lock_server.specs.Settling.{IsWaitBlocked};
+ghost use Rattle.lock_server.specs.Settling.{HasAlready, IsBlockedUnless, IsWaitBlocked};
 ghost use Rattle.lock_server.specs.States.{IsPending, IsTaken, SameState};
 ghost use Rattle.lock_server.specs.TableView.{HasEntry, IsSwept, KeepsEntries, KeepsOthers, table_state, table_policy};
 ghost use Rattle.lock_server.specs.TicketsView.{place_at};
@@ -22,6 +22,29 @@ impl Table {
     {
         match self.files.get(&file) {
             Some(locks) => locks.is_wait_blocked(self.policy, wanted),
+            None => false,
+        }
+    }
+
+    /// Whether the owner of the request has already what it is for.
+    pub fn has_already(&self, file: u64, wanted: &Pending) -> bool
+        requires { IsByteRange wanted.now.span }
+        ensures { IsTrue result ↔ HasAlready ((table_state self.now).files file) wanted.now }
+    {
+        match self.files.get(&file) {
+            Some(locks) => locks.has_already(wanted),
+            None => false,
+        }
+    }
+
+    /// Whether the request would be blocked, were it to wait and had its owner what it is for, or hadn't.
+    pub fn blocks_unless(&self, file: u64, wanted: &Pending, had: bool) -> bool
+        requires { IsByteRange wanted.now.span }
+        ensures { IsTrue result ↔ IsBlockedUnless (table_policy self.now) ((table_state self.now).files file) ((table_state self.now).files file).waits
+            wanted.now (IsTrue had) }
+    {
+        match self.files.get(&file) {
+            Some(locks) => locks.is_blocked_unless(self.policy, wanted, had),
             None => false,
         }
     }

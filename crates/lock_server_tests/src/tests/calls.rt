@@ -1,12 +1,31 @@
 //! The calls of a server as data, and what the server tells of each.
 ghost use Rattle.range_core.specs.Ranges.{IsByteRange};
 
-use lock_server::{Answer, LockServer, Memory, Mode, Span, WaitAnswer, WaitFault};
+use lock_server::{
+    Answer, Conversion, Counts, LockServer, Memory, Mode, Policy, Rules, Span, WaitAnswer,
+    WaitFault,
+};
 use range_core::OFFMAX;
 use std::process::Abort;
 
 /// The first and the last byte of a range.
 pub(super) type Bytes = (u64, u64);
+
+/// The rules of this policy by which conversions go step by step.
+pub(super) const fn stepwise(policy: Policy) -> Rules {
+    Rules {
+        policy,
+        conversion: Conversion::Stepwise,
+    }
+}
+
+/// The rules of this policy by which conversions are atomic.
+pub(super) const fn atomic(policy: Policy) -> Rules {
+    Rules {
+        policy,
+        conversion: Conversion::Atomic,
+    }
+}
 
 /// All bytes that a file can have.
 pub(super) const ALL: Bytes = (0, OFFMAX);
@@ -32,6 +51,14 @@ pub(super) enum Call {
     Note(u64, u64),
     /// The last close of the open file, with the owner of a flock lock.
     Release(u64, Option<u64>),
+    /// The first and the last owner of a client that is gone.
+    ForgetOwners(u64, u64),
+    /// The file is gone.
+    ForgetFile,
+    /// Whether the owners from the first to the last have a lock.
+    HasLocks(u64, u64),
+    /// How much they have.
+    Counts(u64, u64),
 }
 
 /// What a call tells.
@@ -49,6 +76,10 @@ pub(super) enum Told {
     Lock(u64, Mode, Bytes),
     /// There is no wait, no grant or no lock in the way.
     Nothing,
+    /// Whether there is a lock.
+    Having(bool),
+    /// How many runs, flock locks and waits there are.
+    Counts(Counts),
 }
 
 /// The file, the call, and what it tells.
@@ -109,6 +140,8 @@ pub(super) fn serve(server: &mut LockServer, file: u64, call: Call) -> Result<To
             true => Ok(Told::Done),
             false => Ok(Told::Nothing),
         },
+        Call::HasLocks(first, last) => Ok(Told::Having(server.has_locks(first, last))),
+        Call::Counts(first, last) => Ok(Told::Counts(server.counts(first, last))),
         other => end(server, file, other),
     }
 }
@@ -129,6 +162,8 @@ fn end(server: &mut LockServer, file: u64, call: Call) -> Result<Told, Memory> {
         Call::Forget(owner) => server.forget(owner),
         Call::Note(owner, open_file) => server.note(file, owner, open_file)?,
         Call::Release(open_file, flock_owner) => server.release(file, open_file, flock_owner),
+        Call::ForgetOwners(first, last) => server.forget_owners(first, last),
+        Call::ForgetFile => server.forget_file(file),
         _ => {}
     }
     Ok(Told::Done)

@@ -1,11 +1,17 @@
 //! How a file server uses the lock server; the README quotes the lines of the test.
-use lock_server::{LockServer, Mode, Policy, Span, WaitAnswer};
+use lock_server::{Conversion, LockServer, Mode, Policy, Rules, Span, WaitAnswer};
 use range_core::OFFMAX;
 use std::test::Fail;
 
 #[test]
 fn answers_a_request_later(rt: HostRuntime) -> Result<(), Fail> {
-    let mut server = LockServer::new(rt.alloc(), Policy::Held);
+    let mut server = LockServer::new(
+        rt.alloc(),
+        Rules {
+            policy: Policy::Held,
+            conversion: Conversion::Atomic,
+        },
+    );
     let all = Span {
         first: 0,
         last: OFFMAX,

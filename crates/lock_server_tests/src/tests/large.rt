@@ -1,5 +1,5 @@
 //! The server at sizes that a real one may have, and more of each than a small limit allows.
-use super::calls::{ALL, Call, Told, tells};
+use super::calls::{ALL, Call, Told, stepwise, tells};
 use lock_server::Mode::{Read, Write};
 use lock_server::{LockServer, Memory, Policy};
 use std::process::Abort;
@@ -50,8 +50,16 @@ fn grant_a_thousand(rt: &impl Abort, server: &mut LockServer, detect: bool) -> R
 
 #[test]
 fn grants_a_thousand_waits_in_order_often(rt: HostRuntime) -> Result<(), Fail> {
-    grant_a_thousand(&rt, &mut LockServer::new(rt.alloc(), Policy::Held), true)?;
-    grant_a_thousand(&rt, &mut LockServer::new(rt.alloc(), Policy::Queue), false)?;
+    grant_a_thousand(
+        &rt,
+        &mut LockServer::new(rt.alloc(), stepwise(Policy::Held)),
+        true,
+    )?;
+    grant_a_thousand(
+        &rt,
+        &mut LockServer::new(rt.alloc(), stepwise(Policy::Queue)),
+        false,
+    )?;
     Ok(())
 }
 
@@ -88,7 +96,10 @@ fn come_and_go(rt: &impl Abort, server: &mut LockServer) -> Result<(), Memory> {
 
 #[test]
 fn many_files_and_owners_come_and_go_often(rt: HostRuntime) -> Result<(), Fail> {
-    Ok(come_and_go(&rt, &mut LockServer::new(rt.alloc(), Policy::Held))?)
+    Ok(come_and_go(
+        &rt,
+        &mut LockServer::new(rt.alloc(), stepwise(Policy::Held)),
+    )?)
 }
 
 /// A thousand owners through one open file, of whom every other one came again through another one.
@@ -125,7 +136,10 @@ fn close(rt: &impl Abort, server: &mut LockServer) -> Result<(), Memory> {
 
 #[test]
 fn a_last_close_takes_a_thousand_owners_often(rt: HostRuntime) -> Result<(), Fail> {
-    Ok(close(&rt, &mut LockServer::new(rt.alloc(), Policy::Held))?)
+    Ok(close(
+        &rt,
+        &mut LockServer::new(rt.alloc(), stepwise(Policy::Held)),
+    )?)
 }
 
 /// A hundred thousand files, each locked by one of ten thousand owners, each of whom waits for the next: the chain is followed to its
@@ -167,5 +181,8 @@ fn serve_files(rt: &impl Abort, server: &mut LockServer) -> Result<(), Memory> {
 
 #[test]
 fn serves_a_hundred_thousand_files_often(rt: HostRuntime) -> Result<(), Fail> {
-    Ok(serve_files(&rt, &mut LockServer::new(rt.alloc(), Policy::Queue))?)
+    Ok(serve_files(
+        &rt,
+        &mut LockServer::new(rt.alloc(), stepwise(Policy::Queue)),
+    )?)
 }

@@ -1,6 +1,8 @@
 //! A server as lists of the bytes and waits there are, each looked through whole at each question.
+mod listing;
+
 use super::calls::{Bytes, Call, Told};
-use lock_server::{Memory, Mode, Policy};
+use lock_server::{Conversion, Counts, Memory, Mode, Policy, Rules};
 use std::alloc::Global;
 
 /// How many owners the model knows, from 0 on.
@@ -10,7 +12,7 @@ pub(super) const OWNERS: u64 = 4;
 pub(super) const FILES: u64 = 2;
 
 /// How many bytes of a file the model knows, from 0 on.
-const BYTES: u64 = 16;
+pub(super) const BYTES: u64 = 16;
 
 /// A flock lock is the lock of a byte past the others.
 const FLOCK: Bytes = (BYTES, BYTES);
@@ -30,7 +32,7 @@ struct Claim {
 /// All locks and waits, the grants that were not fetched, and of each file and owner through which open file it was last seen.
 #[derive(Drop)]
 pub(super) struct Model {
-    policy: Policy,
+    rules: Rules,
     alloc: Global,
     /// Each of one byte.
     locks: Vec<Claim>,
@@ -63,9 +65,9 @@ fn clash(one: &Claim, other: &Claim) -> bool {
 
 impl Model {
     /// No lock and no wait.
-    pub(super) fn new(alloc: Global, policy: Policy) -> Model {
+    pub(super) fn new(alloc: Global, rules: Rules) -> Model {
         Model {
-            policy,
+            rules,
             alloc,
             locks: Vec::new(alloc),
             waits: Vec::new(alloc),
@@ -97,6 +99,10 @@ impl Model {
             Call::Forget(owner) => self.forget(owner),
             Call::Note(owner, open_file) => self.note(file, owner, open_file),
             Call::Release(open_file, flock_owner) => self.release(file, open_file, flock_owner),
+            Call::ForgetOwners(first, last) => self.forget_owners(first, last),
+            Call::ForgetFile => Ok(self.forget_file(file)),
+            Call::HasLocks(first, last) => Ok(self.has_locks(first, last)),
+            Call::Counts(first, last) => Ok(self.counts(first, last)),
         }
     }
 
@@ -110,9 +116,21 @@ impl Model {
         None
     }
 
-    /// Whether the owner is in the way of the claim: by a lock, or under the queue policy by one of so many waits that came before.
+    /// Whether the owner of the claim has at least its mode on each of its bytes.
+    fn has(&self, claim: &Claim) -> bool {
+        for byte in claim.first..=claim.last {
+            match self.mode_at(claim.file, claim.owner, byte) {
+                Some(held) if held == Mode::Write || held == claim.mode => {}
+                _ => return false,
+            }
+        }
+        true
+    }
+
+    /// Whether the owner is in the way of the claim: by a lock, or under the queue policy, where the claim is for more than its owner
+    /// has, by one of so many waits that came before.
     fn blocks(&self, owner: u64, claim: &Claim, before: usize) -> bool {
-        let waits = if self.policy == Policy::Queue {
+        let waits = if self.rules.policy == Policy::Queue && !self.has(claim) {
             before
         } else {
             0
@@ -265,23 +283,48 @@ impl Model {
         self.settle()
     }
 
-    /// Whether the claim is for a flock lock that its owner has in this mode already; one of another mode goes.
-    fn converts(&mut self, claim: &Claim) -> Result<bool, Memory> {
+    /// What a claim comes to for a flock lock that its owner has in this mode already, or converts at once; a lock that is converted step
+    /// by step goes, and the claim is still to be tested.
+    fn convert(&mut self, claim: &Claim, may_wait: bool) -> Result<Option<Told>, Memory> {
         let held = self.mode_at(claim.file, claim.owner, BYTES);
         if claim.first != BYTES || held.is_none() {
-            return Ok(false);
+            return Ok(None);
         }
         if held == Some(claim.mode) {
-            return Ok(true);
+            return Ok(Some(Told::Done));
+        }
+        if self.rules.conversion == Conversion::Atomic {
+            return Ok(Some(self.convert_at_once(claim, may_wait)?));
         }
         self.clear(claim.file, claim.owner, FLOCK)?;
-        Ok(false)
+        Ok(None)
+    }
+
+    /// The lock goes, and the claim is tested before any wait is granted.
+    fn convert_at_once(&mut self, claim: &Claim, may_wait: bool) -> Result<Told, Memory> {
+        let before = if may_wait && !self.has(claim) {
+            self.waits.len()
+        } else {
+            0
+        };
+        self.unlock(claim.file, claim.owner, FLOCK);
+        let told = if !self.is_blocked(claim, before) {
+            self.give(claim)?;
+            Told::Done
+        } else if may_wait {
+            self.waits.push(*claim)?;
+            Told::Waits
+        } else {
+            Told::Blocked
+        };
+        self.settle()?;
+        Ok(told)
     }
 
     /// A claim that doesn't wait.
     fn set(&mut self, claim: &Claim) -> Result<Told, Memory> {
-        if self.converts(claim)? {
-            return Ok(Told::Done);
+        if let Some(told) = self.convert(claim, false)? {
+            return Ok(told);
         }
         if self.is_blocked(claim, 0) {
             return Ok(Told::Blocked);
@@ -305,8 +348,8 @@ impl Model {
         if self.grants.contains(&claim.ticket) || self.place_of(claim.ticket).is_some() {
             return Ok(Told::Taken);
         }
-        if self.converts(claim)? {
-            return Ok(Told::Done);
+        if let Some(told) = self.convert(claim, true)? {
+            return Ok(told);
         }
         if !self.is_blocked(claim, self.waits.len()) {
             self.give(claim)?;
@@ -381,6 +424,89 @@ impl Model {
             self.unlock(file, owner, FLOCK);
         }
         self.settle()
+    }
+
+    /// The earliest wait on the file that is not blocked is granted, where there is one.
+    fn grant_on(&mut self, file: u64) -> Result<(), Memory> {
+        for (place, wait) in self.waits.iter().enumerate() {
+            if wait.file == file && !self.is_blocked(wait, place) {
+                return self.grant_at(place);
+            }
+        }
+        Ok(())
+    }
+
+    /// The wait at this place is granted.
+    fn grant_at(&mut self, place: usize) -> Result<(), Memory> {
+        if place < self.waits.len() {
+            let wait = self.waits.remove(place);
+            self.give(&wait)?;
+            self.grants.push(wait.ticket)?;
+        }
+        Ok(())
+    }
+
+    /// All that the owners from the first to the last have goes, and then each file is settled, one after the other.
+    fn forget_owners(&mut self, first: u64, last: u64) -> Result<Told, Memory> {
+        self.locks
+            .retain(|lock| lock.owner < first || last < lock.owner);
+        self.waits
+            .retain(|wait| wait.owner < first || last < wait.owner);
+        self.seen.retain(|seen| seen.1 < first || last < seen.1);
+        for file in 0..FILES {
+            for _ in 0..self.waits.len() {
+                self.grant_on(file)?;
+            }
+        }
+        Ok(Told::Done)
+    }
+
+    /// All that is on the file goes.
+    fn forget_file(&mut self, file: u64) -> Told {
+        self.locks.retain(|lock| lock.file != file);
+        self.waits.retain(|wait| wait.file != file);
+        self.seen.retain(|seen| seen.0 != file);
+        Told::Done
+    }
+
+    /// Whether one of the owners has a lock.
+    fn has_locks(&self, first: u64, last: u64) -> Told {
+        for lock in &self.locks {
+            if first <= lock.owner && lock.owner <= last {
+                return Told::Having(true);
+            }
+        }
+        Told::Having(false)
+    }
+
+    /// Whether the lock of a byte is the first one of a range of its mode.
+    fn is_first(&self, lock: &Claim) -> bool {
+        lock.first == 0 || self.mode_at(lock.file, lock.owner, lock.first - 1) != Some(lock.mode)
+    }
+
+    /// How many ranges, flock locks and waits the owners have.
+    fn counts(&self, first: u64, last: u64) -> Told {
+        let mut counts = Counts {
+            runs: 0,
+            flock_locks: 0,
+            waits: 0,
+        };
+        for lock in &self.locks {
+            if lock.owner < first || last < lock.owner {
+                continue;
+            }
+            if lock.first == BYTES {
+                counts.flock_locks = counts.flock_locks.wrapping_add(1);
+            } else if self.is_first(lock) {
+                counts.runs = counts.runs.wrapping_add(1);
+            }
+        }
+        for wait in &self.waits {
+            if first <= wait.owner && wait.owner <= last {
+                counts.waits = counts.waits.wrapping_add(1);
+            }
+        }
+        Told::Counts(counts)
     }
 
     /// The oldest grant, which is told once.

@@ -1,14 +1,15 @@
 //! A lock manager and a server that are asked for the same: the server by the calls that stand for a request, without descriptors. A
 //! traditional lock is its process', an OFD lock and a flock lock its description's.
-use super::calls::{Bytes, Call, Told, serve};
+use super::calls::{ALL, Bytes, Call, Told, serve, stepwise};
 use fd_table::{Access, Limits};
-use lock_book::Owner;
+use lock_book::{Held, Owner};
 use lock_manager::{Errno, Manager, Note, Reply, Request, Rules};
-use lock_server::{LockServer, Policy};
+use lock_server::{LockServer, Mode, Policy, Span};
 use range_core::OFFMAX;
 use std::alloc::Global;
 use std::process::Abort;
 use std::test::Fail;
+use wait_core::{Family, Wait};
 
 /// How many processes there are. The first takes no lock, and so never waits.
 pub(super) const PROCESSES: u8 = 8;
@@ -28,10 +29,13 @@ pub(super) type Seen = [u64; 5];
 /// A manager and a server. Process `p` is told of the server's ticket `16 * n + p` by the number `n` of its request.
 #[derive(Drop)]
 pub(super) struct Pair {
+    policy: Policy,
     pub(super) manager: Manager,
     pub(super) server: LockServer,
     pub(super) descriptors: Vec<Descriptor>,
     pub(super) seen: Seen,
+    /// How many requests were left out, since the two may differ there by definition.
+    pub(super) left_out: u64,
     alloc: Global,
     opened: u64,
     number: u64,
@@ -43,6 +47,65 @@ pub(super) fn number_of(owner: Owner) -> u64 {
         Owner::Process(p) => u64::from(p),
         Owner::Description(number) => number.wrapping_add(256),
     }
+}
+
+/// The owner that the server knows by this number.
+pub(super) fn owner_of(number: u64) -> Owner {
+    if number < 256 {
+        Owner::Process(number as u8)
+    } else {
+        Owner::Description(number - 256)
+    }
+}
+
+/// The call as a request of the manager, and whether it may wait; none of one that gives no lock.
+fn claim_of(at: Descriptor, call: Call) -> Option<(Wait, bool)> {
+    let (family, number, bytes, mode, may_wait) = match call {
+        Call::Set(owner, bytes, Some(mode)) => (Family::Bytes, owner, bytes, mode, false),
+        Call::Wait(_, owner, bytes, mode, _) => (Family::Bytes, owner, bytes, mode, true),
+        Call::Flock(owner, Some(mode)) => (Family::Whole, owner, ALL, mode, false),
+        Call::FlockWait(_, owner, mode) => (Family::Whole, owner, ALL, mode, true),
+        _ => return None,
+    };
+    let (first, last) = bytes;
+    let claim = Wait {
+        p: at.p,
+        n: 0,
+        file: at.file,
+        family,
+        owner: owner_of(number),
+        span: Span { first, last },
+        mode,
+    };
+    Some((claim, may_wait))
+}
+
+/// Whether two requests on one file could not both be granted.
+fn clash(one: &Wait, other: &Wait) -> bool {
+    one.file == other.file
+        && one.family == other.family
+        && one.owner != other.owner
+        && (one.mode == Mode::Write || other.mode == Mode::Write)
+        && one.span.first <= other.span.last
+        && other.span.first <= one.span.last
+}
+
+/// Whether the owner of the request has at least its mode on each of its bytes.
+fn has_already(held: &[Held], claim: &Wait) -> bool {
+    let mut next = claim.span.first;
+    for lock in held {
+        let is_its = lock.file == claim.file
+            && lock.whole == (claim.family == Family::Whole)
+            && lock.owner == claim.owner;
+        let is_enough = lock.mode == Mode::Write || lock.mode == claim.mode;
+        if is_its && is_enough && lock.span.first <= next && next <= lock.span.last {
+            if claim.span.last <= lock.span.last {
+                return true;
+            }
+            next = lock.span.last.wrapping_add(1);
+        }
+    }
+    false
 }
 
 /// What a get command is told of a lock in the way; its length is 0 where it goes to the largest offset.
@@ -95,10 +158,12 @@ impl Pair {
             limits: Limits::Small,
         };
         Ok(Pair {
+            policy,
             manager: Manager::new(alloc, PROCESSES, rules)?,
-            server: LockServer::new(alloc, policy),
+            server: LockServer::new(alloc, stepwise(policy)),
             descriptors: Vec::new(alloc),
             seen,
+            left_out: 0,
             alloc,
             opened: 0,
             number: 1,
@@ -129,7 +194,9 @@ impl Pair {
             Told::Nothing => Reply::Free,
             Told::Lock(owner, mode, bytes) => held_reply((owner, mode, bytes)),
             Told::Waits => return Ok(Note::Waits { p, n: self.number }),
-            Told::Taken | Told::Granted(_) => return Err("no answer to a request".into()),
+            Told::Taken | Told::Granted(_) | Told::Having(_) | Told::Counts(_) => return Err(
+                "no answer to a request".into(),
+            ),
         };
         Ok(answer_to(self.ticket(p), reply))
     }
@@ -179,7 +246,26 @@ impl Pair {
         self.compare(rt, p, request, &[note])
     }
 
-    /// The request of the descriptor's process is answered as the call that stands for it.
+    /// Whether the two may part at the call: under the queue policy the manager has a request wait behind those that conflict with it
+    /// also where it is for what its owner has, and the server doesn't. An owner that is given more while it waits on the file may come
+    /// to have what its wait is for, so that counts too.
+    fn may_part(&self, at: Descriptor, call: Call) -> Result<bool, Fail> {
+        let Some((claim, may_wait)) = claim_of(at, call) else {
+            return Ok(false);
+        };
+        let waits = self.manager.waits()?;
+        let mut clashes = false;
+        for wait in waits.iter() {
+            if wait.file == claim.file && wait.family == claim.family && wait.owner == claim.owner {
+                return Ok(true);
+            }
+            clashes = clashes || clash(wait, &claim);
+        }
+        Ok(may_wait && clashes && has_already(&self.manager.held()?, &claim))
+    }
+
+    /// The request of the descriptor's process is answered as the call that stands for it, where the two don't part; else neither is
+    /// asked.
     pub(super) fn compare_call(
         &mut self,
         rt: &impl Abort,
@@ -187,6 +273,10 @@ impl Pair {
         request: Request,
         call: Call,
     ) -> Result<(), Fail> {
+        if self.policy == Policy::Queue && self.may_part(at, call)? {
+            self.left_out = self.left_out.wrapping_add(1);
+            return Ok(());
+        }
         let told = serve(&mut self.server, u64::from(at.file), call)?;
         let note = self.note(at.p, told)?;
         self.compare(rt, at.p, request, &[note])

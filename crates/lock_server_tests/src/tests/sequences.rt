@@ -1,5 +1,6 @@
 //! The server against the model, on sequences of calls that are made by a written rule.
-use super::calls::{Call, tells};
+use super::calls::{Call, atomic, stepwise, tells};
+use super::listing::lists_as;
 use super::model::{FILES, Model, OWNERS};
 use super::rule::Rule;
 use lock_server::{LockServer, Memory, Policy};
@@ -11,7 +12,7 @@ const OPEN_FILES: u64 = 3;
 
 impl Rule {
     /// A request for a lock, or an unlock.
-    fn request(&mut self) -> Call {
+    pub(super) fn request(&mut self) -> Call {
         let (ticket, owner, mode) = (self.below(8), self.below(OWNERS), self.mode());
         let bytes = self.bytes();
         match self.below(16) {
@@ -28,7 +29,7 @@ impl Rule {
     /// A call of any kind, but that it asks for nothing that is in the way.
     fn call(&mut self) -> Call {
         let (owner, open_file) = (self.below(OWNERS), self.below(OPEN_FILES));
-        match self.below(24) {
+        match self.below(28) {
             0..=3 => Call::Note(owner, open_file),
             4 => Call::Release(open_file, None),
             5 => Call::Release(open_file, Some(owner)),
@@ -37,12 +38,17 @@ impl Rule {
             8 => Call::FlockRelease(owner),
             9 => Call::Cancel(self.below(8)),
             10 | 11 => Call::Grant,
+            12 => Call::ForgetOwners(owner, owner + self.below(2)),
+            13 => Call::ForgetFile,
+            14 => Call::HasLocks(owner, owner + self.below(3)),
+            15 => Call::Counts(owner, owner + self.below(3)),
             _ => self.request(),
         }
     }
 }
 
-/// A sequence of 40 calls, and what is in the way of some request after each; then all grants that are left.
+/// A sequence of 40 calls, and what is in the way of some request after each; then all grants that are left. In its midst and behind the
+/// calls all is listed.
 fn sequence(
     rt: &impl Abort,
     server: &mut LockServer,
@@ -58,18 +64,27 @@ fn sequence(
         let file = rule.below(FILES);
         let told = model.serve(file, call)?;
         tells(rt, server, &[(file, call, told)])?;
+        if step % 40 == 39 {
+            lists_as(rt, server, model);
+        }
     }
     Ok(())
 }
 
-/// Five thousand sequences under each policy: each answer, each grant and what is in the way are the model's.
+/// Two and a half thousand sequences by each of the rules: each answer, each grant, what is in the way and what is listed are the
+/// model's.
 #[test]
 fn goes_as_the_model_often(rt: HostRuntime) -> Result<(), Fail> {
     let mut rule = Rule { x: 31 };
-    for _ in 0..5000 {
-        for policy in [Policy::Held, Policy::Queue] {
-            let mut model = Model::new(rt.alloc(), policy);
-            let server = &mut LockServer::new(rt.alloc(), policy);
+    for _ in 0..2500 {
+        for rules in [
+            stepwise(Policy::Held),
+            stepwise(Policy::Queue),
+            atomic(Policy::Held),
+            atomic(Policy::Queue),
+        ] {
+            let mut model = Model::new(rt.alloc(), rules);
+            let server = &mut LockServer::new(rt.alloc(), rules);
             sequence(&rt, server, &mut model, &mut rule)?;
         }
     }

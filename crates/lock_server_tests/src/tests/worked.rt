@@ -1,5 +1,5 @@
 //! Worked runs: calls of a server in turn, each with what it tells by the rules.
-use super::calls::{ALL, Call, Row, Told, serve, tells};
+use super::calls::{ALL, Call, Row, Told, atomic, serve, stepwise, tells};
 use lock_server::Mode::{Read, Write};
 use lock_server::{LockServer, Memory, Policy};
 use std::process::Abort;
@@ -105,6 +105,60 @@ const CONVERTS_FLOCKS: &[Row] = &[
     (F, Call::Grant, Told::Granted(2)),
     (F, Call::Flock(2, None), Told::Done),
     (F, Call::Flock(1, Some(Write)), Told::Done),
+];
+
+/// An atomic conversion is tested before any wait is granted: a downgrade keeps its place before a writer that waits, and of two readers
+/// that ask to write the second one gets the lock, since the first one's went when it asked; who is refused has lost its own lock, and a
+/// wait that this lets through is granted.
+const CONVERTS_FLOCKS_AT_ONCE: &[Row] = &[
+    (F, Call::Flock(1, Some(Write)), Told::Done),
+    (F, Call::FlockWait(2, 2, Write), Told::Waits),
+    (F, Call::Flock(1, Some(Read)), Told::Done),
+    (F, Call::Grant, Told::Nothing),
+    (F, Call::Flock(1, None), Told::Done),
+    (F, Call::Grant, Told::Granted(2)),
+    (F, Call::FlockWait(1, 1, Read), Told::Waits),
+    (F, Call::FlockWait(2, 2, Read), Told::Done),
+    (F, Call::Grant, Told::Granted(1)),
+    (F, Call::FlockWait(1, 1, Write), Told::Waits),
+    (F, Call::FlockWait(2, 2, Write), Told::Done),
+    (F, Call::Grant, Told::Nothing),
+    (F, Call::FlockRelease(2), Told::Done),
+    (F, Call::Grant, Told::Granted(1)),
+    (F, Call::Flock(1, Some(Read)), Told::Done),
+    (F, Call::Flock(2, Some(Read)), Told::Done),
+    (F, Call::FlockWait(3, 3, Write), Told::Waits),
+    (F, Call::Flock(2, Some(Write)), Told::Blocked),
+    (F, Call::Grant, Told::Nothing),
+    (F, Call::FlockRelease(1), Told::Done),
+    (F, Call::Grant, Told::Granted(3)),
+    (F, Call::FlockRelease(3), Told::Done),
+    (F, Call::Flock(1, Some(Read)), Told::Done),
+    (F, Call::Flock(2, Some(Read)), Told::Done),
+    (F, Call::FlockWait(4, 2, Write), Told::Waits),
+    (F, Call::FlockRelease(1), Told::Done),
+    (F, Call::Grant, Told::Granted(4)),
+    (F, Call::Flock(STRANGER, Some(Read)), Told::Blocked),
+];
+
+/// Under the queue policy an atomic conversion that waits stands behind the waits, but for a downgrade, of whose mode the owner had more
+/// before; one that doesn't wait stands behind none.
+const CONVERTS_FLOCKS_AT_ONCE_IN_A_QUEUE: &[Row] = &[
+    (F, Call::Flock(1, Some(Write)), Told::Done),
+    (F, Call::FlockWait(2, 2, Write), Told::Waits),
+    (F, Call::FlockWait(1, 1, Read), Told::Done),
+    (F, Call::Grant, Told::Nothing),
+    (F, Call::FlockWait(3, 3, Read), Told::Waits),
+    (F, Call::FlockWait(1, 1, Write), Told::Waits),
+    (F, Call::Grant, Told::Granted(2)),
+    (F, Call::Grant, Told::Nothing),
+    (F, Call::FlockRelease(2), Told::Done),
+    (F, Call::Grant, Told::Granted(3)),
+    (F, Call::Grant, Told::Nothing),
+    (F, Call::Flock(3, Some(Write)), Told::Done),
+    (F, Call::Grant, Told::Nothing),
+    (F, Call::FlockRelease(3), Told::Done),
+    (F, Call::Grant, Told::Granted(1)),
 ];
 
 /// Under the queue policy a reader waits behind a writer, and goes on where the writer gives up.
@@ -293,19 +347,22 @@ fn follow(rt: &impl Abort, server: &mut LockServer, rows: &[Row]) -> Result<(), 
 /// Each call tells what its row says.
 #[test]
 fn worked_runs_come_out(rt: HostRuntime) -> Result<(), Fail> {
-    for (policy, rows) in [
-        (Policy::Held, GRANTS_IN_ORDER),
-        (Policy::Held, REFUSES_CYCLES),
-        (Policy::Held, CROSSES_AN_OWNER),
-        (Policy::Held, KEEPS_WAITS_AT_A_RELEASE),
-        (Policy::Held, CONVERTS_FLOCKS),
-        (Policy::Queue, QUEUES),
-        (Policy::Held, A_LAST_CLOSE_SETTLES_ONCE),
-        (Policy::Held, A_FORGOTTEN_OWNER_IS_NOT_RELEASED),
-        (Policy::Held, A_LAST_CLOSE_TAKES_WHO_CAME_THROUGH),
-        (Policy::Held, GROWS),
+    for (rules, rows) in [
+        (stepwise(Policy::Held), GRANTS_IN_ORDER),
+        (stepwise(Policy::Held), REFUSES_CYCLES),
+        (stepwise(Policy::Held), CROSSES_AN_OWNER),
+        (stepwise(Policy::Held), KEEPS_WAITS_AT_A_RELEASE),
+        (stepwise(Policy::Held), CONVERTS_FLOCKS),
+        (atomic(Policy::Held), CONVERTS_FLOCKS_AT_ONCE),
+        (atomic(Policy::Queue), CONVERTS_FLOCKS_AT_ONCE_IN_A_QUEUE),
+        (stepwise(Policy::Queue), QUEUES),
+        (stepwise(Policy::Held), A_LAST_CLOSE_SETTLES_ONCE),
+        (stepwise(Policy::Held), A_FORGOTTEN_OWNER_IS_NOT_RELEASED),
+        (stepwise(Policy::Held), A_LAST_CLOSE_TAKES_WHO_CAME_THROUGH),
+        (stepwise(Policy::Held), GROWS),
+        (atomic(Policy::Held), GROWS),
     ] {
-        follow(&rt, &mut LockServer::new(rt.alloc(), policy), rows)?;
+        follow(&rt, &mut LockServer::new(rt.alloc(), rules), rows)?;
     }
     Ok(())
 }
@@ -348,5 +405,8 @@ fn release_twice(rt: &impl Abort, server: &mut LockServer) -> Result<(), Memory>
 
 #[test]
 fn refused_note_is_not_released(rt: HostRuntime) -> Result<(), Fail> {
-    Ok(release_twice(&rt, &mut LockServer::new(rt.alloc(), Policy::Held))?)
+    Ok(release_twice(
+        &rt,
+        &mut LockServer::new(rt.alloc(), stepwise(Policy::Held)),
+    )?)
 }

@@ -21,7 +21,16 @@ impl Mode {
     }
 }
 
-/// A byte lock that is in the way: its owner, and one largest range of one mode, from its first to its last byte.
+/// The mode that a word of the library tells.
+pub(crate) fn mode_of(word: u32) -> Mode {
+    if word == sys::DEHOKUNA_READ {
+        Mode::Read
+    } else {
+        Mode::Write
+    }
+}
+
+/// A byte lock that is in the way, or listed: its owner, and one largest range of one mode, from its first to its last byte.
 #[derive(Debug, Clone, Copy, PartialEq, Eq, Hash)]
 pub struct Blocker {
     /// The number that the lock was set with.
@@ -34,10 +43,20 @@ pub struct Blocker {
     pub mode: Mode,
 }
 
+/// How many locks and waits a client has.
+#[derive(Debug, Clone, Copy, PartialEq, Eq, Hash, Default)]
+pub struct Counts {
+    /// Byte locks: of each owner and file the largest ranges of one mode.
+    pub runs: u64,
+    /// flock locks.
+    pub flock_locks: u64,
+    /// Requests that wait, for byte locks and for flock locks.
+    pub waits: u64,
+}
+
 impl Blocker {
     pub(crate) fn from_raw(told: sys::dehokuna_blocker) -> Blocker {
-        let mode = if told.mode == sys::DEHOKUNA_READ { Mode::Read } else { Mode::Write };
-        Blocker { owner: told.owner, first: told.first, last: told.last, mode }
+        Blocker { owner: told.owner, first: told.first, last: told.last, mode: mode_of(told.mode) }
     }
 }
 

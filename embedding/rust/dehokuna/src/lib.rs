@@ -18,10 +18,12 @@
 #![warn(missing_docs)]
 
 mod answers;
+mod listing;
 mod ranges;
 
-pub use answers::{Blocker, Error, Mode, Outcome};
+pub use answers::{Blocker, Counts, Error, Mode, Outcome};
 pub use dehokuna_sys::DEHOKUNA_LARGEST_OFFSET as LARGEST_OFFSET;
+pub use listing::{FlockLock, Obstacle, OwnerWait, Waiting, Wanted};
 
 use dehokuna_sys as sys;
 use std::fmt;
@@ -35,8 +37,19 @@ pub enum Policy {
     /// may starve).
     #[default]
     Held,
-    /// A request that may wait goes behind the earlier waits that conflict with it.
+    /// A request that may wait goes behind the earlier waits that conflict with it, but where its owner has already what it is for. For
+    /// more bytes or a stronger mode an owner goes behind them like anyone, and may be told `Deadlock`.
     Queue,
+}
+
+/// How a flock lock gets another mode: the old lock goes first, and may be lost.
+#[derive(Debug, Clone, Copy, PartialEq, Eq, Hash, Default)]
+pub enum Conversion {
+    /// The waits that the old lock held back are granted, and then the request is tested (flock(2)).
+    #[default]
+    Stepwise,
+    /// The request is tested before any wait is granted (what Linux does).
+    Atomic,
 }
 
 /// The locks of any number of files.
@@ -58,18 +71,39 @@ unsafe impl Send for LockServer {}
 unsafe impl Sync for LockServer {}
 
 impl LockServer {
-    /// A server without locks and waits.
+    /// A server without locks and waits, which converts flock locks step by step.
     ///
     /// # Errors
     /// `NoMemory`.
     pub fn new(policy: Policy) -> Result<LockServer, Error> {
+        LockServer::with_conversion(policy, Conversion::Stepwise)
+    }
+
+    /// A server without locks and waits.
+    ///
+    /// # Errors
+    /// `NoMemory`.
+    ///
+    /// ```
+    /// # use dehokuna::{Conversion, LockServer, Mode, Outcome, Policy};
+    /// let mut server = LockServer::with_conversion(Policy::Held, Conversion::Atomic)?;
+    /// server.flock(7, 1, Mode::Write)?;
+    /// assert_eq!(server.flock_wait(70, 7, 2, Mode::Write)?, Outcome::Waits);
+    /// server.flock(7, 1, Mode::Read)?; // before the one that waits
+    /// # Ok::<(), dehokuna::Error>(())
+    /// ```
+    pub fn with_conversion(policy: Policy, conversion: Conversion) -> Result<LockServer, Error> {
         let mut raw = sys::dehokuna_server { at: ptr::null_mut() };
-        let word = match policy {
+        let policy = match policy {
             Policy::Held => sys::DEHOKUNA_HELD,
             Policy::Queue => sys::DEHOKUNA_QUEUE,
         };
+        let conversion = match conversion {
+            Conversion::Stepwise => 0,
+            Conversion::Atomic => sys::DEHOKUNA_ATOMIC,
+        };
         // SAFETY: the server is zero.
-        if unsafe { sys::dehokuna_create(&mut raw, word) } {
+        if unsafe { sys::dehokuna_create(&mut raw, policy | conversion) } {
             Ok(LockServer { raw })
         } else {
             Err(Error::NoMemory)
@@ -176,6 +210,48 @@ impl LockServer {
         unsafe { sys::dehokuna_forget(&mut self.raw, owner) }
     }
 
+    /// A client is gone, whose owners are these numbers: their byte locks, flock locks and waits leave all files, and only then waits are
+    /// granted. A wait that leaves is told no more. Grants that weren't fetched stay, so a ticket may be of a lock that is gone.
+    ///
+    /// ```
+    /// # use dehokuna::{LockServer, Mode, Outcome};
+    /// # let mut server = LockServer::new(Default::default())?;
+    /// server.set(7, 0x1_0000, .., Mode::Write)?;
+    /// server.flock(8, 0x1_0001, Mode::Write)?;
+    /// assert_eq!(server.wait(70, 7, 0x2_0000, .., Mode::Read, true)?, Outcome::Waits);
+    /// server.forget_owners(0x1_0000..0x2_0000);
+    /// assert_eq!(server.grants().collect::<Vec<_>>(), [70]);
+    /// assert!(!server.has_locks(0x1_0000..0x2_0000));
+    /// # Ok::<(), dehokuna::Error>(())
+    /// ```
+    pub fn forget_owners(&mut self, owners: impl RangeBounds<u64>) {
+        let (first, last) = ranges::numbers(owners);
+        // SAFETY: the server is created.
+        unsafe { sys::dehokuna_forget_owners(&mut self.raw, first, last) }
+    }
+
+    /// A file is gone: all its locks and waits go, and nothing is granted. Grants that weren't fetched stay.
+    pub fn forget_file(&mut self, file: u64) {
+        // SAFETY: the server is created.
+        unsafe { sys::dehokuna_forget_file(&mut self.raw, file) }
+    }
+
+    /// Whether one of these owners has a byte lock or a flock lock on some file; a wait is none.
+    pub fn has_locks(&self, owners: impl RangeBounds<u64>) -> bool {
+        let (first, last) = ranges::numbers(owners);
+        // SAFETY: the server is created.
+        unsafe { sys::dehokuna_has_locks(&self.raw, first, last) }
+    }
+
+    /// How many locks and waits these owners have, on all files.
+    pub fn counts(&self, owners: impl RangeBounds<u64>) -> Counts {
+        let (first, last) = ranges::numbers(owners);
+        let mut told = sys::dehokuna_counts::default();
+        // SAFETY: the server is created, and `told` is no part of it.
+        unsafe { sys::dehokuna_counts(&self.raw, first, last, &mut told) };
+        Counts { runs: told.runs, flock_locks: told.flock_locks, waits: told.waits }
+    }
+
     /// Sets or converts the owner's flock lock (LOCK_NB).
     ///
     /// # Errors
@@ -209,11 +285,37 @@ impl LockServer {
         unsafe { sys::dehokuna_release(&mut self.raw, file, open_file, flock_owner.is_some(), flock_owner.unwrap_or(0)) }
     }
 
+    /// The state as bytes: servers in the same state have the same ones, whatever each was told before, and others have others.
+    ///
+    /// ```
+    /// # use dehokuna::{LockServer, Mode};
+    /// # let (mut one, mut other) = (LockServer::new(Default::default())?, LockServer::new(Default::default())?);
+    /// one.set(7, 1, 0..10, Mode::Write)?;
+    /// assert_ne!(one.export(), other.export());
+    /// other.set(7, 1, 5..10, Mode::Write)?;
+    /// other.set(7, 1, 0..5, Mode::Write)?;
+    /// assert_eq!(one.export(), other.export());
+    /// # Ok::<(), dehokuna::Error>(())
+    /// ```
+    pub fn export(&self) -> Vec<u8> {
+        // SAFETY: the server is created.
+        let size = unsafe { sys::dehokuna_export_size(&self.raw) };
+        let mut bytes = vec![0; size];
+        // SAFETY: the server is created, and there is so much room.
+        unsafe { sys::dehokuna_export(&self.raw, bytes.as_mut_ptr(), size) };
+        bytes
+    }
+
     /// The ticket of the oldest grant that wasn't told yet.
     pub fn next_grant(&mut self) -> Option<u64> {
         let mut ticket = 0;
         // SAFETY: the server is created, and `ticket` is no part of it.
         unsafe { sys::dehokuna_next_grant(&mut self.raw, &mut ticket) }.then_some(ticket)
+    }
+
+    /// The server, for the calls that only read.
+    pub(crate) fn raw(&self) -> &sys::dehokuna_server {
+        &self.raw
     }
 
     /// The tickets of all grants that weren't told yet, oldest first.

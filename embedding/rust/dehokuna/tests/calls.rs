@@ -1,6 +1,8 @@
 //! Each call on its happy path, and each refusal but want of memory. What is right is told by fcntl(2), fcntl_locking(2) and flock(2).
 
-use dehokuna::{Blocker, Error, LockServer, Mode, Outcome, Policy, LARGEST_OFFSET};
+use dehokuna::{
+    Blocker, Conversion, Counts, Error, FlockLock, LockServer, Mode, Obstacle, Outcome, OwnerWait, Policy, Waiting, Wanted, LARGEST_OFFSET,
+};
 use std::io;
 
 const FILE: u64 = 7;
@@ -58,6 +60,37 @@ fn a_cycle_is_a_deadlock() -> Result<(), Error> {
 }
 
 #[test]
+fn a_client_that_is_gone_leaves_nothing() -> Result<(), Error> {
+    let (mut server, client) = (server(), 0x1_0000..=0x1_ffff);
+    server.set(FILE, 0x1_0000, 0..10, Mode::Write)?;
+    server.set(FILE, 0x1_ffff, 10..20, Mode::Read)?;
+    server.set(FILE, 0x2_0000, 20..30, Mode::Read)?;
+    server.flock(FILE, 0x1_0001, Mode::Write)?;
+    assert_eq!(server.wait(70, FILE, 0x2_0000, 0..20, Mode::Write, true)?, Outcome::Waits);
+    assert_eq!(server.wait(71, FILE, 0x1_0002, 0..1, Mode::Read, true)?, Outcome::Waits);
+    assert!(server.has_locks(client.clone()) && !server.has_locks(0x1_0002..=0x1_fffe));
+    assert_eq!(server.counts(client.clone()), Counts { runs: 2, flock_locks: 1, waits: 1 });
+    server.forget_owners(client.clone());
+    assert_eq!(granted(&mut server), [70]);
+    assert_eq!(server.counts(client.clone()), Counts::default());
+    assert!(!server.has_locks(client) && server.has_locks(0x2_0000..));
+    assert_eq!(server.counts(..), Counts { runs: 2, flock_locks: 0, waits: 0 });
+    server.flock(FILE, ANN, Mode::Write)
+}
+
+#[test]
+fn a_file_that_is_gone_grants_nothing() -> Result<(), Error> {
+    let mut server = server();
+    server.set(FILE, ANN, 0..10, Mode::Write)?;
+    server.flock(FILE, ANN, Mode::Write)?;
+    assert_eq!(server.wait(70, FILE, BOB, 0..1, Mode::Read, true)?, Outcome::Waits);
+    server.forget_file(FILE);
+    assert_eq!(granted(&mut server), []);
+    assert_eq!(server.counts(..), Counts::default());
+    server.set(FILE, CAT, .., Mode::Write)
+}
+
+#[test]
 fn a_conversion_that_is_blocked_loses_the_lock() -> Result<(), Error> {
     let mut server = server();
     server.flock(FILE, ANN, Mode::Read)?;
@@ -67,6 +100,19 @@ fn a_conversion_that_is_blocked_loses_the_lock() -> Result<(), Error> {
     assert_eq!(server.flock_wait(70, FILE, ANN, Mode::Write)?, Outcome::Waits);
     server.flock_release(FILE, BOB);
     assert_eq!(granted(&mut server), [70]);
+    Ok(())
+}
+
+#[test]
+fn an_atomic_conversion_comes_before_the_waits() -> Result<(), Error> {
+    let conversions = [(Conversion::Atomic, Ok(()), vec![]), (Conversion::Stepwise, Err(Error::Blocked), vec![70])];
+    for (conversion, told, granted_then) in conversions {
+        let mut server = LockServer::with_conversion(Policy::Held, conversion)?;
+        server.flock(FILE, ANN, Mode::Write)?;
+        assert_eq!(server.flock_wait(70, FILE, BOB, Mode::Write)?, Outcome::Waits);
+        assert_eq!(server.flock(FILE, ANN, Mode::Read), told);
+        assert_eq!(granted(&mut server), granted_then);
+    }
     Ok(())
 }
 
@@ -110,6 +156,17 @@ fn what_is_no_range_is_invalid() {
 }
 
 #[test]
+fn an_export_tells_states_apart() -> Result<(), Error> {
+    let mut server = server();
+    let bytes = |words: &[u64]| words.iter().flat_map(|word| word.to_le_bytes()).collect::<Vec<_>>();
+    assert_eq!(server.export(), bytes(&[1, 0, 0, 0, 0, 0, 0]));
+    server.set(FILE, BOB, 4..=9, Mode::Read)?;
+    server.note(FILE, BOB, 12)?;
+    assert_eq!(server.export(), bytes(&[1, 0, 0, 1, FILE, 1, BOB, 4, 9, 1, 0, 0, 0, 0, 1, FILE, BOB, 12]));
+    Ok(())
+}
+
+#[test]
 fn a_refusal_has_the_number_of_the_system() {
     let would_block = io::Error::from(Error::Blocked);
     assert_eq!(would_block.kind(), io::ErrorKind::WouldBlock);
@@ -135,5 +192,38 @@ fn readers_share_a_server() -> Result<(), Error> {
             scope.spawn(|| (0..10_000).for_each(|_| assert!(matches!(server.get(FILE, BOB, .., Mode::Read), Ok(Some(_))))));
         }
     });
+    Ok(())
+}
+
+#[test]
+fn all_is_listed_in_order() -> Result<(), Error> {
+    let mut server = LockServer::new(Policy::Queue)?;
+    server.set(FILE, ANN, 0..10, Mode::Write)?;
+    server.unlock(FILE, ANN, 4..6)?;
+    server.set(FILE, BOB, 20.., Mode::Read)?;
+    server.flock(u64::MAX, BOB, Mode::Read)?;
+    server.flock(u64::MAX, ANN, Mode::Read)?;
+    assert_eq!(server.wait(70, FILE, CAT, 5..=30, Mode::Write, true)?, Outcome::Waits);
+    assert_eq!(server.wait(u64::MAX, FILE, BOB, 10..=11, Mode::Read, false)?, Outcome::Waits);
+    assert_eq!(server.flock_wait(7, u64::MAX, CAT, Mode::Write)?, Outcome::Waits);
+    assert_eq!(server.files(0).collect::<Vec<_>>(), [FILE, u64::MAX]);
+    assert_eq!(server.files(FILE + 1).collect::<Vec<_>>(), [u64::MAX]);
+    let lock = |owner, first, last, mode| Blocker { owner, first, last, mode };
+    let (one, two) = (lock(ANN, 0, 3, Mode::Write), lock(ANN, 6, 9, Mode::Write));
+    let three = lock(BOB, 20, LARGEST_OFFSET, Mode::Read);
+    assert_eq!(server.locks(FILE).collect::<Vec<_>>(), [one, two, three]);
+    assert_eq!(server.locks(u64::MAX).count(), 0);
+    let (ann, bob) = (FlockLock { owner: ANN, mode: Mode::Read }, FlockLock { owner: BOB, mode: Mode::Read });
+    assert_eq!(server.flocks(u64::MAX).collect::<Vec<_>>(), [ann, bob]);
+    let wanted = Wanted::Bytes { first: 5, last: 30 };
+    let first = Waiting { ticket: 70, owner: CAT, wanted, mode: Mode::Write, detect: true, obstacle: Obstacle::Lock(two) };
+    let wanted = Wanted::Bytes { first: 10, last: 11 };
+    let second = Waiting { ticket: u64::MAX, owner: BOB, wanted, mode: Mode::Read, detect: false, obstacle: Obstacle::Wait(70) };
+    assert_eq!(server.waits(FILE).collect::<Vec<_>>(), [first, second]);
+    assert_eq!(server.waits(u64::MAX).map(|wait| wait.obstacle).collect::<Vec<_>>(), [Obstacle::Flock(ann)]);
+    let wait = |owner, file, ticket| OwnerWait { owner, file, ticket };
+    let (here, there, last) = (wait(CAT, FILE, 70), wait(CAT, u64::MAX, 7), wait(BOB, FILE, u64::MAX));
+    assert_eq!(server.waits_of(0..=u64::MAX).collect::<Vec<_>>(), [here, there, last]);
+    assert_eq!(server.waits_of(CAT..=CAT).collect::<Vec<_>>(), [here, there]);
     Ok(())
 }

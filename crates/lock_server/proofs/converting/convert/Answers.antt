@@ -13,7 +13,7 @@ returns-clause-safe c safe =
     let set = c.set_flock.new.self in
     let rest = rests (table_policy table) set c.settle.new.self c.args.file c.set_flock.ensures.policy c.settle.ensures.policy c.settle.ensures.settles c.settle.ensures.settled in
     safe_rested table c.settle.new.self _ (table_state set) c.args.file safe (c.settle.ensures.policy ∙ c.set_flock.ensures.policy)
-    (moves_unset (table_state table) c.args.file Whole c.args.owner whole_file (table_state set) c.set_flock.ensures.sets) rest
+    (moves_unset (table_state table) c.args.file Whole c.args.holder whole_file (table_state set) c.set_flock.ensures.sets) rest
 
 pub returns-clause-room : goal.returns-clause-room
 returns-clause-room c = KeepsRoomOn-then c.args.table.now c.set_flock.new.self c.settle.new.self c.args.file c.set_flock.ensures.room c.settle.ensures.room

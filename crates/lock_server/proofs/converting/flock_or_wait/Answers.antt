@@ -1,7 +1,7 @@
 use Rattle.std.proofs.Common.{◌≡◌, ◌∙◌, inr, refl, sym, subst, false, true}
 use Rattle.std.proofs.Math.Logic.{∥∥₁_map}
 use Rattle.lock_server.specs.Files.{FileState}
-use Rattle.lock_server.specs.Settling.{IsHeldBack, IsWaitBlocked}
+use Rattle.lock_server.specs.Settling.{HasAlready, IsHeldBack, IsWaitBlocked}
 use Rattle.lock_server.specs.States.{State}
 use Rattle.lock_server.specs.TableView.{table_policy, table_state}
 use Rattle.lock_server.proofs.FlockLemmas.{never_refused, place_from_room, set_as_asked}
@@ -38,7 +38,7 @@ returns-clause-safe c safe =
     let S = table_state table in
     let set = c.set_flock.new.self in
     let free : ¬ IsHeldBack (S.files c.args.file) wanted =
-    λ held. (let is = c.blocks-2.ensures.1 (held_back (table_policy table) (S.files c.args.file) (S.files c.args.file).waits wanted held) in
+    λ held. (let is = c.blocks-2.ensures.1 (held_back (table_policy table) (S.files c.args.file) (S.files c.args.file).waits wanted (HasAlready (S.files c.args.file) wanted) held) in
     let isnt = c.if-blocks.false in let h : true ≡ false = sym is ∙ isnt in cc) in
     let back = rests (table_policy table) c.give_back.new.self c.settle.new.self c.args.file (c.give_back.ensures.policy ∙ c.set_flock.ensures.policy) c.settle.ensures.policy
     c.settle.ensures.settles c.settle.ensures.settled in

@@ -8,8 +8,8 @@ pub returns-clause-ok : goal.returns-clause-ok
 returns-clause-ok c =
     let next = c.wait-answer.new.self in
     wait_goes c.args.handle.now (with_server c.args.handle.now next) c.server.result.now next c.wait-answer.result c.wait_status.result
-    (λ policy from. WaitComesTo policy from c.args.file (byte_request c.args.ticket c.args.owner c.args.span c.args.mode c.args.detect))
-    c.server.ensures.server refl c.wait_status.ensures c.wait-answer.ensures.policy c.wait-answer.ensures.ok c.wait-answer.ensures.err
+    (λ rules from. WaitComesTo rules.policy from c.args.file (byte_request c.args.ticket c.args.owner c.args.span c.args.mode c.args.detect))
+    c.server.ensures.server refl c.wait_status.ensures c.wait-answer.ensures.rules c.wait-answer.ensures.ok c.wait-answer.ensures.err
 
 pub returns-clause-taken : goal.returns-clause-taken
 returns-clause-taken c =

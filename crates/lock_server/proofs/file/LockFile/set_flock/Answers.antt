@@ -1,11 +1,18 @@
 use Rattle.std.proofs.Common.{arith}
 use Rattle.std.proofs.lemmas.Grind.{common_steps}
 use Rattle.lock_server.specs.FileView.{keeps_place}
+use Rattle.lock_server.proofs.FlockOwnerLemmas.{AreKnown-sets}
 use Rattle.lock_server.proofs.RoomLemmas.{HasRoom-kept, KeepsRoom-sets}
 use Rattle.lock_server.proofs.file.LockFile.set_flock.Goals as goal
 
 pub invariant_of-self : goal.invariant_of-self
-invariant_of-self c = grind (arith, common_steps, HasRoom-kept, KeepsRoom-sets)
+unfolding keeps_place
+invariant_of-self c = record {
+  ranges = c.args.self.now.ranges;
+  room = grind (arith, common_steps, HasRoom-kept, KeepsRoom-sets);
+  numbers = grind (arith, common_steps);
+  known = grind (arith, common_steps, AreKnown-sets);
+}
 
 pub returns-clause-room : goal.returns-clause-room
 unfolding keeps_place

@@ -1,5 +1,5 @@
 use Rattle.std.proofs.Common.{◌∙◌, inl, refl, []}
-use Rattle.lock_server.specs.ServerView.{policy_of, state_of}
+use Rattle.lock_server.specs.ServerView.{rules_of, state_of}
 use Rattle.lock_server.specs.TableView.{table_policy, table_state}
 use Rattle.lock_server.proofs.SafeLemmas.{moves_left}
 use Rattle.lock_server.proofs.ServerLemmas.{rests, safe_rested, swept}
@@ -25,7 +25,7 @@ invariant_of-self c =
     }
 
 pub returns-in-Some-clause-comes_to : goal.returns-in-Some-clause-comes_to
-unfolding policy_of state_of
+unfolding rules_of state_of
 returns-in-Some-clause-comes_to c =
     let table = c.args.self.now.table in
     let file = c.in-Some.file in

@@ -1,32 +1,27 @@
 use Rattle.std.proofs.Common.{◌∙◌, sym, subst, Option}
 use Rattle.range_core.specs.declared.Mode.{Mode}
 use Rattle.wait_core.specs.declared.Policy.{Policy}
-use Rattle.lock_server.specs.Calls.{ConvertsFrom, FlockOpComesTo, TestComesTo, flock_request, no_ticket}
-use Rattle.lock_server.specs.ServerView.{policy_of, state_of}
+use Rattle.lock_server.specs.Calls.{FlockFrom, FlockOpComesTo, flock_request, no_ticket}
+use Rattle.lock_server.specs.ServerView.{rules_of, state_of}
 use Rattle.lock_server.specs.TableView.{table_state}
-use Rattle.lock_server.proofs.FlockLemmas.{apart_by_test, flocks_by_halves}
+use Rattle.lock_server.proofs.FlockLemmas.{apart_by_test, flock_from}
 use Rattle.lock_server.proofs.ServerLemmas.{safe_same}
 use Rattle.lock_server.proofs.SweptLemmas.{all_swept_but}
 use Rattle.lock_server.proofs.server.LockServer.flock.Goals as goal
 
-pub flock_or_refuse-requires : goal.flock_or_refuse-requires
-flock_or_refuse-requires c = c.convert.ensures.room.places c.args.owner c.in_ok-place_flock.ensures.ok
-
 pub returns-clause-ok : goal.returns-clause-ok
-unfolding policy_of state_of
+unfolding rules_of state_of
 returns-clause-ok c =
-    let policy = policy_of c.args.self.now in
+    let rules = rules_of c.args.self.now in
     let S = state_of c.args.self.now in
     let P = table_state c.place_flock.new.self in
-    let M = table_state c.convert.new.table in
-    let T = table_state c.flock_or_refuse.new.table in
+    let T = table_state c.flock.new.table in
     let wanted = flock_request no_ticket c.args.owner c.in-Some.mode in
     let held = c.flock_mode-held.result in
     let differs = apart_by_test held c.in-Some.mode c.eq.result c.eq.ensures c.if-eq.false in
-    let converts = subst (λ (p : Policy). ConvertsFrom p P c.args.file c.args.owner held M) c.place_flock.ensures.policy c.convert.ensures.converts in
-    let comes = subst (λ (p : Policy). TestComesTo p M c.args.file wanted c.flock_or_refuse.result T) (c.convert.ensures.policy ∙ c.place_flock.ensures.policy) c.flock_or_refuse.ensures.comes_to in
-    subst (λ (mode : Option Mode). FlockOpComesTo policy S c.args.file c.args.owner mode c.flock_or_refuse.result T) (sym c.in-Some.is)
-    (flocks_by_halves policy S P M T c.args.file wanted held c.flock_or_refuse.result c.flock_mode-held.ensures differs c.in_ok-place_flock.ensures.same converts comes)
+    let from = subst (λ (p : Policy). FlockFrom (record { policy = p; conversion = c.args.self.now.conversion }) P c.args.file wanted held c.flock.result T) c.place_flock.ensures.policy c.flock.ensures.comes_to in
+    subst (λ (mode : Option Mode). FlockOpComesTo rules S c.args.file c.args.owner mode c.flock.result T) (sym c.in-Some.is)
+    (flock_from rules S P c.args.file wanted held c.flock.result T c.flock_mode-held.ensures differs c.in_ok-place_flock.ensures.same from)
 
 pub invariant_of-self : goal.invariant_of-self
 invariant_of-self c =
@@ -42,8 +37,7 @@ invariant_of-self-2 c =
     let table = c.args.self.now.table in
     let placed = safe_same table c.place_flock.new.self c.place_flock.ensures.same c.place_flock.ensures.policy in
     record {
-      safe = c.flock_or_refuse.ensures.safe (c.convert.ensures.safe (placed c.args.self.now.safe));
-      swept = all_swept_but table c.flock_or_refuse.new.table c.args.file
-          (λ other differs. c.flock_or_refuse.ensures.others other differs ∙ c.convert.ensures.others other differs ∙ c.place_flock.ensures.others other differs)
-          c.flock_or_refuse.ensures.swept c.args.self.now.swept;
+      safe = c.flock.ensures.safe (placed c.args.self.now.safe);
+      swept = all_swept_but table c.flock.new.table c.args.file (λ other differs. c.flock.ensures.others other differs ∙ c.place_flock.ensures.others other differs)
+          c.flock.ensures.swept c.args.self.now.swept;
     }

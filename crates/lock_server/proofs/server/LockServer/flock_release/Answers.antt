@@ -1,7 +1,7 @@
 use Rattle.std.proofs.Common.{arith, ◌∙◌}
 use Rattle.std.proofs.lemmas.Grind.{common_steps}
 use Rattle.wait_core.specs.declared.Family.TheVariants.{Whole}
-use Rattle.lock_server.specs.ServerView.{policy_of, state_of}
+use Rattle.lock_server.specs.ServerView.{rules_of, state_of}
 use Rattle.lock_server.specs.TableView.{table_policy, table_state}
 use Rattle.lock_server.proofs.SafeLemmas.{moves_released}
 use Rattle.lock_server.proofs.ServerLemmas.{releases_at_rest, rests, safe_rested, swept}
@@ -24,5 +24,5 @@ invariant_of-self c =
     }
 
 pub returns-clause-releases : goal.returns-clause-releases
-unfolding policy_of state_of
+unfolding rules_of state_of
 returns-clause-releases c = grind (arith, common_steps, swept, rests, releases_at_rest)

@@ -1,7 +1,7 @@
 use Rattle.std.proofs.Common.{◌∙◌, false}
 use Rattle.lock_server.specs.Closing.{is_through}
 use Rattle.lock_server.specs.OpeningsView.{through_at}
-use Rattle.lock_server.specs.ServerView.{policy_of, state_of, through_of}
+use Rattle.lock_server.specs.ServerView.{rules_of, state_of, through_of}
 use Rattle.lock_server.specs.TableView.{table_policy, table_state}
 use Rattle.lock_server.proofs.ClosingLemmas.{closes_then, moves_closed}
 use Rattle.lock_server.proofs.ServerLemmas.{rests, safe_rested, swept}
@@ -28,7 +28,7 @@ invariant_of-self c =
     }
 
 pub returns-clause-closes : goal.returns-clause-closes
-unfolding policy_of state_of through_of
+unfolding rules_of state_of through_of
 returns-clause-closes c =
     let table = c.args.self.now.table in
     let came = is_through (through_at c.args.self.now.openings c.args.file) c.args.open_file in

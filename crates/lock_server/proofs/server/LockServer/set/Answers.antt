@@ -1,7 +1,7 @@
 use Rattle.std.proofs.Common.{◌∙◌}
 use Rattle.wait_core.specs.declared.Family.TheVariants.{Bytes}
 use Rattle.lock_server.specs.Calls.{given_by}
-use Rattle.lock_server.specs.ServerView.{policy_of, state_of}
+use Rattle.lock_server.specs.ServerView.{rules_of, state_of}
 use Rattle.lock_server.specs.TableView.{table_policy, table_state}
 use Rattle.lock_server.proofs.ServerLemmas.{changes_at_rest, moves_set, rests, safe_rested, safe_same, set_done, swept}
 use Rattle.lock_server.proofs.SweptLemmas.{all_swept_but}
@@ -33,7 +33,7 @@ invariant_of-self-2 c =
     }
 
 pub returns-clause-ok : goal.returns-clause-ok
-unfolding policy_of state_of
+unfolding rules_of state_of
 returns-clause-ok c =
     let table = c.args.self.now.table in
     let rest = swept (table_policy table) (table_state c.set.new.self) c.args.file (table_state c.settle.new.self) (table_state c.sweep.new.self)

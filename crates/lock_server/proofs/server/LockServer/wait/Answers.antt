@@ -3,14 +3,14 @@ use Rattle.wait_core.specs.declared.Family.TheVariants.{Bytes}
 use Rattle.lock_server.specs.declared.Pending.{Pending}
 use Rattle.lock_server.specs.declared.WaitAnswer.TheVariants as told
 use Rattle.lock_server.specs.Calls.{IsRefused, Suspends, WaitComesTo, byte_request}
-use Rattle.lock_server.specs.ServerView.{policy_of, state_of}
+use Rattle.lock_server.specs.ServerView.{rules_of, state_of}
 use Rattle.lock_server.specs.Settling.{IsWaitBlocked}
 use Rattle.lock_server.specs.States.{State}
 use Rattle.lock_server.specs.TableView.{table_policy, table_state}
 use Rattle.lock_server.proofs.CompatibleLemmas.{free_from_open}
 use Rattle.lock_server.proofs.SafeLemmas.{moves_given}
 use Rattle.lock_server.proofs.ServerLemmas.{ComesToRest, changes_at_rest, rests, safe_after_join, safe_rested, safe_same}
-use Rattle.lock_server.proofs.StateLemmas.{state_from_same}
+use Rattle.lock_server.proofs.StateLemmas.{SameState-itself, state_from_same}
 use Rattle.lock_server.proofs.SweptLemmas.{all_swept_but, bytes_set, swept_with_lock, swept_with_wait}
 use Rattle.lock_server.proofs.server.LockServer.wait.Goals.{After-join, After-set, After-settle}
 use Rattle.lock_server.proofs.server.LockServer.wait.Goals as goal
@@ -54,7 +54,7 @@ invariant_of-self-then-not-blocks c =
     }
 
 pub returns-then-not-blocks-clause-ok : goal.returns-then-not-blocks-clause-ok
-unfolding policy_of state_of
+unfolding rules_of state_of
 returns-then-not-blocks-clause-ok c =
     let at = goal.at.returns-then-not-blocks-clause-ok c in
     inr (
@@ -76,7 +76,7 @@ waits : (c : After-join) → IsWaitBlocked (table_policy c.args.self.now.table) 
     ((table_state c.args.self.now.table).files c.args.file).waits c.byte_request-wanted.result
     × (¬ IsRefused (table_policy c.args.self.now.table) (table_state c.args.self.now.table) c.args.file c.byte_request-wanted.result)
     × Suspends (table_state c.args.self.now.table) c.args.file c.byte_request-wanted.result (table_state c.join.new.self)
-unfolding policy_of state_of
+unfolding rules_of state_of
 waits c = (
   c.blocks-2.ensures.0 c.if-not-blocks.false,
   λ refused. (let back = c.in_ok-closes_cycle.ensures.1 refused in let none = c.if-branch.false in cc),
@@ -94,8 +94,17 @@ invariant_of-self-2 c =
           (swept_with_wait c.join.new.self c.args.file _ _ c.join.ensures.suspends.joins.waits) c.args.self.now.swept;
     }
 
+-- the request is blocked and would close a cycle: nothing has changed
+pub returns-then-branch-clause-ok : goal.returns-then-branch-clause-ok
+unfolding rules_of state_of
+returns-then-branch-clause-ok c =
+    let table = c.args.self.now.table in
+    let refused = c.in_ok-closes_cycle.ensures.0 c.if-branch.true in
+    subst (λ (w : Pending). WaitComesTo (table_policy table) (table_state table) c.args.file w told.Deadlock (table_state table)) c.byte_request-wanted.ensures
+    (inl (c.blocks-2.ensures.0 c.if-not-blocks.false, inl (refused, (refl, SameState-itself (table_state table)))))
+
 pub returns-clause-ok : goal.returns-clause-ok
-unfolding policy_of state_of
+unfolding rules_of state_of
 returns-clause-ok c =
     let (blocked, passed, suspends) = waits (goal.at.returns-clause-ok c).After-join in
     subst (λ (w : Pending). WaitComesTo (table_policy c.args.self.now.table) (table_state c.args.self.now.table) c.args.file w told.Waits (table_state c.join.new.self)) c.byte_request-wanted.ensures

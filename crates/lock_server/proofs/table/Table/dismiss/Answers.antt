@@ -1,5 +1,6 @@
 use Rattle.std.proofs.Common.{arith, ◌∙◌}
 use Rattle.std.proofs.lemmas.Grind.{common_steps}
+use Rattle.lock_server.specs.Pendings.{is_byte_wait}
 use Rattle.lock_server.specs.TableView.{table_state}
 use Rattle.lock_server.proofs.ForgetLemmas.{all_dismissed, dismissing_more, dismissing_none, fewer_after}
 use Rattle.lock_server.proofs.GrantedMoves.{crosses_itself}
@@ -10,14 +11,14 @@ loop-init c = grind (arith, common_steps, dismissing_none, crosses_itself)
 
 pub loop-preserved : goal.loop-preserved
 loop-preserved c = record {
-  dismissing = dismissing_more (table_state c.args.self.now) c.args.file c.args.owner (table_state c.loop.self) (table_state c.dismiss_one.new.self) c.loop.invariant.dismissing
+  dismissing = dismissing_more (table_state c.args.self.now) c.args.file (is_byte_wait c.args.owner) (table_state c.loop.self) (table_state c.dismiss_one.new.self) c.loop.invariant.dismissing
       (c.dismiss_one.ensures.one c.loop-test.true);
   policy = c.dismiss_one.ensures.policy ∙ c.loop.invariant.policy;
   others = λ other differs. c.dismiss_one.ensures.others other differs ∙ c.loop.invariant.others other differs;
 }
 
 pub loop-smaller : goal.loop-smaller
-loop-smaller c = fewer_after (table_state c.loop.self) c.args.file c.args.owner (table_state c.dismiss_one.new.self) (c.dismiss_one.ensures.one c.loop-test.true)
+loop-smaller c = fewer_after (table_state c.loop.self) c.args.file (is_byte_wait c.args.owner) (table_state c.dismiss_one.new.self) (c.dismiss_one.ensures.one c.loop-test.true)
 
 pub returns-clause-forgets : goal.returns-clause-forgets
 returns-clause-forgets c =

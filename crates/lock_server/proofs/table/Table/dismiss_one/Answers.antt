@@ -31,7 +31,7 @@ returns-clause-one c = λ done.
       before = left.1;
       wait = c.in-Some-dismiss.wait;
       after = left.2;
-      of_owner = left.0;
+      of_them = left.0;
       leaves = leaves_by table.files (c.get_mut.follows.lender after) table.tickets table.waiters c.args.file c.in-Some.locks.now after written.0 written.1 table.indexed
           c.forget.new.self c.end_for.new.self c.in-Some-dismiss.wait c.forget.ensures.grants left.1 left.2 left.3 c.forget.ensures.place c.end_for.ensures;
       changes = left_changes table.files (c.get_mut.follows.lender after) table.tickets table.waiters c.args.file c.in-Some.locks.now after written.0 written.1 table.indexed

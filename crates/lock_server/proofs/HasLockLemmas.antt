@@ -1,0 +1,103 @@
+-- Whether owners from a first number to a last one have a lock: for the calls named `has_locks` of `LockFile` and `Table`.
+use Rattle.std.proofs.Common.{ℕ, ◌≡◌, ◌+◌, ◌<◌, ◌≤◌, ◌∙◌, inl, inr, sym, ap, subst, refl, arith, true, false, not, Bool, Option, Some, None, List, [], ◌∷◌, length}
+use Rattle.std.specs.Prelude.{◌↔◌, ◌==◌, ◌⊎◌, IsTrue, is_some}
+use Rattle.std.proofs.lemmas.Grind.{common_steps}
+use Rattle.std.proofs.lemmas.Bool.{cases_eq, cases_lt}
+use Rattle.std.proofs.lemmas.Bool.Decides.{nat_tests}
+use Rattle.range_core.specs.declared.Mode.{Mode}
+use Rattle.range_core.specs.declared.Span.{Span}
+use Rattle.range_core.specs.Ranges.{AreRuns, Modes}
+use Rattle.lock_server.specs.Clients.{HasByteLock, HasFlockLock, HaveLocksOn, is_within}
+use Rattle.lock_server.specs.Files.{FileState, SameFile, untouched}
+use Rattle.lock_server.proofs.ClearedLemmas.{within_ends}
+
+-- an owner among these of whom this holds
+abbrev pub OneWithin : ℕ → ℕ → (ℕ → Type 0) → Type 0
+OneWithin first last P = (owner : ℕ) × IsTrue (is_within first last owner) × P owner
+
+pub is_one : (first last owner : ℕ) → first ≤ owner → owner ≤ last → IsTrue (is_within first last owner)
+is_one first last owner from within = grind (arith, common_steps, nat_tests)
+
+-- of none of them, as far as this number
+pub record NoneBelow (P : ℕ → Type 0) (first next : ℕ) : Type 0 where
+  pub behind : first ≤ next
+  pub none : (owner : ℕ) → first ≤ owner → owner < next → ¬ P owner
+
+pub none_first : (P : ℕ → Type 0) (first next : ℕ) → next ≡ first → NoneBelow P first next
+none_first P first next is = record { behind = omega (arith, is); none = λ owner from before. absurd (omega (arith, is, from, before)) }
+
+pub none_more : (P : ℕ → Type 0) (first next owner : ℕ) → NoneBelow P first next → next ≤ owner
+    → ((other : ℕ) → next ≤ other → other < owner → ¬ P other) → ¬ P owner → NoneBelow P first (owner + 1)
+none_more P first next owner so_far from between isnt =
+    let behind = so_far.behind in record {
+      behind = omega arith;
+      none = λ other first_from before. elim (cases_lt other next) [
+        | inl earlier ↦ so_far.none other first_from earlier
+        | inr later ↦ elim (cases_eq other owner) [
+          | inl is ↦ (λ holds. isnt (subst P is holds))
+          | inr differs ↦ between other later (omega (arith, before, differs))
+        ]
+      ];
+    }
+
+-- and of none at all
+pub none_within : (P : ℕ → Type 0) (first last next : ℕ) → NoneBelow P first next → ((other : ℕ) → next ≤ other → other ≤ last → ¬ P other)
+    → ¬ OneWithin first last P
+none_within P first last next so_far none one =
+    let ends = within_ends first last one.0 one.1 in
+    elim (cases_lt one.0 next) [
+      | inl earlier ↦ so_far.none one.0 ends.0 earlier one.2
+      | inr later ↦ none one.0 later ends.1 one.2
+    ]
+
+-- who has no mode on any byte has no byte lock
+pub no_byte_lock : (F : FileState) (owner : ℕ) → ((byte : ℕ) → F.bytes owner byte ≡ None) → ¬ HasByteLock F owner
+no_byte_lock F owner none has = let h : None ≡ Some has.mode = sym (none has.byte) ∙ has.is in cc
+
+pub no_flock_lock : (F : FileState) (owner : ℕ) → F.flocks owner ≡ None → ¬ HasFlockLock F owner
+no_flock_lock F owner none has = let h : None ≡ Some has.mode = sym none ∙ has.is in cc
+
+-- by a flock mode
+pub flock_told : (F : FileState) (owner : ℕ) (mode : Option Mode) → mode ≡ F.flocks owner → IsTrue (is_some mode) ↔ HasFlockLock F owner
+flock_told F owner None is = (λ some. absurd (let h : false ≡ true = some in cc), λ has. absurd (no_flock_lock F owner (sym is) has))
+flock_told F owner (Some mode) is = (λ some. record { mode = mode; is = sym is }, λ has. refl)
+
+-- by the runs of a list
+pub runs_told : (F : FileState) (owner : ℕ) (modes : Modes) (runs : List (Mode × Span)) → AreRuns modes runs
+    → ((byte : ℕ) → modes byte ≡ F.bytes owner byte) → (empty : Bool) → empty ≡ (length runs == 0) → IsTrue (not empty) ↔ HasByteLock F owner
+runs_told F owner modes [] are same empty test = (
+  λ some. absurd (let e : empty ≡ true = test in let h : false ≡ true = sym (ap not e) ∙ some in cc),
+  λ has. absurd (let any = are.every has.byte has.mode (same has.byte ∙ has.is) in let inside : any.0 < 0 = any.2 in omega arith),
+)
+runs_told F owner modes (run ∷ runs) are same empty test = (
+  λ some. record {
+    byte = run.1.first;
+    mode = run.0;
+    is = sym (same run.1.first) ∙ (let first = are.each 0 run (let n = length runs in omega arith) in first.constant run.1.first first.covered);
+  },
+  λ has. (let e : empty ≡ false = test ∙ not_empty runs in ap not e),
+)
+  where
+    not_empty : (more : List (Mode × Span)) → (length (run ∷ more) == 0) ≡ false
+    not_empty more = grind (arith, nat_tests)
+
+-- on one file and on all
+pub on_file : (F : FileState) (first last : ℕ) (bytes flocks result : Bool) → IsTrue bytes ↔ OneWithin first last (HasByteLock F)
+    → IsTrue flocks ↔ OneWithin first last (HasFlockLock F) → (IsTrue result ↔ (IsTrue bytes ⊎ IsTrue flocks))
+    → IsTrue result ↔ HaveLocksOn F first last
+on_file F first last bytes flocks result by_bytes by_flocks either = (
+  λ yes_it. elim (either.0 yes_it) [
+    | inl h ↦ (let one = by_bytes.0 h in record { owner = one.0; within = one.1; has = inl one.2 })
+    | inr h ↦ (let one = by_flocks.0 h in record { owner = one.0; within = one.1; has = inr one.2 })
+  ],
+  λ have. either.1 (elim have.has [
+    | inl has ↦ inl (by_bytes.1 (have.owner, have.within, has))
+    | inr has ↦ inr (by_flocks.1 (have.owner, have.within, has))
+  ]),
+)
+
+pub none_untouched : (F : FileState) (first last : ℕ) → SameFile untouched F → ¬ HaveLocksOn F first last
+none_untouched F first last same have = elim have.has [
+  | inl has ↦ no_byte_lock F have.owner (λ byte. same.locks.bytes have.owner byte) has
+  | inr has ↦ no_flock_lock F have.owner (same.locks.flocks have.owner) has
+]

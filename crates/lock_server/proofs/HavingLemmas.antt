@@ -1,0 +1,44 @@
+-- What an owner has on each byte of a range, run by run: for `has_throughout`.
+use Rattle.std.proofs.Common.{arith, ℕ, ◌≡◌, ◌+◌, ◌<◌, ◌≤◌, inl, inr, sym, subst, Option, Some, None}
+use Rattle.std.proofs.lemmas.Bool.{cases_lt}
+use Rattle.range_core.specs.declared.Mode.{Mode}
+use Rattle.range_core.specs.declared.Span.{Span}
+use Rattle.range_core.specs.Ranges.{Covers, IsRun, Modes}
+use Rattle.lock_server.specs.Settling.{IsAtLeast}
+
+-- on each byte of the range before this one there is at least the wanted mode
+pub record HasBelow (modes : Modes) (span : Span) (wanted : Mode) (first : ℕ) : Type 0 where
+  pub from : span.first ≤ first
+  pub to : first ≤ span.last
+  pub before : (byte : ℕ) → span.first ≤ byte → byte < first → IsAtLeast (modes byte) wanted
+
+module _ (modes : Modes) (span : Span) (wanted : Mode) (first : ℕ) (held : Mode) (run : Span) (so_far : HasBelow modes span wanted first)
+    (is_run : IsRun modes first held run) where
+  -- as far as the run goes
+  in_run : IsAtLeast (Some held) wanted → (byte : ℕ) → span.first ≤ byte → byte ≤ run.last → IsAtLeast (modes byte) wanted
+  in_run enough byte from to = elim (cases_lt byte first) [
+    | inl less ↦ so_far.before byte from less
+    | inr past ↦ subst (λ (mode : Option Mode). IsAtLeast mode wanted) (sym (is_run.constant byte (let h = is_run.covered in omega arith, to))) enough
+  ]
+
+  -- to its end, where the range goes no further
+  pub has_all : IsAtLeast (Some held) wanted → span.last ≤ run.last → (byte : ℕ) → Covers span byte → IsAtLeast (modes byte) wanted
+  has_all enough ends byte covered = in_run enough byte covered.0 (let h = covered.1 in omega arith)
+
+  -- and else up to the byte behind it
+  pub has_below : IsAtLeast (Some held) wanted → run.last < span.last → HasBelow modes span wanted (run.last + 1)
+  has_below enough more = record {
+    from = let h = is_run.covered.1 in let k = so_far.from in omega arith;
+    to = omega arith;
+    before = λ byte from less. in_run enough byte from (omega arith);
+  }
+
+  -- a run of too little is of too little at its first byte
+  pub lacks_run : ¬ IsAtLeast (Some held) wanted → ¬ ((byte : ℕ) → Covers span byte → IsAtLeast (modes byte) wanted)
+  lacks_run little all =
+      little (subst (λ (mode : Option Mode). IsAtLeast mode wanted) (is_run.constant first is_run.covered) (all first (so_far.from, so_far.to)))
+
+-- and so is a byte without any
+pub lacks_byte : (modes : Modes) (span : Span) (wanted : Mode) (first : ℕ) → HasBelow modes span wanted first → modes first ≡ None
+    → ¬ ((byte : ℕ) → Covers span byte → IsAtLeast (modes byte) wanted)
+lacks_byte modes span wanted first so_far none all = subst (λ (mode : Option Mode). IsAtLeast mode wanted) none (all first (so_far.from, so_far.to))

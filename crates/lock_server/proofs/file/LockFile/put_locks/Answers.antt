@@ -1,0 +1,12 @@
+use Rattle.std.proofs.Common.{arith, refl}
+use Rattle.lock_server.specs.Bytes.{lock_words}
+use Rattle.lock_server.specs.FileView.{file_state}
+use Rattle.lock_server.specs.Inventory.{AreByteLocks}
+use Rattle.lock_server.proofs.ExportLaws.{byte_locks_one}
+use Rattle.lock_server.proofs.WordLemmas.{counted}
+use Rattle.lock_server.proofs.file.LockFile.put_locks.Goals as goal
+
+pub returns : goal.returns
+returns c =
+    counted (AreByteLocks (file_state c.args.self.now)) (byte_locks_one (file_state c.args.self.now)) lock_words 4 (λ lock. refl) _ _ _ _ _ _ _ _ _ _
+    c.put_each_lock-size.ensures (λ n is. omega (arith, is)) c.put-at.ensures c.put_each_lock.ensures

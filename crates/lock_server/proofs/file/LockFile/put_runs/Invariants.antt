@@ -1,0 +1,9 @@
+use Rattle.std.proofs.Common.{take}
+use Rattle.std.specs.List.{flat_map}
+use Rattle.lock_server.specs.Bytes.{lock_words}
+use Rattle.lock_server.specs.Words.{Puts}
+use Rattle.lock_server.proofs.ExportLemmas.{lock_of}
+use Rattle.lock_server.proofs.file.LockFile.put_runs.Given as goal
+
+abbrev pub invariant-loop-mode : goal.invariant-loop-mode
+invariant-loop-mode l = Puts (flat_map (λ run. lock_words (lock_of l.owner run)) (take l.mode-index l.mode-items)) l.fn.out l.fn.at l.out l.behind

@@ -1,0 +1,8 @@
+use Rattle.std.proofs.Common.{◌∷◌, length, take}
+use Rattle.std.specs.List.{flat_map}
+use Rattle.lock_server.specs.Bytes.{wait_words}
+use Rattle.lock_server.specs.Words.{Puts}
+use Rattle.lock_server.proofs.file.LockFile.put_waits.Given as goal
+
+abbrev pub invariant-loop-wait : goal.invariant-loop-wait
+invariant-loop-wait l = Puts (length l.wait-items ∷ flat_map wait_words (take l.wait-index l.wait-items)) l.fn.out l.fn.at l.out l.behind

@@ -1,0 +1,15 @@
+use Rattle.std.proofs.Common.{◌∙◌, sym}
+use Rattle.range_core.specs.Changes.{modes_of}
+use Rattle.lock_server.specs.FileView.{file_state}
+use Rattle.lock_server.proofs.CountLemmas.{count_runs, no_runs, runs_of_same}
+use Rattle.lock_server.proofs.file.LockFile.runs_of.Goals as goal
+
+pub returns-in-Some : goal.returns-in-Some
+unfolding file_state
+returns-in-Some c =
+    count_runs (modes_of c.in-Some.list.now) c.runs.result.now c.runs.ensures.runs c.runs.ensures.ranges
+    ∙ runs_of_same (modes_of c.in-Some.list.now) ((file_state c.args.self.now).bytes c.args.owner) c.in-Some.ensures
+
+pub returns-in-None : goal.returns-in-None
+unfolding file_state
+returns-in-None c = sym (no_runs ((file_state c.args.self.now).bytes c.args.owner) (λ byte. sym (c.in-None.ensures byte)))

@@ -1,0 +1,17 @@
+use Rattle.std.proofs.Math.Logic.{∥∥₁_map}
+use Rattle.lock_server.specs.TableView.{table_policy, table_state}
+use Rattle.lock_server.proofs.SafeClientLemmas.{safe_owners_forgotten}
+use Rattle.lock_server.proofs.ServerLemmas.{safe_at}
+use Rattle.lock_server.proofs.TakenLemmas.{tickets_once}
+use Rattle.lock_server.proofs.server.LockServer.forget_owners.Goals as goal
+
+pub invariant_of-self : goal.invariant_of-self
+invariant_of-self c =
+    let old = c.args.self.now.table in
+    let new = c.forget_owners.new.self in
+    record {
+      safe = ∥∥₁_map c.args.self.now.safe (λ safe.
+          safe_at (table_policy old) new c.forget_owners.ensures.policy
+          (safe_owners_forgotten (table_policy old) (table_state old) c.args.first c.args.last (table_state new) safe c.forget_owners.ensures.forgets (tickets_once new)));
+      swept = c.forget_owners.ensures.swept c.args.self.now.swept;
+    }

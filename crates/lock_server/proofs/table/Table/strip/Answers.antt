@@ -1,0 +1,30 @@
+use Rattle.std.proofs.Common.{arith, ◌∙◌}
+use Rattle.std.proofs.lemmas.Grind.{common_steps}
+use Rattle.lock_server.specs.declared.leaving.Leaving.TheVariants.{Of}
+use Rattle.lock_server.specs.Clients.{is_within}
+use Rattle.lock_server.specs.Leaving.{is_leaving}
+use Rattle.lock_server.specs.TableView.{table_state}
+use Rattle.lock_server.proofs.ClientLemmas.{all_stripped}
+use Rattle.lock_server.proofs.ForgetLemmas.{dismissing_more, dismissing_none, fewer_after}
+use Rattle.lock_server.proofs.GrantedMoves.{crosses_itself}
+use Rattle.lock_server.proofs.table.Table.strip.Goals as goal
+
+pub loop-init : goal.loop-init
+loop-init c = grind (arith, common_steps, dismissing_none, crosses_itself)
+
+pub loop-preserved : goal.loop-preserved
+loop-preserved c = record {
+  dismissing = dismissing_more (table_state c.args.self.now) c.args.file (is_leaving (Of c.args.owners)) (table_state c.loop.self) (table_state c.dismiss_one.new.self) c.loop.invariant.dismissing
+      (c.dismiss_one.ensures.one c.loop-test.true);
+  policy = c.dismiss_one.ensures.policy ∙ c.loop.invariant.policy;
+  others = λ other differs. c.dismiss_one.ensures.others other differs ∙ c.loop.invariant.others other differs;
+}
+
+pub loop-smaller : goal.loop-smaller
+loop-smaller c = fewer_after (table_state c.loop.self) c.args.file (is_leaving (Of c.args.owners)) (table_state c.dismiss_one.new.self) (c.dismiss_one.ensures.one c.loop-test.true)
+
+pub returns-clause-strips : goal.returns-clause-strips
+returns-clause-strips c =
+    let none = c.dismiss_one.ensures.none c.loop-test.false in
+    all_stripped (table_state c.args.self.now) c.args.file (is_within c.args.owners.first c.args.owners.last) (table_state c.loop.self) (table_state c.dismiss_one.new.self)
+    (table_state c.strip_locks.new.self) c.loop.invariant.dismissing none.0 none.1 c.strip_locks.ensures.strips

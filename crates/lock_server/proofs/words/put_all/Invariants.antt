@@ -1,0 +1,6 @@
+use Rattle.std.proofs.Common.{take}
+use Rattle.lock_server.specs.Words.{Puts}
+use Rattle.lock_server.proofs.words.put_all.Given as goal
+
+abbrev pub invariant-loop-word : goal.invariant-loop-word
+invariant-loop-word l = Puts (take l.word-index l.words) l.fn.out l.fn.at l.out l.behind

@@ -1,0 +1,211 @@
+//! What is listed of one file.
+ghost use Rattle.std.specs.Prelude.{◌≡◌, ℕ, ◌<◌, ◌≤◌, [], ◌∷◌, Any, List, IfSome, IfNone, None, Some, length, slice_get, take};
+ghost use Rattle.std.specs.List.Sorted.{IsNonDecreasingBy, IsPartitionPoint};
+ghost use Rattle.range_core.specs.Changes.{modes_of};
+ghost use Rattle.range_core.specs.Ranges.{IsByteRange};
+ghost use Rattle.lock_server.specs.FileView.{file_state};
+ghost use Rattle.lock_server.specs.Listing.{BeginBefore, flock_place, IsByteLock, IsFirstConflict, IsFirstRunFrom, IsFlockInTheWay, IsFlockLock, IsNextFrom, IsObstacle, IsWaitAmong, IsWaitAt, lock_place, number_behind, wait_place};
+ghost use Rattle.lock_server.specs.Settling.{IsHeldBack, IsSettled, IsWaitBlocked, PendingsConflict};
+
+use super::LockFile;
+use crate::owner_waits::earlier_of;
+use crate::{Family, FlockLock, Lock, Mode, Obstacle, OwnerWait, Pending, Policy, Span, Waiting};
+use lock_book::Owner;
+use range_core::RangeList;
+use std::ops::Bound;
+
+#[tactic(auto, unfolding(crate::specs::FileView::file_state))]
+impl LockFile {
+    /// The first byte lock, by owner and then by first byte, from this owner and byte on. It passes over the owners that have none and
+    /// wait for one.
+    pub fn next_lock(&self, owner: u64, byte: u64) -> Option<Lock>
+        ensures { IsNextFrom lock_place (IsByteLock (file_state self.now)) (owner ∷ byte ∷ []) result }
+    {
+        if let Some(lock) = self.lock_from(owner, byte) {
+            return Some(lock);
+        }
+        let mut above = owner;
+        while let Some(other) = self.next_listed(Some(above)) {
+            if let Some(lock) = self.lock_from(other, 0) {
+                return Some(lock);
+            }
+            above = other;
+        }
+        None
+    }
+
+    /// The owner's first byte lock that begins at this byte or behind it.
+    fn lock_from(&self, owner: u64, byte: u64) -> Option<Lock>
+        ensures owner { IfSome result (λ lock. lock.owner ≡ owner) }
+        ensures first { IfSome result (λ lock. IsFirstRunFrom ((file_state self.now).bytes owner) byte (lock.mode, lock.span)) }
+        ensures none { IfNone result (BeginBefore ((file_state self.now).bytes owner) byte) }
+    {
+        let list = self.book.list(Owner::Description(owner))?;
+        let (mode, span) = run_from(list, byte)?;
+        Some(Lock { owner, mode, span })
+    }
+
+    /// The least owner that has a byte lock or room for one, above this one where one is given.
+    pub(super) fn next_listed(&self, above: Option<u64>) -> Option<u64>
+        ensures above { IfSome result (λ owner. number_behind above ≤ owner) }
+        ensures least { IfSome result (λ owner. (other byte : ℕ) → number_behind above ≤ other → other < owner → (file_state self.now).bytes other byte ≡ None) }
+        ensures none { IfNone result ((owner byte : ℕ) → number_behind above ≤ owner → (file_state self.now).bytes owner byte ≡ None) }
+    {
+        let first = match above {
+            None => Bound::Included(Owner::Description(0)),
+            Some(owner) => Bound::Excluded(Owner::Description(owner)),
+        };
+        let (owner, _) = self.book.lists().range((first, Bound::Unbounded)).next()?;
+        match *owner {
+            Owner::Description(owner) => Some(owner),
+            // A process comes before each description.
+            Owner::Process(_) => None,
+        }
+    }
+
+    /// The flock lock of the least owner that has one, above this one where one is given. It passes over those that wait for theirs.
+    pub fn next_flock(&self, above: Option<u64>) -> Option<FlockLock>
+        ensures { IsNextFrom flock_place (IsFlockLock (file_state self.now)) (number_behind above ∷ []) result }
+    {
+        let mut above = above;
+        while let Some(owner) = self.next_flock_owner(above) {
+            if let Some(mode) = self.flock_mode(owner) {
+                return Some(FlockLock { owner, mode });
+            }
+            above = Some(owner);
+        }
+        None
+    }
+
+    /// The least owner for whose flock lock a place is kept, above this one where one is given.
+    pub(super) fn next_flock_owner(&self, above: Option<u64>) -> Option<u64>
+        ensures above { IfSome result (λ owner. number_behind above ≤ owner) }
+        ensures least { IfSome result (λ owner. (other : ℕ) → number_behind above ≤ other → other < owner → (file_state self.now).flocks other ≡ None) }
+        ensures none { IfNone result ((owner : ℕ) → number_behind above ≤ owner → (file_state self.now).flocks owner ≡ None) }
+    {
+        let first = match above {
+            None => Bound::Unbounded,
+            Some(owner) => Bound::Excluded(owner),
+        };
+        let owner = self.flock_owners.range((first, Bound::Unbounded)).next()?;
+        Some(*owner)
+    }
+
+    /// The first of the waits on the file, here of this number, of owners up to the last, by owner, file and ticket, from this one on.
+    pub fn next_wait(&self, file: u64, from: OwnerWait, last: u64) -> Option<OwnerWait>
+        ensures { IsNextFrom wait_place (λ wait. (wait.file ≡ file) × IsWaitAmong (file_state self.now).waits last wait) (wait_place from) result }
+    {
+        let mut found = None;
+        for pending in &self.waits {
+            let wait = OwnerWait {
+                owner: pending.owner,
+                file,
+                ticket: pending.ticket,
+            };
+            found = earlier_of(found, wait.asked_for(from, last));
+        }
+        found
+    }
+
+    /// Of the flock locks of other owners that are in the way of one of this mode that of the least (flock(2)).
+    fn flock_blocker(&self, owner: u64, mode: Mode) -> Option<FlockLock>
+        ensures { IsNextFrom flock_place (IsFlockInTheWay (file_state self.now) owner mode) (0 ∷ []) result }
+    {
+        let mut above = None;
+        while let Some(lock) = self.next_flock(above) {
+            if lock.owner != owner && lock.mode.conflicts_with(mode) {
+                return Some(lock);
+            }
+            above = Some(lock.owner);
+        }
+        None
+    }
+
+    /// The first lock that is in the way of the wait.
+    fn lock_in_the_way(&self, wait: &Pending) -> Option<Obstacle>
+        requires { IsByteRange wait.now.span }
+        ensures some { (policy : Policy) (earlier : List Pending) → IfSome result (IsObstacle policy (file_state self.now) earlier wait.now) }
+        ensures none { IfNone result (¬ IsHeldBack (file_state self.now) wait.now) }
+    {
+        match wait.family {
+            Family::Bytes => {
+                let lock = self.blocker(wait.owner, wait.span, wait.mode)?;
+                Some(Obstacle::Lock(lock))
+            }
+            Family::Whole => {
+                let lock = self.flock_blocker(wait.owner, wait.mode)?;
+                Some(Obstacle::Flock(lock))
+            }
+        }
+    }
+
+    /// The wait at this place in order of arrival, with what is in its way; `None` where there are no more waits than so many.
+    pub fn wait_at(&self, policy: Policy, place: usize) -> Option<Waiting>
+        requires { ∥ IsSettled policy (file_state self.now) ∥₁ }
+        ensures some { IfSome result (IsWaitAt policy (file_state self.now) place) }
+        ensures none { IfNone result (length (file_state self.now).waits ≤ place) }
+    {
+        if place >= self.waits.len() {
+            return None;
+        }
+        match self.obstacle(policy, place) {
+            Some(obstacle) => Some(Waiting {
+                pending: self.waits[place],
+                obstacle,
+            }),
+            None => unreachable!(),
+        }
+    }
+
+    /// What is in the way of the wait at this place in order of arrival.
+    fn obstacle(&self, policy: Policy, place: usize) -> Option<Obstacle>
+        requires { place < length (file_state self.now).waits }
+        ensures some { (wait : Pending) → slice_get (file_state self.now).waits place ≡ Some wait
+            → IfSome result (IsObstacle policy (file_state self.now) (take place (file_state self.now).waits) wait) }
+        ensures none { (wait : Pending) → slice_get (file_state self.now).waits place ≡ Some wait
+            → IfNone result (¬ IsWaitBlocked policy (file_state self.now) (take place (file_state self.now).waits) wait) }
+    {
+        let wait = &self.waits[place];
+        if let Some(obstacle) = self.lock_in_the_way(wait) {
+            return Some(obstacle);
+        }
+        match policy {
+            Policy::Held => None,
+            Policy::Queue => {
+                let ticket = first_conflict(&self.waits[..place], wait)?;
+                Some(Obstacle::Wait(ticket))
+            }
+        }
+    }
+}
+
+/// The first of the runs that begin at this byte or behind it.
+fn run_from(list: &RangeList, byte: u64) -> Option<(Mode, Span)>
+    ensures first { IfSome result (IsFirstRunFrom (modes_of list.now) byte) }
+    ensures none { IfNone result (BeginBefore (modes_of list.now) byte) }
+{
+    let runs = list.runs();
+    let place = beginning_before(runs, byte);
+    Some(*runs.get(place)?)
+}
+
+/// How many of the runs, which come in order, begin before the byte.
+fn beginning_before(runs: &[(Mode, Span)], byte: u64) -> usize
+    requires { IsNonDecreasingBy (λ run. run.1.first) runs.now }
+    ensures { IsPartitionPoint (λ run. run.1.first < byte) (λ run. byte ≤ run.1.first) runs.now result }
+{
+    runs.partition_point(|run| run.1.first < byte)
+}
+
+/// The ticket of the first of these waits that conflicts with the wait.
+fn first_conflict(earlier: &[Pending], wait: &Pending) -> Option<u64>
+    ensures some { IfSome result (IsFirstConflict earlier.now wait.now) }
+    ensures none { IfNone result (¬ Any (λ v. PendingsConflict v wait.now) earlier.now) }
+{
+    for other in earlier {
+        if other.conflicts_with(wait) {
+            return Some(other.ticket);
+        }
+    }
+    None
+}

@@ -1,0 +1,62 @@
+//! Clients and files that are gone, and what clients have.
+ghost use Rattle.std.specs.Prelude.{◌≡◌, ◌↔◌, ℕ, IsTrue};
+ghost use Rattle.lock_server.specs.Clients.{ForgetsFile, ForgetsOwners, ForgetsSeen, ForgetsSeenOn, HaveLocks, is_within};
+ghost use Rattle.lock_server.specs.Counting.{AreCounts};
+ghost use Rattle.lock_server.specs.Files.{SameFile, untouched};
+ghost use Rattle.lock_server.specs.ServerView.{KeepsFile, rules_of, state_of, through_of};
+
+use super::LockServer;
+use crate::Counts;
+use crate::owners::Owners;
+
+#[tactic(auto, unfolding(crate::specs::ServerView::state_of, crate::specs::ServerView::rules_of, crate::specs::ServerView::through_of, crate::specs::ServerView::KeepsFile))]
+impl LockServer {
+    /// A client is gone, whose owners are those from the first number to the last, both among them; nobody where the first is above
+    /// the last, and then nothing happens. Their byte locks, flock locks and waits of both kinds leave all files, with what was noted
+    /// of them ([`LockServer::note`]), and only then waits are granted, on each file that changed, the files rising (POSIX.1-2017
+    /// _Exit; flock(2); the order is this project's choice).
+    ///
+    /// Grants that weren't fetched stay, so a ticket may be told whose lock is gone. A wait that leaves is answered no more. It takes
+    /// no memory, and looks twice at each file that has a lock or a wait, and once at each file where an owner was noted.
+    pub fn forget_owners(&mut self, first: u64, last: u64)
+        ensures forgets { ForgetsOwners (rules_of self.old).policy (state_of self.old) first last (state_of self.new) }
+        ensures gone { (file : ℕ) → SameFile ((state_of self.new).files file) untouched → ¬ KeepsFile self.new file }
+        ensures rules { rules_of self.new ≡ rules_of self.old }
+        ensures openings { ForgetsSeen (through_of self.old) (through_of self.new) (is_within first last) }
+    {
+        let owners = Owners { first, last };
+        self.table.forget_owners(owners);
+        self.openings.forget_owners(owners);
+    }
+
+    /// A file is gone, and its number may be used again: its locks and waits go, and what was noted of its owners there
+    /// ([`LockServer::note`]). No wait is granted (this project's choice).
+    ///
+    /// Grants that weren't fetched stay, so a ticket may be told whose lock is gone. A wait that leaves is answered no more. It takes
+    /// no memory.
+    pub fn forget_file(&mut self, file: u64)
+        ensures forgets { ForgetsFile (state_of self.old) file (state_of self.new) }
+        ensures gone { ¬ KeepsFile self.new file }
+        ensures rules { rules_of self.new ≡ rules_of self.old }
+        ensures openings { ForgetsSeenOn (through_of self.old) (through_of self.new) file }
+    {
+        self.table.forget_file(file);
+        self.openings.forget_file(file);
+    }
+
+    /// Whether one of the owners from the first number to the last, both among them, has a byte lock or a flock lock on some file; a
+    /// wait is none (this project's choice). It takes no memory, and looks at each file that has a lock or a wait, until one is found.
+    pub fn has_locks(&self, first: u64, last: u64) -> bool
+        ensures { IsTrue result ↔ HaveLocks (state_of self.now) first last }
+    {
+        self.table.has_locks(Owners { first, last })
+    }
+
+    /// How many locks and waits the owners from the first number to the last have, both among them, on all files (this project's
+    /// choice). It takes no memory, and looks at each file that has a lock or a wait, and at each lock and wait of these owners.
+    pub fn counts(&self, first: u64, last: u64) -> Counts
+        ensures { AreCounts (state_of self.now) first last result }
+    {
+        self.table.counts(Owners { first, last })
+    }
+}

@@ -1,0 +1,168 @@
+//! The state of a server as bytes: what these are is derived by hand from the grammar in `lock_server/specs/Bytes.antt`.
+use super::calls::{Call, Row, Told, atomic, stepwise, tells};
+use lock_server::Mode::{Read, Write};
+use lock_server::{LockServer, Memory, Policy};
+use range_core::OFFMAX;
+use std::alloc::Global;
+use std::process::Abort;
+use std::test::Fail;
+
+/// On file 7 owner 2 waits for a byte of owner 1, and owner 4 for the flock lock of owner 3; on file 8 owner 2 was given a lock since, so
+/// it is crossed; on file 9 the wait of owner 6 was granted, and that wasn't fetched. Three owners are noted.
+const SITUATION: [Row; 13] = [
+    (7, Call::Note(2, 12), Told::Done),
+    (7, Call::Set(2, (20, 29), Some(Read)), Told::Done),
+    (7, Call::Note(1, 11), Told::Done),
+    (7, Call::Set(1, (0, 9), Some(Write)), Told::Done),
+    (7, Call::Flock(3, Some(Write)), Told::Done),
+    (7, Call::Wait(90, 2, (5, 5), Read, true), Told::Waits),
+    (7, Call::FlockWait(80, 4, Read), Told::Waits),
+    (8, Call::Set(2, (0, 0), Some(Read)), Told::Done),
+    (9, Call::Set(5, (0, 0), Some(Write)), Told::Done),
+    (9, Call::Wait(60, 6, (0, 0), Write, false), Told::Waits),
+    (9, Call::Flush(5), Told::Done),
+    (5, Call::Note(9, 13), Told::Done),
+    (
+        7,
+        Call::Get(1, (20, 20), Write),
+        Told::Lock(2, Read, (20, 29)),
+    ),
+];
+
+/// The same by another way: in another order, in pieces, and with locks, waits, grants and notes that come and go.
+const OTHER_WAY: [Row; 22] = [
+    (9, Call::Set(6, (0, 0), Some(Read)), Told::Done),
+    (9, Call::Set(5, (0, 0), Some(Read)), Told::Done),
+    (9, Call::Wait(60, 6, (0, 0), Write, false), Told::Waits),
+    (3, Call::Set(8, (1, 1), Some(Write)), Told::Done),
+    (3, Call::Wait(61, 2, (1, 1), Write, true), Told::Waits),
+    (7, Call::Set(1, (5, 40), Some(Write)), Told::Done),
+    (3, Call::Flush(8), Told::Done),
+    (3, Call::Grant, Told::Granted(61)),
+    (3, Call::Flush(2), Told::Done),
+    (7, Call::Set(1, (0, 4), Some(Write)), Told::Done),
+    (7, Call::Set(1, (10, 40), None), Told::Done),
+    (7, Call::Set(2, (25, 29), Some(Read)), Told::Done),
+    (7, Call::Set(2, (20, 24), Some(Read)), Told::Done),
+    (5, Call::Note(9, 13), Told::Done),
+    (7, Call::Note(1, 19), Told::Done),
+    (7, Call::Note(1, 11), Told::Done),
+    (7, Call::Note(2, 12), Told::Done),
+    (7, Call::Wait(90, 2, (5, 5), Read, true), Told::Waits),
+    (8, Call::Set(2, (0, 0), Some(Read)), Told::Done),
+    (7, Call::Flock(3, Some(Write)), Told::Done),
+    (7, Call::FlockWait(80, 4, Read), Told::Waits),
+    (9, Call::Flush(5), Told::Done),
+];
+
+/// What it is as words.
+const WORDS: [u64; 62] = [
+    1, 0, 0, // the version, the policy and the conversion
+    3, // files
+    7, 2, 1, 0, 9, 2, 2, 20, 29, 1, // file 7: two byte locks
+    1, 3, 2, // a flock lock
+    2, 90, 2, 0, 5, 5, 1, 1, 80, 4, 1, 0, OFFMAX, 1, 0, // and two waits, the first of which came first
+    8, 1, 2, 0, 0, 1, 0, 0, // file 8
+    9, 1, 6, 0, 0, 2, 0, 0, // file 9
+    1, 60, // a grant
+    1, 2, // a crossed owner
+    3, 5, 9, 13, 7, 1, 11, 7, 2, 12, // notes
+];
+
+/// The words as bytes, of each the lowest first.
+fn bytes_of(alloc: Global, words: &[u64]) -> Result<Vec<u8>, Memory> {
+    let mut bytes = Vec::new(alloc);
+    for word in words {
+        for byte in word.to_le_bytes() {
+            bytes.push(byte)?;
+        }
+    }
+    Ok(bytes)
+}
+
+/// The export of the server.
+fn exported(rt: &impl Abort, alloc: Global, server: &LockServer) -> Result<Vec<u8>, Memory> {
+    let size = server.export_size();
+    let mut out = Vec::from_elem(alloc, 0u8, size)?;
+    assert!(rt; server.export(&mut out) == size);
+    Ok(out)
+}
+
+#[test]
+fn exports_all_that_there_is(rt: HostRuntime) -> Result<(), Fail> {
+    let mut server = LockServer::new(rt.alloc(), stepwise(Policy::Held));
+    tells(&rt, &mut server, &SITUATION)?;
+    let wanted = bytes_of(rt.alloc(), &WORDS)?;
+    assert!(rt; exported(&rt, rt.alloc(), &server)?.as_slice() == wanted.as_slice());
+    Ok(())
+}
+
+#[test]
+fn exports_whatever_the_history_was(rt: HostRuntime) -> Result<(), Fail> {
+    let mut server = LockServer::new(rt.alloc(), stepwise(Policy::Held));
+    tells(&rt, &mut server, &OTHER_WAY)?;
+    let wanted = bytes_of(rt.alloc(), &WORDS)?;
+    assert!(rt; exported(&rt, rt.alloc(), &server)?.as_slice() == wanted.as_slice());
+    Ok(())
+}
+
+#[test]
+fn exports_an_empty_server(rt: HostRuntime) -> Result<(), Fail> {
+    let held = LockServer::new(rt.alloc(), stepwise(Policy::Held));
+    let wanted = bytes_of(rt.alloc(), &[1, 0, 0, 0, 0, 0, 0])?;
+    assert!(rt; exported(&rt, rt.alloc(), &held)?.as_slice() == wanted.as_slice());
+    let queue = LockServer::new(rt.alloc(), stepwise(Policy::Queue));
+    let wanted = bytes_of(rt.alloc(), &[1, 1, 0, 0, 0, 0, 0])?;
+    assert!(rt; exported(&rt, rt.alloc(), &queue)?.as_slice() == wanted.as_slice());
+    let atomic_queue = LockServer::new(rt.alloc(), atomic(Policy::Queue));
+    let wanted = bytes_of(rt.alloc(), &[1, 1, 1, 0, 0, 0, 0])?;
+    assert!(rt; exported(&rt, rt.alloc(), &atomic_queue)?.as_slice() == wanted.as_slice());
+    Ok(())
+}
+
+/// A buffer with one byte too few stays as it was, and one with more keeps what stands behind.
+#[test]
+fn exports_into_the_room_that_there_is(rt: HostRuntime) {
+    let server = LockServer::new(rt.alloc(), stepwise(Policy::Held));
+    let mut out = [7u8; 60];
+    assert!(rt; server.export(&mut out[..55]) == 56);
+    assert!(rt; out == [7u8; 60]);
+    assert!(rt; server.export(&mut out) == 56);
+    assert!(rt; out[0] == 1 && out[1] == 0 && out[55] == 0);
+    assert!(rt; out[56] == 7 && out[59] == 7);
+}
+
+/// Two thousand files of two locks each, with a wait behind each, and as many notes; `from` and `step` say in which order they come.
+fn fill(rt: &impl Abort, server: &mut LockServer, from: u64, step: u64) -> Result<(), Memory> {
+    for i in 0..2000u64 {
+        let number = from.wrapping_add(step.wrapping_mul(i)) % 2000;
+        let rows = [
+            (number, Call::Set(1, (0, 0), Some(Write)), Told::Done),
+            (number, Call::Set(number, (9, 9), Some(Read)), Told::Done),
+            (
+                number,
+                Call::Wait(number, 5000, (0, 0), Read, true),
+                Told::Waits,
+            ),
+            (number, Call::Note(number, 3), Told::Done),
+        ];
+        tells(rt, server, &rows)?;
+    }
+    Ok(())
+}
+
+/// By the grammar a file takes 4 words beside what stands on it, a byte lock 4, a wait 7 and a note 3: with two locks, a wait and a note
+/// to each of 2,000 files that is 22 words for each, behind the first three and the counts of files, grants, crossed owners and notes.
+#[test]
+fn exports_thousands_in_any_order(rt: HostRuntime) -> Result<(), Fail> {
+    let mut rising = LockServer::new(rt.alloc(), stepwise(Policy::Queue));
+    fill(&rt, &mut rising, 0, 1)?;
+    let mut falling = LockServer::new(rt.alloc(), stepwise(Policy::Queue));
+    fill(&rt, &mut falling, 1999, 1999)?;
+    let one = exported(&rt, rt.alloc(), &rising)?;
+    assert!(rt; one.len() == 8 * (7 + 2000 * 22));
+    assert!(rt; exported(&rt, rt.alloc(), &falling)?.as_slice() == one.as_slice());
+    falling.cancel(77);
+    assert!(rt; exported(&rt, rt.alloc(), &falling)?.as_slice() != one.as_slice());
+    Ok(())
+}
