@@ -1,7 +1,7 @@
 #!/bin/sh
 # Looks that each file that the documents name is there, and each name that stands behind one in brackets in that file: as
-# `lock_manager/specs/Settling.antt` (`Settles`). Paths are below crates/, or below the top. And that the lemmas, bodies and edits of
-# docs/PROOFS.md are there.
+# `lock_manager/specs/Settling.antt` (`Settles`). Paths are below crates/, or below the top. And that the calls, clauses, definitions, edits
+# and lemmas of docs/PROOFS.md are there.
 # Usage: signposts.sh [FILE..], the documents, by default the README and all of docs/
 set -eu
 cd "$(dirname "$0")/.."
@@ -47,23 +47,43 @@ for sign in $(cat "$@" | tr '\n' ' ' | grep -oE "\`$path\` \(\`[^)]*\`\)" | tr -
     done
 done
 
-# Of docs/PROOFS.md, for each row: its crate, and a name of one of the last three columns as the path of a file, or as a lemma's.
+# Of docs/PROOFS.md: each crate with a kind and a name: of each row its calls and clauses, its definitions and its edits, and the lemmas at the
+# heart of the proofs.
 rows() {
     awk -F'|' '
+        function each(cell, kind, form) {
+            while (match(cell, /`[^`]*`/)) {
+                word = substr(cell, RSTART + 1, RLENGTH - 2)
+                if (word ~ form) { print crate, kind, word }
+                cell = substr(cell, RSTART + RLENGTH)
+            }
+        }
         /^## `/ { crate = substr($0, 5, length($0) - 5) }
-        NF == 9 {
-            while (match($6, /`[A-Za-z]+\.[^`]*`/)) { print crate, substr($6, RSTART + 1, RLENGTH - 2); $6 = substr($6, RSTART + RLENGTH) }
-            while (match($7, /`[^`]*`/)) { print crate, "src/" substr($7, RSTART + 1, RLENGTH - 2); $7 = substr($7, RSTART + RLENGTH) }
-            while (match($8, /`[^`]*`/)) { print crate, "edits/" substr($8, RSTART + 1, RLENGTH - 2) ".edit"; $8 = substr($8, RSTART + RLENGTH) }
-        }' docs/PROOFS.md | sort -u
+        NF == 6 { each($3, "call", "."); each($4, "definition", "."); each($5, "edit", ".") }
+        /^Heart:/ { heart = 1 }
+        /^$/ { heart = 0 }
+        heart { each($0, "lemma", "^[A-Z][A-Za-z]*[.]") }' docs/PROOFS.md | sort -u
+}
+
+# Whether the crate $1 has the call or the clause $2: a function, a type, a ghost field, a line `ensures`, or a part of the headline.
+has_call() {
+    grep -rqE "\\b(fn|struct|trait|ensures|ensures\\*|requires|ghost) ${2##*::}\\b" "crates/$1/src" \
+        || grep -qE "^ +pub ${2##*::} :" "crates/$1/specs/Headline.antt" 2> /dev/null
+}
+
+# Whether the crate $1 has the definition $2, FILE or FILE.NAME, of another crate as CRATE/FILE.NAME.
+has_definition() {
+    case $2 in */*) set -- "${2%%/*}" "${2#*/}" ;; esac
+    case $2 in *.*) grep -qwF -e "${2#*.}" "crates/$1/specs/${2%%.*}.antt" ;; *) [ -e "crates/$1/specs/$2.antt" ] ;; esac
 }
 
 rows > "$rows"
-while read -r crate name; do
-    case $name in
-        edits/*) look "$crate has no edit ${name#*/}" [ -e "crates/$crate/must-fail/${name#*/}" -o -e "crates/$crate/further-edits/${name#*/}" ] ;;
-        */*) look "$crate has no $name" [ -e "crates/$crate/$name" ] ;;
-        *) look "$crate has no lemma $name" grep -rqwF --include="${name%%.*}.antt" -e "${name#*.}" "crates/$crate/proofs" ;;
+while read -r crate kind name; do
+    case $kind in
+        call) look "$crate has no call or clause $name" has_call "$crate" "$name" ;;
+        definition) look "$crate has no definition $name" has_definition "$crate" "$name" ;;
+        edit) look "$crate has no edit $name" [ -e "crates/$crate/must-fail/$name.edit" -o -e "crates/$crate/further-edits/$name.edit" ] ;;
+        lemma) look "$crate has no lemma $name" grep -rqwF --include="${name%%.*}.antt" -e "${name#*.}" "crates/$crate/proofs" "crates/$crate/specs" ;;
     esac
 done < "$rows"
 echo "signposts: $passed passed, $failed failed"
