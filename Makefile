@@ -24,10 +24,10 @@ released:
 	    && echo "$$at is a released lockreplay of this version, $(VERSION), and needs no build" >&2 || true
 
 # The gate, and then the command lines, single lines, devices that fail, growths and threads that are refused, the worked scripts (also in
-# threads, in whatever order comes), the large scripts and the samples on the program as two compilers built it in the gate, what the README,
-# the help and the manual page show, the files and names that the documents point to, that the tests of script_core have these worked scripts, that want of memory is made at one
-# place, that each edit still compiles, what the library's calls tell C where a C compiler is there, and the conformance tools' tests but for
-# those that a busy machine can upset.
+# threads, in whatever order comes), the large scripts and the samples on the program as two compilers built it in the gate, what the library's
+# calls tell C where a C compiler is there, what the README (which links that library), the help and the manual page show, the names that the
+# documents point to, that the tests of script_core have these worked scripts, that want of memory is made at one place, that each edit still
+# compiles, and the conformance tools' tests but for those that a busy machine can upset.
 WORKED := $(basename $(wildcard tests/worked-scripts/*.out)) $(wildcard tests/threads/*)
 test:
 	tools/gate-line rt ci
@@ -46,6 +46,7 @@ test:
 	sh tests/large-scripts.sh $(PROGRAM).by-rattle
 	sh tests/samples.sh $(PROGRAM)
 	sh tests/samples.sh $(PROGRAM).by-rattle
+	$(MAKE) --no-print-directory calls
 	sh tests/readme.sh $(PROGRAM)
 	sh tests/signposts.sh
 	sh tests/versions.sh
@@ -53,7 +54,6 @@ test:
 	tests/memory-is-passed-on
 	sh tests/bad-edits.sh
 	tests/edit-reasons --compile
-	$(MAKE) --no-print-directory calls
 	cd conformance && LOCKREPLAY=$(abspath $(PROGRAM)) python3 -m unittest tests.test_corpus tests.test_judging tests.test_lies tests.test_trace
 	tools/gate-line --passed
 
