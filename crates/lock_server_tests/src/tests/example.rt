@@ -1,4 +1,4 @@
-//! How a file server uses the lock server; the README quotes the lines of the test.
+//! How a file server uses the lock server; docs/EMBEDDING.md quotes the lines of the test.
 use lock_server::{Conversion, LockServer, Mode, Policy, Rules, Span, WaitAnswer};
 use range_core::OFFMAX;
 use std::test::Fail;

@@ -1,4 +1,4 @@
-//! How a program uses a session; the README points here.
+//! How a program uses a session; docs/EMBEDDING.md points here.
 use fd_table::{Access, Limits};
 use lock_manager::{Errno, FlockOp, Reply, Request, Rules};
 use session_core::run_all;
