@@ -47,8 +47,8 @@ for sign in $(cat "$@" | tr '\n' ' ' | grep -oE "\`$path\` \(\`[^)]*\`\)" | tr -
     done
 done
 
-# Of docs/PROOFS.md: each crate with a kind and a name: of each row its calls and clauses, its definitions and its edits, and the lemmas at the
-# heart of the proofs.
+# Of docs/PROOFS.md: each crate with a kind and a name: of each row its calls and clauses, its definitions and its edits, and the key
+# lemmas.
 rows() {
     awk -F'|' '
         function each(cell, kind, form) {
@@ -60,9 +60,9 @@ rows() {
         }
         /^## `/ { crate = substr($0, 5, length($0) - 5) }
         NF == 6 { each($3, "call", "."); each($4, "definition", "."); each($5, "edit", ".") }
-        /^Heart:/ { heart = 1 }
-        /^$/ { heart = 0 }
-        heart { each($0, "lemma", "^[A-Z][A-Za-z]*[.]") }' docs/PROOFS.md | sort -u
+        /^Key lemmas:/ { key = 1 }
+        /^$/ { key = 0 }
+        key { each($0, "lemma", "^[A-Z][A-Za-z]*[.]") }' docs/PROOFS.md | sort -u
 }
 
 # Whether the crate $1 has the call or the clause $2: a function, a type, a ghost field, a line `ensures`, or a part of the headline.
