@@ -1,7 +1,7 @@
 #!/bin/sh
 # Looks that each file that the documents name is there, and each name that stands behind one in brackets in that file: as
 # `lock_manager/specs/Settling.antt` (`Settles`). Paths are below crates/, or below the top. That each name of
-# the library for C is in its header. And that the calls, clauses, definitions, edits and lemmas of docs/PROOFS.md are there.
+# the library for C is in its header (or in the crate that links it). And that the calls, clauses, definitions, edits and lemmas of docs/PROOFS.md are there.
 # Usage: signposts.sh [FILE..], the documents, by default the README and all of docs/
 set -eu
 cd "$(dirname "$0")/.."
@@ -48,7 +48,7 @@ for sign in $(cat "$@" | tr '\n' ' ' | grep -oE "\`$path\` \(\`[^)]*\`\)" | tr -
 done
 
 for name in $(grep -ohE '`(dehokuna|DEHOKUNA)_[A-Za-z_]+`' "$@" | tr -d '`' | sort -u); do
-    look "embedding/dehokuna.h has no $name" grep -qw "$name" embedding/dehokuna.h
+    look "embedding/ has no $name" grep -rqw "$name" embedding/dehokuna.h embedding/rust/dehokuna-sys
 done
 
 # Of docs/PROOFS.md: each crate with a kind and a name: of each row its calls and clauses, its definitions and its edits, and the key
