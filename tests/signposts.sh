@@ -1,7 +1,7 @@
 #!/bin/sh
 # Looks that each file that the documents name is there, and each name that stands behind one in brackets in that file: as
-# `lock_manager/specs/Settling.antt` (`Settles`). Paths are below crates/, or below the top. That each name of
-# the library for C is in its header (or in the crate that links it). And that the calls, clauses, definitions, edits and lemmas of docs/PROOFS.md are there.
+# `lock_manager/specs/Settling.antt` (`Settles`). Paths are below crates/, or below the top. That each name of the library for C is in its
+# header, or in the crate that links it. And that the calls, clauses, definitions, edits and lemmas of docs/PROOFS.md are there.
 # Usage: signposts.sh [FILE..], the documents, by default the README and all of docs/
 set -eu
 cd "$(dirname "$0")/.."
