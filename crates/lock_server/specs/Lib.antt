@@ -33,3 +33,4 @@ pub mod Queueing
 pub mod Agreement
 pub mod Exports
 pub mod Adding
+pub mod Reached
