@@ -1,7 +1,7 @@
 /* How long calls of the library take, and what memory, at growing sizes: files, each locked by one of a tenth as many owners, and as
  * many waits as owners, each of an owner for the next, so that a last one closes a cycle through all; then a flush of each file, which
- * grants the waits. Prints a line for each size and policy. Each size has a process of its own, so that its memory is its own. And then of
- * one file what calls on it take, beside many owners, runs or waits. */
+ * grants the waits. Prints a line for each size and policy. Each size has a process of its own, so that its memory is its own. And then what
+ * single calls take beside so many runs, owners, waits or files, and how that grows. */
 #include "dehokuna.h"
 #include <stdio.h>
 #include <stdlib.h>
@@ -91,72 +91,260 @@ static void measure_apart(uint64_t files, uint32_t policy) {
     DEMAND(WIFEXITED(status) && WEXITSTATUS(status) == 0);
 }
 
-/* How many owners, runs or waits the one file has, how often what takes long and very long is asked, and a byte behind all locks. */
-enum { MANY = 10000, FEW = 100, VERY_FEW = 3, FILE_A = 7, WANTED = 1000000 };
+/* A row of the second table: n things are made, and then calls are timed, for so many seconds at most. */
+enum { FILE_A = 7, HOLDER = 1 << 30, SECONDS = 4, GLANCE = 16 };
 
-static void tell(const char *what, double since, uint64_t calls) {
-    printf("| %s | %.2f |\n", what, (now() - since) / (double)calls * 1e6);
+struct timing {
+    double began, took;
+    uint64_t calls;
+};
+
+static struct timing begin(void) { return (struct timing){.began = now()}; }
+
+/* Whether one more call is to be timed. */
+static bool goes_on(struct timing *timing, uint64_t wanted) {
+    const bool is_late = timing->calls % GLANCE == 0 && now() - timing->began > SECONDS;
+    if (timing->calls < wanted && !is_late) {
+        timing->calls++;
+        return true;
+    }
+    timing->took = now() - timing->began;
+    return false;
 }
 
-static void one_file_of_many_owners(void) {
+static struct dehokuna_server made(void) {
     struct dehokuna_server server = {0};
+    DEMAND(dehokuna_create(&server, DEHOKUNA_HELD));
+    return server;
+}
+
+static void set(struct dehokuna_server *server, uint64_t owner, uint64_t first, uint64_t last, uint32_t mode) {
+    DEMAND(dehokuna_set(server, FILE_A, owner, first, last, mode) == DEHOKUNA_DONE);
+}
+
+static void wait_for(struct dehokuna_server *server, uint64_t ticket, uint64_t owner, uint64_t first, uint32_t mode) {
+    DEMAND(dehokuna_wait(server, ticket, FILE_A, owner, first, first, mode, false) == DEHOKUNA_WAITS);
+}
+
+/* The numbers below n in an order that looks drawn: n is a power of ten, to which the factor is prime. */
+static uint64_t shuffled(uint64_t k, uint64_t n) { return (k * 7919 + 13) % n; }
+
+static void own_each(struct dehokuna_server *server, uint64_t n, uint32_t mode) {
+    for (uint64_t owner = 0; owner < n; owner++) set(server, owner, 4 * owner, 4 * owner + 1, mode);
+}
+
+static struct timing sets_rising(uint64_t n) {
+    struct dehokuna_server server = made();
+    struct timing timing = begin();
+    while (goes_on(&timing, n)) set(&server, 1, 4 * timing.calls, 4 * timing.calls + 1, DEHOKUNA_WRITE);
+    return timing;
+}
+
+static struct timing sets_drawn(uint64_t n) {
+    struct dehokuna_server server = made();
+    struct timing timing = begin();
+    while (goes_on(&timing, n)) set(&server, 1, 4 * shuffled(timing.calls, n), 4 * shuffled(timing.calls, n) + 1, DEHOKUNA_WRITE);
+    return timing;
+}
+
+static struct timing splits(uint64_t n) {
+    struct dehokuna_server server = made();
+    set(&server, 1, 0, 4 * n, DEHOKUNA_WRITE);
+    struct timing timing = begin();
+    while (goes_on(&timing, n)) set(&server, 1, 4 * shuffled(timing.calls, n) + 1, 4 * shuffled(timing.calls, n) + 1, DEHOKUNA_UNLOCK);
+    return timing;
+}
+
+static struct timing owners_set(uint64_t n) {
+    struct dehokuna_server server = made();
+    struct timing timing = begin();
+    while (goes_on(&timing, n)) set(&server, timing.calls, 4 * timing.calls, 4 * timing.calls + 1, DEHOKUNA_WRITE);
+    return timing;
+}
+
+static struct timing gets_blocked(uint64_t n) {
+    struct dehokuna_server server = made();
     struct dehokuna_blocker told;
-    DEMAND(dehokuna_create(&server, DEHOKUNA_HELD));
-    double since = now();
-    for (uint64_t owner = 0; owner < MANY; owner++)
-        DEMAND(dehokuna_set(&server, FILE_A, owner, 4 * owner, 4 * owner + 1, DEHOKUNA_WRITE) == DEHOKUNA_DONE);
-    tell("a set of each owner, one lock each", since, MANY);
-    since = now();
-    for (uint64_t owner = 0; owner < MANY; owner++)
-        DEMAND(dehokuna_get(&server, FILE_A, owner, WANTED, WANTED, DEHOKUNA_WRITE, &told) == DEHOKUNA_DONE);
-    tell("a get where nobody has a lock, beside those", since, MANY);
-    since = now();
-    for (uint64_t owner = 0; owner < MANY; owner++)
-        DEMAND(dehokuna_get(&server, FILE_A, owner, 4 * MANY - 4, WANTED, DEHOKUNA_WRITE, &told)
-               == (owner + 1 == MANY ? DEHOKUNA_DONE : DEHOKUNA_BLOCKED));
-    tell("a get of what the last of them has", since, MANY);
-    since = now();
-    for (uint64_t owner = MANY; owner < MANY + FEW; owner++)
-        DEMAND(dehokuna_wait(&server, owner, FILE_A, owner, 0, 0, DEHOKUNA_READ, true) == DEHOKUNA_WAITS);
-    tell("a detected wait beside those", since, FEW);
-    since = now();
-    for (uint64_t owner = 0; owner < MANY; owner++) dehokuna_flush(&server, FILE_A, MANY - 1 - owner);
-    tell("a flush of each owner, beside a hundred waits", since, MANY);
-    dehokuna_destroy(&server);
+    own_each(&server, n, DEHOKUNA_WRITE);
+    struct timing timing = begin();
+    while (goes_on(&timing, n))
+        DEMAND(dehokuna_get(&server, FILE_A, HOLDER, 4 * shuffled(timing.calls, n), DEHOKUNA_LARGEST_OFFSET, DEHOKUNA_WRITE, &told) == DEHOKUNA_BLOCKED);
+    return timing;
 }
 
-static void one_file_of_many_runs(void) {
-    struct dehokuna_server server = {0};
-    DEMAND(dehokuna_create(&server, DEHOKUNA_HELD));
-    double since = now();
-    for (uint64_t run = 0; run < MANY; run++)
-        DEMAND(dehokuna_set(&server, FILE_A, 1, 4 * run, 4 * run + 1, DEHOKUNA_WRITE) == DEHOKUNA_DONE);
-    tell("a run of one owner behind all others", since, MANY);
-    dehokuna_flush(&server, FILE_A, 1);
-    since = now();
-    for (uint64_t run = MANY; run > 0; run--)
-        DEMAND(dehokuna_set(&server, FILE_A, 1, 4 * run, 4 * run + 1, DEHOKUNA_WRITE) == DEHOKUNA_DONE);
-    tell("a run of one owner before all others", since, MANY);
-    dehokuna_destroy(&server);
+static struct timing gets_free(uint64_t n) {
+    struct dehokuna_server server = made();
+    struct dehokuna_blocker told;
+    own_each(&server, n, DEHOKUNA_WRITE);
+    struct timing timing = begin();
+    while (goes_on(&timing, n)) {
+        const uint64_t byte = 4 * shuffled(timing.calls, n) + 2;
+        DEMAND(dehokuna_get(&server, FILE_A, HOLDER, byte, byte + 1, DEHOKUNA_WRITE, &told) == DEHOKUNA_DONE);
+    }
+    return timing;
 }
 
-static void one_file_of_many_waits(void) {
-    struct dehokuna_server server = {0};
+static struct timing relocks(uint64_t n) {
+    struct dehokuna_server server = made();
+    own_each(&server, n, DEHOKUNA_WRITE);
+    struct timing timing = begin();
+    while (goes_on(&timing, n)) set(&server, timing.calls % n, 4 * (timing.calls % n), 4 * (timing.calls % n) + 1, DEHOKUNA_WRITE);
+    return timing;
+}
+
+static struct timing upgrades(uint64_t n) {
+    struct dehokuna_server server = made();
+    own_each(&server, n, DEHOKUNA_READ);
+    struct timing timing = begin();
+    while (goes_on(&timing, n)) set(&server, timing.calls % n, 4 * (timing.calls % n), 4 * (timing.calls % n) + 1, DEHOKUNA_WRITE);
+    return timing;
+}
+
+static struct timing readers_overlap(uint64_t n) {
+    struct dehokuna_server server = made();
+    struct timing timing = begin();
+    while (goes_on(&timing, n)) set(&server, timing.calls, timing.calls, timing.calls + n, DEHOKUNA_READ);
+    return timing;
+}
+
+static struct timing writer_among_readers(uint64_t n) {
+    struct dehokuna_server server = made();
+    for (uint64_t owner = 0; owner < n; owner++) set(&server, owner, owner, owner + n, DEHOKUNA_READ);
+    struct timing timing = begin();
+    while (goes_on(&timing, n))
+        DEMAND(dehokuna_set(&server, FILE_A, shuffled(timing.calls, n), n, n, DEHOKUNA_WRITE) == DEHOKUNA_BLOCKED);
+    return timing;
+}
+
+static struct timing flushes(uint64_t n) {
+    struct dehokuna_server server = made();
+    own_each(&server, n, DEHOKUNA_WRITE);
+    struct timing timing = begin();
+    while (goes_on(&timing, n)) dehokuna_flush(&server, FILE_A, shuffled(timing.calls, n));
+    return timing;
+}
+
+/* All wait to write one byte; who is granted unlocks. */
+static struct timing convoy(uint64_t n) {
+    struct dehokuna_server server = made();
+    uint64_t ticket = HOLDER;
+    set(&server, HOLDER, 0, 0, DEHOKUNA_WRITE);
+    for (uint64_t k = 0; k < n; k++) wait_for(&server, shuffled(k, n), shuffled(k, n), 0, DEHOKUNA_WRITE);
+    struct timing timing = begin();
+    while (goes_on(&timing, n)) {
+        set(&server, ticket, 0, 0, DEHOKUNA_UNLOCK);
+        DEMAND(dehokuna_next_grant(&server, &ticket));
+    }
+    return timing;
+}
+
+/* One unlock grants all, each of whom waits for a byte of its own, or all to read one. */
+static struct timing grants(uint64_t n, uint64_t apart, uint32_t mode) {
+    struct dehokuna_server server = made();
     uint64_t ticket = 0;
-    DEMAND(dehokuna_create(&server, DEHOKUNA_HELD));
-    DEMAND(dehokuna_set(&server, FILE_A, MANY, 0, 0, DEHOKUNA_WRITE) == DEHOKUNA_DONE);
-    double since = now();
-    for (uint64_t owner = 0; owner < MANY; owner++)
-        DEMAND(dehokuna_wait(&server, owner, FILE_A, owner, 0, 0, DEHOKUNA_READ, false) == DEHOKUNA_WAITS);
-    tell("an undetected wait of each owner for one byte", since, MANY);
-    since = now();
-    for (uint64_t owner = 0; owner < VERY_FEW; owner++) DEMAND(dehokuna_cancel(&server, owner));
-    tell("a cancel of the first of them", since, VERY_FEW);
-    since = now();
-    dehokuna_flush(&server, FILE_A, MANY);
-    tell("the flush that grants them all", since, 1);
-    for (uint64_t granted = VERY_FEW; granted < MANY; granted++) DEMAND(dehokuna_next_grant(&server, &ticket));
-    dehokuna_destroy(&server);
+    set(&server, HOLDER, 0, apart * n, DEHOKUNA_WRITE);
+    for (uint64_t owner = 0; owner < n; owner++) wait_for(&server, owner, owner, apart * owner, mode);
+    struct timing timing = begin();
+    set(&server, HOLDER, 0, apart * n, DEHOKUNA_UNLOCK);
+    while (dehokuna_next_grant(&server, &ticket)) timing.calls++;
+    timing.took = now() - timing.began;
+    DEMAND(timing.calls == n);
+    return timing;
+}
+
+static struct timing grants_of_writers(uint64_t n) { return grants(n, 2, DEHOKUNA_WRITE); }
+static struct timing grants_of_readers(uint64_t n) { return grants(n, 0, DEHOKUNA_READ); }
+
+/* A lock that n others wait for, one after another on bytes of their own. */
+static struct dehokuna_server with_waits(uint64_t n) {
+    struct dehokuna_server server = made();
+    set(&server, HOLDER, 0, 4 * n, DEHOKUNA_WRITE);
+    for (uint64_t owner = 0; owner < n; owner++) wait_for(&server, owner, owner, 4 * owner, DEHOKUNA_WRITE);
+    return server;
+}
+
+static struct timing sets_beside_waits(uint64_t n) {
+    struct dehokuna_server server = with_waits(n);
+    struct timing timing = begin();
+    while (goes_on(&timing, n)) set(&server, HOLDER + 1, 4 * n + 4 * timing.calls, 4 * n + 4 * timing.calls + 1, DEHOKUNA_WRITE);
+    return timing;
+}
+
+static struct timing cancels(uint64_t n) {
+    struct dehokuna_server server = with_waits(n);
+    struct timing timing = begin();
+    while (goes_on(&timing, n)) DEMAND(dehokuna_cancel(&server, timing.calls - 1));
+    return timing;
+}
+
+/* Each waits, detected, for the lock of the next, on one file or on a file each. */
+static struct timing chain(uint64_t n, bool is_apart) {
+    struct dehokuna_server server = made();
+    for (uint64_t owner = 0; owner <= n; owner++)
+        DEMAND(dehokuna_set(&server, is_apart ? owner : FILE_A, owner, owner, owner, DEHOKUNA_WRITE) == DEHOKUNA_DONE);
+    struct timing timing = begin();
+    while (goes_on(&timing, n)) {
+        const uint64_t owner = timing.calls - 1;
+        DEMAND(dehokuna_wait(&server, owner, is_apart ? owner + 1 : FILE_A, owner, owner + 1, owner + 1, DEHOKUNA_READ, true) == DEHOKUNA_WAITS);
+    }
+    return timing;
+}
+
+static struct timing chain_on_one_file(uint64_t n) { return chain(n, false); }
+static struct timing chain_on_many_files(uint64_t n) { return chain(n, true); }
+
+static struct timing forgets(uint64_t n) {
+    struct dehokuna_server server = made();
+    for (uint64_t file = 0; file < n; file++) DEMAND(dehokuna_set(&server, file, file, 0, 9, DEHOKUNA_WRITE) == DEHOKUNA_DONE);
+    struct timing timing = begin();
+    while (goes_on(&timing, n)) dehokuna_forget(&server, timing.calls - 1);
+    return timing;
+}
+
+static const struct row {
+    const char *name;
+    struct timing (*measure)(uint64_t n);
+} ROWS[] = {
+    {"a set of one owner's n runs, rising", sets_rising},
+    {"the same, in drawn order", sets_drawn},
+    {"an unlock that splits, n times", splits},
+    {"a set of each of n owners", owners_set},
+    {"a get that is blocked, among n owners", gets_blocked},
+    {"a get that isn't", gets_free},
+    {"a lock set again, among n owners", relocks},
+    {"a read lock made a write lock", upgrades},
+    {"a set of each of n readers that overlap", readers_overlap},
+    {"a write lock that n such readers refuse", writer_among_readers},
+    {"a flush of each of n owners", flushes},
+    {"an unlock in a convoy of n writers of one byte", convoy},
+    {"an unlock that grants n writers, a grant", grants_of_writers},
+    {"an unlock that grants n readers of one byte, a grant", grants_of_readers},
+    {"a set beside n waits for other bytes", sets_beside_waits},
+    {"a cancel of each of n waits", cancels},
+    {"a detected wait in a chain of n, on one file", chain_on_one_file},
+    {"the same on a file each", chain_on_many_files},
+    {"a forget of each of n owners, on a file each", forgets},
+};
+
+/* Each size is measured in a process of its own, which hands over what a call took. */
+static double a_call(const struct row *row, uint64_t n) {
+    int ends[2];
+    double took = 0;
+    DEMAND(pipe(ends) == 0);
+    fflush(stdout);
+    const pid_t child = fork();
+    DEMAND(child >= 0);
+    if (child == 0) {
+        const struct timing timing = row->measure(n);
+        took = timing.took / (double)timing.calls;
+        DEMAND(write(ends[1], &took, sizeof took) == sizeof took);
+        _exit(0);
+    }
+    close(ends[1]);
+    DEMAND(read(ends[0], &took, sizeof took) == sizeof took);
+    close(ends[0]);
+    DEMAND(waitpid(child, NULL, 0) == child);
+    return took * 1e6;
 }
 
 int main(void) {
@@ -166,9 +354,12 @@ int main(void) {
         measure_apart(files, DEHOKUNA_HELD);
         measure_apart(files, DEHOKUNA_QUEUE);
     }
-    printf("\n| On one file, %d owners, runs or waits | a call, us |\n|---|---|\n", MANY);
-    one_file_of_many_owners();
-    one_file_of_many_runs();
-    one_file_of_many_waits();
+    printf("\n| A call, us | n = 1,000 | 10,000 | 100,000 | growth |\n|---|---|---|---|---|\n");
+    for (size_t k = 0; k < sizeof ROWS / sizeof *ROWS; k++) {
+        double took[3];
+        uint64_t n = SMALLEST;
+        for (int size = 0; size < 3; size++, n *= TIMES) took[size] = a_call(&ROWS[k], n);
+        printf("| %s | %.2f | %.2f | %.2f | %.1f |\n", ROWS[k].name, took[0], took[1], took[2], took[2] / took[0]);
+    }
     return 0;
 }

@@ -28,11 +28,11 @@ both true b e = (refl, e)
 both false b e = let h : false ≡ true = e in cc
 
 -- a change of this owner on this range is one of the other on the byte
-record Hits (owner : ℕ) (span : Span) (other byte : ℕ) : Type 0 where
-  is : owner ≡ other
-  covered : Covers span byte
+pub record Hits (owner : ℕ) (span : Span) (other byte : ℕ) : Type 0 where
+  pub is : owner ≡ other
+  pub covered : Covers span byte
 
-hit : (owner : ℕ) (span : Span) (other byte : ℕ) → (owner == other && is_covered span byte) ≡ true → Hits owner span other byte
+pub hit : (owner : ℕ) (span : Span) (other byte : ℕ) → (owner == other && is_covered span byte) ≡ true → Hits owner span other byte
 hit owner span other byte e = grind (arith, common_steps, both, eqb-true, leb-true)
 
 module _ (F : FileState) (wait : Pending) (before : IsCompatible F) where

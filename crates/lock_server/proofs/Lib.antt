@@ -58,3 +58,4 @@ pub mod SafeClientLemmas
 pub mod HasLockLemmas
 pub mod CountLemmas
 pub mod ClientLaws
+pub mod AddingLemmas

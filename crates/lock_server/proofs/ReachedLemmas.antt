@@ -1,15 +1,14 @@
 -- The owners that are put behind those that were reached: for `add_going_on`, `add_steps` of a table, `would_cycle`.
 use Rattle.std.proofs.lemmas.Grind.{common_steps}
-use Rattle.std.proofs.Common.{ℕ, ◌≡◌, ◌≢◌, ◌==◌, ◌+◌, ◌<◌, ◌≤◌, ◌∙◌, inl, inr, sym, ap, refl, subst, arith, suc, cond, Bool, true, Option, Some, None, List, [], ◌∷◌, ◌++◌, Contains, length, get_or}
-use Rattle.std.specs.Prelude.{◌↔◌, ◌&&◌, IsTrue, MatchOption, slice_get}
-use Rattle.std.specs.Borrow.{Bor}
-use Rattle.std.specs.List.{HoldsAt, IsAnyAnswer}
-use Rattle.std.specs.Option.{option_copied}
+use Rattle.std.proofs.Common.{ℕ, ◌≡◌, ◌≢◌, ◌==◌, ◌+◌, ◌<◌, ◌≤◌, ◌∙◌, inl, inr, sym, ap, refl, subst, arith, suc, cond, Bool, true, false, Option, Some, None, List, [], ◌∷◌, ◌++◌, Contains, length, get_or}
+use Rattle.std.specs.Prelude.{◌↔◌, ◌&&◌, not, IsTrue, slice_get}
+use Rattle.std.specs.List.{list_any}
 use Rattle.std.proofs.lemmas.Bool.{cases_lt, cases_eq, eqb-true, eq-eqb, ne_eqb}
 use Rattle.std.proofs.lemmas.List.{append_assoc, length-append}
 use Rattle.std.proofs.lemmas.List.Elements.{Contains-append_left, Contains-push, Contains-push_cases}
 use Rattle.std.proofs.lemmas.List.Sums.{sum_by-cons}
-use Rattle.std.proofs.lemmas.Option.{none-some, same_Some, slice_get-get_or, slice_get_within, get_or_from_slice_get}
+use Rattle.std.proofs.lemmas.Map.Views.{Contains-from_any}
+use Rattle.std.proofs.lemmas.Option.{same_Some, slice_get-get_or, slice_get_cases, slice_get_within, get_or_from_slice_get}
 use Rattle.wait_core.specs.declared.Family.{Family}
 use Rattle.wait_core.specs.declared.Family.TheVariants.{Bytes, Whole}
 use Rattle.wait_core.specs.declared.Policy.{Policy}
@@ -23,7 +22,7 @@ use Rattle.lock_server.specs.Files.{FileState, untouched}
 use Rattle.lock_server.specs.Index.{IsIndexed, detected_waits, state_in}
 use Rattle.lock_server.specs.TableView.{entry_of, table_policy, table_state}
 use Rattle.std.specs.BTreeMap.{BTreeMap}
-use Rattle.lock_server.specs.Blockers.{AddsGoingOn, AddsOwners, IsGoingOn, SomeLeadsTo}
+use Rattle.lock_server.specs.Blockers.{AddsGoingOn, AddsOnce, AddsOwners, IsGoingOn, SomeLeadsTo}
 use Rattle.lock_server.specs.WaitersView.{files_of, times}
 use Rattle.lock_server.proofs.ChainLemmas.{first_step}
 use Rattle.lock_server.proofs.GatheredOwnerLemmas.{IsGivenBefore, gathered_all}
@@ -71,6 +70,13 @@ module _ (waiters : Waiters) (target : ℕ) (owners old : List ℕ) where
       })
       (λ goes. rw items (Contains-push new owner))
 
+  -- this one is put behind, or is there
+  pub added_once : (new after : List ℕ) (i owner : ℕ) → slice_get owners i ≡ Some owner → AddsOnce new after owner
+      → IsAddedBefore waiters target owners old new i → IsAddedBefore waiters target owners old after (i + 1)
+  added_once new after i owner at (inl items) before = added_push new after i owner at items before
+  added_once new after i owner at (inr there) before =
+      subst (λ (xs : List ℕ). IsAddedBefore waiters target owners old xs (i + 1)) (sym there.0) (added_skip new i owner at before (λ goes. there.1))
+
   -- all were looked at
   pub added_all : (new : List ℕ) (i : ℕ) → length owners ≤ i → IsAddedBefore waiters target owners old new i → AddsGoingOn waiters target owners old new
   added_all new i past before = record {
@@ -81,21 +87,20 @@ module _ (waiters : Waiters) (target : ℕ) (owners old : List ℕ) where
         before.all other among.0 (let within = among.1 in omega arith) (slice_get-get_or owners among.0 other among.1 ∙ ap (λ (n : ℕ). Some n) among.2) goes;
   }
 
--- an owner that a look through the list found
-pub found_among : (xs : List ℕ) (x : ℕ) (found : Bool) → IsAnyAnswer (λ y b. (y == x) ≡ b) xs found → found ≡ true → Contains xs x
-found_among xs x found says is = grind (arith, common_steps, eqb-true)
+-- an owner that isn't new was known, and who is known is among those that were reached
+pub not_new : (known new : Bool) → new ≡ not known → new ≡ false → known ≡ true
+not_new true new is old = refl
+not_new false new is old = let h : false ≡ true = sym old ∙ is in cc
+
+pub known_among : (owners : List ℕ) (owner : ℕ) → list_any (λ other. other == owner) owners ≡ true → Contains owners owner
+known_among owners owner known = Contains-from_any {eq = λ x y. y == x} (λ x y same. sym (eqb-true y x same)) owner owners known
 
 -- what stands at a place of the list, and where its end is
-pub read_at : (xs : List ℕ) (i : ℕ) (lent : Option (Bor ℕ)) (x : ℕ)
-    → MatchOption lent (length xs ≤ i) (λ y. (i < length xs) × HoldsAt (λ z. y.now ≡ z) xs i) → option_copied lent ≡ Some x
-    → (i < length xs) × (x ≡ get_or xs i x)
-read_at xs i None x says is = absurd (none-some x is)
-read_at xs i (Some y) x says is = (says.0, sym (same_Some y.now x is) ∙ says.1 x)
+pub read_at : (xs : List ℕ) (i : ℕ) (x : ℕ) → slice_get xs i ≡ Some x → (i < length xs) × (x ≡ get_or xs i x)
+read_at xs i x is = (slice_get_within xs i x is, sym (get_or_from_slice_get xs i x x is))
 
-pub read_past : (xs : List ℕ) (i : ℕ) (lent : Option (Bor ℕ))
-    → MatchOption lent (length xs ≤ i) (λ y. (i < length xs) × HoldsAt (λ z. y.now ≡ z) xs i) → option_copied lent ≡ None → length xs ≤ i
-read_past xs i None says is = says
-read_past xs i (Some y) says is = absurd (none-some y.now (sym is))
+pub read_past : (xs : List ℕ) (i : ℕ) → slice_get xs i ≡ None → length xs ≤ i
+read_past xs i is = grind (arith, common_steps, slice_get_cases)
 
 -- what was gathered from nothing
 pub gathered_from_none : (old new : List ℕ) (P : ℕ → Type 0) → old ≡ [] → AddsOwners old new P → (other : ℕ) → Contains new other ↔ P other

@@ -1,5 +1,5 @@
 -- Owners that are gathered in a search for deadlocks (the words are this project's choice).
-use Rattle.std.specs.Prelude.{◌≡◌, ◌≢◌, ℕ, ◌⊎◌, List, [], ◌++◌, Contains}
+use Rattle.std.specs.Prelude.{◌≡◌, ◌≢◌, ℕ, ◌⊎◌, List, [], ◌∷◌, ◌++◌, Contains}
 use Rattle.range_core.specs.Ranges.{Conflict}
 use Rattle.lock_book.specs.declared.Held.{Held}
 use Rattle.lock_book.specs.declared.Owner.TheVariants.{Description}
@@ -25,6 +25,10 @@ pub record AddsOwners (old new : List ℕ) (Added : ℕ → Type 0) : Type 0 whe
   pub kept : (other : ℕ) → Contains old other → Contains new other
   pub added : (other : ℕ) → Added other → Contains new other
   pub only : (other : ℕ) → Contains new other → Contains old other ⊎ Added other
+
+-- the owner is put behind the others, or is among them already
+abbrev pub AddsOnce : List ℕ → List ℕ → ℕ → Type 0
+AddsOnce old new owner = (new ≡ old ++ owner ∷ []) ⊎ ((new ≡ old) × Contains old owner)
 
 -- the owner is the one that is looked for, or has a detected wait
 abbrev pub IsGoingOn : Waiters → ℕ → ℕ → Type 0

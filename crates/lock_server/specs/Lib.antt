@@ -32,3 +32,5 @@ pub mod ServerView
 pub mod Queueing
 pub mod Agreement
 pub mod Exports
+pub mod Adding
+pub mod Reached

@@ -1,5 +1,5 @@
 -- Places in the list of waits, and room for one more (the words are this project's choice).
-use Rattle.std.specs.Prelude.{◌≡◌, ℕ, ◌<◌, List, length, IsTrue, vec_len, vec_capacity}
+use Rattle.std.specs.Prelude.{◌≡◌, ℕ, ◌<◌, List, [], length, take, IsTrue, vec_len, vec_capacity}
 use Rattle.lock_book.specs.declared.Owner.TheVariants.{Description}
 use Rattle.lock_book.specs.Books.{room_in, has_flock_place}
 use Rattle.wait_core.specs.declared.Family.{Family}
@@ -9,7 +9,7 @@ use Rattle.lock_server.specs.declared.Pending.{Pending}
 use Rattle.lock_server.specs.declared.file.LockFile.{LockFile}
 use Rattle.lock_server.specs.Files.{FileState, Leaves}
 use Rattle.lock_server.specs.FileView.{keeps_place}
-use Rattle.lock_server.specs.Settling.{IsNext}
+use Rattle.lock_server.specs.Settling.{AllBlocked, IsNext}
 use Rattle.lock_server.specs.Room.{byte_waits}
 
 -- the wait at this place is the earliest that isn't blocked
@@ -19,6 +19,10 @@ pub record IsReadyAt (policy : Policy) (F : FileState) (place : ℕ) : Type 0 wh
   pub after : List Pending
   pub at : length before ≡ place
   pub is_next : IsNext policy F before wait after
+
+-- so many waits, the earliest, are blocked
+abbrev pub AreBlockedTo : Policy → FileState → ℕ → Type 0
+AreBlockedTo policy F count = AllBlocked policy F [] (take count F.waits)
 
 -- the wait at this place leaves, and the locks stay
 pub record LeavesAt (F : FileState) (place : ℕ) (wait : Pending) (G : FileState) : Type 0 where

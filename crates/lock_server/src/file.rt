@@ -12,6 +12,7 @@ mod clients;
 mod counting;
 mod export;
 mod flocks;
+mod granting;
 mod having;
 mod list;
 mod listing;

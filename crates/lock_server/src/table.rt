@@ -9,6 +9,7 @@ mod entries;
 mod export;
 mod flocks;
 mod listing;
+mod reached;
 mod settling;
 mod waiting;
 

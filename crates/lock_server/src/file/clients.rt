@@ -91,7 +91,7 @@ impl LockFile {
     }
 
     /// Whether the owner has a byte lock.
-    fn has_byte_lock(&self, owner: u64) -> bool
+    pub(super) fn has_byte_lock(&self, owner: u64) -> bool
         ensures { IsTrue result ↔ HasByteLock (file_state self.now) owner }
     {
         match self.book.list(Owner::Description(owner)) {
@@ -101,7 +101,7 @@ impl LockFile {
     }
 
     /// Whether the owner has a flock lock.
-    fn has_flock_lock(&self, owner: u64) -> bool
+    pub(super) fn has_flock_lock(&self, owner: u64) -> bool
         ensures { IsTrue result ↔ HasFlockLock (file_state self.now) owner }
     {
         self.flock_mode(owner).is_some()

@@ -5,8 +5,9 @@ ghost use Rattle.lock_server.specs.Files.{GetsLock, Joins, Leaves, SameFile, Sam
 ghost use Rattle.lock_server.specs.FileView.{file_state};
 ghost use Rattle.lock_server.specs.Leaving.{is_leaving, is_staying};
 ghost use Rattle.lock_server.specs.Settling.{Grants, HasAlready, IsBlockedUnless, IsHeldBack, IsSettled, IsWaitBlocked, PendingsConflict};
-ghost use Rattle.lock_server.specs.Waiting.{IsReadyAt, IsReserved, IsReservedIn, KeepsFlockRoom, LeavesAt};
+ghost use Rattle.lock_server.specs.Waiting.{AreBlockedTo, IsReadyAt, IsReserved, IsReservedIn, KeepsFlockRoom, LeavesAt};
 
+use super::granting::Granted;
 use super::LockFile;
 use crate::leaving::Leaving;
 use crate::{Family, Memory, Pending, Policy};
@@ -69,13 +70,14 @@ impl LockFile {
         wait.conflicts_with_any(earlier) && !self.has_already(wait)
     }
 
-    /// The place of the earliest wait that nothing blocks, and `None` where each is blocked (POSIX leaves open which waiting
-    /// process gets a lock first; the earliest is this project's choice).
-    pub fn next_ready(&self, policy: Policy) -> Option<usize>
+    /// The place of the earliest wait that nothing blocks, where so many are known to be blocked, and `None` where each is (POSIX leaves
+    /// open which waiting process gets a lock first; the earliest is this project's choice).
+    pub fn next_ready(&self, policy: Policy, blocked: usize) -> Option<usize>
+        requires { AreBlockedTo policy (file_state self.now) blocked }
         ensures ready { IfSome result (IsReadyAt policy (file_state self.now)) }
         ensures settled { IfNone result (IsSettled policy (file_state self.now)) }
     {
-        for i in 0..self.waits.len() {
+        for i in blocked..self.waits.len() {
             if !self.is_blocked_at(policy, i) {
                 return Some(i);
             }
@@ -120,16 +122,18 @@ impl LockFile {
 
     /// The wait at this place, which nothing blocks, leaves the list and gets its lock. It takes no memory (POSIX.1-2017 fcntl,
     /// `F_SETLKW`; flock(2)).
-    pub fn grant(&mut self, i: usize) -> Pending
+    pub fn grant(&mut self, policy: Policy, i: usize) -> Granted
         requires { i < length (file_state self.old).waits }
-        ensures is { slice_get (file_state self.old).waits i ≡ Some result }
-        ensures granted { (policy : Policy) → IsReadyAt policy (file_state self.old) i → Grants policy (file_state self.old) result (file_state self.new) }
+        ensures is { slice_get (file_state self.old).waits i ≡ Some result.wait }
+        ensures granted { IsReadyAt policy (file_state self.old) i → Grants policy (file_state self.old) result.wait (file_state self.new) }
+        ensures blocked { IsReadyAt policy (file_state self.old) i → AreBlockedTo policy (file_state self.new) result.blocked }
         ensures fewer { length (file_state self.new).waits + 1 ≡ length (file_state self.old).waits }
         ensures room { KeepsFlockRoom self.old self.new }
     {
+        let blocked = if self.leaves_blocked(policy, i) { i } else { 0 };
         let wait = self.remove_at(i);
         self.give(&wait);
-        wait
+        Granted { wait, blocked }
     }
 
     /// The wait, which left the list, gets its lock in the room that was held for it. It takes no memory.

@@ -6,6 +6,7 @@ ghost use Rattle.lock_server.specs.Deadlock.{ClosesCycle, IsBlockedByOwner, Wait
 ghost use Rattle.lock_server.specs.TableView.{table_state, table_policy};
 
 use super::Table;
+use super::reached::Reached;
 use crate::{Memory, Pending};
 
 #[tactic(auto, unfolding(crate::specs::TableView::table_state, crate::specs::TableView::table_policy, crate::specs::TableView::entry_of))]
@@ -18,7 +19,7 @@ impl Table {
     {
         let mut blockers = Vec::new(self.alloc);
         self.add_blockers(&mut blockers, file, wanted)?;
-        let mut reached = Vec::new(self.alloc);
+        let mut reached = Reached::new(self.alloc);
         self.add_going_on(&mut reached, &blockers, wanted.owner)?;
         self.leads_to(reached, wanted.owner)
     }
@@ -36,11 +37,11 @@ impl Table {
     }
 
     /// Whether some of these owners is the target, or is led to it by detected waits.
-    fn leads_to(&self, mut reached: Vec<u64>, target: u64) -> Result<bool, Memory>
-        ensures { IfOk result (λ leads. IsTrue leads ↔ SomeLeadsTo (table_policy self.now) (table_state self.now) reached.items target) }
+    fn leads_to(&self, mut reached: Reached, target: u64) -> Result<bool, Memory>
+        ensures { IfOk result (λ leads. IsTrue leads ↔ SomeLeadsTo (table_policy self.now) (table_state self.now) reached.owners.items target) }
     {
         let mut looked_at = 0;
-        while let Some(owner) = reached.get(looked_at).copied() {
+        while let Some(owner) = reached.get(looked_at) {
             if owner == target {
                 return Ok(true);
             }
@@ -67,15 +68,15 @@ impl Table {
     /// Adds those of the owners that are not there yet, and are the target or have a detected wait: no others lead on.
     fn add_going_on(
         &self,
-        reached: &mut Vec<u64>,
+        reached: &mut Reached,
         owners: &[u64],
         target: u64,
     ) -> Result<(), Memory>
-        ensures { OnOk result (AddsGoingOn self.now.waiters target owners.now reached.old.items reached.new.items) }
+        ensures { OnOk result (AddsGoingOn self.now.waiters target owners.now reached.old.owners.items reached.new.owners.items) }
     {
         for owner in owners {
-            if self.goes_on(*owner, target) && !reached.contains(owner) {
-                reached.push(*owner)?;
+            if self.goes_on(*owner, target) {
+                reached.add(*owner)?;
             }
         }
         Ok(())

@@ -1,9 +1,9 @@
 //! Settling a file: the earliest wait that nothing blocks is granted, again and again.
-ghost use Rattle.std.specs.Prelude.{◌≡◌, IfNone, IfSome, IsTrue, IsFalse};
+ghost use Rattle.std.specs.Prelude.{◌≡◌, IfNone, IfSome};
 ghost use Rattle.lock_server.specs.States.{GrantsOn, SameState, SettlesFile};
 ghost use Rattle.lock_server.specs.Settling.{IsSettled};
 ghost use Rattle.lock_server.specs.TableRoom.{KeepsRoomOn};
-ghost use Rattle.lock_server.specs.Waiting.{IsReadyAt};
+ghost use Rattle.lock_server.specs.Waiting.{AreBlockedTo, IsReadyAt};
 ghost use Rattle.lock_server.specs.TableView.{KeepsOthers, table_state, table_policy};
 
 use super::Table;
@@ -20,33 +20,41 @@ impl Table {
         ensures policy { table_policy self.new ≡ table_policy self.old }
         ensures others { KeepsOthers self.old self.new file }
     {
-        while self.grant_next(file) {}
+        let mut blocked = 0;
+        while let Some(still) = self.grant_next(file, blocked) {
+            blocked = still;
+        }
     }
 
-    /// The earliest wait on the file that nothing blocks gets its lock, and its ticket is queued; false where each is blocked.
-    fn grant_next(&mut self, file: u64) -> bool
-        ensures granted { IsTrue result → (wait : Pending) × GrantsOn (table_policy self.old) (table_state self.old) file wait (table_state self.new) }
-        ensures settled { IsFalse result → IsSettled (table_policy self.old) ((table_state self.old).files file)
-            × SameState (table_state self.old) (table_state self.new) }
+    /// The earliest wait on the file that nothing blocks, where so many are known to be blocked, gets its lock, and its ticket is queued: how
+    /// many are known to be blocked then. `None` where each is.
+    fn grant_next(&mut self, file: u64, blocked: usize) -> Option<usize>
+        requires { AreBlockedTo (table_policy self.old) ((table_state self.old).files file) blocked }
+        ensures granted { IfSome result (λ still. (wait : Pending) × GrantsOn (table_policy self.old) (table_state self.old) file wait (table_state self.new)) }
+        ensures blocked { IfSome result (AreBlockedTo (table_policy self.new) ((table_state self.new).files file)) }
+        ensures settled { IfNone result (IsSettled (table_policy self.old) ((table_state self.old).files file)
+            × SameState (table_state self.old) (table_state self.new)) }
         ensures room { KeepsRoomOn self.old self.new file }
         ensures policy { table_policy self.new ≡ table_policy self.old }
         ensures others { KeepsOthers self.old self.new file }
     {
-        let Some(place) = self.next_ready(file) else {
-            return false;
+        let Some(place) = self.next_ready(file, blocked) else {
+            return None;
         };
         let locks = self.files.get_mut(&file).unwrap();
-        let wait = locks.grant(place);
-        self.tickets.grant(wait.ticket);
-        self.waiters.end_for(&wait, file);
-        self.waiters.cross(wait.owner);
-        true
+        let granted = locks.grant(self.policy, place);
+        self.tickets.grant(granted.wait.ticket);
+        self.waiters.end_for(&granted.wait, file);
+        self.waiters.cross(granted.wait.owner);
+        Some(granted.blocked)
     }
-    /// The place of the earliest wait on the file that nothing blocks; `None` where each is blocked.
-    fn next_ready(&self, file: u64) -> Option<usize>
+
+    /// The place of the earliest wait on the file that nothing blocks, where so many are known to be blocked; `None` where each is.
+    fn next_ready(&self, file: u64, blocked: usize) -> Option<usize>
+        requires { AreBlockedTo (table_policy self.now) ((table_state self.now).files file) blocked }
         ensures ready { IfSome result (IsReadyAt (table_policy self.now) ((table_state self.now).files file)) }
         ensures settled { IfNone result (IsSettled (table_policy self.now) ((table_state self.now).files file)) }
     {
-        self.files.get(&file)?.next_ready(self.policy)
+        self.files.get(&file)?.next_ready(self.policy, blocked)
     }
 }

@@ -32,6 +32,36 @@ const GRANTS_IN_ORDER: &[Row] = &[
     (F, Call::Wait(71, 3, (0, 5), Read, true), Told::Done),
 ];
 
+/// A grant that makes a write lock a read lock frees a wait that came before it.
+const FREES_AN_EARLIER_WAIT: &[Row] = &[
+    (F, Call::Set(1, (0, 9), Some(Write)), Told::Done),
+    (F, Call::Set(3, (20, 20), Some(Write)), Told::Done),
+    (F, Call::Wait(70, 2, (0, 4), Read, true), Told::Waits),
+    (F, Call::Wait(71, 1, (0, 25), Read, true), Told::Waits),
+    (F, Call::Set(3, (20, 20), None), Told::Done),
+    (F, Call::Grant, Told::Granted(71)),
+    (F, Call::Grant, Told::Granted(70)),
+    (F, Call::Grant, Told::Nothing),
+    (
+        F,
+        Call::Get(STRANGER, (0, 4), Write),
+        Told::Lock(1, Read, (0, 25)),
+    ),
+];
+
+/// A grant that gives an owner the rest of what an earlier wait of its is for frees that wait from the queue.
+const FREES_AN_EARLIER_WAIT_OF_ITS_OWNER: &[Row] = &[
+    (F, Call::Set(1, (0, 4), Some(Read)), Told::Done),
+    (F, Call::Set(4, (7, 7), Some(Write)), Told::Done),
+    (F, Call::Wait(60, 3, (0, 2), Write, false), Told::Waits),
+    (F, Call::Wait(70, 1, (0, 9), Read, false), Told::Waits),
+    (F, Call::Wait(71, 1, (5, 9), Read, false), Told::Waits),
+    (F, Call::Set(4, (7, 7), None), Told::Done),
+    (F, Call::Grant, Told::Granted(71)),
+    (F, Call::Grant, Told::Granted(70)),
+    (F, Call::Grant, Told::Nothing),
+];
+
 /// A cycle through three owners is refused, and a wait that isn't detected makes no step.
 const REFUSES_CYCLES: &[Row] = &[
     (F, Call::Set(1, (1, 1), Some(Write)), Told::Done),
@@ -349,6 +379,8 @@ fn follow(rt: &impl Abort, server: &mut LockServer, rows: &[Row]) -> Result<(), 
 fn worked_runs_come_out(rt: HostRuntime) -> Result<(), Fail> {
     for (rules, rows) in [
         (stepwise(Policy::Held), GRANTS_IN_ORDER),
+        (stepwise(Policy::Held), FREES_AN_EARLIER_WAIT),
+        (stepwise(Policy::Queue), FREES_AN_EARLIER_WAIT_OF_ITS_OWNER),
         (stepwise(Policy::Held), REFUSES_CYCLES),
         (stepwise(Policy::Held), CROSSES_AN_OWNER),
         (stepwise(Policy::Held), KEEPS_WAITS_AT_A_RELEASE),

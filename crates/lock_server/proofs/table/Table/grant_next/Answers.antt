@@ -1,10 +1,10 @@
-use Rattle.std.proofs.Common.{ap, subst}
+use Rattle.std.proofs.Common.{ap, subst, sym}
 use Rattle.std.specs.BTreeMap.{get}
 use Rattle.std.specs.Ordering.{nat_cmp}
 use Rattle.lock_server.specs.Files.{FileState}
 use Rattle.lock_server.specs.FileView.{state_at}
 use Rattle.lock_server.specs.TableView.{entry_of, table_policy, table_state}
-use Rattle.lock_server.specs.Waiting.{IsReadyAt}
+use Rattle.lock_server.specs.Waiting.{AreBlockedTo, IsReadyAt}
 use Rattle.lock_server.proofs.EntryMoves.{keeps_room_on}
 use Rattle.lock_server.proofs.GrantedMoves.{granted_indexed, granted_waited, grants_by, lent_of_ready, reserved_stays}
 use Rattle.lock_server.proofs.IndexLemmas.{file_written}
@@ -18,56 +18,68 @@ pub grant-requires : goal.grant-requires
 unfolding table_state table_policy entry_of
 grant-requires c =
     let table = c.args.self.now in
-    let after = c.grant-wait.new.self in
+    let after = c.grant-granted.new.self in
     let written = file_written table.files (c.get_mut.follows.lender after) c.args.file _ c.unwrap-locks.result after c.get_mut.ensures.value c.unwrap-locks.ensures (c.get_mut.follows.holds after) in
     let ready : IsReadyAt table.policy (state_at (get nat_cmp table.files c.args.file)) c.in-Some.place = c.in-Some.ensures.ready in
     let grants =
-    c.grant-wait.ensures.granted table.policy
+    c.grant-granted.ensures.granted
     (subst (λ (F : FileState). IsReadyAt table.policy F c.in-Some.place) (ap state_at written.0) ready) in (
       c.args.file,
-      granted_waited table.files (c.get_mut.follows.lender c.grant-wait.new.self) table.tickets table.tickets table.waiters table.waiters table.waiters c.args.file c.unwrap-locks.result.now after written.0 written.1 table.indexed table.policy c.grant-wait.result grants,
+      granted_waited table.files (c.get_mut.follows.lender c.grant-granted.new.self) table.tickets table.tickets table.waiters table.waiters table.waiters c.args.file c.unwrap-locks.result.now after written.0 written.1 table.indexed table.policy c.grant-granted.result.wait grants,
     )
 
 pub invariant_of-self : goal.invariant_of-self
 unfolding table_state table_policy entry_of
 invariant_of-self c =
     let table = c.args.self.now in
-    let after = c.grant-wait.new.self in
+    let after = c.grant-granted.new.self in
     let written = file_written table.files (c.get_mut.follows.lender after) c.args.file _ c.unwrap-locks.result after c.get_mut.ensures.value c.unwrap-locks.ensures (c.get_mut.follows.holds after) in
     let ready : IsReadyAt table.policy (state_at (get nat_cmp table.files c.args.file)) c.in-Some.place = c.in-Some.ensures.ready in
     let grants =
-    c.grant-wait.ensures.granted table.policy
+    c.grant-granted.ensures.granted
     (subst (λ (F : FileState). IsReadyAt table.policy F c.in-Some.place) (ap state_at written.0) ready) in
     record {
       indexed = granted_indexed table.files _ table.tickets c.grant.new.self table.waiters c.end_for.new.self c.cross.new.self c.args.file c.unwrap-locks.result.now after written.0 written.1 table.indexed table.policy
-          c.grant-wait.result grants c.grant.ensures.place c.grant.ensures.grants c.end_for.ensures c.cross.ensures;
+          c.grant-granted.result.wait grants c.grant.ensures.place c.grant.ensures.grants c.end_for.ensures c.cross.ensures;
     }
 
 pub returns-clause-granted : goal.returns-clause-granted
 unfolding table_state table_policy entry_of
-returns-clause-granted c = λ done.
+returns-clause-granted c =
     let table = c.args.self.now in
-    let after = c.grant-wait.new.self in
+    let after = c.grant-granted.new.self in
     let written = file_written table.files (c.get_mut.follows.lender after) c.args.file _ c.unwrap-locks.result after c.get_mut.ensures.value c.unwrap-locks.ensures (c.get_mut.follows.holds after) in
     let ready : IsReadyAt table.policy (state_at (get nat_cmp table.files c.args.file)) c.in-Some.place = c.in-Some.ensures.ready in
     let grants =
-    c.grant-wait.ensures.granted table.policy
+    c.grant-granted.ensures.granted
     (subst (λ (F : FileState). IsReadyAt table.policy F c.in-Some.place) (ap state_at written.0) ready) in (
-      c.grant-wait.result,
-      grants_by table.files (c.get_mut.follows.lender c.grant-wait.new.self) table.tickets c.grant.new.self table.waiters c.end_for.new.self c.cross.new.self c.args.file c.unwrap-locks.result.now after written.0 written.1 table.indexed table.policy
-          c.grant-wait.result grants c.grant.ensures.place c.grant.ensures.grants c.end_for.ensures c.cross.ensures,
+      c.grant-granted.result.wait,
+      grants_by table.files (c.get_mut.follows.lender c.grant-granted.new.self) table.tickets c.grant.new.self table.waiters c.end_for.new.self c.cross.new.self c.args.file c.unwrap-locks.result.now after written.0 written.1 table.indexed table.policy
+          c.grant-granted.result.wait grants c.grant.ensures.place c.grant.ensures.grants c.end_for.ensures c.cross.ensures,
     )
 
 pub returns-clause-room : goal.returns-clause-room
 unfolding table_state table_policy entry_of
 returns-clause-room c =
     let table = c.args.self.now in
-    let after = c.grant-wait.new.self in
+    let after = c.grant-granted.new.self in
     let written = file_written table.files (c.get_mut.follows.lender after) c.args.file _ c.unwrap-locks.result after c.get_mut.ensures.value c.unwrap-locks.ensures (c.get_mut.follows.holds after) in
     let ready : IsReadyAt table.policy (state_at (get nat_cmp table.files c.args.file)) c.in-Some.place = c.in-Some.ensures.ready in
     let grants =
-    c.grant-wait.ensures.granted table.policy
+    c.grant-granted.ensures.granted
     (subst (λ (F : FileState). IsReadyAt table.policy F c.in-Some.place) (ap state_at written.0) ready) in
-    keeps_room_on table _ c.args.file c.unwrap-locks.result.now after written.0 written.1.here c.grant-wait.ensures.room
-    (reserved_stays table.files (c.get_mut.follows.lender c.grant-wait.new.self) table.tickets c.grant.new.self table.waiters table.waiters table.waiters c.args.file c.unwrap-locks.result.now after written.0 written.1 table.indexed table.policy
-    c.grant-wait.result grants c.grant.ensures.place)
+    keeps_room_on table _ c.args.file c.unwrap-locks.result.now after written.0 written.1.here c.grant-granted.ensures.room
+    (reserved_stays table.files (c.get_mut.follows.lender c.grant-granted.new.self) table.tickets c.grant.new.self table.waiters table.waiters table.waiters c.args.file c.unwrap-locks.result.now after written.0 written.1 table.indexed table.policy
+    c.grant-granted.result.wait grants c.grant.ensures.place)
+
+pub returns-clause-blocked : goal.returns-clause-blocked
+unfolding table_state table_policy entry_of
+returns-clause-blocked c =
+    let table = c.args.self.now in
+    let after = c.grant-granted.new.self in
+    let written = file_written table.files (c.get_mut.follows.lender after) c.args.file _ c.unwrap-locks.result after c.get_mut.ensures.value c.unwrap-locks.ensures (c.get_mut.follows.holds after) in
+    let ready : IsReadyAt table.policy (state_at (get nat_cmp table.files c.args.file)) c.in-Some.place = c.in-Some.ensures.ready in
+    let blocked =
+    c.grant-granted.ensures.blocked
+    (subst (λ (F : FileState). IsReadyAt table.policy F c.in-Some.place) (ap state_at written.0) ready) in
+    subst (λ (F : FileState). AreBlockedTo table.policy F c.grant-granted.result.blocked) (sym (ap state_at written.1.here)) blocked

@@ -7,7 +7,7 @@ use Rattle.lock_server.proofs.table.Table.leads_to.Given as goal
 
 abbrev pub invariant-loop-owner : goal.invariant-loop-owner
 invariant-loop-owner l =
-    IsSearched (WaitsFor l.self.policy (table_state l.self)) (IsGoingOn l.self.waiters l.target) l.target l.initial.reached.items l.reached.items l.looked_at
+    IsSearched (WaitsFor l.self.policy (table_state l.self)) (IsGoingOn l.self.waiters l.target) l.target l.initial.reached.owners.items l.reached.owners.items l.looked_at
 
 abbrev pub decreases-loop-owner : goal.decreases-loop-owner
 decreases-loop-owner l = 2 ^ 64 - l.looked_at

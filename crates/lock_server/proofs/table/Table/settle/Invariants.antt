@@ -1,19 +1,21 @@
 use Rattle.std.proofs.Common.{◌≡◌, length}
 use Rattle.lock_server.specs.TableRoom.{KeepsRoomOn}
 use Rattle.lock_server.specs.TableView.{KeepsOthers, table_policy, table_state}
+use Rattle.lock_server.specs.Waiting.{AreBlockedTo}
 use Rattle.lock_server.proofs.SettleLemmas.{HasLedOn}
 use Rattle.lock_server.proofs.table.Table.settle.Given as goal
 
 -- what was granted so far has led here
-abbrev pub invariant-loop : goal.invariant-loop
-invariant-loop l =
+abbrev pub invariant-loop-still : goal.invariant-loop-still
+invariant-loop-still l =
     record {
       led : HasLedOn (table_policy l.fn.self) (table_state l.fn.self) l.file (table_state l.self);
       room : KeepsRoomOn l.fn.self l.self l.file;
       policy : table_policy l.self ≡ table_policy l.fn.self;
       others : KeepsOthers l.fn.self l.self l.file;
       file : l.file ≡ l.fn.file;
+      blocked : AreBlockedTo (table_policy l.self) ((table_state l.self).files l.file) l.blocked;
     }
 
-abbrev pub decreases-loop : goal.decreases-loop
-decreases-loop l = length ((table_state l.self).files l.file).waits
+abbrev pub decreases-loop-still : goal.decreases-loop-still
+decreases-loop-still l = length ((table_state l.self).files l.file).waits
