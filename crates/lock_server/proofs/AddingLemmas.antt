@@ -157,10 +157,10 @@ blocked_behind policy F M G place wait left gets waits here leaves ready =
     let parts = same_parts ready.before left.before ready.wait wait ready.after left.after (ready.at ∙ sym left.at) (sym ready.is_next.place ∙ left.leaves.place) in
     let front : take place F.waits ≡ ready.before =
     ap (take place) ready.is_next.place ∙ subst (λ (n : ℕ). take n (ready.before ++ ready.wait ∷ ready.after) ≡ ready.before) ready.at
-        (take-append_seam ready.before (ready.wait ∷ ready.after)) in
+    (take-append_seam ready.before (ready.wait ∷ ready.after)) in
     let still : take place G.waits ≡ left.before =
     ap (take place) (waits ∙ left.leaves.waits) ∙ subst (λ (n : ℕ). take n (left.before ++ left.after) ≡ left.before) left.at
-        (take-append_seam left.before left.after) in
+    (take-append_seam left.before left.after) in
     subst (λ (ws : List Pending). AllBlocked policy G [] ws) (front ∙ parts.before ∙ sym still)
     (leaves wait G here gets (subst (λ (ws : List Pending). AllBlocked policy F [] ws) (sym front) ready.is_next.earliest))
 

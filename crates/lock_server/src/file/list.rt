@@ -7,8 +7,8 @@ ghost use Rattle.lock_server.specs.Leaving.{is_leaving, is_staying};
 ghost use Rattle.lock_server.specs.Settling.{Grants, HasAlready, IsBlockedUnless, IsHeldBack, IsSettled, IsWaitBlocked, PendingsConflict};
 ghost use Rattle.lock_server.specs.Waiting.{AreBlockedTo, IsReadyAt, IsReserved, IsReservedIn, KeepsFlockRoom, LeavesAt};
 
-use super::granting::Granted;
 use super::LockFile;
+use super::granting::Granted;
 use crate::leaving::Leaving;
 use crate::{Family, Memory, Pending, Policy};
 use lock_book::Owner;

@@ -66,12 +66,7 @@ impl Table {
     }
 
     /// Adds those of the owners that are not there yet, and are the target or have a detected wait: no others lead on.
-    fn add_going_on(
-        &self,
-        reached: &mut Reached,
-        owners: &[u64],
-        target: u64,
-    ) -> Result<(), Memory>
+    fn add_going_on(&self, reached: &mut Reached, owners: &[u64], target: u64) -> Result<(), Memory>
         ensures { OnOk result (AddsGoingOn self.now.waiters target owners.now reached.old.owners.items reached.new.owners.items) }
     {
         for owner in owners {
