@@ -1,15 +1,21 @@
 -- The wait at a place that is granted, and the place where a wait is found: for `LockFile::cancel`, `LockFile::dismiss`, `LockFile::give` and
 -- `LockFile::grant`.
 use Rattle.std.proofs.lemmas.Grind.{common_steps}
-use Rattle.std.proofs.Common.{ℕ, ◌≡◌, ◌+◌, ◌<◌, refl, subst, arith, true, false, Bool, Some, None, List, [], ◌∷◌, ◌++◌, All, length, length-append, get_or}
-use Rattle.std.specs.Prelude.{position, slice_get, IsTrue}
+use Rattle.std.proofs.Common.{ℕ, ◌≡◌, ◌+◌, ◌<◌, ◌≤◌, ◌∙◌, ap, Option, refl, subst, arith, true, false, Bool, Some, None, List, [], ◌∷◌, ◌++◌, All, length, length-append, get_or}
+use Rattle.std.specs.Prelude.{◌&&◌, if◌then◌else◌, position, slice_get, IsTrue, IsOk, OnOk, Result, Ok, Err}
 use Rattle.std.proofs.lemmas.Bool.{cases_lt, lt-ltb, le-ltb}
 use Rattle.std.proofs.lemmas.List.Sums.{fails_before_first}
 use Rattle.std.proofs.lemmas.List.Quantifiers.{position-Some}
 use Rattle.std.proofs.lemmas.Option.{slice_get-get_or, slice_get_cases}
 use Rattle.lock_book.specs.declared.Owner.TheVariants.{Description}
 use Rattle.range_core.specs.Ranges.{IsByteRange}
-use Rattle.lock_book.specs.Books.{room_in, has_flock_place}
+use Rattle.range_core.specs.declared.Mode.{Mode}
+use Rattle.range_core.specs.declared.Span.{Span}
+use Rattle.range_core.specs.Changes.{is_covered}
+use Rattle.lock_book.specs.declared.Owner.{Owner}
+use Rattle.lock_book.specs.declared.book.Book.{Book}
+use Rattle.lock_book.specs.Owners.{is_same_owner}
+use Rattle.lock_book.specs.Books.{room_in, has_flock_place, SameButRoom, SetsOwnerMode}
 use Rattle.wait_core.specs.declared.Family.{Family}
 use Rattle.wait_core.specs.declared.Family.TheVariants.{Bytes, Whole}
 use Rattle.wait_core.specs.declared.Policy.{Policy}
@@ -82,3 +88,18 @@ room_for_one file wait is held = subst (λ (family : Family). IsReservedIn famil
 pub place_for_one : (file : LockFile) (wait : Pending) → wait.family ≡ Whole → IsReservedIn wait.family file wait
     → IsTrue (has_flock_place file.book wait.owner)
 place_for_one file wait is held = subst (λ (family : Family). IsReservedIn family file wait) is held
+
+-- a set behind a change of the owner's room
+pub sets_behind_room : (old mid new : Book) (owner : Owner) (span : Span) (mode : Option Mode) → SameButRoom old mid owner → SetsOwnerMode mid new owner span mode
+    → SetsOwnerMode old new owner span mode
+sets_behind_room old mid new owner span mode same sets = record {
+  bytes = λ other byte. sets.bytes other byte ∙ ap (λ (held : Option Mode). if is_same_owner owner other && is_covered span byte then mode else held) (same.bytes other byte);
+  rooms = λ other differs. sets.rooms other differs ∙ same.rooms other differs;
+  flocks = λ description. sets.flocks description ∙ same.flocks description;
+  places = λ description. sets.places description ∙ same.places description;
+}
+
+-- what holds of a call that succeeds, which it does
+pub from_ok : {E : Type 0} (result : Result (Unit {0}) E) (P : Type 0) → IsOk result → OnOk result P → P
+from_ok {E} (Ok unit) P is says = says
+from_ok {E} (Err refused) P is says = grind (arith, common_steps)

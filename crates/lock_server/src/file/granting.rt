@@ -1,10 +1,13 @@
 //! Which waits a grant leaves blocked.
-ghost use Rattle.std.specs.Prelude.{◌≡◌, ◌≢◌, ◌<◌, All, IsTrue, length};
+ghost use Rattle.std.specs.Prelude.{◌≡◌, ◌≢◌, ◌<◌, ◌≤◌, ◌+◌, All, IsTrue, Some, length};
+ghost use Rattle.range_core.specs.Ranges.{IsByteRange};
+ghost use Rattle.lock_book.specs.Books.{room_in, SetsOwnerMode};
 ghost use Rattle.lock_server.specs.Adding.{LeavesBlocked, OnlyAdds};
 ghost use Rattle.lock_server.specs.FileView.{file_state};
 
 use super::LockFile;
-use crate::{Family, Mode, Pending, Policy};
+use crate::{Family, Mode, Pending, Policy, Span};
+use lock_book::{Book, Owner};
 
 /// A wait that was granted.
 #[derive(Clone, Copy)]
@@ -38,6 +41,20 @@ impl LockFile {
             (Mode::Read, Family::Whole) => !self.has_flock_lock(wait.owner),
         }
     }
+}
+
+/// Sets the owner's mode on just the bytes of the span, in room that was held. It needs no memory; what the book keeps beside its lists, to be
+/// asked quickly, is given room where there is memory, since a settling may make any number of grants.
+pub(super) fn set_in_room(book: &mut Book, owner: u64, span: Span, mode: Mode)
+    requires range { IsByteRange span }
+    requires room { 1 ≤ room_in book.old (Owner.Description owner) }
+    ensures sets { SetsOwnerMode book.old book.new (Owner.Description owner) span (Some mode) }
+    ensures room { room_in book.old (Owner.Description owner) ≤ room_in book.new (Owner.Description owner) + 1 }
+{
+    let owner = Owner::Description(owner);
+    // Room for no set is there already, so the lists stay as they are.
+    let _ = book.reserve(owner, 0);
+    book.set_reserved(owner, span, Some(mode));
 }
 
 /// Whether no wait among these is of the owner, where waits are queued.

@@ -8,7 +8,7 @@ ghost use Rattle.lock_server.specs.Settling.{Grants, HasAlready, IsBlockedUnless
 ghost use Rattle.lock_server.specs.Waiting.{AreBlockedTo, IsReadyAt, IsReserved, IsReservedIn, KeepsFlockRoom, LeavesAt};
 
 use super::LockFile;
-use super::granting::Granted;
+use super::granting::{Granted, set_in_room};
 use crate::leaving::Leaving;
 use crate::{Family, Memory, Pending, Policy};
 use lock_book::Owner;
@@ -136,7 +136,7 @@ impl LockFile {
         Granted { wait, blocked }
     }
 
-    /// The wait, which left the list, gets its lock in the room that was held for it. It takes no memory.
+    /// The wait, which left the list, gets its lock in the room that was held for it. It needs no memory.
     fn give(&mut self, wait: &Pending)
         requires range { IsByteRange wait.now.span }
         requires room { IsReservedIn wait.now.family self.old wait.now }
@@ -146,8 +146,7 @@ impl LockFile {
     {
         match wait.family {
             Family::Bytes => {
-                let owner = Owner::Description(wait.owner);
-                self.book.set_reserved(owner, wait.span, Some(wait.mode));
+                set_in_room(&mut self.book, wait.owner, wait.span, wait.mode);
             }
             Family::Whole => {
                 self.book.flock_set_reserved(wait.owner, Some(wait.mode));
