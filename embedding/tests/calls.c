@@ -463,7 +463,10 @@ static void ends_without_memory(void) {
     dehokuna_release(&server, FILE_A, OPEN_FILE, true, 4);
     CHECK(!dehokuna_next_grant(&server, &ticket));
     CHECK(dehokuna_flock(&server, FILE_A, HOLDER, DEHOKUNA_UNLOCK) == DEHOKUNA_DONE);
+    CHECK(!was_refused);
+    /* Grants of byte locks may ask for room in the index of a file with many owners; where it is refused, they do without the index. */
     dehokuna_flush(&server, FILE_A, HOLDER);
+    was_refused = false;
     for (uint64_t owner = 2; owner < OWNERS; owner++) are_granted &= dehokuna_next_grant(&server, &ticket) && ticket == 1000 + owner;
     for (uint64_t owner = 2; owner < OWNERS; owner++)
         are_granted &= owner == 3 || (dehokuna_next_grant(&server, &ticket) && ticket == owner);
