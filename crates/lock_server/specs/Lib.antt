@@ -32,3 +32,6 @@ pub mod ServerView
 pub mod Queueing
 pub mod Agreement
 pub mod Exports
+pub mod Restoring
+pub mod Searching
+pub mod Importing

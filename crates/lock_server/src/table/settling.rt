@@ -42,8 +42,9 @@ impl Table {
         self.waiters.cross(wait.owner);
         true
     }
+
     /// The place of the earliest wait on the file that nothing blocks; `None` where each is blocked.
-    fn next_ready(&self, file: u64) -> Option<usize>
+    pub(super) fn next_ready(&self, file: u64) -> Option<usize>
         ensures ready { IfSome result (IsReadyAt (table_policy self.now) ((table_state self.now).files file)) }
         ensures settled { IfNone result (IsSettled (table_policy self.now) ((table_state self.now).files file)) }
     {
