@@ -94,9 +94,6 @@ pub joins_next : (S : State) (parts : List FilePart) (i : ℕ) (d : FilePart) (M
 joins_next S parts i d M T within before joins =
     subst (λ (l : List FilePart). JoinsAll S l T) (sym (take_more parts i d within)) (joins_push S (take i parts) M (get_or parts i d) T before joins)
 
-pub all_parts : {P : List FilePart → Type 0} (parts : List FilePart) (i : ℕ) → length parts ≤ i → P (take i parts) → P parts
-all_parts {P} parts i past holds = subst P (take_all i parts past) holds
-
 -- what was built up and tested is safe
 pub safe_built : (policy : Policy) (start locked joined queued : State) (parts : List FilePart) (tickets owners : List ℕ) (table : Table)
     → SameState opening start → SetsAll start parts locked → JoinsAll locked parts joined → QueuesEach joined tickets queued
@@ -122,9 +119,11 @@ export_compared server old new bytes size comes room kept small = (
   λ is.
       let least = comes.size_is bytes is in
       let fits : size ≡ length bytes = least ∙ min_small (length bytes) greatest small in
-      let written = comes.bytes (omega (arith, fits, room)) (omega (arith, fits, small)) in
-      (fits, sym (take_all size new (omega (arith, fits, room, kept)))
-      ∙ export_one (rules_of server) (state_of server) (through_of server) bytes (take size new) is written),
+      let written = comes.bytes (omega (arith, fits, room)) (omega (arith, fits, small)) in (
+        fits,
+        sym (take_all size new (omega (arith, fits, room, kept)))
+            ∙ export_one (rules_of server) (state_of server) (through_of server) bytes (take size new) is written,
+      ),
 )
   where
     min_small : (a b : ℕ) → a < b → min a b ≡ a

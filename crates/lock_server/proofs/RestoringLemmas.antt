@@ -23,8 +23,7 @@ sets_push : (S : State) (file : ℕ) (locks : List Pending) (M : State) (wanted 
     → ¬ IsHeldBack (M.files file) wanted → SetsOn M file wanted.family wanted.owner wanted.span (Some wanted.mode) T
     → SetsEach S file (locks ++ wanted ∷ []) T
 sets_push S file [] M wanted T same free sets =
-    let is : M ≡ S = state_from_same S M same in
-    (
+    let is : M ≡ S = state_from_same S M same in (
       T,
       subst (λ (U : State). ¬ IsHeldBack (U.files file) wanted) is free,
       subst (λ (U : State). SetsOn U file wanted.family wanted.owner wanted.span (Some wanted.mode) T) is sets,

@@ -1,5 +1,5 @@
 //! A server from the bytes of an export.
-ghost use Rattle.std.specs.Prelude.{◌↔◌, IfOk, IsTrue};
+ghost use Rattle.std.specs.Prelude.{◌≡◌, ◌↔◌, ◌<◌, ◌^◌, IfOk, IsTrue, length};
 ghost use Rattle.lock_server.specs.Exports.{IsExportOf};
 
 use super::LockServer;
@@ -29,6 +29,7 @@ impl LockServer {
         if server.has_export(alloc, bytes)? {
             Ok(server)
         } else {
+            // What the parts tell of was built up, and they were read from the bytes: no bytes are known that come here.
             Err(fault(Flaw::Form, 0))
         }
     }
@@ -38,7 +39,16 @@ impl LockServer {
         ensures { IfOk result (λ has. IsTrue has ↔ IsExportOf self.now bytes.now) }
     {
         let mut out = Vec::from_elem(alloc, 0_u8, bytes.len())?;
-        let size = self.export(&mut out);
-        Ok(size == bytes.len() && out.as_slice() == bytes)
+        Ok(self.writes(&mut out, bytes))
+    }
+
+    /// Whether the export of the server is these bytes, as it is written into a buffer of as many.
+    fn writes(&self, out: &mut [u8], bytes: &[u8]) -> bool
+        requires room { length out.old ≡ length bytes.now }
+        requires small { length bytes.now < 2 ^ 63 }
+        ensures { IsTrue result ↔ IsExportOf self.now bytes.now }
+    {
+        let size = self.export(out);
+        size == bytes.len() && &*out == bytes
     }
 }

@@ -10,87 +10,185 @@ use std::alloc::Global;
 use std::process::Abort;
 use std::test::Fail;
 
-/// What is wrong with the words, and with which of them.
-struct Case<'a> {
-    words: &'a [u64],
-    flaw: Flaw,
-    word: usize,
-}
+/// What is wrong, with which of the words, and these.
+type Case<'a> = (Flaw, usize, &'a [u64]);
 
 /// Words that are no export, each with what is wrong first.
 const CASES: [Case<'static>; 38] = [
     // the version, the policy, the conversion; a count of files, grants, crossed owners and notes that are not there; words that are too many
-    Case { words: &[2, 0, 0, 0, 0, 0, 0], flaw: Flaw::Form, word: 0 },
-    Case { words: &[1, 2, 0, 0, 0, 0, 0], flaw: Flaw::Form, word: 1 },
-    Case { words: &[1, 0, 2, 0, 0, 0, 0], flaw: Flaw::Form, word: 2 },
-    Case { words: &[1, 0, 0, u64::MAX, 0, 0, 0], flaw: Flaw::Form, word: 3 },
-    Case { words: &[1, 0, 0, 0, 3, 0, 0], flaw: Flaw::Form, word: 4 },
-    Case { words: &[1, 0, 0, 0, 0, 0, 1, 0], flaw: Flaw::Form, word: 6 },
-    Case { words: &[1, 0, 0, 0, 0, 0, 0, 0], flaw: Flaw::Form, word: 7 },
-    Case { words: &[], flaw: Flaw::Form, word: 0 },
+    (Flaw::Form, 0, &[2, 0, 0, 0, 0, 0, 0]),
+    (Flaw::Form, 1, &[1, 2, 0, 0, 0, 0, 0]),
+    (Flaw::Form, 2, &[1, 0, 2, 0, 0, 0, 0]),
+    (Flaw::Form, 3, &[1, 0, 0, u64::MAX, 0, 0, 0]),
+    (Flaw::Form, 4, &[1, 0, 0, 0, 3, 0, 0]),
+    (Flaw::Form, 6, &[1, 0, 0, 0, 0, 0, 1, 0]),
+    (Flaw::Form, 7, &[1, 0, 0, 0, 0, 0, 0, 0]),
+    (Flaw::Form, 0, &[]),
     // a file with nothing on it
-    Case { words: &[1, 0, 0, 1, 5, 0, 0, 0, 0, 0, 0], flaw: Flaw::Form, word: 4 },
+    (Flaw::Form, 4, &[1, 0, 0, 1, 5, 0, 0, 0, 0, 0, 0]),
     // a mode, an empty range, a range that is too long, more locks than are there
-    Case { words: &[1, 0, 0, 1, 5, 1, 1, 0, 9, 3, 0, 0, 0, 0, 0], flaw: Flaw::Form, word: 9 },
-    Case { words: &[1, 0, 0, 1, 5, 1, 1, 9, 8, 1, 0, 0, 0, 0, 0], flaw: Flaw::Form, word: 7 },
-    Case { words: &[1, 0, 0, 1, 5, 1, 1, 0, OFFMAX + 1, 1, 0, 0, 0, 0, 0], flaw: Flaw::Form, word: 7 },
-    Case { words: &[1, 0, 0, 1, 5, 3, 1, 0, 9, 1, 0, 0, 0, 0, 0], flaw: Flaw::Form, word: 5 },
+    (
+        Flaw::Form,
+        9,
+        &[1, 0, 0, 1, 5, 1, 1, 0, 9, 3, 0, 0, 0, 0, 0],
+    ),
+    (
+        Flaw::Form,
+        7,
+        &[1, 0, 0, 1, 5, 1, 1, 9, 8, 1, 0, 0, 0, 0, 0],
+    ),
+    (
+        Flaw::Form,
+        7,
+        &[1, 0, 0, 1, 5, 1, 1, 0, OFFMAX + 1, 1, 0, 0, 0, 0, 0],
+    ),
+    (
+        Flaw::Form,
+        5,
+        &[1, 0, 0, 1, 5, 3, 1, 0, 9, 1, 0, 0, 0, 0, 0],
+    ),
     // the mode of a flock lock; the family and the last word of a wait
-    Case { words: &[1, 0, 0, 1, 5, 0, 1, 1, 0, 0, 0, 0, 0], flaw: Flaw::Form, word: 8 },
-    Case { words: &[1, 0, 0, 1, 5, 0, 0, 1, 9, 1, 2, 0, 0, 1, 0, 0, 0, 0], flaw: Flaw::Form, word: 10 },
-    Case { words: &[1, 0, 0, 1, 5, 0, 0, 1, 9, 1, 0, 0, 0, 1, 2, 0, 0, 0], flaw: Flaw::Form, word: 14 },
+    (Flaw::Form, 8, &[1, 0, 0, 1, 5, 0, 1, 1, 0, 0, 0, 0, 0]),
+    (
+        Flaw::Form,
+        10,
+        &[1, 0, 0, 1, 5, 0, 0, 1, 9, 1, 2, 0, 0, 1, 0, 0, 0, 0],
+    ),
+    (
+        Flaw::Form,
+        14,
+        &[1, 0, 0, 1, 5, 0, 0, 1, 9, 1, 0, 0, 0, 1, 2, 0, 0, 0],
+    ),
     // files that don't rise
-    Case { words: &[1, 0, 0, 2, 5, 1, 1, 0, 9, 1, 0, 0, 4, 1, 1, 0, 9, 1, 0, 0, 0, 0, 0], flaw: Flaw::Order, word: 12 },
-    Case { words: &[1, 0, 0, 2, 5, 1, 1, 0, 9, 1, 0, 0, 5, 1, 1, 0, 9, 1, 0, 0, 0, 0, 0], flaw: Flaw::Order, word: 12 },
+    (
+        Flaw::Order,
+        12,
+        &[
+            1, 0, 0, 2, 5, 1, 1, 0, 9, 1, 0, 0, 4, 1, 1, 0, 9, 1, 0, 0, 0, 0, 0,
+        ],
+    ),
+    (
+        Flaw::Order,
+        12,
+        &[
+            1, 0, 0, 2, 5, 1, 1, 0, 9, 1, 0, 0, 5, 1, 1, 0, 9, 1, 0, 0, 0, 0, 0,
+        ],
+    ),
     // byte locks: of a lesser owner, of a lesser byte, that overlap, that touch and are one
-    Case { words: &[1, 0, 0, 1, 5, 2, 2, 0, 9, 1, 1, 0, 9, 1, 0, 0, 0, 0, 0], flaw: Flaw::Order, word: 10 },
-    Case { words: &[1, 0, 0, 1, 5, 2, 1, 20, 29, 1, 1, 0, 9, 1, 0, 0, 0, 0, 0], flaw: Flaw::Order, word: 10 },
-    Case { words: &[1, 0, 0, 1, 5, 2, 1, 0, 9, 1, 1, 9, 19, 2, 0, 0, 0, 0, 0], flaw: Flaw::Order, word: 10 },
-    Case { words: &[1, 0, 0, 1, 5, 2, 1, 0, 9, 1, 1, 10, 19, 1, 0, 0, 0, 0, 0], flaw: Flaw::Order, word: 10 },
+    (
+        Flaw::Order,
+        10,
+        &[1, 0, 0, 1, 5, 2, 2, 0, 9, 1, 1, 0, 9, 1, 0, 0, 0, 0, 0],
+    ),
+    (
+        Flaw::Order,
+        10,
+        &[1, 0, 0, 1, 5, 2, 1, 20, 29, 1, 1, 0, 9, 1, 0, 0, 0, 0, 0],
+    ),
+    (
+        Flaw::Order,
+        10,
+        &[1, 0, 0, 1, 5, 2, 1, 0, 9, 1, 1, 9, 19, 2, 0, 0, 0, 0, 0],
+    ),
+    (
+        Flaw::Order,
+        10,
+        &[1, 0, 0, 1, 5, 2, 1, 0, 9, 1, 1, 10, 19, 1, 0, 0, 0, 0, 0],
+    ),
     // flock locks, crossed owners, and notes of one file and of two
-    Case { words: &[1, 0, 0, 1, 5, 0, 2, 3, 1, 3, 1, 0, 0, 0, 0], flaw: Flaw::Order, word: 9 },
-    Case { words: &[1, 0, 0, 0, 0, 2, 4, 4, 0], flaw: Flaw::Order, word: 7 },
-    Case { words: &[1, 0, 0, 0, 0, 0, 2, 5, 1, 7, 5, 1, 8], flaw: Flaw::Order, word: 10 },
-    Case { words: &[1, 0, 0, 0, 0, 0, 2, 5, 1, 7, 4, 2, 8], flaw: Flaw::Order, word: 10 },
+    (
+        Flaw::Order,
+        9,
+        &[1, 0, 0, 1, 5, 0, 2, 3, 1, 3, 1, 0, 0, 0, 0],
+    ),
+    (Flaw::Order, 7, &[1, 0, 0, 0, 0, 2, 4, 4, 0]),
+    (Flaw::Order, 10, &[1, 0, 0, 0, 0, 0, 2, 5, 1, 7, 5, 1, 8]),
+    (Flaw::Order, 10, &[1, 0, 0, 0, 0, 0, 2, 5, 1, 7, 4, 2, 8]),
     // locks that conflict
-    Case { words: &[1, 0, 0, 1, 5, 2, 1, 0, 9, 2, 2, 9, 9, 1, 0, 0, 0, 0, 0], flaw: Flaw::Conflict, word: 10 },
-    Case { words: &[1, 0, 0, 1, 5, 0, 2, 1, 1, 2, 2, 0, 0, 0, 0], flaw: Flaw::Conflict, word: 9 },
+    (
+        Flaw::Conflict,
+        10,
+        &[1, 0, 0, 1, 5, 2, 1, 0, 9, 2, 2, 9, 9, 1, 0, 0, 0, 0, 0],
+    ),
+    (
+        Flaw::Conflict,
+        9,
+        &[1, 0, 0, 1, 5, 0, 2, 1, 1, 2, 2, 0, 0, 0, 0],
+    ),
     // a ticket twice: of waits on one file and on two, of a wait and a grant, of grants
-    Case { words: &[1, 0, 0, 1, 5, 1, 1, 0, 9, 2, 0, 2, 7, 2, 0, 0, 0, 1, 0, 7, 3, 0, 0, 0, 1, 0, 0, 0, 0], flaw: Flaw::Ticket, word: 19 },
-    Case {
-        words: &[1, 0, 0, 2, 5, 1, 1, 0, 9, 2, 0, 1, 7, 2, 0, 0, 0, 1, 0, 6, 1, 1, 0, 9, 2, 0, 1, 7, 2, 0, 0, 0, 1, 0, 0, 0, 0],
-        flaw: Flaw::Ticket,
-        word: 27,
-    },
-    Case { words: &[1, 0, 0, 1, 5, 1, 1, 0, 9, 2, 0, 1, 7, 2, 0, 0, 0, 1, 0, 1, 7, 0, 0], flaw: Flaw::Ticket, word: 20 },
-    Case { words: &[1, 0, 0, 0, 2, 6, 6, 0, 0], flaw: Flaw::Ticket, word: 6 },
+    (
+        Flaw::Ticket,
+        19,
+        &[
+            1, 0, 0, 1, 5, 1, 1, 0, 9, 2, 0, 2, 7, 2, 0, 0, 0, 1, 0, 7, 3, 0, 0, 0, 1, 0, 0, 0, 0,
+        ],
+    ),
+    (
+        Flaw::Ticket,
+        27,
+        &[
+            1, 0, 0, 2, 5, 1, 1, 0, 9, 2, 0, 1, 7, 2, 0, 0, 0, 1, 0, 6, 1, 1, 0, 9, 2, 0, 1, 7, 2,
+            0, 0, 0, 1, 0, 0, 0, 0,
+        ],
+    ),
+    (
+        Flaw::Ticket,
+        20,
+        &[
+            1, 0, 0, 1, 5, 1, 1, 0, 9, 2, 0, 1, 7, 2, 0, 0, 0, 1, 0, 1, 7, 0, 0,
+        ],
+    ),
+    (Flaw::Ticket, 6, &[1, 0, 0, 0, 2, 6, 6, 0, 0]),
     // waits that nothing blocks: of a read lock, and behind a wait under the policy of held locks alone
-    Case { words: &[1, 0, 0, 1, 5, 1, 1, 0, 9, 1, 0, 1, 7, 2, 0, 0, 0, 1, 0, 0, 0, 0], flaw: Flaw::Unblocked, word: 12 },
-    Case {
-        words: &[1, 0, 0, 1, 5, 1, 1, 0, 9, 1, 0, 2, 7, 2, 0, 0, 0, 2, 0, 8, 3, 0, 0, 0, 1, 0, 0, 0, 0],
-        flaw: Flaw::Unblocked,
-        word: 19,
-    },
+    (
+        Flaw::Unblocked,
+        12,
+        &[
+            1, 0, 0, 1, 5, 1, 1, 0, 9, 1, 0, 1, 7, 2, 0, 0, 0, 1, 0, 0, 0, 0,
+        ],
+    ),
+    (
+        Flaw::Unblocked,
+        19,
+        &[
+            1, 0, 0, 1, 5, 1, 1, 0, 9, 1, 0, 2, 7, 2, 0, 0, 0, 2, 0, 8, 3, 0, 0, 0, 1, 0, 0, 0, 0,
+        ],
+    ),
     // two owners that wait for each other
-    Case {
-        words: &[1, 0, 0, 2, 5, 1, 1, 0, 9, 2, 0, 1, 7, 2, 0, 0, 0, 1, 1, 6, 1, 2, 0, 9, 2, 0, 1, 8, 1, 0, 0, 0, 1, 1, 0, 0, 0],
-        flaw: Flaw::Cycle,
-        word: 27,
-    },
+    (
+        Flaw::Cycle,
+        27,
+        &[
+            1, 0, 0, 2, 5, 1, 1, 0, 9, 2, 0, 1, 7, 2, 0, 0, 0, 1, 1, 6, 1, 2, 0, 9, 2, 0, 1, 8, 1,
+            0, 0, 0, 1, 1, 0, 0, 0,
+        ],
+    ),
     // crossed owners: without a wait, and with one that isn't detected
-    Case { words: &[1, 0, 0, 0, 0, 1, 4, 0], flaw: Flaw::Crossed, word: 6 },
-    Case { words: &[1, 0, 0, 1, 5, 1, 1, 0, 9, 2, 0, 1, 7, 2, 0, 0, 0, 1, 0, 0, 1, 2, 0], flaw: Flaw::Crossed, word: 21 },
+    (Flaw::Crossed, 6, &[1, 0, 0, 0, 0, 1, 4, 0]),
+    (
+        Flaw::Crossed,
+        21,
+        &[
+            1, 0, 0, 1, 5, 1, 1, 0, 9, 2, 0, 1, 7, 2, 0, 0, 0, 1, 0, 0, 1, 2, 0,
+        ],
+    ),
     // of two flaws the one that comes first in the order of flaws
-    Case { words: &[1, 0, 0, 2, 5, 1, 1, 0, 9, 1, 0, 0, 5, 1, 1, 0, 9, 3, 0, 0, 0, 0, 0], flaw: Flaw::Form, word: 17 },
+    (
+        Flaw::Form,
+        17,
+        &[
+            1, 0, 0, 2, 5, 1, 1, 0, 9, 1, 0, 0, 5, 1, 1, 0, 9, 3, 0, 0, 0, 0, 0,
+        ],
+    ),
 ];
 
 #[test]
 fn names_what_is_wrong(rt: HostRuntime) -> Result<(), Fail> {
-    for case in &CASES {
-        let bytes = bytes_of(rt.alloc(), case.words)?;
+    for (flaw, word, words) in &CASES {
+        let bytes = bytes_of(rt.alloc(), words)?;
         let wanted = ImportFault::Invalid(Fault {
-            flaw: case.flaw,
-            offset: 8 * case.word,
+            flaw: *flaw,
+            offset: word.saturating_mul(8),
         });
         match LockServer::import(rt.alloc(), &bytes) {
             Ok(_) => assert!(rt; false),
@@ -150,27 +248,40 @@ fn refuses_each_beginning(rt: HostRuntime) -> Result<(), Fail> {
     Ok(())
 }
 
-/// Whatever bit of the bytes is another one: they are refused, or they are the export of what is made.
-#[test]
-fn refuses_or_exports_each_flip(rt: HostRuntime) -> Result<(), Fail> {
-    let mut bytes = bytes_of(rt.alloc(), &WORDS)?;
+/// Whether the bytes are the export of what is made of them; they are refused where not.
+fn is_export(rt: &impl Abort, alloc: Global, bytes: &[u8]) -> Result<bool, Memory> {
+    match LockServer::import(alloc, bytes) {
+        Ok(server) => {
+            assert!(rt; exported(rt, alloc, &server)?.as_slice() == bytes);
+            Ok(true)
+        }
+        Err(ImportFault::Invalid(_)) => Ok(false),
+        Err(ImportFault::Memory(memory)) => Err(memory),
+    }
+}
+
+/// How many of the bytes with another bit are an export.
+fn taken_flips(rt: &impl Abort, alloc: Global, bytes: &mut [u8]) -> Result<u64, Memory> {
     let mut taken = 0u64;
     for place in 0..bytes.len() {
         for bit in 0..8u32 {
             let was = bytes[place];
             bytes[place] = was ^ (1 << bit);
-            match LockServer::import(rt.alloc(), &bytes) {
-                Ok(server) => {
-                    taken += 1;
-                    assert!(rt; exported(&rt, rt.alloc(), &server)?.as_slice() == bytes.as_slice());
-                }
-                Err(ImportFault::Invalid(_)) => {}
-                Err(ImportFault::Memory(memory)) => return Err(Fail::from(memory)),
+            if is_export(rt, alloc, bytes)? {
+                taken = taken.saturating_add(1);
             }
             bytes[place] = was;
         }
     }
-    // A note's open file, for one, may be any number.
+    Ok(taken)
+}
+
+/// Whatever bit of the bytes is another one: they are refused, or they are the export of what is made. A note's open file, for one, may be
+/// any number.
+#[test]
+fn refuses_or_exports_each_flip(rt: HostRuntime) -> Result<(), Fail> {
+    let mut bytes = bytes_of(rt.alloc(), &WORDS)?;
+    let taken = taken_flips(&rt, rt.alloc(), &mut bytes)?;
     assert!(rt; taken >= 3 * 64);
     Ok(())
 }
@@ -197,8 +308,8 @@ fn imports_a_queue(rt: HostRuntime) -> Result<(), Fail> {
 #[test]
 fn imports_a_cycle_through_a_crossed_owner(rt: HostRuntime) -> Result<(), Fail> {
     let words = [
-        1, 0, 0, 2, 5, 1, 1, 0, 9, 2, 0, 1, 7, 2, 0, 0, 0, 1, 1, 6, 1, 2, 0, 9, 2, 0, 1, 8, 1, 0, 0,
-        0, 1, 1, 0, 1, 2, 0,
+        1, 0, 0, 2, 5, 1, 1, 0, 9, 2, 0, 1, 7, 2, 0, 0, 0, 1, 1, 6, 1, 2, 0, 9, 2, 0, 1, 8, 1, 0,
+        0, 0, 1, 1, 0, 1, 2, 0,
     ];
     imported(&rt, rt.alloc(), &bytes_of(rt.alloc(), &words)?)?;
     Ok(())
@@ -256,12 +367,7 @@ fn imports_thousands(rt: HostRuntime) -> Result<(), Fail> {
 }
 
 /// A sequence of 80 calls; after every fourth the server is one that was made of its bytes.
-fn sequence(
-    rt: &impl Abort,
-    alloc: Global,
-    rules: Rules,
-    rule: &mut Rule,
-) -> Result<(), Fail> {
+fn sequence(rt: &impl Abort, alloc: Global, rules: Rules, rule: &mut Rule) -> Result<(), Fail> {
     let mut model = Model::new(alloc, rules);
     let mut server = LockServer::new(alloc, rules);
     for step in 0..80u64 {
