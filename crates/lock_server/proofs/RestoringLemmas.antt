@@ -1,5 +1,5 @@
 -- Locks, waits and grants that are put one after another: for `Table::restore_locks`, `Table::restore_waits` and others.
-use Rattle.std.proofs.Common.{arith, ℕ, ◌≡◌, ◌∙◌, ◌<◌, ◌≤◌, ◌+◌, inl, inr, sym, ap, subst, refl, Some, List, [], ◌∷◌, ◌++◌, Any, length, get_or, map, take, append-nil, append_assoc}
+use Rattle.std.proofs.Common.{ℕ, ◌≡◌, ◌∙◌, ◌<◌, ◌≤◌, ◌+◌, sym, ap, subst, Some, List, [], ◌∷◌, ◌++◌, Any, length, get_or, map, take, append-nil, append_assoc}
 use Rattle.std.proofs.lemmas.List.{map-append, take_all, take_more}
 use Rattle.range_core.specs.declared.Mode.{Mode}
 use Rattle.range_core.specs.declared.Span.{Span}
@@ -11,7 +11,7 @@ use Rattle.lock_server.specs.Calls.{SetsOn, Suspends}
 use Rattle.lock_server.specs.Files.{FileState, SameFile, SetsBytes, SetsFlock, untouched}
 use Rattle.lock_server.specs.Restoring.{CrossesEach, JoinsEach, QueuesEach, SetsEach}
 use Rattle.lock_server.specs.Settling.{AllBlocked, IsHeldBack, IsSettled, IsWaitBlocked}
-use Rattle.lock_server.specs.States.{Crosses, IsDetectedOf, IsTaken, SameState, State}
+use Rattle.lock_server.specs.States.{Crosses, IsDetectedOf, IsTaken, State}
 use Rattle.lock_server.specs.TableView.{IsSwept, table_state}
 use Rattle.lock_server.specs.Waiting.{IsReadyAt}
 use Rattle.lock_server.proofs.SettleLemmas.{crosses_then}

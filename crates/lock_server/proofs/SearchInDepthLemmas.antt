@@ -1,7 +1,7 @@
 -- The search in depth for a cycle: for `owner_on_cycle`.
-use Rattle.std.proofs.Common.{arith, ℕ, ◌≡◌, ◌≢◌, ◌∙◌, ◌==◌, ◌<◌, ◌≤◌, ◌+◌, ◌*◌, inl, inr, sym, ap, subst, refl, true, false, List, [], ◌∷◌, ◌++◌, Contains, length, get_or, take, Option, Some, None}
+use Rattle.std.proofs.Common.{arith, ℕ, ◌≡◌, ◌≢◌, ◌∙◌, ◌==◌, ◌<◌, ◌≤◌, ◌+◌, inl, inr, sym, ap, subst, refl, true, false, List, [], ◌∷◌, ◌++◌, Contains, length, get_or, take, Option, Some, None}
 use Rattle.std.proofs.lemmas.Grind.{common_steps}
-use Rattle.std.specs.Prelude.{◌⊎◌, ◌↔◌, AllPairs, IsSome, IsTrue, if◌then◌else◌, vec_len}
+use Rattle.std.specs.Prelude.{◌↔◌, AllPairs, IsSome, IsTrue, vec_len}
 use Rattle.std.specs.BTreeSet.{BTreeSet, Updates, btree_set_len, contains}
 use Rattle.std.specs.Ordering.{nat_cmp}
 use Rattle.std.proofs.lemmas.Bool.{cases_Bool, cases_eq, eq-eqb}
@@ -16,7 +16,7 @@ use Rattle.wait_core.specs.declared.Policy.{Policy}
 use Rattle.lock_server.specs.declared.table.cycles.Search.{Search}
 use Rattle.lock_server.specs.Deadlock.{IsFreeOfCycles, WaitsFor, WaitsUncrossed}
 use Rattle.lock_server.specs.Restoring.{IsOnCycle}
-use Rattle.lock_server.specs.Searching.{ComesTo, GoesOn, IsAhead, IsSearchedInDepth, steps_left}
+use Rattle.lock_server.specs.Searching.{ComesTo, GoesOn, IsAhead, IsSearchedInDepth}
 use Rattle.lock_server.specs.States.{State}
 use Rattle.lock_server.proofs.ChainLemmas.{chain_append}
 use Rattle.lock_server.specs.declared.table.Table.{Table}

@@ -1,8 +1,6 @@
 -- How the parts of an export become a table (the words are this project's choice).
-use Rattle.std.specs.Prelude.{◌≡◌, ℕ, List, [], ◌∷◌, map}
+use Rattle.std.specs.Prelude.{List, [], ◌∷◌, map}
 use Rattle.lock_server.specs.declared.import.parts.FilePart.{FilePart}
-use Rattle.lock_server.specs.declared.import.parts.Parts.{Parts}
-use Rattle.lock_server.specs.Inventory.{FileEntry, Inventory, Note}
 use Rattle.lock_server.specs.Restoring.{JoinsEach, SetsEach, flock_lock_request, lock_request}
 use Rattle.lock_server.specs.States.{SameState, State}
 

@@ -1,12 +1,12 @@
 -- A table that is built up from what bytes tell: locks, waits, grants and crossed owners are put, and no wait is granted (the words are
 -- this project's choice).
-use Rattle.std.specs.Prelude.{◌≡◌, ℕ, ◌++◌, false, IsTrue, Option, Some, None, List, [], ◌∷◌, map, slice_get, take}
+use Rattle.std.specs.Prelude.{◌≡◌, ℕ, ◌++◌, false, Option, Some, None, List, [], ◌∷◌, map, slice_get, take}
 use Rattle.wait_core.specs.declared.Policy.{Policy}
 use Rattle.lock_server.specs.declared.FlockLock.{FlockLock}
 use Rattle.lock_server.specs.declared.Lock.{Lock}
 use Rattle.lock_server.specs.declared.Pending.{Pending}
 use Rattle.lock_server.specs.Calls.{SetsOn, Suspends, byte_request, flock_request, no_ticket}
-use Rattle.lock_server.specs.Deadlock.{IsFreeOfCycles, WaitsUncrossed}
+use Rattle.lock_server.specs.Deadlock.{WaitsUncrossed}
 use Rattle.lock_server.specs.Files.{SameFile}
 use Rattle.lock_server.specs.Safety.{IsCompatible}
 use Rattle.lock_server.specs.Settling.{IsHeldBack, IsSettled}

@@ -1,6 +1,6 @@
 -- A search in depth for a cycle (the words are this project's choice).
 use Rattle.std.specs.Prelude.{◌≡◌, ℕ, ◌+◌, ◌*◌, ◌≤◌, ◌⊎◌, ◌↔◌, IsTrue, List, [], ◌∷◌, ◌++◌, Contains, AllPairs, vec_len}
-use Rattle.std.specs.BTreeSet.{BTreeSet, btree_set_len, contains}
+use Rattle.std.specs.BTreeSet.{btree_set_len, contains}
 use Rattle.std.specs.Ordering.{nat_cmp}
 use Rattle.wait_core.specs.Cycles.{IsChain}
 use Rattle.wait_core.specs.declared.Policy.{Policy}

@@ -1,4 +1,4 @@
-use Rattle.std.proofs.Common.{◌≡◌, ℕ, arith, inl, inr, subst, sym}
+use Rattle.std.proofs.Common.{ℕ, arith, inl, inr, subst, sym}
 use Rattle.std.proofs.lemmas.Bool.{cases_eq, cases_lt}
 use Rattle.lock_server.specs.Settling.{IsSettled}
 use Rattle.lock_server.specs.TableView.{table_policy, table_state}

@@ -1,6 +1,3 @@
-use Rattle.std.proofs.Common.{refl}
-use Rattle.lock_server.specs.TableView.{table_state, entry_of}
-use Rattle.lock_server.proofs.StateLemmas.{SameFile-itself}
 use Rattle.lock_server.proofs.TableMoves.{indexed, tickets_known, waiters_known, waits_in}
 use Rattle.lock_server.proofs.TakenLemmas.{idle_from_free, known_queued}
 use Rattle.lock_server.proofs.table.Table.queue.Goals as goal

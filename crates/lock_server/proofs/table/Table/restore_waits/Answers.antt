@@ -1,4 +1,4 @@
-use Rattle.std.proofs.Common.{◌≡◌, ◌∙◌, get_or, subst, sym, Some, false}
+use Rattle.std.proofs.Common.{◌∙◌, get_or, subst, false}
 use Rattle.std.proofs.lemmas.Option.{slice_get-get_or}
 use Rattle.range_core.specs.declared.Mode.TheVariants.{Read}
 use Rattle.wait_core.specs.declared.Family.TheVariants.{Bytes}

@@ -1,5 +1,5 @@
 use Rattle.std.proofs.Common.{arith}
-use Rattle.lock_server.proofs.ForgetLemmas.{next_from_above, next_of}
+use Rattle.lock_server.proofs.ForgetLemmas.{next_from_above}
 use Rattle.lock_server.proofs.waiters.Waiters.uncrossed.Goals as goal
 
 pub loop-owner-smaller : goal.loop-owner-smaller

@@ -1,4 +1,4 @@
-use Rattle.std.proofs.Common.{◌≡◌, ◌<◌, ◌∙◌, List, ap, get_or, length, map, subst, sym}
+use Rattle.std.proofs.Common.{◌≡◌, ◌<◌, ◌∙◌, List, ap, get_or, length, map, subst}
 use Rattle.lock_server.specs.declared.FlockLock.{FlockLock}
 use Rattle.lock_server.specs.declared.Lock.{Lock}
 use Rattle.lock_server.specs.declared.import.parts.FilePart.{FilePart}
