@@ -840,6 +840,114 @@ static void exports(void) {
     dehokuna_destroy(&server);
 }
 
+/* Words as bytes, each as eight, the lowest first; how many bytes these are. */
+static size_t bytes_of(const uint64_t *words, size_t count, uint8_t *out) {
+    for (size_t place = 0; place < 8 * count; place++) out[place] = (uint8_t)(words[place / 8] >> 8 * (place % 8));
+    return 8 * count;
+}
+
+/* Bytes are refused, for what is wrong with this word of theirs, and no server is made; memory for it is given back. */
+static bool is_refused_for(const uint64_t *words, size_t count, uint32_t flaw, size_t word) {
+    static uint8_t bytes[400];
+    const long before = blocks;
+    struct dehokuna_server server = {0};
+    struct dehokuna_fault fault = {99, 99};
+    if (dehokuna_import(&server, bytes, bytes_of(words, count, bytes), &fault) != DEHOKUNA_INVALID) return false;
+    return !server.at && fault.flaw == flaw && fault.offset == 8 * word && blocks == before;
+}
+
+#define REFUSED_FOR(flaw, word, ...) \
+    CHECK(is_refused_for((const uint64_t[]){__VA_ARGS__}, sizeof(uint64_t[]){__VA_ARGS__} / sizeof(uint64_t), flaw, word))
+
+/* The server that the bytes make has them as its export. */
+static bool is_imported(struct dehokuna_server *server, const uint8_t *bytes, size_t size, uint8_t *out) {
+    struct dehokuna_fault fault = {99, 99};
+    if (dehokuna_import(server, bytes, size, &fault) != DEHOKUNA_DONE || fault.flaw != 99 || fault.offset != 99) return false;
+    return dehokuna_export_size(server) == size && dehokuna_export(server, out, size) == size && memcmp(out, bytes, size) == 0;
+}
+
+/* A state with everything in it: on file 7 Bob waits for a byte of Ann and was given a lock since, so he is crossed, and Cat for the flock lock
+ * of Ann; a grant wasn't fetched, and Ann is noted. */
+static const uint64_t everything[] = {1, 0, 1, 2,
+                                      FILE_A, 2, ANN, 4, 9, 2, BOB, 20, 29, 1, 1, ANN, 2, 2, 70, BOB, 0, 5, 5, 1, 1,
+                                      71, CAT, 1, 0, DEHOKUNA_LARGEST_OFFSET, 1, 0,
+                                      FILE_B, 1, CAT, 0, 0, 1, 0, 0,
+                                      1, 72, 1, BOB, 1, FILE_A, ANN, 12};
+enum { EVERYTHING = sizeof everything / sizeof *everything };
+
+/* Every beginning of it is refused, and so is all but what is an export again with any of its bits another one. */
+static void imports(void) {
+    uint8_t bytes[8 * EVERYTHING], out[8 * EVERYTHING];
+    const size_t size = bytes_of(everything, EVERYTHING, bytes);
+    const long before = blocks;
+    struct dehokuna_server server = {0};
+    CHECK(is_imported(&server, bytes, size, out));
+    dehokuna_flush(&server, FILE_A, ANN);
+    dehokuna_flock_release(&server, FILE_A, ANN);
+    CHECK(granted(&server) == 72 && granted(&server) == 70 && granted(&server) == 71 && granted(&server) == 0);
+    dehokuna_destroy(&server);
+    CHECK(blocks == before);
+    unsigned cut = 0, wrong = 0, taken = 0;
+    struct dehokuna_fault fault;
+    for (size_t length = 0; length < size; length++) {
+        cut += dehokuna_import(&server, bytes, length, &fault) == DEHOKUNA_INVALID && fault.flaw == DEHOKUNA_FORM && fault.offset <= length;
+    }
+    CHECK(cut == size);
+    for (size_t bit = 0; bit < 8 * size; bit++) {
+        bytes[bit / 8] ^= (uint8_t)(1 << bit % 8);
+        if (is_imported(&server, bytes, size, out)) {
+            taken++;
+            dehokuna_destroy(&server);
+        } else if (server.at || dehokuna_import(&server, bytes, size, &fault) != DEHOKUNA_INVALID) {
+            wrong++;
+        }
+        bytes[bit / 8] ^= (uint8_t)(1 << bit % 8);
+    }
+    CHECK(wrong == 0 && taken > 64);
+    CHECK(blocks == before);
+}
+
+/* Each kind of flaw, at its word (docs/EMBEDDING.md, "The state as bytes"). */
+static void flaws(void) {
+    REFUSED_FOR(DEHOKUNA_FORM, 0, 2, 0, 0, 0, 0, 0, 0);
+    REFUSED_FOR(DEHOKUNA_FORM, 3, 1, 0, 0, UINT64_MAX, 0, 0, 0);
+    REFUSED_FOR(DEHOKUNA_FORM, 7, 1, 0, 0, 0, 0, 0, 0, 0);
+    REFUSED_FOR(DEHOKUNA_ORDER, 10, 1, 0, 0, 1, FILE_A, 2, BOB, 0, 9, 1, ANN, 0, 9, 1, 0, 0, 0, 0, 0);
+    REFUSED_FOR(DEHOKUNA_ORDER, 12, 1, 0, 0, 2, FILE_B, 1, ANN, 0, 9, 1, 0, 0, FILE_A, 1, ANN, 0, 9, 1, 0, 0, 0, 0, 0);
+    REFUSED_FOR(DEHOKUNA_CONFLICT, 10, 1, 0, 0, 1, FILE_A, 2, ANN, 0, 9, 2, BOB, 9, 9, 1, 0, 0, 0, 0, 0);
+    REFUSED_FOR(DEHOKUNA_TICKET, 20, 1, 0, 0, 1, FILE_A, 1, ANN, 0, 9, 2, 0, 1, 70, BOB, 0, 0, 0, 1, 0, 1, 70, 0, 0);
+    REFUSED_FOR(DEHOKUNA_UNBLOCKED, 12, 1, 0, 0, 1, FILE_A, 1, ANN, 0, 9, 1, 0, 1, 70, BOB, 0, 0, 0, 1, 0, 0, 0, 0);
+    REFUSED_FOR(DEHOKUNA_CYCLE, 27, 1, 0, 0, 2, FILE_A, 1, ANN, 0, 9, 2, 0, 1, 70, BOB, 0, 0, 0, 1, 1, FILE_B, 1, BOB, 0, 9, 2, 0, 1, 71, ANN, 0,
+                0, 0, 1, 1, 0, 0, 0);
+    REFUSED_FOR(DEHOKUNA_CROSSED, 6, 1, 0, 0, 0, 0, 1, ANN, 0);
+}
+
+/* Each growth of an import in turn is refused: no server is made, and nothing is left. */
+static void imports_without_memory(void) {
+    uint8_t bytes[8 * EVERYTHING], out[8 * EVERYTHING];
+    const size_t size = bytes_of(everything, EVERYTHING, bytes);
+    const long before = blocks;
+    struct dehokuna_server server = {0};
+    struct dehokuna_fault fault = {99, 99};
+    unsigned refused = 0;
+    for (long growths = 0;; growths++) {
+        growths_left = growths;
+        was_refused = false;
+        const uint32_t told = dehokuna_import(&server, bytes, size, &fault);
+        growths_left = -1;
+        if (!was_refused) {
+            CHECK(told == DEHOKUNA_DONE);
+            break;
+        }
+        if (told != DEHOKUNA_NO_MEMORY || server.at || fault.flaw != 99 || blocks != before) break;
+        refused++;
+    }
+    CHECK(refused > 10 && server.at);
+    CHECK(dehokuna_export(&server, out, size) == size && memcmp(out, bytes, size) == 0);
+    dehokuna_destroy(&server);
+    CHECK(blocks == before);
+}
+
 int main(void) {
     struct dehokuna_server server = {0};
     CHECK(dehokuna_create(&server, DEHOKUNA_HELD) && server.at);
@@ -857,6 +965,9 @@ int main(void) {
     holders_in_a_queue();
     invalid_calls();
     exports();
+    imports();
+    flaws();
+    imports_without_memory();
     moved();
     listings();
     refusals();

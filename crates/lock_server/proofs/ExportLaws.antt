@@ -276,7 +276,7 @@ inventory_told one other same =
     λ i. record { files = files.0 i; grants = grants.0 i; crossed = crossed.0 i; notes = notes.0 i }
 
 -- a state has one export
-export_one : (rules : Rules) (S : State) (through : ℕ → ℕ → Option ℕ) (bytes others : List ℕ) → IsExport rules S through bytes
+pub export_one : (rules : Rules) (S : State) (through : ℕ → ℕ → Option ℕ) (bytes others : List ℕ) → IsExport rules S through bytes
     → IsExport rules S through others → others ≡ bytes
 export_one rules S through bytes others first second =
     second.is ∙ ap (λ (i : Inventory). bytes_of (export_words rules i)) (inventory_one S through second.inventory first.inventory second.is_inventory first.is_inventory)

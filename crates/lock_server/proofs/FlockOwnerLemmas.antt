@@ -1,6 +1,6 @@
 -- The owners that a file keeps beside its book: for `LockFile::set_flock` and `LockFile::place_flock`.
 use Rattle.std.proofs.lemmas.Grind.{common_steps}
-use Rattle.std.proofs.Common.{ℕ, ◌≡◌, arith, Option}
+use Rattle.std.proofs.Common.{ℕ, arith, Option}
 use Rattle.std.specs.Prelude.{IsTrue}
 use Rattle.std.specs.BTreeSet.{BTreeSet}
 use Rattle.std.proofs.lemmas.Bool.{cases_eq}

@@ -11,6 +11,9 @@ pub mod TableLemmas
 pub mod WaiterLemmas
 pub mod GatheredOwnerLemmas
 pub mod SearchLemmas
+pub mod SearchInDepthLemmas
+pub mod RestoringLemmas
+pub mod ImportLemmas
 pub mod BlockerLemmas
 pub mod ReachedLemmas
 pub mod ReadyLemmas

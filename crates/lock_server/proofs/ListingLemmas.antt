@@ -1,5 +1,4 @@
 -- What is in the way of a wait: for `LockFile::lock_in_the_way`, `LockFile::obstacle` and `LockServer::wait_at`.
-use Rattle.std.proofs.lemmas.Grind.{common_steps}
 use Rattle.std.proofs.Common.{ℕ, ◌≡◌, ◌≢◌, ◌<◌, inl, inr, sym, ap, subst, refl, arith, append_assoc, append-nil, Option, Some, None, List, [], ◌∷◌, ◌++◌, length, take, zero, suc}
 use Rattle.std.specs.Prelude.{Any, slice_get}
 use Rattle.std.proofs.Math.Logic.{∥∥₁_elim}
@@ -17,7 +16,7 @@ use Rattle.wait_core.specs.Blocking.{IsBlockedIn}
 use Rattle.lock_server.specs.declared.FlockLock.{FlockLock}
 use Rattle.lock_server.specs.declared.Pending.{Pending}
 use Rattle.lock_server.specs.Files.{FileState, locks_on}
-use Rattle.lock_server.specs.Listing.{EndsBefore, IsFlockInTheWay, IsFirstConflict, flock_place}
+use Rattle.lock_server.specs.Listing.{EndsBefore, IsFlockInTheWay, flock_place}
 use Rattle.lock_server.specs.Pendings.{as_wait}
 use Rattle.lock_server.specs.Settling.{AllBlocked, IsHeldBack, IsSettled, IsWaitBlocked, PendingsConflict}
 

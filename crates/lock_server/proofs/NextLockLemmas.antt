@@ -1,9 +1,7 @@
 -- The first byte lock from an owner's byte on, where the owners are gone through one after another: for `LockFile::next_lock`.
-use Rattle.std.proofs.lemmas.Grind.{common_steps}
-use Rattle.std.proofs.Common.{ℕ, ◌≡◌, ◌+◌, ◌<◌, ◌≤◌, ◌∙◌, inl, inr, sym, subst, arith, Option, Some, None, [], ◌∷◌}
-use Rattle.std.proofs.lemmas.Bool.{cases_eq, cases_lt}
-use Rattle.range_core.specs.declared.Mode.{Mode}
-use Rattle.range_core.specs.Ranges.{IsRun, Modes}
+use Rattle.std.proofs.Common.{ℕ, ◌≡◌, ◌+◌, ◌<◌, ◌≤◌, ◌∙◌, inl, inr, sym, subst, arith, Some, None, [], ◌∷◌}
+use Rattle.std.proofs.lemmas.Bool.{cases_lt}
+use Rattle.range_core.specs.Ranges.{IsRun}
 use Rattle.lock_server.specs.declared.Lock.{Lock}
 use Rattle.lock_server.specs.Files.{FileState}
 use Rattle.lock_server.specs.Listing.{BeginBefore, EndsBefore, IsByteLock, IsEarlier, IsFirstFrom, IsFirstRunFrom, lock_place}

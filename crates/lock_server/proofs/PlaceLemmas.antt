@@ -1,7 +1,6 @@
 -- The order of places, and the first thing that is listed from one on: for `LockFile::next_wait`, `Table::next_wait` and the law on
 -- listings.
-use Rattle.std.proofs.lemmas.Grind.{common_steps}
-use Rattle.std.proofs.Common.{ℕ, ◌≡◌, ◌<◌, ◌≤◌, ◌∙◌, ◌⊎◌, inl, inr, refl, sym, subst, arith, Option, Some, None, List, [], ◌∷◌, length}
+use Rattle.std.proofs.Common.{ℕ, ◌≡◌, ◌∙◌, ◌⊎◌, inl, inr, refl, sym, subst, arith, Option, Some, None, List, [], ◌∷◌, length}
 use Rattle.std.proofs.lemmas.Bool.{cases_lt}
 use Rattle.lock_server.specs.declared.OwnerWait.{OwnerWait}
 use Rattle.lock_server.specs.Listing.{EndsBefore, IsEarlier, IsEarlierOf, IsFirstFrom, IsNextFrom, wait_place}

@@ -22,7 +22,7 @@ use Rattle.lock_server.specs.Safety.{IsCompatible}
 use Rattle.lock_server.specs.ServerView.{state_of}
 use Rattle.lock_server.specs.TableView.{table_policy, table_state}
 use Rattle.lock_server.specs.Queueing.{QueueIsKept}
-use Rattle.lock_server.specs.Settling.{AllBlocked, Grants, HasAlready, HasIn, IsAtLeast, IsBlockedUnless, IsWaitBlocked, PendingsConflict}
+use Rattle.lock_server.specs.Settling.{AllBlocked, HasAlready, HasIn, IsAtLeast, IsBlockedUnless, IsWaitBlocked, PendingsConflict}
 use Rattle.lock_server.specs.States.{State}
 use Rattle.lock_server.proofs.OutcomeLaws.{blocked_at}
 

@@ -1,7 +1,7 @@
 -- Which tickets are taken, by what a table knows of them: for `is_taken`, `cancel` and the server's fact that each names one request.
-use Rattle.std.proofs.Common.{arith, ℕ, ◌≡◌, ◌==◌, ◌∙◌, inl, inr, sym, refl, subst, Option, Some, None, List, [], ◌∷◌, Any}
+use Rattle.std.proofs.Common.{arith, ℕ, ◌≡◌, ◌==◌, ◌∙◌, inl, inr, sym, refl, subst, Option, Some, None, List, [], ◌∷◌, ◌++◌, Any}
 use Rattle.std.proofs.lemmas.Grind.{common_steps}
-use Rattle.std.specs.Prelude.{◌↔◌, IsTrue, IfSome, IfNone, Contains}
+use Rattle.std.specs.Prelude.{◌↔◌, IsTrue, IfSome, IfNone, OnErr, OnOk, Ok, Err, Result, Contains}
 use Rattle.std.proofs.lemmas.Bool.{eqb-true, eq-eqb}
 use Rattle.std.proofs.lemmas.List.Folds.{Any-from_list_any, list_any-from_Any}
 use Rattle.lock_server.specs.declared.Pending.{Pending}
@@ -14,7 +14,7 @@ use Rattle.lock_server.specs.TableView.{table_state, entry_of}
 use Rattle.lock_server.specs.States.{IsTaken, WaitsOn}
 use Rattle.lock_server.specs.Safety.{AreTicketsOnce}
 use Rattle.lock_server.proofs.ListLemmas.{Any-weaker}
-use Rattle.lock_server.proofs.TicketMoves.{TicketsKnown, IsIdle, ticket_of, itself, has_key, tickets_fetched}
+use Rattle.lock_server.proofs.TicketMoves.{TicketsKnown, IsIdle, ticket_of, itself, has_key, tickets_fetched, tickets_queued}
 
 waits_from_test : (ticket : ℕ) (waits : List Pending) → IsTrue (has_key ticket_of ticket waits) → Any (λ wait. wait.ticket ≡ ticket) waits
 waits_from_test ticket waits test = grind (arith, common_steps, Any-weaker, eqb-true, Any-from_list_any)
@@ -82,16 +82,27 @@ idle_none = record { waits = λ file e. (let h : None ≡ Some (Waits file) = e 
 pub idle_reserved : IsIdle (Some Reserved)
 idle_reserved = record { waits = λ file e. (let h : Some Reserved ≡ Some (Waits file) = e in cc); granted = λ e. (let h : Some Reserved ≡ Some Granted = e in cc) }
 
+-- the same tickets are known as well
+pub known_same : (waits : ℕ → List Pending) (tickets after : Tickets) → TicketsKnown waits tickets → SameTickets tickets after → TicketsKnown waits after
+known_same waits tickets after known same = record {
+  pending = λ ticket file. subst (λ (place : Option Place). (place ≡ Some (Waits file)) ↔ IsTrue (has_key ticket_of ticket (waits file))) (sym (same.places ticket)) (known.pending ticket file);
+  granted = λ ticket.
+      subst (λ (place : Option Place). (place ≡ Some Granted) ↔ IsTrue (has_key itself ticket (grants_of after))) (sym (same.places ticket))
+      (subst (λ (grants : List ℕ). (place_at tickets ticket ≡ Some Granted) ↔ IsTrue (has_key itself ticket grants)) (sym same.grants) (known.granted ticket));
+  once_on_a_file = known.once_on_a_file;
+  granted_once = rw same.grants known.granted_once;
+}
+
+-- the tickets after a grant was queued, or refused
+pub known_queued : {X E : Type 0} (r : Result X E) (waits : ℕ → List Pending) (tickets after : Tickets) (ticket : ℕ) → TicketsKnown waits tickets
+    → IsIdle (place_at tickets ticket) → OnOk r (SetsPlace tickets after ticket (Some Granted)) → OnOk r (grants_of after ≡ grants_of tickets ++ ticket ∷ [])
+    → OnErr r (SameTickets tickets after) → TicketsKnown waits after
+known_queued (Ok done) waits tickets after ticket known idle place grants same = tickets_queued waits tickets after ticket known idle place grants
+known_queued (Err refused) waits tickets after ticket known idle place grants same = known_same waits tickets after known same
+
 -- the tickets after a fetch
 pub known_fetched : (waits : ℕ → List Pending) (tickets after : Tickets) (result : Option ℕ) → TicketsKnown waits tickets
     → IfSome result (λ ticket. (grants_of tickets ≡ ticket ∷ grants_of after) × SetsPlace tickets after ticket None)
     → IfNone result ((grants_of tickets ≡ []) × SameTickets tickets after) → TicketsKnown waits after
 known_fetched waits tickets after (Some ticket) known some none = tickets_fetched waits tickets after ticket known some.0 some.1
-known_fetched waits tickets after None known some none = record {
-  pending = λ ticket file. subst (λ (place : Option Place). (place ≡ Some (Waits file)) ↔ IsTrue (has_key ticket_of ticket (waits file))) (sym (none.1.places ticket)) (known.pending ticket file);
-  granted = λ ticket.
-      subst (λ (place : Option Place). (place ≡ Some Granted) ↔ IsTrue (has_key itself ticket (grants_of after))) (sym (none.1.places ticket))
-      (subst (λ (grants : List ℕ). (place_at tickets ticket ≡ Some Granted) ↔ IsTrue (has_key itself ticket grants)) (sym none.1.grants) (known.granted ticket));
-  once_on_a_file = known.once_on_a_file;
-  granted_once = rw none.1.grants known.granted_once;
-}
+known_fetched waits tickets after None known some none = known_same waits tickets after known none.1

@@ -1,8 +1,8 @@
 -- Whoever goes on from behind what was told is told all, each once, in order: for `listings_tell_all`.
 use Rattle.std.proofs.lemmas.Grind.{common_steps}
-use Rattle.std.proofs.Common.{ℕ, ◌≡◌, ◌+◌, ◌<◌, ◌≤◌, ◌∙◌, ◌⊎◌, inl, inr, refl, sym, ap, subst, arith, zero, suc, Some, List, [], ◌∷◌, All, AllPairs, Contains, length, get_or}
+use Rattle.std.proofs.Common.{ℕ, ◌≡◌, ◌<◌, ◌∙◌, ◌⊎◌, inl, inr, refl, sym, ap, subst, arith, zero, suc, Some, List, [], ◌∷◌, All, AllPairs, Contains, length, get_or}
 use Rattle.std.proofs.lemmas.Bool.{cases_lt}
-use Rattle.std.proofs.lemmas.List.Elements.{All-cons, All-contains, All-nil, Contains-append_right, Contains-get_or}
+use Rattle.std.proofs.lemmas.List.Elements.{All-cons, Contains-append_right, Contains-get_or}
 use Rattle.range_core.specs.declared.Mode.{Mode}
 use Rattle.range_core.specs.declared.Span.{Span}
 use Rattle.range_core.specs.Ranges.{IsRun, Modes}
@@ -10,9 +10,9 @@ use Rattle.lock_server.specs.declared.FlockLock.{FlockLock}
 use Rattle.lock_server.specs.declared.Lock.{Lock}
 use Rattle.lock_server.specs.declared.OwnerWait.{OwnerWait}
 use Rattle.lock_server.specs.Files.{FileState}
-use Rattle.lock_server.specs.Listing.{EndsBefore, IsByteLock, IsEarlier, IsFirstFrom, IsFlockLock, IsInUse, IsWaitUpTo, file_place, flock_place, lock_place, wait_place}
+use Rattle.lock_server.specs.Listing.{IsByteLock, IsEarlier, IsFlockLock, IsInUse, IsWaitUpTo, file_place, flock_place, lock_place, wait_place}
 use Rattle.lock_server.specs.ListingLaws.{AreAll, AreTold, ListingsTellAll, place_behind}
-use Rattle.lock_server.proofs.PlaceLemmas.{IsEarlier-irreflexive, IsEarlier-transitive}
+use Rattle.lock_server.proofs.PlaceLemmas.{IsEarlier-transitive}
 
 -- of two places one comes before the other, or they are one
 one_or_other : (one two : List ℕ) → length one ≡ length two → IsEarlier one two ⊎ ((one ≡ two) ⊎ IsEarlier two one)

@@ -10,6 +10,7 @@ use Rattle.std.proofs.lemmas.Grind.{common_steps}
 use Rattle.std.proofs.lemmas.List.Sums.{sum_by-cons}
 use Rattle.std.proofs.lemmas.Map.Entries.{sum_by-set_value, sum_by-insert_entry, sum_by-remove_entry}
 use Rattle.lock_server.specs.declared.tickets.Place.{Place}
+use Rattle.lock_server.specs.declared.tickets.Place.TheVariants.{Granted}
 use Rattle.lock_server.specs.declared.tickets.Tickets.{Tickets}
 use Rattle.lock_server.specs.Owed.{owed, owed_by}
 use Rattle.lock_server.specs.TicketsView.{place_at, SetsPlace}
@@ -47,6 +48,12 @@ unfolding place_at
 SetsPlace-updates old new ticket place updates = record { here = updates.1; others = λ other differs. updates.2 other (is_at-other ticket other differs) }
 
 -- an insertion, made or refused, brings one grant at most
+-- a new ticket that is granted brings none
+pub owed-queued : {T E : Type 0} (r : Result T E) (old new : List (ℕ × Place)) (ticket : ℕ) → IsStrictlySortedBy nat_cmp (keys_of old)
+    → OnOk r (new ≡ insert_entry nat_cmp old ticket Granted) → OnErr r (new ≡ old) → owed new ≤ owed old
+owed-queued (Ok x) old new ticket sorted ok err = rw ok (omega (arith, sum_by-insert_entry owed_by nat_cmp_total old ticket Granted sorted))
+owed-queued (Err e) old new ticket sorted ok err = rw err (omega arith)
+
 pub owed-inserted : {T E : Type 0} (r : Result T E) (old new : List (ℕ × Place)) (ticket : ℕ) (place : Place) → IsStrictlySortedBy nat_cmp (keys_of old)
     → OnOk r (new ≡ insert_entry nat_cmp old ticket place) → OnErr r (new ≡ old) → owed new ≤ owed old + 1
 owed-inserted (Ok x) old new ticket place sorted ok err = rw ok (owed-insert old ticket place sorted)

@@ -217,6 +217,30 @@ pub tickets_noted : (waits : ℕ → List Pending) (tickets after : Tickets) (ti
     → grants_of after ≡ grants_of tickets → TicketsKnown waits after
 tickets_noted waits tickets after ticket place known was now sets grants = grind (arith, common_steps, cases_eq)
 
+-- a grant is queued with a ticket that neither waits nor was granted
+pub tickets_queued : (waits : ℕ → List Pending) (tickets after : Tickets) (ticket : ℕ) → TicketsKnown waits tickets → IsIdle (place_at tickets ticket)
+    → SetsPlace tickets after ticket (Some Granted) → grants_of after ≡ grants_of tickets ++ ticket ∷ [] → TicketsKnown waits after
+tickets_queued waits tickets after ticket known idle sets grants = record {
+  pending = λ other file. elim (cases_eq other ticket) [
+    | inl is ↦ rw (is, sets.here) (λ e. absurd (let h : Some Granted ≡ Some (Waits file) = e in cc), λ e. absurd (idle.waits file ((known.pending ticket file).1 e)))
+    | inr differs ↦ rw (sets.others other differs) (known.pending other file)
+  ];
+  granted = λ other. elim (cases_eq other ticket) [
+    | inl is ↦ rw (is, sets.here, grants) (λ e. key_there itself (grants_of tickets) [] ticket, λ e. refl)
+    | inr differs ↦
+        rw (sets.others other differs, grants, key_elsewhere itself (grants_of tickets) [] ticket other differs, append-nil (grants_of tickets))
+        (known.granted other)
+  ];
+  once_on_a_file = known.once_on_a_file;
+  granted_once = rw grants (apart_pushed itself (grants_of tickets) ticket known.granted_once none_here);
+}
+  where
+    none_here : has_key itself ticket (grants_of tickets) ≡ false
+    none_here = elim (cases_Bool (has_key itself ticket (grants_of tickets))) [
+      | inl there ↦ absurd (idle.granted ((known.granted ticket).1 there))
+      | inr none ↦ none
+    ]
+
 -- a grant is fetched, and its ticket is free
 pub tickets_fetched : (waits : ℕ → List Pending) (tickets after : Tickets) (ticket : ℕ) → TicketsKnown waits tickets
     → grants_of tickets ≡ ticket ∷ grants_of after → SetsPlace tickets after ticket None → TicketsKnown waits after

@@ -34,3 +34,6 @@ pub mod Agreement
 pub mod Exports
 pub mod Adding
 pub mod Reached
+pub mod Restoring
+pub mod Searching
+pub mod Importing

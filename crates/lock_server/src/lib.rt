@@ -6,6 +6,7 @@ mod blocking;
 mod closing;
 mod converting;
 mod file;
+mod import;
 mod laws;
 mod leaving;
 mod openings;
@@ -164,4 +165,63 @@ impl From<Memory> for WaitFault {
     fn from(memory: Memory) -> WaitFault {
         WaitFault::Memory(memory)
     }
+}
+
+/// Why bytes are no state of a server; no server was made (this project's choice).
+#[derive(Clone, Copy, Debug, PartialEq, Eq, Error)]
+pub enum ImportFault {
+    /// No server has this export.
+    #[error(transparent)]
+    Invalid(Fault),
+    /// A growth was refused, `ENOLCK`.
+    #[error(transparent)]
+    Memory(Memory),
+}
+
+impl From<Memory> for ImportFault {
+    ghost use Rattle.std.specs.Prelude.{◌≡◌};
+    ghost use Rattle.lock_server.specs.declared.ImportFault.{ImportFault};
+
+    ghost from_gives = { λ memory fault. fault ≡ ImportFault.Memory memory };
+
+    fn from(memory: Memory) -> ImportFault {
+        ImportFault::Memory(memory)
+    }
+}
+
+/// The first thing that is wrong with bytes that no server exports, and where: of the first kind of flaw that they have, in the order of
+/// [`Flaw`], the first one in the bytes (this project's choice).
+#[derive(Clone, Copy, Debug, PartialEq, Eq, Error)]
+#[error("{flaw}, at byte {offset}")]
+pub struct Fault {
+    /// What is wrong.
+    pub flaw: Flaw,
+    /// At which byte the word, or what the words tell, begins that is wrong.
+    pub offset: usize,
+}
+
+/// What is wrong with bytes that no server exports (this project's choice).
+#[derive(Clone, Copy, Debug, PartialEq, Eq, Error)]
+pub enum Flaw {
+    /// They aren't of the format: a word is none that may stand there, or the bytes end too early or too late.
+    #[error("the bytes are not of the format")]
+    Form,
+    /// Two things on a list are not in its order, or locks of one owner overlap or should be one.
+    #[error("a list is not in its order")]
+    Order,
+    /// A lock conflicts with one before it on the same file.
+    #[error("two locks conflict")]
+    Conflict,
+    /// A wait or a grant has the ticket of another one.
+    #[error("a ticket is there twice")]
+    Ticket,
+    /// Nothing blocks a wait.
+    #[error("nothing blocks a wait")]
+    Unblocked,
+    /// The owner of a wait waits for itself, by way of owners that aren't crossed.
+    #[error("owners wait for each other")]
+    Cycle,
+    /// A crossed owner has no wait that takes part in the search for deadlocks.
+    #[error("a crossed owner doesn't wait")]
+    Crossed,
 }

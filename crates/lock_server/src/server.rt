@@ -6,6 +6,7 @@ ghost use Rattle.lock_server.specs.TableView.{AreSwept, table_state, table_polic
 
 mod clients;
 mod export;
+mod import;
 mod listing;
 
 use crate::openings::Openings;

@@ -4,12 +4,14 @@ ghost use Rattle.lock_server.specs.Index.{IsIndexed};
 mod bytes;
 mod clients;
 mod counting;
+mod cycles;
 mod deadlock;
 mod entries;
 mod export;
 mod flocks;
 mod listing;
 mod reached;
+mod restoring;
 mod settling;
 mod waiting;
 

@@ -88,6 +88,22 @@ impl Tickets {
         self.granted.push_back_reserved(ticket);
     }
 
+    /// A grant is queued whose ticket isn't known.
+    ///
+    /// `Memory` leaves the tickets as they were.
+    pub fn queue(&mut self, ticket: u64) -> Result<(), Memory>
+        ensures place { OnOk result (SetsPlace self.old self.new ticket (Some Place.Granted)) }
+        ensures grants { OnOk result (grants_of self.new ≡ grants_of self.old ++ ticket ∷ []) }
+        ensures err { OnErr result (SameTickets self.old self.new) }
+    {
+        // No more are owed than are noted.
+        let most = self.places.len() + 1;
+        self.granted.reserve(most)?;
+        self.places.insert(ticket, Place::Granted)?;
+        self.granted.push_back_reserved(ticket);
+        Ok(())
+    }
+
     /// The oldest grant leaves the queue, and its ticket isn't known any more. It takes no memory.
     pub fn fetch(&mut self) -> Option<u64>
         ensures some { IfSome result (λ ticket. (grants_of self.old ≡ ticket ∷ grants_of self.new) × SetsPlace self.old self.new ticket None) }

@@ -1,6 +1,7 @@
 //! The owners with waits that take part in the search for deadlocks.
 ghost use Rattle.std.specs.Prelude.{◌≡◌, ◌≢◌, ◌++◌, ◌↔◌, ℕ, [], ◌∷◌, false, None, IsTrue, OnOk, length};
 
+mod crossing;
 mod export;
 
 use crate::{Memory, Mode, Pending};

@@ -7,6 +7,7 @@ mod clients;
 mod export;
 mod flocks;
 mod handle;
+mod import;
 mod life;
 mod listing;
 mod loose;

@@ -3,6 +3,7 @@ mod calls;
 mod clients;
 mod example;
 mod export;
+mod import;
 mod large;
 mod listing;
 mod model;

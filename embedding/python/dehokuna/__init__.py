@@ -14,7 +14,7 @@ Nothing here locks a file of the machine. Each call is one of libdehokuna, whose
 """
 
 from ._library import TO_THE_END, VERSION
-from .errors import Blocked, Deadlock, Invalid, LockError, NoLocks, TicketTaken
+from .errors import Blocked, Deadlock, Invalid, LockError, NoLocks, NoState, TicketTaken
 from .server import Blocker, Counts, FlockLock, LockServer, Mode, OwnerWait, Policy, Waiting
 
 __version__ = VERSION
@@ -30,6 +30,7 @@ __all__ = [
     "LockServer",
     "Mode",
     "NoLocks",
+    "NoState",
     "OwnerWait",
     "Policy",
     "TicketTaken",

@@ -60,6 +60,12 @@ class CountsOut(ctypes.Structure):
     _fields_ = [("runs", c_uint64), ("flock_locks", c_uint64), ("waits", c_uint64)]
 
 
+class FaultOut(ctypes.Structure):
+    """struct dehokuna_fault."""
+
+    _fields_ = [("flaw", c_uint32), ("offset", c_size_t)]
+
+
 # What each function answers, and what it takes behind the server.
 NUMBER = c_uint64
 FUNCTIONS = {
@@ -83,6 +89,7 @@ FUNCTIONS = {
     "next_grant": (c_bool, [POINTER(NUMBER)]),
     "export_size": (c_size_t, []),
     "export": (c_size_t, [POINTER(c_uint8), c_size_t]),
+    "import": (c_uint32, [POINTER(c_uint8), c_size_t, POINTER(FaultOut)]),
     "next_file": (c_bool, [NUMBER, POINTER(NUMBER)]),
     "next_lock": (c_bool, [NUMBER, NUMBER, NUMBER, POINTER(BlockerOut)]),
     "next_flock": (c_bool, [NUMBER, NUMBER, POINTER(FlockOut)]),

@@ -39,6 +39,17 @@ class Invalid(LockError, ValueError):
     number = errno.EINVAL
 
 
+class NoState(LockError, ValueError):
+    """EINVAL: the bytes are the export of no server. `flaw` says what is wrong first, and `offset` at which byte."""
+
+    number = errno.EINVAL
+
+    def __init__(self, flaw: str, offset: int) -> None:
+        super().__init__(f"{flaw}, at byte {offset}")
+        self.flaw = flaw
+        self.offset = offset
+
+
 class TicketTaken(LockError):
     """EEXIST (this project's choice): a wait has this ticket already, or a grant that wasn't fetched. It is the server's mistake."""
 

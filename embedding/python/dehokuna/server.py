@@ -11,8 +11,8 @@ from types import TracebackType
 from typing import Callable, Dict, Iterator, NamedTuple, Optional, Tuple, Type, Union
 
 from . import _library
-from ._library import TO_THE_END, BlockerOut, CountsOut, FlockOut, OwnerWaitOut, Server, WaitingOut
-from .errors import Blocked, Deadlock, Invalid, NoLocks, TicketTaken
+from ._library import TO_THE_END, BlockerOut, CountsOut, FaultOut, FlockOut, OwnerWaitOut, Server, WaitingOut
+from .errors import Blocked, Deadlock, Invalid, NoLocks, NoState, TicketTaken
 
 
 class Policy(enum.IntEnum):
@@ -114,6 +114,17 @@ class _Obstacle(enum.IntEnum):
 
 _WHOLE = 1
 
+# What is wrong with bytes that no server exports (enum dehokuna_flaw).
+_FLAWS = (
+    "the bytes are not of the format",
+    "a list is not in its order",
+    "two locks conflict",
+    "a ticket is there twice",
+    "nothing blocks a wait",
+    "owners wait for each other",
+    "a crossed owner doesn't wait",
+)
+
 
 def _waiting(told: WaitingOut) -> Waiting:
     lock = told.blocker
@@ -170,6 +181,22 @@ class LockServer:
         if not self._library.dehokuna_create(made, Policy(policy) | (_ATOMIC if atomic else 0)):
             raise NoLocks()
         self._server = made
+
+    @classmethod
+    def from_bytes(cls, state: bytes) -> "LockServer":
+        """Makes the server whose export is these bytes: it is in the same state as the one that wrote them, whatever its class's arguments were.
+        NoState: they are no server's export. NoLocks: there was no memory."""
+        server = cls()
+        made, fault = Server(), FaultOut()
+        room = (ctypes.c_uint8 * max(1, len(state))).from_buffer_copy(state or b"\0")
+        status = server._library.dehokuna_import(made, room, len(state), fault)
+        if status != _Status.DONE:
+            server.close()
+            raise NoLocks() if status == _Status.NO_MEMORY else NoState(_FLAWS[fault.flaw], fault.offset)
+        with server._mutex:
+            empty, server._server = server._server, made
+            server._library.dehokuna_destroy(empty)
+        return server
 
     def close(self) -> None:
         """Frees the server with all its locks and waits. A closed one may be closed again, and all else is a ValueError."""

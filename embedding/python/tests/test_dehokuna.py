@@ -7,7 +7,7 @@ import threading
 import unittest
 
 import dehokuna
-from dehokuna import TO_THE_END, Blocked, Blocker, Counts, Deadlock, FlockLock, Invalid, LockServer, Mode, OwnerWait, Policy, TicketTaken, Waiting
+from dehokuna import TO_THE_END, Blocked, Blocker, Counts, Deadlock, FlockLock, Invalid, LockServer, Mode, NoState, OwnerWait, Policy, TicketTaken, Waiting
 
 FILE, OTHER = 7, 2**64 - 1
 ANN, BOB, CAT = 1, 2**63 + 2, 3
@@ -237,6 +237,27 @@ class Words(ServerTest):
             locked = struct.pack("<15Q", 1, 0, 0, 1, FILE, 1, BOB, 4, 9, 1, 0, 0, 0, 0, 0)
             self.assertEqual(self.server.export(), locked)
             self.assertEqual(other.export(), locked)
+
+    def test_bytes_make_a_server(self):
+        self.server.set(FILE, BOB, 4, 9, Mode.WRITE)
+        self.assertFalse(self.server.wait(70, FILE, ANN, 4, 4, Mode.READ))
+        state = self.server.export()
+        with LockServer.from_bytes(state) as other:
+            self.assertEqual(other.export(), state)
+            other.flush(FILE, BOB)
+            self.assertEqual(list(other.grants()), [70])
+        self.assertEqual(self.server.export(), state)
+
+    def test_bytes_that_no_server_exports_are_refused(self):
+        twice = struct.pack("<19Q", 1, 0, 0, 1, FILE, 2, ANN, 0, 9, 2, BOB, 9, 9, 1, 0, 0, 0, 0, 0)
+        for state, flaw, offset in (
+            (b"", "the bytes are not of the format", 0),
+            (self.server.export() + b"\0", "the bytes are not of the format", 56),
+            (twice, "two locks conflict", 80),
+        ):
+            with self.assertRaises(NoState) as refused:
+                LockServer.from_bytes(state)
+            self.assertEqual((refused.exception.flaw, refused.exception.offset), (flaw, offset))
 
     def test_another_policy_is_refused(self):
         with self.assertRaises(ValueError):

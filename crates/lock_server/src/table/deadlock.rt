@@ -54,7 +54,7 @@ impl Table {
     }
 
     /// Adds the owners for which this one waits.
-    fn add_steps(&self, owners: &mut Vec<u64>, owner: u64) -> Result<(), Memory>
+    pub(super) fn add_steps(&self, owners: &mut Vec<u64>, owner: u64) -> Result<(), Memory>
         ensures { OnOk result (AddsOwners owners.old.items owners.new.items (WaitsFor (table_policy self.now) (table_state self.now) owner)) }
     {
         for file in self.waiters.files(owner) {

@@ -50,7 +50,7 @@ impl Table {
     }
 
     /// The place of the earliest wait on the file that nothing blocks, where so many are known to be blocked; `None` where each is.
-    fn next_ready(&self, file: u64, blocked: usize) -> Option<usize>
+    pub(super) fn next_ready(&self, file: u64, blocked: usize) -> Option<usize>
         requires { AreBlockedTo (table_policy self.now) ((table_state self.now).files file) blocked }
         ensures ready { IfSome result (IsReadyAt (table_policy self.now) ((table_state self.now).files file)) }
         ensures settled { IfNone result (IsSettled (table_policy self.now) ((table_state self.now).files file)) }

@@ -9,7 +9,7 @@ use std::test::Fail;
 
 /// On file 7 owner 2 waits for a byte of owner 1, and owner 4 for the flock lock of owner 3; on file 8 owner 2 was given a lock since, so
 /// it is crossed; on file 9 the wait of owner 6 was granted, and that wasn't fetched. Three owners are noted.
-const SITUATION: [Row; 13] = [
+pub(super) const SITUATION: [Row; 13] = [
     (7, Call::Note(2, 12), Told::Done),
     (7, Call::Set(2, (20, 29), Some(Read)), Told::Done),
     (7, Call::Note(1, 11), Told::Done),
@@ -56,7 +56,7 @@ const OTHER_WAY: [Row; 22] = [
 ];
 
 /// What it is as words.
-const WORDS: [u64; 62] = [
+pub(super) const WORDS: [u64; 62] = [
     1, 0, 0, // the version, the policy and the conversion
     3, // files
     7, 2, 1, 0, 9, 2, 2, 20, 29, 1, // file 7: two byte locks
@@ -70,7 +70,7 @@ const WORDS: [u64; 62] = [
 ];
 
 /// The words as bytes, of each the lowest first.
-fn bytes_of(alloc: Global, words: &[u64]) -> Result<Vec<u8>, Memory> {
+pub(super) fn bytes_of(alloc: Global, words: &[u64]) -> Result<Vec<u8>, Memory> {
     let mut bytes = Vec::new(alloc);
     for word in words {
         for byte in word.to_le_bytes() {
@@ -81,7 +81,11 @@ fn bytes_of(alloc: Global, words: &[u64]) -> Result<Vec<u8>, Memory> {
 }
 
 /// The export of the server.
-fn exported(rt: &impl Abort, alloc: Global, server: &LockServer) -> Result<Vec<u8>, Memory> {
+pub(super) fn exported(
+    rt: &impl Abort,
+    alloc: Global,
+    server: &LockServer,
+) -> Result<Vec<u8>, Memory> {
     let size = server.export_size();
     let mut out = Vec::from_elem(alloc, 0u8, size)?;
     assert!(rt; server.export(&mut out) == size);
@@ -133,7 +137,12 @@ fn exports_into_the_room_that_there_is(rt: HostRuntime) {
 }
 
 /// Two thousand files of two locks each, with a wait behind each, and as many notes; `from` and `step` say in which order they come.
-fn fill(rt: &impl Abort, server: &mut LockServer, from: u64, step: u64) -> Result<(), Memory> {
+pub(super) fn fill(
+    rt: &impl Abort,
+    server: &mut LockServer,
+    from: u64,
+    step: u64,
+) -> Result<(), Memory> {
     for i in 0..2000u64 {
         let number = from.wrapping_add(step.wrapping_mul(i)) % 2000;
         let rows = [

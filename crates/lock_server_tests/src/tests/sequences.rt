@@ -27,7 +27,7 @@ impl Rule {
     }
 
     /// A call of any kind, but that it asks for nothing that is in the way.
-    fn call(&mut self) -> Call {
+    pub(super) fn call(&mut self) -> Call {
         let (owner, open_file) = (self.below(OWNERS), self.below(OPEN_FILES));
         match self.below(28) {
             0..=3 => Call::Note(owner, open_file),

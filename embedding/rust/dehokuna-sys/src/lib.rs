@@ -54,6 +54,14 @@ pub struct dehokuna_owner_wait {
     pub ticket: u64,
 }
 
+/// What is wrong with bytes that no server exports.
+#[repr(C)]
+#[derive(Debug, Clone, Copy, PartialEq, Eq, Default)]
+pub struct dehokuna_fault {
+    pub flaw: u32,
+    pub offset: usize,
+}
+
 /// How many locks and waits a client has.
 #[repr(C)]
 #[derive(Debug, Clone, Copy, PartialEq, Eq, Default)]
@@ -96,6 +104,15 @@ pub const DEHOKUNA_BY_LOCK: u32 = 0;
 pub const DEHOKUNA_BY_FLOCK: u32 = 1;
 pub const DEHOKUNA_BY_WAIT: u32 = 2;
 
+/// enum dehokuna_flaw.
+pub const DEHOKUNA_FORM: u32 = 0;
+pub const DEHOKUNA_ORDER: u32 = 1;
+pub const DEHOKUNA_CONFLICT: u32 = 2;
+pub const DEHOKUNA_TICKET: u32 = 3;
+pub const DEHOKUNA_UNBLOCKED: u32 = 4;
+pub const DEHOKUNA_CYCLE: u32 = 5;
+pub const DEHOKUNA_CROSSED: u32 = 6;
+
 extern "C" {
     pub fn dehokuna_create(server: *mut dehokuna_server, policy: u32) -> bool;
     pub fn dehokuna_destroy(server: *mut dehokuna_server);
@@ -134,6 +151,7 @@ extern "C" {
     pub fn dehokuna_next_grant(server: *mut dehokuna_server, ticket: *mut u64) -> bool;
     pub fn dehokuna_export_size(server: *const dehokuna_server) -> usize;
     pub fn dehokuna_export(server: *const dehokuna_server, out: *mut u8, room: usize) -> usize;
+    pub fn dehokuna_import(server: *mut dehokuna_server, bytes: *const u8, size: usize, fault: *mut dehokuna_fault) -> u32;
     pub fn dehokuna_next_file(server: *const dehokuna_server, from: u64, file: *mut u64) -> bool;
     pub fn dehokuna_next_lock(server: *const dehokuna_server, file: u64, owner: u64, first: u64, lock: *mut dehokuna_blocker) -> bool;
     pub fn dehokuna_next_flock(server: *const dehokuna_server, file: u64, from: u64, lock: *mut dehokuna_flock_lock) -> bool;

@@ -18,11 +18,13 @@
 #![warn(missing_docs)]
 
 mod answers;
+mod importing;
 mod listing;
 mod ranges;
 
 pub use answers::{Blocker, Counts, Error, Mode, Outcome};
 pub use dehokuna_sys::DEHOKUNA_LARGEST_OFFSET as LARGEST_OFFSET;
+pub use importing::{Flaw, ImportError};
 pub use listing::{FlockLock, Obstacle, OwnerWait, Waiting, Wanted};
 
 use dehokuna_sys as sys;
@@ -304,6 +306,33 @@ impl LockServer {
         // SAFETY: the server is created, and there is so much room.
         unsafe { sys::dehokuna_export(&self.raw, bytes.as_mut_ptr(), size) };
         bytes
+    }
+
+    /// The server whose [`export`](LockServer::export) is these bytes: it is in the same state as the one that wrote them.
+    ///
+    /// # Errors
+    /// `Invalid` where they are no server's export, with what is wrong first and at which byte; `NoMemory`.
+    ///
+    /// ```
+    /// # use dehokuna::{Flaw, ImportError, LockServer, Mode};
+    /// # let mut server = LockServer::new(Default::default())?;
+    /// server.set(7, 1, 0..10, Mode::Write)?;
+    /// let mut bytes = server.export();
+    /// assert_eq!(LockServer::from_bytes(&bytes)?.export(), bytes);
+    /// bytes.push(0);
+    /// let refused = LockServer::from_bytes(&bytes).err();
+    /// assert_eq!(refused, Some(ImportError::Invalid { flaw: Flaw::Form, offset: bytes.len() - 1 }));
+    /// # Ok::<(), Box<dyn std::error::Error>>(())
+    /// ```
+    pub fn from_bytes(bytes: &[u8]) -> Result<LockServer, ImportError> {
+        let mut raw = sys::dehokuna_server { at: ptr::null_mut() };
+        let mut fault = sys::dehokuna_fault::default();
+        // SAFETY: the server is zero, there are so many bytes, and no two of these overlap.
+        match unsafe { sys::dehokuna_import(&mut raw, bytes.as_ptr(), bytes.len(), &mut fault) } {
+            sys::DEHOKUNA_DONE => Ok(LockServer { raw }),
+            sys::DEHOKUNA_INVALID => Err(ImportError::Invalid { flaw: Flaw::of(fault.flaw), offset: fault.offset }),
+            _ => Err(ImportError::NoMemory),
+        }
     }
 
     /// The ticket of the oldest grant that wasn't told yet.

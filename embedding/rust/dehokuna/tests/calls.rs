@@ -1,7 +1,8 @@
 //! Each call on its happy path, and each refusal but want of memory. What is right is told by fcntl(2), fcntl_locking(2) and flock(2).
 
 use dehokuna::{
-    Blocker, Conversion, Counts, Error, FlockLock, LockServer, Mode, Obstacle, Outcome, OwnerWait, Policy, Waiting, Wanted, LARGEST_OFFSET,
+    Blocker, Conversion, Counts, Error, Flaw, FlockLock, ImportError, LockServer, Mode, Obstacle, Outcome, OwnerWait, Policy, Waiting, Wanted,
+    LARGEST_OFFSET,
 };
 use std::io;
 
@@ -164,6 +165,27 @@ fn an_export_tells_states_apart() -> Result<(), Error> {
     server.note(FILE, BOB, 12)?;
     assert_eq!(server.export(), bytes(&[1, 0, 0, 1, FILE, 1, BOB, 4, 9, 1, 0, 0, 0, 0, 1, FILE, BOB, 12]));
     Ok(())
+}
+
+#[test]
+fn bytes_make_a_server() -> Result<(), Box<dyn std::error::Error>> {
+    let mut server = server();
+    server.set(FILE, BOB, 4..=9, Mode::Write)?;
+    assert_eq!(server.wait(70, FILE, ANN, 4..=4, Mode::Read, true)?, Outcome::Waits);
+    let mut other = LockServer::from_bytes(&server.export())?;
+    assert_eq!(other.export(), server.export());
+    other.flush(FILE, BOB);
+    assert_eq!(granted(&mut other), [70]);
+    Ok(())
+}
+
+#[test]
+fn bytes_that_no_server_exports_are_refused() {
+    let bytes = |words: &[u64]| words.iter().flat_map(|word| word.to_le_bytes()).collect::<Vec<_>>();
+    let twice = bytes(&[1, 0, 0, 1, FILE, 2, ANN, 0, 9, 2, BOB, 9, 9, 1, 0, 0, 0, 0, 0]);
+    let refused = |bytes: &[u8]| LockServer::from_bytes(bytes).err();
+    assert_eq!(refused(&[]), Some(ImportError::Invalid { flaw: Flaw::Form, offset: 0 }));
+    assert_eq!(refused(&twice), Some(ImportError::Invalid { flaw: Flaw::Conflict, offset: 80 }));
 }
 
 #[test]

@@ -1,4 +1,4 @@
-use Rattle.std.proofs.Common.{◌≡◌, ◌∙◌, ap, arith, length, sym, List, Some}
+use Rattle.std.proofs.Common.{◌≡◌, ◌∙◌, ap, arith, sym, List, Some}
 use Rattle.std.specs.Prelude.{slice_get}
 use Rattle.std.proofs.lemmas.Option.{slice_get-get_or}
 use Rattle.lock_server.specs.declared.Pending.{Pending}

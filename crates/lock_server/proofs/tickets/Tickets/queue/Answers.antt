@@ -1,0 +1,7 @@
+use Rattle.std.proofs.lemmas.Grind.{common_steps}
+use Rattle.std.proofs.Common.{arith}
+use Rattle.lock_server.proofs.TicketLemmas.{owed-few, owed-queued}
+use Rattle.lock_server.proofs.tickets.Tickets.queue.Goals as goal
+
+pub invariant_of-self-2 : goal.invariant_of-self-2
+invariant_of-self-2 c = grind (arith, common_steps, owed-queued, owed-few)

@@ -1,0 +1,102 @@
+//! Whether the lists of an export are in their order.
+use super::fault;
+use super::parts::{FilePart, Note, Parts};
+use crate::{Flaw, FlockLock, ImportFault, Lock};
+
+/// A thing on a list with an order.
+trait Placed {
+    /// Whether this one may stand before the other.
+    fn is_before(&self, other: &Self) -> bool;
+}
+
+impl Placed for Lock {
+    /// By owner and first byte; locks of one owner lie apart, and where they touch their modes differ.
+    fn is_before(&self, other: &Lock) -> bool {
+        self.owner < other.owner || self.owner == other.owner && self.is_apart(other)
+    }
+}
+
+impl Lock {
+    /// Whether it lies before the other, and they aren't parts of one.
+    fn is_apart(&self, other: &Lock) -> bool {
+        self.span.last < other.span.first
+            && (self.mode != other.mode || other.span.first - self.span.last > 1)
+    }
+}
+
+impl Placed for FlockLock {
+    /// By owner.
+    fn is_before(&self, other: &FlockLock) -> bool {
+        self.owner < other.owner
+    }
+}
+
+impl Placed for FilePart {
+    /// By number.
+    fn is_before(&self, other: &FilePart) -> bool {
+        self.number < other.number
+    }
+}
+
+impl Placed for u64 {
+    /// Rising.
+    fn is_before(&self, other: &u64) -> bool {
+        *self < *other
+    }
+}
+
+impl Placed for Note {
+    /// By file, and then by owner.
+    fn is_before(&self, other: &Note) -> bool {
+        self.file < other.file || self.file == other.file && self.owner < other.owner
+    }
+}
+
+/// The place of the first thing that may not stand behind the one before it.
+fn first_misplaced<T: Placed>(items: &[T]) -> Option<usize> {
+    for i in 1..items.len() {
+        if !items[i - 1].is_before(&items[i]) {
+            return Some(i);
+        }
+    }
+    None
+}
+
+impl Parts {
+    /// Whether each list is in its order, but those of waits and grants, which are in any; or else what isn't first.
+    pub fn check_order(&self) -> Result<(), ImportFault> {
+        let unordered = first_misplaced(&self.files);
+        for (i, file) in self.files.iter().enumerate() {
+            if unordered == Some(i) {
+                return Err(fault(Flaw::Order, self.file_offset(i)));
+            }
+            if let Some(offset) = file.unordered() {
+                let start = self.file_offset(i);
+                return Err(fault(Flaw::Order, start.saturating_add(offset)));
+            }
+        }
+        self.check_numbers()
+    }
+
+    /// The same of the crossed owners and the notes.
+    fn check_numbers(&self) -> Result<(), ImportFault> {
+        if let Some(place) = first_misplaced(&self.crossed) {
+            return Err(fault(Flaw::Order, self.crossed_offset(place)));
+        }
+        match first_misplaced(&self.notes) {
+            Some(place) => Err(fault(Flaw::Order, self.note_offset(place))),
+            None => Ok(()),
+        }
+    }
+}
+
+impl FilePart {
+    /// At which of the bytes of the file the first lock begins that isn't in its order.
+    fn unordered(&self) -> Option<usize> {
+        if let Some(place) = first_misplaced(&self.locks) {
+            return Some(self.lock_offset(place));
+        }
+        let place = first_misplaced(&self.flocks)?;
+        Some(self.flock_offset(place))
+    }
+}
