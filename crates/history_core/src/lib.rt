@@ -2,12 +2,10 @@
 #![tactic(auto)]
 
 mod flock_locks;
-mod laws;
 mod byte_locks;
 mod possibility;
 mod request;
 mod search;
 
-pub use laws::scratch;
 pub use request::{Action, Answer, Request};
 pub use search::SearchFault;

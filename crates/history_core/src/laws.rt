@@ -1,8 +1,0 @@
-//! Scratch.
-ghost use Rattle.std.specs.Prelude.{◌≤◌};
-
-/// Scratch.
-pub fn scratch()
-    ensures { 0 ≤ 0 }
-{
-}
