@@ -4,7 +4,7 @@ use denote.Param.Send.{sendable, IsSync}
 use denote.Param.SendFields.{declared_sync, as_row_sync}
 use Rattle.std.proofs.Crossing.{crosses}
 use Rattle.session_core.proofs.Crossing.{session_send}
-use Rattle.call_table.specs.contracts.Bench as bench
+use Rattle.call_table.specs.contracts.bench.Bench as bench
 
 pub bench_sync : IsSync bench.the_row
 bench_sync = search (session_send, declared_sync, as_row_sync, crosses, sendable) depth 20

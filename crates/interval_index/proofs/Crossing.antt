@@ -5,7 +5,7 @@ use Rattle.summary_tree.specs.declared.Summary.{Ghosts}
 use Rattle.summary_tree.specs.contracts.Tree as tree
 use Rattle.summary_tree.proofs.Crossing.{tree_send}
 use Rattle.interval_index.specs.contracts.Run as run
-use Rattle.interval_index.specs.contracts.RunIndex as runs
+use Rattle.interval_index.specs.contracts.index.RunIndex as runs
 use Rattle.interval_index.specs.contracts.least.Least as least
 use Rattle.interval_index.specs.contracts.reach.Reach as reach
 use Rattle.interval_index.specs.contracts.reach.Reaches as reaches

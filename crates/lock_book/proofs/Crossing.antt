@@ -5,7 +5,7 @@ use Rattle.std.proofs.Crossing.{crosses, send}
 use Rattle.std.proofs.MapsCrossing.{BTreeMap-send}
 use Rattle.range_core.specs.contracts.RangeList as list
 use Rattle.interval_index.proofs.Crossing.{runs_send}
-use Rattle.lock_book.specs.contracts.Book as book
+use Rattle.lock_book.specs.contracts.book.Book as book
 use Rattle.lock_book.specs.contracts.Owner as owner
 use Rattle.lock_book.specs.contracts.book.holders.FlockHolders as holders
 use Rattle.lock_book.specs.contracts.book.index.OwnersIndex as index

@@ -11,9 +11,9 @@ use Rattle.wait_core.specs.contracts.Wait as wait
 use Rattle.wait_core.specs.contracts.pairs.Pairs as pairs
 use Rattle.wait_core.specs.contracts.queues.Queues as queues
 use Rattle.wait_core.specs.contracts.Waits as waits
-use Rattle.lock_manager.specs.contracts.ProcState as state
-use Rattle.lock_manager.specs.contracts.Rules as policy
-use Rattle.lock_manager.specs.contracts.Manager as manager
+use Rattle.lock_manager.specs.contracts.request.ProcState as state
+use Rattle.lock_manager.specs.contracts.request.Rules as policy
+use Rattle.lock_manager.specs.contracts.manager.Manager as manager
 use Rattle.lock_manager.specs.contracts.machine.Machine as machine
 
 tables_send : IsSend tables.the_row

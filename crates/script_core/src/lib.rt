@@ -38,12 +38,14 @@ pub use laws::{
     journals_are_read_back, journals_have_one_end, lines_have_one_answer, losses_are_differences,
     outputs_are_legal, outputs_are_short, reports_are_read_back, scripts_have_one_output,
 };
+pub use numbers::natural_of;
 pub use reader::ScriptReader;
 pub use report::{ReportFault, ReportLine, ReportReader};
 pub use report_text::ProcessLine;
 pub use script::{Cause, Script, ScriptFault, parse};
 pub use states::States;
 pub use untaken::write_untaken;
+pub use words::{WORDS_MAX, first_words, is_comment, printable_text};
 pub use write::{write_entry, write_report};
 
 /// The most bytes that a line may have, without its line feed (this project's choice).

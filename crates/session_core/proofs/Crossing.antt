@@ -6,11 +6,11 @@ use Rattle.wait_core.specs.contracts.ProcessSet as set
 use Rattle.lock_manager.specs.contracts.Note as note
 use Rattle.lock_manager.specs.contracts.Request as request
 use Rattle.lock_manager.proofs.Crossing.{manager_send}
-use Rattle.session_core.specs.contracts.Entry as entry
-use Rattle.session_core.specs.contracts.Notes as notes
+use Rattle.session_core.specs.contracts.entry.Entry as entry
+use Rattle.session_core.specs.contracts.entry.Notes as notes
 use Rattle.session_core.specs.contracts.entry.KeptNotes as kept
-use Rattle.session_core.specs.contracts.Sequencer as sequencer
-use Rattle.session_core.specs.contracts.Session as session
+use Rattle.session_core.specs.contracts.sequencer.Sequencer as sequencer
+use Rattle.session_core.specs.contracts.session.Session as session
 use Rattle.session_core.specs.contracts.answers.LastAnswers as answers
 use Rattle.session_core.specs.contracts.mailbox.Mailbox as mailbox
 

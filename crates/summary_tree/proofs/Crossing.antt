@@ -7,7 +7,7 @@ use Rattle.summary_tree.specs.declared.Summary.{Ghosts}
 use Rattle.summary_tree.specs.contracts.block.Block as block
 use Rattle.summary_tree.specs.contracts.subtree.Node as node
 use Rattle.summary_tree.specs.contracts.subtree.Subtree as subtree
-use Rattle.summary_tree.specs.contracts.Tree as tree
+use Rattle.summary_tree.specs.contracts.tree.Tree as tree
 use Rattle.summary_tree.proofs.subtree.Subtree.TheLaws.TheKnot.{send-Subtree}
 
 module _ (T S : RattleType) (g : Ghosts S.Denot T.Denot) (send-T : IsSend T) (send-S : IsSend S) where
