@@ -539,3 +539,46 @@ owner_of_held locks runs asked mode span other held =
     let some = HasByte-Any locks other held.byte mode (bytes_in-has locks other held.byte mode (held.held held.byte held.told)) in
     (some.0, some.1, some.2, some.3,
       subst (λ owner. IsHeld runs (bytes_in locks) asked.owner asked.mode asked.span owner mode span) (sym some.4.is_owner) held)
+
+-- locks whose owners have what they give
+abbrev pub AreHad : (ℕ → Modes) → List ByteLock → Type 0
+AreHad bytes locks = All (λ lock. IsConstant (bytes lock.owner) lock.span lock.mode) locks
+
+-- give what is had
+had_gives : (locks : List ByteLock) (bytes : ℕ → Modes) → AreHad bytes locks → (owner byte : ℕ) (mode : Mode) → HasByte locks owner byte mode
+    → bytes owner byte ≡ Some mode
+had_gives locks bytes had owner byte mode h =
+    let some = HasByte-Any locks owner byte mode h in
+    let gives = some.4 in
+    let constant : IsConstant (bytes some.1.owner) some.1.span some.1.mode =
+        subst (λ lock. IsConstant (bytes lock.owner) lock.span lock.mode) some.3 (had some.0 some.1 some.2) in
+    subst (λ o. bytes o byte ≡ Some mode) gives.is_owner (constant byte gives.on ∙ ap Some gives.is_mode)
+
+-- lists each of which has the other's locks give the same
+pub same_bytes : (one other : List ByteLock) → AreHad (bytes_in one) other → AreHad (bytes_in other) one → bytes_in one ≡ bytes_in other
+same_bytes one other first second = bytes_in-is one (bytes_in other) (λ owner byte mode.
+    (had_gives one (bytes_in other) second owner byte mode,
+     λ e. bytes_in-has one owner byte mode (had_gives other (bytes_in one) first owner byte mode (bytes_in-has other owner byte mode e))))
+
+-- and lists that give the same have
+pub had_same : (one other : List ByteLock) → AreTrue other → bytes_in one ≡ bytes_in other → AreHad (bytes_in one) other
+had_same one other are same k d lt byte on = ap (λ f. f (get_or other k d).owner byte) same ∙ (are k d lt).constant byte on
+
+-- a change of the first byte alone leaves all others without a mode
+pub first_alone : (bytes : ℕ → Modes) (owner : ℕ) (mode : Option Mode) (other byte : ℕ) → 0 < byte → bytes other byte ≡ None
+    → bytes_with bytes owner (record { first = 0; last = 0 }) mode other byte ≡ None
+first_alone bytes owner mode other byte lt none =
+    let out : nat_le byte 0 ≡ false = grind (arith, common_steps, lt) in
+    elim (cases_Bool (other == owner)) [
+      inl same ↦ grind (arith, common_steps, same, out, none)
+    | inr apart ↦ grind (arith, common_steps, apart, none)
+    ]
+
+-- modes on the first byte alone are the same where they are so there
+pub same_by_first : (one other : ℕ → Modes) → ((owner byte : ℕ) → 0 < byte → one owner byte ≡ None) → ((owner byte : ℕ) → 0 < byte → other owner byte ≡ None)
+    → ((owner : ℕ) → one owner 0 ≡ other owner 0) → one ≡ other
+same_by_first one other none none_too same = λ i. λ owner. λ byte. at owner byte i
+  where
+    at : (owner byte : ℕ) → one owner byte ≡ other owner byte
+    at owner zero = same owner
+    at owner (suc byte) = none owner (suc byte) (omega arith) ∙ sym (none_too owner (suc byte) (omega arith))

@@ -1,5 +1,5 @@
 //! The byte locks on a file, each state of them in one form.
-ghost use Rattle.std.specs.Prelude.{◌≡◌, ◌≢◌, ◌+◌, ◌^◌, ◌<◌, ◌==◌, ◌↔◌, ◌⊎◌, ℕ, IsTrue, IfOk, OnOk, IfSome, IfNone, Any, None, Some, min, max, filter, not};
+ghost use Rattle.std.specs.Prelude.{◌≡◌, ◌≢◌, ◌+◌, ◌^◌, ◌<◌, ◌==◌, ◌↔◌, ◌⊎◌, ℕ, IsTrue, IfOk, OnOk, IfSome, IfNone, All, Any, None, Some, min, max, filter, not};
 ghost use Rattle.range_core.specs.Ranges.{Conflict, Covers, IsConstant};
 ghost use Rattle.history_core.specs.ByteLists.{AreRanges, AreTrue, Gives, GivesSome, HasByte, HasBytes, IsRange, Meets, Within};
 
@@ -137,16 +137,30 @@ impl ByteLocks {
 
     /// Whether these are the same locks.
     pub fn is_same(&self, other: &ByteLocks) -> bool
-        ensures { IsTrue result → bytes_of self.now ≡ bytes_of other.now }
+        ensures { IsTrue result ↔ (bytes_of self.now ≡ bytes_of other.now) }
     {
-        self.has_same_runs(other)
+        self.has_same_runs(other) || self.gives_same(other)
     }
 
-    /// Whether these are the same runs.
+    /// Whether these are the same runs, as they always are of the same locks.
     fn has_same_runs(&self, other: &ByteLocks) -> bool
         ensures { IsTrue result → self.now.runs.items ≡ other.now.runs.items }
     {
         self.runs.as_slice() == other.runs.as_slice()
+    }
+
+    /// Whether each has the locks of the other.
+    fn gives_same(&self, other: &ByteLocks) -> bool
+        ensures { IsTrue result ↔ (bytes_of self.now ≡ bytes_of other.now) }
+    {
+        self.has_locks(&other.runs) && other.has_locks(&self.runs)
+    }
+
+    /// Whether the owners have all that these locks give them.
+    fn has_locks(&self, locks: &[ByteLock]) -> bool
+        ensures { IsTrue result ↔ All (λ lock. IsConstant (bytes_of self.now lock.owner) lock.span lock.mode) locks.now }
+    {
+        locks.iter().all(|lock| self.has_lock(*lock))
     }
 
     /// The owner's mode on the byte.
