@@ -87,8 +87,7 @@ impl ByteLock {
 
     /// Whether the lock stands before the other.
     fn comes_before(&self, other: ByteLock) -> bool {
-        self.owner < other.owner
-            || self.owner == other.owner && self.span.first < other.span.first
+        self.owner < other.owner || self.owner == other.owner && self.span.first < other.span.first
     }
 
     /// Whether the lock is of the other's owner and mode, and lies side by side with it.
@@ -266,8 +265,7 @@ impl ByteLocks {
     fn is_bounded_before(&self, told: ByteLock) -> bool
         ensures { IsTrue result ↔ IsBoundedBefore (bytes_of self.now told.owner) told.mode told.span }
     {
-        told.span.first == 0
-            || self.mode_at(told.owner, told.span.first - 1) != Some(told.mode)
+        told.span.first == 0 || self.mode_at(told.owner, told.span.first - 1) != Some(told.mode)
     }
 
     /// Whether the owner has another mode, or none, on the byte behind these.
@@ -314,12 +312,7 @@ impl ByteLocks {
     }
 
     /// The owner's mode on just these bytes set, or removed.
-    fn with_range(
-        &self,
-        owner: u64,
-        span: Span,
-        mode: Option<Mode>,
-    ) -> Result<ByteLocks, Memory>
+    fn with_range(&self, owner: u64, span: Span, mode: Option<Mode>) -> Result<ByteLocks, Memory>
         requires { IsRange span }
         ensures { IfOk result (λ next. bytes_of next ≡ bytes_with (bytes_of self.now) owner span mode) }
     {
@@ -466,9 +459,7 @@ fn joined(alloc: Global, locks: &[ByteLock], lock: ByteLock) -> Result<Vec<ByteL
         span = absorb(&mut runs, lock, span, *one)?;
     }
     let run = ByteLock { span, ..lock };
-    let place = runs
-        .as_slice()
-        .partition_point(|one| one.comes_before(run));
+    let place = runs.as_slice().partition_point(|one| one.comes_before(run));
     runs.insert(place, run)?;
     Ok(runs)
 }

@@ -29,28 +29,28 @@ fn send(
     file.send(request, limit)
 }
 
-/// Ten sets that don't meet have 1024 outcomes, and the limit is told where they don't fit.
+/// Eight sets that don't meet have 256 outcomes, and the limit is told where they don't fit.
 #[test]
 fn of_many_possibilities(rt: HostRuntime) -> Result<(), Fail> {
     let mut file = FileHistory::new(rt.alloc(), false)?;
-    for id in 0..10u64 {
+    for id in 0..8u64 {
         send(&rt, &mut file, set(id, id), 1)?;
     }
     assert_eq!(rt; file.count(), 1);
-    assert_eq!(rt; file.answer(0, Answer::Done, 1023), Err(SearchFault::Limit));
-    assert_eq!(rt; file.may_end(1023), Err(SearchFault::Limit));
-    assert_eq!(rt; file.open_requests().len(), 10);
-    assert!(rt; file.may_end(1024)?);
-    assert!(rt; file.answer(0, Answer::Done, 1024)?);
-    assert_eq!(rt; file.count(), 512);
-    assert_eq!(rt; file.open_requests().len(), 9);
-    for id in 1..10u64 {
-        assert!(rt; file.answer(id, Answer::Done, 1024)?);
+    assert_eq!(rt; file.answer(0, Answer::Done, 255), Err(SearchFault::Limit));
+    assert_eq!(rt; file.may_end(255), Err(SearchFault::Limit));
+    assert_eq!(rt; file.open_requests().len(), 8);
+    assert!(rt; file.may_end(256)?);
+    assert!(rt; file.answer(0, Answer::Done, 256)?);
+    assert_eq!(rt; file.count(), 128);
+    assert_eq!(rt; file.open_requests().len(), 7);
+    for id in 1..8u64 {
+        assert!(rt; file.answer(id, Answer::Done, 256)?);
     }
     assert_eq!(rt; file.count(), 1);
     let last = Request {
         id: 0,
-        owner: 10,
+        owner: 8,
         action: Action::Wait(Mode::Write, FIRST),
     };
     send(&rt, &mut file, last, 1)?;
