@@ -228,7 +228,8 @@ impl ByteLocks {
 
     /// Whether the owner of one of the locks does.
     fn some_owner_holds(&self, asked: ByteLock, mode: Mode, span: Span, runs: bool) -> bool
-        ensures { IsTrue result ↔ Any (λ lock. IsHeld runs (bytes_of self.now) asked.owner asked.mode asked.span lock.owner mode span) self.now.runs.items }
+        ensures { IsTrue result
+            ↔ Any (λ lock. IsHeld runs (bytes_of self.now) asked.owner asked.mode asked.span lock.owner mode span) self.now.runs.items }
     {
         self.runs.iter().any(|lock| {
             let told = ByteLock {
