@@ -73,7 +73,12 @@ impl OwnersIndex {
     }
 
     /// Readies the index for one more set, as [`OwnersIndex::prepare`]; for an unlock, which goes on in the room that is held, it asks for none.
-    pub fn prepare_set(&mut self, alloc: Global, owners: &BTreeMap<Owner, RangeList>, mode: Option<Mode>)
+    pub fn prepare_set(
+        &mut self,
+        alloc: Global,
+        owners: &BTreeMap<Owner, RangeList>,
+        mode: Option<Mode>,
+    )
         requires { AreIndexed self.old owners.now.entries }
         ensures { AreIndexed self.new owners.now.entries }
     {
