@@ -1,4 +1,4 @@
--- The words of an answer: for `read_named` and `held_of`.
+-- The words of an answer: for `read_named` and `read_held_words`.
 use Rattle.std.proofs.lemmas.Grind.{common_steps}
 use Rattle.std.proofs.Common.{◌≡◌, ℕ, true, false, Option, List, [], ◌∷◌, Result, Ok, Err, MatchBool, MatchResult, codes, ap, inr, arith}
 use Rattle.script_core.specs.declared.script.Cause.{Cause}

@@ -1,4 +1,4 @@
--- Words that are good, before others: for `lock_of`, `held_of` and others.
+-- Words that are good, before others: for `read_lock_words`, `read_held_words` and others.
 use Rattle.std.proofs.lemmas.Grind.{common_steps}
 use Rattle.std.proofs.Common.{◌≡◌, ℕ, ◌^◌, ◌<◌, ◌≤◌, List, [], ◌∷◌, length, get_or, decimal, Bor, inl, arith}
 use Rattle.range_core.specs.declared.Mode.{Mode}

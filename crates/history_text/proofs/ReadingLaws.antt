@@ -9,7 +9,6 @@ use Rattle.std.proofs.lemmas.Bool.{false_from_ne_true}
 use Rattle.range_core.specs.declared.Mode.{Mode}
 use Rattle.range_core.specs.declared.Mode.TheVariants.{Read, Write}
 use Rattle.range_core.specs.declared.Span.{Span}
-use Rattle.lock_manager.specs.declared.request.FlockOp.TheVariants.{Sh, Ex, Un}
 use Rattle.script_core.specs.declared.script.Cause.{Cause}
 use Rattle.script_core.specs.declared.script.Cause.TheVariants.{Byte, Word, Count, Number, TooLong, Tag}
 use Rattle.script_core.specs.Words.{words_of, is_printable, begins_with_hash, line_limit}
@@ -63,9 +62,9 @@ good_mode : (mode : Mode) (arguments : List Argument) (words : List (List ℕ)) 
 good_mode mode arguments words cause bad = good_then ModeWord arguments (mode_word mode) words cause (mode, refl) bad
 
 operation_spelled : (mode : Option Mode) → Spells OpWord (operation_word mode)
-operation_spelled (Some Read) = (Sh, refl)
-operation_spelled (Some Write) = (Ex, refl)
-operation_spelled None = (Un, refl)
+operation_spelled (Some Read) = search rules
+operation_spelled (Some Write) = search rules
+operation_spelled None = search rules
 
 good_operation : (mode : Option Mode) (arguments : List Argument) (words : List (List ℕ)) (cause : Cause)
     → IsFirstBad (OpWord ∷ arguments) (operation_word mode ∷ words) cause → IsFirstBad arguments words cause

@@ -1,4 +1,4 @@
--- The words of a request: for `read_named`, `unlock_of` and others.
+-- The words of a request: for `read_named`, `read_unlock_words` and others.
 use Rattle.std.proofs.lemmas.Bool.{false_from_ne_true}
 use Rattle.std.proofs.Common.{◌≡◌, ℕ, ◌^◌, ◌<◌, false, List, [], ◌∷◌, ◌++◌, Result, Ok, Err, MatchBool, codes, decimal, refl, sym, inl, inr}
 use Rattle.std.specs.Str.{bytes_eq}

@@ -39,6 +39,7 @@ fn read_named(id: u64, name: &str, told: &[&str]) -> Result<HistoryLine, Cause>
         "free" => read_alone(id, Answer::Free, told),
         "held" => read_held(id, told),
         "error" => read_alone(id, Answer::Error, told),
+        // No request has an answer of another word.
         _ => Err(Cause::Word),
     }
 }
@@ -72,13 +73,19 @@ fn read_held(id: u64, told: &[&str]) -> Result<HistoryLine, Cause>
     ensures { AnswerIsGiven id (codes "held") (texts told.now) result }
 {
     match told {
-        [owner, mode, first, last] => held_of(id, owner, mode, first, last),
+        [owner, mode, first, last] => read_held_words(id, owner, mode, first, last),
         _ => Err(Cause::Count),
     }
 }
 
 /// What these words say.
-fn held_of(id: u64, owner: &str, mode: &str, first: &str, last: &str) -> Result<HistoryLine, Cause>
+fn read_held_words(
+    id: u64,
+    owner: &str,
+    mode: &str,
+    first: &str,
+    last: &str,
+) -> Result<HistoryLine, Cause>
     ensures { let words = owner.now ∷ mode.now ∷ first.now ∷ last.now ∷ [] in ToldGives id (codes "held" ∷ words) words result }
 {
     let owner = read_owner(owner)?;

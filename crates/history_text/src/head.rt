@@ -11,7 +11,7 @@ use history_core::Action;
 use script_core::{Cause, LINE_MAX, WORDS_MAX, first_words, is_comment, printable_text};
 
 /// How a line of a history begins: what it is of and its ID, with the words behind it.
-#[derive(Clone, Copy)]
+#[derive(Clone, Copy, Debug)]
 pub enum Head<'w, 'a> {
     /// Nothing: the line has no words, or is a comment.
     Skipped,
@@ -44,9 +44,10 @@ impl Head<'_, '_> {
         }
     }
 
-    /// What the line says, where the request that is open under its ID asks for this, and `None` says that none is.
-    ///
-    /// [`Cause::Tag`] is told of an ID that is open and is sent once more, and of one that is answered and isn't open.
+    /// What the line says, where the request that is open under its ID asks for `requested`, and `None` is told where none is open; or the
+    /// first of its faults: [`Cause::Tag`] where an open ID is sent, or one that isn't open is answered; [`Cause::Word`] of the word of a
+    /// request, or of an answer that this request doesn't have; [`Cause::Count`] of the number of words; that of the first bad word from
+    /// the left, `nb` behind `un` being [`Cause::Word`]; [`Cause::Number`] where the first byte is above the last one.
     pub fn read(self, requested: Option<Action>) -> Result<HistoryLine, Cause>
         ensures { HeadGives self.entry requested result }
     {
@@ -59,8 +60,11 @@ impl Head<'_, '_> {
     }
 }
 
-/// How the line begins, or its fault where it has one whatever is open: of its length, its bytes, its first word, the number of its
-/// words, or its ID. Its words are put into `room`.
+/// How the line, which is without its line feed, begins; or the first of its faults that it has whatever is open:
+/// [`Cause::TooLong`] of more than [`LINE_MAX`] bytes, [`Cause::Byte`] of one that isn't printable ASCII, [`Cause::Word`] of another first
+/// word than `>` or `<`, [`Cause::Count`] of fewer than three words, [`Cause::Number`] of an ID that is no number of 64 bits.
+///
+/// The words of the line are put into `room`. The caller has it, so that no array of words is moved.
 pub fn read_head<'w, 'a>(
     line: &'a [u8],
     room: &'w mut [&'a str; WORDS_MAX],

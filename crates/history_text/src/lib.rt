@@ -1,4 +1,8 @@
 //! The text of concurrent histories of locks: a line as it is read, and requests and answers as they are written.
+//!
+//! A line is `> ID REQUEST` where a request was sent, and `< ID ANSWER` where its answer came (this project's choice). What a line may say
+//! rests on what is open under its ID, so it is read in two steps: [`read_head`] finds the ID, the caller looks it up, and [`Head::read`]
+//! tells what the line says.
 #![tactic(auto)]
 
 mod answers;

@@ -83,14 +83,20 @@ fn read_lock(arguments: &[&str]) -> Result<LockWords, Cause>
         (AreRefused (UnsignedNumber ∷ UnsignedNumber ∷ ModeWord ∷ UnsignedNumber ∷ UnsignedNumber ∷ []) (texts arguments.now)) }
 {
     match arguments {
-        [file, owner, mode, first, last] => lock_of(file, owner, mode, first, last),
+        [file, owner, mode, first, last] => read_lock_words(file, owner, mode, first, last),
         _ => Err(Cause::Count),
     }
 }
 
 /// What these words say.
 #[tactic(auto, using(crate::proofs::ArgumentLemmas::number_then, crate::proofs::ArgumentLemmas::mode_then))]
-fn lock_of(file: &str, owner: &str, mode: &str, first: &str, last: &str) -> Result<LockWords, Cause>
+fn read_lock_words(
+    file: &str,
+    owner: &str,
+    mode: &str,
+    first: &str,
+    last: &str,
+) -> Result<LockWords, Cause>
     ensures { let words = file.now ∷ owner.now ∷ mode.now ∷ first.now ∷ last.now ∷ [] in
         MatchResult result (λ lock. words ≡ decimal lock.file ∷ decimal lock.owner ∷ mode_word lock.mode ∷ span_words lock.span)
         (IsFirstBad (UnsignedNumber ∷ UnsignedNumber ∷ ModeWord ∷ UnsignedNumber ∷ UnsignedNumber ∷ []) words) }
@@ -108,14 +114,14 @@ fn read_unlock(id: u64, arguments: &[&str]) -> Result<HistoryLine, Cause>
     ensures { RequestIsGiven id unlock_request (codes "unlock") (texts arguments.now) result }
 {
     match arguments {
-        [file, owner, first, last] => unlock_of(id, file, owner, first, last),
+        [file, owner, first, last] => read_unlock_words(id, file, owner, first, last),
         _ => Err(Cause::Count),
     }
 }
 
 /// What these words say.
 #[tactic(auto, using(crate::proofs::ArgumentLemmas::number_then, crate::proofs::RequestLemmas::request_given))]
-fn unlock_of(
+fn read_unlock_words(
     id: u64,
     file: &str,
     owner: &str,
@@ -136,14 +142,19 @@ fn read_flock(id: u64, arguments: &[&str]) -> Result<HistoryLine, Cause>
     ensures { RequestIsGiven id flock_request (codes "flock") (texts arguments.now) result }
 {
     match arguments {
-        [file, owner, operation] => waiting_of(id, file, owner, operation),
-        [file, owner, operation, nb] => trying_of(id, file, owner, operation, nb),
+        [file, owner, operation] => read_flock_waiting(id, file, owner, operation),
+        [file, owner, operation, nb] => read_flock_at_once(id, file, owner, operation, nb),
         _ => Err(Cause::Count),
     }
 }
 
 /// What the words of flock say without `nb`.
-fn waiting_of(id: u64, file: &str, owner: &str, operation: &str) -> Result<HistoryLine, Cause>
+fn read_flock_waiting(
+    id: u64,
+    file: &str,
+    owner: &str,
+    operation: &str,
+) -> Result<HistoryLine, Cause>
     ensures { let words = file.now ∷ owner.now ∷ operation.now ∷ [] in ArgumentsGive id (codes "flock" ∷ words) flock_request words result }
 {
     let flock = read_flock_words(file, owner, operation)?;
@@ -155,7 +166,7 @@ fn waiting_of(id: u64, file: &str, owner: &str, operation: &str) -> Result<Histo
 }
 
 /// What the words of flock say where `nb` should be the last one.
-fn trying_of(
+fn read_flock_at_once(
     id: u64,
     file: &str,
     owner: &str,

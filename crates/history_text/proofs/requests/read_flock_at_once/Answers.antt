@@ -3,7 +3,7 @@ use Rattle.history_core.specs.declared.request.Action.TheVariants.{Flock}
 use Rattle.history_text.specs.HistoryText.{operation_word}
 use Rattle.history_text.specs.HistoryReading.{flock_request}
 use Rattle.history_text.proofs.RequestLemmas.{request_given, nb_given}
-use Rattle.history_text.proofs.requests.trying_of.Goals as goal
+use Rattle.history_text.proofs.requests.read_flock_at_once.Goals as goal
 
 -- three words that are known, and a fourth
 four_known : (file owner operation nb f o p n : List ℕ) → file ∷ owner ∷ operation ∷ [] ≡ f ∷ o ∷ p ∷ [] → nb ≡ n
