@@ -1,6 +1,6 @@
 -- How a line begins: for `read_head`.
 use Rattle.std.proofs.lemmas.Grind.{common_steps}
-use Rattle.std.proofs.Common.{◌≡◌, ℕ, ◌+◌, ◌<◌, ◌≤◌, Bool, true, false, nat_lt, Option, None, Some, IfSome, MatchBool, MatchOption, MatchResult, Result, Ok, Err, List, [], ◌∷◌, length, take, find, subst, refl, inl, inr, arith, ⊎_elim, bytes_eq, codes, decimal}
+use Rattle.std.proofs.Common.{◌≡◌, ℕ, ◌+◌, ◌<◌, ◌≤◌, Bool, true, false, Option, None, Some, IfSome, MatchBool, MatchOption, MatchResult, Result, Ok, Err, List, [], ◌∷◌, length, take, find, subst, refl, inl, inr, arith, ⊎_elim, bytes_eq, codes, decimal}
 use Rattle.std.specs.List.{AllByRecursion as Each}
 use Rattle.std.proofs.lemmas.Bool.{cases_lt}
 use Rattle.std.proofs.lemmas.List.{length-take-le, take_all}
@@ -11,7 +11,7 @@ use Rattle.script_core.specs.Arguments.{Command, has_count}
 use Rattle.history_core.specs.declared.request.Action.{Action}
 use Rattle.history_text.specs.declared.line.HistoryLine.{HistoryLine}
 use Rattle.history_text.specs.declared.head.Head.{Head}
-use Rattle.history_text.specs.HistoryReading.{requests, RequestIsGiven, SentGives, AnsweredGives, MaySend, MayAnswer, AreNamed, NamedGives, WordsGive, LineGives, BeginWords, AreFaulty, Begins, IsFaulty}
+use Rattle.history_text.specs.HistoryReading.{requests, RequestIsGiven, SentGives, AnsweredGives, MaySend, MayAnswer, NamedGives, WordsGive, LineGives, BeginWords, AreFaulty, Begins, IsFaulty}
 
 -- a request has five words at most behind its own
 abbrev HasFew : Command → Type 0
@@ -37,7 +37,8 @@ many_found id name arguments others said found h h2 h3 h4 = grind (arith, common
 many_sent : (id : ℕ) (name : List ℕ) (arguments others : List (List ℕ)) (said : Result HistoryLine Cause) → 5 < length arguments → 5 < length others
     → SentGives id (name ∷ arguments) said → SentGives id (name ∷ others) said
 many_sent id name arguments others said many more given =
-    many_found id name arguments others said (find (λ form. bytes_eq form.name name) requests) many more (found_has HasFew (λ form. bytes_eq form.name name) requests each_has_few) given
+    let few = found_has HasFew (λ form. bytes_eq form.name name) requests each_has_few in
+    many_found id name arguments others said (find (λ form. bytes_eq form.name name) requests) many more few given
 
 -- so it is with an answer
 many_answered : (id : ℕ) (action : Action) (name : List ℕ) (told others : List (List ℕ)) (said : Result HistoryLine Cause)
@@ -83,8 +84,12 @@ many_words requested first id name arguments others said many more given =
 
     by : (sends answers : Bool) → MatchBool sends (Sends arguments) (MatchBool answers (Answers arguments) (said ≡ Err Word))
         → MatchBool sends (Sends others) (MatchBool answers (Answers others) (said ≡ Err Word))
-    by true answers given = many_named (λ n. MaySend n (requested n)) id name arguments others said (λ n. may_send n (requested n) name arguments others said many more) given
-    by false true given = many_named (λ n. MayAnswer n (requested n)) id name arguments others said (λ n. may_answer n (requested n) name arguments others said many more) given
+    by true answers given =
+        many_named (λ n. MaySend n (requested n)) id name arguments others said
+        (λ n. may_send n (requested n) name arguments others said many more) given
+    by false true given =
+        many_named (λ n. MayAnswer n (requested n)) id name arguments others said
+        (λ n. may_answer n (requested n) name arguments others said many more) given
     by false false given = given
 
 -- a line says what its first nine words say
@@ -95,9 +100,12 @@ first_words_give requested (first ∷ []) said given = given
 first_words_give requested (first ∷ id ∷ []) said given = given
 first_words_give requested (first ∷ id ∷ name ∷ arguments) said given =
     ⊎_elim
-    (λ many. many_words requested first id name (take 6 arguments) arguments said (omega (arith, length-take-le 6 arguments (omega arith))) (omega arith) given)
+    (λ many. many_words requested first id name (take 6 arguments) arguments said (six many) (omega arith) given)
     (λ few. subst (λ l. WordsGive requested (first ∷ id ∷ name ∷ l) said) (take_all 6 arguments few) given)
     (cases_lt 6 (length arguments))
+  where
+    six : 6 < length arguments → 5 < length (take 6 arguments)
+    six many = omega (arith, length-take-le 6 arguments (omega arith))
 
 -- what the words of a line say is what the line says
 words_give : (requested : ℕ → Option Action) (line : List ℕ) (said : Result HistoryLine Cause) → length line ≤ line_limit → is_printable line ≡ true

@@ -21,8 +21,8 @@ use Rattle.history_core.specs.declared.request.Answer.{Answer}
 use Rattle.history_core.specs.declared.request.Answer.TheVariants.{Done, Busy, Interrupted, Deadlock, Free, Held, Error}
 use Rattle.history_text.specs.declared.line.HistoryLine.{HistoryLine}
 use Rattle.history_text.specs.declared.line.HistoryLine.TheVariants as lines
-use Rattle.history_text.specs.HistoryText.{span_words, HasSmallBytes, operation_word, request_word, action_words, request_words, is_turned_action, AsksForSmallBytes, HasSmallNumbers, answer_word, owner_word, told_words, answer_words, is_turned_answer, HasSmallOwner, TellsSmallNumbers}
-use Rattle.history_text.specs.HistoryReading.{lock_request, unlock_request, flock_request, whole_request, requests, WordsGiveRequest, ArgumentsGive, RequestIsGiven, SentGives, IsOwner, IsFirstBadOfHeld, ToldGives, AnswerIsGiven, AnsweredGives, has_answer, told_count, MaySend, MayAnswer, AreNamed, AreNotNamed, NamedGives, WordsGive, TextGives, LineGives, LinesHaveOneReading}
+use Rattle.history_text.specs.HistoryText.{span_words, HasSmallBytes, operation_word, request_word, action_words, is_turned_action, AsksForSmallBytes, HasSmallNumbers, owner_word, told_words, answer_words, is_turned_answer, HasSmallOwner, TellsSmallNumbers}
+use Rattle.history_text.specs.HistoryReading.{lock_request, unlock_request, flock_request, whole_request, requests, WordsGiveRequest, ArgumentsGive, RequestIsGiven, SentGives, IsOwner, IsFirstBadOfHeld, ToldGives, AnswerIsGiven, AnsweredGives, has_answer, told_count, MaySend, MayAnswer, AreNamed, AreNotNamed, NamedGives, WordsGive, TextGives, LinesHaveOneReading}
 
 -- ---- one of two choices
 
@@ -36,7 +36,8 @@ MatchBool-unique P Q true here there a b first second = here a b first second
 MatchBool-unique P Q false here there a b first second = there a b first second
 
 -- the first bad argument has one cause
-IsFirstBad-unique : (arguments : List Argument) (words : List (List ℕ)) (a b : Cause) → IsFirstBad arguments words a → IsFirstBad arguments words b → a ≡ b
+IsFirstBad-unique : (arguments : List Argument) (words : List (List ℕ)) (a b : Cause) → IsFirstBad arguments words a
+    → IsFirstBad arguments words b → a ≡ b
 IsFirstBad-unique [] words a b first second = absurd first
 IsFirstBad-unique (argument ∷ arguments) [] a b first second = absurd first
 IsFirstBad-unique (argument ∷ arguments) (word ∷ words) a b (inl first) (inl second) = IsFirstBad-unique arguments words a b first.1 second.1
@@ -55,7 +56,8 @@ good_number : (n : ℕ) (arguments : List Argument) (words : List (List ℕ)) (c
 good_number n arguments words cause small bad = good_then UnsignedNumber arguments (decimal n) words cause (n, small, refl) bad
 
 good_span : (span : Span) (cause : Cause) → HasSmallBytes span → IsFirstBad (UnsignedNumber ∷ UnsignedNumber ∷ []) (span_words span) cause → ⊥
-good_span span cause small bad = good_number span.last [] [] cause small.1 (good_number span.first (UnsignedNumber ∷ []) (decimal span.last ∷ []) cause small.0 bad)
+good_span span cause small bad =
+    good_number span.last [] [] cause small.1 (good_number span.first (UnsignedNumber ∷ []) (decimal span.last ∷ []) cause small.0 bad)
 
 good_mode : (mode : Mode) (arguments : List Argument) (words : List (List ℕ)) (cause : Cause)
     → IsFirstBad (ModeWord ∷ arguments) (mode_word mode ∷ words) cause → IsFirstBad arguments words cause
@@ -262,8 +264,8 @@ good_un_nb file owner cause small_file small_owner bad =
     good_nb cause (good_flock file owner None (codes "nb" ∷ []) cause small_file small_owner bad)
 
 -- so of words that say something together none is bad
-no_bad : (form : Command) (name : List ℕ) (arguments : List (List ℕ)) (file : ℕ) (request : Request) (result : Result HistoryLine Cause) (cause : Cause)
-    → find (λ form. bytes_eq form.name name) requests ≡ Some form → HasSmallNumbers file request
+no_bad : (form : Command) (name : List ℕ) (arguments : List (List ℕ)) (file : ℕ) (request : Request) (result : Result HistoryLine Cause)
+    (cause : Cause) → find (λ form. bytes_eq form.name name) requests ≡ Some form → HasSmallNumbers file request
     → WordsGiveRequest (name ∷ arguments) file request result → IsFirstBad (places_of form) arguments cause → ⊥
 no_bad form name arguments file request result cause found small (inl (are, given)) bad =
     let is : name ≡ request_word request.action = cc in
@@ -354,7 +356,8 @@ answer_told id Deadlock small = refl
 answer_told id Free small = refl
 answer_told id (Held owner mode span) (small, few) = λ i.
     checked_answer id
-    (Held (owner_in-word owner small i) (mode_in-word mode i) (record { first = number_in-decimal span.first few.0 i; last = number_in-decimal span.last few.1 i }))
+    (Held (owner_in-word owner small i) (mode_in-word mode i)
+    (record { first = number_in-decimal span.first few.0 i; last = number_in-decimal span.last few.1 i }))
 answer_told id Error small = refl
 
 checked_answer_is : (id : ℕ) (answer : Answer) (result : Result HistoryLine Cause)
@@ -362,7 +365,8 @@ checked_answer_is : (id : ℕ) (answer : Answer) (result : Result HistoryLine Ca
 unfolding checked_answer
 checked_answer_is id answer result given = chosen (is_turned_answer answer) (Err Number) (Ok (lines.Answered id answer)) result given
 
-told_so : (id : ℕ) (words : List (List ℕ)) (answer : Answer) (result : Result HistoryLine Cause) → TellsSmallNumbers answer → words ≡ answer_words answer
+told_so : (id : ℕ) (words : List (List ℕ)) (answer : Answer) (result : Result HistoryLine Cause) → TellsSmallNumbers answer
+    → words ≡ answer_words answer
     → MatchBool (is_turned_answer answer) (result ≡ Err Number) (result ≡ Ok (lines.Answered id answer)) → result ≡ told id words
 told_so id words answer result small are given =
     checked_answer_is id answer result given ∙ (sym (answer_told id answer small) ∙ ap (told id) (sym are))
@@ -396,8 +400,10 @@ ToldGives-unique : (id : ℕ) (name : List ℕ) (words : List (List ℕ)) (a b :
     → ToldGives id (name ∷ words) words b → a ≡ b
 ToldGives-unique id name words a b (inl (cause, bad, is)) (inl (other, bad', is')) =
     is ∙ (ap Err (IsFirstBadOfHeld-unique words cause other bad bad') ∙ sym is')
-ToldGives-unique id name words a b (inl (cause, bad, is)) (inr (answer, small, are, given)) = absurd (no_bad_told name words answer cause small are bad)
-ToldGives-unique id name words a b (inr (answer, small, are, given)) (inl (cause, bad, is)) = absurd (no_bad_told name words answer cause small are bad)
+ToldGives-unique id name words a b (inl (cause, bad, is)) (inr (answer, small, are, given)) =
+    absurd (no_bad_told name words answer cause small are bad)
+ToldGives-unique id name words a b (inr (answer, small, are, given)) (inl (cause, bad, is)) =
+    absurd (no_bad_told name words answer cause small are bad)
 ToldGives-unique id name words a b (inr (answer, small, are, given)) (inr (answer', small', are', given')) =
     told_so id (name ∷ words) answer a small are given ∙ sym (told_so id (name ∷ words) answer' b small' are' given')
 
@@ -406,7 +412,8 @@ AnsweredGives-unique : (id : ℕ) (action : Action) (words : List (List ℕ)) (a
 AnsweredGives-unique id action [] a b first second = same_value (Err Count) a b first second
 AnsweredGives-unique id action (name ∷ words) a b first second =
     MatchBool-unique (AnswerIsGiven id name words) (λ r. r ≡ Err Word) (has_answer action name)
-    (MatchBool-unique (ToldGives id (name ∷ words) words) (λ r. r ≡ Err Count) (length words == told_count name) (ToldGives-unique id name words) (same_value (Err Count)))
+    (MatchBool-unique (ToldGives id (name ∷ words) words) (λ r. r ≡ Err Count) (length words == told_count name)
+    (ToldGives-unique id name words) (same_value (Err Count)))
     (same_value (Err Word)) a b first second
 
 -- ---- a line

@@ -1,6 +1,6 @@
 -- The words of a request: for `read_named`, `read_unlock_words` and others.
 use Rattle.std.proofs.lemmas.Bool.{false_from_ne_true}
-use Rattle.std.proofs.Common.{◌≡◌, ℕ, ◌^◌, ◌<◌, false, List, [], ◌∷◌, ◌++◌, Result, Ok, Err, MatchBool, codes, decimal, refl, sym, inl, inr}
+use Rattle.std.proofs.Common.{◌≡◌, ℕ, ◌^◌, ◌<◌, false, List, [], ◌∷◌, Result, Ok, Err, MatchBool, codes, decimal, refl, sym, inl, inr}
 use Rattle.std.specs.Str.{bytes_eq}
 use Rattle.std.proofs.lemmas.Slice.Eq.{bytes_eq-Decides}
 use Rattle.script_core.specs.declared.script.Cause.{Cause}
@@ -49,5 +49,7 @@ pub whole_given : (id : ℕ) (action : Action) (name : List ℕ) (arguments : Li
     → MatchBool (is_turned_action action) (result ≡ Err Number) (result ≡ Ok (lines.Sent file (record { id = id; owner = owner; action = action })))
     → RequestIsGiven id (whole_request (request_word action)) name arguments result
 whole_given id action name arguments file owner result none small_bytes is are small_file small_owner given =
+    let words = decimal file ∷ decimal owner ∷ [] in
+    let form = whole_request (request_word action) in
     rw (is, are)
-    (request_given id (whole_request (request_word action)) (request_word action ∷ decimal file ∷ decimal owner ∷ []) (decimal file ∷ decimal owner ∷ []) file owner action result (rw none refl) small_file small_owner small_bytes given)
+    (request_given id form (request_word action ∷ words) words file owner action result (rw none refl) small_file small_owner small_bytes given)

@@ -1,6 +1,6 @@
 -- What is written behind an ID is read back: for `requests_are_read_back` and `answers_are_read_back`.
 use Rattle.std.proofs.lemmas.Grind.{common_steps}
-use Rattle.std.proofs.Common.{◌≡◌, ◌∙◌, ℕ, suc, ◌+◌, ◌^◌, ◌<◌, ◌≤◌, ◌==◌, Bool, nat_le, nat_lt, true, false, not, ◌&&◌, Option, Some, None, List, [], ◌∷◌, ◌++◌, length, filter, codes, decimal, Ok, inl, inr, refl, sym, ap, subst, arith, tests, lit<, lit≤, length-append, append_assoc}
+use Rattle.std.proofs.Common.{◌≡◌, ℕ, ◌+◌, ◌^◌, ◌<◌, ◌≤◌, ◌==◌, Bool, nat_le, nat_lt, true, false, not, ◌&&◌, Option, Some, None, List, [], ◌∷◌, ◌++◌, length, filter, codes, decimal, Ok, inl, inr, refl, sym, subst, arith, tests, lit<, lit≤, length-append, append_assoc}
 use Rattle.std.specs.Str.Parse.{AllDigits}
 use Rattle.std.specs.List.{list_all, slice_split, join_with_byte}
 use Rattle.std.proofs.lemmas.Fmt.{decimal_is_IsNumeral, length-decimal-le}
@@ -12,6 +12,7 @@ use Rattle.range_core.specs.declared.Mode.TheVariants.{Read, Write}
 use Rattle.range_core.specs.declared.Span.{Span}
 use Rattle.script_core.specs.Words.{words_of, is_printable, begins_with_hash, line_limit}
 use Rattle.script_core.specs.RequestText.{mode_word}
+use Rattle.script_core.specs.Arguments.{Command}
 use Rattle.history_core.specs.declared.request.Request.{Request}
 use Rattle.history_core.specs.declared.request.Action.{Action}
 use Rattle.history_core.specs.declared.request.Action.TheVariants.{Set, Wait, Get, Unlock, Flock, FlockWait, FlockUnlock, Close, Gone}
@@ -19,8 +20,8 @@ use Rattle.history_core.specs.declared.request.Answer.{Answer}
 use Rattle.history_core.specs.declared.request.Answer.TheVariants.{Done, Busy, Interrupted, Deadlock, Free, Held, Error}
 use Rattle.history_text.specs.declared.line.HistoryLine.{HistoryLine}
 use Rattle.history_text.specs.declared.line.HistoryLine.TheVariants as lines
-use Rattle.history_text.specs.HistoryText.{span_words, HasSmallBytes, operation_word, request_word, action_words, request_words, request_text, is_turned_action, AsksForSmallBytes, HasSmallNumbers, answer_word, owner_word, told_words, answer_words, answer_text, is_turned_answer, HasSmallOwner, TellsSmallNumbers}
-use Rattle.history_text.specs.HistoryReading.{lock_request, unlock_request, flock_request, whole_request, SentGives, AnswerIsGiven, MaySend, MayAnswer, AreNamed, WordsGive, LineGives, RequestsAreReadBack, AnswersAreReadBack}
+use Rattle.history_text.specs.HistoryText.{span_words, HasSmallBytes, operation_word, request_word, action_words, request_words, is_turned_action, AsksForSmallBytes, HasSmallNumbers, answer_word, owner_word, told_words, answer_words, is_turned_answer, HasSmallOwner, TellsSmallNumbers}
+use Rattle.history_text.specs.HistoryReading.{ArgumentsGive, lock_request, unlock_request, flock_request, whole_request, SentGives, AnswerIsGiven, MaySend, MayAnswer, AreNamed, WordsGive, LineGives, RequestsAreReadBack, AnswersAreReadBack}
 use Rattle.history_text.proofs.RequestLemmas.{request_given}
 
 -- ---- words in a line
@@ -104,12 +105,15 @@ is_printable-word (byte ∷ bytes) visible = rw (printable_byte byte visible.0 v
 is_printable-words : (word rest : List ℕ) → AreVisible word → is_printable rest ≡ true → is_printable (word ++ 32 ∷ rest) ≡ true
 unfolding AreVisible
 is_printable-words [] rest visible printable = printable
-is_printable-words (byte ∷ bytes) rest visible printable = rw (printable_byte byte visible.0 visible.1) (is_printable-words bytes rest visible.2 printable)
+is_printable-words (byte ∷ bytes) rest visible printable =
+    rw (printable_byte byte visible.0 visible.1) (is_printable-words bytes rest visible.2 printable)
 
-is_printable-join : (word : List ℕ) (words : List (List ℕ)) → AreWords (word ∷ words) → is_printable (join_with_byte 32 (word ∷ words)) ≡ true
+is_printable-join : (word : List ℕ) (words : List (List ℕ)) → AreWords (word ∷ words)
+    → is_printable (join_with_byte 32 (word ∷ words)) ≡ true
 unfolding AreWords
 is_printable-join word [] are = is_printable-word word are.0.visible
-is_printable-join word (next ∷ words) are = is_printable-words word (join_with_byte 32 (next ∷ words)) are.0.visible (is_printable-join next words are.1)
+is_printable-join word (next ∷ words) are =
+    is_printable-words word (join_with_byte 32 (next ∷ words)) are.0.visible (is_printable-join next words are.1)
 
 -- how many bytes further words take, each behind its space
 unfoldable more_length : List (List ℕ) → ℕ
@@ -233,7 +237,9 @@ more_length-action_words Gone small = lit≤ tt
 more_length-request_words : (file : ℕ) (request : Request) → HasSmallNumbers file request → more_length (request_words file request) ≤ 93
 unfolding more_length
 more_length-request_words file request small =
-    omega (arith, length-request_word request.action, length-number file small.small_file, length-number request.owner small.small_owner, more_length-action_words request.action small.small_bytes)
+    let file_length = length-number file small.small_file in
+    let owner_length = length-number request.owner small.small_owner in
+    omega (arith, length-request_word request.action, file_length, owner_length, more_length-action_words request.action small.small_bytes)
 
 more_length-told_words : (answer : Answer) → TellsSmallNumbers answer → more_length (told_words answer) ≤ 65
 unfolding more_length
@@ -264,28 +270,41 @@ line_gives requested sign id words said one short few are plain given =
     let long : nat_lt line_limit (length line) ≡ false = le-ltb line_limit (length line) fits in
     rw (long, is_printable-join sign (id ∷ words) are, plain, words_of-join sign (id ∷ words) are) given
 
+-- the words of a request with its bytes in order give it
+sent_as : (id : ℕ) (form : Command) (arguments : List (List ℕ)) (file owner : ℕ) (action : Action) → file < 2 ^ 64 → owner < 2 ^ 64
+    → AsksForSmallBytes action → is_turned_action action ≡ false
+    → ArgumentsGive id (request_word action ∷ decimal file ∷ decimal owner ∷ action_words action) form arguments
+    (Ok (lines.Sent file (record { id = id; owner = owner; action = action })))
+sent_as id form arguments file owner action small_file small_owner small straight =
+    request_given id form _ arguments file owner action _ refl small_file small_owner small (rw straight refl)
+
 -- the words of a request are read as it
 sent_by : (id file owner : ℕ) (action : Action) → file < 2 ^ 64 → owner < 2 ^ 64 → AsksForSmallBytes action → is_turned_action action ≡ false
     → SentGives id (request_word action ∷ decimal file ∷ decimal owner ∷ action_words action)
     (Ok (lines.Sent file (record { id = id; owner = owner; action = action })))
 sent_by id file owner (Set mode span) small_file small_owner small straight =
-    request_given id (lock_request (codes "set")) _ (decimal file ∷ decimal owner ∷ mode_word mode ∷ span_words span) file owner (Set mode span) _ refl small_file small_owner small (rw straight refl)
+    sent_as id (lock_request (codes "set")) (decimal file ∷ decimal owner ∷ mode_word mode ∷ span_words span)
+    file owner (Set mode span) small_file small_owner small straight
 sent_by id file owner (Wait mode span) small_file small_owner small straight =
-    request_given id (lock_request (codes "wait")) _ (decimal file ∷ decimal owner ∷ mode_word mode ∷ span_words span) file owner (Wait mode span) _ refl small_file small_owner small (rw straight refl)
+    sent_as id (lock_request (codes "wait")) (decimal file ∷ decimal owner ∷ mode_word mode ∷ span_words span)
+    file owner (Wait mode span) small_file small_owner small straight
 sent_by id file owner (Get mode span) small_file small_owner small straight =
-    request_given id (lock_request (codes "get")) _ (decimal file ∷ decimal owner ∷ mode_word mode ∷ span_words span) file owner (Get mode span) _ refl small_file small_owner small (rw straight refl)
+    sent_as id (lock_request (codes "get")) (decimal file ∷ decimal owner ∷ mode_word mode ∷ span_words span)
+    file owner (Get mode span) small_file small_owner small straight
 sent_by id file owner (Unlock span) small_file small_owner small straight =
-    request_given id unlock_request _ (decimal file ∷ decimal owner ∷ span_words span) file owner (Unlock span) _ refl small_file small_owner small (rw straight refl)
+    sent_as id unlock_request (decimal file ∷ decimal owner ∷ span_words span) file owner (Unlock span) small_file small_owner small straight
 sent_by id file owner (Flock mode) small_file small_owner small straight =
-    request_given id flock_request _ (decimal file ∷ decimal owner ∷ operation_word (Some mode) ∷ codes "nb" ∷ []) file owner (Flock mode) _ refl small_file small_owner small refl
+    sent_as id flock_request (decimal file ∷ decimal owner ∷ operation_word (Some mode) ∷ codes "nb" ∷ [])
+    file owner (Flock mode) small_file small_owner small straight
 sent_by id file owner (FlockWait mode) small_file small_owner small straight =
-    request_given id flock_request _ (decimal file ∷ decimal owner ∷ operation_word (Some mode) ∷ []) file owner (FlockWait mode) _ refl small_file small_owner small refl
+    sent_as id flock_request (decimal file ∷ decimal owner ∷ operation_word (Some mode) ∷ [])
+    file owner (FlockWait mode) small_file small_owner small straight
 sent_by id file owner FlockUnlock small_file small_owner small straight =
-    request_given id flock_request _ (decimal file ∷ decimal owner ∷ operation_word None ∷ []) file owner FlockUnlock _ refl small_file small_owner small refl
+    sent_as id flock_request (decimal file ∷ decimal owner ∷ operation_word None ∷ []) file owner FlockUnlock small_file small_owner small straight
 sent_by id file owner Close small_file small_owner small straight =
-    request_given id (whole_request (codes "close")) _ (decimal file ∷ decimal owner ∷ []) file owner Close _ refl small_file small_owner small refl
+    sent_as id (whole_request (codes "close")) (decimal file ∷ decimal owner ∷ []) file owner Close small_file small_owner small straight
 sent_by id file owner Gone small_file small_owner small straight =
-    request_given id (whole_request (codes "gone")) _ (decimal file ∷ decimal owner ∷ []) file owner Gone _ refl small_file small_owner small refl
+    sent_as id (whole_request (codes "gone")) (decimal file ∷ decimal owner ∷ []) file owner Gone small_file small_owner small straight
 
 -- the words of an answer are read as it
 told_by : (id : ℕ) (answer : Answer) → TellsSmallNumbers answer → is_turned_answer answer ≡ false
@@ -312,13 +331,14 @@ unfolding AreWords
 requests_back requested file request small_id small straight free =
     let id = request.id in
     let words = request_words file request in
+    let short = more_length-request_words file request small in
     let are : AreWords (codes ">" ∷ decimal id ∷ words) =
     (IsWord-tested (codes ">") refl, (IsWord-decimal id small_id, AreWords-request_words file request small)) in
     let given : MaySend id (requested id) words (Ok (lines.Sent file request)) =
     rw free (sent_by id file request.owner request.action small.small_file small.small_owner small.small_bytes straight) in
     subst (λ line. LineGives requested line (Ok (lines.Sent file request)))
     (sym (join_sign 62 (decimal id) (request_word request.action) (decimal file ∷ decimal request.owner ∷ action_words request.action)))
-    (line_gives requested (codes ">") (decimal id) words (lines.Sent file request) refl (length-number id small_id) (more_length-request_words file request small) are refl
+    (line_gives requested (codes ">") (decimal id) words (lines.Sent file request) refl (length-number id small_id) short are refl
     (inl (id, words, named id (request_word request.action) _ small_id, given)))
 
 -- what is written of an answer is read back

@@ -40,7 +40,8 @@ pub fn write_answer(text: &mut Vec<u8>, answer: Answer) -> Result<(), Memory>
 
 /// Appends the words of a request.
 fn push_request(text: &mut Vec<u8>, file: u64, request: Request) -> Result<(), Memory>
-    ensures { MatchResult result (λ unit. text.new.items ≡ text.old.items ++ request_text file request) (λ error. Extends text.old.items text.new.items) }
+    ensures { MatchResult result (λ unit. text.new.items ≡ text.old.items ++ request_text file request)
+        (λ error. Extends text.old.items text.new.items) }
 {
     push_str(text, request_word(request.action))?;
     push_number(text, file)?;

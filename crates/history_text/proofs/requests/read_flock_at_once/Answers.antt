@@ -1,6 +1,5 @@
-use Rattle.std.proofs.Common.{◌≡◌, ◌++◌, ◌∷◌, [], ℕ, List, codes, rules, refl}
+use Rattle.std.proofs.Common.{◌≡◌, ◌∷◌, [], ℕ, List, codes, rules}
 use Rattle.history_core.specs.declared.request.Action.TheVariants.{Flock}
-use Rattle.history_text.specs.HistoryText.{operation_word}
 use Rattle.history_text.specs.HistoryReading.{flock_request}
 use Rattle.history_text.proofs.RequestLemmas.{request_given, nb_given}
 use Rattle.history_text.proofs.requests.read_flock_at_once.Goals as goal
@@ -15,7 +14,8 @@ returns-in-Some c =
     let flock = c.in_ok-flock.flock in
     let mode = c.in-Some.mode in
     let three = rw c.in-Some.is at c.in_ok-flock.ensures in
-    request_given c.args.id flock_request _ (c.args.file.now ∷ c.args.owner.now ∷ c.args.operation.now ∷ c.args.nb.now ∷ []) flock.file flock.owner (Flock mode) c.sent.result
+    request_given c.args.id flock_request _ (c.args.file.now ∷ c.args.owner.now ∷ c.args.operation.now ∷ c.args.nb.now ∷ [])
+    flock.file flock.owner (Flock mode) c.sent.result
     (four_known c.args.file.now c.args.owner.now c.args.operation.now c.args.nb.now _ _ _ (codes "nb") three c.in_ok-read_nb.ensures)
     (search rules) (search rules) tt c.sent.ensures
 

@@ -8,13 +8,15 @@ pub returns-in_ok-file-in-close : goal.returns-in_ok-file-in-close
 returns-in_ok-file-in-close c =
     let whole = c.in_ok-file-in-close in
     rw c.in-close.is
-    (whole_given c.args.id Close (codes "close") (texts c.args.arguments.now) whole.file whole.owner c.sent-in-close.result refl tt refl whole.ensures (search rules) (search rules) c.sent-in-close.ensures)
+    (whole_given c.args.id Close (codes "close") (texts c.args.arguments.now) whole.file whole.owner c.sent-in-close.result refl tt refl
+    whole.ensures (search rules) (search rules) c.sent-in-close.ensures)
 
 pub returns-in_ok-file-in-gone : goal.returns-in_ok-file-in-gone
 returns-in_ok-file-in-gone c =
     let whole = c.in_ok-file-in-gone in
     rw c.in-gone.is
-    (whole_given c.args.id Gone (codes "gone") (texts c.args.arguments.now) whole.file whole.owner c.sent-in-gone.result refl tt refl whole.ensures (search rules) (search rules) c.sent-in-gone.ensures)
+    (whole_given c.args.id Gone (codes "gone") (texts c.args.arguments.now) whole.file whole.owner c.sent-in-gone.result refl tt refl
+    whole.ensures (search rules) (search rules) c.sent-in-gone.ensures)
 
 pub returns-in_default : goal.returns-in_default
 returns-in_default c =
