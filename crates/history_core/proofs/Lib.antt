@@ -7,3 +7,4 @@ pub mod KeptLemmas
 pub mod ByteLemmas
 pub mod ActLemmas
 pub mod SearchLemmas
+pub mod FileLemmas

@@ -8,3 +8,4 @@ pub mod Moments
 pub mod Chains
 pub mod PossibilityView
 pub mod Searching
+pub mod FileView

@@ -1,5 +1,5 @@
 //! The byte locks on a file, each state of them in one form.
-ghost use Rattle.std.specs.Prelude.{◌≡◌, ◌≢◌, ◌+◌, ◌^◌, ◌<◌, ◌==◌, ◌↔◌, ◌⊎◌, ℕ, IsTrue, IfOk, OnOk, IfSome, IfNone, Any, None, Some, min, max, filter, not};
+ghost use Rattle.std.specs.Prelude.{◌≡◌, ◌≢◌, ◌+◌, ◌^◌, ◌<◌, ◌==◌, ◌↔◌, ◌⊎◌, ℕ, IsTrue, IfOk, OnOk, IfSome, IfNone, All, Any, None, Some, min, max, filter, not};
 ghost use Rattle.range_core.specs.Ranges.{Conflict, Covers, IsConstant};
 ghost use Rattle.history_core.specs.ByteLists.{AreRanges, AreTrue, Gives, GivesSome, HasByte, HasBytes, IsRange, Meets, Within};
 
@@ -87,8 +87,7 @@ impl ByteLock {
 
     /// Whether the lock stands before the other.
     fn comes_before(&self, other: ByteLock) -> bool {
-        self.owner < other.owner
-            || self.owner == other.owner && self.span.first < other.span.first
+        self.owner < other.owner || self.owner == other.owner && self.span.first < other.span.first
     }
 
     /// Whether the lock is of the other's owner and mode, and lies side by side with it.
@@ -137,16 +136,30 @@ impl ByteLocks {
 
     /// Whether these are the same locks.
     pub fn is_same(&self, other: &ByteLocks) -> bool
-        ensures { IsTrue result → bytes_of self.now ≡ bytes_of other.now }
+        ensures { IsTrue result ↔ (bytes_of self.now ≡ bytes_of other.now) }
     {
-        self.has_same_runs(other)
+        self.has_same_runs(other) || self.gives_same(other)
     }
 
-    /// Whether these are the same runs.
+    /// Whether these are the same runs, as they always are of the same locks.
     fn has_same_runs(&self, other: &ByteLocks) -> bool
         ensures { IsTrue result → self.now.runs.items ≡ other.now.runs.items }
     {
         self.runs.as_slice() == other.runs.as_slice()
+    }
+
+    /// Whether each has the locks of the other.
+    fn gives_same(&self, other: &ByteLocks) -> bool
+        ensures { IsTrue result ↔ (bytes_of self.now ≡ bytes_of other.now) }
+    {
+        self.has_locks(&other.runs) && other.has_locks(&self.runs)
+    }
+
+    /// Whether the owners have all that these locks give them.
+    fn has_locks(&self, locks: &[ByteLock]) -> bool
+        ensures { IsTrue result ↔ All (λ lock. IsConstant (bytes_of self.now lock.owner) lock.span lock.mode) locks.now }
+    {
+        locks.iter().all(|lock| self.has_lock(*lock))
     }
 
     /// The owner's mode on the byte.
@@ -252,8 +265,7 @@ impl ByteLocks {
     fn is_bounded_before(&self, told: ByteLock) -> bool
         ensures { IsTrue result ↔ IsBoundedBefore (bytes_of self.now told.owner) told.mode told.span }
     {
-        told.span.first == 0
-            || self.mode_at(told.owner, told.span.first - 1) != Some(told.mode)
+        told.span.first == 0 || self.mode_at(told.owner, told.span.first - 1) != Some(told.mode)
     }
 
     /// Whether the owner has another mode, or none, on the byte behind these.
@@ -300,12 +312,7 @@ impl ByteLocks {
     }
 
     /// The owner's mode on just these bytes set, or removed.
-    fn with_range(
-        &self,
-        owner: u64,
-        span: Span,
-        mode: Option<Mode>,
-    ) -> Result<ByteLocks, Memory>
+    fn with_range(&self, owner: u64, span: Span, mode: Option<Mode>) -> Result<ByteLocks, Memory>
         requires { IsRange span }
         ensures { IfOk result (λ next. bytes_of next ≡ bytes_with (bytes_of self.now) owner span mode) }
     {
@@ -452,9 +459,7 @@ fn joined(alloc: Global, locks: &[ByteLock], lock: ByteLock) -> Result<Vec<ByteL
         span = absorb(&mut runs, lock, span, *one)?;
     }
     let run = ByteLock { span, ..lock };
-    let place = runs
-        .as_slice()
-        .partition_point(|one| one.comes_before(run));
+    let place = runs.as_slice().partition_point(|one| one.comes_before(run));
     runs.insert(place, run)?;
     Ok(runs)
 }

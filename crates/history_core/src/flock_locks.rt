@@ -1,5 +1,6 @@
 //! The flock locks on a file.
-ghost use Rattle.std.specs.Prelude.{◌≡◌, ◌↔◌, IsTrue, IfOk, None};
+ghost use Rattle.std.specs.Prelude.{◌≡◌, ◌↔◌, ◌<◌, ℕ, IsTrue, IfOk, None};
+ghost use Rattle.history_core.specs.ByteView.{bytes_of};
 
 use crate::byte_locks::ByteLocks;
 use range_core::{Memory, Mode, Span};
@@ -13,6 +14,7 @@ const WHOLE_FILE: Span = Span { first: 0, last: 0 };
 #[derive(Drop)]
 pub struct FlockLocks {
     locks: ByteLocks,
+    ghost on_first: { (owner byte : ℕ) → 0 < byte → bytes_of locks owner byte ≡ None },
 }
 
 impl FlockLocks {
@@ -39,7 +41,7 @@ impl FlockLocks {
 
     /// Whether these are the same locks.
     pub fn is_same(&self, other: &FlockLocks) -> bool
-        ensures { IsTrue result → flocks_of self.now ≡ flocks_of other.now }
+        ensures { IsTrue result ↔ (flocks_of self.now ≡ flocks_of other.now) }
     {
         self.locks.is_same(&other.locks)
     }

@@ -74,12 +74,12 @@ pub struct Request {
 }
 
 impl Request {
-    ghost use Rattle.std.specs.Prelude.{◌≡◌, ◌==◌, ◌&&◌, not};
-    ghost use Rattle.history_core.specs.Moments.{is_death};
+    ghost use Rattle.std.specs.Prelude.{◌≡◌};
+    ghost use Rattle.history_core.specs.Moments.{ends};
 
     /// Whether the other request is a death that ends this one, where it is open then.
     pub fn is_ended_by(self, death: Request) -> bool
-        ensures { result ≡ (is_death death.action && ((self.owner == death.owner) && not (is_death self.action))) }
+        ensures { result ≡ ends death self }
     {
         death.action.is_death() && self.owner == death.owner && !self.action.is_death()
     }

@@ -1,5 +1,4 @@
-use Rattle.std.proofs.Common.{rules}
-use Rattle.history_core.proofs.ByteLemmas.{absorbed, set_aside}
+use Rattle.history_core.proofs.ByteLemmas.{set_aside}
 use Rattle.history_core.proofs.byte_locks.absorb.Goals as goal
 
 pub returns-clause-gives : goal.returns-clause-gives

@@ -1,10 +1,3 @@
-use Rattle.std.proofs.Common.{rules, ◌≡◌, ◌≢◌, ◌↔◌, ℕ, IsTrue, ◌<◌, ◌≤◌, length, Bool, true, Option, Some, None, List, slice_index_or, max, arith, sym, subst, refl}
-use Rattle.std.proofs.lemmas.Grind.{common_steps}
-use Rattle.range_core.specs.declared.Mode.{Mode}
-use Rattle.range_core.specs.Ranges.{Conflict, Covers, HeldConflicts}
-use Rattle.history_core.specs.ByteLists.{AreTrue, Gives, HasByte, IsRange, Meets, bytes_in}
-use Rattle.history_core.specs.ByteView.{bytes_of}
-use Rattle.history_core.specs.Locks.{BlocksBytes}
 use Rattle.history_core.proofs.ByteLemmas.{blocks_by}
 use Rattle.history_core.proofs.byte_locks.ByteLocks.blocks_range.Goals as goal
 

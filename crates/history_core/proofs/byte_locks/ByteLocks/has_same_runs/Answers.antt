@@ -1,5 +1,4 @@
-use Rattle.std.proofs.Common.{rules, ◌≡◌, IsTrue, Bool, true, false, List, [], ◌∷◌, ◌&&◌, sym, ◌∙◌, refl, subst}
-use Rattle.std.proofs.lemmas.Grind.{common_steps}
+use Rattle.std.proofs.Common.{rules, ◌≡◌, Bool, true, false, List, [], ◌∷◌, ◌&&◌, sym, ◌∙◌, refl}
 use Rattle.std.proofs.lemmas.Bool.{eqb-true, false≢true}
 use denote.Enum.Bare.{same_true, sameb}
 use lib.Pointwise.{pointwise}

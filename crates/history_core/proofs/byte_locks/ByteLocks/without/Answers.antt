@@ -1,4 +1,4 @@
-use Rattle.std.proofs.Common.{◌≡◌, List, sym, subst, ap, ◌∙◌}
+use Rattle.std.proofs.Common.{List, sym, subst, ap, ◌∙◌}
 use Rattle.history_core.specs.declared.byte_locks.ByteLock.{ByteLock}
 use Rattle.history_core.specs.ByteLists.{AreTrue, bytes_in}
 use Rattle.history_core.specs.Locks.{bytes_without}
@@ -10,8 +10,10 @@ invariant_of-result c =
     let old = c.args.self.now.runs.items in
     let are = c.args.self.now.are_true in
     let P : List ByteLock → Type 0 = AreTrue in
-    record { are_true = subst P (sym c.in_ok-of_others.ensures)
-      (AreTrue-given _ (bytes_without (bytes_in old) c.args.owner) (AreRanges-others old c.args.owner are) (without_gives old c.args.owner are)) }
+    record {
+      are_true = subst P (sym c.in_ok-of_others.ensures)
+          (AreTrue-given _ (bytes_without (bytes_in old) c.args.owner) (AreRanges-others old c.args.owner are) (without_gives old c.args.owner are));
+    }
 
 pub returns : goal.returns
 returns c =
