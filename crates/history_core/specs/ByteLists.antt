@@ -76,4 +76,5 @@ IsBounded modes mode span = IsBoundedBefore modes mode span × IsBoundedBehind m
 
 -- the lock is of another owner than the one that is asked for, conflicts with it, and has one of its bytes
 abbrev pub IsAskedFor : ByteLock → ByteLock → Type 0
-IsAskedFor lock asked = (lock.owner ≢ asked.owner) × Conflict lock.mode asked.mode × IsRange lock.span × IsRange asked.span × Meets lock.span asked.span
+IsAskedFor lock asked =
+    (lock.owner ≢ asked.owner) × Conflict lock.mode asked.mode × IsRange lock.span × IsRange asked.span × Meets lock.span asked.span

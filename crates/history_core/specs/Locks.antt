@@ -36,7 +36,8 @@ pub record BlocksFlock (flocks : ℕ → Option Mode) (owner : ℕ) (mode : Mode
 -- another owner has this mode on all these bytes, and one of them is asked for and conflicts in that mode; where largest runs are
 -- demanded, these are one
 -- (POSIX.1-2017 fcntl, DESCRIPTION, F_GETLK, "Get the first lock which blocks the lock description pointed to by the third argument")
-pub record IsHeld (runs : Bool) (held_bytes : ℕ → Modes) (owner : ℕ) (asked : Mode) (span : Span) (other : ℕ) (mode : Mode) (bytes : Span) : Type 0 where
+pub record IsHeld (runs : Bool) (held_bytes : ℕ → Modes) (owner : ℕ) (asked : Mode) (span : Span) (other : ℕ) (mode : Mode) (bytes : Span)
+    : Type 0 where
   pub is_other : other ≢ owner
   pub conflicts : Conflict mode asked
   pub held : IsConstant (held_bytes other) bytes mode

@@ -1,4 +1,4 @@
-//! The byte locks on a file, each state of them in one form.
+//! The byte locks on a file.
 ghost use Rattle.std.specs.Prelude.{◌≡◌, ◌≢◌, ◌+◌, ◌^◌, ◌<◌, ◌==◌, ◌↔◌, ◌⊎◌, ℕ, IsTrue, IfOk, OnOk, IfSome, IfNone, All, Any, None, Some, min, max, filter, not};
 ghost use Rattle.range_core.specs.Ranges.{Conflict, Covers, IsConstant};
 ghost use Rattle.history_core.specs.ByteLists.{AreRanges, AreTrue, Gives, GivesSome, HasByte, HasBytes, IsRange, Meets, Within};
@@ -85,7 +85,7 @@ impl ByteLock {
             && meet(self.span, asked.span)
     }
 
-    /// Whether the lock stands before the other.
+    /// Whether the lock stands before the other in a list; no clause rests on that order.
     fn comes_before(&self, other: ByteLock) -> bool {
         self.owner < other.owner || self.owner == other.owner && self.span.first < other.span.first
     }
@@ -100,7 +100,8 @@ impl ByteLock {
     }
 }
 
-/// The byte locks on a file: of each owner the largest ranges of one mode, by owner and then by first byte.
+/// The byte locks on a file. They are put together as the largest ranges of one mode, by owner and first byte, so that the same locks come to the
+/// same list; no clause says so, and none rests on it.
 #[derive(Drop)]
 pub struct ByteLocks {
     alloc: Global,
@@ -141,7 +142,7 @@ impl ByteLocks {
         self.has_same_runs(other) || self.gives_same(other)
     }
 
-    /// Whether these are the same runs, as they always are of the same locks.
+    /// Whether these are the same lists, which is told at once.
     fn has_same_runs(&self, other: &ByteLocks) -> bool
         ensures { IsTrue result → self.now.runs.items ≡ other.now.runs.items }
     {
@@ -228,7 +229,8 @@ impl ByteLocks {
 
     /// Whether the owner of one of the locks does.
     fn some_owner_holds(&self, asked: ByteLock, mode: Mode, span: Span, runs: bool) -> bool
-        ensures { IsTrue result ↔ Any (λ lock. IsHeld runs (bytes_of self.now) asked.owner asked.mode asked.span lock.owner mode span) self.now.runs.items }
+        ensures { IsTrue result
+            ↔ Any (λ lock. IsHeld runs (bytes_of self.now) asked.owner asked.mode asked.span lock.owner mode span) self.now.runs.items }
     {
         self.runs.iter().any(|lock| {
             let told = ByteLock {
