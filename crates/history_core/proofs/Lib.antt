@@ -1,0 +1,10 @@
+-- The lemmas of this crate.
+pub mod ListLemmas
+pub mod ChangeLemmas
+pub mod ChainLemmas
+pub mod LineLemmas
+pub mod KeptLemmas
+pub mod ByteLemmas
+pub mod ActLemmas
+pub mod SearchLemmas
+pub mod FileLemmas

@@ -1,0 +1,95 @@
+//! Whether a history may end with its waits still waiting.
+use super::lines::Line::{Sent, Told};
+use super::lines::{ENOUGH, FIRST, Line, TEN, read};
+use history_core::Action::{Flock, FlockUnlock, FlockWait, Gone, Set, Unlock, Wait};
+use history_core::Answer::{Busy, Done};
+use history_core::FileHistory;
+use range_core::Mode::{Read, Write};
+use std::test::Fail;
+
+/// A wait that is blocked.
+const BLOCKED: &[Line] = &[
+    Sent(1, 1, Set(Write, TEN)),
+    Told(1, Done),
+    Sent(2, 2, Wait(Read, FIRST)),
+];
+
+/// The same whose wake-up was lost.
+const NOT_WOKEN: &[Line] = &[
+    Sent(1, 1, Set(Write, TEN)),
+    Told(1, Done),
+    Sent(2, 2, Wait(Read, FIRST)),
+    Sent(1, 1, Unlock(FIRST)),
+    Told(1, Done),
+];
+
+/// Two waits of which one is to be granted, for nothing blocks both.
+const ONE_IS_TO_BE_GRANTED: &[Line] = &[
+    Sent(1, 1, Wait(Write, FIRST)),
+    Sent(2, 2, Wait(Write, FIRST)),
+];
+
+/// The same with an owner that may yet have set its lock.
+const MAYBE_BLOCKED: &[Line] = &[
+    Sent(1, 1, Wait(Write, FIRST)),
+    Sent(2, 2, Wait(Write, FIRST)),
+    Sent(3, 3, Set(Write, TEN)),
+];
+
+/// An unlock that wasn't answered may be late.
+const MAYBE_NOT_WOKEN: &[Line] = &[
+    Sent(1, 1, Flock(Write)),
+    Told(1, Done),
+    Sent(2, 2, FlockWait(Read)),
+    Sent(1, 1, FlockUnlock),
+];
+
+/// A flock whose wake-up was lost.
+const FLOCK_NOT_WOKEN: &[Line] = &[
+    Sent(1, 1, Flock(Write)),
+    Told(1, Done),
+    Sent(2, 2, FlockWait(Read)),
+    Sent(1, 1, FlockUnlock),
+    Told(1, Done),
+];
+
+/// A wait of an owner that died is held up for good.
+const DEAD: &[Line] = &[
+    Sent(1, 1, Wait(Write, FIRST)),
+    Sent(2, 1, Gone),
+    Told(2, Done),
+];
+
+/// A request that doesn't wait has no wake-up.
+const NO_WAIT: &[Line] = &[
+    Sent(1, 1, Set(Write, FIRST)),
+    Told(1, Done),
+    Sent(1, 2, Set(Write, FIRST)),
+    Told(1, Busy),
+    Sent(1, 1, Unlock(FIRST)),
+    Told(1, Done),
+    Sent(2, 2, Set(Write, FIRST)),
+];
+
+#[test]
+fn of_endings(rt: HostRuntime) -> Result<(), Fail> {
+    for (place, (lines, may_end)) in [
+        (BLOCKED, true),
+        (NOT_WOKEN, false),
+        (ONE_IS_TO_BE_GRANTED, false),
+        (MAYBE_BLOCKED, true),
+        (MAYBE_NOT_WOKEN, true),
+        (FLOCK_NOT_WOKEN, false),
+        (DEAD, true),
+        (NO_WAIT, true),
+        (&[], true),
+    ]
+    .into_iter()
+    .enumerate()
+    {
+        let mut file = FileHistory::new(rt.alloc(), false)?;
+        read(&rt, &mut file, lines)?;
+        assert_eq!(rt; file.may_end(ENOUGH)?, may_end, "history {place}");
+    }
+    Ok(())
+}
