@@ -144,9 +144,11 @@ def listing(path: Path) -> None:
     ask(held, "setlk", "u", 0, 0)
     see("the reader is granted", reader.hear(), "ok")
     see("and is told", listed(), "; ".join([f"FCNTL {reader.pid} READ 5 - -", locks[2], waits[1]]))
-    os.close(held)
+    # The children have the description too, so a close would not be its last one.
+    flock(held, "un", True)
     see("the writer is granted", writer.hear(), "ok")
     stop(reader, writer)
+    os.close(held)
     name = ".lockfs-locks"
     see("no folder lists the file", str(name in os.listdir(path.parent)), "False")
     see("and it is there to be read", stat.filemode(os.stat(path.parent / name).st_mode), "-r--r--r--")
