@@ -34,9 +34,10 @@
 #include <unistd.h>
 
 /* Who last asked for byte locks, or for a flock lock, as an owner, and through which open file: for the pid that F_GETLK and the list of
- * locks tell, until the owner's locks go by a flush or by the last close of the open file. */
+ * locks tell, until the owner's locks go by a flush or by the last close of the open file. An open file description is one owner of both. */
 struct asker {
     uint64_t owner, open_file;
+    uint32_t family;
     pid_t pid;
     struct asker *next;
 };
@@ -162,15 +163,15 @@ static void leave_log(fuse_req_t request, int error) {
 
 /* ---- Locks */
 
-static struct asker *asker_of(const struct node *node, uint64_t owner) {
+static struct asker *asker_of(const struct node *node, uint64_t owner, uint32_t family) {
     struct asker *asker = node->askers;
-    while (asker && asker->owner != owner) asker = asker->next;
+    while (asker && (asker->owner != owner || asker->family != family)) asker = asker->next;
     return asker;
 }
 
 /* false: there is no memory. */
-static bool remember(struct node *node, uint64_t owner, uint64_t open_file, pid_t pid) {
-    struct asker *asker = asker_of(node, owner);
+static bool remember(struct node *node, uint64_t owner, uint32_t family, uint64_t open_file, pid_t pid) {
+    struct asker *asker = asker_of(node, owner, family);
     if (!asker) {
         asker = malloc(sizeof *asker);
         if (!asker) return false;
@@ -178,6 +179,7 @@ static bool remember(struct node *node, uint64_t owner, uint64_t open_file, pid_
         node->askers = asker;
     }
     asker->owner = owner;
+    asker->family = family;
     asker->open_file = open_file;
     asker->pid = pid;
     return true;
@@ -185,15 +187,15 @@ static bool remember(struct node *node, uint64_t owner, uint64_t open_file, pid_
 
 /* false: there is no memory. */
 static bool note(fuse_ino_t file, const struct fuse_file_info *info, pid_t pid) {
-    return remember(node_of(file), info->lock_owner, info->fh, pid) && dehokuna_note(&server, file, info->lock_owner, info->fh);
+    return remember(node_of(file), info->lock_owner, DEHOKUNA_BYTES, info->fh, pid) && dehokuna_note(&server, file, info->lock_owner, info->fh);
 }
 
-static pid_t pid_of(const struct node *node, uint64_t owner) {
-    const struct asker *asker = asker_of(node, owner);
+static pid_t pid_of(const struct node *node, uint64_t owner, uint32_t family) {
+    const struct asker *asker = asker_of(node, owner, family);
     return asker ? asker->pid : 0;
 }
 
-static bool is_owner(const struct asker *asker, uint64_t owner) { return asker->owner == owner; }
+static bool is_owner(const struct asker *asker, uint64_t owner) { return asker->owner == owner && asker->family == DEHOKUNA_BYTES; }
 static bool came_through(const struct asker *asker, uint64_t open_file) { return asker->open_file == open_file; }
 static bool is_any(const struct asker *asker, uint64_t unused) { return (void)asker, (void)unused, true; }
 
@@ -300,7 +302,7 @@ static void lockfs_getlk(fuse_req_t request, fuse_ino_t file, struct fuse_file_i
         told.l_type = blocker.mode == DEHOKUNA_READ ? F_RDLCK : F_WRLCK;
         told.l_start = (off_t)blocker.first;
         told.l_len = blocker.last == DEHOKUNA_LARGEST_OFFSET ? 0 : (off_t)(blocker.last - blocker.first + 1);
-        told.l_pid = pid_of(node_of(file), blocker.owner);
+        told.l_pid = pid_of(node_of(file), blocker.owner, DEHOKUNA_BYTES);
     }
     fuse_reply_lock(request, &told);
 }
@@ -310,7 +312,7 @@ static void lockfs_flock(fuse_req_t request, fuse_ino_t file, struct fuse_file_i
     uint32_t mode = kind == LOCK_UN ? DEHOKUNA_UNLOCK : kind == LOCK_SH ? DEHOKUNA_READ : DEHOKUNA_WRITE;
     struct asked asked = asked_by_flock(request, file, operation);
     /* (where there is no memory, the list of locks won't have the pid) */
-    if (mode != DEHOKUNA_UNLOCK) remember(node_of(file), info->lock_owner, info->fh, fuse_req_ctx(request)->pid);
+    if (mode != DEHOKUNA_UNLOCK) remember(node_of(file), info->lock_owner, DEHOKUNA_WHOLE, info->fh, fuse_req_ctx(request)->pid);
     answer(request, &asked,
            mode == DEHOKUNA_UNLOCK || operation & LOCK_NB
                ? dehokuna_flock(&server, file, info->lock_owner, mode)
@@ -358,9 +360,9 @@ static void print_locks(FILE *out, fuse_ino_t file) {
     struct dehokuna_blocker lock = {0};
     struct dehokuna_flock_lock flock = {0};
     for (uint64_t first = 0; dehokuna_next_lock(&server, file, lock.owner, first, &lock); first = lock.last + 1)
-        print_line(out, file, &(struct line){"FCNTL", lock.mode, lock.first, lock.last, pid_of(node_of(file), lock.owner), 0, false});
+        print_line(out, file, &(struct line){"FCNTL", lock.mode, lock.first, lock.last, pid_of(node_of(file), lock.owner, DEHOKUNA_BYTES), 0, false});
     for (uint64_t from = 0; dehokuna_next_flock(&server, file, from, &flock); from = flock.owner + 1) {
-        const struct line line = {"FLOCK", flock.mode, 0, DEHOKUNA_LARGEST_OFFSET, pid_of(node_of(file), flock.owner), 0, false};
+        const struct line line = {"FLOCK", flock.mode, 0, DEHOKUNA_LARGEST_OFFSET, pid_of(node_of(file), flock.owner, DEHOKUNA_WHOLE), 0, false};
         print_line(out, file, &line);
         if (flock.owner == UINT64_MAX) return;
     }
@@ -373,7 +375,7 @@ static void print_waits(FILE *out, fuse_ino_t file) {
     struct dehokuna_waiting wait;
     for (uint64_t place = 0; dehokuna_wait_at(&server, file, place, &wait); place++) {
         const bool by_wait = wait.obstacle == DEHOKUNA_BY_WAIT;
-        const pid_t blocker = by_wait ? pid_of_request(wait.behind) : pid_of(node_of(file), wait.blocker.owner);
+        const pid_t blocker = by_wait ? pid_of_request(wait.behind) : pid_of(node_of(file), wait.blocker.owner, wait.family);
         const char *kind = wait.family == DEHOKUNA_BYTES ? "FCNTL" : "FLOCK";
         print_line(out, file, &(struct line){kind, wait.mode, wait.first, wait.last, pid_of_request(wait.ticket), blocker, true});
     }
