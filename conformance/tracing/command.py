@@ -1,0 +1,146 @@
+"""The command line of `lockreplay-trace`."""
+
+from __future__ import annotations
+
+import argparse
+import json
+import sys
+from pathlib import Path
+from typing import Optional, Sequence
+
+from harness.command import program_of
+from tracing.assume import Explained, Explainer
+from tracing.follow import Request
+from tracing.history import CannotJudge, Places, Program, write
+from tracing.lint import QUIET, WHY, Finding, Linter
+from tracing.log import NotALog, read_log
+from tracing.tell import Line, Teller, ending, overlapping
+
+ALL_AS_IN_THE_LOG, FAULTY, FOUND, GAVE_UP = 0, 2, 3, 4
+# How many pairs of overlapping calls are tried the other way round.
+MOST_PAIRS = 200
+
+
+def parser() -> argparse.ArgumentParser:
+    """What the command line may say."""
+    made = argparse.ArgumentParser(
+        prog="lockreplay-trace",
+        description="Says what happened to a program's locks, from a log of strace: an order of its lock calls that gives every answer in the log.",
+    )
+    made.add_argument("log", metavar="LOG", type=Path, help="what strace -f -y -ttt -o LOG wrote; or, with -ff, the name before .PID")
+    made.add_argument("--lockreplay", metavar="PATH", type=Path, help="the program that judges; else LOCKREPLAY, or the one that was built")
+    made.add_argument("--file", metavar="PATH", action="append", default=[], help="prints the events of this file alone")
+    made.add_argument("--pid", metavar="PID", type=int, action="append", default=[], help="prints the events of this process alone")
+    made.add_argument("--from", metavar="SECONDS", dest="since", type=float, help="prints the events from this time of the log on")
+    made.add_argument("--to", metavar="SECONDS", dest="until", type=float, help="prints the events up to this time of the log")
+    made.add_argument("--no-lint", action="store_true", help="leaves out what went wrong")
+    made.add_argument("--fail-on", metavar="LIST", default="", help=f"ends with status 3 where one of these is found: {', '.join(WHY)}")
+    made.add_argument("--slow", metavar="SECONDS", type=float, help="tells waits that lasted longer (a log of strace -T)")
+    made.add_argument("--history", action="store_true", help="prints the history that is judged, and judges nothing")
+    made.add_argument("--json", action="store_true", help="prints a JSON object on a line for each event, finding and the end")
+    return made
+
+
+def is_asked(options: argparse.Namespace, line: Line) -> bool:
+    """Whether an event is to be printed."""
+    event = line.event
+    time = line.time or 0.0
+    return (
+        (not options.file or (event.file is not None and event.file.path in options.file))
+        and (not options.pid or event.process.pid in options.pid)
+        and (options.since is None or time >= options.since)
+        and (options.until is None or time <= options.until)
+    )
+
+
+def note_either_order(explained: Explained, lines: list[Line], teller: Teller, program: Program) -> None:
+    """Says of two overlapping calls that the other order is legal, too."""
+    by_event = {id(line.event): line for line in lines if not line.request.startswith("lets go")}
+    for one, other in list(overlapping(explained.judged))[:MOST_PAIRS]:
+        if one.end is None or other.end is None:
+            continue
+        between = max(one.begin, other.begin)
+        places: Places = {id(other): (other.begin, between + 0.25), id(one): (between + 0.5, one.end)}
+        answered = any(it.text and it.answer is None for it in explained.found.requests)
+        if not explained.told and program.judge(write(explained.found, answered and explained.with_unanswered, [], places)).illegal is None:
+            by_event[id(other)].notes.append(f"{teller.name(one)} and {teller.name(other)} in either order")
+
+
+def print_run(options: argparse.Namespace, explained: Explained, lines: list[Line], findings: list[Finding]) -> None:
+    """The run, the assumptions, what went wrong, and the last line."""
+    shown = [line for line in lines if is_asked(options, line)]
+    if options.json:
+        for line in shown:
+            print(line.as_json())
+        for finding in findings:
+            print(json.dumps({"finding": finding.kind, "line": finding.line, "text": finding.text, "why": WHY[finding.kind]}))
+        print(json.dumps({"end": ending(explained)}))
+        return
+    for line in shown:
+        print(line.text(), end="")
+    for made_up in explained.found.made_up:
+        if any(it.file is made_up.file for it in explained.found.requests):
+            print(f"# line {made_up.line}: descriptor {made_up.descriptor} of {made_up.process} was open before the log began: {made_up.file.path}")
+    for told in explained.told:
+        print(f"# line {told.line}: assumed: {told.text}")
+    for finding in findings:
+        if finding.kind not in QUIET:
+            print(f"# {finding}\n#   {WHY[finding.kind]}")
+    print(ending(explained))
+
+
+def print_impossible(explained: Explained, teller: Teller) -> None:
+    """The first answer that no order gives, with the calls that are open there."""
+    at = explained.impossible
+    if at is None:
+        return
+    print(f"{teller.where(at)}: no order of the log's calls gives this answer")
+    for request in explained.found.requests:
+        is_open = request is not at and request.text and request.file is at.file and request.begin < (at.end or 0) and (request.end is None or request.end > at.begin)
+        if is_open:
+            print(f"# open there: {teller.where(request)}")
+    for line in explained.judged.open_there:
+        print(line)
+
+
+def explained_of(options: argparse.Namespace, program: Program) -> Explained:
+    """The log explained. Raises NotALog where it has no lock call."""
+    log = read_log(options.log)
+    explained = Explainer(log, program.judge).explain()
+    if not explained.found.requests:
+        raise NotALog(f"{options.log} has no lock call: was strace told to trace fcntl and flock?")
+    return explained
+
+
+def main(words: Optional[Sequence[str]] = None) -> int:
+    """Does what the command line says; the exit status."""
+    options = parser().parse_args(words)
+    wanted = [word for word in options.fail_on.split(",") if word]
+    unknown = [word for word in wanted if word not in WHY]
+    if unknown:
+        print(f"lockreplay-trace: --fail-on knows no finding {unknown[0]}", file=sys.stderr)
+        return FAULTY
+    try:
+        program = Program(program_of(options))
+        if options.history:
+            log = read_log(options.log)
+            from tracing.follow import Assumptions, Follower
+
+            print("\n".join(write(Follower(log, Assumptions()).follow(), False, []).lines))
+            return ALL_AS_IN_THE_LOG
+        explained = explained_of(options, program)
+    except (NotALog, OSError) as failed:
+        print(f"lockreplay-trace: {failed}", file=sys.stderr)
+        return FAULTY
+    except CannotJudge as failed:
+        print(f"lockreplay-trace: {failed}", file=sys.stderr)
+        return GAVE_UP
+    teller = Teller(explained)
+    if explained.impossible is not None:
+        print_impossible(explained, teller)
+        return FOUND
+    lines = teller.lines()
+    note_either_order(explained, lines, teller, program)
+    findings = [] if options.no_lint else Linter(explained, teller, lines, options.slow).findings()
+    print_run(options, explained, lines, findings)
+    return FOUND if any(it.kind in wanted for it in findings) else ALL_AS_IN_THE_LOG

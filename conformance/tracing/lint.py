@@ -1,0 +1,149 @@
+"""What went wrong with a program's locks: the traps of fcntl and flock that a log shows, in the words of `lockreplay --explore` where it has them."""
+
+from __future__ import annotations
+
+from dataclasses import dataclass
+from typing import Iterator, Optional
+
+from tracing.assume import Explained
+from tracing.follow import Release, Request
+from tracing.tell import Held, Line, Teller, held_in
+
+# By finding, the sentence of the manual that it is an instance of.
+WHY = {
+    "dropped": 'POSIX.1-2017 close: "All outstanding record locks owned by the process on the file associated with the file descriptor shall be removed."',
+    "forked": 'POSIX.1-2017 fork: "Record locks are not inherited by the child process."',
+    "executed": "POSIX.1-2017 exec: a descriptor with FD_CLOEXEC is closed, and a close drops the process' record locks on the file.",
+    "lost": 'flock(2): "Converting a lock is not guaranteed to be atomic: the existing lock is first removed, and then a new lock is established."',
+    "families": "fcntl_locking(2): locks of flock(2) and of fcntl(2) on one file don't see each other on a local file system of Linux.",
+    "unlinked": "POSIX.1-2017 unlink: a file stays until it is closed; who opens its name anew locks another file.",
+    "orders": "Two processes that take two locks in opposite orders can wait for each other for ever.",
+    "deadlock": 'POSIX.1-2017 fcntl, EDEADLK: "putting the calling process to sleep would cause a deadlock".',
+    "stuck": "Somebody waited at the end of the log.",
+    "slow": "A wait was longer than asked for.",
+    "busy": 'POSIX.1-2017 fcntl, EAGAIN: "the lock is blocked by another lock".',
+    "interrupted": 'POSIX.1-2017 fcntl, EINTR: "the function was interrupted by a signal".',
+}
+QUIET = ("busy", "interrupted")
+
+
+@dataclass
+class Finding:
+    """A finding, with the place of the log where it shows."""
+
+    kind: str
+    line: int
+    text: str
+
+    def __str__(self) -> str:
+        return f"{self.kind}: line {self.line}: {self.text}"
+
+
+class Linter:
+    """Looks through an explained log for what went wrong."""
+
+    def __init__(self, explained: Explained, teller: Teller, lines: list[Line], slow: Optional[float]) -> None:
+        self.explained, self.teller, self.lines, self.slow = explained, teller, lines, slow
+        self.requests = explained.found.requests
+
+    def findings(self) -> list[Finding]:
+        """All findings, in the log's order."""
+        found = [*self.released(), *self.answered(), *self.families(), *self.orders(), *self.waits(), *self.unlinked()]
+        return sorted(found, key=lambda it: it.line)
+
+    def released(self) -> Iterator[Finding]:
+        """Locks that a close dropped while the file was still open, or that a fork or an exec lost."""
+        for line in self.lines:
+            event = line.event
+            if isinstance(event, Release):
+                for note in line.notes:
+                    if note.startswith("dropped") and "still open" in note:
+                        kind = "executed" if event.what.startswith("execve") else "dropped"
+                        yield Finding(kind, event.call.line, f"{event.process} {event.what} {note}")
+                if event.is_end and line.notes and event.inherited_by:
+                    heirs = ", ".join(str(it) for it in event.inherited_by)
+                    yield Finding("forked", event.call.line, f"{line.notes[0]}, and {heirs} has the file open without it")
+
+    def answered(self) -> Iterator[Finding]:
+        """What single answers show."""
+        for line in self.lines:
+            event = line.event
+            if line.request.startswith("lets go"):
+                yield Finding("lost", event.call.line, f"{event.process} lost {', '.join(line.notes).replace('dropped ', '')} as it asked for another mode")
+            elif isinstance(event, Request) and event.answer == "EDEADLK":
+                yield Finding("deadlock", event.call.line, f"{event.process} was told EDEADLK")
+            elif isinstance(event, Request) and event.answer in ("busy", "EINTR"):
+                kind = "busy" if event.answer == "busy" else "interrupted"
+                yield Finding(kind, event.call.line, f"{event.process} {line.request} was told {line.answer}" + "".join(f"; {it}" for it in line.notes))
+
+    def families(self) -> Iterator[Finding]:
+        """One file locked by flock and by fcntl, by different programs."""
+        by_file: dict[int, dict[bool, Request]] = {}
+        for request in self.requests:
+            if request.file is not None and request.answer == "ok":
+                by_file.setdefault(request.file.number, {}).setdefault(request.is_whole_file, request)
+        for both in by_file.values():
+            if len(both) == 2 and both[True].process.program != both[False].process.program:
+                one, other = both[True], both[False]
+                path = one.file.path if one.file else "?"
+                yield Finding("families", max(one.call.line, other.call.line), f"{path} is locked by flock ({one.process}) and by fcntl ({other.process})")
+
+    def orders(self) -> Iterator[Finding]:
+        """Two locks that two processes took in opposite orders."""
+        holding: dict[int, list[str]] = {}
+        taken: dict[tuple[str, str], Request] = {}
+        told: set[tuple[str, str]] = set()
+        for request in self.requests:
+            if request.file is None or request.answer != "ok":
+                continue
+            name = f"{request.file.path}{' by flock' if request.is_whole_file else ''}"
+            held = holding.setdefault(request.process.number, [])
+            if request.text.startswith("unlock") or request.text.endswith(" un"):
+                holding[request.process.number] = [it for it in held if it != name]
+                continue
+            for other in held:
+                reverse = taken.get((name, other))
+                if other != name and reverse is not None and reverse.process is not request.process and (name, other) not in told:
+                    told |= {(name, other), (other, name)}
+                    yield Finding("orders", request.call.line, f"{request.process} took {other} and then {name}, {reverse.process} the other way round (line {reverse.call.line})")
+                taken.setdefault((other, name), request)
+            if name not in held:
+                held.append(name)
+
+    def waits(self) -> Iterator[Finding]:
+        """Who waited at the end, and who waited long."""
+        judged = self.explained.judged
+        last = held_in(judged.states.get(len(judged.effects), []))
+        waiting = [it for it in self.requests if it.waits and it.answer is None]
+        ends = {it.owner for it in self.explained.found.releases if it.is_end}
+        edges = {it.process.number: [lock for lock in last if self.teller.is_in_the_way(it, lock)] for it in waiting}
+        for request in waiting:
+            if request.owner in ends:
+                continue
+            ways = "; ".join(f"{lock} of {self.teller.owner(lock.owner)}{self.teller.set_by(lock)}" for lock in edges[request.process.number])
+            cycle = self.cycle(request, edges)
+            text = f"{request.process} waited at the end of the log" + (f" for {ways}" if ways else "") + (f"; deadlock: {cycle}" if cycle else "")
+            yield Finding("stuck", request.call.line, text)
+        for request in self.requests:
+            lasted = request.call.lasted
+            if self.slow is not None and lasted is not None and lasted > self.slow and request.waits:
+                yield Finding("slow", request.call.line, f"{request.process} waited {lasted:.3f} s")
+
+    def cycle(self, request: Request, edges: dict[int, list[Held]]) -> str:
+        """The processes of a cycle of waits, if the request's is in one."""
+        owners = {it.owner: it.process.number for it in self.requests}
+        path = [request.process.number]
+        while True:
+            ways = [owners[lock.owner] for lock in edges.get(path[-1], []) if lock.owner in owners]
+            if not ways:
+                return ""
+            if ways[0] in path:
+                around = [*path[path.index(ways[0]) :], ways[0]]
+                return " -> ".join(str(self.teller.numbers.get(number, number)) for number in around)
+            path.append(ways[0])
+
+    def unlinked(self) -> Iterator[Finding]:
+        """A lock file that was unlinked while it was locked."""
+        for line, path, owners in self.explained.found.unlinked:
+            if owners:
+                yield Finding("unlinked", line, f"{path} was unlinked while {' and '.join(map(str, owners))} had it open and locked")
