@@ -6,7 +6,7 @@ from dataclasses import dataclass, field
 from typing import Callable, Iterator, Optional
 
 from tracing.follow import Assumptions, Followed, Follower, Request
-from tracing.history import Event, Judged, Outside, Written, left_unjudged, write
+from tracing.history import Event, Judged, Outside, Places, Written, left_unjudged, write
 from tracing.log import Log
 
 # The owners of outsiders stand behind those of the log.
@@ -30,6 +30,12 @@ class Explained:
     judged: Judged
     told: list[Told] = field(default_factory=list)
     impossible: Optional[Event] = None
+    with_unanswered: bool = False
+    outsiders: list[Outside] = field(default_factory=list)
+
+    def again(self, judge: Callable[[Written], Judged], places: Places) -> Judged:
+        """What comes of the same with some calls at other places."""
+        return judge(write(self.found, self.with_unanswered, self.outsiders, places))
 
 
 @dataclass
@@ -74,7 +80,7 @@ class Explainer:
         written = write(found, state.with_unanswered, outsiders)
         judged = self.judge(written)
         impossible = event_at(written, judged.illegal) if judged.illegal is not None else None
-        return Explained(found, written, judged, state.told, impossible)
+        return Explained(found, written, judged, state.told, impossible, state.with_unanswered, outsiders)
 
     def tries(self, state: State, explained: Explained) -> Iterator[tuple[State, Explained]]:
         """Each further assumption, with what comes of it: who has no answer in the log, one file or two, threads, somebody else."""

@@ -57,13 +57,15 @@ def note_either_order(explained: Explained, lines: list[Line], teller: Teller, p
     """Says of two overlapping calls that the other order is legal, too."""
     by_event = {id(line.event): line for line in lines if not line.request.startswith("lets go")}
     for one, other in list(overlapping(explained.judged))[:MOST_PAIRS]:
-        if one.end is None or other.end is None:
-            continue
-        between = max(one.begin, other.begin)
-        places: Places = {id(other): (other.begin, between + 0.25), id(one): (between + 0.5, one.end)}
-        answered = any(it.text and it.answer is None for it in explained.found.requests)
-        if not explained.told and program.judge(write(explained.found, answered and explained.with_unanswered, [], places)).illegal is None:
+        if explained.again(program.judge, turned_round(one, other)).illegal is None:
             by_event[id(other)].notes.append(f"{teller.name(one)} and {teller.name(other)} in either order")
+
+
+def turned_round(one: Request, other: Request) -> Places:
+    """The places of two calls that overlap by which the other is over before the one begins."""
+    if one.begin >= other.begin:
+        return {id(other): (other.begin, one.begin - 0.5)}
+    return {id(other): (other.begin, other.begin + 0.25), id(one): (other.begin + 0.5, one.end)}
 
 
 def print_run(options: argparse.Namespace, explained: Explained, lines: list[Line], findings: list[Finding]) -> None:

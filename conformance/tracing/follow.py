@@ -15,6 +15,7 @@ FORKS = ("fork", "vfork", "clone", "clone3")
 COMMANDS = re.compile(r"\bF_(?P<ofd>OFD_)?(?P<what>GETLK|SETLKW|SETLK)(?:64)?\b")
 LARGEST_OFFSET = 2**63 - 1
 WITHOUT_EFFECT = ("EBADF", "EINVAL", "EOVERFLOW")
+REFUSED = "refused for its arguments"
 
 
 @dataclass
@@ -447,10 +448,10 @@ class Follower:
         request = Request(call, task.process, 0, one.description.file if one else None, "", None, call.begin, call.end)
         request.number = task.process.requests
         self.found.requests.append(request)
-        if one is None:
+        if call.error in WITHOUT_EFFECT:
+            request.why_not = REFUSED
+        elif one is None:
             request.why_not = "a descriptor of unknown origin"
-        elif call.error in WITHOUT_EFFECT:
-            request.why_not = "refused for its arguments"
         elif call.name == "flock":
             self.flock(request, one)
         else:

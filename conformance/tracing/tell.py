@@ -7,7 +7,7 @@ from dataclasses import asdict, dataclass, field
 from typing import Any, Iterator, Optional
 
 from tracing.assume import Explained, said_last
-from tracing.follow import Release, Request
+from tracing.follow import REFUSED, Release, Request
 from tracing.history import Effect, Event, Judged
 
 MODES = {"r": "read", "w": "write", "sh": "shared", "ex": "exclusive"}
@@ -203,7 +203,7 @@ def ending(explained: Explained) -> str:
     """The last line: how many answers the log has, how many weren't judged, and what had to be assumed."""
     requests = explained.found.requests
     answered = sum(1 for it in requests if it.call.returned)
-    left = sum(1 for it in requests if it.why_not and it.why_not != "refused for its arguments" and it.call.returned)
+    left = sum(1 for it in requests if it.why_not and it.why_not != REFUSED and it.call.returned)
     assumed = " and ".join(dict.fromkeys(it.text for it in explained.told))
     return f"all {answered} answers as in the log" + (f", {left} not judged" if left else "") + (f", if {assumed}" if assumed else "")
 

@@ -1,0 +1,364 @@
+"""What lockreplay-trace makes of logs of strace: made ones of each form, with what happened derived by hand, and ten recorded ones."""
+
+from __future__ import annotations
+
+import contextlib
+import io
+import lzma
+import random
+import tempfile
+import unittest
+from pathlib import Path
+
+from tests.support import LOCKREPLAY
+from tracing.command import main
+
+RECORDED = Path(__file__).resolve().parent / "traces"
+WRITE = "{l_type=F_WRLCK, l_whence=SEEK_SET, l_start=0, l_len=0}"
+READ = "{l_type=F_RDLCK, l_whence=SEEK_SET, l_start=0, l_len=0}"
+UNLOCK = "{l_type=F_UNLCK, l_whence=SEEK_SET, l_start=0, l_len=0}"
+AGAIN = "-1 EAGAIN (Resource temporarily unavailable)"
+STOPPED = "? ERESTARTSYS (To be restarted if SA_RESTART is set)"
+ENDED = "+++ exited with 0 +++"
+
+
+class TraceTest(unittest.TestCase):
+    """A test that has a log told."""
+
+    def setUp(self) -> None:
+        folder = tempfile.TemporaryDirectory(prefix="trace-tests-")
+        self.addCleanup(folder.cleanup)
+        self.folder = Path(folder.name)
+
+    def told(self, text: str, *flags: str) -> tuple[int, str]:
+        """The status, and all that is printed of a log of this text."""
+        (self.folder / "log").write_text(text)
+        return self.told_of(self.folder / "log", *flags)
+
+    def told_of(self, path: Path, *flags: str) -> tuple[int, str]:
+        """The status, and all that is printed of a log."""
+        printed = io.StringIO()
+        with contextlib.redirect_stdout(printed), contextlib.redirect_stderr(printed):
+            status = main([str(path), "--lockreplay", str(LOCKREPLAY), *flags])
+        return status, printed.getvalue()
+
+    def assert_run(self, text: str, expected: list[str], last: str, *flags: str) -> str:
+        """The run of a log has these events, and ends with this line."""
+        status, printed = self.told(text, *flags)
+        lines = printed.splitlines()
+        self.assertEqual([line for line in lines[:-1] if not line.startswith((" ", "#"))], expected, printed)
+        self.assertEqual((status, lines[-1]), (0, last), printed)
+        return printed
+
+
+def log(*calls: str) -> str:
+    """A log of these calls, each `TASK CALL`, with times a tenth of a second apart."""
+    lines = []
+    for number, call in enumerate(calls):
+        task, rest = call.split(" ", 1)
+        lines.append(f"{task} 1795740970.{number:02d}0000 {rest}\n")
+    return "".join(lines)
+
+
+class Forms(TraceTest):
+    """Logs of each form in which strace writes."""
+
+    CALLS = (
+        'openat(AT_FDCWD, "/d/a", O_RDWR) = 3',
+        f"fcntl(3, F_SETLK, {WRITE}) = 0",
+        f"fcntl(3, F_SETLK, {UNLOCK}) = 0",
+        "exit_group(0) = ?",
+        ENDED,
+    )
+    RUN = ["1#1 set /d/a w 0 end | ok", "1#2 unlock /d/a 0 end | ok"]
+    LAST = "all 2 answers as in the log"
+
+    def test_bare_calls(self) -> None:
+        self.assert_run("".join(f"{call}\n" for call in self.CALLS), self.RUN, self.LAST)
+
+    def test_times_of_the_epoch_and_durations(self) -> None:
+        text = "".join(f"1795740970.{at:06d} {call} <0.000010>\n" for at, call in enumerate(self.CALLS[:3]))
+        self.assertIn("line 2, 0.000 s", self.assert_run(text, self.RUN, self.LAST))
+
+    def test_times_of_the_day(self) -> None:
+        text = "".join(f"23:59:59.{at}00000 {call}\n" for at, call in enumerate(self.CALLS))
+        self.assertIn("line 2, 0.100 s", self.assert_run(text, self.RUN, self.LAST))
+
+    def test_times_since_the_line_before(self) -> None:
+        text = "".join(f"     0.250000 {call}\n" for call in self.CALLS)
+        self.assertIn("line 3, 0.500 s", self.assert_run(text, self.RUN, self.LAST))
+
+    def test_a_column_of_tasks(self) -> None:
+        self.assert_run("".join(f"77 {call}\n" for call in self.CALLS), self.RUN, self.LAST)
+
+    def test_tasks_in_brackets(self) -> None:
+        self.assert_run("".join(f"[pid    77] {call}\n" for call in self.CALLS), self.RUN, self.LAST)
+
+    def test_a_file_for_each_task(self) -> None:
+        calls = ('openat(AT_FDCWD, "/d/a", O_RDWR) = 3', f"fcntl(3, F_SETLK, {WRITE}) = 0", "fork() = 11", f"fcntl(3, F_SETLK, {UNLOCK}) = 0", ENDED)
+        (self.folder / "log.10").write_text("".join(f"1795740970.{at}00000 {call}\n" for at, call in enumerate(calls)))
+        (self.folder / "log.11").write_text(f"1795740970.210000 fcntl(3, F_SETLKW, {WRITE}) = 0\n1795740970.700000 {ENDED}\n")
+        status, printed = self.told_of(self.folder / "log")
+        self.assertEqual(status, 0, printed)
+        self.assertEqual(printed.splitlines()[-1], "all 3 answers as in the log")
+        events = [line for line in printed.splitlines() if line.startswith(("1#", "2#"))]
+        self.assertEqual(events, ["1#1 set /d/a w 0 end | ok", "1#2 unlock /d/a 0 end | ok", "2#1 wait /d/a w 0 end | ok"])
+
+    def test_files_for_each_task_want_times(self) -> None:
+        (self.folder / "log.10").write_text("     0.100000 flock(3, LOCK_EX) = 0\n")
+        status, printed = self.told_of(self.folder / "log")
+        self.assertEqual(status, 2)
+        self.assertIn("-ttt", printed)
+
+    def test_a_program_that_ran_before(self) -> None:
+        text = log(f"10 fcntl(4</d/a>, F_SETLK, {WRITE}) = 0", f"11 fcntl(7</d/a>, F_SETLK, {WRITE}) = {AGAIN}")
+        printed = self.assert_run(text, ["1#1 set /d/a w 0 end | ok", "2#1 set /d/a w 0 end | EAGAIN"], self.LAST)
+        self.assertIn("descriptor 7 of ?[11] was open before the log began: /d/a", printed)
+
+
+class Refused(TraceTest):
+    """What isn't a log of lock calls."""
+
+    def assert_refused(self, path: Path, words: str) -> None:
+        status, printed = self.told_of(path)
+        self.assertEqual(status, 2, printed)
+        self.assertIn(words, printed)
+
+    def test_what_is_no_log(self) -> None:
+        (self.folder / "text").write_text("Dear all,\nmy lock is gone.\n")
+        self.assert_refused(self.folder / "text", "no line of strace")
+        (self.folder / "binary").write_bytes(b"\x7fELF\0\0")
+        self.assert_refused(self.folder / "binary", "binary")
+        self.assert_refused(self.folder / "missing", "missing")
+        (self.folder / "other").write_text(log("1 close(3) = 0"))
+        self.assert_refused(self.folder / "other", "no lock call")
+        (self.folder / "empty").write_text("")
+        self.assert_refused(self.folder / "empty", "no line of strace")
+
+    def test_a_finding_that_there_is_none_of(self) -> None:
+        self.assertEqual(self.told(log(f"1 fcntl(3</d/a>, F_SETLK, {WRITE}) = 0"), "--fail-on", "dropt")[0], 2)
+
+
+class Answers(TraceTest):
+    """What the calls of a log show."""
+
+    OPEN = '10 openat(AT_FDCWD</d>, "a", O_RDWR) = 3</d/a>'
+
+    def test_a_wait_is_granted_by_the_unlock(self) -> None:
+        text = log(
+            self.OPEN,
+            f"10 fcntl(3</d/a>, F_SETLK, {WRITE}) = 0",
+            "10 fork() = 11",
+            f"11 fcntl(3</d/a>, F_SETLKW, {WRITE} <unfinished ...>",
+            f"10 fcntl(3</d/a>, F_SETLK, {UNLOCK}) = 0",
+            "11 <... fcntl resumed>) = 0",
+        )
+        printed = self.assert_run(text, ["1#1 set /d/a w 0 end | ok", "1#2 unlock /d/a 0 end | ok", "2#1 wait /d/a w 0 end | ok"], "all 3 answers as in the log")
+        self.assertIn("waited 0.020 s", printed)
+
+    def test_a_wait_that_a_signal_ended_and_that_began_again(self) -> None:
+        text = log(
+            self.OPEN,
+            f"10 fcntl(3</d/a>, F_SETLK, {WRITE}) = 0",
+            "10 fork() = 11",
+            f"11 fcntl(3</d/a>, F_SETLKW, {WRITE}) = {STOPPED}",
+            "11 --- SIGALRM {si_signo=SIGALRM, si_code=SI_KERNEL} ---",
+            f"11 fcntl(3</d/a>, F_SETLKW, {WRITE} <unfinished ...>",
+            "10 exit_group(0) = ?",
+            f"10 {ENDED}",
+            "11 <... fcntl resumed>) = 0",
+        )
+        run = ["1#1 set /d/a w 0 end | ok", "2#1 wait /d/a w 0 end | ERESTARTSYS", "1 end of ?[10] (exited with 0)", "2#2 wait /d/a w 0 end | ok"]
+        self.assert_run(text, run, "all 3 answers as in the log")
+
+    def test_a_waiter_that_is_killed_never_has_the_lock(self) -> None:
+        text = log(
+            self.OPEN,
+            f"10 fcntl(3</d/a>, F_SETLK, {WRITE}) = 0",
+            "10 fork() = 11",
+            f"11 fcntl(3</d/a>, F_SETLKW, {WRITE} <unfinished ...>",
+            "11 +++ killed by SIGKILL +++",
+            f"10 fcntl(3</d/a>, F_SETLK, {UNLOCK}) = 0",
+            f"10 fcntl(3</d/a>, F_SETLK, {READ}) = 0",
+        )
+        self.assertIn("2#1 wait /d/a w 0 end | no answer", self.told(text)[1])
+        self.assertEqual(self.told(text)[1].splitlines()[-1], "all 3 answers as in the log")
+
+    def test_threads_are_one_owner_and_wait_apart(self) -> None:
+        text = log(
+            self.OPEN,
+            "10 clone3({flags=CLONE_VM|CLONE_FS|CLONE_FILES|CLONE_SIGHAND|CLONE_THREAD, ...}) = 11",
+            "10 fork() = 12",
+            f"12 fcntl(3</d/a>, F_SETLK, {WRITE}) = 0",
+            f"10 fcntl(3</d/a>, F_SETLKW, {WRITE} <unfinished ...>",
+            f"11 fcntl(3</d/a>, F_SETLK, {READ}) = {AGAIN}",
+            f"12 fcntl(3</d/a>, F_SETLK, {UNLOCK}) = 0",
+            "10 <... fcntl resumed>) = 0",
+            f"11 fcntl(3</d/a>, F_SETLK, {READ}) = 0",
+        )
+        self.assertEqual(self.told(text)[1].splitlines()[-1], "all 5 answers as in the log")
+
+    def test_a_close_of_any_descriptor_drops_the_locks(self) -> None:
+        text = log(
+            self.OPEN,
+            "10 fcntl(3</d/a>, F_DUPFD, 10) = 10</d/a>",
+            f"10 fcntl(3</d/a>, F_SETLK, {WRITE}) = 0",
+            "10 close_range(5, 4294967295, 0) = 0",
+            "10 fork() = 11",
+            f"11 fcntl(3</d/a>, F_SETLK, {WRITE}) = 0",
+        )
+        status, printed = self.told(text, "--fail-on", "dropped")
+        self.assertEqual(status, 3)
+        self.assertIn("dropped the write lock on bytes 0 to the end, set by line 3 through descriptor 3; descriptor 3 of the file is still open", printed)
+        self.assertEqual(printed.splitlines()[-1], "all 2 answers as in the log")
+
+    def test_flock_locks_are_the_description_s(self) -> None:
+        text = log(
+            self.OPEN,
+            "10 flock(3</d/a>, LOCK_EX) = 0",
+            "10 fork() = 11",
+            "10 close(3</d/a>) = 0",
+            '12 openat2(AT_FDCWD</d>, "a", {flags=O_RDWR, resolve=0}, 24) = 4</d/a>',
+            f"12 flock(4</d/a>, LOCK_EX|LOCK_NB) = {AGAIN}",
+            "11 close(3</d/a>) = 0",
+            "12 flock(4</d/a>, LOCK_EX|LOCK_NB) = 0",
+        )
+        self.assertEqual(self.told(text)[1].splitlines()[-1], "all 3 answers as in the log")
+
+    def test_a_mapping_keeps_a_description_open(self) -> None:
+        calls = [
+            self.OPEN,
+            "10 flock(3</d/a>, LOCK_EX) = 0",
+            "10 mmap(NULL, 4096, PROT_READ, MAP_SHARED, 3</d/a>, 0) = 0x7f00",
+            "10 close(3</d/a>) = 0",
+            '12 openat(AT_FDCWD</d>, "a", O_RDWR) = 4</d/a>',
+            f"12 flock(4</d/a>, LOCK_EX|LOCK_NB) = {AGAIN}",
+        ]
+        self.assertEqual(self.told(log(*calls))[1].splitlines()[-1], "all 2 answers as in the log")
+        del calls[2]
+        self.assertIn("if somebody outside the log holds", self.told(log(*calls))[1].splitlines()[-1])
+
+    def test_gets_are_taken_by_their_answers(self) -> None:
+        held = "{l_type=F_WRLCK, l_whence=SEEK_SET, l_start=5, l_len=5, l_pid=10}"
+        text = log(
+            self.OPEN,
+            "10 fork() = 11",
+            "10 fcntl(3</d/a>, F_SETLK, {l_type=F_WRLCK, l_whence=SEEK_SET, l_start=5, l_len=5}) = 0",
+            f"11 fcntl(3</d/a>, F_GETLK, {held}) = 0",
+            "11 fcntl(3</d/a>, F_GETLK, {l_type=F_UNLCK, l_whence=SEEK_SET, l_start=0, l_len=5, l_pid=0}) = 0",
+        )
+        run = ["1#1 set /d/a w 5 9 | ok", "2#1 get /d/a w 5 9 | held", "2#2 get /d/a r 0 4 | free"]
+        self.assert_run(text, run, "all 3 answers as in the log")
+        status, printed = self.told(text.replace("l_start=0, l_len=5, l_pid=0", "l_start=0, l_len=6, l_pid=0"))
+        self.assertEqual(status, 3)
+        self.assertIn("line 5", printed.splitlines()[0])
+
+    def test_offsets_that_the_log_doesnt_show_arent_judged(self) -> None:
+        current = "{l_type=F_WRLCK, l_whence=SEEK_CUR, l_start=0, l_len=5}"
+        text = log(self.OPEN, f"10 fcntl(3</d/a>, F_SETLK, {current}) = 0", f"10 fcntl(3</d/a>, F_SETLK, {UNLOCK}) = 0")
+        self.assertEqual(self.told(text)[1].splitlines()[-1], "all 2 answers as in the log, 2 not judged")
+        text = log(self.OPEN, '10 read(3</d/a>, "abc", 3) = 3', f"10 fcntl(3</d/a>, F_SETLK, {current}) = 0")
+        self.assert_run(text, ["1#1 set /d/a w 3 7 | ok"], "all 1 answers as in the log")
+
+    def test_calls_without_effect_count_as_answered(self) -> None:
+        text = log(self.OPEN, f"10 fcntl(9, F_SETLK, {WRITE}) = -1 EBADF (Bad file descriptor)", f"10 fcntl(3</d/a>, F_SETLK, {WRITE}) = 0")
+        self.assertEqual(self.told(text)[1].splitlines()[-1], "all 2 answers as in the log")
+
+    def test_an_upgrade_by_flock_lets_go(self) -> None:
+        text = log(
+            self.OPEN,
+            "10 flock(3</d/a>, LOCK_SH) = 0",
+            '12 openat(AT_FDCWD</d>, "a", O_RDWR) = 4</d/a>',
+            "12 flock(4</d/a>, LOCK_SH) = 0",
+            f"10 flock(3</d/a>, LOCK_EX|LOCK_NB) = {AGAIN}",
+            "12 flock(4</d/a>, LOCK_EX) = 0",
+        )
+        status, printed = self.told(text, "--fail-on", "lost")
+        self.assertEqual(status, 3, printed)
+        self.assertIn("1#2 lets go of its old lock", printed)
+
+
+class Names(TraceTest):
+    """Files and their names."""
+
+    FIRST = ('10 openat(AT_FDCWD</d>, "a", O_RDWR|O_CREAT, 0600) = 3</d/a>', f"10 fcntl(3</d/a>, F_SETLK, {WRITE}) = 0")
+
+    def second(self, name: str, answer: str) -> tuple[str, str]:
+        return (f'11 openat(AT_FDCWD</d>, "{name}", O_RDWR|O_CREAT, 0600) = 4</d/{name}>', f"11 fcntl(4</d/{name}>, F_SETLK, {WRITE}) = {answer}")
+
+    def last(self, *calls: str) -> str:
+        return self.told(log(*calls))[1].splitlines()[-1]
+
+    def test_an_unlinked_file_is_another(self) -> None:
+        self.assertEqual(self.last(*self.FIRST, '10 unlink("/d/a") = 0', *self.second("a", "0")), "all 2 answers as in the log")
+        self.assertEqual(self.last(*self.FIRST, "10 close(3</d/a>(deleted)) = 0", *self.second("a", "0")), "all 2 answers as in the log")
+        self.assertIn("unlinked: line 3: /d/a", self.told(log(*self.FIRST, '10 unlink("/d/a") = 0', *self.second("a", "0")))[1])
+
+    def test_a_renamed_file_is_the_same(self) -> None:
+        self.assertEqual(self.last(*self.FIRST, '10 rename("/d/a", "/d/b") = 0', *self.second("b", AGAIN)), "all 2 answers as in the log")
+
+    def test_a_linked_file_is_the_same(self) -> None:
+        self.assertEqual(self.last(*self.FIRST, '10 link("/d/a", "/d/b") = 0', *self.second("b", AGAIN)), "all 2 answers as in the log")
+
+    def test_two_names_that_must_be_one_file(self) -> None:
+        self.assertEqual(self.last(*self.FIRST, *self.second("b", AGAIN)), "all 1 answers as in the log".replace("1", "2") + ", if /d/b is /d/a")
+
+    def test_one_name_that_must_be_two_files(self) -> None:
+        self.assertEqual(self.last(*self.FIRST, *self.second("a", "0")), "all 2 answers as in the log, if /d/a was unlinked before line 3")
+
+    def test_tasks_that_must_be_threads(self) -> None:
+        text = (f"10 fcntl(3</d/a>, F_SETLK, {WRITE}) = 0", f"11 fcntl(3</d/a>, F_SETLK, {WRITE}) = 0")
+        self.assertEqual(self.last(*text), "all 2 answers as in the log, if tasks 10, 11 are threads of one process")
+
+    def test_somebody_outside_the_log(self) -> None:
+        text = ('10 openat(AT_FDCWD</d>, "a", O_RDWR) = 3</d/a>', f"10 fcntl(3</d/a>, F_SETLK, {WRITE}) = {AGAIN}", f"10 fcntl(3</d/a>, F_SETLK, {WRITE}) = 0")
+        self.assertEqual(self.last(*text), "all 2 answers as in the log, if somebody outside the log holds bytes 0 to the end of /d/a")
+
+    def test_an_answer_that_nothing_gives(self) -> None:
+        text = ('10 openat(AT_FDCWD</d>, "a", O_RDWR) = 3</d/a>', f"10 fcntl(3</d/a>, F_SETLK, {WRITE}) = 0", "10 fork() = 11", f"11 fcntl(3</d/a>, F_SETLK, {READ}) = 0")
+        status, printed = self.told(log(*text))
+        self.assertEqual(status, 3, printed)
+        self.assertIn("line 4", printed.splitlines()[0])
+
+
+class Recorded(TraceTest):
+    """Logs of real programs, with the answers that each has."""
+
+    ANSWERS = {
+        "alarm-ends-a-wait": 3,
+        "cargo-twice": 54,
+        "flock-timeout": 5,
+        "four-sqlite-writers": 450,
+        "four-workers-trylock": 219,
+        "killed-waiter": 1,
+        "library-closes": 2,
+        "pid-daemon": 2,
+        "six-busy-workers": 630,
+        "sqlite-wal": 150,
+    }
+    # How many places of a longer log it is cut at.
+    CUTS = 20
+
+    def text_of(self, name: str) -> str:
+        return lzma.decompress((RECORDED / f"{name}.log.xz").read_bytes()).decode()
+
+    def test_each_answer_is_as_in_the_log(self) -> None:
+        for name, answers in self.ANSWERS.items():
+            with self.subTest(name):
+                status, printed = self.told(self.text_of(name), "--no-lint")
+                self.assertEqual((status, printed.splitlines()[-1]), (0, f"all {answers} answers as in the log"))
+
+    def test_cut_logs(self) -> None:
+        draw = random.Random(1)
+        for name in ("alarm-ends-a-wait", "killed-waiter", "sqlite-wal", "flock-timeout"):
+            lines = self.text_of(name).splitlines(keepends=True)
+            for at in sorted(draw.sample(range(1, len(lines)), min(self.CUTS, len(lines) - 1))):
+                with self.subTest(name, line=at):
+                    text = "".join(lines[:at])
+                    status, printed = self.told(text + lines[at][: draw.randrange(len(lines[at]))])
+                    self.assertIn(status, (0, 2), printed)
+                    self.assertNotIn("if ", printed.splitlines()[-1] if status == 0 else "")
+
+
+if __name__ == "__main__":
+    unittest.main()
