@@ -238,8 +238,7 @@ def merged(path: Path, parts: list[Path]) -> Log:
         for call, follower in zip(own.calls, [*own.calls[1:], None]):
             ends.append((call.time or 0.0, 0, call))
             if call.end is not None:
-                until = call.until if call.until is not None else follower.time if follower else call.time
-                ends.append((until or 0.0, 1, call))
+                ends.append((end_of(call, follower), 1, call))
     if not ends:
         raise NotALog(f"{path}.* have no line of strace")
     for place, (_, is_end, call) in enumerate(sorted(ends, key=lambda it: it[:2]), 1):
@@ -251,6 +250,13 @@ def merged(path: Path, parts: list[Path]) -> Log:
     log.places = len(ends) + 1
     set_beginning(log)
     return log
+
+
+def end_of(call: Call, follower: Optional[Call]) -> float:
+    """When a call was over: before its task's next line at the latest, and times are told by the microsecond."""
+    if call.until is None and follower is not None and follower.time is not None:
+        return max(follower.time - 0.5e-6, call.time or 0.0)
+    return call.until or call.time or 0.0
 
 
 def has_clock(part: Path) -> bool:
