@@ -10,11 +10,12 @@ from typing import Optional, Sequence
 
 from harness.command import program_of
 from tracing.assume import Explained, Explainer
-from tracing.follow import Request
+from tracing.follow import Assumptions, Follower, Request
 from tracing.history import CannotJudge, Places, Program, write
 from tracing.lint import QUIET, WHY, Finding, Linter
 from tracing.log import NotALog, read_log
 from tracing.tell import Line, Teller, ending, overlapping
+from tracing.timeline import Timeline
 
 ALL_AS_IN_THE_LOG, FAULTY, FOUND, GAVE_UP = 0, 2, 3, 4
 # How many pairs of overlapping calls are tried the other way round.
@@ -37,6 +38,7 @@ def parser() -> argparse.ArgumentParser:
     made.add_argument("--fail-on", metavar="LIST", default="", help=f"ends with status 3 where one of these is found: {', '.join(WHY)}")
     made.add_argument("--slow", metavar="SECONDS", type=float, help="tells waits that lasted longer (a log of strace -T)")
     made.add_argument("--history", action="store_true", help="prints the history that is judged, and judges nothing")
+    made.add_argument("--timeline", action="store_true", help="prints a picture by time in place of the events: a column a process, a row an event")
     made.add_argument("--json", action="store_true", help="prints a JSON object on a line for each event, finding and the end")
     return made
 
@@ -68,7 +70,7 @@ def turned_round(one: Request, other: Request) -> Places:
     return {id(other): (other.begin, other.begin + 0.25), id(one): (other.begin + 0.5, one.end)}
 
 
-def print_run(options: argparse.Namespace, explained: Explained, lines: list[Line], findings: list[Finding]) -> None:
+def print_run(options: argparse.Namespace, explained: Explained, teller: Teller, lines: list[Line], findings: list[Finding]) -> None:
     """The run, the assumptions, what went wrong, and the last line."""
     shown = [line for line in lines if is_asked(options, line)]
     if options.json:
@@ -78,8 +80,10 @@ def print_run(options: argparse.Namespace, explained: Explained, lines: list[Lin
             print(json.dumps({"finding": finding.kind, "line": finding.line, "text": finding.text, "why": WHY[finding.kind]}))
         print(json.dumps({"end": ending(explained)}))
         return
-    for line in shown:
-        print(line.text(), end="")
+    if options.timeline:
+        print(Timeline(teller, shown).draw(), end="")
+    else:
+        print("".join(line.text() for line in shown), end="")
     for made_up in explained.found.made_up:
         if any(it.file is made_up.file for it in explained.found.requests):
             print(f"# line {made_up.line}: descriptor {made_up.descriptor} of {made_up.process} was open before the log began: {made_up.file.path}")
@@ -125,10 +129,7 @@ def main(words: Optional[Sequence[str]] = None) -> int:
     try:
         program = Program(program_of(options))
         if options.history:
-            log = read_log(options.log)
-            from tracing.follow import Assumptions, Follower
-
-            print("\n".join(write(Follower(log, Assumptions()).follow(), False, []).lines))
+            print("\n".join(write(Follower(read_log(options.log), Assumptions()).follow(), False, []).lines))
             return ALL_AS_IN_THE_LOG
         explained = explained_of(options, program)
     except (NotALog, OSError) as failed:
@@ -144,5 +145,5 @@ def main(words: Optional[Sequence[str]] = None) -> int:
     lines = teller.lines()
     note_either_order(explained, lines, teller, program)
     findings = [] if options.no_lint else Linter(explained, teller, lines, options.slow).findings()
-    print_run(options, explained, lines, findings)
+    print_run(options, explained, teller, lines, findings)
     return FOUND if any(it.kind in wanted for it in findings) else ALL_AS_IN_THE_LOG

@@ -51,6 +51,8 @@ class Line:
     where: str
     notes: list[str] = field(default_factory=list)
     time: Optional[float] = None
+    # The locks behind it.
+    behind: list[Held] = field(default_factory=list)
 
     def text(self) -> str:
         """The event as it is printed."""
@@ -60,7 +62,7 @@ class Line:
     def as_json(self) -> str:
         """The event as an object."""
         told: dict[str, Any] = asdict(self)
-        del told["event"]
+        del told["event"], told["behind"]
         told["line"], told["process"] = self.event.call.line, str(self.event.process)
         return json.dumps(told)
 
@@ -119,7 +121,7 @@ class Teller:
         is_loss = effect is not None and effect.is_loss
         answer = "" if is_loss or isinstance(event, Release) else said_answer(event)
         request = "lets go of its old lock" if is_loss else said_request(event)
-        line = Line(event, self.name(event), request, answer, self.where(event), time=event.call.time)
+        line = Line(event, self.name(event), request, answer, self.where(event), time=event.call.time, behind=behind)
         if isinstance(event, Request):
             self.explain_request(event, line, before, behind)
         if isinstance(event, Release) or is_loss:
