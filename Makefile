@@ -3,7 +3,7 @@ FILE ?= crates/lockreplay/stdin
 PROGRAM := crates/lockreplay/out/lockreplay
 VERSION := $(shell sed -n 's/^.. \([0-9.]*\)$$/\1/p' CHANGELOG.md | head -n 1)
 
-.PHONY: run try test build released format memory threads edits conformance conformance-tests docs install library install-library calls embed bench \
+.PHONY: run try test build released format memory threads edits conformance conformance-tests trace-tests docs install library install-library calls embed bench \
     lockfs fuse-test dist deb install-files
 
 run: released build
@@ -54,7 +54,7 @@ test:
 	tests/memory-is-passed-on
 	sh tests/bad-edits.sh
 	tests/edit-reasons --compile
-	cd conformance && LOCKREPLAY=$(abspath $(PROGRAM)) python3 -m unittest tests.test_corpus tests.test_judging tests.test_lies tests.test_trace
+	cd conformance && LOCKREPLAY=$(abspath $(PROGRAM)) python3 -m unittest tests.test_corpus tests.test_judging tests.test_lies tests.test_traces
 	tools/gate-line --passed
 
 # Lays each crate out as the gate wants it.
@@ -101,6 +101,10 @@ conformance: build
 # All the tools' own tests, which want Python 3 and no root; each script of the corpus goes through lockreplay.
 conformance-tests:
 	cd conformance && LOCKREPLAY=$(abspath $(PROGRAM)) python3 -m unittest discover -t . -s tests
+
+# Programs of the distribution contend for their locks under strace, and each log is explained.
+trace-tests: build
+	LOCKREPLAY=$(abspath $(PROGRAM)) conformance/tests/trace-programs
 
 # Checks the manual pages; wants mandoc.
 docs:

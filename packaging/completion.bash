@@ -4,4 +4,4 @@ _dehokuna() {
     [[ $word == -* ]] || return 0
     mapfile -t COMPREPLY < <(compgen -W "$("$1" --help 2>&1 < /dev/null | grep -oE -- '(^|[^-a-z])--[a-z][a-z-]*' | grep -oE -- '--.*' | sort -u)" -- "$word")
 }
-complete -o default -F _dehokuna lockreplay lockreplay-trace lockfs locktest locktorture trace2script
+complete -o default -F _dehokuna lockreplay lockreplay-trace lockfs locktest locktorture

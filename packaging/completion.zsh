@@ -1,4 +1,4 @@
-#compdef lockreplay lockreplay-trace lockfs locktest locktorture trace2script
+#compdef lockreplay lockreplay-trace lockfs locktest locktorture
 # Completion in zsh: the options are those that the program's own help names.
 local -a options
 if [[ $PREFIX == -* ]]; then
