@@ -9,11 +9,13 @@ from pathlib import Path
 from typing import Optional, Sequence
 
 from harness.command import program_of
+from harness.replay import Faulty, Lockreplay
 from tracing.assume import Explained, Explainer
 from tracing.follow import Assumptions, Follower, Request
 from tracing.history import CannotJudge, Places, Program, write
 from tracing.lint import QUIET, WHY, Finding, Linter
 from tracing.log import NotALog, read_log
+from tracing.script import log_of_script
 from tracing.tell import Line, Teller, ending, overlapping
 from tracing.timeline import Timeline
 
@@ -38,6 +40,7 @@ def parser() -> argparse.ArgumentParser:
     made.add_argument("--fail-on", metavar="LIST", default="", help=f"ends with status 3 where one of these is found: {', '.join(WHY)}")
     made.add_argument("--slow", metavar="SECONDS", type=float, help="tells waits that lasted longer (a log of strace -T)")
     made.add_argument("--history", action="store_true", help="prints the history that is judged, and judges nothing")
+    made.add_argument("--script", action="store_true", help="LOG is a script of lockreplay's language: says what goes wrong in its run, and no more")
     made.add_argument("--timeline", action="store_true", help="prints a picture by time in place of the events: a column a process, a row an event")
     made.add_argument("--json", action="store_true", help="prints a JSON object on a line for each event, finding and the end")
     return made
@@ -72,7 +75,7 @@ def turned_round(one: Request, other: Request) -> Places:
 
 def print_run(options: argparse.Namespace, explained: Explained, teller: Teller, lines: list[Line], findings: list[Finding]) -> None:
     """The run, the assumptions, what went wrong, and the last line."""
-    shown = [line for line in lines if is_asked(options, line)]
+    shown = [] if options.script else [line for line in lines if is_asked(options, line)]
     if options.json:
         for line in shown:
             print(line.as_json())
@@ -92,7 +95,8 @@ def print_run(options: argparse.Namespace, explained: Explained, teller: Teller,
     for finding in findings:
         if finding.kind not in QUIET:
             print(f"# {finding}\n#   {WHY[finding.kind]}")
-    print(ending(explained))
+    if not options.script:
+        print(ending(explained))
 
 
 def print_impossible(explained: Explained, teller: Teller) -> None:
@@ -111,7 +115,7 @@ def print_impossible(explained: Explained, teller: Teller) -> None:
 
 def explained_of(options: argparse.Namespace, program: Program) -> Explained:
     """The log explained. Raises NotALog where it has no lock call."""
-    log = read_log(options.log)
+    log = log_of_script(options.log, Lockreplay(program.path)) if options.script else read_log(options.log)
     explained = Explainer(log, program.judge).explain()
     if not explained.found.requests:
         raise NotALog(f"{options.log} has no lock call: was strace told to trace fcntl and flock?")
@@ -132,7 +136,7 @@ def main(words: Optional[Sequence[str]] = None) -> int:
             print("\n".join(write(Follower(read_log(options.log), Assumptions()).follow(), False, []).lines))
             return ALL_AS_IN_THE_LOG
         explained = explained_of(options, program)
-    except (NotALog, OSError) as failed:
+    except (NotALog, Faulty, OSError) as failed:
         print(f"lockreplay-trace: {failed}", file=sys.stderr)
         return FAULTY
     except CannotJudge as failed:
