@@ -14,6 +14,7 @@ from tests.support import LOCKREPLAY
 from tracing.command import main
 
 RECORDED = Path(__file__).resolve().parent / "traces"
+SHORTEST = ("alarm-ends-a-wait", "killed-waiter", "sqlite-wal", "flock-timeout")
 WRITE = "{l_type=F_WRLCK, l_whence=SEEK_SET, l_start=0, l_len=0}"
 READ = "{l_type=F_RDLCK, l_whence=SEEK_SET, l_start=0, l_len=0}"
 UNLOCK = "{l_type=F_UNLCK, l_whence=SEEK_SET, l_start=0, l_len=0}"
@@ -49,6 +50,19 @@ class TraceTest(unittest.TestCase):
         self.assertEqual([line for line in lines[:-1] if not line.startswith((" ", "#"))], expected, printed)
         self.assertEqual((status, lines[-1]), (0, last), printed)
         return printed
+
+
+    def assert_cut(self, name: str, text: str) -> None:
+        """What is left of a log is explained without an assumption, or has no lock call yet."""
+        with self.subTest(name, bytes=len(text)):
+            status, printed = self.told(text, "--no-lint")
+            last = printed.splitlines()[-1]
+            self.assertTrue(status == 0 and " if " not in last or status == 2 and "no lock call" in last, printed)
+
+
+def lines_of_recorded(name: str) -> list[str]:
+    """The lines of a recorded log."""
+    return lzma.decompress((RECORDED / f"{name}.log.xz").read_bytes()).decode().splitlines(keepends=True)
 
 
 def log(*calls: str) -> str:
@@ -336,28 +350,21 @@ class Recorded(TraceTest):
         "six-busy-workers": 630,
         "sqlite-wal": 150,
     }
-    # How many places of a longer log it is cut at.
+    # At how many places a log is cut here; `test_cut_traces` cuts each log at many more.
     CUTS = 20
-
-    def text_of(self, name: str) -> str:
-        return lzma.decompress((RECORDED / f"{name}.log.xz").read_bytes()).decode()
 
     def test_each_answer_is_as_in_the_log(self) -> None:
         for name, answers in self.ANSWERS.items():
             with self.subTest(name):
-                status, printed = self.told(self.text_of(name), "--no-lint")
+                status, printed = self.told_of(RECORDED / f"{name}.log.xz", "--no-lint")
                 self.assertEqual((status, printed.splitlines()[-1]), (0, f"all {answers} answers as in the log"))
 
     def test_cut_logs(self) -> None:
         draw = random.Random(1)
-        for name in ("alarm-ends-a-wait", "killed-waiter", "sqlite-wal", "flock-timeout"):
-            lines = self.text_of(name).splitlines(keepends=True)
+        for name in SHORTEST:
+            lines = lines_of_recorded(name)
             for at in sorted(draw.sample(range(1, len(lines)), min(self.CUTS, len(lines) - 1))):
-                with self.subTest(name, line=at):
-                    text = "".join(lines[:at])
-                    status, printed = self.told(text + lines[at][: draw.randrange(len(lines[at]))])
-                    self.assertIn(status, (0, 2), printed)
-                    self.assertNotIn("if ", printed.splitlines()[-1] if status == 0 else "")
+                self.assert_cut(name, "".join(lines[:at]) + lines[at][: draw.randrange(len(lines[at]))])
 
 
 if __name__ == "__main__":

@@ -4,6 +4,7 @@ from __future__ import annotations
 
 import argparse
 import json
+import lzma
 import sys
 from pathlib import Path
 from typing import Optional, Sequence
@@ -136,7 +137,7 @@ def main(words: Optional[Sequence[str]] = None) -> int:
             print("\n".join(write(Follower(read_log(options.log), Assumptions()).follow(), False, []).lines))
             return ALL_AS_IN_THE_LOG
         explained = explained_of(options, program)
-    except (NotALog, Faulty, OSError) as failed:
+    except (NotALog, Faulty, OSError, lzma.LZMAError) as failed:
         print(f"lockreplay-trace: {failed}", file=sys.stderr)
         return FAULTY
     except CannotJudge as failed:

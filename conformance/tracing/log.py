@@ -6,10 +6,11 @@ two lines; any other begins and ends in one. `-ff` writes a file for each task, 
 
 from __future__ import annotations
 
+import lzma
 import re
 from dataclasses import dataclass, field
 from pathlib import Path
-from typing import Iterable, Iterator, Optional
+from typing import IO, Iterable, Iterator, Optional
 
 TASK = r"(?:\[pid\s+(?P<bracketed>\d+)\]\s+|(?P<bare>\d+)\s+(?=[\d<+(]|-{3}|\w+\())?"
 TIME = r"(?:(?P<clock>\d\d:\d\d:\d\d(?:\.\d+)?)\s+|(?P<seconds>\d+\.\d+)\s+)?(?:\(\+\s*\d+\.\d+\)\s+)?"
@@ -190,9 +191,18 @@ def shown_path(text: str) -> str:
     return ""
 
 
-def is_binary(path: Path) -> bool:
-    with open(path, "rb") as file:
-        return b"\0" in file.read(65536)
+def opened(path: Path) -> IO[bytes]:
+    """The bytes of a log, also of one that is compressed by xz."""
+    return lzma.open(path) if path.suffix == ".xz" else open(path, "rb")
+
+
+def lines_of(path: Path) -> Iterator[str]:
+    """The lines of a log. Raises NotALog where it is binary."""
+    with opened(path) as file:
+        for line in file:
+            if b"\0" in line:
+                raise NotALog(f"{path} is binary")
+            yield line.decode(errors="replace")
 
 
 def read_log(path: Path) -> Log:
@@ -200,12 +210,9 @@ def read_log(path: Path) -> Log:
     parts = sorted(it for it in path.parent.glob(f"{path.name}.*") if it.suffix[1:].isdigit()) if not path.exists() else []
     if parts:
         return merged(path, parts)
-    if is_binary(path):
-        raise NotALog(f"{path} is binary")
     log = Log(path.name)
     reader = TaskReader(log, None)
-    with open(path, errors="replace") as lines:
-        reader.read(lines)
+    reader.read(lines_of(path))
     if not reader.understood:
         raise NotALog(f"{path} has no line of strace")
     set_beginning(log)
@@ -228,11 +235,8 @@ def merged(path: Path, parts: list[Path]) -> Log:
     log = Log(path.name)
     ends: list[tuple[float, int, Call]] = []
     for part in parts:
-        if is_binary(part):
-            raise NotALog(f"{part} is binary")
         own = Log(part.name)
-        with open(part, errors="replace") as lines:
-            TaskReader(own, int(part.suffix[1:])).read(lines)
+        TaskReader(own, int(part.suffix[1:])).read(lines_of(part))
         if any(call.time is None or call.time < EPOCH and not has_clock(part) for call in own.calls):
             raise NotALog(f"{part} has no times by which the files of -ff can be merged: run strace with -ttt")
         for call, follower in zip(own.calls, [*own.calls[1:], None]):
@@ -261,5 +265,4 @@ def end_of(call: Call, follower: Optional[Call]) -> float:
 
 def has_clock(part: Path) -> bool:
     """Whether the lines of a file have the time of the day."""
-    with open(part, errors="replace") as lines:
-        return any(re.match(r"^\d\d:\d\d:\d\d", line) for line in lines)
+    return any(re.match(r"^\d\d:\d\d:\d\d", line) for line in lines_of(part))
