@@ -14,6 +14,7 @@ from tests.support import LOCKREPLAY
 from tracing.command import main
 
 RECORDED = Path(__file__).resolve().parent / "traces"
+SAMPLES = Path(__file__).resolve().parent.parent.parent / "samples"
 SHORTEST = ("alarm-ends-a-wait", "killed-waiter", "sqlite-wal", "flock-timeout")
 WRITE = "{l_type=F_WRLCK, l_whence=SEEK_SET, l_start=0, l_len=0}"
 READ = "{l_type=F_RDLCK, l_whence=SEEK_SET, l_start=0, l_len=0}"
@@ -127,7 +128,7 @@ class Forms(TraceTest):
     def test_a_program_that_ran_before(self) -> None:
         text = log(f"10 fcntl(4</d/a>, F_SETLK, {WRITE}) = 0", f"11 fcntl(7</d/a>, F_SETLK, {WRITE}) = {AGAIN}")
         printed = self.assert_run(text, ["1#1 set /d/a w 0 end | ok", "2#1 set /d/a w 0 end | EAGAIN"], self.LAST)
-        self.assertIn("descriptor 7 of ?[11] was open before the log began: /d/a", printed)
+        self.assertIn("descriptor 7 of pid 11 was open before the log began: /d/a", printed)
 
 
 class Refused(TraceTest):
@@ -182,7 +183,7 @@ class Answers(TraceTest):
             f"10 {ENDED}",
             "11 <... fcntl resumed>) = 0",
         )
-        run = ["1#1 set /d/a w 0 end | ok", "2#1 wait /d/a w 0 end | ERESTARTSYS", "1 end of ?[10] (exited with 0)", "2#2 wait /d/a w 0 end | ok"]
+        run = ["1#1 set /d/a w 0 end | ok", "2#1 wait /d/a w 0 end | ERESTARTSYS", "1 end of pid 10 (exited with 0)", "2#2 wait /d/a w 0 end | ok"]
         self.assert_run(text, run, "all 3 answers as in the log")
 
     def test_a_waiter_that_is_killed_never_has_the_lock(self) -> None:
@@ -333,6 +334,26 @@ class Names(TraceTest):
         status, printed = self.told(log(*text))
         self.assertEqual(status, 3, printed)
         self.assertIn("line 4", printed.splitlines()[0])
+
+
+class Scripts(TraceTest):
+    """What goes wrong in the runs of the samples, as the comments at their heads say."""
+
+    SHOWN = {
+        "close-drops-all": ["dropped"],
+        "daemon-loses-its-lock": ["forked"],
+        "deadlock-of-three": ["deadlock"],
+        "dup-and-fork-with-ofd": [],
+        "lost-flock-upgrade": ["lost"],
+        "mail-store-flock-and-fcntl": ["stuck", "stuck"],
+    }
+
+    def test_samples(self) -> None:
+        for name, kinds in self.SHOWN.items():
+            with self.subTest(name):
+                status, printed = self.told_of(SAMPLES / f"{name}.lock", "--script")
+                found = [line.split()[1].rstrip(":") for line in printed.splitlines() if not line.startswith("#  ")]
+                self.assertEqual((status, found), (0, kinds), printed)
 
 
 class Recorded(TraceTest):

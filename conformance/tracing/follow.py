@@ -151,7 +151,7 @@ class Follower:
         return self.owners
 
     def new_process(self, pid: int, parent: Optional[Process], is_known: bool) -> Process:
-        process = Process(len(self.found.processes) + 1, pid, parent.program if parent else "?", parent=parent, is_known_from_its_start=is_known)
+        process = Process(len(self.found.processes) + 1, pid, parent.program if parent else "", parent=parent, is_known_from_its_start=is_known)
         self.found.processes.append(process)
         return process
 

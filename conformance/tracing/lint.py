@@ -68,7 +68,7 @@ class Linter:
         """What single answers show."""
         for line in self.lines:
             event = line.event
-            if line.request.startswith("lets go"):
+            if line.request.startswith("lets go") and isinstance(event, Request) and (event.answer != "ok" or event.begin != event.end):
                 yield Finding("lost", event.call.line, f"{event.process} lost {', '.join(line.notes).replace('dropped ', '')} as it asked for another mode")
             elif isinstance(event, Request) and event.answer == "EDEADLK":
                 yield Finding("deadlock", event.call.line, f"{event.process} was told EDEADLK")

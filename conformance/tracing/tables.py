@@ -60,13 +60,13 @@ class Process:
 
     number: int
     pid: int
-    program: str = "?"
+    program: str = ""
     requests: int = 0
     parent: Optional["Process"] = None
     is_known_from_its_start: bool = True
 
     def __str__(self) -> str:
-        return f"{self.program}[{self.pid}]" if self.pid else self.program
+        return f"{self.program}[{self.pid}]" if self.program else f"pid {self.pid}"
 
 
 @dataclass(eq=False)

@@ -122,13 +122,13 @@ class Teller:
         answer = "" if is_loss or isinstance(event, Release) else said_answer(event)
         request = "lets go of its old lock" if is_loss else said_request(event)
         line = Line(event, self.name(event), request, answer, self.where(event), time=event.call.time, behind=behind)
-        if isinstance(event, Request):
-            self.explain_request(event, line, before, behind)
+        if isinstance(event, Request) and not is_loss:
+            self.explain_request(event, line, before)
         if isinstance(event, Release) or is_loss:
             line.notes += [f"dropped {lock}{self.set_by(lock)}{self.still_open(event)}" for lock in before if lock not in behind and lock.owner == event.owner]
         return line
 
-    def explain_request(self, event: Request, line: Line, before: list[Held], behind: list[Held]) -> None:
+    def explain_request(self, event: Request, line: Line, before: list[Held]) -> None:
         """What was in the way of a request; and who set the bytes, for later."""
         if event.why_not:
             line.notes.append(f"not judged: {event.why_not}")
