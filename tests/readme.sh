@@ -30,7 +30,7 @@ judge() {
 # What a reader has: the programs, what pkg-config finds, and the folder of the README.
 mkdir -p "$work/bin" "$work/prefix/lib/pkgconfig" "$work/prefix/include" "$here"
 cp "$program" "$work/bin/lockreplay"
-ln -s "$top/conformance/locktest" "$work/bin/locktest"
+for tool in locktest lockreplay-trace; do ln -s "$top/conformance/$tool" "$work/bin/$tool"; done
 ln -s "$top/samples" "$here/samples"
 [ ! -x embedding/out/lockfs ] || ln -s "$top/embedding/out/lockfs" "$work/bin/lockfs"
 [ ! -f embedding/out/libdehokuna.so.1 ] || for name in libdehokuna.so.1 libdehokuna.so; do
@@ -54,6 +54,8 @@ lacks() {
         if [ ! -x "$work/bin/lockfs" ]; then echo 'make lockfs built nothing yet'
         elif [ ! -w /dev/fuse ] || ! has fusermount3; then echo 'there is no FUSE'
         elif ! has flock; then echo 'flock(1) is missing'; fi ;;
+    lockreplay-trace\ *)
+        has python3 || echo 'Python 3 is missing' ;;
     locktest\ *)
         if ! has python3; then echo 'Python 3 is missing'
         elif [ ! -w /dev/shm ]; then echo 'there is no /dev/shm'; fi ;;
