@@ -42,7 +42,7 @@ class Runs(unittest.TestCase):
     def lying(self, status: int, says: str) -> Path:
         """A judge that says the same of all histories but the empty one."""
         path = self.folder / "judge"
-        path.write_text(f"#!/bin/sh\n[ -n \"$(cat)\" ] || exit 0\necho "{says}"\nexit {status}\n")
+        path.write_text(f'#!/bin/sh\n[ -n "$(cat)" ] || exit 0\necho "{says}"\nexit {status}\n')
         path.chmod(0o755)
         return path
 
