@@ -1,0 +1,263 @@
+"""Writes the history of a round: who owned which locks, and from when to when each request was open.
+
+A process is the owner of its traditional locks, and a description is two owners, of its OFD locks and of its flock lock: the system takes the
+two kinds off at moments of their own.
+"""
+
+from __future__ import annotations
+
+import errno
+from collections import Counter
+from dataclasses import dataclass, field
+from typing import Optional
+
+from torture.log import Call, Log, Process, Record
+
+LARGEST_OFFSET = 2**63 - 1
+# Owners: a process is its slot and 1, the descriptions are counted from here, and a pid that is nobody's of ours comes behind.
+FIRST_DESCRIPTION = 1000
+FIRST_STRANGER = 10**9
+FLOCK_MODES = {"s": "sh", "x": "ex", "u": "un"}
+REFUSED = (errno.EAGAIN, errno.EACCES)
+
+
+@dataclass
+class Manner:
+    """What is known of the file system: whether a description's release is waited for by the close, and whether a get tells whose lock it is."""
+
+    releases_late: bool = False
+    tells_owners: bool = True
+
+
+@dataclass
+class Request:
+    """A request of the history. Without an end it is open to the end; `is_last` puts its answer behind all others."""
+
+    text: str
+    start: int
+    end: Optional[int] = None
+    answer: str = ""
+    is_last: bool = False
+
+
+@dataclass
+class Drop:
+    """A reference to a description goes: the times between which it does (no end: it may not have gone yet), and whether by a process's
+    death."""
+
+    start: int
+    end: Optional[int]
+    by_death: bool
+
+
+@dataclass
+class Description:
+    """An open file description: its number, its file, the references that are left, those that went, and the processes that had one. `holds`
+    and `held` say of its OFD locks and its flock lock whether there may be one, by the last request, and by any."""
+
+    number: int
+    file: int
+    references: int = 0
+    drops: list[Drop] = field(default_factory=list)
+    processes: set[int] = field(default_factory=set)
+    holds: dict[bool, bool] = field(default_factory=lambda: {True: False, False: False})
+    held: dict[bool, bool] = field(default_factory=lambda: {True: False, False: False})
+
+    def owner(self, is_flock: bool) -> int:
+        return FIRST_DESCRIPTION + 2 * self.number + is_flock
+
+    def note(self, is_flock: bool, may_hold: bool) -> None:
+        """Notes whether the description may have a lock now."""
+        self.holds[is_flock] = may_hold
+        self.held[is_flock] |= may_hold
+
+    def may_hold(self, is_flock: bool) -> bool:
+        """Whether there may be a lock at the end; of requests of several processes the last one isn't known."""
+        return (self.holds if len(self.processes) == 1 else self.held)[is_flock]
+
+
+Table = dict[int, Description]
+
+
+class Writer:
+    """Writes the history of one round. `odd` counts the answers that are `error`, by call and error number."""
+
+    def __init__(self, log: Log, manner: Manner) -> None:
+        self.log = log
+        self.manner = manner
+        self.requests: list[Request] = []
+        self.descriptions: list[Description] = []
+        self.tables_at_fork: dict[int, Table] = {}
+        self.owners = {process.pid: slot + 1 for slot, process in enumerate(log.processes)}
+        self.odd: Counter[tuple[str, str]] = Counter()
+
+    def write(self) -> str:
+        """The history."""
+        for slot, process in enumerate(self.log.processes):
+            if process.pid:
+                ProcessWriter(self, slot, process).write()
+        for description in self.descriptions:
+            self.write_release(description)
+        return text_of(self.requests)
+
+    def write_release(self, description: Description) -> None:
+        """The last reference goes where all others have begun to, and takes the locks along."""
+        if description.references:
+            return
+        last = max(description.drops, key=lambda drop: drop.start)
+        ends = [drop.end for drop in description.drops]
+        end = None if None in ends else self.log.ended_at if self.manner.releases_late else max(filter(None, ends))
+        for is_flock in (False, True):
+            if description.may_hold(is_flock):
+                word = "gone" if last.by_death else "close"
+                text = f"{word} {description.file} {description.owner(is_flock)}"
+                self.requests.append(Request(text, last.start, end, "ok", self.manner.releases_late))
+
+    def owner_of_pid(self, pid: int) -> str:
+        """Whose lock a get tells by a pid: none is told of a description, nor by a file system whose pids aren't the machine's."""
+        if pid <= 0 or not self.manner.tells_owners:
+            return "-"
+        return str(self.owners.get(pid, FIRST_STRANGER + pid))
+
+
+class ProcessWriter:
+    """Writes what one process did."""
+
+    def __init__(self, writer: Writer, slot: int, process: Process) -> None:
+        self.writer = writer
+        self.slot = slot
+        self.process = process
+        self.owner = slot + 1
+        self.table: Table = {}
+        self.may_hold: set[int] = set()
+
+    def write(self) -> None:
+        """Writes the process's requests, and what goes with its end."""
+        for descriptor, description in self.writer.tables_at_fork.get(self.slot, {}).items():
+            self.refer(descriptor, description)
+        for record in self.process.records:
+            self.write_call(record)
+        times = (self.process.exits_at, self.process.killed_at, self.process.waited_at)
+        if any(times):
+            self.write_death(min(filter(None, times)), self.process.waited_at)
+
+    def write_call(self, record: Record) -> None:
+        """Writes one call."""
+        done = record.end is not None and record.result >= 0
+        if record.call == Call.OPEN and done:
+            self.writer.descriptions.append(Description(len(self.writer.descriptions), record.number))
+            self.refer(record.result, self.writer.descriptions[-1])
+        elif record.call == Call.DUP and done:
+            self.refer(record.result, self.table[record.descriptor])
+        elif record.call == Call.DUP2 and record.descriptor != record.number:
+            self.write_dup2(record)
+        elif record.call == Call.CLOSE:
+            self.write_close(record, record.descriptor)
+        elif record.call == Call.FORK:
+            self.writer.tables_at_fork[record.number] = dict(self.table)
+        elif record.call == Call.FLOCK:
+            self.write_flock(record)
+        elif record.call in (Call.SET, Call.WAIT, Call.GET, Call.UNLOCK):
+            self.write_bytes(record)
+
+    def refer(self, descriptor: int, description: Description) -> None:
+        """A descriptor of this process is one of the description from now on."""
+        self.table[descriptor] = description
+        description.references += 1
+        description.processes.add(self.slot)
+
+    def write_dup2(self, record: Record) -> None:
+        """The target is closed, and is a descriptor of the other description. (Where the process died in the call, the other is dropped
+        then anyhow.)"""
+        description = self.table[record.descriptor]
+        self.write_close(record, record.number)
+        self.refer(record.number, description)
+
+    def write_close(self, record: Record, descriptor: int) -> None:
+        """A descriptor is closed: the process's locks on the file go, and a reference to the description."""
+        description = self.table.pop(descriptor)
+        description.references -= 1
+        description.drops.append(Drop(record.start, self.process.waited_at if record.end is None else record.end, False))
+        if description.file in self.may_hold:
+            answer = self.add(record, f"close {description.file} {self.owner}", "ok")
+            if answer == "ok":
+                self.may_hold.discard(description.file)
+
+    def write_flock(self, record: Record) -> None:
+        """A request by flock."""
+        description = self.table[record.descriptor]
+        at_once = " nb" if record.at_once else ""
+        text = f"flock {description.file} {description.owner(True)} {FLOCK_MODES[record.mode]}{at_once}"
+        refusals = {number: "busy" for number in REFUSED} if record.at_once else {errno.EINTR: "EINTR"}
+        answer = self.add(record, text, self.told(record, {} if record.mode == "u" else refusals))
+        if answer in ("ok", "error", ""):
+            description.note(True, record.mode != "u" or answer != "ok")
+
+    def write_bytes(self, record: Record) -> None:
+        """A request for a byte lock."""
+        description = self.table[record.descriptor]
+        owner = description.owner(False) if record.is_ofd else self.owner
+        word = record.call.name.lower()
+        mode = "" if record.call == Call.UNLOCK else f" {record.mode}"
+        text = f"{word} {description.file} {owner}{mode} {record.first} {record.last}"
+        refusals: dict[int, str] = {}
+        if record.call == Call.SET:
+            refusals = {number: "busy" for number in REFUSED}
+        elif record.call == Call.WAIT:
+            refusals = {errno.EINTR: "EINTR", errno.EDEADLK: "EDEADLK"}
+        answer = self.add(record, text, self.told(record, refusals))
+        if record.call == Call.UNLOCK and answer == "ok" and (record.first, record.last) == (0, LARGEST_OFFSET):
+            self.note_bytes(record, description, False)
+        elif record.call in (Call.SET, Call.WAIT) and answer in ("ok", "error", ""):
+            self.note_bytes(record, description, True)
+
+    def note_bytes(self, record: Record, description: Description, may_hold: bool) -> None:
+        """Notes whether the request's owner may have a lock on the file now."""
+        if record.is_ofd:
+            description.note(False, may_hold)
+        elif may_hold:
+            self.may_hold.add(description.file)
+        else:
+            self.may_hold.discard(description.file)
+
+    def told(self, record: Record, refusals: dict[int, str]) -> str:
+        """The word for what was answered, where the call has these refusals."""
+        if record.end is None:
+            return "error"
+        if record.result < 0 and -record.result not in refusals:
+            self.writer.odd[record.call.name.lower(), errno.errorcode.get(-record.result, str(-record.result))] += 1
+        if record.result < 0:
+            return refusals.get(-record.result, "error")
+        if record.call != Call.GET:
+            return "ok"
+        if record.told_mode == "u":
+            return "free"
+        return f"held {self.writer.owner_of_pid(record.told_pid)} {record.told_mode} {record.told_first} {record.told_last}"
+
+    def add(self, record: Record, text: str, answer: str) -> str:
+        """Adds a request. One that the process died in ends there, by `error`: it may have had its effect. The answer, empty if none came."""
+        end = record.end
+        if end is None and self.process.waited_at is None:
+            answer = ""
+        elif end is None:
+            answer, end = "error", self.process.waited_at
+        self.writer.requests.append(Request(text, record.start, end, answer))
+        return answer
+
+    def write_death(self, start: int, end: Optional[int]) -> None:
+        """The process dies: its locks go on each file, and its references to descriptions."""
+        for file in sorted(self.may_hold):
+            self.writer.requests.append(Request(f"gone {file} {self.owner}", start, end, "ok"))
+        for description in self.table.values():
+            description.references -= 1
+            description.drops.append(Drop(start, end, True))
+
+
+def text_of(requests: list[Request]) -> str:
+    """The lines in the order of time; of equal times the requests come before the answers."""
+    events: list[tuple[bool, int, int, int, str]] = []
+    for number, request in enumerate(requests):
+        events.append((False, request.start, 0, number, f"> {number} {request.text}\n"))
+        if request.end is not None:
+            events.append((request.is_last, request.end, 1, number, f"< {number} {request.answer}\n"))
+    return "".join(line for *_, line in sorted(events))
