@@ -32,6 +32,7 @@
 
 /* ---- The log, which torture/log.py reads: these numbers and layouts are its too */
 
+enum { MOST_BETWEEN_LOOKS = 10000000 }; /* nanoseconds */
 enum { FILES = 2, DESCRIPTORS = 8, LARGEST_DESCRIPTOR = 64 };
 enum call { OPEN = 1, DUP, DUP2, CLOSE, FORK, SET, WAIT, GET, UNLOCK, FLOCK };
 enum family { TRADITIONAL = 0, OPEN_FILE = 1 };
@@ -405,7 +406,7 @@ static void serve(struct client *me) {
 /* ---- The keeper */
 
 struct round {
-    uint64_t seed, moved_at, moved;
+    uint64_t seed, moved, kill_within; /* the next kill comes within so many requests */
     int64_t next_kill;
     struct client chance;
 };
@@ -453,7 +454,7 @@ static void kill_one(struct round *round) {
     if (!is_alive(slot) || slot->killed_at) return;
     slot->killed_at = now();
     kill(slot->pid, SIGKILL);
-    round->next_kill -= 1 + (int64_t)random_below(&round->chance, 400);
+    round->next_kill -= 1 + (int64_t)random_below(&round->chance, round->kill_within);
 }
 
 /* Whether anything was noted since the last look. */
@@ -482,15 +483,18 @@ static void end_all(void) {
     }
 }
 
-/* Looks after the clients until all have ended (true), or nothing has moved for the patience. */
+/* Looks after the clients until all have ended (true), or nothing has moved for the patience. Of the time between two looks little counts: where
+ * the machine stood still, the clients did too. */
 static bool keep(struct round *round, uint64_t patience) {
-    round->moved_at = now();
+    uint64_t looked_at = now(), still = 0;
     while (!collect()) {
         const int64_t left = atomic_load(&noted->left);
         if (left > 0 && left < round->next_kill) kill_one(round);
         if (left > 0 && atomic_load(&noted->live) < (client_count + 1) / 2) start_one(round);
-        if (moves(round)) round->moved_at = now();
-        else if (now() - round->moved_at > patience) return false;
+        const uint64_t time = now(), passed = time - looked_at;
+        looked_at = time;
+        still = moves(round) ? 0 : still + (passed < MOST_BETWEEN_LOOKS ? passed : MOST_BETWEEN_LOOKS);
+        if (still > patience) return false;
         usleep(200);
     }
     return true;
@@ -512,7 +516,8 @@ static void make_files(void) {
 
 /* The word for how the round went. */
 static const char *run_round(uint64_t seed, int64_t requests, uint64_t patience) {
-    struct round round = {.seed = seed, .next_kill = requests - requests / 8, .chance = {.chance = seed * 2 + 1}};
+    struct round round = {.seed = seed, .kill_within = (uint64_t)requests / 2 + 1, .next_kill = requests - requests / 8};
+    round.chance.chance = seed * 2 + 1;
     make_files();
     noted->ended_at = 0;
     atomic_store(&noted->slots, 0);
