@@ -1,5 +1,5 @@
 -- What is known of all files of a history, one by one.
-use Rattle.std.proofs.Common.{inl, inr, ℕ, ◌≡◌, ◌≢◌, ◌∙◌, ◌+◌, ◌-◌, ◌<◌, ◌≤◌, ◌↔◌, ◌==◌, sym, ap, refl, subst, arith, true, false, Bool, Option, Some, None, List, [], ◌∷◌, ◌++◌, length, get_or, eq-eqb}
+use Rattle.std.proofs.Common.{inl, inr, ℕ, ◌≡◌, ◌≢◌, ◌∙◌, ◌+◌, ◌-◌, ◌<◌, ◌≤◌, ◌↔◌, ◌==◌, sym, ap, refl, subst, arith, true, false, Bool, Option, Some, None, List, [], ◌∷◌, ◌++◌, get_or, eq-eqb}
 use Rattle.std.proofs.lemmas.Grind.{common_steps}
 use Rattle.std.proofs.lemmas.Bool.{false≢true}
 use Rattle.std.proofs.lemmas.Cmp.{nat_cmp_total}
@@ -13,12 +13,12 @@ use Rattle.std.specs.Borrow.{Bor, MutBor}
 use Rattle.std.specs.Iterator.{Yields}
 use Rattle.std.specs.Map.Iter.{TakesFirst, deref_pair}
 use Rattle.std.specs.Option.{option_copied_mut}
-use Rattle.std.specs.Prelude.{◌⊎◌, All, AllPairs, Err, IfOk, IfSome, IsTrue, Ok, OnErr, OnOk, Result, is_some, option_map, unwrap_or, if◌then◌else◌}
+use Rattle.std.specs.Prelude.{All, Err, IfOk, IfSome, IsTrue, Ok, OnErr, OnOk, Result, is_some, option_map, unwrap_or, if◌then◌else◌}
 use Rattle.history_core.specs.declared.file.FileHistory.{FileHistory}
 use Rattle.history_core.specs.declared.request.Answer.{Answer}
 use Rattle.history_core.specs.declared.request.Request.{Request}
 use Rattle.history_core.specs.declared.search.SearchFault.{SearchFault}
-use Rattle.history_core.specs.Moments.{Answered, FileLine, HasMore, MayEnd, Reaches, Sent, World, beginning}
+use Rattle.history_core.specs.Moments.{Answered, FileLine, HasMore, MayEnd, Reaches, Sent, beginning}
 use Rattle.history_core.specs.FileView.{count_in, has_open}
 use Rattle.history_core.specs.FileView as one_file
 use Rattle.history_judge.specs.declared.files.Files.{Files}

@@ -1,5 +1,5 @@
 -- What is known of a whole history, line by line.
-use Rattle.std.proofs.Common.{inl, inr, ℕ, ◌≡◌, ◌≢◌, ◌∙◌, ◌↔◌, ◌==◌, sym, ap, refl, subst, arith, true, false, Bool, Option, Some, None, List, [], ◌∷◌, ◌++◌, eq-eqb}
+use Rattle.std.proofs.Common.{inl, inr, ℕ, ◌≡◌, ◌≢◌, ◌∙◌, ◌↔◌, ◌==◌, sym, ap, refl, subst, arith, true, Bool, Option, Some, None, List, [], ◌∷◌, ◌++◌, eq-eqb}
 use Rattle.std.proofs.Math.Logic.{∥∥₁_elim, ∥∥₁_map}
 use mathlib.Core.HLevel.{⊥_prop}
 use Rattle.std.proofs.lemmas.Grind.{common_steps}
@@ -9,7 +9,7 @@ use Rattle.std.specs.BTreeMap.{BTreeMap, UpdatesBy, get, is_at}
 use Rattle.std.specs.Map.{lookup}
 use Rattle.std.specs.List.{list_any}
 use Rattle.std.specs.Ordering.{nat_cmp}
-use Rattle.std.specs.Prelude.{◌⊎◌, Err, IfOk, IsErrAnd, IsTrue, Ok, Result, option_map, if◌then◌else◌}
+use Rattle.std.specs.Prelude.{Err, IfOk, IsErrAnd, IsTrue, Ok, Result, option_map, if◌then◌else◌}
 use Rattle.history_core.specs.declared.request.Request.{Request}
 use Rattle.history_core.specs.declared.request.Answer.{Answer}
 use Rattle.history_core.specs.declared.file.FileHistory.{FileHistory}
