@@ -108,9 +108,8 @@ def run(options: argparse.Namespace) -> int:
         with Keeper(options.directories, plan) as keeper:
             torture.run(keeper, options.seconds)
     except CouldNotRun as failed:
+        torture.totals.stopped = str(failed)
         report.stop(str(failed))
-        torture.totals.kinds["not run"] += 1
-        return torture.totals.status or 2
     finally:
         report.end(torture.totals)
     return torture.totals.status

@@ -33,9 +33,11 @@ class Round:
 
 @dataclass
 class Totals:
-    """How many rounds ended how, how many requests there were, and which answers were taken for errors."""
+    """How many rounds ended how, how many requests there were, which answers were taken for errors, where the shortest window is, and why the
+    run was stopped, if it was."""
 
     kinds: Counter[str] = field(default_factory=Counter)
+    stopped: str = ""
     requests: int = 0
     words: Counter[str] = field(default_factory=Counter)
     odd: Counter[tuple[str, str]] = field(default_factory=Counter)
@@ -47,8 +49,8 @@ class Totals:
 
     @property
     def status(self) -> int:
-        """The exit status: 1 where a round is illegal, 2 where none was judged, else 0."""
-        return 1 if self.kinds["illegal"] else 0 if self.kinds["legal"] else 2
+        """The exit status: 1 where a round is illegal, 2 where something could not be run or nothing was judged, else 0."""
+        return 1 if self.kinds["illegal"] else 2 if self.stopped or not self.kinds["legal"] else 0
 
     def __str__(self) -> str:
         kinds = ", ".join(f"{count} {kind}" for kind, count in sorted(self.kinds.items()))
