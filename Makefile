@@ -3,8 +3,8 @@ FILE ?= crates/lockreplay/stdin
 PROGRAM := crates/lockreplay/out/lockreplay
 VERSION := $(shell sed -n 's/^.. \([0-9.]*\)$$/\1/p' CHANGELOG.md | head -n 1)
 
-.PHONY: run try test build released format memory threads edits conformance conformance-tests docs install library install-library calls embed bench \
-    lockfs fuse-test dist deb install-files
+.PHONY: run try test build released format memory threads edits conformance torture planted conformance-tests docs install library install-library \
+    calls embed bench lockfs fuse-test dist deb install-files
 
 run: released build
 	@$(PROGRAM) $(if $(FILE),'$(FILE)')
@@ -54,7 +54,8 @@ test:
 	tests/memory-is-passed-on
 	sh tests/bad-edits.sh
 	tests/edit-reasons --compile
-	cd conformance && LOCKREPLAY=$(abspath $(PROGRAM)) python3 -m unittest tests.test_corpus tests.test_judging tests.test_lies tests.test_trace
+	cd conformance && LOCKREPLAY=$(abspath $(PROGRAM)) python3 -m unittest tests.test_corpus tests.test_judging tests.test_lies tests.test_torture \
+	    tests.test_trace
 	tools/gate-line --passed
 
 # Lays each crate out as the gate wants it.
@@ -97,6 +98,13 @@ threads: build
 DIR ?= .
 conformance: build
 	conformance/locktest --keep-going --lockreplay $(PROGRAM) '$(DIR)'
+
+# The same under many processes that race, for SECONDS; `make planted` looks for ten faults in lockfs by it, and wants libfuse3.
+SECONDS ?= 10
+torture: build
+	conformance/locktorture --seconds $(SECONDS) --lockreplay $(PROGRAM) '$(DIR)'
+planted: build library
+	LOCKREPLAY=$(abspath $(PROGRAM)) python3 conformance/tests/planted.py
 
 # All the tools' own tests, which want Python 3 and no root; each script of the corpus goes through lockreplay.
 conformance-tests:

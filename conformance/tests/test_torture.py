@@ -3,7 +3,9 @@
 from __future__ import annotations
 
 import errno
+import random
 import unittest
+from collections import Counter
 from pathlib import Path
 from unittest import mock
 
@@ -235,6 +237,10 @@ JUDGED = {
         "> 1 wait 0 1 w 0 0\n> 2 gone 0 1\n< 2 ok\n> 3 get 0 2 r 0 0\n< 3 held 1 w 0 0\n",
         ["line 5: held 1 w 0 0 isn't possible"],
     ),
+    "what is sent behind a death isn't ended by it": (
+        "> 1 gone 0 1\n> 2 set 0 1 w 0 0\n< 2 ok\n< 1 ok\n> 3 get 0 2 r 0 0\n< 3 held 1 w 0 0\n",
+        [],
+    ),
     "an error may have had its effect": ("> 1 set 0 1 w 0 0\n< 1 error\n> 2 get 0 2 r 0 0\n< 2 held - w 0 0\n", []),
     "a refused upgrade may lose the shared lock": (
         "> 1 flock 0 1 sh\n< 1 ok\n> 2 flock 0 2 sh\n< 2 ok\n> 3 flock 0 1 ex nb\n< 3 busy\n> 4 flock 0 2 ex nb\n< 4 ok\n",
@@ -254,8 +260,67 @@ JUDGED = {
 }
 
 
+MODES = ("r", "w")
+ANSWERS = {
+    "set": ("ok", "ok", "busy", "error"),
+    "wait": ("ok", "ok", "EINTR", "EDEADLK"),
+    "get": ("free", "held - r 0 0", "held 1 w 0 1", "held 2 r 1 1"),
+    "flock": ("ok", "ok", "busy", "error"),
+}
+
+
+def random_history(chance: random.Random) -> str:
+    """A history of a few requests of three owners, with answers by chance."""
+    lines: list[str] = []
+    open_now: list[tuple[int, str]] = []
+    for number in range(chance.randint(2, 6)):
+        word = chance.choice(("set", "set", "wait", "get", "unlock", "flock", "flock", "close", "gone"))
+        first = chance.randint(0, 1)
+        ranged = f" {first} {chance.randint(first, 1)}"
+        mode = chance.choice(("sh nb", "ex nb", "un")) if word == "flock" else chance.choice(MODES)
+        more = {"unlock": ranged, "flock": f" {mode}", "close": "", "gone": ""}.get(word, f" {mode}{ranged}")
+        lines.append(f"> {number} {word} 0 {chance.randint(1, 3)}{more}")
+        open_now.append((number, "ok" if mode == "un" else chance.choice(ANSWERS.get(word, ("ok",)))))
+        while open_now and chance.random() < 0.6:
+            answered, answer = open_now.pop(chance.randrange(len(open_now)))
+            lines.append(f"< {answered} {answer}")
+    return "".join(f"{line}\n" for line in lines)
+
+
+def is_legal(requests: list[second_opinion.Request], up_to: int) -> bool:
+    """Whether some order of all effects goes with the lines up to one: each order is tried."""
+    known = second_opinion.cut(requests, up_to)
+    events = sorted([(it.line, it) for it in known] + [(it.end, it) for it in known if it.end], key=lambda event: event[0])
+
+    def goes(place: int, state: second_opinion.State) -> bool:
+        open_now = [it for it in known if any(it is sent for _, sent in events[:place]) and not (it.end and it.end <= events[place - 1][0])]
+        if place == len(events):
+            return True
+        if any(goes(place, after) for request in open_now for after, _ in second_opinion.effects(state, request, open_now)):
+            return True
+        line, request = events[place]
+        if line == request.line:
+            return goes(place + 1, state)
+        return (not request.needs_effect or state.done(request) in (1, 3)) and goes(place + 1, state.without(request))
+
+    return goes(0, second_opinion.State())
+
+
 class SecondOpinion(unittest.TestCase):
     """The small judge that the tests have beside lockreplay."""
+
+    def test_a_search_over_all_orders_says_the_same(self) -> None:
+        chance = random.Random(1)
+        lines: Counter[bool] = Counter()
+        for _ in range(400):
+            text = random_history(chance)
+            requests = second_opinion.read(text)
+            ends = sorted(request.end for request in requests if request.end)
+            right = next((line for line in ends if not is_legal(requests, line)), None)
+            told = second_opinion.judge(text)
+            self.assertEqual([line.partition(":")[0] for line in told], [f"line {right}"] if right else [], text)
+            lines[right is None] += 1
+        self.assertGreater(min(lines.values()), 50)
 
     def test_judged_by_hand(self) -> None:
         for name, (text, right) in JUDGED.items():
