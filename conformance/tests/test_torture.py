@@ -232,7 +232,10 @@ JUDGED = {
         "> 1 set 0 1 w 0 9\n< 1 ok\n> 2 unlock 0 1 0 9\n> 3 set 0 2 w 0 9\n< 3 ok\n> 4 set 0 3 w 0 9\n< 4 busy\n",
         [],
     ),
-    "a wait that was interrupted has no lock": ("> 1 wait 0 1 w 0 0\n< 1 EINTR\n> 2 get 0 2 r 0 0\n< 2 held 1 w 0 0\n", ["line 4: held 1 w 0 0 isn't possible"]),
+    "a wait that was interrupted has no lock": (
+        "> 1 wait 0 1 w 0 0\n< 1 EINTR\n> 2 get 0 2 r 0 0\n< 2 held 1 w 0 0\n",
+        ["line 4: held 1 w 0 0 isn't possible"],
+    ),
     "a death ends what was sent before": (
         "> 1 wait 0 1 w 0 0\n> 2 gone 0 1\n< 2 ok\n> 3 get 0 2 r 0 0\n< 3 held 1 w 0 0\n",
         ["line 5: held 1 w 0 0 isn't possible"],
