@@ -3,6 +3,7 @@
 from __future__ import annotations
 
 import argparse
+import itertools
 import signal
 import sys
 import time
@@ -18,6 +19,9 @@ from torture.history import Manner, Writer
 from torture.judging import ILLEGAL, HistoryJudge, Verdict, shorten
 from torture.report import JsonReport, Round, TapReport, Totals
 from torture.rounds import Keeper, Plan
+
+# A round, its history, and what will be said of it.
+Judged = tuple[Round, str, "Future[Verdict]"]
 
 DESCRIPTION = """Has processes race for locks on files of a directory, or of several mounts of one folder, and judges by lockreplay whether there
 was a legal order. Prints TAP; the status is 0, 1 where a round is illegal, and 2 where something could not be run."""
@@ -62,23 +66,29 @@ class Torture:
     def run(self, keeper: Keeper, seconds: float) -> None:
         """Runs rounds until the time is over or, but where it keeps going, one is illegal; each is judged while others run."""
         until = time.monotonic() + seconds
-        judged: list[tuple[Round, str, Future[Verdict]]] = []
-        number = 0
+        judged: list[Judged] = []
+        numbers = itertools.count(1)
         with ThreadPoolExecutor(2) as pool:
-            while time.monotonic() < until and (self.keeps_going or not self.totals.kinds["illegal"]):
-                number += 1
-                round_seed = self.seed * 1_000_000 + number
-                log = keeper.run(round_seed)
-                writer = Writer(log, self.manner)
-                text = writer.write()
-                told = Round(number, round_seed, sum(process.pid > 0 for process in log.processes), len(writer.requests), Verdict(0))
-                self.totals.odd += writer.odd
-                self.totals.words.update(request.text.split()[0] for request in writer.requests)
-                judged.append((told, text, pool.submit(self.judge.judge, text)))
-                while judged and (len(judged) > AHEAD or judged[0][2].done()):
-                    self.tell(*judged.pop(0))
-            for each in judged:
-                self.tell(*each)
+            try:
+                while time.monotonic() < until and (self.keeps_going or not self.totals.kinds["illegal"]):
+                    told, text = self.run_one(keeper, next(numbers))
+                    judged.append((told, text, pool.submit(self.judge.judge, text)))
+                    while judged and (len(judged) > AHEAD or judged[0][2].done()):
+                        self.tell(*judged.pop(0))
+            finally:
+                # (also where a round hangs, as it may by what those before it show)
+                for each in judged:
+                    self.tell(*each)
+
+    def run_one(self, keeper: Keeper, number: int) -> tuple[Round, str]:
+        """Runs a round, and writes its history."""
+        seed = self.seed * 1_000_000 + number
+        log = keeper.run(seed)
+        writer = Writer(log, self.manner)
+        text = writer.write()
+        self.totals.odd += writer.odd
+        self.totals.words.update(request.text.split()[0] for request in writer.requests)
+        return Round(number, seed, sum(process.pid > 0 for process in log.processes), len(writer.requests), Verdict(0)), text
 
     def tell(self, told: Round, text: str, verdict: Future[Verdict]) -> None:
         """Tells a round, and of an illegal one the shortest window."""

@@ -20,8 +20,10 @@ SOURCE = Path(__file__).resolve().parent / "client.c"
 FOLDER_PREFIX = "locktorture-"
 # A log has to outlive its process, and to be written without a disk.
 MEMORY = Path("/dev/shm")
-# How long beyond the patience a round may take, where the file system is slow, until it counts as one that hangs.
-HANG_SECONDS = 60.0
+# How long beyond the patience nothing may come of a round until the file system counts as one that hangs.
+HANG_SECONDS = 30.0
+# How long the keeper may take to end by a kill, and its folder to be removed.
+END_SECONDS = 10.0
 # Memory for more processes than there are at a time: those that were killed have theirs too.
 SLOTS_FOR_EACH_CLIENT, MORE_SLOTS = 4, 16
 
@@ -60,10 +62,10 @@ def compile_clients(to: Path) -> None:
 class Keeper:
     """The keeper and its clients, in a folder of its own on the file system, which each directory shows. As a `with`."""
 
-    def __init__(self, directories: list[Path], plan: Plan, patience_for_files: float = HANG_SECONDS) -> None:
+    def __init__(self, directories: list[Path], plan: Plan) -> None:
         self.directories = directories
         self.plan = plan
-        self.limit = patience_for_files
+        self.hangs = False
         self.work = Path(tempfile.mkdtemp(prefix=FOLDER_PREFIX, dir=MEMORY if MEMORY.is_dir() else None))
         self.folder: Optional[Path] = None
         self.process: Optional[subprocess.Popen[bytes]] = None
@@ -100,8 +102,9 @@ class Keeper:
         assert self.process and self.process.stdin and self.process.stdout and self.memory
         self.process.stdin.write(f"{seed} {self.plan.requests}\n".encode())
         self.process.stdin.flush()
-        if not select.select([self.process.stdout], [], [], self.plan.patience + self.limit)[0]:
-            raise CouldNotRun("the file system hangs: the clients neither end nor are ended by a kill")
+        if not select.select([self.process.stdout], [], [], self.plan.patience + HANG_SECONDS)[0]:
+            self.hangs = True
+            raise CouldNotRun(f"the file system hangs: clients aren't ended by a kill; left behind: {self.folder}")
         if not self.process.stdout.readline():
             raise CouldNotRun(f"the keeper ended: {self.why_it_ended()}")
         read = log.read_log(self.memory[:])
@@ -119,19 +122,26 @@ class Keeper:
     def close(self) -> None:
         """Ends the keeper and its clients, and removes what was made; a file system that hangs keeps its folder."""
         if self.process:
-            try:
-                os.killpg(self.process.pid, signal.SIGKILL)
-            except ProcessLookupError:
-                # All have ended.
-                pass
-            for stream in (self.process.stdin, self.process.stdout, self.process.stderr):
-                if stream:
-                    stream.close()
-            self.process.wait(self.limit)
+            self.end(self.process)
         shutil.rmtree(self.work, ignore_errors=True)
-        if self.folder:
+        if self.folder and not self.hangs:
             folder = self.folder
-            guarded(lambda: shutil.rmtree(folder), self.limit)
+            guarded(lambda: shutil.rmtree(folder), END_SECONDS)
+
+    def end(self, process: subprocess.Popen[bytes]) -> None:
+        """Kills the keeper and its clients."""
+        try:
+            os.killpg(process.pid, signal.SIGKILL)
+        except ProcessLookupError:
+            # All have ended.
+            pass
+        for stream in (process.stdin, process.stdout, process.stderr):
+            if stream:
+                stream.close()
+        try:
+            process.wait(END_SECONDS)
+        except subprocess.TimeoutExpired:
+            self.hangs = True
 
 
 def failed_call(process: log.Process) -> str:
