@@ -44,6 +44,7 @@ def parser() -> argparse.ArgumentParser:
     made.add_argument("--limit", metavar="N", type=int, help="how many possibilities lockreplay may keep")
     made.add_argument("--keep-going", action="store_true", help="go on behind a round that is illegal")
     made.add_argument("--keep", metavar="FILE", type=Path, default=Path("locktorture-window"), help="where the shortest illegal window goes")
+    made.add_argument("--save", metavar="FOLDER", type=Path, help="keep all histories there, by the numbers of their rounds")
     made.add_argument("--json", action="store_true", help="print JSON, one object a line, instead of TAP")
     made.add_argument("--lockreplay", metavar="PATH", type=Path, help="the program; also by the environment's LOCKREPLAY")
     return made
@@ -58,6 +59,7 @@ class Torture:
     judge: HistoryJudge
     seed: int
     keep: Path
+    save: Optional[Path]
     keeps_going: bool
     report: Union[TapReport, JsonReport]
     totals: Totals = field(default_factory=Totals)
@@ -86,6 +88,8 @@ class Torture:
         log = keeper.run(seed)
         writer = Writer(log, self.manner)
         text = writer.write()
+        if self.save:
+            (self.save / f"{number}").write_text(text)
         self.totals.odd += writer.odd
         self.totals.words.update(request.text.split()[0] for request in writer.requests)
         return Round(number, seed, sum(process.pid > 0 for process in log.processes), len(writer.requests), Verdict(0)), text
@@ -107,12 +111,14 @@ def run(options: argparse.Namespace) -> int:
     """Runs what the command line says; the exit status."""
     judge = HistoryJudge(program_of(options), options.limit)
     judge.judge("")
+    if options.save:
+        options.save.mkdir(parents=True, exist_ok=True)
     systems = [filesystem.look_at(directory) for directory in options.directories]
     manner = Manner(any(system.kind.startswith("fuse") for system in systems), all(system.is_local for system in systems))
     requests = options.requests or options.clients * (REQUESTS_ON_FUSE if manner.releases_late else REQUESTS)
     plan = Plan(options.clients, requests, options.only or "both", options.patience)
     report = JsonReport() if options.json else TapReport()
-    torture = Torture(plan, manner, judge, options.seed, options.keep, options.keep_going, report)
+    torture = Torture(plan, manner, judge, options.seed, options.keep, options.save, options.keep_going, report)
     report.begin([f"{directory}: {system}" for directory, system in zip(options.directories, systems)])
     try:
         with Keeper(options.directories, plan) as keeper:
