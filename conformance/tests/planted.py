@@ -60,7 +60,10 @@ KEPT_WAITS = """static struct kept_wait {
 static struct kept_wait *kept_wait_at(uint64_t ticket) { return &kept_waits[ticket / 16 % 4096]; }
 
 """
-KEEP_WAIT = """    struct dehokuna_blocker own = {0};
+# (only of an owner who has nothing on the file, and asks for nothing else until then)
+KEEP_WAIT = """    for (size_t at = 0; mode != DEHOKUNA_UNLOCK && at < sizeof kept_waits / sizeof *kept_waits; at++)
+        if (kept_waits[at].file == file && kept_waits[at].owner == info->lock_owner && !kept_waits[at].is_lost) kept_waits[at].ticket = 0;
+    struct dehokuna_blocker own = {0};
     const bool is_plain = !dehokuna_next_lock(&server, file, info->lock_owner, 0, &own) || own.owner != info->lock_owner;
     if (may_wait && is_plain)
         *kept_wait_at(ticket_of(request)) = (struct kept_wait){ticket_of(request), file, info->lock_owner, first, last, mode, false};
