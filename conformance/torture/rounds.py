@@ -107,7 +107,8 @@ class Keeper:
             raise CouldNotRun(f"the file system hangs: clients aren't ended by a kill; left behind: {self.folder}")
         if not self.process.stdout.readline():
             raise CouldNotRun(f"the keeper ended: {self.why_it_ended()}")
-        read = log.read_log(self.memory[:])
+        with memoryview(self.memory) as noted:
+            read = log.read_log(noted)
         for process in read.processes:
             if process.pid and process.status not in (0, signal.SIGKILL):
                 raise CouldNotRun(f"client {process.pid} ended by status {process.status}: {failed_call(process)}")
