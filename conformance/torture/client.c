@@ -405,7 +405,7 @@ static void serve(struct client *me) {
 /* ---- The keeper */
 
 struct round {
-    uint64_t seed, moved_at, moved;
+    uint64_t seed, moved_at, moved, kill_within; /* the next kill comes within so many requests */
     int64_t next_kill;
     struct client chance;
 };
@@ -453,7 +453,7 @@ static void kill_one(struct round *round) {
     if (!is_alive(slot) || slot->killed_at) return;
     slot->killed_at = now();
     kill(slot->pid, SIGKILL);
-    round->next_kill -= 1 + (int64_t)random_below(&round->chance, 400);
+    round->next_kill -= 1 + (int64_t)random_below(&round->chance, round->kill_within);
 }
 
 /* Whether anything was noted since the last look. */
@@ -512,7 +512,8 @@ static void make_files(void) {
 
 /* The word for how the round went. */
 static const char *run_round(uint64_t seed, int64_t requests, uint64_t patience) {
-    struct round round = {.seed = seed, .next_kill = requests - requests / 8, .chance = {.chance = seed * 2 + 1}};
+    struct round round = {.seed = seed, .kill_within = (uint64_t)requests / 2 + 1, .next_kill = requests - requests / 8};
+    round.chance.chance = seed * 2 + 1;
     make_files();
     noted->ended_at = 0;
     atomic_store(&noted->slots, 0);

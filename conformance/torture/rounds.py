@@ -24,8 +24,10 @@ MEMORY = Path("/dev/shm")
 HANG_SECONDS = 30.0
 # How long the keeper may take to end by a kill, and its folder to be removed.
 END_SECONDS = 10.0
-# Memory for more processes than there are at a time: those that were killed have theirs too.
-SLOTS_FOR_EACH_CLIENT, MORE_SLOTS = 4, 16
+# Memory for more processes than there are at a time, since those that have ended keep theirs; and for how many calls a process makes at most
+# until it ends by itself.
+SLOTS_FOR_EACH_CLIENT, MORE_SLOTS, REQUESTS_FOR_A_SLOT = 4, 16, 100
+MOST_CALLS = 2000
 
 
 @dataclass(frozen=True)
@@ -40,12 +42,12 @@ class Plan:
 
     @property
     def slots(self) -> int:
-        return self.clients * SLOTS_FOR_EACH_CLIENT + MORE_SLOTS
+        return self.clients * SLOTS_FOR_EACH_CLIENT + MORE_SLOTS + self.requests // REQUESTS_FOR_A_SLOT
 
     @property
     def records(self) -> int:
         """Of one process, with room for the closes at its end."""
-        return self.requests // self.clients * 4 + 256
+        return min(self.requests, MOST_CALLS) + 64
 
 
 def compile_clients(to: Path) -> None:
