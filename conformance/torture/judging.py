@@ -8,7 +8,7 @@ from pathlib import Path
 from typing import Optional
 
 from harness.guard import CouldNotRun
-from torture.window import Window
+from torture.window import STEPS, Window
 
 LEGAL, ILLEGAL, OVER_LIMIT = 0, 3, 4
 
@@ -44,7 +44,7 @@ class HistoryJudge:
 def shorten(judge: HistoryJudge, text: str, verdict: Verdict) -> str:
     """A shorter history that isn't possible, or may not end so, as this one: each step of a window is taken where it still shows that."""
     window = Window.of_history(text, verdict.line)
-    for step in window.steps():
+    for step in STEPS:
         for shorter in step(window):
             told = judge.judge(shorter.text)
             if told.status == ILLEGAL and told.line == shorter.last_line and told.says.partition(": ")[2] == verdict.says.partition(": ")[2]:

@@ -12,6 +12,7 @@ from typing import Callable, Iterable, Optional
 
 ON_BYTES = ("set", "wait", "get", "unlock")
 OF_BOTH = ("close", "gone")
+WAITS = ("wait", "flock")
 RELEASING = ("unlock", "close", "gone")
 
 
@@ -50,6 +51,10 @@ class Entry:
     def changes_nothing(self) -> bool:
         return self.word == "get" or (self.word in ("set", "wait") and self.answer[:1] in (("busy",), ("EINTR",), ("EDEADLK",)))
 
+    def waits_still(self) -> bool:
+        """Whether it may wait, and isn't answered."""
+        return self.end is None and self.word in WAITS
+
     def clipped(self, first: int, last: int) -> Optional[Entry]:
         """The request for these bytes alone; None where it asks for none of them."""
         if self.word not in ON_BYTES:
@@ -84,7 +89,7 @@ class Window:
         entries = read(text, line)
         if line is not None:
             return Window(entries, next(entry.start for entry in entries if entry.end == line - 1))
-        return Window(entries, next(entry.start for entry in entries if entry.end is None and entry.word in ("wait", "flock")))
+        return Window(entries, next(entry.start for entry in filter(Entry.waits_still, entries)))
 
     @property
     def shown(self) -> Entry:
@@ -105,23 +110,17 @@ class Window:
         """The window of those requests alone, and the one that is shown."""
         return replace(self, entries=[entry for entry in self.entries if entry.start == self.shown_at or keeps(entry)])
 
-    def steps(self) -> tuple[Callable[[Window], Iterable[Window]], ...]:
-        """The steps, each of which gives windows that it may be: the shortest first."""
-        by_bytes = self.shown.word in ON_BYTES
-        common = (Window.of_its_kind, Window.without_other_waits, Window.without_sights)
-        bytes_alone = (Window.of_its_bytes,) if by_bytes else ()
-        return (*common, *bytes_alone, Window.without_idle_owners, Window.from_quiet, *[Window.without_an_owner] * 8, Window.without_idle_owners)
-
     def of_its_kind(self) -> Iterable[Window]:
         """Its file and its kind of lock alone."""
         shown = self.shown
         words = (*OF_BOTH, *(ON_BYTES if shown.word in ON_BYTES else ("flock",)))
         yield self.keeping(lambda entry: entry.file == shown.file and (shown.word in OF_BOTH or entry.word in words))
 
-    def without_other_waits(self) -> Iterable[Window]:
-        """Without the other waits that are open where a wait is what is shown."""
+    def with_one_wait(self) -> Iterable[Window]:
+        """With one of the waits that are open alone, where a wait is what is shown."""
         if self.shown.end is None:
-            yield self.keeping(lambda entry: entry.end is not None)
+            for wait in filter(Entry.waits_still, self.entries):
+                yield replace(self, shown_at=wait.start).keeping(lambda entry: not entry.waits_still())
 
     def without_sights(self) -> Iterable[Window]:
         """Without what only saw locks."""
@@ -129,6 +128,8 @@ class Window:
 
     def of_its_bytes(self) -> Iterable[Window]:
         """The bytes alone that it asks for, or is told."""
+        if self.shown.word not in ON_BYTES:
+            return
         first, last = self.shown.range
         if self.shown.answer[:1] == ("held",):
             first, last = min(first, int(self.shown.answer[3])), max(last, int(self.shown.answer[4]))
@@ -156,6 +157,19 @@ class Window:
         elif told == [shown] and shown.word != "flock":
             # (what was set for its own owner isn't in its way)
             yield self.keeping(lambda entry: entry.owner != shown.owner)
+
+
+# What is tried in turn: each gives windows that it may be, the shortest first.
+STEPS: tuple[Callable[[Window], Iterable[Window]], ...] = (
+    Window.with_one_wait,
+    Window.of_its_kind,
+    Window.without_sights,
+    Window.of_its_bytes,
+    Window.without_idle_owners,
+    Window.from_quiet,
+    *[Window.without_an_owner] * 8,
+    Window.without_idle_owners,
+)
 
 
 def quiet_places(entries: list[Entry]) -> list[int]:
