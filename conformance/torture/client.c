@@ -32,6 +32,7 @@
 
 /* ---- The log, which torture/log.py reads: these numbers and layouts are its too */
 
+enum { MOST_BETWEEN_LOOKS = 10000000 }; /* nanoseconds */
 enum { FILES = 2, DESCRIPTORS = 8, LARGEST_DESCRIPTOR = 64 };
 enum call { OPEN = 1, DUP, DUP2, CLOSE, FORK, SET, WAIT, GET, UNLOCK, FLOCK };
 enum family { TRADITIONAL = 0, OPEN_FILE = 1 };
@@ -405,7 +406,7 @@ static void serve(struct client *me) {
 /* ---- The keeper */
 
 struct round {
-    uint64_t seed, moved_at, moved, kill_within; /* the next kill comes within so many requests */
+    uint64_t seed, moved, kill_within; /* the next kill comes within so many requests */
     int64_t next_kill;
     struct client chance;
 };
@@ -482,15 +483,18 @@ static void end_all(void) {
     }
 }
 
-/* Looks after the clients until all have ended (true), or nothing has moved for the patience. */
+/* Looks after the clients until all have ended (true), or nothing has moved for the patience. Of the time between two looks little counts: where
+ * the machine stood still, the clients did too. */
 static bool keep(struct round *round, uint64_t patience) {
-    round->moved_at = now();
+    uint64_t looked_at = now(), still = 0;
     while (!collect()) {
         const int64_t left = atomic_load(&noted->left);
         if (left > 0 && left < round->next_kill) kill_one(round);
         if (left > 0 && atomic_load(&noted->live) < (client_count + 1) / 2) start_one(round);
-        if (moves(round)) round->moved_at = now();
-        else if (now() - round->moved_at > patience) return false;
+        const uint64_t time = now(), passed = time - looked_at;
+        looked_at = time;
+        still = moves(round) ? 0 : still + (passed < MOST_BETWEEN_LOOKS ? passed : MOST_BETWEEN_LOOKS);
+        if (still > patience) return false;
         usleep(200);
     }
     return true;
