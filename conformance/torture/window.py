@@ -12,7 +12,6 @@ from typing import Callable, Iterable, Optional
 
 ON_BYTES = ("set", "wait", "get", "unlock")
 OF_BOTH = ("close", "gone")
-WAITS = ("wait", "flock")
 RELEASING = ("unlock", "close", "gone")
 
 
@@ -53,7 +52,7 @@ class Entry:
 
     def waits_still(self) -> bool:
         """Whether it may wait, and isn't answered."""
-        return self.end is None and self.word in WAITS
+        return self.end is None and (self.word == "wait" or (self.word == "flock" and self.words[3:] in (("sh",), ("ex",))))
 
     def clipped(self, first: int, last: int) -> Optional[Entry]:
         """The request for these bytes alone; None where it asks for none of them."""
