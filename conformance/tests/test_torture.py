@@ -96,6 +96,18 @@ class Histories(unittest.TestCase):
             "< 3 ok",
         )
 
+    def test_a_last_close_with_nothing_left_is_not_told(self) -> None:
+        calls = [opened(1, 2, 3), bytes_of(Call.SET, 3, 4, is_ofd=True), flocked(5, 6, "s")]
+        calls += [bytes_of(Call.UNLOCK, 7, 8, is_ofd=True), flocked(9, 10, "u"), closed(11, 12, 3)]
+        lines = ["> 0 set 0 1000 w 0 9", "< 0 ok", "> 1 flock 0 1001 sh", "< 1 ok", "> 2 unlock 0 1000 0 9", "< 2 ok", "> 3 flock 0 1001 un", "< 3 ok"]
+        self.assert_history([process(7, *calls)], *lines)
+
+    def test_an_unlock_that_began_before_may_have_come_before(self) -> None:
+        parent = [opened(1, 2, 3), Record(Call.FORK, 3, 4, 8, number=1), bytes_of(Call.SET, 5, 7, is_ofd=True), closed(9, 10, 3)]
+        child = process(8, bytes_of(Call.UNLOCK, 6, 8, is_ofd=True), closed(11, 12, 3), parent=0, forked_by=1)
+        lines = ["> 0 set 0 1000 w 0 9", "> 1 unlock 0 1000 0 9", "< 0 ok", "< 1 ok", "> 2 close 0 1000", "< 2 ok"]
+        self.assert_history([process(7, *parent), child], *lines)
+
     def test_a_last_close_may_be_either_of_two(self) -> None:
         parent = [opened(1, 2, 3), bytes_of(Call.SET, 3, 4, is_ofd=True), Record(Call.FORK, 5, 6, 8, number=1), closed(20, 40, 3)]
         child = process(8, closed(30, 35, 3), parent=0, forked_by=2)

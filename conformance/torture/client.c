@@ -1,12 +1,12 @@
 /* The clients of locktorture: processes that race for locks, and note in memory that outlives them what they asked and what they were
  * answered.
  *
- *   client LOG SLOTS RECORDS CLIENTS PATIENCE KINDS FOLDER..
+ *   client LOG SLOTS RECORDS CLIENTS PATIENCE KINDS TIDY FOLDER..
  *
  * LOG is a file of zeros that is mapped by all, with room for so many processes and so many records of each; PATIENCE is in milliseconds,
- * KINDS `fcntl`, `flock` or `both`, and each FOLDER the same one, as a mount of its own has it. For each line `SEED REQUESTS` of standard
- * input a round is run, on new files, and answered by a line: `quiet` where all clients have ended, `stuck` where those that are left did
- * nothing for so long (they are killed then).
+ * KINDS `fcntl`, `flock` or `both`; TIDY of a hundred closes let go of the description's locks before; and each FOLDER is the same one, as a
+ * mount of its own has it. For each line `SEED REQUESTS` of standard input a round is run, on new files, and answered by a line: `quiet` where
+ * all clients have ended, `stuck` where those that are left did nothing for so long (they are killed then).
  *
  * This process is the keeper: it starts clients, kills some, and waits for all of them, also for those that a client forks. */
 #define _GNU_SOURCE
@@ -97,7 +97,7 @@ struct client {
 };
 
 static const char **folders;
-static int folder_count, client_count;
+static int folder_count, client_count, tidy;
 static bool by_fcntl, by_flock;
 
 static uint64_t random_below(struct client *me, uint64_t bound) {
@@ -286,6 +286,20 @@ static void unlock_flock(struct client *me) { set_flock(me, any_descriptor(me), 
 /* By chance one of both kinds of lock, as far as both are asked for. */
 static bool takes_flock(struct client *me) { return by_flock && (!by_fcntl || random_below(me, 3) == 0); }
 
+/* Unlocks what the description may hold. */
+static void let_go(struct client *me, int descriptor) {
+    struct description *description = description_at(me, descriptor);
+    const struct record all = {.call = UNLOCK, .descriptor = descriptor, .family = OPEN_FILE, .last = INT64_MAX};
+    if (description->may_hold_bytes && lock_bytes(me, all) == 0) description->may_hold_bytes = false;
+    if (description->may_hold_flock) set_flock(me, descriptor, 'u', false);
+}
+
+/* Closes, mostly with nothing held where closes are to be tidy. */
+static void close_tidily(struct client *me, int descriptor) {
+    if (random_below(me, 100) < (uint64_t)tidy) let_go(me, descriptor);
+    close_one(me, descriptor);
+}
+
 /* A wait for any lock, until a signal comes where `by_alarm`, and else until it is granted. */
 static void wait_for_one(struct client *me, bool by_alarm) {
     if (by_alarm) arm(me);
@@ -302,17 +316,14 @@ static void wait_for_one(struct client *me, bool by_alarm) {
 static void wait_patiently(struct client *me) {
     for (int place = me->count - 1; place >= 0; place--) {
         const int descriptor = me->open[place];
-        struct description *description = description_at(me, descriptor);
+        const int file = description_at(me, descriptor)->file;
         const struct record all = {.call = UNLOCK, .descriptor = descriptor, .last = INT64_MAX};
-        struct record of_file = all;
-        of_file.family = OPEN_FILE;
-        if (description->is_shared) {
-            close_one(me, descriptor);
+        if (description_at(me, descriptor)->is_shared) {
+            close_tidily(me, descriptor);
             continue;
         }
-        if (me->may_hold[description->file] && lock_bytes(me, all) == 0) me->may_hold[description->file] = false;
-        if (description->may_hold_bytes && lock_bytes(me, of_file) == 0) description->may_hold_bytes = false;
-        if (description->may_hold_flock) set_flock(me, descriptor, 'u', false);
+        if (me->may_hold[file] && lock_bytes(me, all) == 0) me->may_hold[file] = false;
+        let_go(me, descriptor);
     }
     if (me->count == 0) open_one(me);
     if (holds_nothing(me)) wait_for_one(me, false);
@@ -371,8 +382,8 @@ static void fork_one(struct client *me) {
 
 /* Ends the process, by closes or by the end alone. */
 static void leave(struct client *me) {
-    const bool closes = random_below(me, 2);
-    while (closes && me->count) close_one(me, any_descriptor(me));
+    const bool closes = random_below(me, 2) || random_below(me, 100) < (uint64_t)tidy;
+    while (closes && me->count) close_tidily(me, any_descriptor(me));
     me->slot->exits_at = now();
     _exit(0);
 }
@@ -382,7 +393,7 @@ static void act(struct client *me) {
     if (me->count == 0 || (chance < 30 && me->count < DESCRIPTORS)) open_one(me);
     else if (chance < 50 && me->count < DESCRIPTORS) dup_one(me);
     else if (chance < 60) dup2_one(me);
-    else if (chance < 110) close_one(me, any_descriptor(me));
+    else if (chance < 110) close_tidily(me, any_descriptor(me));
     else if (chance < 130) fork_one(me);
     else if (chance < 132) leave(me);
     else if (chance < 160) wait_patiently(me);
@@ -545,16 +556,17 @@ static bool map_log(const char *path, uint32_t slots, uint32_t records) {
 }
 
 int main(int count, char **words) {
-    if (count < 8 || !map_log(words[1], (uint32_t)atoi(words[2]), (uint32_t)atoi(words[3]))) {
-        fprintf(stderr, "usage: client LOG SLOTS RECORDS CLIENTS PATIENCE KINDS FOLDER..\n");
+    if (count < 9 || !map_log(words[1], (uint32_t)atoi(words[2]), (uint32_t)atoi(words[3]))) {
+        fprintf(stderr, "usage: client LOG SLOTS RECORDS CLIENTS PATIENCE KINDS TIDY FOLDER..\n");
         return 2;
     }
     client_count = atoi(words[4]);
     const uint64_t patience = strtoull(words[5], NULL, 10) * 1000000;
     by_fcntl = strcmp(words[6], "flock") != 0;
     by_flock = strcmp(words[6], "fcntl") != 0;
-    folders = (const char **)words + 7;
-    folder_count = count - 7;
+    tidy = atoi(words[7]);
+    folders = (const char **)words + 8;
+    folder_count = count - 8;
     prctl(PR_SET_PDEATHSIG, SIGKILL);
     sigaction(SIGALRM, &(struct sigaction){.sa_handler = do_nothing}, NULL);
     setvbuf(stdout, NULL, _IOLBF, 0);

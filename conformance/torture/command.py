@@ -25,8 +25,10 @@ Judged = tuple[Round, str, "Future[Verdict]"]
 
 DESCRIPTION = """Has processes race for locks on files of a directory, or of several mounts of one folder, and judges by lockreplay whether there
 was a legal order. Prints TAP; the status is 0, 1 where a round is illegal, and 2 where something could not be run."""
-# Of one client in a round. On FUSE a description's release is open to the end of the round, so rounds are short there.
+# Of one client in a round. On FUSE a description's release is open to the end of the round, and each that is open doubles what may be: so rounds
+# are short there, and most closes come behind unlocks.
 REQUESTS, REQUESTS_ON_FUSE = 100, 25
+TIDY_ON_FUSE = 90
 # Rounds whose judging isn't over.
 AHEAD = 4
 
@@ -116,7 +118,7 @@ def run(options: argparse.Namespace) -> int:
     systems = [filesystem.look_at(directory) for directory in options.directories]
     manner = Manner(any(system.kind.startswith("fuse") for system in systems), all(system.is_local for system in systems))
     requests = options.requests or options.clients * (REQUESTS_ON_FUSE if manner.releases_late else REQUESTS)
-    plan = Plan(options.clients, requests, options.only or "both", options.patience)
+    plan = Plan(options.clients, requests, options.only or "both", options.patience, TIDY_ON_FUSE if manner.releases_late else 0)
     report = JsonReport() if options.json else TapReport()
     torture = Torture(plan, manner, judge, options.seed, options.keep, options.save, options.keep_going, report)
     report.begin([f"{directory}: {system}" for directory, system in zip(options.directories, systems)])

@@ -51,29 +51,45 @@ class Drop:
 
 
 @dataclass
+class Holding:
+    """What an owner may hold on a file: the bytes that it may have been given, and when that was over (None: never), and those that it let go,
+    and when that began. Of a flock lock all bytes."""
+
+    given: list[tuple[Optional[int], int, int]] = field(default_factory=list)
+    let_go: list[tuple[int, int, int]] = field(default_factory=list)
+
+    def note(self, record: Record, answer: str, first: int = 0, last: int = LARGEST_OFFSET, releases: bool = False) -> None:
+        """Notes a request and its answer."""
+        if releases and answer == "ok":
+            self.let_go.append((record.start, first, last))
+        elif not releases and answer in ("ok", "error", ""):
+            self.given.append((record.end, first, last))
+
+    def may_hold(self) -> bool:
+        """Whether some byte may be held still: one that no request let go which began when it had been given."""
+        return any(self.is_left(end, first, last) for end, first, last in self.given)
+
+    def is_left(self, end: Optional[int], first: int, last: int) -> bool:
+        """Whether a byte of these is left that were given until then."""
+        for start, low, high in sorted(self.let_go, key=lambda gone: gone[1:]):
+            if end is not None and start >= end and low <= first <= high:
+                first = high + 1
+        return first <= last
+
+
+@dataclass
 class Description:
-    """An open file description: its number, its file, the references that are left, those that went, and the processes that had one. `holds`
-    and `held` say of its OFD locks and its flock lock whether there may be one, by the last request, and by any."""
+    """An open file description: its number, its file, the references that are left, those that went, and what it may hold by flock (True) and of
+    OFD locks (False)."""
 
     number: int
     file: int
     references: int = 0
     drops: list[Drop] = field(default_factory=list)
-    processes: set[int] = field(default_factory=set)
-    holds: dict[bool, bool] = field(default_factory=lambda: {True: False, False: False})
-    held: dict[bool, bool] = field(default_factory=lambda: {True: False, False: False})
+    holding: dict[bool, Holding] = field(default_factory=lambda: {True: Holding(), False: Holding()})
 
     def owner(self, is_flock: bool) -> int:
         return FIRST_DESCRIPTION + 2 * self.number + is_flock
-
-    def note(self, is_flock: bool, may_hold: bool) -> None:
-        """Notes whether the description may have a lock now."""
-        self.holds[is_flock] = may_hold
-        self.held[is_flock] |= may_hold
-
-    def may_hold(self, is_flock: bool) -> bool:
-        """Whether there may be a lock at the end; of requests of several processes the last one isn't known."""
-        return (self.holds if len(self.processes) == 1 else self.held)[is_flock]
 
 
 Table = dict[int, Description]
@@ -108,7 +124,7 @@ class Writer:
         ends = [drop.end for drop in description.drops]
         end = None if None in ends else self.log.ended_at if self.manner.releases_late else max(filter(None, ends))
         for is_flock in (False, True):
-            if description.may_hold(is_flock):
+            if description.holding[is_flock].may_hold():
                 word = "gone" if last.by_death else "close"
                 text = f"{word} {description.file} {description.owner(is_flock)}"
                 self.requests.append(Request(text, last.start, end, "ok", self.manner.releases_late))
@@ -129,7 +145,7 @@ class ProcessWriter:
         self.process = process
         self.owner = slot + 1
         self.table: Table = {}
-        self.may_hold: set[int] = set()
+        self.holding: dict[int, Holding] = {}
 
     def write(self) -> None:
         """Writes the process's requests, and what goes with its end."""
@@ -164,7 +180,6 @@ class ProcessWriter:
         """A descriptor of this process is one of the description from now on."""
         self.table[descriptor] = description
         description.references += 1
-        description.processes.add(self.slot)
 
     def write_dup2(self, record: Record) -> None:
         """The target is closed, and is a descriptor of the other description. (Where the process died in the call, the other is dropped
@@ -178,10 +193,13 @@ class ProcessWriter:
         description = self.table.pop(descriptor)
         description.references -= 1
         description.drops.append(Drop(record.start, self.process.waited_at if record.end is None else record.end, False))
-        if description.file in self.may_hold:
-            answer = self.add(record, f"close {description.file} {self.owner}", "ok")
-            if answer == "ok":
-                self.may_hold.discard(description.file)
+        holding = self.holding_on(description.file)
+        if holding.may_hold():
+            holding.note(record, self.add(record, f"close {description.file} {self.owner}", "ok"), releases=True)
+
+    def holding_on(self, file: int) -> Holding:
+        """What the process may hold on a file by traditional locks."""
+        return self.holding.setdefault(file, Holding())
 
     def write_flock(self, record: Record) -> None:
         """A request by flock."""
@@ -190,8 +208,7 @@ class ProcessWriter:
         text = f"flock {description.file} {description.owner(True)} {FLOCK_MODES[record.mode]}{at_once}"
         refusals = {number: "busy" for number in REFUSED} if record.at_once else {errno.EINTR: "EINTR"}
         answer = self.add(record, text, self.told(record, {} if record.mode == "u" else refusals))
-        if answer in ("ok", "error", ""):
-            description.note(True, record.mode != "u" or answer != "ok")
+        description.holding[True].note(record, answer, releases=record.mode == "u")
 
     def write_bytes(self, record: Record) -> None:
         """A request for a byte lock."""
@@ -206,19 +223,9 @@ class ProcessWriter:
         elif record.call == Call.WAIT:
             refusals = {errno.EINTR: "EINTR", errno.EDEADLK: "EDEADLK"}
         answer = self.add(record, text, self.told(record, refusals))
-        if record.call == Call.UNLOCK and answer == "ok" and (record.first, record.last) == (0, LARGEST_OFFSET):
-            self.note_bytes(record, description, False)
-        elif record.call in (Call.SET, Call.WAIT) and answer in ("ok", "error", ""):
-            self.note_bytes(record, description, True)
-
-    def note_bytes(self, record: Record, description: Description, may_hold: bool) -> None:
-        """Notes whether the request's owner may have a lock on the file now."""
-        if record.is_ofd:
-            description.note(False, may_hold)
-        elif may_hold:
-            self.may_hold.add(description.file)
-        else:
-            self.may_hold.discard(description.file)
+        if record.call != Call.GET:
+            holding = description.holding[False] if record.is_ofd else self.holding_on(description.file)
+            holding.note(record, answer, record.first, record.last, record.call == Call.UNLOCK)
 
     def told(self, record: Record, refusals: dict[int, str]) -> str:
         """The word for what was answered, where the call has these refusals."""
@@ -246,7 +253,7 @@ class ProcessWriter:
 
     def write_death(self, start: int, end: Optional[int]) -> None:
         """The process dies: its locks go on each file, and its references to descriptions."""
-        for file in sorted(self.may_hold):
+        for file in sorted(file for file, holding in self.holding.items() if holding.may_hold()):
             self.writer.requests.append(Request(f"gone {file} {self.owner}", start, end, "ok"))
         for description in self.table.values():
             description.references -= 1

@@ -32,13 +32,14 @@ MOST_CALLS = 2000
 
 @dataclass(frozen=True)
 class Plan:
-    """What a round is: how many clients at a time, how many requests in all, of which kinds (`fcntl`, `flock` or `both`), and after how many
-    seconds without a move it is stuck."""
+    """What a round is: how many clients at a time, how many requests in all, of which kinds (`fcntl`, `flock` or `both`), after how many seconds
+    without a move it is stuck, and how many of a hundred closes let go of the locks before."""
 
     clients: int
     requests: int
     kinds: str
     patience: float
+    tidy: int = 0
 
     @property
     def slots(self) -> int:
@@ -96,7 +97,7 @@ class Keeper:
             file.truncate(size)
             self.memory = mmap.mmap(file.fileno(), size)
         numbers = [self.plan.slots, self.plan.records, self.plan.clients, round(self.plan.patience * 1000)]
-        words = [str(self.work / "client"), str(self.work / "log"), *map(str, numbers), self.plan.kinds, *map(str, folders)]
+        words = [str(self.work / "client"), str(self.work / "log"), *map(str, numbers), self.plan.kinds, str(self.plan.tidy), *map(str, folders)]
         self.process = subprocess.Popen(words, stdin=subprocess.PIPE, stdout=subprocess.PIPE, stderr=subprocess.PIPE, start_new_session=True)
 
     def run(self, seed: int) -> log.Log:
