@@ -128,7 +128,12 @@ impl LockFile {
     }
 
     /// Adds the other owners that have a flock lock which conflicts with one of this mode.
-    pub fn add_flock_holders(&self, owners: &mut Vec<u64>, owner: u64, mode: Mode) -> Result<(), Memory>
+    pub fn add_flock_holders(
+        &self,
+        owners: &mut Vec<u64>,
+        owner: u64,
+        mode: Mode,
+    ) -> Result<(), Memory>
         ensures { OnOk result (AddsOwners owners.old.items owners.new.items (IsFlockHolder (file_state self.now) owner mode)) }
     {
         let mut above = None;

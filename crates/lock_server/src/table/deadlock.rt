@@ -66,7 +66,12 @@ impl Table {
     }
 
     /// Adds those of the owners that are not there yet, and are the target or have a detected wait: no others lead on.
-    pub(super) fn add_going_on(&self, reached: &mut Reached, owners: &[u64], target: u64) -> Result<(), Memory>
+    pub(super) fn add_going_on(
+        &self,
+        reached: &mut Reached,
+        owners: &[u64],
+        target: u64,
+    ) -> Result<(), Memory>
         ensures adds { OnOk result (AddsGoingOn self.now.waiters target (Contains owners.now) reached.old.owners.items reached.new.owners.items) }
         ensures looked_at { reached.new.looked_at ≡ reached.old.looked_at }
     {

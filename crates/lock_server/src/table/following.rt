@@ -67,8 +67,8 @@ impl Table {
             → Contains reached.old.owners.items wait.owner }
         ensures { (wait : Pending) → slice_get ((table_state self.now).files file).waits place ≡ Some wait
             → OnOk result (Follows self.now target
-                (IsBlockedByOwner (table_policy self.now) ((table_state self.now).files file) (take place ((table_state self.now).files file).waits) wait)
-                reached.old reached.new) }
+            (IsBlockedByOwner (table_policy self.now) ((table_state self.now).files file) (take place ((table_state self.now).files file).waits) wait)
+            reached.old reached.new) }
     {
         let waits = self.waits_on(file);
         self.follow_wait(reached, target, file, &waits[..place], &waits[place])

@@ -24,14 +24,14 @@ impl Crowd {
         tells(rt, &mut self.server, &[(file, call, told)])
     }
 
-    /// Each of the owners reads some bytes of the file, and as many others wait to write some, every other one detected.
+    /// Each of the owners reads some bytes of the file, and as many others wait to write some, one in eight of them detected.
     fn gather(&mut self, rt: &impl Abort, file: u64) -> Result<(), Memory> {
         for owner in 0..CROWD {
             let bytes = self.rule.bytes();
             self.goes_on(rt, file, Call::Set(owner, bytes, Some(Mode::Read)))?;
         }
         for owner in CROWD..2 * CROWD {
-            let (bytes, detect) = (self.rule.bytes(), self.rule.below(2) == 0);
+            let (bytes, detect) = (self.rule.bytes(), self.rule.below(8) == 0);
             self.goes_on(
                 rt,
                 file,
@@ -77,7 +77,7 @@ fn a_crowd_goes_as_the_model_often(rt: HostRuntime) -> Result<(), Fail> {
             model: Model::new(rt.alloc(), stepwise(policy)),
             rule: Rule { x: 77 },
         };
-        crowd(&rt, &mut many, 1000)?;
+        crowd(&rt, &mut many, 200)?;
     }
     Ok(())
 }

@@ -8,7 +8,7 @@ invariant-loop-next l = record {
   to : l.rest.last ≡ l.fn.span.last;
   from : l.fn.span.first ≤ l.rest.first;
   any : l.rest.first ≤ l.rest.last;
-  adds : AddsOwners l.initial.owners.items l.owners.items (BlocksBefore (file_state l.self) l.owner l.fn.span l.mode l.rest.first)
+  adds : AddsOwners l.initial.owners.items l.owners.items (BlocksBefore (file_state l.self) l.owner l.fn.span l.mode l.rest.first);
 }
 
 abbrev pub decreases-loop-next : goal.decreases-loop-next

@@ -11,7 +11,7 @@ invariant-loop-part l = record {
   any : l.rest.first ≤ l.rest.last;
   adds : AddsGoingOn l.self.waiters l.target (BlocksBefore ((table_state l.self).files l.file) l.wait.owner l.wait.span l.wait.mode l.rest.first)
       l.initial.reached.owners.items l.reached.owners.items;
-  told : AreTold l.self l.target l.reached
+  told : AreTold l.self l.target l.reached;
 }
 
 abbrev pub decreases-loop-part : goal.decreases-loop-part
