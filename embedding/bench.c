@@ -301,6 +301,23 @@ static struct timing forgets(uint64_t n) {
     return timing;
 }
 
+/* The bytes of one file on which n owners have locks, and one in a hundred of them waits, detected, for the lock of the next. */
+static struct timing imports(uint64_t n) {
+    struct dehokuna_server server = made(), copy = {0};
+    struct dehokuna_fault fault;
+    own_each(&server, n, DEHOKUNA_WRITE);
+    for (uint64_t owner = 0; owner < n / 100; owner++)
+        DEMAND(dehokuna_wait(&server, owner, FILE_A, owner, 4 * owner + 4, 4 * owner + 4, DEHOKUNA_READ, true) == DEHOKUNA_WAITS);
+    const size_t size = dehokuna_export_size(&server);
+    uint8_t *bytes = malloc(size);
+    DEMAND(bytes != NULL && dehokuna_export(&server, bytes, size) == size);
+    struct timing timing = begin();
+    DEMAND(dehokuna_import(&copy, bytes, size, &fault) == DEHOKUNA_DONE);
+    timing.took = now() - timing.began;
+    timing.calls = n;
+    return timing;
+}
+
 static const struct row {
     const char *name;
     struct timing (*measure)(uint64_t n);
@@ -324,6 +341,7 @@ static const struct row {
     {"a detected wait in a chain of n, on one file", chain_on_one_file},
     {"the same on a file each", chain_on_many_files},
     {"a forget of each of n owners, on a file each", forgets},
+    {"an import of n locks on one file and n / 100 detected waits, a lock", imports},
 };
 
 /* Each size is measured in a process of its own, which hands over what a call took. */

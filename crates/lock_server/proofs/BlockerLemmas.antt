@@ -1,32 +1,42 @@
--- The owners for which a wait on a file waits: for `add_steps`, `add_blockers`, `add_holders`, `add_conflicting`.
+-- The owners for which a wait on a file waits: for `add_steps`, `add_blockers`, `add_holders` and what that calls, `add_conflicting`.
 use Rattle.std.proofs.lemmas.Grind.{common_steps}
-use Rattle.std.proofs.Common.{ℕ, ◌≡◌, ◌+◌, ◌≤◌, ◌∙◌, inl, inr, sym, ap, refl, subst, arith, suc, true, false, Option, Some, None, List, ◌∷◌, ◌++◌, Any, Contains, length, take, drop}
-use Rattle.std.specs.Prelude.{IsFalse, IsTrue, slice_get}
-use Rattle.std.proofs.lemmas.Bool.{cases_lt}
-use Rattle.std.proofs.lemmas.List.{take_at, get_or_at, length-append, get_or_append_left, get_or-append-add}
-use Rattle.std.proofs.lemmas.List.Elements.{Contains-append_cases, All-contains}
+use Rattle.std.proofs.Common.{ℕ, ◌≡◌, ◌≢◌, ◌+◌, ◌<◌, ◌≤◌, ◌∙◌, ◌⊎◌, inl, inr, min, max, sym, ap, refl, subst, arith, suc, true, false, Option, Some, None, List, [], ◌∷◌, ◌++◌, Any, Contains, length, take, drop, map}
+use Rattle.std.specs.Prelude.{◌↔◌, IfNone, IfSome, IsTrue, is_some, slice_get}
+use Rattle.std.specs.Borrow.{Bor}
+use Rattle.std.specs.BTreeMap.{BTreeMap}
+use Rattle.std.specs.Map.{keys_of}
+use Rattle.std.specs.Map.Iter.{deref_pair}
+use Rattle.std.proofs.lemmas.Bool.{cases_eq, cases_lt}
+use Rattle.std.proofs.lemmas.List.{take_at, get_or_at, length-append, map-append}
+use Rattle.std.proofs.lemmas.List.Elements.{Contains-append_left, Contains-push, Contains-push_cases}
 use Rattle.std.proofs.lemmas.Option.{slice_get-get_or, slice_get_within, get_or_from_slice_get}
 use Rattle.range_core.specs.declared.Mode.{Mode}
 use Rattle.range_core.specs.declared.Span.{Span}
-use Rattle.range_core.specs.Ranges.{Conflict, Covers, HeldConflicts, IsByteRange, IsRun}
-use Rattle.lock_book.specs.declared.Held.{Held}
+use Rattle.range_core.specs.declared.list.RangeList.{RangeList}
+use Rattle.range_core.specs.Ranges.{Conflict, Covers, HeldConflicts, IsByteRange, IsFirstHit, Modes}
 use Rattle.lock_book.specs.declared.Owner.{Owner}
 use Rattle.lock_book.specs.declared.Owner.TheVariants.{Description}
-use Rattle.lock_book.specs.Reports.{IsFileReport, AreByteLocks, AreFlockLocks, IsFlockLine}
-use Rattle.wait_core.specs.Blocking.{WaitsConflict, Meet}
+use Rattle.wait_core.specs.Blocking.{WaitsConflict}
 use Rattle.wait_core.specs.declared.Family.{Family}
 use Rattle.wait_core.specs.declared.Family.TheVariants.{Bytes, Whole}
 use Rattle.wait_core.specs.declared.Policy.{Policy}
+use Rattle.lock_server.specs.declared.FlockLock.{FlockLock}
+use Rattle.lock_server.specs.declared.Lock.{Lock}
 use Rattle.lock_server.specs.declared.Pending.{Pending}
-use Rattle.lock_server.specs.Blockers.{AddsOwners, HeldBlocks}
+use Rattle.lock_server.specs.declared.file.LockFile.{LockFile}
+use Rattle.lock_server.specs.Blockers.{AddsOwners, BlocksBefore, BlocksOn, IsFlockHolder}
 use Rattle.lock_server.specs.Deadlock.{BlocksByBytes, BlocksByFlock, BlocksIn, IsBlockedByOwner, WaitsForOn}
-use Rattle.lock_server.specs.Files.{FileState, by_owner}
-use Rattle.lock_server.specs.Pendings.{as_wait, is_of_whole}
-use Rattle.lock_server.proofs.GatheredOwnerLemmas.{Any-from_place, Any-place, IsGivenBefore, gathered_all}
+use Rattle.lock_server.specs.Files.{FileState}
+use Rattle.lock_server.specs.FileView.{file_state}
+use Rattle.lock_server.specs.Listing.{EndsBefore, IsFirstFrom, IsFlockLock, flock_place}
+use Rattle.lock_server.specs.Locks.{IsFirstLock, IsInTheWay}
+use Rattle.lock_server.specs.Pendings.{as_wait}
+use Rattle.lock_server.proofs.ExportLemmas.{HaveModes, description_same, list_there}
+use Rattle.lock_server.proofs.GatheredOwnerLemmas.{AddsOwners-as, AddsOwners-both, AddsOwners-push, AddsOwners-same, Any-from_place, Any-place, IsGivenBefore, gathered_all}
 use Rattle.lock_server.proofs.LeaveLemmas.{split_at}
 
 -- the earlier wait, of this owner, conflicts with the wait
-pub record IsInTheWay (wait earlier : Pending) (owner : ℕ) : Type 0 where
+pub record IsBeforeInTheWay (wait earlier : Pending) (owner : ℕ) : Type 0 where
   pub of_owner : earlier.owner ≡ owner
   pub conflict : WaitsConflict (as_wait earlier) (as_wait wait)
 
@@ -38,10 +48,10 @@ pub record IsStepAt (policy : Policy) (F : FileState) (one place : ℕ) (wait : 
 
 -- all earlier waits gave their owners
 pub all_in_the_way : (wait : Pending) (earlier : List Pending) (old new : List ℕ) (i : ℕ) → length earlier ≤ i
-    → AddsOwners old new (IsGivenBefore (λ place v owner. IsInTheWay wait v owner) earlier i)
+    → AddsOwners old new (IsGivenBefore (λ place v owner. IsBeforeInTheWay wait v owner) earlier i)
     → AddsOwners old new (λ owner. Any (λ v. (v.owner ≡ owner) × WaitsConflict (as_wait v) (as_wait wait)) earlier)
 all_in_the_way wait earlier old new i past adds =
-    gathered_all (λ place v owner. IsInTheWay wait v owner) earlier old new i (λ owner. Any (λ v. (v.owner ≡ owner) × WaitsConflict (as_wait v) (as_wait wait)) earlier) past
+    gathered_all (λ place v owner. IsBeforeInTheWay wait v owner) earlier old new i (λ owner. Any (λ v. (v.owner ≡ owner) × WaitsConflict (as_wait v) (as_wait wait)) earlier) past
     (λ owner place v at way. Any-from_place (λ (v : Pending). (v.owner ≡ owner) × WaitsConflict (as_wait v) (as_wait wait)) earlier place v at (way.of_owner, way.conflict))
     (λ owner any.
     let found = Any-place (λ (v : Pending). (v.owner ≡ owner) × WaitsConflict (as_wait v) (as_wait wait)) earlier any in
@@ -49,7 +59,7 @@ all_in_the_way wait earlier old new i past adds =
     adds
 
 -- a step at a place of the list is one of the file
-step_from_place : (policy : Policy) (F : FileState) (one other place : ℕ) (wait : Pending) → slice_get F.waits place ≡ Some wait
+pub step_from_place : (policy : Policy) (F : FileState) (one other place : ℕ) (wait : Pending) → slice_get F.waits place ≡ Some wait
     → IsStepAt policy F one place wait other → WaitsForOn policy F one other
 step_from_place policy F one other place wait at step = record {
   before = take place F.waits;
@@ -62,7 +72,7 @@ step_from_place policy F one other place wait at step = record {
 }
 
 -- and has one
-place_of_step : (policy : Policy) (F : FileState) (one other : ℕ) → WaitsForOn policy F one other
+pub place_of_step : (policy : Policy) (F : FileState) (one other : ℕ) → WaitsForOn policy F one other
     → (place : ℕ) × (wait : Pending) × (slice_get F.waits place ≡ Some wait) × IsStepAt policy F one place wait other
 place_of_step policy F one other step =
     let n = length step.before in
@@ -88,130 +98,321 @@ all_steps policy F one old new i past adds =
     gathered_all (IsStepAt policy F one) F.waits old new i (WaitsForOn policy F one) past
     (λ other place wait at step. step_from_place policy F one other place wait at step) (λ other step. place_of_step policy F one other step) adds
 
--- what is held conflicts: then something is held
-held_mode : (held : Option Mode) (wanted : Mode) → HeldConflicts held wanted → (mode : Mode) × (held ≡ Some mode) × Conflict mode wanted
-held_mode None wanted conflict = absurd conflict
-held_mode (Some mode) wanted conflict = (mode, refl, conflict)
+module _ (F : FileState) (owner : ℕ) (wanted : Mode) where
+  -- where nothing is in the way, no owner has a lock that conflicts
+  pub none_in_the_way : (span : Span) → ¬ IsInTheWay F owner span wanted → (other : ℕ) → ¬ BlocksOn F owner span wanted other
+  none_in_the_way span free other blocks = free (record {
+    byte = blocks.byte;
+    covered = blocks.covered;
+    other = Description other;
+    blocks = record { another = λ same. blocks.another (description_same other owner same); conflicts = blocks.conflicts };
+  })
 
--- two ranges that meet have a byte in common
-common_byte : (one other : Span) → one.first ≤ one.last → other.first ≤ other.last → one.first ≤ other.last → other.first ≤ one.last
-    → (byte : ℕ) × Covers one byte × Covers other byte
-common_byte one other some any early late = elim (cases_lt one.first other.first) [
-  | inl before ↦ (other.first, (omega arith, omega arith), (omega arith, omega arith))
-  | inr after ↦ (one.first, (omega arith, omega arith), (omega arith, omega arith))
-]
+  -- a run in the way on which no third owner has a lock that conflicts
+  module _ (span run : Span) (lock : Lock) (found : IsFirstLock F owner span wanted lock) (from : run.first ≡ max lock.span.first span.first)
+      (to : run.last ≡ min lock.span.last span.last) where
+    -- it has the first byte that is blocked
+    pub has_first : Covers run found.byte
+    has_first =
+        let inside = found.first.covered in
+        let held : Covers lock.span found.byte = found.run.covered in
+        (omega (arith, inside.0, held.0), omega (arith, inside.1, held.1))
 
--- an element of the first or the second list, by its place in both
-placed_left : {X : Type 0} (P : X → Type 0) (xs ys : List X) → Any P xs → (place : ℕ) × (x : X) × (slice_get (xs ++ ys) place ≡ Some x) × Contains xs x × P x
-placed_left {X} P xs ys (k, x, within, is, holds) =
-    let sum = length-append xs ys in
-    (k, x, slice_get-get_or (xs ++ ys) k x (omega arith) ∙ ap (λ (y : X). Some y) (get_or_append_left xs ys x k within ∙ is), (k, within, is), holds)
+    pub run_in_range : IsByteRange span → IsByteRange run
+    run_in_range range = (let has = has_first in omega (arith, has.0, has.1), (let end = range.1 in omega (arith, end)))
 
-placed_right : {X : Type 0} (P : X → Type 0) (xs ys : List X) → Any P ys → (place : ℕ) × (x : X) × (slice_get (xs ++ ys) place ≡ Some x) × Contains ys x × P x
-placed_right {X} P xs ys (k, x, within, is, holds) =
-    let sum = length-append xs ys in
-    (length xs + k, x, slice_get-get_or (xs ++ ys) (length xs + k) x (omega arith) ∙ ap (λ (y : X). Some y) (get_or-append-add xs ys k x ∙ is), (k, within, is), holds)
+    module _ (alone : ¬ IsInTheWay F lock.owner run wanted) (end : ℕ) (behind : end ≡ run.last + 1) where
+      -- before its end only its owner blocks
+      pub holder_alone : (other : ℕ) → BlocksBefore F owner span wanted end other → other ≡ lock.owner
+      holder_alone other blocks = elim (cases_eq other lock.owner) [
+        | inl same ↦ same
+        | inr differs ↦ elim (cases_lt blocks.byte found.byte) [
+          | inl before ↦
+              absurd (found.first.least_byte blocks.byte (Description other) blocks.covered.0 before
+              (record { another = λ same. blocks.another (description_same other owner same); conflicts = blocks.conflicts }))
+          | inr after ↦
+              (let has = has_first in
+              let before = blocks.before in
+              absurd (alone (record {
+                byte = blocks.byte;
+                covered = (omega (arith, after, has.0), omega (arith, before, behind));
+                other = Description other;
+                blocks = record { another = λ same. differs (description_same other lock.owner same); conflicts = blocks.conflicts };
+              })))
+        ]
+      ]
 
--- the line says a run of a byte lock
-abbrev IsByteLine : FileState → Held → Type 0
-IsByteLine F held = (held.file ≡ 0) × IsFalse held.whole × IsRun (by_owner F.bytes held.owner) held.span.first held.mode held.span
+      pub holder_blocks : BlocksBefore F owner span wanted end lock.owner
+      holder_blocks = record {
+        byte = found.byte;
+        covered = found.first.covered;
+        before = (let has = has_first in omega (arith, has.1, behind));
+        another = λ same. found.first.blocks.another (ap (λ (n : ℕ). Description n) same);
+        conflicts = found.first.blocks.conflicts;
+      }
 
--- a line of the report of the byte locks is a lock of them
-byte_line : (F : FileState) (bytes : List Held) (wait : Pending) (other : ℕ) → IsByteRange wait.span → AreByteLocks 0 (by_owner F.bytes) bytes → (held : Held)
-    → Contains bytes held → wait.family ≡ Bytes → HeldBlocks held wait other → BlocksByBytes F wait other
-byte_line F bytes wait other range are held among family blocks =
-    let line = All-contains (IsByteLine F) bytes held are.each among in
-    let meets : Meet Bytes held.span wait.span = subst (λ (f : Family). Meet f held.span wait.span) family blocks.meets in
-    let common = common_byte held.span wait.span line.2.covered.1 range.0 meets.0 meets.1 in
-    let mode : F.bytes other common.0 ≡ Some held.mode =
-    subst (λ (o : Owner). by_owner F.bytes o common.0 ≡ Some held.mode) blocks.owner (line.2.constant common.0 common.1) in
-    record {
-      byte = common.0;
-      covered = common.2;
+      pub holder_added : (old new : List ℕ) → new ≡ old ++ lock.owner ∷ [] → AddsOwners old new (BlocksBefore F owner span wanted end)
+      holder_added old new items = AddsOwners-push old new lock.owner (BlocksBefore F owner span wanted end) items holder_blocks holder_alone
+
+  -- what is before the end of the span is all
+  pub up_to_end : (span : Span) (end : ℕ) → span.last < end → (other : ℕ) → BlocksBefore F owner span wanted end other ↔ BlocksOn F owner span wanted other
+  up_to_end span end past other = (
+    λ blocks. record { byte = blocks.byte; covered = blocks.covered; another = blocks.another; conflicts = blocks.conflicts },
+    λ blocks. record {
+      byte = blocks.byte;
+      covered = blocks.covered;
+      before = (let within = blocks.covered.1 in omega (arith, within, past));
       another = blocks.another;
-      conflicts = subst (λ (m : Option Mode). HeldConflicts m wait.mode) (sym mode) blocks.conflicts;
-    }
+      conflicts = blocks.conflicts;
+    },
+  )
 
--- a line of the report of the flock locks is a lock of them
-flock_line : (F : FileState) (flocks : List Held) (wait : Pending) (other : ℕ) → AreFlockLocks 0 F.flocks flocks → (held : Held)
-    → Contains flocks held → HeldBlocks held wait other → BlocksByFlock F wait other
-flock_line F flocks wait other are held among blocks = grind (arith, common_steps, All-contains)
+  module _ (span rest : Span) (to : rest.last ≡ span.last) (from : span.first ≤ rest.first) (old mid new : List ℕ)
+      (before : AddsOwners old mid (BlocksBefore F owner span wanted rest.first)) where
+    -- a part of the rest more
+    pub holders_more : (next : ℕ) → rest.first < next → AddsOwners mid new (BlocksBefore F owner rest wanted next)
+        → AddsOwners old new (BlocksBefore F owner span wanted next)
+    holders_more next further adds =
+        AddsOwners-as old new (λ other. BlocksBefore F owner span wanted rest.first other ⊎ BlocksBefore F owner rest wanted next other)
+        (BlocksBefore F owner span wanted next) (λ other. (
+          λ either. elim either [
+            | inl early ↦ record {
+              byte = early.byte;
+              covered = early.covered;
+              before = (let b = early.before in omega (arith, b, further));
+              another = early.another;
+              conflicts = early.conflicts;
+            }
+            | inr late ↦ record {
+              byte = late.byte;
+              covered = (let c = late.covered in (omega (arith, c.0, from), omega (arith, c.1, to)));
+              before = late.before;
+              another = late.another;
+              conflicts = late.conflicts;
+            }
+          ],
+          λ blocks. elim (cases_lt blocks.byte rest.first) [
+            | inl early ↦ inl (record { byte = blocks.byte; covered = blocks.covered; before = early; another = blocks.another; conflicts = blocks.conflicts })
+            | inr late ↦ inr (record {
+              byte = blocks.byte;
+              covered = (late, (let c = blocks.covered in omega (arith, c.1, to)));
+              before = blocks.before;
+              another = blocks.another;
+              conflicts = blocks.conflicts;
+            })
+          ],
+        )) (AddsOwners-both old mid new (BlocksBefore F owner span wanted rest.first) (BlocksBefore F owner rest wanted next) before adds)
 
-module _ (F : FileState) (report : List Held) (wait : Pending) (range : IsByteRange wait.span) (says : IsFileReport 0 (by_owner F.bytes) F.flocks report) where
-  -- a line that blocks the wait is a lock that does
-  line_blocks : (other : ℕ) (held : Held) → Contains report held → HeldBlocks held wait other → (family : Family) → wait.family ≡ family
-      → BlocksIn family F wait other
-  line_blocks other held among blocks Bytes family =
-      elim (Contains-append_cases says.byte_locks says.flock_locks held (subst (λ (r : List Held). Contains r held) says.is among)) [
-        | inl byte ↦ byte_line F says.byte_locks wait other range says.are_bytes held byte family blocks
-        | inr flock ↦
-            absurd (let line : IsFlockLine 0 F.flocks held = All-contains (IsFlockLine 0 F.flocks) says.flock_locks held says.are_flocks.each flock in
-            let no : held.whole ≡ false = blocks.family ∙ ap is_of_whole family in
-            let h : false ≡ true = sym no ∙ line.whole in cc)
-      ]
-  line_blocks other held among blocks Whole family =
-      elim (Contains-append_cases says.byte_locks says.flock_locks held (subst (λ (r : List Held). Contains r held) says.is among)) [
-        | inl byte ↦
-            absurd (let line = All-contains (IsByteLine F) says.byte_locks held says.are_bytes.each byte in
-            let no : held.whole ≡ false = line.1 in
-            let yes : held.whole ≡ true = blocks.family ∙ ap is_of_whole family in
-            let h : false ≡ true = sym no ∙ yes in cc)
-        | inr flock ↦ flock_line F says.flock_locks wait other says.are_flocks held flock blocks
-      ]
+    -- the rest as a whole
+    pub holders_rest : rest.first ≤ rest.last → AddsOwners mid new (BlocksOn F owner rest wanted) → AddsOwners old new (BlocksOn F owner span wanted)
+    holders_rest any adds =
+        let end : ℕ = rest.last + 1 in
+        AddsOwners-as old new (BlocksBefore F owner span wanted end) (BlocksOn F owner span wanted) (up_to_end span end (omega (arith, to)))
+        (holders_more end (omega (arith, any))
+        (AddsOwners-as mid new (BlocksOn F owner rest wanted) (BlocksBefore F owner rest wanted end)
+        (λ other. (let both = up_to_end rest end (omega arith) other in (both.1, both.0))) adds))
 
-  -- a lock that blocks the wait has a line
-  byte_lock_line : (other : ℕ) → wait.family ≡ Bytes → BlocksByBytes F wait other
-      → (place : ℕ) × (held : Held) × (slice_get report place ≡ Some held) × HeldBlocks held wait other
-  byte_lock_line other family blocks =
-      let mode = held_mode (F.bytes other blocks.byte) wait.mode blocks.conflicts in
-      let line = placed_left (λ (x : Held). (x.owner ≡ Description other) × (x.mode ≡ mode.0) × Covers x.span blocks.byte) says.byte_locks says.flock_locks
-      (says.are_bytes.every (Description other) blocks.byte mode.0 mode.1) in
-      let held : Held = line.1 in
-      let facts = All-contains (IsByteLine F) says.byte_locks held says.are_bytes.each line.3 in
-      let covers : Covers held.span blocks.byte = line.4.2 in
-      let asked : Covers wait.span blocks.byte = blocks.covered in (
-        line.0,
-        held,
-        subst (λ (r : List Held). slice_get r line.0 ≡ Some held) (sym says.is) line.2,
-        record {
-          owner = line.4.0;
-          another = blocks.another;
-          family = facts.1 ∙ sym (ap is_of_whole family);
-          conflicts = subst (λ (m : Mode). Conflict m wait.mode) (sym line.4.1) mode.2;
-          meets = subst (λ (f : Family). Meet f held.span wait.span) (sym family) (omega arith, omega arith);
-        },
-      )
+-- what is said where nothing was found
+pub none_found : {X : Type 0} (found : Option X) (P : Type 0) → is_some found ≡ false → IfNone found P → P
+none_found None P is holds = holds
+none_found (Some x) P is holds = let h : true ≡ false = is in cc
 
-  flock_lock_line : (other : ℕ) → wait.family ≡ Whole → BlocksByFlock F wait other
-      → (place : ℕ) × (held : Held) × (slice_get report place ≡ Some held) × HeldBlocks held wait other
-  flock_lock_line other family blocks =
-      let mode = held_mode (F.flocks other) wait.mode blocks.conflicts in
-      let line = placed_right (λ (x : Held). (x.owner ≡ Description other) × (x.mode ≡ mode.0)) says.byte_locks says.flock_locks
-      (says.are_flocks.every other mode.0 mode.1) in
-      let held : Held = line.1 in
-      let facts : IsFlockLine 0 F.flocks held = All-contains (IsFlockLine 0 F.flocks) says.flock_locks held says.are_flocks.each line.3 in (
-        line.0,
-        held,
-        subst (λ (r : List Held). slice_get r line.0 ≡ Some held) (sym says.is) line.2,
-        record {
-          owner = line.4.0;
-          another = blocks.another;
-          family = facts.whole ∙ sym (ap is_of_whole family);
-          conflicts = subst (λ (m : Mode). Conflict m wait.mode) (sym line.4.1) mode.2;
-          meets = subst (λ (f : Family). Meet f held.span wait.span) (sym family) tt;
-        },
-      )
+-- no byte is before the first
+pub none_before : (F : FileState) (owner : ℕ) (span : Span) (wanted : Mode) (other : ℕ) → ¬ BlocksBefore F owner span wanted span.first other
+none_before F owner span wanted other blocks = let from = blocks.covered.0 in let early = blocks.before in omega (arith, from, early)
 
-  lock_line : (other : ℕ) (family : Family) → wait.family ≡ family → BlocksIn family F wait other
-      → (place : ℕ) × (held : Held) × (slice_get report place ≡ Some held) × HeldBlocks held wait other
-  lock_line other Bytes is blocks = byte_lock_line other is blocks
-  lock_line other Whole is blocks = flock_lock_line other is blocks
+-- what is held on the bytes of a wait, said of the wait
+blocks_by_bytes : (F : FileState) (wait : Pending) (other : ℕ) → BlocksOn F wait.owner wait.span wait.mode other ↔ BlocksByBytes F wait other
+blocks_by_bytes F wait other = (
+  λ b. record { byte = b.byte; covered = b.covered; another = b.another; conflicts = b.conflicts },
+  λ b. record { byte = b.byte; covered = b.covered; another = b.another; conflicts = b.conflicts },
+)
 
-  -- all lines gave the owners that block the wait
-  pub all_lines : (old new : List ℕ) (i : ℕ) → length report ≤ i
-      → AddsOwners old new (IsGivenBefore (λ place held other. HeldBlocks held wait other) report i) → AddsOwners old new (BlocksIn wait.family F wait)
-  all_lines old new i past adds =
-      gathered_all (λ place held other. HeldBlocks held wait other) report old new i (BlocksIn wait.family F wait) past
-      (λ other place held at blocks.
-      line_blocks other held (place, slice_get_within report place held at, get_or_from_slice_get report place held held at) blocks wait.family refl)
-      (λ other blocks. lock_line other wait.family refl blocks) adds
+blocks_by_flock : (F : FileState) (wait : Pending) (other : ℕ) → IsFlockHolder F wait.owner wait.mode other ↔ BlocksByFlock F wait other
+blocks_by_flock F wait other = (
+  λ b. record { another = b.another; conflicts = b.conflicts },
+  λ b. record { another = b.another; conflicts = b.conflicts },
+)
+
+-- of a wait, by its family
+pub by_bytes : (F : FileState) (wait : Pending) → wait.family ≡ Bytes → (other : ℕ)
+    → BlocksOn F wait.owner wait.span wait.mode other ↔ BlocksIn wait.family F wait other
+by_bytes F wait is other = subst (λ (f : Family). BlocksOn F wait.owner wait.span wait.mode other ↔ BlocksIn f F wait other) (sym is) (blocks_by_bytes F wait other)
+
+pub by_flock : (F : FileState) (wait : Pending) → wait.family ≡ Whole → (other : ℕ)
+    → IsFlockHolder F wait.owner wait.mode other ↔ BlocksIn wait.family F wait other
+by_flock F wait is other = subst (λ (f : Family). IsFlockHolder F wait.owner wait.mode other ↔ BlocksIn f F wait other) (sym is) (blocks_by_flock F wait other)
+
+-- of the lists so far the owner is one that blocks
+pub record IsListedHolder (F : FileState) (owner : ℕ) (span : Span) (wanted : Mode) (entries : List (Bor Owner × Bor RangeList)) (other : ℕ) : Type 0 where
+  pub listed : Contains (map (λ e. e.0.now) entries) (Description other)
+  pub blocks : BlocksOn F owner span wanted other
+
+module _ (F : FileState) (owner : ℕ) (span : Span) (wanted : Mode) (entries : List (Bor Owner × Bor RangeList)) (entry : Bor Owner × Bor RangeList) where
+  abbrev Keys : List (Bor Owner × Bor RangeList) → List Owner
+  Keys es = map (λ e. e.0.now) es
+
+  one_more : Keys (entries ++ entry ∷ []) ≡ Keys entries ++ entry.0.now ∷ []
+  one_more = map-append (λ (e : Bor Owner × Bor RangeList). e.0.now) entries (entry ∷ [])
+
+  -- one list more, of an owner that blocks just where it is added
+  pub listed_more : (old mid new : List ℕ) → AddsOwners old mid (IsListedHolder F owner span wanted entries)
+      → AddsOwners mid new (λ other. (entry.0.now ≡ Description other) × BlocksOn F owner span wanted other)
+      → AddsOwners old new (IsListedHolder F owner span wanted (entries ++ entry ∷ []))
+  listed_more old mid new so_far adds =
+      AddsOwners-as old new
+      (λ other. IsListedHolder F owner span wanted entries other ⊎ ((entry.0.now ≡ Description other) × BlocksOn F owner span wanted other))
+      (IsListedHolder F owner span wanted (entries ++ entry ∷ []))
+      (λ other. (
+        λ either. elim either [
+          | inl before ↦ record {
+            listed = subst (λ (ks : List Owner). Contains ks (Description other)) (sym one_more) (Contains-append_left (Keys entries) (entry.0.now ∷ []) (Description other) before.listed);
+            blocks = before.blocks;
+          }
+          | inr here ↦ record {
+            listed = subst (λ (ks : List Owner). Contains ks (Description other)) (sym one_more)
+                (subst (λ (o : Owner). Contains (Keys entries ++ entry.0.now ∷ []) o) here.0 (Contains-push (Keys entries) entry.0.now));
+            blocks = here.1;
+          }
+        ],
+        λ listed. elim (Contains-push_cases (Keys entries) entry.0.now (Description other) (subst (λ (ks : List Owner). Contains ks (Description other)) one_more listed.listed)) [
+          | inl before ↦ inl (record { listed = before; blocks = listed.blocks })
+          | inr is ↦ inr (is, listed.blocks)
+        ],
+      ))
+      (AddsOwners-both old mid new (IsListedHolder F owner span wanted entries)
+      (λ other. (entry.0.now ≡ Description other) × BlocksOn F owner span wanted other) so_far adds)
+
+  -- a list on which no byte of the span conflicts, or of the owner itself, or of a process
+  pub listed_skip : (old mid : List ℕ) → AddsOwners old mid (IsListedHolder F owner span wanted entries)
+      → ((other : ℕ) → entry.0.now ≡ Description other → ¬ BlocksOn F owner span wanted other)
+      → AddsOwners old mid (IsListedHolder F owner span wanted (entries ++ entry ∷ []))
+  listed_skip old mid so_far none =
+      listed_more old mid mid so_far
+      (AddsOwners-same mid (λ other. (entry.0.now ≡ Description other) × BlocksOn F owner span wanted other) (λ other here. none other here.0 here.1))
+
+  pub listed_push : (old mid new : List ℕ) (number : ℕ) → AddsOwners old mid (IsListedHolder F owner span wanted entries)
+      → entry.0.now ≡ Description number → new ≡ mid ++ number ∷ [] → BlocksOn F owner span wanted number
+      → AddsOwners old new (IsListedHolder F owner span wanted (entries ++ entry ∷ []))
+  listed_push old mid new number so_far is items blocks =
+      listed_more old mid new so_far
+      (AddsOwners-push mid new number (λ other. (entry.0.now ≡ Description other) × BlocksOn F owner span wanted other) items (is, blocks)
+      (λ other here. description_same other number (sym here.0 ∙ is)))
+
+-- all lists were looked at
+keys_shown : (entries : List (Bor Owner × Bor RangeList)) → map (λ e. e.0.now) entries ≡ keys_of (map deref_pair entries)
+keys_shown [] = refl
+keys_shown (entry ∷ entries) = ap (λ (l : List Owner). entry.0.now ∷ l) (keys_shown entries)
+
+held_mode : (held : Option Mode) (wanted : Mode) → HeldConflicts held wanted → (mode : Mode) × (held ≡ Some mode)
+held_mode None wanted conflict = absurd conflict
+held_mode (Some mode) wanted conflict = (mode, refl)
+
+-- a list with a byte that conflicts, and one without
+pub hit_blocks : (F : FileState) (owner : ℕ) (span : Span) (wanted : Mode) (other : ℕ) (modes : Modes) (found : Option ℕ) → is_some found ≡ true
+    → IfSome found (IsFirstHit modes span wanted) → ((byte : ℕ) → modes byte ≡ F.bytes other byte) → other ≢ owner → BlocksOn F owner span wanted other
+hit_blocks F owner span wanted other modes None is hit same another = let h : false ≡ true = is in cc
+hit_blocks F owner span wanted other modes (Some byte) is hit same another = record {
+  byte = byte;
+  covered = hit.covered;
+  another = another;
+  conflicts = subst (λ (held : Option Mode). HeldConflicts held wanted) (same byte) hit.hit;
+}
+
+pub no_hit : (F : FileState) (owner : ℕ) (span : Span) (wanted : Mode) (other : ℕ) (modes : Modes) (found : Option ℕ) → is_some found ≡ false
+    → IfNone found ((byte : ℕ) → Covers span byte → ¬ HeldConflicts (modes byte) wanted) → ((byte : ℕ) → modes byte ≡ F.bytes other byte)
+    → ¬ BlocksOn F owner span wanted other
+no_hit F owner span wanted other modes (Some byte) is none same blocks = let h : true ≡ false = is in cc
+no_hit F owner span wanted other modes None is none same blocks =
+    none blocks.byte blocks.covered (subst (λ (held : Option Mode). HeldConflicts held wanted) (sym (same blocks.byte)) blocks.conflicts)
+
+pub listed_all : (file : LockFile) (owner : ℕ) (span : Span) (wanted : Mode) (lists : BTreeMap Owner RangeList) (entries : List (Bor Owner × Bor RangeList))
+    (old new : List ℕ) → HaveModes file.book lists → map deref_pair entries ≡ lists.entries
+    → AddsOwners old new (IsListedHolder (file_state file) owner span wanted entries) → AddsOwners old new (BlocksOn (file_state file) owner span wanted)
+unfolding file_state
+listed_all file owner span wanted lists entries old new have whole adds =
+    let F : FileState = file_state file in
+    AddsOwners-as old new (IsListedHolder F owner span wanted entries) (BlocksOn F owner span wanted)
+    (λ other. (
+      λ listed. listed.blocks,
+      λ blocks.
+          let held = held_mode (F.bytes other blocks.byte) wanted blocks.conflicts in
+          record {
+            listed = subst (λ (ks : List Owner). Contains ks (Description other)) (sym (keys_shown entries ∙ ap (λ (l : List (Owner × RangeList)). keys_of l) whole))
+                (list_there file.book lists (Description other) have blocks.byte held.0 held.1);
+            blocks = blocks;
+          },
+    )) adds
+
+-- the flock locks of lesser owners gave those that block
+pub record IsFlockHolderBelow (F : FileState) (owner : ℕ) (wanted : Mode) (end other : ℕ) : Type 0 where
+  pub below : other < end
+  pub holds : IsFlockHolder F owner wanted other
+
+module _ (F : FileState) (owner : ℕ) (wanted : Mode) (old mid new : List ℕ) (end : ℕ) (so_far : AddsOwners old mid (IsFlockHolderBelow F owner wanted end)) where
+  -- the next lock is of an owner that blocks just where it is added
+  pub flocks_more : (lock : FlockLock) → IsFirstFrom flock_place (IsFlockLock F) (end ∷ []) lock
+      → AddsOwners mid new (λ other. (other ≡ lock.owner) × IsFlockHolder F owner wanted other)
+      → AddsOwners old new (IsFlockHolderBelow F owner wanted (lock.owner + 1))
+  flocks_more lock found adds =
+      let from : end ≤ lock.owner = elim (cases_lt lock.owner end) [ inl before ↦ absurd (found.from_there (inl before)) | inr from ↦ from ] in
+      AddsOwners-as old new (λ other. IsFlockHolderBelow F owner wanted end other ⊎ ((other ≡ lock.owner) × IsFlockHolder F owner wanted other))
+      (IsFlockHolderBelow F owner wanted (lock.owner + 1))
+      (λ other. (
+        λ either. elim either [
+          | inl before ↦ record { below = (let b = before.below in omega (arith, b, from)); holds = before.holds }
+          | inr here ↦ record { below = (let same = here.0 in omega (arith, same)); holds = here.1 }
+        ],
+        λ holder. elim (cases_lt other end) [
+          | inl before ↦ inl (record { below = before; holds = holder.holds })
+          | inr behind ↦ elim (cases_lt other lock.owner) [
+            | inl between ↦
+                (let held = held_mode (F.flocks other) wanted holder.holds.conflicts in
+                let early = found.first (record { owner = other; mode = held.0 }) held.1 (inl between) in
+                elim early [
+                  | inl before ↦ absurd (omega (arith, before, behind))
+                  | inr (same, none) ↦ absurd none
+                ])
+            | inr past ↦ inr ((let b = holder.below in omega (arith, b, past)), holder.holds)
+          ]
+        ],
+      ))
+      (AddsOwners-both old mid new (IsFlockHolderBelow F owner wanted end) (λ other. (other ≡ lock.owner) × IsFlockHolder F owner wanted other) so_far adds)
+
+  -- it blocks
+  pub flock_pushed : (lock : FlockLock) → IsFirstFrom flock_place (IsFlockLock F) (end ∷ []) lock → lock.owner ≢ owner → Conflict lock.mode wanted
+      → new ≡ mid ++ lock.owner ∷ [] → AddsOwners old new (IsFlockHolderBelow F owner wanted (lock.owner + 1))
+  flock_pushed lock found another conflicts items =
+      flocks_more lock found
+      (AddsOwners-push mid new lock.owner (λ other. (other ≡ lock.owner) × IsFlockHolder F owner wanted other) items
+      (refl, record { another = another; conflicts = subst (λ (held : Option Mode). HeldConflicts held wanted) (sym found.listed) conflicts })
+      (λ other here. here.0))
+
+  -- it doesn't
+  pub flock_skipped : (lock : FlockLock) → IsFirstFrom flock_place (IsFlockLock F) (end ∷ []) lock → new ≡ mid
+      → (lock.owner ≡ owner) ⊎ (¬ Conflict lock.mode wanted) → AddsOwners old new (IsFlockHolderBelow F owner wanted (lock.owner + 1))
+  flock_skipped lock found same not =
+      flocks_more lock found
+      (subst (λ (l : List ℕ). AddsOwners mid l (λ other. (other ≡ lock.owner) × IsFlockHolder F owner wanted other)) (sym same)
+      (AddsOwners-same mid (λ other. (other ≡ lock.owner) × IsFlockHolder F owner wanted other)
+      (λ other here. elim not [
+        | inl own ↦ here.1.another (here.0 ∙ own)
+        | inr apart ↦
+            apart (subst (λ (held : Option Mode). HeldConflicts held wanted)
+            (subst (λ (n : ℕ). F.flocks n ≡ Some lock.mode) (sym here.0) found.listed) here.1.conflicts)
+      ])))
+
+-- there is none behind
+pub flocks_all : (F : FileState) (owner : ℕ) (wanted : Mode) (old new : List ℕ) (end : ℕ) → EndsBefore flock_place (IsFlockLock F) (end ∷ [])
+    → AddsOwners old new (IsFlockHolderBelow F owner wanted end) → AddsOwners old new (IsFlockHolder F owner wanted)
+flocks_all F owner wanted old new end ends adds =
+    AddsOwners-as old new (IsFlockHolderBelow F owner wanted end) (IsFlockHolder F owner wanted)
+    (λ other. (
+      λ below. below.holds,
+      λ holds. record {
+        below =
+            (let held = held_mode (F.flocks other) wanted holds.conflicts in
+            elim (ends.earlier (record { owner = other; mode = held.0 }) held.1) [ inl before ↦ before | inr (same, none) ↦ absurd none ]);
+        holds = holds;
+      },
+    )) adds

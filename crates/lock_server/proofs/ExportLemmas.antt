@@ -287,7 +287,7 @@ modes_there book lists owner list have there byte =
     sym (lookup_agree (is_at (owner_cmp owner)) (is_same_owner owner) (owner_at owner) lists.entries) ∙ there in
     ap (λ (o : Option RangeList). modes_in_list o byte) (sym found) ∙ have owner byte
 
-list_there : (book : Book) (lists : BTreeMap Owner RangeList) (owner : Owner) → HaveModes book lists → (byte : ℕ) (mode : Mode)
+pub list_there : (book : Book) (lists : BTreeMap Owner RangeList) (owner : Owner) → HaveModes book lists → (byte : ℕ) (mode : Mode)
     → byte_modes_of book owner byte ≡ Some mode → Contains (keys_of lists.entries) owner
 list_there book lists owner have byte mode has =
     there (lookup (is_same_owner owner) lists.entries) refl (have owner byte ∙ has)
@@ -303,7 +303,7 @@ pub record IsLockPiece (F : FileState) (locks : Owner × List Lock) : Type 0 whe
   pub piece : IsPiece (λ (lock : Lock). Description lock.owner) lock_place (IsByteLock F) locks
   pub all : (owner : ℕ) → locks.0 ≡ Description owner → AreAllOf F owner locks.1
 
-description_same : (a b : ℕ) → Description a ≡ Description b → a ≡ b
+pub description_same : (a b : ℕ) → Description a ≡ Description b → a ≡ b
 description_same a b same = cc
 
 pub owner_piece : (F : FileState) (owner : ℕ) (locks : List Lock) → AreLocksOf F owner locks → IsLockPiece F (Description owner, locks)

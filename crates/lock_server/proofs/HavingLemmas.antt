@@ -1,9 +1,11 @@
--- What an owner has on each byte of a range, run by run: for `has_throughout`.
-use Rattle.std.proofs.Common.{arith, ℕ, ◌≡◌, ◌+◌, ◌<◌, ◌≤◌, inl, inr, sym, subst, Option, Some, None}
+-- What an owner has on each byte of a range, run by run: for `first_lacking`.
+use Rattle.std.proofs.Common.{arith, ℕ, ◌≡◌, ◌+◌, ◌<◌, ◌≤◌, ◌∙◌, inl, inr, sym, subst, Bool, true, false, Option, Some, None}
+use Rattle.std.specs.Prelude.{◌↔◌, IfNone, IfSome, IsTrue, is_none}
 use Rattle.std.proofs.lemmas.Bool.{cases_lt}
 use Rattle.range_core.specs.declared.Mode.{Mode}
 use Rattle.range_core.specs.declared.Span.{Span}
 use Rattle.range_core.specs.Ranges.{Covers, IsRun, Modes}
+use Rattle.lock_server.specs.Lacking.{IsFirstLacking}
 use Rattle.lock_server.specs.Settling.{IsAtLeast}
 
 -- on each byte of the range before this one there is at least the wanted mode
@@ -33,12 +35,29 @@ module _ (modes : Modes) (span : Span) (wanted : Mode) (first : ℕ) (held : Mod
     before = λ byte from less. in_run enough byte from (omega arith);
   }
 
-  -- a run of too little is of too little at its first byte
-  pub lacks_run : ¬ IsAtLeast (Some held) wanted → ¬ ((byte : ℕ) → Covers span byte → IsAtLeast (modes byte) wanted)
-  lacks_run little all =
-      little (subst (λ (mode : Option Mode). IsAtLeast mode wanted) (is_run.constant first is_run.covered) (all first (so_far.from, so_far.to)))
+  -- a run of too little is so at its first byte
+  pub lacks_run : ¬ IsAtLeast (Some held) wanted → IsFirstLacking modes span wanted first
+  lacks_run little = record {
+    covered = (so_far.from, so_far.to);
+    lacks = λ least. little (subst (λ (mode : Option Mode). IsAtLeast mode wanted) (is_run.constant first is_run.covered) least);
+    before = so_far.before;
+  }
 
 -- and so is a byte without any
 pub lacks_byte : (modes : Modes) (span : Span) (wanted : Mode) (first : ℕ) → HasBelow modes span wanted first → modes first ≡ None
-    → ¬ ((byte : ℕ) → Covers span byte → IsAtLeast (modes byte) wanted)
-lacks_byte modes span wanted first so_far none all = subst (λ (mode : Option Mode). IsAtLeast mode wanted) none (all first (so_far.from, so_far.to))
+    → IsFirstLacking modes span wanted first
+lacks_byte modes span wanted first so_far none = record {
+  covered = (so_far.from, so_far.to);
+  lacks = λ least. subst (λ (mode : Option Mode). IsAtLeast mode wanted) none least;
+  before = so_far.before;
+}
+
+-- where no byte lacks the mode, there is at least the mode on each
+pub none_lacking : (modes : Modes) (span : Span) (wanted : Mode) (found : Option ℕ) (answer : Bool) → answer ≡ is_none found
+    → IfSome found (IsFirstLacking modes span wanted) → IfNone found ((byte : ℕ) → Covers span byte → IsAtLeast (modes byte) wanted)
+    → IsTrue answer ↔ ((byte : ℕ) → Covers span byte → IsAtLeast (modes byte) wanted)
+none_lacking modes span wanted None answer is some none = (λ yes. none, λ all. is)
+none_lacking modes span wanted (Some first) answer is some none = (
+  λ yes. absurd (let h : true ≡ false = sym yes ∙ is in cc),
+  λ all. absurd (some.lacks (all first some.covered)),
+)

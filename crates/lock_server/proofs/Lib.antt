@@ -16,6 +16,8 @@ pub mod RestoringLemmas
 pub mod ImportLemmas
 pub mod BlockerLemmas
 pub mod ReachedLemmas
+pub mod FollowLemmas
+pub mod LookedLemmas
 pub mod ReadyLemmas
 pub mod HavingLemmas
 pub mod ForgetLemmas

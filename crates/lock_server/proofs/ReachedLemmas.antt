@@ -5,7 +5,7 @@ use Rattle.std.specs.Prelude.{◌↔◌, ◌&&◌, not, IsTrue, slice_get}
 use Rattle.std.specs.List.{list_any}
 use Rattle.std.proofs.lemmas.Bool.{cases_lt, cases_eq, eqb-true, eq-eqb, ne_eqb}
 use Rattle.std.proofs.lemmas.List.{append_assoc, length-append}
-use Rattle.std.proofs.lemmas.List.Elements.{Contains-append_left, Contains-push, Contains-push_cases}
+use Rattle.std.proofs.lemmas.List.Elements.{Contains-append_left, Contains-append_cases, Contains-push, Contains-push_cases}
 use Rattle.std.proofs.lemmas.List.Sums.{sum_by-cons}
 use Rattle.std.proofs.lemmas.Map.Views.{Contains-from_any}
 use Rattle.std.proofs.lemmas.Option.{same_Some, slice_get-get_or, slice_get_cases, slice_get_within, get_or_from_slice_get}
@@ -32,7 +32,7 @@ use Rattle.lock_server.proofs.LeaveLemmas.{counted_with}
 pub record IsAddedBefore (waiters : Waiters) (target : ℕ) (owners old new : List ℕ) (n : ℕ) : Type 0 where
   pub more : List ℕ
   pub is : new ≡ old ++ more
-  pub only : (other : ℕ) → Contains more other → Contains owners other
+  pub only : (other : ℕ) → Contains more other → Contains owners other × IsGoingOn waiters target other
   pub all : (other place : ℕ) → place < n → slice_get owners place ≡ Some other → IsGoingOn waiters target other → Contains new other
 
 module _ (waiters : Waiters) (target : ℕ) (owners old : List ℕ) where
@@ -54,9 +54,9 @@ module _ (waiters : Waiters) (target : ℕ) (owners old : List ℕ) where
   }
 
   -- this one is put behind
-  pub added_push : (new after : List ℕ) (i owner : ℕ) → slice_get owners i ≡ Some owner → after ≡ new ++ owner ∷ []
+  pub added_push : (new after : List ℕ) (i owner : ℕ) → slice_get owners i ≡ Some owner → after ≡ new ++ owner ∷ [] → IsGoingOn waiters target owner
       → IsAddedBefore waiters target owners old new i → IsAddedBefore waiters target owners old after (i + 1)
-  added_push new after i owner at items before =
+  added_push new after i owner at items going before =
       let among : Contains owners owner = (i, slice_get_within owners i owner at, get_or_from_slice_get owners i owner owner at) in
       added_skip after i owner at
       (record {
@@ -64,27 +64,35 @@ module _ (waiters : Waiters) (target : ℕ) (owners old : List ℕ) where
         is = items ∙ ap (λ (l : List ℕ). l ++ owner ∷ []) before.is ∙ append_assoc old before.more (owner ∷ []);
         only = λ other h. elim (Contains-push_cases before.more owner other h) [
           | inl early ↦ before.only other early
-          | inr is ↦ subst (λ (n : ℕ). Contains owners n) is among
+          | inr is ↦ subst (λ (n : ℕ). Contains owners n × IsGoingOn waiters target n) is (among, going)
         ];
         all = λ other place early is goes. rw items (Contains-append_left new (owner ∷ []) other (before.all other place early is goes));
       })
       (λ goes. rw items (Contains-push new owner))
 
   -- this one is put behind, or is there
-  pub added_once : (new after : List ℕ) (i owner : ℕ) → slice_get owners i ≡ Some owner → AddsOnce new after owner
+  pub added_once : (new after : List ℕ) (i owner : ℕ) → slice_get owners i ≡ Some owner → AddsOnce new after owner → IsGoingOn waiters target owner
       → IsAddedBefore waiters target owners old new i → IsAddedBefore waiters target owners old after (i + 1)
-  added_once new after i owner at (inl items) before = added_push new after i owner at items before
-  added_once new after i owner at (inr there) before =
+  added_once new after i owner at (inl items) going before = added_push new after i owner at items going before
+  added_once new after i owner at (inr there) going before =
       subst (λ (xs : List ℕ). IsAddedBefore waiters target owners old xs (i + 1)) (sym there.0) (added_skip new i owner at before (λ goes. there.1))
 
   -- all were looked at
-  pub added_all : (new : List ℕ) (i : ℕ) → length owners ≤ i → IsAddedBefore waiters target owners old new i → AddsGoingOn waiters target owners old new
+  pub added_all : (new : List ℕ) (i : ℕ) → length owners ≤ i → IsAddedBefore waiters target owners old new i
+      → AddsGoingOn waiters target (Contains owners) old new
   added_all new i past before = record {
     more = before.more;
     is = before.is;
-    only = before.only;
-    all = λ other among goes.
-        before.all other among.0 (let within = among.1 in omega arith) (slice_get-get_or owners among.0 other among.1 ∙ ap (λ (n : ℕ). Some n) among.2) goes;
+    adds = record {
+      kept = λ other among. subst (λ (l : List ℕ). Contains l other) (sym before.is) (Contains-append_left old before.more other among);
+      added = λ other here.
+          before.all other here.0.0 (let within = here.0.1 in omega arith)
+          (slice_get-get_or owners here.0.0 other here.0.1 ∙ ap (λ (n : ℕ). Some n) here.0.2) here.1;
+      only = λ other among. elim (Contains-append_cases old before.more other (subst (λ (l : List ℕ). Contains l other) before.is among)) [
+        | inl early ↦ inl early
+        | inr new ↦ inr (before.only other new)
+      ];
+    };
   }
 
 -- an owner that isn't new was known, and who is known is among those that were reached
@@ -120,7 +128,7 @@ times_place file (other ∷ files) some = elim (cases_eq other file) [
 ]
 
 -- an owner that waits on the file has it among its files
-file_of_step : (policy : Policy) (files : BTreeMap ℕ LockFile) (tickets : Tickets) (waiters : Waiters) → IsIndexed files tickets waiters
+pub file_of_step : (policy : Policy) (files : BTreeMap ℕ LockFile) (tickets : Tickets) (waiters : Waiters) → IsIndexed files tickets waiters
     → (owner file other : ℕ)
     → WaitsForOn policy (state_in files file) owner other → Contains (files_of waiters owner) file
 file_of_step policy files tickets waiters known owner file other step =
@@ -178,7 +186,7 @@ another_blocks policy F earlier wait other h = grind (arith, common_steps, block
 -- some owner that was reached from those that block the wait leads to its own, just where the wait closes a cycle
 pub closes_cycle : (table : Table) (file : ℕ) (wanted : Pending) (blockers reached : List ℕ) (answer : Bool)
     → AddsOwners [] blockers (IsBlockedByOwner (table_policy table) ((table_state table).files file) ((table_state table).files file).waits wanted)
-    → AddsGoingOn table.waiters wanted.owner blockers [] reached
+    → AddsGoingOn table.waiters wanted.owner (Contains blockers) [] reached
     → IsTrue answer ↔ SomeLeadsTo (table_policy table) (table_state table) reached wanted.owner
     → IsTrue answer ↔ ClosesCycle (table_policy table) (table_state table) file wanted
 closes_cycle table file wanted blockers reached answer adds going says = (
@@ -189,9 +197,12 @@ closes_cycle table file wanted blockers reached answer adds going says = (
     nothing : (other : ℕ) → ¬ Contains [] other
     nothing other among = let within : among.0 < 0 = among.1 in omega arith
 
+    among : (some : SomeLeadsTo (table_policy table) (table_state table) reached wanted.owner) → Contains blockers some.owner
+    among some = elim (going.adds.only some.owner some.among) [ inl none ↦ absurd (nothing some.owner none) | inr here ↦ here.0 ]
+
     to_cycle : SomeLeadsTo (table_policy table) (table_state table) reached wanted.owner → ClosesCycle (table_policy table) (table_state table) file wanted
     to_cycle some =
-        let blocked : IsBlockedByOwner (table_policy table) ((table_state table).files file) ((table_state table).files file).waits wanted some.owner = elim (adds.only some.owner (going.only some.owner (subst (λ (l : List ℕ). Contains l some.owner) going.is some.among))) [
+        let blocked : IsBlockedByOwner (table_policy table) ((table_state table).files file) ((table_state table).files file).waits wanted some.owner = elim (adds.only some.owner (among some)) [
           | inl none ↦ absurd (nothing some.owner none)
           | inr blocks ↦ blocks
         ] in
@@ -203,4 +214,4 @@ closes_cycle table file wanted blockers reached answer adds going says = (
     in_reached : (cycle : ClosesCycle (table_policy table) (table_state table) file wanted) → Contains reached cycle.blocker
     in_reached cycle =
         let on = first_step (WaitsFor (table_policy table) (table_state table)) cycle.blocker cycle.led.0 wanted.owner cycle.led.1 in
-        going.all cycle.blocker (adds.added cycle.blocker cycle.blocked) (step_goes_on table wanted.owner cycle.blocker on.0 on.1)
+        going.adds.added cycle.blocker (adds.added cycle.blocker cycle.blocked, step_goes_on table wanted.owner cycle.blocker on.0 on.1)

@@ -1,8 +1,8 @@
 -- The search along the owners that were reached: for `leads_to` and `would_cycle`.
-use Rattle.std.proofs.Common.{ℕ, ◌≡◌, ◌≢◌, ◌+◌, ◌<◌, ◌≤◌, ◌∙◌, inl, inr, sym, ap, subst, arith, List, [], ◌∷◌, ◌++◌, Contains, length, get_or}
+use Rattle.std.proofs.Common.{ℕ, ◌≡◌, ◌≢◌, ◌+◌, ◌<◌, ◌≤◌, ◌∙◌, ◌⊎◌, inl, inr, sym, ap, subst, arith, List, [], ◌∷◌, ◌++◌, Contains, length, get_or}
 use Rattle.std.proofs.lemmas.Bool.{cases_lt}
 use Rattle.std.proofs.lemmas.List.{get_or_append_left, get_or_default, length-append}
-use Rattle.std.proofs.lemmas.List.Elements.{Contains-append_left, Contains-append_cases, Contains-get_or}
+use Rattle.std.proofs.lemmas.List.Elements.{Contains-append_left, Contains-get_or}
 use Rattle.wait_core.specs.Cycles.{IsChain}
 use Rattle.lock_server.proofs.ChainLemmas.{IsOrLed, first_step, join_led}
 
@@ -20,21 +20,21 @@ module _ (R : ℕ → ℕ → Type 0) (GoesOn : ℕ → Type 0) (target : ℕ) (
     pub within : looked_at ≤ length reached
 
   -- the next one is looked at: it isn't the target, and those to which it leads are put behind
-  pub searched_more : (reached next more : List ℕ) (looked_at owner : ℕ) → IsSearched reached looked_at → looked_at < length reached
+  pub searched_more : (reached more : List ℕ) (looked_at owner : ℕ) → IsSearched reached looked_at → looked_at < length reached
       → owner ≡ get_or reached looked_at owner → owner ≢ target
-      → ((other : ℕ) → Contains next other → R owner other) → ((other : ℕ) → R owner other → Contains next other)
-      → ((other : ℕ) → Contains more other → Contains next other) → ((other : ℕ) → Contains next other → GoesOn other → Contains (reached ++ more) other)
+      → ((other : ℕ) → Contains (reached ++ more) other → Contains reached other ⊎ R owner other)
+      → ((other : ℕ) → R owner other → GoesOn other → Contains (reached ++ more) other)
       → IsSearched (reached ++ more) (looked_at + 1)
-  searched_more reached next more looked_at owner so_far inside is differs steps all_steps only all =
+  searched_more reached more looked_at owner so_far inside is differs only all =
       let here : get_or reached looked_at 0 ≡ owner = get_or_default reached looked_at 0 owner inside ∙ sym is in
       let count = length-append reached more in
       record {
         kept = λ other h. Contains-append_left reached more other (so_far.kept other h);
-        led = λ other h. elim (Contains-append_cases reached more other h) [
+        led = λ other h. elim (only other h) [
           | inl before ↦ so_far.led other before
           | inr new ↦
               let from = so_far.led owner (subst (λ (n : ℕ). Contains reached n) here (Contains-get_or reached looked_at 0 inside)) in
-              (from.0, from.1, led_on R from.0 owner other from.2 (steps other (only other new)))
+              (from.0, from.1, led_on R from.0 owner other from.2 new)
         ];
         followed = λ place other before step goes. elim (cases_lt place looked_at) [
           | inl earlier ↦
@@ -43,7 +43,7 @@ module _ (R : ℕ → ℕ → Type 0) (GoesOn : ℕ → Type 0) (target : ℕ) (
           | inr past ↦
               (let at : place ≡ looked_at = omega arith in
               let same : get_or (reached ++ more) place 0 ≡ owner = ap (λ k. get_or (reached ++ more) k 0) at ∙ get_or_append_left reached more 0 looked_at inside ∙ here in
-              all other (all_steps other (subst (λ (n : ℕ). R n other) same step)) goes)
+              all other (subst (λ (n : ℕ). R n other) same step) goes)
         ];
         not_target = λ place before. elim (cases_lt place looked_at) [
           | inl earlier ↦

@@ -20,6 +20,8 @@ pub mod Owed
 pub mod TicketsView
 pub mod WaitersView
 pub mod Blockers
+pub mod Lacking
+pub mod LookedAt
 pub mod Index
 pub mod Locks
 pub mod Inventory

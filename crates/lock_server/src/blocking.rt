@@ -1,14 +1,14 @@
 //! What stands in the way of a wait on one file.
-ghost use Rattle.std.specs.Prelude.{◌≡◌, ◌↔◌, ℕ, Some, IsTrue, Any};
+ghost use Rattle.std.specs.Prelude.{◌≡◌, ◌↔◌, ℕ, IsTrue, Any, OnOk};
 ghost use Rattle.range_core.specs.Ranges.{IsByteRange};
-ghost use Rattle.wait_core.specs.Blocking.{IsBlockedIn, Meet};
-ghost use Rattle.lock_server.specs.Blockers.{HeldBlocks};
+ghost use Rattle.wait_core.specs.Blocking.{IsBlockedIn, Meet, WaitsConflict};
+ghost use Rattle.lock_server.specs.Blockers.{AddsOwners};
 ghost use Rattle.lock_server.specs.Settling.{PendingsConflict};
 ghost use Rattle.lock_book.specs.Books.{byte_modes_of, flock_modes_of};
-ghost use Rattle.lock_server.specs.Pendings.{as_wait, is_of_whole};
+ghost use Rattle.lock_server.specs.Pendings.{as_wait};
 
-use crate::{Family, Pending, Span};
-use lock_book::{Book, Held, Owner};
+use crate::{Family, Memory, Pending, Span};
+use lock_book::{Book, Owner};
 
 impl Pending {
     /// Whether a lock of another owner blocks the wait (POSIX.1-2017 fcntl, `F_SETLK`; flock(2)).
@@ -39,31 +39,6 @@ impl Pending {
     {
         earlier.iter().any(|other| other.conflicts_with(self))
     }
-
-    /// The owner of the lock, where it is another one than the wait's and the lock blocks the wait (POSIX.1-2017 fcntl, `F_SETLK`;
-    /// flock(2)).
-    pub(crate) fn blocking_owner(&self, held: &Held) -> Option<u64>
-        ensures { (other : ℕ) → (result ≡ Some other) ↔ HeldBlocks held.now self.now other }
-    {
-        let Owner::Description(owner) = held.owner else {
-            return None;
-        };
-        let blocks = owner != self.owner
-            && is_of_family(held, self.family)
-            && held.mode.conflicts_with(self.mode)
-            && meet(self.family, held.span, self.span);
-        blocks.then_some(owner)
-    }
-}
-
-/// Whether the lock is of the family.
-fn is_of_family(held: &Held, family: Family) -> bool
-    ensures { IsTrue result ↔ (held.now.whole ≡ is_of_whole family) }
-{
-    match family {
-        Family::Bytes => !held.whole,
-        Family::Whole => held.whole,
-    }
 }
 
 /// Whether two ranges have a byte in common; whole files always meet.
@@ -74,4 +49,21 @@ fn meet(family: Family, one: Span, other: Span) -> bool
         Family::Bytes => one.first <= other.last && other.first <= one.last,
         Family::Whole => true,
     }
+}
+
+/// Adds the owners of the earlier waits that conflict with the wait.
+pub(crate) fn add_conflicting(
+    owners: &mut Vec<u64>,
+    earlier: &[Pending],
+    wait: &Pending,
+) -> Result<(), Memory>
+    ensures { OnOk result (AddsOwners owners.old.items owners.new.items
+        (λ other. Any (λ v. (v.owner ≡ other) × WaitsConflict (as_wait v) (as_wait wait.now)) earlier.now)) }
+{
+    for other in earlier {
+        if other.conflicts_with(wait) {
+            owners.push(other.owner)?;
+        }
+    }
+    Ok(())
 }

@@ -13,7 +13,7 @@ mod counting;
 mod export;
 mod flocks;
 mod granting;
-mod having;
+pub(crate) mod having;
 mod list;
 mod listing;
 

@@ -1,14 +1,14 @@
 //! For which owners a wait on the file waits, or would wait.
-ghost use Rattle.std.specs.Prelude.{◌≡◌, ℕ, Any, OnOk};
+ghost use Rattle.std.specs.Prelude.{◌≡◌, ◌<◌, ◌≤◌, IfOk, MatchOption, OnOk};
 ghost use Rattle.range_core.specs.Ranges.{IsByteRange};
-ghost use Rattle.wait_core.specs.Blocking.{WaitsConflict};
-ghost use Rattle.lock_server.specs.Blockers.{AddsOwners};
+ghost use Rattle.lock_server.specs.Blockers.{AddsOwners, BlocksBefore, BlocksOn, IsFlockHolder};
 ghost use Rattle.lock_server.specs.Deadlock.{BlocksIn, IsBlockedByOwner, WaitsForOn};
 ghost use Rattle.lock_server.specs.FileView.{file_state};
-ghost use Rattle.lock_server.specs.Pendings.{as_wait};
 
 use super::LockFile;
-use crate::{Memory, Pending, Policy};
+use crate::blocking::add_conflicting;
+use crate::{Family, Memory, Mode, Pending, Policy, Span};
+use lock_book::Owner;
 
 #[tactic(auto, unfolding(crate::specs::FileView::file_state))]
 impl LockFile {
@@ -49,24 +49,100 @@ impl LockFile {
         requires { IsByteRange wait.now.span }
         ensures { OnOk result (AddsOwners owners.old.items owners.new.items (BlocksIn wait.now.family (file_state self.now) wait.now)) }
     {
-        for held in &self.book.held(0)? {
-            if let Some(owner) = wait.blocking_owner(held) {
-                owners.push(owner)?;
+        match wait.family {
+            Family::Bytes => self.add_byte_holders(owners, wait.owner, wait.span, wait.mode),
+            Family::Whole => self.add_flock_holders(owners, wait.owner, wait.mode),
+        }
+    }
+
+    /// Adds the other owners that have a byte lock on the span which conflicts with one of this mode.
+    pub fn add_byte_holders(
+        &self,
+        owners: &mut Vec<u64>,
+        owner: u64,
+        span: Span,
+        mode: Mode,
+    ) -> Result<(), Memory>
+        requires { IsByteRange span }
+        ensures { OnOk result (AddsOwners owners.old.items owners.new.items (BlocksOn (file_state self.now) owner span mode)) }
+    {
+        let mut rest = span;
+        while let Some(next) = self.add_first_holders(owners, owner, rest, mode)? {
+            rest.first = next;
+        }
+        Ok(())
+    }
+
+    /// The same on the first bytes of the span, up to one, which is told; `None` where that is all of it.
+    fn add_first_holders(
+        &self,
+        owners: &mut Vec<u64>,
+        owner: u64,
+        span: Span,
+        mode: Mode,
+    ) -> Result<Option<u64>, Memory>
+        requires { IsByteRange span }
+        ensures { IfOk result (λ next. MatchOption next (AddsOwners owners.old.items owners.new.items (BlocksOn (file_state self.now) owner span mode))
+            (λ byte. (span.first < byte) × (byte ≤ span.last) × AddsOwners owners.old.items owners.new.items (BlocksBefore (file_state self.now) owner span mode byte))) }
+    {
+        let Some(lock) = self.blocker(owner, span, mode) else {
+            return Ok(None);
+        };
+        let run = Span {
+            first: lock.span.first.max(span.first),
+            last: lock.span.last.min(span.last),
+        };
+        // Where several have locks on the run, the lists of all owners tell who.
+        if self.blocker(lock.owner, run, mode).is_some() {
+            self.add_listed_holders(owners, owner, span, mode)?;
+            return Ok(None);
+        }
+        owners.push(lock.owner)?;
+        if span.last <= run.last {
+            return Ok(None);
+        }
+        Ok(Some(run.last + 1))
+    }
+
+    /// What [`LockFile::add_byte_holders`] adds, by the lists of all owners in turn.
+    fn add_listed_holders(
+        &self,
+        owners: &mut Vec<u64>,
+        owner: u64,
+        span: Span,
+        mode: Mode,
+    ) -> Result<(), Memory>
+        requires { IsByteRange span }
+        ensures { OnOk result (AddsOwners owners.old.items owners.new.items (BlocksOn (file_state self.now) owner span mode)) }
+    {
+        for (other, list) in self.book.lists() {
+            // No process has a lock here.
+            let Owner::Description(number) = *other else {
+                continue;
+            };
+            if number != owner && list.first_hit(span, mode).is_some() {
+                owners.push(number)?;
             }
         }
         Ok(())
     }
-}
 
-/// Adds the owners of the earlier waits that conflict with the wait.
-fn add_conflicting(owners: &mut Vec<u64>, earlier: &[Pending], wait: &Pending) -> Result<(), Memory>
-    ensures { OnOk result (AddsOwners owners.old.items owners.new.items
-        (λ other. Any (λ v. (v.owner ≡ other) × WaitsConflict (as_wait v) (as_wait wait.now)) earlier.now)) }
-{
-    for other in earlier {
-        if other.conflicts_with(wait) {
-            owners.push(other.owner)?;
+    /// Adds the other owners that have a flock lock which conflicts with one of this mode.
+    pub fn add_flock_holders(
+        &self,
+        owners: &mut Vec<u64>,
+        owner: u64,
+        mode: Mode,
+    ) -> Result<(), Memory>
+        ensures { OnOk result (AddsOwners owners.old.items owners.new.items (IsFlockHolder (file_state self.now) owner mode)) }
+    {
+        let mut above = None;
+        while let Some(lock) = self.next_flock(above) {
+            if lock.owner != owner && lock.mode.conflicts_with(mode) {
+                owners.push(lock.owner)?;
+            }
+            above = Some(lock.owner);
         }
+        Ok(())
     }
-    Ok(())
 }

@@ -1,8 +1,9 @@
 //! What an owner has already of what a request is for.
-ghost use Rattle.std.specs.Prelude.{◌↔◌, ◌≤◌, ℕ, IsTrue};
+ghost use Rattle.std.specs.Prelude.{◌↔◌, ℕ, IfNone, IfSome, IsTrue};
 ghost use Rattle.range_core.specs.Changes.{modes_of};
 ghost use Rattle.range_core.specs.Ranges.{Covers, IsByteRange};
 ghost use Rattle.lock_server.specs.FileView.{file_state};
+ghost use Rattle.lock_server.specs.Lacking.{IsFirstLacking};
 ghost use Rattle.lock_server.specs.Settling.{HasAlready, IsAtLeast};
 
 use super::LockFile;
@@ -40,17 +41,26 @@ fn has_throughout(list: &RangeList, span: Span, mode: Mode) -> bool
     requires { IsByteRange span }
     ensures { IsTrue result ↔ ((byte : ℕ) → Covers span byte → IsAtLeast (modes_of list.now byte) mode) }
 {
+    first_lacking(list, span, mode).is_none()
+}
+
+/// The first byte of the span on which the list hasn't at least the mode.
+pub(crate) fn first_lacking(list: &RangeList, span: Span, mode: Mode) -> Option<u64>
+    requires { IsByteRange span }
+    ensures some { IfSome result (IsFirstLacking (modes_of list.now) span mode) }
+    ensures none { IfNone result ((byte : ℕ) → Covers span byte → IsAtLeast (modes_of list.now byte) mode) }
+{
     let mut first = span.first;
     while let Some((held, run)) = list.run_at(first) {
         if !is_at_least(Some(held), mode) {
-            return false;
+            return Some(first);
         }
         if span.last <= run.last {
-            return true;
+            return None;
         }
         first = run.last + 1;
     }
-    false
+    Some(first)
 }
 
 /// Whether what is held, if anything, allows all that the wanted mode does.

@@ -1,8 +1,9 @@
 //! Whether a wait would close a cycle.
-ghost use Rattle.std.specs.Prelude.{◌≡◌, ◌↔◌, ℕ, IsTrue, IfOk, OnOk};
+ghost use Rattle.std.specs.Prelude.{◌≡◌, ◌↔◌, ℕ, Contains, IsTrue, IfOk, OnOk};
 ghost use Rattle.range_core.specs.Ranges.{IsByteRange};
 ghost use Rattle.lock_server.specs.Blockers.{AddsGoingOn, AddsOwners, IsGoingOn, SomeLeadsTo};
 ghost use Rattle.lock_server.specs.Deadlock.{ClosesCycle, IsBlockedByOwner, WaitsFor};
+ghost use Rattle.lock_server.specs.LookedAt.{AreTold};
 ghost use Rattle.lock_server.specs.TableView.{table_state, table_policy};
 
 use super::Table;
@@ -38,6 +39,7 @@ impl Table {
 
     /// Whether some of these owners is the target, or is led to it by detected waits.
     fn leads_to(&self, mut reached: Reached, target: u64) -> Result<bool, Memory>
+        requires { AreTold self.now target reached }
         ensures { IfOk result (λ leads. IsTrue leads ↔ SomeLeadsTo (table_policy self.now) (table_state self.now) reached.owners.items target) }
     {
         let mut looked_at = 0;
@@ -45,9 +47,7 @@ impl Table {
             if owner == target {
                 return Ok(true);
             }
-            let mut next = Vec::new(self.alloc);
-            self.add_steps(&mut next, owner)?;
-            self.add_going_on(&mut reached, &next, target)?;
+            self.follow(&mut reached, target, owner)?;
             looked_at += 1;
         }
         Ok(false)
@@ -66,8 +66,14 @@ impl Table {
     }
 
     /// Adds those of the owners that are not there yet, and are the target or have a detected wait: no others lead on.
-    fn add_going_on(&self, reached: &mut Reached, owners: &[u64], target: u64) -> Result<(), Memory>
-        ensures { OnOk result (AddsGoingOn self.now.waiters target owners.now reached.old.owners.items reached.new.owners.items) }
+    pub(super) fn add_going_on(
+        &self,
+        reached: &mut Reached,
+        owners: &[u64],
+        target: u64,
+    ) -> Result<(), Memory>
+        ensures adds { OnOk result (AddsGoingOn self.now.waiters target (Contains owners.now) reached.old.owners.items reached.new.owners.items) }
+        ensures looked_at { reached.new.looked_at ≡ reached.old.looked_at }
     {
         for owner in owners {
             if self.goes_on(*owner, target) {

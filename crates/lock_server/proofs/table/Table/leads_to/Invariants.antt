@@ -1,13 +1,16 @@
 use Rattle.std.proofs.Common.{◌-◌, ◌^◌}
 use Rattle.lock_server.specs.Blockers.{IsGoingOn}
 use Rattle.lock_server.specs.Deadlock.{WaitsFor}
+use Rattle.lock_server.specs.LookedAt.{AreTold}
 use Rattle.lock_server.specs.TableView.{table_state}
 use Rattle.lock_server.proofs.SearchLemmas.{IsSearched}
 use Rattle.lock_server.proofs.table.Table.leads_to.Given as goal
 
 abbrev pub invariant-loop-owner : goal.invariant-loop-owner
-invariant-loop-owner l =
-    IsSearched (WaitsFor l.self.policy (table_state l.self)) (IsGoingOn l.self.waiters l.target) l.target l.initial.reached.owners.items l.reached.owners.items l.looked_at
+invariant-loop-owner l = record {
+  searched : IsSearched (WaitsFor l.self.policy (table_state l.self)) (IsGoingOn l.self.waiters l.target) l.target l.initial.reached.owners.items l.reached.owners.items l.looked_at;
+  told : AreTold l.self l.target l.reached;
+}
 
 abbrev pub decreases-loop-owner : goal.decreases-loop-owner
 decreases-loop-owner l = 2 ^ 64 - l.looked_at

@@ -1,10 +1,18 @@
 use Rattle.std.proofs.lemmas.Result.{IfOk-weaker}
-use Rattle.std.proofs.Common.{[]}
+use Rattle.std.proofs.Common.{[], ◌∙◌, ap, Contains}
 use Rattle.lock_server.specs.Blockers.{AddsGoingOn, AddsOwners}
 use Rattle.lock_server.specs.Deadlock.{IsBlockedByOwner}
+use Rattle.lock_server.specs.LookedAt.{looked_modes}
 use Rattle.lock_server.specs.TableView.{table_policy, table_state}
+use Rattle.lock_server.specs.declared.table.looked_at.LookedAt.{LookedAt}
+use Rattle.lock_server.proofs.FollowLemmas.{told_none}
 use Rattle.lock_server.proofs.ReachedLemmas.{closes_cycle}
 use Rattle.lock_server.proofs.table.Table.would_cycle.Goals as goal
+
+pub leads_to-requires : goal.leads_to-requires
+leads_to-requires c =
+    told_none c.args.self.now c.args.wanted.now.owner c.add_going_on.new.reached
+    (λ file byte. ap (λ (l : LookedAt). looked_modes l file byte) c.in_ok-add_going_on.ensures.looked_at ∙ c.new-reached.ensures.looked_at file byte)
 
 pub returns : goal.returns
 returns c =
@@ -14,5 +22,5 @@ returns c =
     let reached = c.add_going_on.new.reached.owners.items in
     let adds : AddsOwners [] blockers (IsBlockedByOwner (table_policy table) ((table_state table).files c.args.file) ((table_state table).files c.args.file).waits wanted) =
     rw c.new-blockers.ensures.items at c.in_ok-add_blockers.ensures in
-    let going : AddsGoingOn table.waiters wanted.owner blockers [] reached = rw (c.deref.ensures.value, c.new-reached.ensures) at c.in_ok-add_going_on.ensures in
+    let going : AddsGoingOn table.waiters wanted.owner (Contains blockers) [] reached = rw (c.deref.ensures.value, c.new-reached.ensures.owners) at c.in_ok-add_going_on.ensures.adds in
     IfOk-weaker c.leads_to.result _ _ (λ answer says. closes_cycle table c.args.file wanted blockers reached answer adds going says) c.leads_to.ensures

@@ -1,10 +1,10 @@
 use Rattle.std.proofs.Common.{ℕ, ◌≡◌, refl, sym, true, false}
 use Rattle.std.proofs.lemmas.Option.{slice_get-get_or}
 use Rattle.lock_server.specs.declared.Pending.{Pending}
-use Rattle.lock_server.proofs.BlockerLemmas.{IsInTheWay, all_in_the_way}
+use Rattle.lock_server.proofs.BlockerLemmas.{IsBeforeInTheWay, all_in_the_way}
 use Rattle.lock_server.proofs.GatheredOwnerLemmas.{AddsOwners-push, gathered_more, gathered_skip}
-use Rattle.lock_server.proofs.file.blockers.add_conflicting.Goals as goal
-use Rattle.lock_server.proofs.file.blockers.add_conflicting.Goals.{then-conflicts_with+in_ok-push, else-conflicts_with}
+use Rattle.lock_server.proofs.blocking.add_conflicting.Goals as goal
+use Rattle.lock_server.proofs.blocking.add_conflicting.Goals.{then-conflicts_with+in_ok-push, else-conflicts_with}
 
 pub loop-other-preserved : goal.loop-other-preserved
 loop-other-preserved c =
@@ -12,7 +12,7 @@ loop-other-preserved c =
     let mid = c.loop-other.owners.items in
     let earlier = c.args.earlier.now in
     let at = slice_get-get_or earlier c.loop-other.other-index _ c.loop-other-test.true in
-    let Gives : ℕ → Pending → ℕ → Type 0 = λ place wait owner. IsInTheWay c.args.wait.now wait owner in
+    let Gives : ℕ → Pending → ℕ → Type 0 = λ place wait owner. IsBeforeInTheWay c.args.wait.now wait owner in
     elim c.if-conflicts_with.branch [
       | then-conflicts_with+in_ok-push w ↦
           rw w.owners-is

@@ -1,7 +1,7 @@
 use Rattle.std.proofs.Common.{◌+◌, ◌-◌}
 use Rattle.range_core.specs.Changes.{modes_of}
 use Rattle.lock_server.proofs.HavingLemmas.{HasBelow}
-use Rattle.lock_server.proofs.file.having.has_throughout.Given as goal
+use Rattle.lock_server.proofs.file.having.first_lacking.Given as goal
 
 -- what was looked at has at least the mode
 abbrev pub invariant-loop-held : goal.invariant-loop-held

@@ -1,0 +1,91 @@
+-- On which bytes a search looked: for `LookedAt`.
+use Rattle.std.proofs.lemmas.Grind.{common_steps}
+use Rattle.std.proofs.Common.{ℕ, ◌≡◌, ◌≢◌, ◌-◌, ◌<◌, ◌≤◌, ◌∙◌, inl, inr, sym, ap, subst, arith, Option, Some, None}
+use Rattle.std.specs.Prelude.{◌↔◌}
+use Rattle.std.specs.BTreeMap.{BTreeMap, UpdatesBy, WritesThrough, get}
+use Rattle.std.specs.Borrow.{Bor, MutBor}
+use Rattle.std.specs.Option.{option_copied, option_copied_mut}
+use Rattle.std.specs.Ordering.{nat_cmp}
+use Rattle.std.proofs.lemmas.Bool.{cases_eq, cases_lt}
+use Rattle.range_core.specs.declared.Mode.{Mode}
+use Rattle.range_core.specs.declared.Span.{Span}
+use Rattle.range_core.specs.declared.list.RangeList.{RangeList}
+use Rattle.range_core.specs.Changes.{SetsMode, modes_of, modes_with}
+use Rattle.range_core.specs.Ranges.{Covers, HeldConflicts, IsByteRange, IsFirstHit, Modes}
+use Rattle.lock_book.specs.OwnerLists.{modes_in_list}
+use Rattle.lock_server.specs.declared.table.looked_at.LookedAt.{LookedAt}
+use Rattle.lock_server.specs.Lacking.{IsFirstLacking, IsFirstPartLacking}
+use Rattle.lock_server.specs.LookedAt.{NotesLook, looked_modes}
+use Rattle.lock_server.specs.Settling.{IsAtLeast}
+use Rattle.lock_server.proofs.TicketLemmas.{is_at-other}
+
+pub found_looked : (looked : LookedAt) (file : ℕ) (found : Option (Bor RangeList)) (list : Bor RangeList)
+    → option_copied found ≡ get nat_cmp looked.files file → found ≡ Some list → modes_of list.now ≡ looked_modes looked file
+found_looked looked file found list value is = ap modes_in_list (sym (ap option_copied is) ∙ value)
+
+pub not_looked : (looked : LookedAt) (file : ℕ) (found : Option (Bor RangeList)) → option_copied found ≡ get nat_cmp looked.files file → found ≡ None
+    → (byte : ℕ) → looked_modes looked file byte ≡ None
+not_looked looked file found value is byte = ap (λ (l : Option RangeList). modes_in_list l byte) (sym value ∙ ap option_copied is)
+
+none_least : (held : Option Mode) (wanted : Mode) → held ≡ None → ¬ IsAtLeast held wanted
+none_least None wanted none least = least
+none_least (Some mode) wanted none least = let h : Some mode ≡ None = none in cc
+
+-- a file on which it looked nowhere
+pub whole_left : (modes : Modes) (span : Span) (wanted : Mode) → IsByteRange span → ((byte : ℕ) → modes byte ≡ None) → IsFirstPartLacking modes span wanted span
+whole_left modes span wanted range none = record {
+  from = omega arith;
+  any = range.0;
+  to = omega arith;
+  lacks = λ byte covered least. none_least (modes byte) wanted (none byte) least;
+  before = λ byte from less. absurd (omega (arith, from, less));
+}
+
+-- from the first byte that lacks the mode on
+module _ (modes : Modes) (span : Span) (wanted against : Mode) (same : (held : Option Mode) → HeldConflicts held against ↔ IsAtLeast held wanted) (first : ℕ)
+    (lacking : IsFirstLacking modes span wanted first) where
+  abbrev Rest : Span
+  Rest = record { first = first; last = span.last }
+
+  -- the first one that doesn't is behind it
+  pub hit_behind : (byte : ℕ) → IsFirstHit modes Rest against byte → first < byte
+  hit_behind byte hit = elim (cases_eq byte first) [
+    | inl here ↦
+        absurd (lacking.lacks (subst (λ (n : ℕ). IsAtLeast (modes n) wanted) here ((same (modes byte)).0 hit.hit)))
+    | inr differs ↦ (let from = hit.covered.0 in omega (arith, from, differs))
+  ]
+
+  pub part_to_hit : (byte : ℕ) (part : Span) → IsFirstHit modes Rest against byte → part.first ≡ first → part.last ≡ byte - 1
+      → IsFirstPartLacking modes span wanted part
+  part_to_hit byte part hit begins ends =
+      let behind = hit_behind byte hit in
+      let within = hit.covered.1 in
+      let start = lacking.covered.0 in
+      record {
+        from = omega (arith, start, begins);
+        any = omega (arith, behind, begins, ends);
+        to = omega (arith, within, ends);
+        lacks = λ at covered least.
+            hit.least at (let c = covered.0 in omega (arith, c, begins)) (let c = covered.1 in omega (arith, c, ends, behind)) ((same (modes at)).1 least);
+        before = λ at from less. lacking.before at from (omega (arith, less, begins));
+      }
+
+  pub part_to_end : ((byte : ℕ) → Covers Rest byte → ¬ HeldConflicts (modes byte) against) → IsFirstPartLacking modes span wanted Rest
+  part_to_end none = record {
+    from = lacking.covered.0;
+    any = lacking.covered.1;
+    to = omega arith;
+    lacks = λ at covered least. none at covered ((same (modes at)).1 least);
+    before = lacking.before;
+  }
+
+-- what is noted of a file
+module _ (old new : LookedAt) (file : ℕ) (span : Span) (mode : Mode) where
+  pub noted_by : (before : Modes) (after : RangeList) → ((byte : ℕ) → looked_modes old file byte ≡ before byte)
+      → UpdatesBy nat_cmp (nat_cmp file) old.files new.files (Some after) → SetsMode before (modes_of after) span (Some mode) → NotesLook old new file span mode
+  noted_by before after was updates sets = record {
+    there = λ byte.
+        ap (λ (l : Option RangeList). modes_in_list l byte) updates.1 ∙ sets byte
+        ∙ ap (λ (held : Option Mode). modes_with (λ b. held) span (Some mode) byte) (sym (was byte));
+    elsewhere = λ other byte differs. ap (λ (l : Option RangeList). modes_in_list l byte) (updates.2 other (is_at-other file other differs));
+  }

@@ -1,0 +1,14 @@
+use Rattle.std.proofs.Common.{◌-◌, ◌^◌}
+use Rattle.lock_server.specs.Blockers.{AddsOwners}
+use Rattle.lock_server.specs.FileView.{file_state}
+use Rattle.lock_server.specs.Listing.{number_behind}
+use Rattle.lock_server.proofs.BlockerLemmas.{IsFlockHolderBelow}
+use Rattle.lock_server.proofs.file.LockFile.add_flock_holders.Given as goal
+
+abbrev pub invariant-loop-lock : goal.invariant-loop-lock
+invariant-loop-lock l =
+    AddsOwners l.initial.owners.items l.owners.items (IsFlockHolderBelow (file_state l.self) l.owner l.mode (number_behind l.above))
+
+-- each owner is above the one before
+abbrev pub decreases-loop-lock : goal.decreases-loop-lock
+decreases-loop-lock l = 2 ^ 64 - number_behind l.above
