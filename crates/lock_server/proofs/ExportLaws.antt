@@ -76,7 +76,7 @@ option_same (Some x) other into back = into x refl
 option_same None None into back = refl
 option_same None (Some y) into back = sym (back y refl)
 
-flag_same : (one other : Bool) → (IsTrue one → IsTrue other) → (IsTrue other → IsTrue one) → other ≡ one
+pub flag_same : (one other : Bool) → (IsTrue one → IsTrue other) → (IsTrue other → IsTrue one) → other ≡ one
 flag_same true other into back = into refl
 flag_same false true into back = sym (back refl)
 flag_same false false into back = refl
@@ -184,31 +184,31 @@ code_listed : {X : Type 0} (spell : X → List ℕ) → IsCode spell → IsCode 
 code_listed spell code xs ys r s same =
     all_told spell code xs ys r s (heads _ _ same) (rests 1 _ _ same)
 
-mode_told : (one other : Mode) → mode_word one ≡ mode_word other → one ≡ other
+pub mode_told : (one other : Mode) → mode_word one ≡ mode_word other → one ≡ other
 mode_told Read Read same = refl
 mode_told Read Write same = absurd (omega (arith, same))
 mode_told Write Read same = absurd (omega (arith, same))
 mode_told Write Write same = refl
 
-family_told : (one other : Family) → family_word one ≡ family_word other → one ≡ other
+pub family_told : (one other : Family) → family_word one ≡ family_word other → one ≡ other
 family_told Bytes Bytes same = refl
 family_told Bytes Whole same = absurd (omega (arith, same))
 family_told Whole Bytes same = absurd (omega (arith, same))
 family_told Whole Whole same = refl
 
-flag_told : (one other : Bool) → flag_word one ≡ flag_word other → one ≡ other
+pub flag_told : (one other : Bool) → flag_word one ≡ flag_word other → one ≡ other
 flag_told false false same = refl
 flag_told false true same = absurd (omega (arith, same))
 flag_told true false same = absurd (omega (arith, same))
 flag_told true true same = refl
 
-policy_told : (one other : Policy) → policy_word one ≡ policy_word other → one ≡ other
+pub policy_told : (one other : Policy) → policy_word one ≡ policy_word other → one ≡ other
 policy_told Held Held same = refl
 policy_told Held Queue same = absurd (omega (arith, same))
 policy_told Queue Held same = absurd (omega (arith, same))
 policy_told Queue Queue same = refl
 
-conversion_told : (one other : Conversion) → conversion_word one ≡ conversion_word other → one ≡ other
+pub conversion_told : (one other : Conversion) → conversion_word one ≡ conversion_word other → one ≡ other
 conversion_told Stepwise Stepwise same = refl
 conversion_told Stepwise Atomic same = absurd (omega (arith, same))
 conversion_told Atomic Stepwise same = absurd (omega (arith, same))
@@ -251,7 +251,7 @@ code_note x y r s same =
     (λ i. record { file = file i; owner = owner i; open_file = open_file i }, rests 3 _ _ same)
 
 -- words, and then more of them, and more
-three : (a b c r : List ℕ) → (a ++ (b ++ c)) ++ r ≡ a ++ (b ++ (c ++ r))
+pub three : (a b c r : List ℕ) → (a ++ (b ++ c)) ++ r ≡ a ++ (b ++ (c ++ r))
 three a b c r = append_assoc a (b ++ c) r ∙ ap (λ (l : List ℕ). a ++ l) (append_assoc b c r)
 
 code_file : IsCode file_words

@@ -14,6 +14,14 @@ pub mod SearchLemmas
 pub mod SearchInDepthLemmas
 pub mod RestoringLemmas
 pub mod ImportLemmas
+pub mod ReaderLemmas
+pub mod RebuiltLemmas
+pub mod RejoinedLemmas
+pub mod OrderedLemmas
+pub mod ServedLemmas
+pub mod RestoredLemmas
+pub mod NoteLemmas
+pub mod CompleteLemmas
 pub mod BlockerLemmas
 pub mod ReachedLemmas
 pub mod FollowLemmas

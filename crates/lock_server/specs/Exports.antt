@@ -1,5 +1,7 @@
 -- The exports of servers.
-use Rattle.std.specs.Prelude.{◌≡◌, ℕ, ◌<◌, ◌≤◌, ◌↔◌, List, drop, length, min, take}
+use Rattle.std.specs.Prelude.{◌≡◌, ℕ, ◌<◌, ◌≤◌, ◌↔◌, List, Result, Ok, Err, drop, length, min, take}
+use Rattle.lock_server.specs.declared.ImportFault.{ImportFault}
+use Rattle.lock_server.specs.declared.ImportFault.TheVariants.{Invalid, Memory}
 use Rattle.lock_server.specs.declared.server.LockServer.{LockServer}
 use Rattle.lock_server.specs.Agreement.{SameServer}
 use Rattle.lock_server.specs.Bytes.{IsExport}
@@ -9,6 +11,12 @@ use Rattle.lock_server.specs.Words.{greatest}
 -- the bytes are the export of the server (this project's choice)
 abbrev pub IsExportOf : LockServer → List ℕ → Type 0
 IsExportOf server bytes = IsExport (rules_of server) (state_of server) (through_of server) bytes
+
+-- the bytes are told to be no server's export (this project's choice)
+abbrev pub IsInvalid : {X : Type 0} → Result X ImportFault → Type 0
+IsInvalid (Ok x) = ⊥
+IsInvalid (Err (Memory memory)) = ⊥
+IsInvalid (Err (Invalid fault)) = Unit {0}
 
 -- this is how many bytes the export of the server has, or the greatest number where it has more (this project's choice)
 abbrev pub IsExportSize : LockServer → ℕ → Type 0

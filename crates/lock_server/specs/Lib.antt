@@ -39,3 +39,5 @@ pub mod Reached
 pub mod Restoring
 pub mod Searching
 pub mod Importing
+pub mod Reading
+pub mod Ordered

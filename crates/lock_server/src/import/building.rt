@@ -1,9 +1,13 @@
 //! The table and the notes of an export, built up from nothing.
-ghost use Rattle.std.specs.Prelude.{◌≡◌, IfOk, OnOk, IsTrue, All};
+ghost use Rattle.std.specs.Prelude.{◌≡◌, ℕ, Option, IfOk, OnOk, IsTrue, All};
 ghost use Rattle.lock_server.specs.Deadlock.{IsFreeOfCycles};
-ghost use Rattle.lock_server.specs.Importing.{JoinsAll, SetsAll};
-ghost use Rattle.lock_server.specs.Restoring.{AreSettled, QueuesEach};
-ghost use Rattle.lock_server.specs.Safety.{IsSafe};
+ghost use Rattle.lock_server.specs.Importing.{AreFilesOf, AreNotesOf, AreOf, HasLocksAlone, HasWaitsOf, JoinsAll, SetsAll};
+ghost use Rattle.lock_server.specs.Openings.{SameOpenings};
+ghost use Rattle.lock_server.specs.OpeningsView.{through_at};
+ghost use Rattle.lock_server.specs.Reading.{Always, Succeeds};
+ghost use Rattle.lock_server.specs.Restoring.{AreCompatible, AreSettled, QueuesEach};
+ghost use Rattle.lock_server.specs.Safety.{AreTicketsOnce, IsSafe};
+ghost use Rattle.lock_server.specs.States.{SameState, State, opening};
 ghost use Rattle.lock_server.specs.TableView.{AreSwept, KeepsEntries, table_policy, table_state};
 
 use super::fault;
@@ -18,6 +22,8 @@ impl Parts {
     pub fn table(&self, alloc: Global) -> Result<Table, ImportFault>
         ensures safe { IfOk result (λ table. ∥ IsSafe (table_policy table) (table_state table) ∥₁) }
         ensures swept { IfOk result AreSwept }
+        ensures policy { IfOk result (λ table. table_policy table ≡ self.now.rules.policy) }
+        ensures again { (S : State) → AreOf S self.now → Succeeds result (λ table. SameState S (table_state table)) }
     {
         let mut table = Table::new(alloc, self.rules.policy);
         self.put_locks(&mut table)?;
@@ -31,7 +37,10 @@ impl Parts {
     }
 
     /// The notes that the parts tell of.
-    pub fn openings(&self, alloc: Global) -> Result<Openings, Memory> {
+    pub fn openings(&self, alloc: Global) -> Result<Openings, Memory>
+        ensures { (through : ℕ → ℕ → Option ℕ) → AreNotesOf through self.now.notes.items
+            → IfOk result (λ openings. SameOpenings through (through_at openings)) }
+    {
         let mut openings = Openings::new(alloc);
         for note in &self.notes {
             openings.note(note.file, note.owner, note.open_file)?;
@@ -42,6 +51,8 @@ impl Parts {
     /// Sets the locks on all files, where none conflicts with one before it.
     fn put_locks(&self, table: &mut Table) -> Result<(), ImportFault>
         ensures sets { OnOk result (SetsAll (table_state table.old) self.now.files.items (table_state table.new)) }
+        ensures again { (S : State) → AreFilesOf S self.now.files.items → AreCompatible S → SameState opening (table_state table.old)
+            → Succeeds result Always }
         ensures policy { table_policy table.new ≡ table_policy table.old }
         ensures swept { AreSwept table.old → AreSwept table.new }
     {
@@ -59,6 +70,8 @@ impl Parts {
     /// The waits join on all files, where none has a ticket that was there before.
     fn put_waits(&self, table: &mut Table) -> Result<(), ImportFault>
         ensures joins { OnOk result (JoinsAll (table_state table.old) self.now.files.items (table_state table.new)) }
+        ensures again { (S : State) → AreFilesOf S self.now.files.items → AreTicketsOnce S → HasLocksAlone (table_state table.old)
+            → Succeeds result Always }
         ensures policy { table_policy table.new ≡ table_policy table.old }
         ensures swept { AreSwept table.old → AreSwept table.new }
     {
@@ -73,6 +86,8 @@ impl Parts {
     /// The grants are queued, where none has a ticket that was there before.
     fn put_grants(&self, table: &mut Table) -> Result<(), ImportFault>
         ensures queues { OnOk result (QueuesEach (table_state table.old) self.now.grants.items (table_state table.new)) }
+        ensures again { (S : State) → self.now.grants.items ≡ S.grants → AreTicketsOnce S → HasWaitsOf S (table_state table.old)
+            → Succeeds result Always }
         ensures policy { table_policy table.new ≡ table_policy table.old }
         ensures entries { KeepsEntries table.old table.new }
     {
@@ -84,7 +99,8 @@ impl Parts {
 
     /// Whether each wait is blocked.
     fn check_waits(&self, table: &Table) -> Result<(), ImportFault>
-        ensures { OnOk result (AreSettled (table_policy table.now) (table_state table.now)) }
+        ensures settled { OnOk result (AreSettled (table_policy table.now) (table_state table.now)) }
+        ensures again { AreSettled (table_policy table.now) (table_state table.now) → Succeeds result Always }
     {
         let Some((number, place)) = table.first_ready() else {
             return Ok(());
@@ -94,7 +110,8 @@ impl Parts {
 
     /// Whether no owner that isn't crossed waits for itself, by way of such.
     fn check_cycles(&self, table: &Table) -> Result<(), ImportFault>
-        ensures { OnOk result (IsFreeOfCycles (table_policy table.now) (table_state table.now)) }
+        ensures free { OnOk result (IsFreeOfCycles (table_policy table.now) (table_state table.now)) }
+        ensures again { IsFreeOfCycles (table_policy table.now) (table_state table.now) → Succeeds result Always }
     {
         match table.owner_on_cycle()? {
             Some(owner) => Err(self.fault_of_waiter(owner)),
@@ -104,7 +121,8 @@ impl Parts {
 
     /// Whether each crossed owner has a detected wait.
     fn check_crossed(&self, table: &Table) -> Result<(), ImportFault>
-        ensures { OnOk result (All (λ owner. IsTrue ((table_state table.now).crossed owner)) self.now.crossed.items) }
+        ensures crossed { OnOk result (All (λ owner. IsTrue ((table_state table.now).crossed owner)) self.now.crossed.items) }
+        ensures again { All (λ owner. IsTrue ((table_state table.now).crossed owner)) self.now.crossed.items → Succeeds result Always }
     {
         match table.first_uncrossed(&self.crossed) {
             Some(place) => Err(fault(Flaw::Crossed, self.crossed_offset(place))),

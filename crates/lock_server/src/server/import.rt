@@ -1,6 +1,6 @@
 //! A server from the bytes of an export.
 ghost use Rattle.std.specs.Prelude.{◌≡◌, ◌↔◌, ◌<◌, ◌^◌, IfOk, IsTrue, length};
-ghost use Rattle.lock_server.specs.Exports.{IsExportOf};
+ghost use Rattle.lock_server.specs.Exports.{IsExportOf, IsInvalid};
 
 use super::LockServer;
 use crate::import::{self, fault};
@@ -16,6 +16,7 @@ impl LockServer {
     /// It takes memory by the size of the bytes, whatever they say.
     pub fn import(alloc: Global, bytes: &[u8]) -> Result<LockServer, ImportFault>
         ensures ok { IfOk result (λ server. IsExportOf server bytes.now) }
+        ensures invalid { IsInvalid result → (server : LockServer) → ¬ IsExportOf server bytes.now }
     {
         let parts = import::read(alloc, bytes)?;
         parts.check_order()?;
@@ -29,7 +30,7 @@ impl LockServer {
         if server.has_export(alloc, bytes)? {
             Ok(server)
         } else {
-            // What the parts tell of was built up, and they were read from the bytes: no bytes are known that come here.
+            // What the parts tell of was built up, and they were read from the bytes: no bytes come here.
             Err(fault(Flaw::Form, 0))
         }
     }

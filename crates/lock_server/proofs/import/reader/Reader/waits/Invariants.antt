@@ -1,6 +1,12 @@
 use Rattle.std.specs.Prelude.{All}
 use Rattle.range_core.specs.Ranges.{IsByteRange}
+use Rattle.lock_server.specs.Bytes.{wait_words}
+use Rattle.lock_server.specs.Reading.{MayWait, itself}
+use Rattle.lock_server.proofs.ReaderLemmas.{AreReadTo}
 use Rattle.lock_server.proofs.import.reader.Reader.waits.Given as goal
 
-abbrev pub invariant-loop : goal.invariant-loop
-invariant-loop l = All (λ wait. IsByteRange wait.span) l.waits.items
+abbrev pub invariant-loop-place : goal.invariant-loop-place
+invariant-loop-place l = record {
+  ranges : All (λ wait. IsByteRange wait.span) l.waits.items;
+  again : AreReadTo itself wait_words MayWait l.fn.self.left.now l.waits.items l.self.left.now l._place l.count;
+}

@@ -1,0 +1,7 @@
+use Rattle.lock_server.specs.Bytes.{file_words}
+use Rattle.lock_server.specs.Reading.{MayStand, entry_of}
+use Rattle.lock_server.proofs.ReaderLemmas.{AreReadTo}
+use Rattle.lock_server.proofs.import.reader.Reader.files.Given as goal
+
+abbrev pub invariant-loop-place : goal.invariant-loop-place
+invariant-loop-place l = AreReadTo entry_of file_words MayStand l.fn.self.left.now l.files.items l.self.left.now l._place l.count

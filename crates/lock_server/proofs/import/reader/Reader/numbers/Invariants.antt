@@ -1,0 +1,7 @@
+use Rattle.lock_server.specs.Bytes.{number_words}
+use Rattle.lock_server.specs.Reading.{Always, itself}
+use Rattle.lock_server.proofs.ReaderLemmas.{AreReadTo}
+use Rattle.lock_server.proofs.import.reader.Reader.numbers.Given as goal
+
+abbrev pub invariant-loop-place : goal.invariant-loop-place
+invariant-loop-place l = AreReadTo itself number_words Always l.fn.self.left.now l.numbers.items l.self.left.now l._place l.count
