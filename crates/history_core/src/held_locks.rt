@@ -1,0 +1,81 @@
+//! The locks on a file that its happenings leave.
+ghost use Rattle.std.specs.Prelude.{◌≡◌, IfOk, OnErr, map, true, false};
+
+use crate::byte_locks::ByteLock;
+use crate::order::{Deed, Happening};
+use crate::possibility::Possibility;
+use range_core::{Memory, Mode};
+use std::alloc::Global;
+
+/// A lock of the whole file (flock(2)).
+#[derive(Clone, Copy, Debug, PartialEq, Eq)]
+pub struct FlockLock {
+    /// Whose it is.
+    pub owner: u64,
+    /// The mode.
+    pub mode: Mode,
+}
+
+/// The locks on a file as happenings leave them, one after another.
+#[derive(Drop)]
+pub struct HeldLocks {
+    /// The locks, with no open request.
+    possibility: Possibility,
+}
+
+impl HeldLocks {
+    ghost use Rattle.history_core.specs.Locks.{FileLocks, no_locks};
+    ghost use Rattle.history_core.specs.Orders.{MayHappen};
+    ghost use Rattle.history_core.specs.ByteLists.{bytes_in};
+    ghost use Rattle.history_core.specs.HeldView.{flocks_in, locks_in};
+
+    /// Nobody has a lock.
+    pub fn new(alloc: Global) -> HeldLocks
+        ensures { locks_in result ≡ no_locks }
+    {
+        HeldLocks {
+            possibility: Possibility::new(alloc),
+        }
+    }
+
+    /// What the happening leaves; `false` where it isn't possible under these locks, which stay then.
+    ///
+    /// `Memory` leaves the locks as they were.
+    pub fn apply(&mut self, happening: Happening) -> Result<bool, Memory>
+        ensures leaves { IfOk result (λ may. may ≡ true → MayHappen (locks_in self.old) happening (locks_in self.new)) }
+        ensures may_not { IfOk result (λ may. may ≡ false → (after : FileLocks) → ¬ MayHappen (locks_in self.old) happening after) }
+        ensures stays { IfOk result (λ may. may ≡ false → locks_in self.new ≡ locks_in self.old) }
+        ensures err { OnErr result (locks_in self.new ≡ locks_in self.old) }
+    {
+        let next = match happening.deed {
+            Deed::Effect => self.possibility.behind_request(happening.request)?,
+            Deed::LetGo => self.possibility.behind_conversion(happening.request)?,
+        };
+        let Some(next) = next else {
+            return Ok(false);
+        };
+        self.possibility = next;
+        Ok(true)
+    }
+
+    /// The byte locks, by owner and first byte, in largest ranges of one mode.
+    pub fn byte_locks(&self) -> &[ByteLock]
+        ensures { bytes_in result.now ≡ (locks_in self.now).bytes }
+    {
+        self.possibility.byte_locks()
+    }
+
+    /// The flock locks, by owner (flock(2)).
+    pub fn flock_locks(&self, alloc: Global) -> Result<Vec<FlockLock>, Memory>
+        ensures { IfOk result (λ locks. flocks_in locks.items ≡ (locks_in self.now).flocks) }
+    {
+        let mut locks = Vec::new(alloc);
+        for lock in self.possibility.flock_locks() {
+            locks.push(FlockLock {
+                owner: lock.owner,
+                mode: lock.mode,
+            })?;
+        }
+        Ok(locks)
+    }
+}
