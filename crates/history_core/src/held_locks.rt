@@ -1,5 +1,5 @@
 //! The locks on a file that its happenings leave.
-ghost use Rattle.std.specs.Prelude.{◌≡◌, IfOk, OnErr, map, true, false};
+ghost use Rattle.std.specs.Prelude.{◌≡◌, IfOk, OnErr, MatchOption, map, true, false};
 
 use crate::byte_locks::ByteLock;
 use crate::order::{Deed, Happening};
@@ -27,7 +27,8 @@ impl HeldLocks {
     ghost use Rattle.history_core.specs.Locks.{FileLocks, no_locks};
     ghost use Rattle.history_core.specs.Orders.{MayHappen};
     ghost use Rattle.history_core.specs.ByteLists.{bytes_in};
-    ghost use Rattle.history_core.specs.HeldView.{flocks_in, locks_in};
+    ghost use Rattle.history_core.specs.HeldView.{flock_of, flocks_in, locks_in};
+    ghost use Rattle.history_core.specs.PossibilityView.{locks_of};
 
     /// Nobody has a lock.
     pub fn new(alloc: Global) -> HeldLocks
@@ -47,15 +48,23 @@ impl HeldLocks {
         ensures stays { IfOk result (λ may. may ≡ false → locks_in self.new ≡ locks_in self.old) }
         ensures err { OnErr result (locks_in self.new ≡ locks_in self.old) }
     {
-        let next = match happening.deed {
-            Deed::Effect => self.possibility.behind_request(happening.request)?,
-            Deed::LetGo => self.possibility.behind_conversion(happening.request)?,
-        };
-        let Some(next) = next else {
+        let Some(next) = self.behind(happening)? else {
             return Ok(false);
         };
         self.possibility = next;
         Ok(true)
+    }
+
+    /// The locks behind the happening; none where it isn't possible under these.
+    fn behind(&self, happening: Happening) -> Result<Option<Possibility>, Memory>
+        ensures { IfOk result (λ next. MatchOption next
+            ((after : FileLocks) → ¬ MayHappen (locks_in self.now) happening after)
+            (λ p. MayHappen (locks_in self.now) happening (locks_of p))) }
+    {
+        match happening.deed {
+            Deed::Effect => self.possibility.behind_request(happening.request),
+            Deed::LetGo => self.possibility.behind_conversion(happening.request),
+        }
     }
 
     /// The byte locks, by owner and first byte, in largest ranges of one mode.
@@ -69,13 +78,23 @@ impl HeldLocks {
     pub fn flock_locks(&self, alloc: Global) -> Result<Vec<FlockLock>, Memory>
         ensures { IfOk result (λ locks. flocks_in locks.items ≡ (locks_in self.now).flocks) }
     {
-        let mut locks = Vec::new(alloc);
-        for lock in self.possibility.flock_locks() {
-            locks.push(FlockLock {
+        let locks = self.flock_list(alloc)?;
+        Ok(locks)
+    }
+
+    /// Each flock lock without its byte.
+    fn flock_list(&self, alloc: Global) -> Result<Vec<FlockLock>, Memory>
+        ensures { IfOk result (λ locks. locks.items ≡ map flock_of self.now.possibility.flocks.locks.runs.items) }
+    {
+        let locks = self
+            .possibility
+            .flock_locks()
+            .iter()
+            .map(|lock| FlockLock {
                 owner: lock.owner,
                 mode: lock.mode,
-            })?;
-        }
+            })
+            .collect(alloc)?;
         Ok(locks)
     }
 }
