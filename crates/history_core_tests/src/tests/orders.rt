@@ -6,6 +6,7 @@ use history_core::Answer::{Busy, Done, Free, Held, Interrupted};
 use history_core::{Action, ByteLock, Deed, FileHistory, FlockLock, Happening, HeldLocks, Request};
 use range_core::Mode::{Read, Write};
 use range_core::{Mode, Span};
+use std::alloc::AllocGlobal;
 use std::process::Abort;
 use std::test::Fail;
 
@@ -28,7 +29,13 @@ const IN_TURN: &[Line] = &[
     Sent(5, 2, Get(Read, MIDST)),
     Told(5, Free),
 ];
-const ONE_BY_ONE: &[Happened] = &[(1, EFFECT, 1), (2, EFFECT, 3), (4, EFFECT, 7), (5, EFFECT, 9)];
+
+const ONE_BY_ONE: &[Happened] = &[
+    (1, EFFECT, 1),
+    (2, EFFECT, 3),
+    (4, EFFECT, 7),
+    (5, EFFECT, 9),
+];
 
 /// A wait is granted before the unlock is answered that it waited for, and the unlock was sent behind it.
 const GRANTED: &[Line] = &[
@@ -39,6 +46,7 @@ const GRANTED: &[Line] = &[
     Told(2, Done),
     Told(3, Done),
 ];
+
 const UNLOCKED_FIRST: &[Happened] = &[(1, EFFECT, 1), (3, EFFECT, 4), (2, EFFECT, 4)];
 
 /// A set that isn't answered was in the way of another, which was sent before it.
@@ -47,6 +55,7 @@ const UNANSWERED: &[Line] = &[
     Sent(1, 1, Set(Write, TEN)),
     Told(2, Busy),
 ];
+
 const HAPPENED: &[Happened] = &[(1, EFFECT, 2), (2, EFFECT, 2)];
 
 /// A get saw a set that was sent behind it, and is answered behind it.
@@ -56,6 +65,7 @@ const SEEN: &[Line] = &[
     Told(1, Held(Some(2), Read, MIDST)),
     Told(2, Done),
 ];
+
 const SET_FIRST: &[Happened] = &[(2, EFFECT, 2), (1, EFFECT, 2)];
 
 /// A conversion that waits has let its owner's old lock go, since another got an exclusive one.
@@ -66,6 +76,7 @@ const CONVERTED: &[Line] = &[
     Sent(3, 1, FlockWait(Write)),
     Told(2, Done),
 ];
+
 const LET_GO: &[Happened] = &[(1, EFFECT, 1), (3, Deed::LetGo, 4), (2, EFFECT, 4)];
 
 /// A death made room before it was answered.
@@ -77,6 +88,7 @@ const DIED: &[Line] = &[
     Told(2, Done),
     Told(3, Done),
 ];
+
 const DEAD_FIRST: &[Happened] = &[(1, EFFECT, 1), (3, EFFECT, 4), (2, EFFECT, 4)];
 
 /// A lock on bytes.
@@ -99,7 +111,7 @@ fn effect(id: u64, owner: u64, action: Action) -> Happening {
 
 /// Looks that the order of the lines is this one, and that it leaves these byte locks and flock locks.
 fn is_order(
-    rt: &HostRuntime,
+    rt: &(impl Abort + AllocGlobal),
     lines: &[Line],
     wanted: &[Happened],
     bytes: &[ByteLock],
@@ -179,7 +191,10 @@ fn of_locks(rt: HostRuntime) -> Result<(), Fail> {
         owner: 2,
         mode: Read,
     };
-    assert_eq!(rt; held.flock_locks(rt.alloc())?.as_slice(), [shared].as_slice());
+    assert_eq!(rt;
+        held.flock_locks(rt.alloc())?.as_slice(),
+        [shared].as_slice()
+    );
     Ok(())
 }
 
