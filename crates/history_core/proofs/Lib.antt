@@ -7,4 +7,6 @@ pub mod KeptLemmas
 pub mod ByteLemmas
 pub mod ActLemmas
 pub mod SearchLemmas
+pub mod TraceLemmas
+pub mod HeldLemmas
 pub mod FileLemmas

@@ -8,4 +8,7 @@ pub mod Moments
 pub mod Chains
 pub mod PossibilityView
 pub mod Searching
+pub mod Orders
+pub mod Traces
 pub mod FileView
+pub mod HeldView

@@ -125,6 +125,13 @@ impl ByteLocks {
         }
     }
 
+    /// The locks, by owner and first byte.
+    pub fn runs(&self) -> &[ByteLock]
+        ensures { result.now ≡ self.now.runs.items }
+    {
+        &self.runs
+    }
+
     /// These locks once more.
     pub fn copy(&self) -> Result<ByteLocks, Memory>
         ensures { IfOk result (λ copy. bytes_of copy ≡ bytes_of self.now) }

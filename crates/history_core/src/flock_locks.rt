@@ -2,7 +2,7 @@
 ghost use Rattle.std.specs.Prelude.{◌≡◌, ◌↔◌, ◌<◌, ℕ, IsTrue, IfOk, None};
 ghost use Rattle.history_core.specs.ByteView.{bytes_of};
 
-use crate::byte_locks::ByteLocks;
+use crate::byte_locks::{ByteLock, ByteLocks};
 use range_core::{Memory, Mode, Span};
 use std::alloc::Global;
 
@@ -28,6 +28,13 @@ impl FlockLocks {
         FlockLocks {
             locks: ByteLocks::new(alloc),
         }
+    }
+
+    /// The locks, by owner: each on byte 0.
+    pub fn runs(&self) -> &[ByteLock]
+        ensures { result.now ≡ self.now.locks.runs.items }
+    {
+        self.locks.runs()
     }
 
     /// These locks once more.

@@ -6,3 +6,4 @@ mod flocks;
 mod gets;
 mod large;
 mod lines;
+mod orders;
