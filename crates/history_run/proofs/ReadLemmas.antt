@@ -1,0 +1,91 @@
+-- A history as a source gives it: for `ended`, `read_history` and `read_past`.
+use Rattle.std.proofs.Common.{◌≡◌, ◌≤◌, ℕ, ◌+◌, List, [], ◌∷◌, ◌++◌, Option, length, refl, inl, inr, arith, length-append}
+use Rattle.std.proofs.lemmas.Grind.{common_steps}
+use Rattle.std.specs.Io.KnownBytes.{Consumes, IsAtEnd}
+use Rattle.std.proofs.KnownBytes.{Consumes-trans, Consumes-nil}
+use Rattle.history_check.specs.declared.check.HistoryCheck.{HistoryCheck}
+use Rattle.history_check.specs.declared.judging.Judging.{Judging}
+use Rattle.history_check.specs.Checked.{HasChecked, HasJudged, IsLimited, lines_in, verdict_in}
+use Rattle.history_check.specs.Verdicts.{AreJudged, history_limit}
+use Rattle.history_run.specs.HistoryRuns.{Exceeds, IsJudged, IsRead, IsReadTo}
+
+-- nothing was read
+pub nothing_read : (judging : Judging) (source : Option (List ℕ)) (check : HistoryCheck) (left : ℕ) → HasChecked judging check []
+    → left ≡ history_limit → lines_in check ≡ 0 → IsReadTo judging source source check left
+nothing_read judging source check left checked all none = record {
+  input = [];
+  consumed = Consumes-nil source;
+  count = omega (arith, all);
+  checked = checked;
+  few = omega (arith, none);
+}
+
+-- some more was read and judged
+pub more_read : (judging : Judging) (old mid new : Option (List ℕ)) (before after : HistoryCheck) (left rest : ℕ) (more : List ℕ)
+    → IsReadTo judging old mid before left → Consumes mid new more → rest + length more ≡ left
+    → ((front : List ℕ) → HasChecked judging before front → HasChecked judging after (front ++ more))
+    → lines_in after ≤ lines_in before + length more → IsReadTo judging old new after rest
+more_read judging old mid new before after left rest more so_far consumed count checked few =
+    let all = length-append so_far.input more in record {
+      input = so_far.input ++ more;
+      consumed = Consumes-trans so_far.consumed consumed;
+      count = omega (arith, so_far.count, count, all);
+      checked = checked so_far.input so_far.checked;
+      few = omega (arith, so_far.few, few, all);
+    }
+
+short : (judging : Judging) (old new : Option (List ℕ)) (check : HistoryCheck) (left : ℕ) (so_far : IsReadTo judging old new check left)
+    → length so_far.input ≤ history_limit
+short judging old new check left so_far = omega (arith, so_far.count)
+
+-- what was read decides
+pub decided_read : (judging : Judging) (old new : Option (List ℕ)) (check : HistoryCheck) (left : ℕ) → IsReadTo judging old new check left
+    → ((bytes : List ℕ) → length bytes ≤ history_limit → HasChecked judging check bytes → AreJudged judging bytes (verdict_in check))
+    → IsRead judging old new check
+decided_read judging old new check left so_far decides = record {
+  judged = record {
+    input = so_far.input;
+    consumed = so_far.consumed;
+    judged = inr (decides so_far.input (short judging old new check left so_far) so_far.checked);
+  };
+  few = omega (arith, so_far.few, so_far.count);
+}
+
+-- it is all, and was judged to its end
+pub whole_read : (judging : Judging) (old mid new : Option (List ℕ)) (check last : HistoryCheck) (left : ℕ) → IsReadTo judging old mid check left
+    → Consumes mid new [] → IsAtEnd new
+    → ((bytes : List ℕ) → length bytes ≤ history_limit → HasChecked judging check bytes → HasJudged judging last bytes)
+    → lines_in last ≤ history_limit + 1 → IsRead judging old new last
+whole_read judging old mid new check last left so_far consumed at_end judged few =
+    let all = more_read judging old mid new check check left left [] so_far consumed (omega arith) (λ front checked. search (arith, checked)) (omega arith) in record {
+      judged = record {
+        input = all.input;
+        consumed = all.consumed;
+        judged = inl (at_end, judged all.input (short judging old new check left all) all.checked);
+      };
+      few = few;
+    }
+
+-- it is longer than a history may be
+pub past_read : (judging : Judging) (old mid new : Option (List ℕ)) (check last : HistoryCheck) (byte : ℕ) → IsReadTo judging old mid check 0
+    → Consumes mid new (byte ∷ [])
+    → ((bytes : List ℕ) (byte : ℕ) → length bytes ≡ history_limit → HasChecked judging check bytes → AreJudged judging (bytes ++ byte ∷ []) (verdict_in last))
+    → lines_in last ≡ lines_in check → IsRead judging old new last
+past_read judging old mid new check last byte so_far consumed cut few = record {
+  judged = record {
+    input = so_far.input ++ byte ∷ [];
+    consumed = Consumes-trans so_far.consumed consumed;
+    judged = inr (cut so_far.input byte (omega (arith, so_far.count)) so_far.checked);
+  };
+  few = omega (arith, few, so_far.few, so_far.count);
+}
+
+-- the limit is reached by what was read
+pub limit_read : (judging : Judging) (old mid new : Option (List ℕ)) (check : HistoryCheck) (left : ℕ) (more : List ℕ)
+    → IsReadTo judging old mid check left → Consumes mid new more
+    → ((front : List ℕ) → HasChecked judging check front → IsLimited judging (front ++ more)) → Exceeds judging old new
+limit_read judging old mid new check left more so_far consumed limit = record {
+  input = so_far.input ++ more;
+  consumed = Consumes-trans so_far.consumed consumed;
+  limited = limit so_far.input so_far.checked;
+}
