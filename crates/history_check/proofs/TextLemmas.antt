@@ -6,8 +6,8 @@ use Rattle.std.proofs.lemmas.List.Elements.{All-push, filter_passes}
 use Rattle.history_check.specs.Told.{InLine, IsComment, comment_line}
 
 is_no_end : (is_end : Bool) → not is_end ≡ true → is_end ≡ false
-is_no_end true no = sym no
-is_no_end false no = refl
+is_no_end true marked = sym marked
+is_no_end false marked = refl
 
 -- no line feed is left
 without_ends : (line : List ℕ) → InLine (filter (λ byte. not (byte == 10)) line)

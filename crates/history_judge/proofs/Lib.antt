@@ -1,0 +1,4 @@
+-- The lemmas of this crate.
+pub mod NameLemmas
+pub mod ApartLemmas
+pub mod MergeLemmas

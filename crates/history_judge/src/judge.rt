@@ -1,0 +1,155 @@
+//! A whole history, line by line.
+ghost use Rattle.std.specs.Prelude.{◌≡◌, ◌≢◌, ◌≤◌, ◌↔◌, ◌⊎◌, ℕ, Bool, List, IsTrue, IfOk, OnOk, OnErr, None, Some, [], true, false};
+ghost use Rattle.std.specs.BTreeMap.{get};
+ghost use Rattle.std.specs.Ordering.{nat_cmp};
+ghost use Rattle.history_core.specs.declared.search.SearchFault.{SearchFault};
+ghost use Rattle.history_judge.specs.declared.fault.JudgeFault.{JudgeFault};
+ghost use Rattle.history_judge.specs.Histories.{Answered, HistoryLine, MayEnd, Sent};
+ghost use Rattle.history_judge.specs.JudgeView.{IsHistory, PutsRequest};
+
+use crate::fault::JudgeFault;
+use crate::files::Files;
+use history_core::{Answer, Request, SearchFault};
+use range_core::Memory;
+use std::alloc::Global;
+use std::collections::BTreeMap;
+
+/// A request that was sent and isn't answered.
+#[derive(Clone, Copy, Debug, PartialEq, Eq)]
+pub struct OpenRequest {
+    /// The number of the line that sent it, as the caller counts lines.
+    pub line: u64,
+    /// The file's number.
+    pub file: u64,
+    /// Its ID, its owner and what it asks for.
+    pub request: Request,
+}
+
+/// What is known of a whole history, line by line: its open requests, and of each file what its lines allow.
+#[derive(Drop)]
+pub struct HistoryJudge {
+    files: Files,
+    /// By ID.
+    opened: BTreeMap<u64, OpenRequest>,
+    ghost known: { ∥ IsHistory files opened ∥₁ },
+}
+
+impl HistoryJudge {
+    ghost use Rattle.history_judge.specs.JudgeView.{Exceeds, HasOpen, IsMore, Knows, Opens, Refuses, Stays, StaysOpen, Takes, Unchanged, kept_in, open_in};
+
+    /// No line was read. With `runs` a get tells largest ranges of one mode alone (POSIX.1-2017 fcntl, `F_GETLK`, leaves open which part of
+    /// the lock it tells). It takes no memory.
+    pub fn new(alloc: Global, runs: bool) -> HistoryJudge
+        ensures knows { Knows runs result [] }
+        ensures open { (id : ℕ) → open_in result id ≡ None }
+        ensures count { kept_in result ≡ 0 }
+    {
+        HistoryJudge {
+            files: Files::new(alloc, runs),
+            opened: BTreeMap::new(alloc),
+        }
+    }
+
+    /// How many possibilities are kept, of all files together.
+    pub fn count(&self) -> u128
+        ensures { result ≡ kept_in self.now }
+    {
+        self.files.count()
+    }
+
+    /// The open request of this ID.
+    pub fn open_request(&self, id: u64) -> Option<OpenRequest>
+        ensures { result ≡ open_in self.now id }
+    {
+        self.opened.get(&id).copied()
+    }
+
+    /// The open requests, by ID.
+    pub fn open_requests(&self) -> &BTreeMap<u64, OpenRequest>
+        ensures { (id : ℕ) → get nat_cmp result.now id ≡ open_in self.now id }
+    {
+        &self.opened
+    }
+
+    /// Reads a `>`, the line of this number: the request was sent on the file.
+    ///
+    /// `IdTaken` where its ID is open, `Limit` where more possibilities than the limit are kept at once over all files, or would be. Each
+    /// fault reads no line.
+    pub fn send(
+        &mut self,
+        line: u64,
+        file: u64,
+        request: Request,
+        limit: usize,
+    ) -> Result<(), JudgeFault>
+        ensures ok { OnOk result (Takes self.old self.new (Sent file request)) }
+        ensures open { OnOk result (Opens self.old self.new request.id (Some (record { line = line; file = file; request = request }))) }
+        ensures room { OnOk result (kept_in self.old ≤ limit) }
+        ensures taken { (result ≡ Err JudgeFault.IdTaken) ↔ HasOpen self.old request.id }
+        ensures legal { result ≢ Err JudgeFault.Impossible }
+        ensures known { result ≢ Err JudgeFault.IdUnknown }
+        ensures limit { result ≡ Err JudgeFault.Limit → Exceeds self.old limit }
+        ensures err { OnErr result (Stays self.old self.new) }
+        ensures err_open { OnErr result (StaysOpen self.old self.new) }
+    {
+        if self.opened.contains_key(&request.id) {
+            return Err(JudgeFault::IdTaken);
+        }
+        let sent = OpenRequest {
+            line,
+            file,
+            request,
+        };
+        put_request(&mut self.opened, sent)?;
+        if let Err(fault) = self.files.send(file, request, limit) {
+            self.opened.remove(&request.id);
+            return Err(JudgeFault::from(fault));
+        }
+        Ok(())
+    }
+
+    /// Reads a `<`: the open request of this ID was told this.
+    ///
+    /// `IdUnknown` where the ID isn't open, `Impossible` where no order of all effects permits the answer, `Limit` where more possibilities
+    /// than the limit are kept at once over all files, or would be. Each fault reads no line.
+    pub fn answer(&mut self, id: u64, answer: Answer, limit: usize) -> Result<(), JudgeFault>
+        ensures ok { OnOk result (Takes self.old self.new (Answered id answer)) }
+        ensures open { OnOk result (Opens self.old self.new id None) }
+        ensures room { OnOk result (kept_in self.old ≤ limit) }
+        ensures unknown { (result ≡ Err JudgeFault.IdUnknown) ↔ (open_in self.old id ≡ None) }
+        ensures free { result ≢ Err JudgeFault.IdTaken }
+        ensures illegal { result ≡ Err JudgeFault.Impossible → Refuses self.old (Answered id answer) }
+        ensures limit { result ≡ Err JudgeFault.Limit → Exceeds self.old limit }
+        ensures err { OnErr result (Stays self.old self.new) }
+        ensures err_open { OnErr result (StaysOpen self.old self.new) }
+    {
+        let Some(sent) = self.open_request(id) else {
+            return Err(JudgeFault::IdUnknown);
+        };
+        if !self.files.answer(sent.file, id, answer, limit)? {
+            return Err(JudgeFault::Impossible);
+        }
+        self.opened.remove(&id);
+        Ok(())
+    }
+
+    /// Whether the history may end so: there was an order of all effects behind which each open wait waits still (this project's choice).
+    ///
+    /// `Limit` where more possibilities than the limit are kept at once over all files, or would be, `Memory` where a growth was refused.
+    pub fn may_end(&self, limit: usize) -> Result<bool, SearchFault>
+        ensures ok { IfOk result (λ may_end. (runs : Bool) (lines : List HistoryLine) → Knows runs self.now lines → IsTrue may_end ↔ MayEnd runs lines) }
+        ensures room { OnOk result (kept_in self.now ≤ limit) }
+        ensures limit { result ≡ Err SearchFault.Limit → Exceeds self.now limit }
+    {
+        self.files.may_end(limit)
+    }
+}
+
+/// The request is open, under its ID.
+fn put_request(opened: &mut BTreeMap<u64, OpenRequest>, sent: OpenRequest) -> Result<(), Memory>
+    ensures ok { OnOk result (PutsRequest opened.old opened.new sent.request.id (Some sent)) }
+    ensures err { OnErr result (opened.new.entries ≡ opened.old.entries) }
+{
+    opened.insert(sent.request.id, sent)?;
+    Ok(())
+}

@@ -1,0 +1,11 @@
+//! Whole concurrent histories of locks, on any number of files.
+#![tactic(auto)]
+
+mod fault;
+mod files;
+mod judge;
+mod laws;
+
+pub use fault::JudgeFault;
+pub use judge::{HistoryJudge, OpenRequest};
+pub use laws::{ends_are_judged_apart, files_are_judged_apart, orders_are_judged_apart};

@@ -1,0 +1,5 @@
+//! Histories of several files, judged by hand from the standards, and a large one.
+mod faults;
+mod files;
+mod large;
+mod lines;
