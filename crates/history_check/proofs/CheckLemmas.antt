@@ -1,5 +1,6 @@
 -- A history, byte by byte: for `HistoryCheck::end`, `end_line`, `go_on`, `grow`, `take_all` and others.
 use Rattle.std.proofs.Common.{rules, ◌≡◌, ◌≢◌, ◌<◌, ◌≤◌, ℕ, ◌+◌, ◌==◌, true, false, Bool, List, [], ◌∷◌, ◌++◌, Option, Some, None, Ok, Err, length, refl, sym, ap, subst, ◌∙◌, inl, inr, arith, append_assoc, append-nil, length-append, get_or, take, drop, take-append-drop, All, OnOk, Result, is_some, flat_map, option_map}
+use Rattle.std.specs.Prelude.{◌↔◌, IsTrue}
 use Rattle.std.proofs.lemmas.Grind.{common_steps, flat_map-append}
 use Rattle.std.proofs.lemmas.Bool.Decides.{eqb_tells}
 use Rattle.std.proofs.lemmas.List.{take_more}
@@ -23,7 +24,7 @@ use Rattle.history_check.specs.declared.check.Finding.{Finding}
 use Rattle.history_check.specs.declared.check.Finding.TheVariants as findings
 use Rattle.history_check.specs.declared.check.HistoryCheck.{HistoryCheck}
 use Rattle.history_check.specs.Told.{InLine}
-use Rattle.history_check.specs.Verdicts.{AreJudged, BytesCome, EndComes, Extent, Faulty, HistoryComes, Illegal, LinesCome, LostWakeUps, Verdict, Whole, history_limit, history_of, lines_told, requested_after, said_by, too_long, waits_after, waits_behind, waits_from}
+use Rattle.history_check.specs.Verdicts.{AreJudged, BytesCome, EndComes, Extent, Faulty, HistoryComes, Illegal, Legal, LinesCome, LostWakeUps, Verdict, Whole, history_limit, history_of, lines_told, requested_after, said_by, too_long, waits_after, waits_behind, waits_from}
 use Rattle.history_check.specs.Checked.{AreLinesRead, HasChecked, HasJudged, HasRead, HasReadBytes, HasReadLines, IsFoundAt, IsFoundOf, IsLimited, Judges, LeadsTo, Passes, requested_in, verdict_at, verdict_of}
 use Rattle.history_check.proofs.LineLemmas.{end_leads, last_leads, line_decides, line_grows, line_read, line_too_long, still_decided}
 use Rattle.history_check.proofs.EndLemmas.{comes_whole, decided_all, one_too_many}
@@ -78,6 +79,17 @@ says_same : (runs : Bool) (judge : HistoryJudge) (before : List TextLine) (line 
     → LineGives (requested_in judge) line said → LineGives (requested_after before) line said
 says_same runs judge before line said knows gives =
     subst (λ (requested : ℕ → Option Action). LineGives requested line said) (asked runs judge before knows) gives
+
+-- what is known of that is known of what the line says
+pub known_by : (runs : Bool) (judge : HistoryJudge) (before : List TextLine) (said that : TextLine) → said ≡ that
+    → Knows runs judge (history_of before ++ said_by that) → Knows runs judge (history_of before ++ said_by said)
+known_by runs judge before said that is knows = subst (λ (s : TextLine). Knows runs judge (history_of before ++ said_by s)) (sym is) knows
+
+-- nothing more is known by a line that is skipped
+pub known_still : (runs : Bool) (judge : HistoryJudge) (before : List TextLine) (said : TextLine) → said ≡ texts.Skipped
+    → Knows runs judge (history_of before) → Knows runs judge (history_of before ++ said_by said)
+known_still runs judge before said is knows =
+    known_by runs judge before said texts.Skipped is (subst (λ (l : _). Knows runs judge l) (sym (append-nil (history_of before))) knows)
 
 -- so it was judged
 pub line_said : (judging : Judging) (old mid new : HistoryCheck) (before : List TextLine) (said : TextLine) (number : ℕ)
@@ -332,6 +344,33 @@ unfolding HasReadLines
 judged_at_end judging check last bytes verdict unfound short is read ends =
     let lines = subst (AreLinesRead judging check bytes) unfound read in
     subst (λ (v : Verdict). HistoryComes judging bytes v) (sym is) (comes_whole judging bytes verdict short (lines.2 verdict (ends lines.0 lines.1)))
+
+-- what is told to be so is so
+pub told_so : {P : Type 0} (told : Bool) → told ≡ true → IsTrue told ↔ P → P
+told_so told is iff = iff.0 is
+
+-- and what isn't isn't
+pub not_told : {P : Type 0} (told : Bool) → told ≡ false → IsTrue told ↔ P → P → ⊥
+not_told told is iff = λ p. let so = iff.1 p in absurd (cc)
+
+-- where the end is asked for nothing it is legal
+pub ends_unasked : (judging : Judging) (check : HistoryCheck) (before : List TextLine) → check.judging.open_waits ≡ false
+    → HasRead judging check before → EndComes judging before Legal
+ends_unasked judging check before off read =
+    let is : judging.open_waits ≡ false = ap (λ (j : Judging). j.open_waits) (sym read.is_judging) ∙ off in rw is refl
+
+-- and where each open wait may wait still
+pub ends_waiting : (judging : Judging) (check : HistoryCheck) (before : List TextLine) → check.judging.open_waits ≡ true
+    → MayEnd judging.runs (history_of before) → HasRead judging check before → EndComes judging before Legal
+ends_waiting judging check before on may read =
+    let is : judging.open_waits ≡ true = ap (λ (j : Judging). j.open_waits) (sym read.is_judging) ∙ on in rw is (inl (may, refl))
+
+-- or else these waits are told
+pub ends_lost : (judging : Judging) (check : HistoryCheck) (before : List TextLine) → check.judging.open_waits ≡ true
+    → (MayEnd judging.runs (history_of before) → ⊥) → HasRead judging check before → EndComes judging before (LostWakeUps check.waits.items)
+ends_lost judging check before on lost read =
+    let is : judging.open_waits ≡ true = ap (λ (j : Judging). j.open_waits) (sym read.is_judging) ∙ on in
+    rw is (inr (lost, ap (λ (w : List OpenWait). LostWakeUps w) read.waits))
 
 -- the limit is reached behind the last line
 pub limited_at_end : (judging : Judging) (check : HistoryCheck) (bytes : List ℕ) → check.found ≡ None → HasReadLines judging check bytes

@@ -1,9 +1,10 @@
 -- What is printed of a history: for `push_open`, `push_waits` and others.
-use Rattle.std.proofs.Common.{◌≡◌, ◌==◌, ℕ, true, false, Bool, List, [], ◌∷◌, ◌++◌, refl, sym, ap, ◌∙◌, append_assoc, append-nil, flat_map, arith}
+use Rattle.std.proofs.Common.{◌≡◌, ◌==◌, ℕ, true, false, Bool, Result, Ok, Err, OnOk, codes, decimal, List, [], ◌∷◌, ◌++◌, refl, sym, ap, ◌∙◌, append_assoc, append-nil, flat_map, arith}
 use Rattle.std.specs.Prelude.{filter, not}
 use Rattle.std.proofs.lemmas.Grind.{flat_map-append}
 use Rattle.std.proofs.lemmas.List.Elements.{All-push, filter_passes}
-use Rattle.history_check.specs.Told.{InLine, IsComment, comment_line}
+use Rattle.history_check.specs.declared.open_waits.OpenWait.{OpenWait}
+use Rattle.history_check.specs.Told.{InLine, IsComment, comment_line, wait_line}
 
 is_no_end : (is_end : Bool) → not is_end ≡ true → is_end ≡ false
 is_no_end true marked = sym marked
@@ -38,3 +39,13 @@ joined_four text a b c d = simp append_assoc
 
 pub joined_six : (text a b c d e f : List ℕ) → (((((text ++ a) ++ b) ++ c) ++ d) ++ e) ++ f ≡ text ++ (((((a ++ b) ++ c) ++ d) ++ e) ++ f)
 joined_six text a b c d e f = simp append_assoc
+
+-- the line of an open wait, piece by piece
+pub wait_told : {T E : Type 0} (result : Result T E) (t0 t1 t2 t3 t4 : List ℕ) (wait : OpenWait) → t1 ≡ t0 ++ decimal wait.id
+    → t2 ≡ t1 ++ codes " waits since " → t3 ≡ t2 ++ decimal wait.since → OnOk result (t4 ≡ t3 ++ 10 ∷ []) → OnOk result (t4 ≡ t0 ++ wait_line wait)
+wait_told (Ok done) t0 t1 t2 t3 t4 wait one two three four =
+    four
+    ∙ ap (λ (l : List ℕ). l ++ 10 ∷ [])
+    (three ∙ ap (λ (l : List ℕ). l ++ decimal wait.since) (two ∙ ap (λ (l : List ℕ). l ++ codes " waits since ") one))
+    ∙ joined_four t0 (decimal wait.id) (codes " waits since ") (decimal wait.since) (10 ∷ [])
+wait_told (Err error) t0 t1 t2 t3 t4 wait one two three four = tt

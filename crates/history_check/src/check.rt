@@ -105,7 +105,10 @@ impl HistoryCheck {
         ensures lines { OnOk result (lines_in self.new ≤ lines_in self.old + 1) }
     {
         self.end_last_line()?;
-        if self.found.is_some() || !self.judging.open_waits {
+        if self.found.is_some() {
+            return Ok(());
+        }
+        if !self.judging.open_waits {
             return Ok(());
         }
         if !self.judge.may_end(self.judging.limit)? {
@@ -120,9 +123,10 @@ impl HistoryCheck {
             → AreJudged judging (bytes ++ byte ∷ []) (verdict_in self.new) }
         ensures lines { lines_in self.new ≡ lines_in self.old }
     {
-        if self.found.is_none() {
-            self.found = Some(Finding::TooLong);
+        if self.found.is_some() {
+            return;
         }
+        self.found = Some(Finding::TooLong);
     }
 
     /// What the history comes to, where it is decided, or judged as a whole.
@@ -202,7 +206,10 @@ impl HistoryCheck {
             → IsLimited judging bytes }
         ensures lines { OnOk result (lines_in self.new ≤ lines_in self.old + 1) }
     {
-        if self.found.is_some() || self.line.is_empty() {
+        if self.found.is_some() {
+            return Ok(());
+        }
+        if self.line.is_empty() {
             return Ok(());
         }
         self.end_line()

@@ -52,7 +52,6 @@ fn push_illegal_line(text: &mut Vec<u8>, number: u64, answer: Answer) -> Result<
 }
 
 /// Appends the line of an open wait.
-#[tactic(auto, using(crate::proofs::TextLemmas::joined_four))]
 fn push_wait(text: &mut Vec<u8>, wait: OpenWait) -> Result<(), Memory>
     ensures { OnOk result (text.new.items ≡ text.old.items ++ wait_line wait) }
 {

@@ -25,10 +25,11 @@ fn has_history_flag(words: &[String]) -> bool
     ensures { result ≡ has_history (map string_bytes words.now) }
 {
     for word in words {
-        match word.as_str() {
-            "--" => return false,
-            "--history" => return true,
-            _ => {}
+        if word.as_str() == "--" {
+            return false;
+        }
+        if word.as_str() == "--history" {
+            return true;
         }
     }
     false
@@ -75,7 +76,7 @@ fn command<'a>(alloc: Global) -> Result<Command<'a>, AllocError>
         "N",
         "Keeps N possibilities at most, 1000000 where it isn't given",
     );
-    let open = flag(
+    let waits = flag(
         alloc,
         "open",
         "Asks whether each open wait may wait still at the end",
@@ -91,7 +92,7 @@ fn command<'a>(alloc: Global) -> Result<Command<'a>, AllocError>
         .after_help(GUIDE)
         .arg(history)?
         .arg(limit)?
-        .arg(open)?
+        .arg(waits)?
         .arg(runs)?
         .arg(file_argument(alloc))
 }
