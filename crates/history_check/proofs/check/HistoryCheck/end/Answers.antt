@@ -1,4 +1,5 @@
-use Rattle.std.proofs.Common.{rules, ◌≡◌, ◌∙◌, ap, refl, false, true, is_some}
+use Rattle.std.proofs.Common.{rules, ◌≡◌, Some, ap, refl, false, true, is_some}
+use Rattle.history_check.specs.declared.check.Finding.TheVariants as findings
 use Rattle.history_check.specs.Verdicts.{Legal, LostWakeUps, history_of}
 use Rattle.history_check.specs.Checked.{verdict_at}
 use Rattle.history_check.proofs.CheckLemmas.{ends_lost, ends_unasked, ends_waiting, is_unfound, judged_at_end, judged_before, limited_at_end, not_told, told_so}
@@ -32,7 +33,7 @@ returns-then-not-branch-clause-judged c = λ judging bytes short checked.
     let none : is_some last.found ≡ false = search rules in
     let on : last.judging.open_waits ≡ true = search rules in
     let lost : c.in_ok-may_end.field-0 ≡ false = search rules in
-    judged_at_end judging last _ bytes (LostWakeUps last.waits.items) (is_unfound last none) short refl
+    judged_at_end judging last (record last { found = Some findings.LostWakeUps }) bytes (LostWakeUps last.waits.items) (is_unfound last none) short refl
     (c.in_ok-end_last_line.ensures.read judging bytes checked)
     (λ before read.
         ends_lost judging last before on
