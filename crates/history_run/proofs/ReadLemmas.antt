@@ -1,13 +1,16 @@
 -- A history as a source gives it: for `ended`, `read_history` and `read_past`.
-use Rattle.std.proofs.Common.{◌≡◌, ◌≤◌, ℕ, ◌+◌, List, [], ◌∷◌, ◌++◌, Option, length, refl, inl, inr, arith, length-append}
-use Rattle.std.proofs.lemmas.Grind.{common_steps}
+use Rattle.std.proofs.Common.{◌≡◌, ◌≤◌, ℕ, ◌+◌, Bool, List, [], ◌∷◌, ◌++◌, Option, length, refl, sym, subst, inl, inr, arith, append-nil, length-append}
 use Rattle.std.specs.Io.KnownBytes.{Consumes, IsAtEnd}
 use Rattle.std.proofs.KnownBytes.{Consumes-trans, Consumes-nil}
+use Rattle.history_core.specs.declared.search.SearchFault.{SearchFault}
+use Rattle.history_core.specs.declared.search.SearchFault.TheVariants as searches
 use Rattle.history_check.specs.declared.check.HistoryCheck.{HistoryCheck}
 use Rattle.history_check.specs.declared.judging.Judging.{Judging}
 use Rattle.history_check.specs.Checked.{HasChecked, HasJudged, IsLimited, lines_in, verdict_in}
 use Rattle.history_check.specs.Verdicts.{AreJudged, history_limit}
-use Rattle.history_run.specs.HistoryRuns.{Exceeds, IsJudged, IsRead, IsReadTo}
+use Rattle.history_run.specs.declared.runs.HistoryFault.{HistoryFault}
+use Rattle.history_run.specs.declared.runs.HistoryFault.TheVariants as faults
+use Rattle.history_run.specs.HistoryRuns.{Exceeds, IsEndFault, IsJudged, IsRead, IsReadFault, IsReadTo, fault_of}
 
 -- nothing was read
 pub nothing_read : (judging : Judging) (source : Option (List ℕ)) (check : HistoryCheck) (left : ℕ) → HasChecked judging check []
@@ -28,11 +31,15 @@ pub more_read : (judging : Judging) (old mid new : Option (List ℕ)) (before af
 more_read judging old mid new before after left rest more so_far consumed count checked few =
     let all = length-append so_far.input more in record {
       input = so_far.input ++ more;
-      consumed = Consumes-trans so_far.consumed consumed;
+      consumed = Consumes-trans old mid new so_far.input more so_far.consumed consumed;
       count = omega (arith, so_far.count, count, all);
       checked = checked so_far.input so_far.checked;
       few = omega (arith, so_far.few, few, all);
     }
+
+-- no byte more changes nothing
+still_checked : (judging : Judging) (check : HistoryCheck) (front : List ℕ) → HasChecked judging check front → HasChecked judging check (front ++ [])
+still_checked judging check front checked = subst (HasChecked judging check) (sym (append-nil front)) checked
 
 short : (judging : Judging) (old new : Option (List ℕ)) (check : HistoryCheck) (left : ℕ) (so_far : IsReadTo judging old new check left)
     → length so_far.input ≤ history_limit
@@ -57,7 +64,7 @@ pub whole_read : (judging : Judging) (old mid new : Option (List ℕ)) (check la
     → ((bytes : List ℕ) → length bytes ≤ history_limit → HasChecked judging check bytes → HasJudged judging last bytes)
     → lines_in last ≤ history_limit + 1 → IsRead judging old new last
 whole_read judging old mid new check last left so_far consumed at_end judged few =
-    let all = more_read judging old mid new check check left left [] so_far consumed (omega arith) (λ front checked. search (arith, checked)) (omega arith) in record {
+    let all = more_read judging old mid new check check left left [] so_far consumed (omega arith) (still_checked judging check) (omega arith) in record {
       judged = record {
         input = all.input;
         consumed = all.consumed;
@@ -74,7 +81,7 @@ pub past_read : (judging : Judging) (old mid new : Option (List ℕ)) (check las
 past_read judging old mid new check last byte so_far consumed cut few = record {
   judged = record {
     input = so_far.input ++ byte ∷ [];
-    consumed = Consumes-trans so_far.consumed consumed;
+    consumed = Consumes-trans old mid new so_far.input (byte ∷ []) so_far.consumed consumed;
     judged = inr (cut so_far.input byte (omega (arith, so_far.count)) so_far.checked);
   };
   few = omega (arith, few, so_far.few, so_far.count);
@@ -86,6 +93,38 @@ pub limit_read : (judging : Judging) (old mid new : Option (List ℕ)) (check : 
     → ((front : List ℕ) → HasChecked judging check front → IsLimited judging (front ++ more)) → Exceeds judging old new
 limit_read judging old mid new check left more so_far consumed limit = record {
   input = so_far.input ++ more;
-  consumed = Consumes-trans so_far.consumed consumed;
+  consumed = Consumes-trans old mid new so_far.input more so_far.consumed consumed;
   limited = limit so_far.input so_far.checked;
 }
+
+-- ---- faults
+
+-- why a search ended that judged bytes to their end
+pub end_fault : (judging : Judging) (bytes : List ℕ) (search : SearchFault) → (search ≡ searches.Limit → IsLimited judging bytes)
+    → IsEndFault judging bytes (fault_of search)
+end_fault judging bytes searches.Limit limit = limit refl
+end_fault judging bytes (searches.Memory memory) limit = tt
+
+-- why what was read can't be judged to its end
+pub end_fault_read : (judging : Judging) (old mid new : Option (List ℕ)) (check : HistoryCheck) (left : ℕ) (failed : Bool) (fault : HistoryFault)
+    → IsReadTo judging old mid check left → Consumes mid new []
+    → ((bytes : List ℕ) → length bytes ≤ history_limit → HasChecked judging check bytes → IsEndFault judging bytes fault)
+    → IsReadFault judging old new failed fault
+end_fault_read judging old mid new check left failed faults.Limit so_far consumed is =
+    let all = more_read judging old mid new check check left left [] so_far consumed (omega arith) (still_checked judging check) (omega arith) in
+    record { input = all.input; consumed = all.consumed; limited = is all.input (short judging old new check left all) all.checked }
+end_fault_read judging old mid new check left failed (faults.Memory memory) so_far consumed is = tt
+end_fault_read judging old mid new check left failed faults.Read so_far consumed is =
+    absurd (is so_far.input (short judging old mid check left so_far) so_far.checked)
+end_fault_read judging old mid new check left failed faults.Write so_far consumed is =
+    absurd (is so_far.input (short judging old mid check left so_far) so_far.checked)
+
+-- why more bytes weren't judged
+pub take_fault_read : (judging : Judging) (old mid new : Option (List ℕ)) (check : HistoryCheck) (left : ℕ) (failed : Bool) (more : List ℕ) (search : SearchFault)
+    → IsReadTo judging old mid check left → Consumes mid new more
+    → (search ≡ searches.Limit → (front rest : List ℕ) → HasChecked judging check front → IsLimited judging (front ++ more ++ rest))
+    → IsReadFault judging old new failed (fault_of search)
+take_fault_read judging old mid new check left failed more searches.Limit so_far consumed limit =
+    limit_read judging old mid new check left more so_far consumed
+    (λ front checked. subst (IsLimited judging) (append-nil (front ++ more)) (limit refl front [] checked))
+take_fault_read judging old mid new check left failed more (searches.Memory memory) so_far consumed limit = tt
