@@ -2,3 +2,5 @@
 pub mod NameLemmas
 pub mod ApartLemmas
 pub mod MergeLemmas
+pub mod FilesLemmas
+pub mod JudgeLemmas

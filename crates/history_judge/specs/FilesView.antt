@@ -1,13 +1,13 @@
 -- What is known of all files of a history, one by one.
-use Rattle.std.specs.Prelude.{◌≡◌, ℕ, ◌-◌, ◌<◌, ◌==◌, ◌↔◌, ◌⊎◌, Bool, false, IsTrue, ⊤, if◌then◌else◌, Option, Some, None, List, [], ◌∷◌, ◌++◌}
-use Rattle.std.specs.BTreeMap.{BTreeMap, get, values}
-use Rattle.std.specs.List.{sum_by}
+use Rattle.std.specs.Prelude.{◌≡◌, ℕ, ◌-◌, ◌<◌, ◌==◌, ◌↔◌, ◌⊎◌, Bool, IsTrue, if◌then◌else◌, Option, Some, None, List, [], ◌∷◌, ◌++◌}
+use Rattle.std.specs.BTreeMap.{get}
 use Rattle.std.specs.Ordering.{nat_cmp}
 use Rattle.history_core.specs.declared.file.FileHistory.{FileHistory}
 use Rattle.history_core.specs.Moments.{FileLine, HasMore, IsLegal, MayEnd, Reaches}
-use Rattle.history_core.specs.FileView.{count_in, has_open}
 use Rattle.history_core.specs.FileView as one_file
 use Rattle.history_judge.specs.declared.files.Files.{Files}
+use Rattle.history_judge.specs.Entries.{count_on}
+use Rattle.history_judge.specs.Kept.{kept_by}
 
 -- what is known of the file, where a request was sent on it
 abbrev pub file_in : Files → ℕ → Option FileHistory
@@ -17,27 +17,13 @@ file_in files file = get nat_cmp files.files file
 abbrev pub runs_of : Files → Bool
 runs_of files = files.runs
 
--- how many possibilities these files keep together
-abbrev pub kept_by : BTreeMap ℕ FileHistory → ℕ
-kept_by files = sum_by count_in (values files)
-
 -- how many are kept, of all files together
 abbrev pub kept_in : Files → ℕ
 kept_in files = kept_by files.files
 
--- how many are kept of the file
-abbrev pub count_on : Option FileHistory → ℕ
-count_on None = 0
-count_on (Some history) = count_in history
-
 -- how many are kept of the other files
 abbrev pub kept_beside : Files → ℕ → ℕ
 kept_beside files file = kept_in files - count_on (file_in files file)
-
--- no open request on the file has the ID
-abbrev pub IsFreeOn : Option FileHistory → ℕ → Type 0
-IsFreeOn None id = ⊤
-IsFreeOn (Some history) id = has_open history id ≡ false
 
 -- just these lines were read of the file; none, where nothing is known of it
 abbrev pub KnowsFile : Bool → Option FileHistory → List FileLine → Type 0
@@ -75,6 +61,6 @@ abbrev pub Exceeds : Files → ℕ → Type 0
 Exceeds files limit = (limit < kept_in files) ⊎ ((file : ℕ) × ExceedsOn files file limit)
 
 -- this tells whether the history may end so on each file
-abbrev pub EndWell : Files → Bool → Type 0
-EndWell files may_end =
+abbrev pub TellsEnd : Files → Bool → Type 0
+TellsEnd files may_end =
     (runs : Bool) (lines : ℕ → List FileLine) → Knows runs files lines → IsTrue may_end ↔ ((file : ℕ) → MayEnd runs (lines file))

@@ -1,6 +1,6 @@
 -- What is known of a whole history.
-use Rattle.std.specs.Prelude.{◌≡◌, ◌≢◌, ℕ, ◌-◌, ◌<◌, ◌⊎◌, Bool, Option, Some, None, option_map, List, [], ◌∷◌, ◌++◌}
-use Rattle.std.specs.BTreeMap.{BTreeMap, get}
+use Rattle.std.specs.Prelude.{◌≡◌, ◌≢◌, ℕ, ◌-◌, ◌<◌, ◌⊎◌, Bool, Option, None, List, [], ◌∷◌, ◌++◌}
+use Rattle.std.specs.BTreeMap.{get}
 use Rattle.std.specs.Ordering.{nat_cmp}
 use Rattle.history_core.specs.Moments.{HasMore}
 use Rattle.history_core.specs.Moments as one_file
@@ -8,11 +8,11 @@ use Rattle.history_core.specs.declared.search.SearchFault.{SearchFault}
 use Rattle.history_core.specs.declared.search.SearchFault.TheVariants as searches
 use Rattle.history_judge.specs.declared.fault.JudgeFault.{JudgeFault}
 use Rattle.history_judge.specs.declared.fault.JudgeFault.TheVariants as faults
-use Rattle.history_judge.specs.declared.files.Files.{Files}
 use Rattle.history_judge.specs.declared.judge.HistoryJudge.{HistoryJudge}
 use Rattle.history_judge.specs.declared.judge.OpenRequest.{OpenRequest}
-use Rattle.history_judge.specs.Histories.{HistoryLine, IsIllegalAt, IsLegal}
-use Rattle.history_judge.specs.FilesApart.{Sending, lines_of, open_after}
+use Rattle.history_judge.specs.Histories.{HistoryLine, IsIllegalAt}
+use Rattle.history_judge.specs.FilesApart.{lines_of}
+use Rattle.history_judge.specs.Known.{AreKnown, PutsRequest}
 use Rattle.history_judge.specs.FilesView as all_files
 
 -- the open request of the ID
@@ -27,23 +27,9 @@ kept_in judge = all_files.kept_in judge.files
 abbrev pub kept_beside : HistoryJudge → ℕ → ℕ
 kept_beside judge file = all_files.kept_beside judge.files file
 
--- what was sent, without the line
-abbrev pub sending_of : OpenRequest → Sending
-sending_of opened = record { file = opened.file; request = opened.request }
-
--- just these lines were read, and they are legal
-pub record AreKnown (runs : Bool) (files : Files) (opened : BTreeMap ℕ OpenRequest) (lines : List HistoryLine) : Type 0 where
-  pub legal : IsLegal runs lines
-  pub opens : (id : ℕ) → option_map sending_of (get nat_cmp opened id) ≡ open_after lines id
-  pub files_known : all_files.Knows runs files (λ file. lines_of file lines)
-
 -- just these lines were read, and they are legal
 abbrev pub Knows : Bool → HistoryJudge → List HistoryLine → Type 0
 Knows runs judge lines = AreKnown runs judge.files judge.opened lines
-
--- some lines were read, and they are legal
-abbrev pub IsHistory : Files → BTreeMap ℕ OpenRequest → Type 0
-IsHistory files opened = (lines : List HistoryLine) × AreKnown (all_files.runs_of files) files opened lines
 
 -- the line was read
 abbrev pub Takes : HistoryJudge → HistoryJudge → HistoryLine → Type 0
@@ -60,10 +46,6 @@ Refuses judge line = (runs : Bool) (lines : List HistoryLine) → Knows runs jud
 -- a request of this ID is open
 abbrev pub HasOpen : HistoryJudge → ℕ → Type 0
 HasOpen judge id = open_in judge id ≢ None
-
--- this is open under the ID, if anything, and under others what was
-abbrev pub PutsRequest : BTreeMap ℕ OpenRequest → BTreeMap ℕ OpenRequest → ℕ → Option OpenRequest → Type 0
-PutsRequest old new id sent = (get nat_cmp new id ≡ sent) × ((other : ℕ) → other ≢ id → get nat_cmp new other ≡ get nat_cmp old other)
 
 -- the open request of the ID is this one, if one, and those of other IDs are as they were
 abbrev pub Opens : HistoryJudge → HistoryJudge → ℕ → Option OpenRequest → Type 0

@@ -33,6 +33,7 @@ impl From<SearchFault> for JudgeFault {
 
 impl From<Memory> for JudgeFault {
     ghost use Rattle.std.specs.Prelude.{◌≡◌};
+    ghost use Rattle.history_judge.specs.declared.fault.JudgeFault.{JudgeFault};
 
     ghost from_gives = { λ memory fault. fault ≡ JudgeFault.Memory memory };
 

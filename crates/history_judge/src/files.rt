@@ -1,12 +1,10 @@
 //! What is known of all files of a history, one by one.
-ghost use Rattle.std.specs.Prelude.{◌≡◌, ◌≢◌, ◌+◌, ◌-◌, ◌≤◌, ◌↔◌, ℕ, Bool, IsTrue, IfOk, OnOk, OnErr, None, true, false};
-ghost use Rattle.std.specs.BTreeMap.{IsOrdered, insert_entry};
+ghost use Rattle.std.specs.Prelude.{◌≡◌, ◌≢◌, ◌-◌, OnOk, OnErr, None};
+ghost use Rattle.std.specs.BTreeMap.{IsOrdered, get};
 ghost use Rattle.std.specs.Ordering.{nat_cmp};
-ghost use Rattle.history_core.specs.declared.file.FileHistory.{FileHistory};
-ghost use Rattle.history_core.specs.declared.search.SearchFault.{SearchFault};
 ghost use Rattle.history_core.specs.FileView.{count_in};
-ghost use Rattle.history_core.specs.Moments.{Answered, FileLine, MayEnd, Sent};
-ghost use Rattle.history_judge.specs.FilesView.{EndWell, Exceeds, IsFreeOn, Knows, Refuses, Stays, Takes, file_in, kept_by, kept_in, runs_of};
+ghost use Rattle.history_judge.specs.Kept.{kept_by};
+ghost use Rattle.history_judge.specs.Entries.{Answers, Inserts, IsFreeOn, Rewrites, Sends};
 
 use history_core::{Answer, FileHistory, Request, SearchFault};
 use range_core::Memory;
@@ -27,6 +25,11 @@ pub struct Files {
 }
 
 impl Files {
+    ghost use Rattle.std.specs.Prelude.{◌<◌, ◌≤◌, ◌↔◌, ℕ, IfOk, IsTrue, true, false};
+    ghost use Rattle.history_core.specs.declared.search.SearchFault.{SearchFault};
+    ghost use Rattle.history_core.specs.Moments.{Answered, Sent};
+    ghost use Rattle.history_judge.specs.FilesView.{TellsEnd, Exceeds, Refuses, Stays, Takes, file_in, kept_beside as kept_beside_of, kept_in, runs_of};
+
     /// Nothing was sent. With `runs` a get tells largest ranges of one mode alone. It takes no memory.
     pub fn new(alloc: Global, runs: bool) -> Files
         ensures none { (file : ℕ) → file_in result file ≡ None }
@@ -57,8 +60,9 @@ impl Files {
         ensures room { OnOk result (kept_in self.old ≤ limit) }
         ensures limit { result ≡ Err SearchFault.Limit → Exceeds self.old limit }
         ensures err { OnErr result (Stays self.old self.new) }
+        ensures runs { runs_of self.new ≡ runs_of self.old }
     {
-        if self.count() > limit as u128 {
+        if self.is_over(limit) {
             return Err(SearchFault::Limit);
         }
         if self.files.contains_key(&file) {
@@ -85,14 +89,15 @@ impl Files {
         ensures room { OnOk result (kept_in self.old ≤ limit) }
         ensures limit { result ≡ Err SearchFault.Limit → Exceeds self.old limit }
         ensures err { OnErr result (Stays self.old self.new) }
+        ensures runs { runs_of self.new ≡ runs_of self.old }
     {
-        if self.count() > limit as u128 {
+        if self.is_over(limit) {
             return Err(SearchFault::Limit);
         }
         let elsewhere = self.kept_beside(file);
-        let history = self.files.get_mut(&file).unwrap();
-        let answered = history.answer(id, answer, room_beside(elsewhere, limit));
-        self.kept = elsewhere + history.count() as u128;
+        let room = room_beside(elsewhere, limit);
+        let (answered, count) = answer_on(&mut self.files, file, id, answer, room);
+        self.kept = elsewhere + count as u128;
         answered
     }
 
@@ -100,15 +105,15 @@ impl Files {
     ///
     /// `Limit` where more possibilities than the limit are kept, or would be, `Memory` where a growth was refused.
     pub fn may_end(&self, limit: usize) -> Result<bool, SearchFault>
-        ensures ok { IfOk result (λ may_end. EndWell self.now may_end) }
+        ensures ok { IfOk result (λ may_end. TellsEnd self.now may_end) }
         ensures room { OnOk result (kept_in self.now ≤ limit) }
         ensures limit { result ≡ Err SearchFault.Limit → Exceeds self.now limit }
     {
-        if self.count() > limit as u128 {
+        if self.is_over(limit) {
             return Err(SearchFault::Limit);
         }
-        for history in self.files.values() {
-            let elsewhere = self.kept.saturating_sub(history.count() as u128);
+        for (file, history) in &self.files {
+            let elsewhere = self.kept_beside(*file);
             if !history.may_end(room_beside(elsewhere, limit))? {
                 return Ok(false);
             }
@@ -123,6 +128,7 @@ impl Files {
         ensures ok { OnOk result (Takes self.old self.new file (Sent request)) }
         ensures limit { result ≡ Err SearchFault.Limit → Exceeds self.old limit }
         ensures err { OnErr result (Stays self.old self.new) }
+        ensures runs { runs_of self.new ≡ runs_of self.old }
     {
         let room = room_beside(self.kept, limit);
         if room == 0 {
@@ -144,21 +150,63 @@ impl Files {
         ensures ok { OnOk result (Takes self.old self.new file (Sent request)) }
         ensures limit { result ≡ Err SearchFault.Limit → Exceeds self.old limit }
         ensures err { OnErr result (Stays self.old self.new) }
+        ensures runs { runs_of self.new ≡ runs_of self.old }
     {
         let elsewhere = self.kept_beside(file);
-        let history = self.files.get_mut(&file).unwrap();
-        let sent = history.send(request, room_beside(elsewhere, limit));
-        self.kept = elsewhere + history.count() as u128;
+        let room = room_beside(elsewhere, limit);
+        let (sent, count) = send_on(&mut self.files, file, request, room);
+        self.kept = elsewhere + count as u128;
         sent
     }
 
+    /// Whether more possibilities than the limit are kept.
+    fn is_over(&self, limit: usize) -> bool
+        ensures { IsTrue result ↔ (limit < kept_in self.now) }
+    {
+        self.kept > limit as u128
+    }
+
     /// How many possibilities are kept of the other files.
-    fn kept_beside(&self, file: u64) -> u128 {
+    fn kept_beside(&self, file: u64) -> u128
+        ensures { result ≡ kept_beside_of self.now file }
+    {
         match self.files.get(&file) {
             Some(history) => self.kept.saturating_sub(history.count() as u128),
             None => self.kept,
         }
     }
+}
+
+/// Reads the `>` on a file that has an entry, and tells how many possibilities are kept of it then.
+fn send_on(
+    files: &mut BTreeMap<u64, FileHistory>,
+    file: u64,
+    request: Request,
+    limit: usize,
+) -> (Result<(), SearchFault>, usize)
+    requires entry { get nat_cmp files.old file ≢ None }
+    requires free { IsFreeOn (get nat_cmp files.old file) request.id }
+    ensures { Rewrites files.old files.new file (λ old new. Sends old new request limit result.0 × (result.1 ≡ count_in new)) }
+{
+    let history = files.get_mut(&file).unwrap();
+    let sent = history.send(request, limit);
+    (sent, history.count())
+}
+
+/// Reads the `<` on a file that has an entry, and tells how many possibilities are kept of it then.
+fn answer_on(
+    files: &mut BTreeMap<u64, FileHistory>,
+    file: u64,
+    id: u64,
+    answer: Answer,
+    limit: usize,
+) -> (Result<bool, SearchFault>, usize)
+    requires { get nat_cmp files.old file ≢ None }
+    ensures { Rewrites files.old files.new file (λ old new. Answers old new id answer limit result.0 × (result.1 ≡ count_in new)) }
+{
+    let history = files.get_mut(&file).unwrap();
+    let answered = history.answer(id, answer, limit);
+    (answered, history.count())
 }
 
 /// The file has this entry.
@@ -167,7 +215,7 @@ fn put_file(
     file: u64,
     history: FileHistory,
 ) -> Result<(), Memory>
-    ensures ok { OnOk result (files.new.entries ≡ insert_entry nat_cmp files.old.entries file history) }
+    ensures ok { OnOk result (Inserts files.old files.new file history) }
     ensures ordered { IsOrdered nat_cmp files.old }
     ensures err { OnErr result (files.new.entries ≡ files.old.entries) }
 {

@@ -1,11 +1,6 @@
 //! A whole history, line by line.
-ghost use Rattle.std.specs.Prelude.{◌≡◌, ◌≢◌, ◌≤◌, ◌↔◌, ◌⊎◌, ℕ, Bool, List, IsTrue, IfOk, OnOk, OnErr, None, Some, [], true, false};
-ghost use Rattle.std.specs.BTreeMap.{get};
-ghost use Rattle.std.specs.Ordering.{nat_cmp};
-ghost use Rattle.history_core.specs.declared.search.SearchFault.{SearchFault};
-ghost use Rattle.history_judge.specs.declared.fault.JudgeFault.{JudgeFault};
-ghost use Rattle.history_judge.specs.Histories.{Answered, HistoryLine, MayEnd, Sent};
-ghost use Rattle.history_judge.specs.JudgeView.{IsHistory, PutsRequest};
+ghost use Rattle.std.specs.Prelude.{◌≡◌, None, Some, OnOk, OnErr};
+ghost use Rattle.history_judge.specs.Known.{IsHistory, PutsRequest};
 
 use crate::fault::JudgeFault;
 use crate::files::Files;
@@ -35,7 +30,13 @@ pub struct HistoryJudge {
 }
 
 impl HistoryJudge {
-    ghost use Rattle.history_judge.specs.JudgeView.{Exceeds, HasOpen, IsMore, Knows, Opens, Refuses, Stays, StaysOpen, Takes, Unchanged, kept_in, open_in};
+    ghost use Rattle.std.specs.Prelude.{◌≢◌, ◌≤◌, ◌↔◌, ℕ, Bool, List, IsTrue, IfOk, []};
+    ghost use Rattle.std.specs.BTreeMap.{get};
+    ghost use Rattle.std.specs.Ordering.{nat_cmp};
+    ghost use Rattle.history_core.specs.declared.search.SearchFault.{SearchFault};
+    ghost use Rattle.history_judge.specs.declared.fault.JudgeFault.{JudgeFault};
+    ghost use Rattle.history_judge.specs.Histories.{Answered, HistoryLine, MayEnd, Sent};
+    ghost use Rattle.history_judge.specs.JudgeView.{Exceeds, HasOpen, Knows, Opens, Refuses, Stays, StaysOpen, Takes, kept_in, open_in};
 
     /// No line was read. With `runs` a get tells largest ranges of one mode alone (POSIX.1-2017 fcntl, `F_GETLK`, leaves open which part of
     /// the lock it tells). It takes no memory.
@@ -101,11 +102,13 @@ impl HistoryJudge {
             request,
         };
         put_request(&mut self.opened, sent)?;
-        if let Err(fault) = self.files.send(file, request, limit) {
-            self.opened.remove(&request.id);
-            return Err(JudgeFault::from(fault));
+        match self.files.send(file, request, limit) {
+            Ok(()) => Ok(()),
+            Err(fault) => {
+                remove_request(&mut self.opened, request.id);
+                Err(JudgeFault::from(fault))
+            }
         }
-        Ok(())
     }
 
     /// Reads a `<`: the open request of this ID was told this.
@@ -129,7 +132,7 @@ impl HistoryJudge {
         if !self.files.answer(sent.file, id, answer, limit)? {
             return Err(JudgeFault::Impossible);
         }
-        self.opened.remove(&id);
+        remove_request(&mut self.opened, id);
         Ok(())
     }
 
@@ -152,4 +155,11 @@ fn put_request(opened: &mut BTreeMap<u64, OpenRequest>, sent: OpenRequest) -> Re
 {
     opened.insert(sent.request.id, sent)?;
     Ok(())
+}
+
+/// No request is open under the ID.
+fn remove_request(opened: &mut BTreeMap<u64, OpenRequest>, id: u64)
+    ensures { PutsRequest opened.old opened.new id None }
+{
+    opened.remove(&id);
 }
