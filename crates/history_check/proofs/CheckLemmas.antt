@@ -17,7 +17,8 @@ use Rattle.history_judge.specs.declared.judge.HistoryJudge.{HistoryJudge}
 use Rattle.history_judge.specs.declared.judge.OpenRequest.{OpenRequest}
 use Rattle.history_judge.specs.FilesApart.{Sending}
 use Rattle.history_judge.specs.Histories.{Answered, IsLegal, MayEnd}
-use Rattle.history_judge.specs.JudgeView.{Exceeds, Knows, Refuses, open_in, sending_of}
+use Rattle.history_judge.specs.JudgeView.{Exceeds, Knows, Refuses, open_in}
+use Rattle.history_judge.specs.Known.{sending_of}
 use Rattle.history_check.specs.declared.judging.Judging.{Judging}
 use Rattle.history_check.specs.declared.open_waits.OpenWait.{OpenWait}
 use Rattle.history_check.specs.declared.check.Finding.{Finding}

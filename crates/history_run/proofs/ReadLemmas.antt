@@ -1,5 +1,5 @@
 -- A history as a source gives it: for `ended`, `read_history` and `read_past`.
-use Rattle.std.proofs.Common.{◌≡◌, ◌≤◌, ℕ, ◌+◌, Bool, List, [], ◌∷◌, ◌++◌, Option, length, refl, sym, subst, inl, inr, arith, append-nil, length-append}
+use Rattle.std.proofs.Common.{◌≡◌, ◌≤◌, ℕ, ◌+◌, Bool, List, [], ◌∷◌, ◌++◌, Option, Result, Ok, Err, IfOk, IfErr, MatchResult, length, refl, sym, subst, inl, inr, arith, append-nil, length-append}
 use Rattle.std.specs.Io.KnownBytes.{Consumes, IsAtEnd}
 use Rattle.std.proofs.KnownBytes.{Consumes-trans, Consumes-nil}
 use Rattle.history_core.specs.declared.search.SearchFault.{SearchFault}
@@ -128,3 +128,24 @@ take_fault_read judging old mid new check left failed more searches.Limit so_far
     limit_read judging old mid new check left more so_far consumed
     (λ front checked. subst (IsLimited judging) (append-nil (front ++ more)) (limit refl front [] checked))
 take_fault_read judging old mid new check left failed more (searches.Memory memory) so_far consumed limit = tt
+
+-- ---- where a call may have failed
+
+-- what was read to its end
+pub whole_where : (result : Result HistoryCheck HistoryFault) (judging : Judging) (old mid new : Option (List ℕ)) (check : HistoryCheck) (left : ℕ)
+    → IsReadTo judging old mid check left → Consumes mid new [] → IsAtEnd new
+    → ((bytes : List ℕ) → length bytes ≤ history_limit → HasChecked judging check bytes
+    → MatchResult result (λ last. HasJudged judging last bytes) (IsEndFault judging bytes))
+    → IfOk result (λ last. lines_in last ≤ history_limit + 1) → IfOk result (IsRead judging old new)
+whole_where (Ok last) judging old mid new check left so_far consumed at_end judged few =
+    whole_read judging old mid new check last left so_far consumed at_end judged few
+whole_where (Err fault) judging old mid new check left so_far consumed at_end judged few = tt
+
+-- or why it wasn't judged
+pub fault_where : (result : Result HistoryCheck HistoryFault) (judging : Judging) (old mid new : Option (List ℕ)) (check : HistoryCheck) (left : ℕ)
+    (failed : Bool) → IsReadTo judging old mid check left → Consumes mid new []
+    → ((bytes : List ℕ) → length bytes ≤ history_limit → HasChecked judging check bytes
+    → MatchResult result (λ last. HasJudged judging last bytes) (IsEndFault judging bytes)) → IfErr result (IsReadFault judging old new failed)
+fault_where (Ok last) judging old mid new check left failed so_far consumed judged = tt
+fault_where (Err fault) judging old mid new check left failed so_far consumed judged =
+    end_fault_read judging old mid new check left failed fault so_far consumed judged

@@ -45,6 +45,12 @@ pub record Exceeds (judging : Judging) (old new : Option (List ℕ)) : Type 0 wh
   pub consumed : Consumes old new input
   pub limited : IsLimited judging input
 
+-- of what is told of the history so much was written
+pub record TellsSome (check : HistoryCheck) (Written : List ℕ → Type 0) : Type 0 where
+  pub text : List ℕ
+  pub told : IsTold (verdict_in check) text
+  pub written : Written text
+
 -- a history for which something is printed
 abbrev pub IsPrinted : HistoryOutcome → Type 0
 IsPrinted outcomes.Legal = ⊥

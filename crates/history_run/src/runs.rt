@@ -1,13 +1,13 @@
 //! A history from its bytes to what is told of it.
-ghost use Rattle.std.specs.Prelude.{◌≡◌, ◌≢◌, ◌≤◌, ◌+◌, ℕ, List, Option, IfOk, IfErr, OnOk, OnErr, MatchResult, Ok, Err, IsTrue, length};
+ghost use Rattle.std.specs.Prelude.{◌≡◌, ◌≢◌, ◌≤◌, ◌<◌, ◌+◌, ◌^◌, ℕ, List, Option, IfOk, IfErr, OnOk, OnErr, MatchResult, Ok, Err, IsTrue, length};
 ghost use Rattle.std.specs.Io.KnownBytes.{Appends};
 ghost use Rattle.history_check.specs.declared.judging.HistoryOutcome.{HistoryOutcome};
 ghost use Rattle.history_check.specs.Verdicts.{history_limit};
 ghost use Rattle.history_check.specs.Checked.{HasChecked, HasJudged, lines_in, verdict_in};
-ghost use Rattle.history_check.specs.Told.{IsTold};
+ghost use Rattle.history_check.specs.Told.{outcome_of};
 ghost use Rattle.replay_core.specs.Devices.{TakesFront};
 ghost use Rattle.history_run.specs.declared.runs.HistoryFault.{HistoryFault};
-ghost use Rattle.history_run.specs.HistoryRuns.{Exceeds, IsEndFault, IsPrinted, IsRead, IsReadFault, IsReadTo, WritesFront, WritesTold, fault_status};
+ghost use Rattle.history_run.specs.HistoryRuns.{Exceeds, IsEndFault, IsPrinted, IsRead, IsReadFault, IsReadTo, TellsSome, WritesFront, WritesTold, fault_status};
 ghost use Rattle.history_check.specs.declared.judging.Judging.{Judging};
 
 use history_check::{HISTORY_MAX, HistoryCheck, HistoryOutcome, Judging};
@@ -104,12 +104,32 @@ pub fn judge_history<R: Source, W: Sink>(
     ensures calls { R.calls source.new ≤ R.calls source.old + (history_limit + 1) }
 {
     let check = read_history(alloc, judging, source)?;
-    let outcome = check.outcome();
-    if let HistoryOutcome::Illegal | HistoryOutcome::LostWakeUps = outcome {
-        let text = check.told(alloc)?;
-        write_all(sink, &text)?;
+    write_told(alloc, &check, sink)?;
+    Ok(check.outcome())
+}
+
+/// Writes what is told of a history that was judged.
+fn write_told<W: Sink>(
+    alloc: Global,
+    check: &HistoryCheck,
+    sink: &mut W,
+) -> Result<(), HistoryFault>
+    requires { lines_in check.now + 1 < 2 ^ 64 }
+    ensures ok { OnOk result (TellsSome check.now (λ text. Appends (W.written sink.old) (W.written sink.new) text)) }
+    ensures quiet { OnOk result (¬ IsPrinted (outcome_of (verdict_in check.now)) → sink.new ≡ sink.old) }
+    ensures front { result ≡ Err HistoryFault.Write → TellsSome check.now (λ text. TakesFront (W.written sink.old) (W.written sink.new) text) }
+    ensures failed { result ≡ Err HistoryFault.Write → IsTrue (W.failed sink.new) }
+    ensures sound { result ≢ Err HistoryFault.Write → W.failed sink.new ≡ W.failed sink.old }
+    ensures unwritten { IfErr result (λ fault. fault ≢ HistoryFault.Write → sink.new ≡ sink.old) }
+    ensures known { (result ≢ Err HistoryFault.Read) × (result ≢ Err HistoryFault.Limit) }
+{
+    match check.outcome() {
+        HistoryOutcome::Legal | HistoryOutcome::Faulty(_) => Ok(()),
+        HistoryOutcome::Illegal | HistoryOutcome::LostWakeUps => {
+            let text = check.told(alloc)?;
+            write_all(sink, &text)
+        }
     }
-    Ok(outcome)
 }
 
 /// Reads a history until it is judged.

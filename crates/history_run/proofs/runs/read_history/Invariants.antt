@@ -8,6 +8,6 @@ decreases-loop-left g l = l.left
 
 abbrev pub invariant-loop-left : goal.invariant-loop-left
 invariant-loop-left g l =
-    IsReadTo l.judging (g.R.Source.remaining l.fn.source) (g.R.Source.remaining l.source) l.check l.left
+    IsReadTo l.fn.judging (g.R.Source.remaining l.fn.source) (g.R.Source.remaining l.source) l.check l.left
     × (g.R.Source.failed l.source ≡ g.R.Source.failed l.fn.source)
     × (g.R.Source.calls l.source + l.left ≤ g.R.Source.calls l.fn.source + history_limit)
