@@ -1,5 +1,5 @@
 -- A history as a source gives it: for `ended`, `read_history` and `read_past`.
-use Rattle.std.proofs.Common.{◌≡◌, ◌≤◌, ℕ, ◌+◌, Bool, List, [], ◌∷◌, ◌++◌, Option, Result, Ok, Err, IfOk, IfErr, MatchResult, length, refl, sym, subst, inl, inr, arith, append-nil, length-append}
+use Rattle.std.proofs.Common.{◌≡◌, ◌≤◌, ℕ, ◌+◌, Bool, List, [], ◌∷◌, ◌++◌, Option, Result, Ok, Err, IfOk, IfErr, MatchResult, length, take, refl, sym, subst, inl, inr, arith, append-nil, length-append}
 use Rattle.std.specs.Io.KnownBytes.{Consumes, IsAtEnd}
 use Rattle.std.proofs.KnownBytes.{Consumes-trans, Consumes-nil}
 use Rattle.history_core.specs.declared.search.SearchFault.{SearchFault}
@@ -86,6 +86,10 @@ past_read judging old mid new check last byte so_far consumed cut few = record {
   };
   few = omega (arith, few, so_far.few, so_far.count);
 }
+
+-- no byte was given
+pub no_bytes : (mid new : Option (List ℕ)) (room : List ℕ) (count : ℕ) → count ≡ 0 → Consumes mid new (take count room) → Consumes mid new []
+no_bytes mid new room count is consumed = subst (λ (n : ℕ). Consumes mid new (take n room)) is consumed
 
 -- the limit is reached by what was read
 pub limit_read : (judging : Judging) (old mid new : Option (List ℕ)) (check : HistoryCheck) (left : ℕ) (more : List ℕ)
