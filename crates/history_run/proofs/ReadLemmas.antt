@@ -1,5 +1,5 @@
 -- A history as a source gives it: for `ended`, `read_history` and `read_past`.
-use Rattle.std.proofs.Common.{◌≡◌, ◌≤◌, ℕ, ◌+◌, Bool, List, [], ◌∷◌, ◌++◌, Option, Result, Ok, Err, IfOk, IfErr, MatchResult, length, take, refl, sym, subst, inl, inr, arith, append-nil, length-append}
+use Rattle.std.proofs.Common.{◌≡◌, ◌≤◌, ℕ, ◌+◌, Bool, List, [], ◌∷◌, ◌++◌, Option, Result, Ok, Err, IfOk, IfErr, IsErrAnd, MatchResult, length, take, refl, sym, subst, inl, inr, arith, append-nil, length-append}
 use Rattle.std.specs.Io.KnownBytes.{Consumes, IsAtEnd}
 use Rattle.std.proofs.KnownBytes.{Consumes-trans, Consumes-nil}
 use Rattle.history_core.specs.declared.search.SearchFault.{SearchFault}
@@ -153,3 +153,13 @@ pub fault_where : (result : Result HistoryCheck HistoryFault) (judging : Judging
 fault_where (Ok last) judging old mid new check left failed so_far consumed judged = tt
 fault_where (Err fault) judging old mid new check left failed so_far consumed judged =
     end_fault_read judging old mid new check left failed fault so_far consumed judged
+
+-- or why more of it wasn't
+pub take_where : (result : Result HistoryCheck HistoryFault) (judging : Judging) (old mid new : Option (List ℕ)) (check : HistoryCheck) (left : ℕ)
+    (failed : Bool) (more : List ℕ) (search : SearchFault) → IsErrAnd result (λ fault. fault ≡ fault_of search)
+    → IsReadTo judging old mid check left → Consumes mid new more
+    → (search ≡ searches.Limit → (front rest : List ℕ) → HasChecked judging check front → IsLimited judging (front ++ more ++ rest))
+    → IfErr result (IsReadFault judging old new failed)
+take_where (Ok last) judging old mid new check left failed more search is so_far consumed limit = tt
+take_where (Err fault) judging old mid new check left failed more search is so_far consumed limit =
+    subst (IsReadFault judging old new failed) (sym is) (take_fault_read judging old mid new check left failed more search so_far consumed limit)

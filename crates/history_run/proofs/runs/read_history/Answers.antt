@@ -1,6 +1,7 @@
-use Rattle.std.proofs.Common.{refl, arith, rules, subst, ◌≡◌, ◌∙◌, ◌≤◌, ◌<◌, ◌-◌, ℕ, length, take, length-take-le}
+use Rattle.std.proofs.Common.{refl, arith, rules, ap, subst, Err, ◌≡◌, ◌∙◌, ◌≤◌, ◌<◌, ◌-◌, ℕ, length, take, length-take-le}
+use Rattle.history_core.specs.declared.search.SearchFault.{SearchFault}
 use Rattle.history_run.specs.HistoryRuns.{IsReadTo}
-use Rattle.history_run.proofs.ReadLemmas.{decided_read, fault_where, more_read, no_bytes, nothing_read, take_fault_read, whole_where}
+use Rattle.history_run.proofs.ReadLemmas.{decided_read, fault_where, more_read, no_bytes, nothing_read, take_where, whole_where}
 use Rattle.history_run.proofs.runs.read_history.Goals as goal
 
 pub loop-left-init : goal.loop-left-init
@@ -32,18 +33,20 @@ returns-then-is_decided-clause-whole g c =
 
 pub returns-in-Ok-eq0-clause-whole : goal.returns-in-Ok-eq0-clause-whole
 returns-in-Ok-eq0-clause-whole g c =
+    let none : c.in-Ok-eq0.field-0 ≡ 0 = search rules in
     whole_where c.ended.result c.args.judging (g.R.Source.remaining c.args.source.now) (g.R.Source.remaining c.loop-left.source)
     (g.R.Source.remaining c.read_some.new.self) c.loop-left.check c.loop-left.left c.loop-left.invariant.0
-    (no_bytes (g.R.Source.remaining c.loop-left.source) (g.R.Source.remaining c.read_some.new.self) c.read_some.new.room c.in-Ok-eq0.field-0
-    c.in-Ok-eq0.field-0-is c.in-Ok-eq0.ensures.some.consumed)
-    (c.in-Ok-eq0.ensures.some.end c.in-Ok-eq0.field-0-is) (c.ended.ensures.judged c.args.judging) c.ended.ensures.few
+    (no_bytes (g.R.Source.remaining c.loop-left.source) (g.R.Source.remaining c.read_some.new.self) c.read_some.new.room c.in-Ok-eq0.field-0 none
+    c.in-Ok-eq0.ensures.some.consumed)
+    (c.in-Ok-eq0.ensures.some.end none) (c.ended.ensures.judged c.args.judging) c.ended.ensures.few
 
 pub returns-in-Ok-eq0-clause-fault : goal.returns-in-Ok-eq0-clause-fault
 returns-in-Ok-eq0-clause-fault g c =
+    let none : c.in-Ok-eq0.field-0 ≡ 0 = search rules in
     fault_where c.ended.result c.args.judging (g.R.Source.remaining c.args.source.now) (g.R.Source.remaining c.loop-left.source)
     (g.R.Source.remaining c.read_some.new.self) c.loop-left.check c.loop-left.left (g.R.Source.failed c.read_some.new.self) c.loop-left.invariant.0
-    (no_bytes (g.R.Source.remaining c.loop-left.source) (g.R.Source.remaining c.read_some.new.self) c.read_some.new.room c.in-Ok-eq0.field-0
-    c.in-Ok-eq0.field-0-is c.in-Ok-eq0.ensures.some.consumed)
+    (no_bytes (g.R.Source.remaining c.loop-left.source) (g.R.Source.remaining c.read_some.new.self) c.read_some.new.room c.in-Ok-eq0.field-0 none
+    c.in-Ok-eq0.ensures.some.consumed)
     (c.ended.ensures.judged c.args.judging)
 
 pub returns-clause-whole : goal.returns-clause-whole
@@ -61,4 +64,10 @@ returns-clause-fault g c =
     c.loop-left.invariant.0)
 
 pub returns-in_err-take_all-in-Ok-clause-fault : goal.returns-in_err-take_all-in-Ok-clause-fault
-returns-in_err-take_all-in-Ok-clause-fault g c = ?
+returns-in_err-take_all-in-Ok-clause-fault g c =
+    take_where c.from_residual.result c.args.judging (g.R.Source.remaining c.args.source.now) (g.R.Source.remaining c.loop-left.source)
+    (g.R.Source.remaining c.read_some.new.self) c.loop-left.check c.loop-left.left (g.R.Source.failed c.read_some.new.self)
+    (take c.in-Ok.count c.read_some.new.room) c.in_err-take_all-in-Ok.field-0.0 c.from_residual.ensures.1 c.loop-left.invariant.0
+    c.in-Ok.ensures.some.consumed
+    (λ is front rest checked.
+        c.in_err-take_all-in-Ok.ensures.limit (ap (λ (fault : SearchFault). Err fault) is) c.args.judging front rest checked)
