@@ -1,5 +1,5 @@
 -- A history, byte by byte: for `HistoryCheck::end`, `end_line`, `go_on`, `grow`, `take_all` and others.
-use Rattle.std.proofs.Common.{rules, ◌≡◌, ◌≢◌, ◌<◌, ◌≤◌, ℕ, ◌+◌, ◌==◌, true, false, Bool, List, [], ◌∷◌, ◌++◌, Option, Some, None, Ok, Err, length, refl, sym, ap, subst, ◌∙◌, inl, inr, arith, append_assoc, append-nil, length-append, get_or, take, drop, take-append-drop, All, OnOk, Result, is_some, flat_map, option_map}
+use Rattle.std.proofs.Common.{◌≡◌, ◌<◌, ◌≤◌, ℕ, ◌+◌, ◌==◌, true, false, Bool, List, [], ◌∷◌, ◌++◌, Option, Some, None, Ok, Err, length, refl, sym, ap, subst, ◌∙◌, inl, inr, arith, append_assoc, append-nil, length-append, get_or, take, drop, take-append-drop, OnOk, Result, is_some, option_map}
 use Rattle.std.specs.Prelude.{◌↔◌, IsTrue}
 use Rattle.std.proofs.lemmas.Grind.{common_steps, flat_map-append}
 use Rattle.std.proofs.lemmas.Bool.Decides.{eqb_tells}
@@ -25,7 +25,7 @@ use Rattle.history_check.specs.declared.check.Finding.{Finding}
 use Rattle.history_check.specs.declared.check.Finding.TheVariants as findings
 use Rattle.history_check.specs.declared.check.HistoryCheck.{HistoryCheck}
 use Rattle.history_check.specs.Told.{InLine}
-use Rattle.history_check.specs.Verdicts.{AreJudged, BytesCome, EndComes, Extent, Faulty, HistoryComes, Illegal, Legal, LinesCome, LostWakeUps, Verdict, Whole, history_limit, history_of, lines_told, requested_after, said_by, too_long, waits_after, waits_behind, waits_from}
+use Rattle.history_check.specs.Verdicts.{AreJudged, BytesCome, EndComes, Faulty, HistoryComes, Illegal, Legal, LostWakeUps, Verdict, Whole, history_limit, history_of, lines_told, requested_after, said_by, waits_after, waits_behind, waits_from}
 use Rattle.history_check.specs.Checked.{AreLinesRead, HasChecked, HasJudged, HasRead, HasReadBytes, HasReadLines, IsFoundAt, IsFoundOf, IsLimited, Judges, LeadsTo, Passes, requested_in, verdict_at, verdict_of}
 use Rattle.history_check.proofs.LineLemmas.{end_leads, last_leads, line_decides, line_grows, line_read, line_too_long, still_decided}
 use Rattle.history_check.proofs.EndLemmas.{comes_whole, decided_all, one_too_many}
@@ -55,7 +55,7 @@ pub asked : (runs : Bool) (judge : HistoryJudge) (before : List TextLine) → Kn
     → requested_in judge ≡ requested_after before
 asked runs judge before knows =
     let at : (id : ℕ) → requested_in judge id ≡ requested_after before id =
-        λ id. asked_by (open_in judge id) ∙ ap (λ s. option_map (λ (one : Sending). one.request.action) s) (knows.opens id) in
+    λ id. asked_by (open_in judge id) ∙ ap (λ s. option_map (λ (one : Sending). one.request.action) s) (knows.opens id) in
     λ i. λ id. at id i
 
 -- ---- the line at hand
@@ -213,8 +213,8 @@ outgrown judging old new bytes byte unfound checked goes long count found =
     let read = read_of judging old bytes unfound checked in
     subst (IsFoundOf judging new (bytes ++ byte ∷ [])) (sym found)
     (λ extent rest. subst (λ (n : ℕ). BytesCome judging extent ((bytes ++ byte ∷ []) ++ rest) (Faulty (record { line = n + 1; cause = TooLong })))
-        (sym (count ∙ read.read.counted))
-        (line_too_long judging bytes old.line.items byte read.before read.in_line goes long read.leads extent rest))
+    (sym (count ∙ read.read.counted))
+    (line_too_long judging bytes old.line.items byte read.before read.in_line goes long read.leads extent rest))
 
 still_found : (judging : Judging) (check : HistoryCheck) (bytes more : List ℕ) (found : Option Finding) → is_some found ≡ true
     → IsFoundOf judging check bytes found → IsFoundOf judging check (bytes ++ more) found
@@ -408,8 +408,8 @@ pub limit_among : (judging : Judging) (front bytes : List ℕ) (i : ℕ) (rest :
     → ((more : List ℕ) → IsLimited judging ((front ++ take i bytes) ++ more)) → IsLimited judging ((front ++ bytes) ++ rest)
 limit_among judging front bytes i rest limit =
     let all : (front ++ take i bytes) ++ (drop i bytes ++ rest) ≡ (front ++ bytes) ++ rest =
-        sym (append_assoc (front ++ take i bytes) (drop i bytes) rest)
-        ∙ ap (λ (l : List ℕ). l ++ rest) (append_assoc front (take i bytes) (drop i bytes) ∙ ap (λ (l : List ℕ). front ++ l) (take-append-drop i bytes)) in
+    sym (append_assoc (front ++ take i bytes) (drop i bytes) rest)
+    ∙ ap (λ (l : List ℕ). l ++ rest) (append_assoc front (take i bytes) (drop i bytes) ∙ ap (λ (l : List ℕ). front ++ l) (take-append-drop i bytes)) in
     subst (IsLimited judging) all (limit (drop i bytes ++ rest))
 
 -- ---- where a call may have failed

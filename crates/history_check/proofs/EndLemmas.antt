@@ -1,6 +1,5 @@
 -- What bytes come to, by what their lines come to: for `HistoryCheck::is_decided` and `HistoryCheck::end`.
 use Rattle.std.proofs.Common.{◌≡◌, ◌<◌, ◌≤◌, ℕ, ◌+◌, ◌-◌, true, false, nat_lt, Bool, List, [], ◌∷◌, ◌++◌, length, take, refl, sym, ap, subst, ◌∙◌, arith, append_assoc, append-nil, length-append}
-use Rattle.std.specs.Bool.{MatchBool}
 use Rattle.std.proofs.Math.Seq.{take-append-add, take-append_seam}
 use Rattle.std.proofs.lemmas.Bool.{le-ltb, lt-ltb, ltb-true}
 use Rattle.script_core.specs.Words.{line_limit}
@@ -50,7 +49,7 @@ one_too_many judging bytes line byte before full on short leads = λ rest.
     let count = length-append bytes (byte ∷ rest) in
     let long : history_limit < length (bytes ++ byte ∷ rest) = omega (arith, full, count) in
     let front : take history_limit (bytes ++ byte ∷ rest) ≡ bytes =
-        ap (λ (n : ℕ). take n (bytes ++ byte ∷ rest)) (sym full) ∙ take-append_seam bytes (byte ∷ rest) in
+    ap (λ (n : ℕ). take n (bytes ++ byte ∷ rest)) (sym full) ∙ take-append_seam bytes (byte ∷ rest) in
     subst (λ (l : List ℕ). HistoryComes judging l too_long) (sym again)
     (comes_front judging (bytes ++ byte ∷ rest) too_long long
     (subst (λ (l : List ℕ). BytesCome judging Front l too_long) (sym (front ∙ sym (append-nil bytes)))

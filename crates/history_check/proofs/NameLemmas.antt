@@ -1,5 +1,5 @@
 -- The ID of what a line says: for `HistoryCheck::end_line` and `HistoryCheck::go_on`.
-use Rattle.std.proofs.Common.{◌≡◌, ◌≢◌, ◌⊎◌, ℕ, true, false, Bool, Option, Some, None, Result, Ok, Err, List, [], ◌∷◌, refl, sym, ap, subst, ◌∙◌, inl, inr, length, ◌==◌}
+use Rattle.std.proofs.Common.{◌≡◌, ℕ, true, false, Bool, Option, Some, None, Result, Ok, Err, List, [], ◌∷◌, refl, ap, subst, ◌∙◌, inl, inr, length, ◌==◌}
 use Rattle.std.specs.Bool.{MatchBool}
 use Rattle.std.specs.Prelude.{MatchOption, codes, find, bytes_eq, nat_lt}
 use Rattle.script_core.specs.declared.script.Cause.{Cause}

@@ -1,6 +1,5 @@
 -- How far a history was judged.
-use Rattle.std.specs.Prelude.{◌≡◌, ◌≢◌, ℕ, ◌+◌, ◌≤◌, ◌==◌, ⊤, false, Option, Some, None, option_map, Ok, List, [], ◌∷◌, ◌++◌, All, length}
-use Rattle.script_core.specs.declared.script.Cause.{Cause}
+use Rattle.std.specs.Prelude.{◌≡◌, ◌≢◌, ℕ, ◌+◌, ◌≤◌, ⊤, Option, Some, None, option_map, Ok, List, [], ◌∷◌, ◌++◌, length}
 use Rattle.script_core.specs.Words.{line_limit}
 use Rattle.history_core.specs.declared.request.Action.{Action}
 use Rattle.history_text.specs.declared.line.HistoryLine.{HistoryLine as TextLine}

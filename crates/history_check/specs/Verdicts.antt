@@ -1,5 +1,5 @@
 -- What the text of a history comes to (the words are this project's choice).
-use Rattle.std.specs.Prelude.{◌≡◌, ℕ, ◌+◌, ◌==◌, ◌⊎◌, Bool, true, false, not, nat_lt, if◌then◌else◌, MatchBool, MatchResult, Option, option_map, Result, List, [], ◌∷◌, ◌++◌, filter, flat_map, length, take}
+use Rattle.std.specs.Prelude.{◌≡◌, ℕ, ◌+◌, ◌==◌, not, nat_lt, if◌then◌else◌, MatchBool, MatchResult, Option, option_map, Result, List, [], ◌∷◌, ◌++◌, filter, flat_map, length, take}
 use Rattle.std.specs.List.{slice_split}
 use Rattle.range_core.specs.Facts.{MatchFact}
 use Rattle.script_core.specs.declared.script.Cause.{Cause}

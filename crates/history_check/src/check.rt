@@ -1,5 +1,5 @@
 //! A history that is judged byte by byte.
-ghost use Rattle.std.specs.Prelude.{◌≡◌, ◌≢◌, ◌≤◌, ◌<◌, ◌+◌, ◌++◌, ◌∷◌, ◌^◌, ◌↔◌, [], ℕ, List, None, Ok, Err, IsTrue, IfOk, OnOk, OnErr, length};
+ghost use Rattle.std.specs.Prelude.{◌≡◌, ◌≢◌, ◌≤◌, ◌<◌, ◌+◌, ◌++◌, ◌∷◌, ◌^◌, [], ℕ, List, None, Ok, Err, IsTrue, IfOk, OnOk, length};
 ghost use Rattle.history_core.specs.declared.search.SearchFault.{SearchFault};
 ghost use Rattle.history_judge.specs.JudgeView.{Exceeds};
 ghost use Rattle.history_text.specs.declared.line.HistoryLine.{HistoryLine};
@@ -157,7 +157,12 @@ impl HistoryCheck {
         let mut text = Vec::new(alloc);
         match self.found {
             Some(Finding::Illegal(answer)) => {
-                push_illegal(&mut text, self.before + 1, answer, self.judge.open_requests())?;
+                push_illegal(
+                    &mut text,
+                    self.before + 1,
+                    answer,
+                    self.judge.open_requests(),
+                )?;
             }
             Some(Finding::LostWakeUps) => push_waits(&mut text, &self.waits)?,
             Some(Finding::Faulty(_) | Finding::TooLong) | None => {}

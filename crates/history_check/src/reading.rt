@@ -2,7 +2,7 @@
 ghost use Rattle.std.specs.Prelude.{◌≡◌, ◌≢◌, None, Err, OnOk, IfOk, true, false};
 ghost use Rattle.history_core.specs.declared.search.SearchFault.{SearchFault};
 ghost use Rattle.history_judge.specs.Histories.{Answered, Sent};
-ghost use Rattle.history_judge.specs.JudgeView.{Exceeds, Refuses, Takes, open_in};
+ghost use Rattle.history_judge.specs.JudgeView.{Exceeds, Refuses, Takes};
 ghost use Rattle.history_text.specs.HistoryReading.{LineGives};
 ghost use Rattle.history_check.specs.Checked.{requested_in};
 

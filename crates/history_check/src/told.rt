@@ -1,5 +1,5 @@
 //! What is printed of a history.
-ghost use Rattle.std.specs.Prelude.{◌≡◌, ◌++◌, ◌∷◌, [], ◌==◌, List, ℕ, OnOk, decimal, false, filter, flat_map, not};
+ghost use Rattle.std.specs.Prelude.{◌≡◌, ◌++◌, ◌==◌, List, ℕ, OnOk, decimal, filter, flat_map, not};
 ghost use Rattle.history_check.specs.Told.{IsComment, comment_line, illegal_line, wait_line};
 
 use crate::open_waits::OpenWait;

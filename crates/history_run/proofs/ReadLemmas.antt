@@ -10,7 +10,7 @@ use Rattle.history_check.specs.Checked.{HasChecked, HasJudged, IsLimited, lines_
 use Rattle.history_check.specs.Verdicts.{AreJudged, history_limit}
 use Rattle.history_run.specs.declared.runs.HistoryFault.{HistoryFault}
 use Rattle.history_run.specs.declared.runs.HistoryFault.TheVariants as faults
-use Rattle.history_run.specs.HistoryRuns.{Exceeds, IsEndFault, IsJudged, IsRead, IsReadFault, IsReadTo, fault_of}
+use Rattle.history_run.specs.HistoryRuns.{Exceeds, IsEndFault, IsRead, IsReadFault, IsReadTo, fault_of}
 
 -- nothing was read
 pub nothing_read : (judging : Judging) (source : Option (List ℕ)) (check : HistoryCheck) (left : ℕ) → HasChecked judging check []

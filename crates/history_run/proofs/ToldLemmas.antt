@@ -1,10 +1,7 @@
 -- What is told of a history that was judged: for `judge_history` and `write_told`.
 use Rattle.std.proofs.Common.{◌≡◌, ℕ, List, [], Option, refl, sym, subst}
-use Rattle.std.specs.Io.KnownBytes.{Appends}
-use Rattle.script_core.specs.declared.script.ScriptFault.{ScriptFault}
 use Rattle.history_check.specs.declared.check.HistoryCheck.{HistoryCheck}
 use Rattle.history_check.specs.declared.judging.HistoryOutcome.{HistoryOutcome}
-use Rattle.history_check.specs.declared.judging.HistoryOutcome.TheVariants as outcomes
 use Rattle.history_check.specs.declared.judging.Judging.{Judging}
 use Rattle.history_check.specs.Checked.{verdict_in}
 use Rattle.history_check.specs.Told.{IsTold, outcome_of}

@@ -1,5 +1,5 @@
 -- What a judgement of a history does with its source and its sink (the words are this project's choice).
-use Rattle.std.specs.Prelude.{◌≡◌, ◌≢◌, ℕ, ◌+◌, ◌≤◌, ◌⊎◌, ⊤, Bool, IsTrue, Option, List, length}
+use Rattle.std.specs.Prelude.{◌≡◌, ℕ, ◌+◌, ◌≤◌, ◌⊎◌, ⊤, Bool, IsTrue, Option, List, length}
 use Rattle.std.specs.Io.KnownBytes.{Appends, Consumes, IsAtEnd}
 use Rattle.replay_core.specs.Devices.{TakesFront}
 use Rattle.history_core.specs.declared.search.SearchFault.{SearchFault}

@@ -1,8 +1,7 @@
 -- What the program's command line says where it asks for a history (the command line is this project's choice).
-use Rattle.std.specs.Prelude.{◌≡◌, Bool, true, false, ◌||◌, ◌&&◌, not, List, [], ◌∷◌, Option, codes, bytes_eq, if◌then◌else◌}
+use Rattle.std.specs.Prelude.{Bool, false, ◌||◌, List, [], ◌∷◌, Option, codes, bytes_eq, if◌then◌else◌}
 use Rattle.clap.specs.Words.{App, Text, first_of, matches_of, one_of, with_rule}
 use Rattle.lockreplay.specs.CommandLine.{file_argument, flag_rule, option_rule, versioned_app}
-use Rattle.lockreplay.specs.declared.options.HistoryOptions.{HistoryOptions}
 
 -- whether one of the words before the first `--` is `--history`
 abbrev pub has_history : List Text → Bool

@@ -110,10 +110,12 @@ pub fn option<'a>(alloc: Global, name: &'a str, value: &'a str, help: &'a str) -
 pub const VERSION: &str = "0.2.0";
 
 /// What the program does.
-pub const ABOUT: &str = "Replays a script of advisory lock requests. No file of the machine is locked.";
+pub const ABOUT: &str =
+    "Replays a script of advisory lock requests. No file of the machine is locked.";
 
 /// How a script is written, and what comes of it. With what clap puts before it, its first 9 lines fill a screen of 24.
-pub const GUIDE: &str = "Exit status: 0 replayed or legal, 3 illegal, 2 input or command line refused
+pub const GUIDE: &str =
+    "Exit status: 0 replayed or legal, 3 illegal, 2 input or command line refused
   or --help, 4 --limit reached, 1 FILE, read, write, memory or thread failed
 
 Example:

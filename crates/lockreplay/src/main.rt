@@ -44,8 +44,9 @@ fn run(
         .map_err(Memory::from)
         .map_err(RunFault::Memory)?;
     if history_line::is_asked_for(&words) {
-        let options = history_line::history_options(rt.alloc(), &words)
-            .map_err(Fault::of_command_line)?;
+        let options = history_line::history_options(rt.alloc(), &words).map_err(
+            Fault::of_command_line,
+        )?;
         let judging = options.judging().map_err(Fault::Misuse)?;
         judge(rt, judging, path_of(options.file))
     } else {

@@ -72,7 +72,6 @@ impl<'a> Options<'a> {
             None => Ok(Detail::Plain),
         }
     }
-
 }
 
 /// What a command line with `--history` asks for.

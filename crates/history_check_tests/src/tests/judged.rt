@@ -1,9 +1,9 @@
 //! Histories that are legal, and others.
 use super::{OPEN, PLAIN, judge};
-use history_check::{HistoryOutcome, Judging};
 use history_check::HistoryOutcome::{Illegal, Legal, LostWakeUps};
-use std::process::Abort;
+use history_check::{HistoryOutcome, Judging};
 use std::alloc::Global;
+use std::process::Abort;
 use std::test::Fail;
 
 /// The text has this verdict however it is cut, and what is told of it begins so.
@@ -50,7 +50,14 @@ fn that_overlap(rt: HostRuntime) -> Result<(), Fail> {
     let never = "> 1 set 0 1 w 0 9\n> 2 set 0 2 w 9 9\n< 2 ok\n";
     tells(&rt, alloc, PLAIN, never, Legal, "")?;
     let neither = "> 1 set 0 1 w 0 9\n> 2 set 0 2 w 9 9\n< 2 busy\n< 1 busy\n";
-    tells(&rt, alloc, PLAIN, neither, Illegal, "line 4: busy isn't possible\n")
+    tells(
+        &rt,
+        alloc,
+        PLAIN,
+        neither,
+        Illegal,
+        "line 4: busy isn't possible\n",
+    )
 }
 
 /// The first answer with which no order is left is told, in its words with one space between each two.
@@ -58,11 +65,32 @@ fn that_overlap(rt: HostRuntime) -> Result<(), Fail> {
 fn that_are_illegal(rt: HostRuntime) -> Result<(), Fail> {
     let alloc = rt.alloc();
     let beside = "> 1 set 0 1 w 0 9\n< 1 ok\n> 2 set 0 2 r 5 5\n< 2 ok\n> 3 close 0 1\n";
-    tells(&rt, alloc, PLAIN, beside, Illegal, "line 4: ok isn't possible\n# open since line 3: > 2 set 0 2 r 5 5\n")?;
+    tells(
+        &rt,
+        alloc,
+        PLAIN,
+        beside,
+        Illegal,
+        "line 4: ok isn't possible\n# open since line 3: > 2 set 0 2 r 5 5\n",
+    )?;
     let nobody = "# nobody has it\n\n>  1 get  0 1 w 0 9\n <  1 held  2 w 0  0";
-    tells(&rt, alloc, PLAIN, nobody, Illegal, "line 4: held 2 w 0 0 isn't possible\n#")?;
+    tells(
+        &rt,
+        alloc,
+        PLAIN,
+        nobody,
+        Illegal,
+        "line 4: held 2 w 0 0 isn't possible\n#",
+    )?;
     let hidden = "> 1 get 0 1 w 0 9\n< 1 held - w 0 0\nno line\n";
-    tells(&rt, alloc, PLAIN, hidden, Illegal, "line 2: held - w 0 0 isn't possible\n#")
+    tells(
+        &rt,
+        alloc,
+        PLAIN,
+        hidden,
+        Illegal,
+        "line 2: held - w 0 0 isn't possible\n#",
+    )
 }
 
 /// A part of a run is told, unless largest runs are demanded.
@@ -76,16 +104,31 @@ fn of_runs(rt: HostRuntime) -> Result<(), Fail> {
         open_waits: false,
         limit: 1000,
     };
-    tells(&rt, alloc, runs, text, Illegal, "line 4: held 1 w 0 4 isn't possible\n#")
+    tells(
+        &rt,
+        alloc,
+        runs,
+        text,
+        Illegal,
+        "line 4: held 1 w 0 4 isn't possible\n#",
+    )
 }
 
 /// A wait that nothing blocks is told where that is asked for, by its ID and its line.
 #[test]
 fn of_open_waits(rt: HostRuntime) -> Result<(), Fail> {
     let alloc = rt.alloc();
-    let text = "# two wait\n> 1 flock 0 1 ex nb\n< 1 ok\n> 7 flock 0 2 sh\n> 2 wait 1 2 w 0 9\n> 3 flock 0 1 un\n< 3 ok\n";
+    let text =
+        "# two wait\n> 1 flock 0 1 ex nb\n< 1 ok\n> 7 flock 0 2 sh\n> 2 wait 1 2 w 0 9\n> 3 flock 0 1 un\n< 3 ok\n";
     tells(&rt, alloc, PLAIN, text, Legal, "")?;
-    tells(&rt, alloc, OPEN, text, LostWakeUps, "7 waits since 4\n2 waits since 5\n")?;
+    tells(
+        &rt,
+        alloc,
+        OPEN,
+        text,
+        LostWakeUps,
+        "7 waits since 4\n2 waits since 5\n",
+    )?;
     let blocked = "> 1 flock 0 1 ex nb\n< 1 ok\n> 7 flock 0 2 sh\n";
     tells(&rt, alloc, OPEN, blocked, Legal, "")
 }

@@ -26,7 +26,10 @@ fn of_many_waits(rt: HostRuntime) -> Result<(), Fail> {
     }
     let (outcome, told) = judge(rt.alloc(), OPEN, text.as_str().as_bytes(), 1000)?;
     assert_eq!(rt; outcome, LostWakeUps);
-    assert!(rt; told.as_slice().starts_with(b"1 waits since 1\n2 waits since 2\n"));
+    assert!(rt;
+        told.as_slice()
+            .starts_with(b"1 waits since 1\n2 waits since 2\n")
+    );
     assert_eq!(rt; told.iter().filter(|byte| **byte == b'\n').count(), 399);
     Ok(())
 }

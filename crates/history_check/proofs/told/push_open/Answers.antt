@@ -1,4 +1,4 @@
-use Rattle.std.proofs.Common.{◌≡◌, ◌++◌, ◌==◌, ◌∙◌, ℕ, List, ap, append_assoc}
+use Rattle.std.proofs.Common.{◌++◌, ◌==◌, ◌∙◌, ℕ, List, ap, append_assoc}
 use Rattle.std.specs.Prelude.{filter, not}
 use Rattle.history_check.specs.Told.{comment_line}
 use Rattle.history_check.proofs.TextLemmas.{comment_more}

@@ -70,4 +70,4 @@ returns-in_err-take_all-in-Ok-clause-fault g c =
     (take c.in-Ok.count c.read_some.new.room) c.in_err-take_all-in-Ok.field-0.0 c.from_residual.ensures.1 c.loop-left.invariant.0
     c.in-Ok.ensures.some.consumed
     (λ is front rest checked.
-        c.in_err-take_all-in-Ok.ensures.limit (ap (λ (fault : SearchFault). Err fault) is) c.args.judging front rest checked)
+    c.in_err-take_all-in-Ok.ensures.limit (ap (λ (fault : SearchFault). Err fault) is) c.args.judging front rest checked)

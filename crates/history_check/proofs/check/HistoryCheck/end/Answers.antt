@@ -36,8 +36,8 @@ returns-then-not-branch-clause-judged c = λ judging bytes short checked.
     judged_at_end judging last (record last { found = Some findings.LostWakeUps }) bytes (LostWakeUps last.waits.items) (is_unfound last none) short refl
     (c.in_ok-end_last_line.ensures.read judging bytes checked)
     (λ before read.
-        ends_lost judging last before on
-        (not_told c.in_ok-may_end.field-0 lost (c.in_ok-may_end.ensures.ok judging.runs (history_of before) read.knows)) read)
+    ends_lost judging last before on
+    (not_told c.in_ok-may_end.field-0 lost (c.in_ok-may_end.ensures.ok judging.runs (history_of before) read.knows)) read)
 
 pub returns-else-not-branch-clause-judged : goal.returns-else-not-branch-clause-judged
 returns-else-not-branch-clause-judged c = λ judging bytes short checked.
@@ -48,5 +48,5 @@ returns-else-not-branch-clause-judged c = λ judging bytes short checked.
     let unfound = is_unfound last none in
     judged_at_end judging last last bytes Legal unfound short (ap (verdict_at last) unfound) (c.in_ok-end_last_line.ensures.read judging bytes checked)
     (λ before read.
-        ends_waiting judging last before on
-        (told_so c.in_ok-may_end.field-0 may (c.in_ok-may_end.ensures.ok judging.runs (history_of before) read.knows)) read)
+    ends_waiting judging last before on
+    (told_so c.in_ok-may_end.field-0 may (c.in_ok-may_end.ensures.ok judging.runs (history_of before) read.knows)) read)
