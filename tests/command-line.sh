@@ -158,6 +158,33 @@ check 2 empty explain-check.err conversion --check --state all --explain
 check 2 empty state-twice.err empty --state 1 --state all
 check 2 empty state-empty.err empty state --state
 
+# A history: legal, with an answer that came too soon, with waits that nobody woke, with a part of a run that a get told, with a bad line; and
+# under a limit of two possibilities, where three are open: before the unlock, behind it, and behind the wait that it let through.
+check 0 empty empty empty --history history
+check 0 empty empty history --history
+check 0 empty empty history --history -
+check 0 empty empty empty history --runs --open --limit 5 --history
+check 0 empty empty conversion --history empty
+check 3 history-late.out empty empty --history history-late
+check 3 history-late.out empty history-late --limit=100 --history --open
+check 0 empty empty empty --history history-waits
+check 3 history-waits.out empty empty --history --open history-waits
+check 0 empty empty empty --history history-runs
+check 3 history-runs.out empty empty --runs --history history-runs
+check 2 empty history-faulty.err empty --history history-faulty
+check 4 empty history-limit.err empty --history --limit 2 history
+check 0 empty empty empty --history --limit 3 history
+check 1 empty read-failed.err empty --history missing
+check 2 empty no-limit.err history --history --limit 0
+check 2 empty no-limit.err history --history --limit 01
+check 2 empty no-limit.err history --history --limit ''
+check 2 empty no-limit.err history --limit many --history missing
+check 2 empty history-check.err history --check --history
+check 2 empty unknown-flag.err empty --thread -- --history
+cp history ./--history
+check 0 empty empty conversion --history -- --history
+check 2 empty version.err empty --history --version
+
 # In threads a script of one process prints the same.
 check 0 conversion.out empty empty --threads conversion
 check 0 conversion.out empty empty conversion --threads

@@ -1,6 +1,7 @@
 #!/bin/sh
 # Replays each sample: the run of samples/NAME.lock must be samples/NAME.out, whose lines were derived by hand from docs/RULES.md. Explained it
 # must be the same without the lines that begin with `#`. And checks the explained run, behind the script's header lines: it must be legal.
+# Of each samples/NAME.history what its first line runs must print samples/NAME.told, which was derived by hand too, and lines of `#`.
 # Usage: samples.sh PROGRAM
 set -eu
 program=$1
@@ -22,6 +23,20 @@ for script in "$samples"/*.lock; do
         cat "$work/errors" >&2
         diff "${script%.lock}.out" "$work/output" >&2 || true
         cat "$work/told" >&2 || true
+    fi
+done
+for history in "$samples"/*.history; do
+    told=${history%.history}.told
+    if [ -s "$told" ]; then status=3; else status=0; fi
+    ended=0
+    # shellcheck disable=SC2046
+    "$program" $(sed -n '1s/^# lockreplay //p' "$history") "$history" > "$work/output" 2> "$work/errors" || ended=$?
+    if [ "$ended" -eq "$status" ] && [ ! -s "$work/errors" ] && { grep -v '^#' "$work/output" || true; } | cmp -s "$told" -; then
+        passed=$((passed + 1))
+    else
+        failed=$((failed + 1))
+        echo "$history: status $ended where $status is due, or another verdict than the one beside it:" >&2
+        cat "$work/output" "$work/errors" >&2
     fi
 done
 echo "$passed passed, $failed failed"

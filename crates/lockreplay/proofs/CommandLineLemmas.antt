@@ -18,22 +18,23 @@ use Rattle.clap.proofs.WalkLemmas.{first_value-rows, one_text-rows}
 use Rattle.lockreplay.specs.CommandLine.{FollowsUsage, Asks, Flag, Threads, Explain, Check, IsGiven, IsPlain, command_line, file_of, state_in, flag_in, flag_name, flag_rule, flag_word, has_flag, is_same_flag}
 use Rattle.lockreplay.specs.declared.options.Options.{Options}
 
--- the first value of an argument, FILE or the word behind --state, is that of the words
-pub value_found : (id : Text) (app : App) (words : List Text) (m : ArgMatches) → app ≡ command_line → HasMatchesOf app words m
-    → first_value (found_of m) id ≡ first_of id (matches_of command_line words)
-value_found id app words m is has =
-    first_value-rows (found_of m) id ∙ ap (first_of id) ((has (ap is_simple is)).0 ∙ ap (λ a. matches_of a words) is)
+-- the first value of an argument, as FILE or the word behind --state, is that of the words
+pub value_found : (stated : App) → is_simple stated ≡ true → (id : Text) (app : App) (words : List Text) (m : ArgMatches) → app ≡ stated
+    → HasMatchesOf app words m → first_value (found_of m) id ≡ first_of id (matches_of stated words)
+value_found stated simple id app words m is has =
+    first_value-rows (found_of m) id ∙ ap (first_of id) ((has (ap is_simple is ∙ simple)).0 ∙ ap (λ a. matches_of a words) is)
 
 -- the text of a flag is that of the words
-pub flag_found : (flag : Flag) (app : App) (words : List Text) (m : ArgMatches) → app ≡ command_line → HasMatchesOf app words m
-    → one_text (found_of m) (flag_name flag) ≡ flag_in flag words
-flag_found flag app words m is has =
-    one_text-rows (found_of m) (flag_name flag) ∙ ap (one_of (flag_name flag)) ((has (ap is_simple is)).0 ∙ ap (λ a. matches_of a words) is)
+pub flag_found : (stated : App) → is_simple stated ≡ true → (name : Text) (app : App) (words : List Text) (m : ArgMatches) → app ≡ stated
+    → HasMatchesOf app words m → one_text (found_of m) name ≡ one_of name (matches_of stated words)
+flag_found stated simple name app words m is has =
+    one_text-rows (found_of m) name ∙ ap (one_of name) ((has (ap is_simple is ∙ simple)).0 ∙ ap (λ a. matches_of a words) is)
 
 -- the words are refused by what clap states for the command
-pub fails_as_stated : (app : App) (words : List Text) (r : Result ArgMatches Error) → app ≡ command_line
-    → (is_simple_and_free app ≡ true → FailsBy (fault_of app words) r) → FailsBy (fault_of command_line words) r
-fails_as_stated app words r is fails = subst (λ a. FailsBy (fault_of a words) r) is (fails (ap is_simple_and_free is))
+pub fails_as_stated : (stated : App) → is_simple_and_free stated ≡ true → (app : App) (words : List Text) (r : Result ArgMatches Error) → app ≡ stated
+    → (is_simple_and_free app ≡ true → FailsBy (fault_of app words) r) → FailsBy (fault_of stated words) r
+fails_as_stated stated free app words r is fails =
+    subst (λ a. FailsBy (fault_of a words) r) is (fails (ap is_simple_and_free is ∙ free))
 
 -- ---- words that begin with no hyphen
 

@@ -2,6 +2,7 @@
 ghost use Rattle.std.specs.Prelude.{◌≡◌, IfOk, IfErr, map, option_map, string_bytes, false, true};
 ghost use Rattle.clap.specs.Words.{FailsBy, app_of, fault_of, kind_of, rule_of, takes};
 ghost use Rattle.lockreplay.specs.CommandLine.{Flag, FollowsUsage, IsGiven, command_line, file_of, state_in, option_rule, flag_in, flag_rule, has_flag};
+ghost use Rattle.lockreplay.specs.CommandLine as spec;
 
 use crate::options::Options;
 use clap::error::ErrorKind;
@@ -62,9 +63,6 @@ fn command<'a>(alloc: Global) -> Result<Command<'a>, AllocError>
         "check",
         "Checks an output in place of a script; with no other flag",
     );
-    let file = Arg::new(alloc, "file").value_name("FILE").help(
-        "What is read; without it, or where it is -, standard input",
-    );
     Command::new(alloc, "lockreplay")
         .version(VERSION)
         .about(ABOUT)
@@ -73,11 +71,21 @@ fn command<'a>(alloc: Global) -> Result<Command<'a>, AllocError>
         .arg(explain)?
         .arg(state)?
         .arg(check)?
-        .arg(file)
+        .arg(file_argument(alloc))
+}
+
+/// FILE, which may be left out.
+pub fn file_argument<'a>(alloc: Global) -> Arg<'a>
+    ensures rule { rule_of result ≡ spec.file_argument }
+    ensures local { result.global ≡ false }
+{
+    Arg::new(alloc, "file").value_name("FILE").help(
+        "What is read; without it, or where it is -, standard input",
+    )
 }
 
 /// The flag of this name.
-fn flag<'a>(alloc: Global, name: &'a str, help: &'a str) -> Arg<'a>
+pub fn flag<'a>(alloc: Global, name: &'a str, help: &'a str) -> Arg<'a>
     ensures rule { rule_of result ≡ flag_rule name.entry.now }
     ensures local { result.global ≡ false }
 {
@@ -88,7 +96,7 @@ fn flag<'a>(alloc: Global, name: &'a str, help: &'a str) -> Arg<'a>
 }
 
 /// The option of this name, behind which a value stands.
-fn option<'a>(alloc: Global, name: &'a str, value: &'a str, help: &'a str) -> Arg<'a>
+pub fn option<'a>(alloc: Global, name: &'a str, value: &'a str, help: &'a str) -> Arg<'a>
     ensures rule { rule_of result ≡ option_rule name.entry.now }
     ensures local { result.global ≡ false }
 {
@@ -99,14 +107,16 @@ fn option<'a>(alloc: Global, name: &'a str, value: &'a str, help: &'a str) -> Ar
 }
 
 /// The version of the program, which is the topmost of CHANGELOG.md.
-const VERSION: &str = "0.2.0";
+pub const VERSION: &str = "0.2.0";
 
 /// What the program does.
-const ABOUT: &str = "Replays a script of advisory lock requests. No file of the machine is locked.";
+pub const ABOUT: &str =
+    "Replays a script of advisory lock requests. No file of the machine is locked.";
 
 /// How a script is written, and what comes of it. With what clap puts before it, its first 9 lines fill a screen of 24.
-const GUIDE: &str = "Exit status: 0 replayed or legal, 3 illegal, 2 input or command line refused
-  or --help, 1 FILE not opened, reading or writing failed, no memory or thread
+pub const GUIDE: &str =
+    "Exit status: 0 replayed or legal, 3 illegal, 2 input or command line refused
+  or --help, 4 --limit reached, 1 FILE, read, write, memory or thread failed
 
 Example:
   $ printf '1 open 0 rw\\n1 setlk 0 w set 0 100\\n' | lockreplay
@@ -214,6 +224,34 @@ Check:
     line 5: proc 1 sent 2 taken 2 answered 2 live expected
     line 6: no line expected                  the report was whole before
 
+History:
+  With --history a log of concurrent requests is judged: was there an order in
+  which every answer is permitted? Lines come in the order in which one clock
+  saw them: > ID REQUEST where a request was sent, < ID ANSWER where its answer
+  came. IDs, files, owners and bytes are numbers of 64 bits; an ID is free again
+  behind its answer. Lines are as in a script, and all have 2^40 bytes at most.
+    set FILE OWNER M FIRST LAST    M is r or w; answers ok, busy
+    wait FILE OWNER M FIRST LAST   may wait; ok, EINTR, EDEADLK
+    get FILE OWNER M FIRST LAST    free, held OWNER M FIRST LAST; - for OWNER
+                                   where the system doesn't tell whose it is
+    unlock FILE OWNER FIRST LAST   ok
+    flock FILE OWNER sh nb, ex nb  the whole file; ok, busy
+    flock FILE OWNER sh, ex        may wait; ok, EINTR
+    flock FILE OWNER un            ok
+    close FILE OWNER               ends all its locks on the file; ok
+    gone FILE OWNER                it is dead; ok
+  Any but gone may be answered error: it may or may not have been done.
+  Where it is legal, nothing is printed. Else the first answer is told with
+  which no order is left, and lines that begin with # say what was open:
+    line 4: ok isn't possible
+  Beside --history only these may stand:
+  --limit N  keeps N possibilities at most, 1000000 where it isn't given; where
+             there are more, status 4, and nothing is claimed
+  --open     asks of a legal history, too, whether each wait that is open at its
+             end may wait still; if not, status 3, and for each of them
+    7 waits since 12                         its ID, and the line of its >
+  --runs     demands of each held a largest run of that owner's mode
+
 Faults, on standard error:
   A faulty script isn't run. The first faulty line is told, here by fault 3:
     lockreplay: line 2: 3 Count               line 0 is the script as a whole
@@ -225,7 +263,8 @@ Faults, on standard error:
              after a request or for the second time
   6 TooLong  a line of more than 120 bytes, or a script of more than 1 MiB
   7 Memory   no memory; told as lockreplay: no memory
-  8 Tag      in a check a word that isn't a process and a number, as 2#1
-  Other faults: lockreplay: read failed, no memory, no thread (nothing went to
-  standard output), or write failed (part of the output may have). --help and
+  8 Tag      in a check a word that isn't a process and a number, as 2#1; in a
+             history a > of an open ID, or a < of one that isn't open
+  Other faults: lockreplay: read failed, no memory, no thread, limit reached
+  (nothing went to standard output), or write failed (part may have). --help and
   --version go to standard error, with status 2.";

@@ -6,6 +6,7 @@ ghost use Rattle.lockreplay.specs.Faults.{exit_status};
 
 use crate::options::Misuse;
 use clap::error::ErrorKind;
+use history_run::HistoryFault;
 use replay_core::RunFault;
 use std::io;
 use std::io::ErrorKind as InputErrorKind;
@@ -26,6 +27,9 @@ pub enum Fault {
     /// The run has no output, or only a front of it.
     #[error("lockreplay: {0}\n")]
     Run(#[from] RunFault),
+    /// Nothing is claimed of the history.
+    #[error("lockreplay: {0}\n")]
+    History(#[from] HistoryFault),
 }
 
 impl Fault {
@@ -51,7 +55,7 @@ impl Fault {
         }
     }
 
-    /// The exit status of the program: 2 for the command line and for a faulty script, and else 1.
+    /// The exit status of the program: 2 for the command line and for a faulty script or history, 4 where the limit was reached, and else 1.
     pub fn status(&self) -> u8
         ensures { result ≡ exit_status self.now }
     {
@@ -59,6 +63,7 @@ impl Fault {
             Fault::CommandLine(_) | Fault::Misuse(_) => 2,
             Fault::OutOfMemory => 1,
             Fault::Run(fault) => fault.status(),
+            Fault::History(fault) => fault.status(),
         }
     }
 }

@@ -1,9 +1,11 @@
 //! What a command line asks for.
 ghost use Rattle.std.specs.Prelude.{◌≡◌, ◌≢◌, Some, None, codes, option_map};
 ghost use Rattle.lockreplay.specs.Jobs.{IsJobOf, IsDetailOf};
+ghost use Rattle.lockreplay.specs.Judgings.{IsJudgingOf, IsLimitOf};
 
+use history_check::Judging;
 use replay_core::{Detail, Job};
-use script_core::States;
+use script_core::{States, natural_of};
 use thiserror::Error;
 
 /// What a command line can't ask for. The text is as clap's.
@@ -21,6 +23,9 @@ pub enum Misuse {
     /// `--state` with what is neither `all`, `changes` nor the number of an entry.
     #[error("error: invalid value for '--state <N>': the number of an entry, from 1 on, or all, or changes\n\nFor more information, try '--help'.\n")]
     Entry,
+    /// `--limit` with what is no number from 1 on.
+    #[error("error: invalid value for '--limit <N>': a number, from 1 on\n\nFor more information, try '--help'.\n")]
+    Limit,
 }
 
 /// What a command line asks for.
@@ -67,15 +72,58 @@ impl<'a> Options<'a> {
             None => Ok(Detail::Plain),
         }
     }
+}
 
-    /// The file to open; there is none where standard input is read, which FILE names by `-` (POSIX.1-2017, Utility Syntax Guidelines).
-    pub fn path(self) -> Option<&'a str>
-        ensures input { option_map (λ file. file.now) self.entry.file ≡ Some (codes "-") → result ≡ None }
-        ensures path { option_map (λ file. file.now) self.entry.file ≢ Some (codes "-") → result ≡ self.entry.file }
+/// What a command line with `--history` asks for.
+#[derive(Clone, Copy, Debug, PartialEq, Eq)]
+pub struct HistoryOptions<'a> {
+    /// Whether each wait that is open at the end has to be one that may wait still.
+    pub open_waits: bool,
+    /// Whether a get tells largest ranges alone.
+    pub runs: bool,
+    /// How many possibilities may be kept at once, as it stands on the command line.
+    pub limit: Option<&'a str>,
+    /// FILE, as it stands on the command line.
+    pub file: Option<&'a str>,
+}
+
+impl HistoryOptions<'_> {
+    /// How the history is judged.
+    pub fn judging(self) -> Result<Judging, Misuse>
+        ensures { IsJudgingOf self.entry.open_waits self.entry.runs (option_map (λ word. word.now) self.entry.limit) result }
     {
-        match self.file {
-            Some("-") => None,
-            file => file,
-        }
+        let limit = match self.limit {
+            Some(word) => limit_of(word)?,
+            None => LIMIT,
+        };
+        Ok(Judging {
+            runs: self.runs,
+            open_waits: self.open_waits,
+            limit,
+        })
+    }
+}
+
+/// How many possibilities may be kept at once, where it isn't said (this project's choice).
+const LIMIT: usize = 1_000_000;
+
+/// The limit that a word asks for, from 1 on, without leading zeros.
+fn limit_of(word: &str) -> Result<usize, Misuse>
+    ensures { IsLimitOf word.now result }
+{
+    match natural_of(word) {
+        Some(0) | None => Err(Misuse::Limit),
+        Some(limit) => Ok(limit as usize),
+    }
+}
+
+/// The file to open; there is none where standard input is read, which FILE names by `-` (POSIX.1-2017, Utility Syntax Guidelines).
+pub fn path_of(file: Option<&str>) -> Option<&str>
+    ensures input { option_map (λ file. file.now) file.entry ≡ Some (codes "-") → result ≡ None }
+    ensures path { option_map (λ file. file.now) file.entry ≢ Some (codes "-") → result ≡ file.entry }
+{
+    match file {
+        Some("-") => None,
+        file => file,
     }
 }

@@ -1,6 +1,6 @@
-use Rattle.std.proofs.Common.{rules, ◌≡◌, ◌∙◌, ap, subst, map, codes, string_bytes, Ok, Err}
+use Rattle.std.proofs.Common.{rules, ◌≡◌, ◌∙◌, refl, ap, subst, map, codes, string_bytes, Ok, Err}
 use Rattle.clap.specs.Words.{App, app_of, found_of, one_text, takes}
-use Rattle.lockreplay.specs.CommandLine.{command_line, Threads, Explain, Check, IsGiven, flag_in, has_flag}
+use Rattle.lockreplay.specs.CommandLine.{command_line, IsGiven, flag_in, has_flag}
 use Rattle.lockreplay.specs.declared.options.Options.{Options}
 use Rattle.lockreplay.proofs.CommandLineLemmas.{value_found, flag_found, flag_read, fails_as_stated, follows_usage, of_each}
 use Rattle.lockreplay.proofs.command_line.options.Goals as goal
@@ -9,13 +9,13 @@ pub returns-clause-file : goal.returns-clause-file
 returns-clause-file c =
     let app = app_of c.in_ok-command.field-0 in
     let is : app ≡ command_line = search rules in
-    c.get_str-2.ensures ∙ value_found (codes "file") app (map string_bytes c.args.words.now) c.in_ok-matches.matches is c.in_ok-matches.ensures.matches
+    c.get_str-2.ensures ∙ value_found command_line refl (codes "file") app (map string_bytes c.args.words.now) c.in_ok-matches.matches is c.in_ok-matches.ensures.matches
 
 pub returns-clause-state : goal.returns-clause-state
 returns-clause-state c =
     let app = app_of c.in_ok-command.field-0 in
     let is : app ≡ command_line = search rules in
-    c.get_str.ensures ∙ value_found (codes "state") app (map string_bytes c.args.words.now) c.in_ok-matches.matches is c.in_ok-matches.ensures.matches
+    c.get_str.ensures ∙ value_found command_line refl (codes "state") app (map string_bytes c.args.words.now) c.in_ok-matches.matches is c.in_ok-matches.ensures.matches
 
 pub returns-clause-flags : goal.returns-clause-flags
 returns-clause-flags c =
@@ -24,25 +24,25 @@ returns-clause-flags c =
     let words = map string_bytes c.args.words.now in
     let options : Options = record { threads = c.get_flag.result; explain = c.get_flag-2.result; check = c.get_flag-3.result; state = c.get_str.result; file = c.get_str-2.result } in
     of_each (λ flag. IsGiven (flag_in flag words) (has_flag options flag))
-    (subst (λ text. IsGiven text c.get_flag.result) (flag_found Threads app words c.in_ok-matches.matches is c.in_ok-matches.ensures.matches)
+    (subst (λ text. IsGiven text c.get_flag.result) (flag_found command_line refl (codes "threads") app words c.in_ok-matches.matches is c.in_ok-matches.ensures.matches)
     (flag_read (one_text (found_of c.in_ok-matches.matches) (codes "threads")) c.get_flag.result c.get_flag.ensures.none c.get_flag.ensures.value c.get_flag.ensures.other))
-    (subst (λ text. IsGiven text c.get_flag-2.result) (flag_found Explain app words c.in_ok-matches.matches is c.in_ok-matches.ensures.matches)
+    (subst (λ text. IsGiven text c.get_flag-2.result) (flag_found command_line refl (codes "explain") app words c.in_ok-matches.matches is c.in_ok-matches.ensures.matches)
     (flag_read (one_text (found_of c.in_ok-matches.matches) (codes "explain")) c.get_flag-2.result c.get_flag-2.ensures.none c.get_flag-2.ensures.value c.get_flag-2.ensures.other))
-    (subst (λ text. IsGiven text c.get_flag-3.result) (flag_found Check app words c.in_ok-matches.matches is c.in_ok-matches.ensures.matches)
+    (subst (λ text. IsGiven text c.get_flag-3.result) (flag_found command_line refl (codes "check") app words c.in_ok-matches.matches is c.in_ok-matches.ensures.matches)
     (flag_read (one_text (found_of c.in_ok-matches.matches) (codes "check")) c.get_flag-3.result c.get_flag-3.ensures.none c.get_flag-3.ensures.value c.get_flag-3.ensures.other))
 
 pub returns-clause-kind : goal.returns-clause-kind
 returns-clause-kind c =
     let app = app_of c.in_ok-command.field-0 in
     let is : app ≡ command_line = search rules in
-    fails_as_stated app (map string_bytes c.args.words.now) (Ok c.in_ok-matches.matches) is c.in_ok-matches.ensures.kinds
+    fails_as_stated command_line refl app (map string_bytes c.args.words.now) (Ok c.in_ok-matches.matches) is c.in_ok-matches.ensures.kinds
 
 pub returns-in_err-matches-clause-kind : goal.returns-in_err-matches-clause-kind
 returns-in_err-matches-clause-kind c =
     let app = app_of c.in_ok-command.field-0 in
     let is : app ≡ command_line = search rules in
     let refused : c.from_residual-in_err-matches.result ≡ Err c.in_err-matches.field-0.0 = search rules in
-    rw refused (fails_as_stated app (map string_bytes c.args.words.now) (Err c.in_err-matches.field-0.0) is c.in_err-matches.ensures.kinds)
+    rw refused (fails_as_stated command_line refl app (map string_bytes c.args.words.now) (Err c.in_err-matches.field-0.0) is c.in_err-matches.ensures.kinds)
 
 pub returns-in_err-matches-clause-taken : goal.returns-in_err-matches-clause-taken
 returns-in_err-matches-clause-taken c =

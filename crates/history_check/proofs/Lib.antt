@@ -1,0 +1,5 @@
+pub mod LineLemmas
+pub mod CheckLemmas
+pub mod EndLemmas
+pub mod NameLemmas
+pub mod TextLemmas

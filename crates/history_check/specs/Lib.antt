@@ -1,0 +1,4 @@
+-- What the contracts of this crate cite.
+pub mod Verdicts
+pub mod Told
+pub mod Checked

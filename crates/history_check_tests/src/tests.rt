@@ -1,0 +1,39 @@
+//! Texts of histories whose verdicts were derived by hand, and what is told of them.
+mod faults;
+mod judged;
+mod large;
+
+use history_check::{HistoryCheck, HistoryOutcome, Judging};
+use history_core::SearchFault;
+use std::alloc::Global;
+use std::test::Fail;
+
+/// How most texts are judged.
+const PLAIN: Judging = Judging {
+    runs: false,
+    open_waits: false,
+    limit: 1000,
+};
+
+/// The same, with the question whether the history may end so.
+const OPEN: Judging = Judging {
+    runs: false,
+    open_waits: true,
+    limit: 1000,
+};
+
+/// The verdict of a text that comes in two pieces, cut behind so many bytes, and what is told of it.
+fn judge(
+    alloc: Global,
+    judging: Judging,
+    text: &[u8],
+    cut: usize,
+) -> Result<(HistoryOutcome, Vec<u8>), Fail> {
+    let (front, rest) = text.split_at(cut.min(text.len()));
+    let mut check = HistoryCheck::new(alloc, judging);
+    check.take_all(front)?;
+    check.take_all(rest)?;
+    check.end()?;
+    let told = check.told(alloc)?;
+    Ok((check.outcome(), told))
+}
