@@ -6,7 +6,7 @@ from dataclasses import dataclass, field
 from typing import Callable, Iterator, Optional
 
 from tracing.follow import Assumptions, Followed, Follower, Request
-from tracing.history import Event, Judged, Outside, Places, Written, left_unjudged, write
+from tracing.history import CannotJudge, Event, Judged, Outside, Places, Written, left_unjudged, ordered, places_in, write
 from tracing.log import Log
 
 # The owners of outsiders stand behind those of the log.
@@ -61,7 +61,16 @@ class Explainer:
         self.log, self.judge = log, judge
 
     def explain(self) -> Explained:
-        """The log explained, with the first assumption at each place that helps there."""
+        """The log explained, with an order of its effects that the program finds legal. Raises CannotJudge where there is none such."""
+        explained = self.assumed()
+        if explained.impossible is None:
+            explained.judged = ordered(explained.written)
+            if explained.again(self.judge, places_in(explained.judged, explained.found)).illegal is not None:
+                raise CannotJudge("the order that was found isn't legal")
+        return explained
+
+    def assumed(self) -> Explained:
+        """What comes of the log, with the first assumption at each place that helps there."""
         state = State()
         explained = self.tried(state)
         while explained.impossible is not None:

@@ -9,13 +9,13 @@ from pathlib import Path
 from typing import Optional, Union
 
 from tracing.follow import Followed, Release, Request
+from tracing.order import order_of
 
 Event = Union[Request, Release]
 # Other places of the begin and the end of an event, by its identity.
 Places = dict[int, tuple[float, Optional[float]]]
 IMPOSSIBLE = re.compile(r"^line (\d+): (.*) isn't possible$")
-BEHIND = re.compile(r"^(\d+) (lets go )?behind (\d+)$")
-STATE = re.compile(r"^# (lock|flock) (.*)$")
+ILLEGAL = 3
 LIMIT = 2**63 - 1
 
 
@@ -147,16 +147,16 @@ class Program:
     def judge(self, written: Written) -> Judged:
         """What the program says of a history. Raises CannotJudge."""
         text = "".join(f"{line}\n" for line in written.lines)
-        command = [str(self.path), "--history", "--limit", str(LIMIT), "--order", "--state", "all"]
+        command = [str(self.path), "--history", "--limit", str(LIMIT)]
         try:
             ended = subprocess.run(command, input=text.encode(), stdout=subprocess.PIPE, stderr=subprocess.PIPE, check=False)
         except OSError as failed:
             raise CannotJudge(f"{self.path}: {failed}") from failed
-        if ended.returncode == 3:
+        if ended.returncode == ILLEGAL:
             return refused(ended.stdout.decode())
         if ended.returncode != 0:
             raise CannotJudge(ended.stderr.decode(errors="replace").strip() or f"{self.path} ended with status {ended.returncode}")
-        return ordered(ended.stdout.decode(), written)
+        return Judged()
 
 
 def refused(text: str) -> Judged:
@@ -168,12 +168,21 @@ def refused(text: str) -> Judged:
     return Judged(illegal=int(found[1]), open_there=[line for line in lines[1:] if line.startswith("#")])
 
 
-def ordered(text: str, written: Written) -> Judged:
-    """The order of the effects."""
+def ordered(written: Written) -> Judged:
+    """A legal history with an order of its effects, and the locks behind each."""
     judged = Judged()
-    for line in text.splitlines():
-        if found := BEHIND.match(line):
-            judged.effects.append(Effect(written.by_number.get(int(found[1])), bool(found[2]), int(found[3])))
-        elif found := STATE.match(line):
-            judged.states.setdefault(len(judged.effects), []).append(f"{found[1]} {found[2]}")
+    for moment in order_of("".join(f"{line}\n" for line in written.lines)):
+        event = written.by_number.get(int(moment.identity))
+        judged.effects.append(Effect(event, moment.is_loss, moment.behind))
+        judged.states[len(judged.effects)] = list(moment.locks)
     return judged
+
+
+def places_in(judged: Judged, found: Followed) -> Places:
+    """The places by which each request is open for its own effects alone, in their order. One without an effect stands behind all."""
+    places: Places = {id(it): (len(judged.effects) + 1, len(judged.effects) + 1) for it in (*found.requests, *found.releases)}
+    for place, effect in enumerate(judged.effects, 1):
+        if effect.event is not None:
+            begin = places[id(effect.event)][0]
+            places[id(effect.event)] = (min(begin, place), place + 0.5)
+    return places
