@@ -1,6 +1,6 @@
 -- What an owner has on each byte of a range, run by run: for `first_lacking`.
-use Rattle.std.proofs.Common.{arith, ℕ, ◌≡◌, ◌+◌, ◌<◌, ◌≤◌, ◌∙◌, inl, inr, sym, subst, Bool, true, false, Option, Some, None}
-use Rattle.std.specs.Prelude.{◌↔◌, IfNone, IfSome, IsTrue, is_none}
+use Rattle.std.proofs.Common.{arith, ℕ, ◌≡◌, ◌+◌, ◌<◌, ◌≤◌, inl, inr, sym, refl, subst, Bool, true, false, Option, Some, None}
+use Rattle.std.specs.Prelude.{◌↔◌, IfNone, IfSome, IsTrue, is_some, not}
 use Rattle.std.proofs.lemmas.Bool.{cases_lt}
 use Rattle.range_core.specs.declared.Mode.{Mode}
 use Rattle.range_core.specs.declared.Span.{Span}
@@ -53,11 +53,13 @@ lacks_byte modes span wanted first so_far none = record {
 }
 
 -- where no byte lacks the mode, there is at least the mode on each
-pub none_lacking : (modes : Modes) (span : Span) (wanted : Mode) (found : Option ℕ) (answer : Bool) → answer ≡ is_none found
+pub none_lacking : (modes : Modes) (span : Span) (wanted : Mode) (found : Option ℕ) (answer : Bool) → is_some found ≡ not answer
     → IfSome found (IsFirstLacking modes span wanted) → IfNone found ((byte : ℕ) → Covers span byte → IsAtLeast (modes byte) wanted)
     → IsTrue answer ↔ ((byte : ℕ) → Covers span byte → IsAtLeast (modes byte) wanted)
-none_lacking modes span wanted None answer is some none = (λ yes. none, λ all. is)
-none_lacking modes span wanted (Some first) answer is some none = (
-  λ yes. absurd (let h : true ≡ false = sym yes ∙ is in cc),
+none_lacking modes span wanted None true is some none = (λ yes. none, λ all. refl)
+none_lacking modes span wanted None false is some none = let h : false ≡ true = is in cc
+none_lacking modes span wanted (Some first) true is some none = let h : true ≡ false = is in cc
+none_lacking modes span wanted (Some first) false is some none = (
+  λ yes. absurd (let h : false ≡ true = yes in cc),
   λ all. absurd (some.lacks (all first some.covered)),
 )
