@@ -527,7 +527,7 @@ static void make_files(void) {
 
 /* The word for how the round went. */
 static const char *run_round(uint64_t seed, int64_t requests, uint64_t patience) {
-    struct round round = {.seed = seed, .kill_within = (uint64_t)requests / 2 + 1, .next_kill = requests - requests / 8};
+    struct round round = {.seed = seed, .kill_within = (uint64_t)requests + 1, .next_kill = requests - requests / 8};
     round.chance.chance = seed * 2 + 1;
     make_files();
     noted->ended_at = 0;

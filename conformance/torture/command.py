@@ -27,7 +27,7 @@ DESCRIPTION = """Has processes race for locks on files of a directory, or of sev
 was a legal order. Prints TAP; the status is 0, 1 where a round is illegal, and 2 where something could not be run."""
 # Of one client in a round. On FUSE a description's release is open to the end of the round, and each that is open doubles what may be: so rounds
 # are short there, and most closes come behind unlocks.
-REQUESTS, REQUESTS_ON_FUSE = 100, 25
+REQUESTS, REQUESTS_ON_FUSE = 100, 15
 TIDY_ON_FUSE = 90
 # Rounds whose judging isn't over.
 AHEAD = 4
