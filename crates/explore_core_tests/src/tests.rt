@@ -1,0 +1,166 @@
+//! Keys of standings that are one situation, and of some that differ in one thing.
+use explore_core::{Scope, key_of};
+use fd_table::{Access, Limits};
+use lock_manager::{FlockOp, LkCmd, Lock, Manager, Request, Rules};
+use range_core::{Kind, Memory, Whence};
+use std::alloc::Global;
+use std::process::Abort;
+use std::test::Fail;
+use wait_core::Policy;
+
+const SCOPE: Scope = Scope {
+    rules: Rules {
+        policy: Policy::Held,
+        limits: Limits::Small,
+    },
+    processes: 3,
+    files: 2,
+};
+
+/// Two children beside process 1.
+const FAMILY: [(u8, Request); 2] = [
+    (1, Request::Fork { child: 2 }),
+    (1, Request::Fork { child: 3 }),
+];
+
+/// The key behind these requests, each of which must be taken.
+fn key_behind(
+    rt: &impl Abort,
+    alloc: Global,
+    scope: &Scope,
+    runs: &[&[(u8, Request)]],
+) -> Result<Vec<u8>, Memory> {
+    let limits = scope.rules.limits;
+    let mut manager = Manager::new(alloc, limits.processes(), scope.rules)?;
+    let mut taken = Vec::new(alloc);
+    for _process in 0..scope.processes {
+        taken.push(0_u64)?;
+    }
+    for run in runs {
+        for (p, request) in *run {
+            let place = usize::from(*p).saturating_sub(1);
+            assert!(rt; manager.able(*p) && place < taken.len());
+            let number = taken[place].saturating_add(1);
+            manager.take(*p, number, *request)?;
+            taken[place] = number;
+        }
+    }
+    assert!(rt; scope.files <= 64 && taken.len() == usize::from(scope.processes));
+    key_of(alloc, scope, &manager, &taken)
+}
+
+fn open(file: u8) -> Request {
+    Request::OpenFile {
+        file,
+        access: Access::Rw,
+    }
+}
+
+/// A wait, or a lock at once, for writing on the bytes from one on.
+fn set(start: i64, len: i64) -> Request {
+    Request::Lk {
+        fd: 0,
+        cmd: LkCmd::SetLkW,
+        lock: Lock {
+            kind: Kind::Write,
+            whence: Whence::Set,
+            start,
+            len,
+            pid: 0,
+        },
+    }
+}
+
+/// Whether the two have one key, behind the forks.
+fn are_one(
+    rt: &impl Abort,
+    alloc: Global,
+    one: &[(u8, Request)],
+    other: &[(u8, Request)],
+) -> Result<bool, Memory> {
+    let key = key_behind(rt, alloc, &SCOPE, &[&FAMILY, one])?;
+    let another = key_behind(rt, alloc, &SCOPE, &[&FAMILY, other])?;
+    Ok(key.as_slice() == another.as_slice())
+}
+
+/// Descriptions have other numbers in another order of opens, locks on them too, and nobody can tell.
+#[test]
+fn numbers_make_no_difference(rt: HostRuntime) -> Result<(), Memory> {
+    let lock = Request::Flock {
+        fd: 0,
+        op: FlockOp::Ex,
+        nb: true,
+    };
+    let one = [(1, open(0)), (2, open(1)), (3, open(0)), (3, lock)];
+    let other = [(3, open(0)), (3, lock), (2, open(1)), (1, open(0))];
+    assert!(rt; are_one(&rt, rt.alloc(), &one, &other)?);
+    Ok(())
+}
+
+/// What the processes asked for is the same, but in one thing.
+#[test]
+fn each_difference_is_told(rt: HostRuntime) -> Result<(), Memory> {
+    let alloc = rt.alloc();
+    let at = |offset| [(1, open(0)), (1, Request::Seek { fd: 0, offset })];
+    let sized = |size| [(1, open(0)), (1, Request::Resize { fd: 0, size })];
+    let locked = |len| [(1, open(0)), (1, set(7, len))];
+    assert!(rt; !are_one(&rt, alloc, &at(254), &at(255))?);
+    assert!(rt; !are_one(&rt, alloc, &at(255), &at(256))?);
+    assert!(rt; are_one(&rt, alloc, &at(1 << 40), &at(1 << 40))?);
+    assert!(rt; !are_one(&rt, alloc, &sized(1 << 40), &sized((1 << 40) + 1))?);
+    assert!(rt; !are_one(&rt, alloc, &locked(1), &locked(2))?);
+    Ok(())
+}
+
+/// Two descriptors of one file share a description or don't.
+#[test]
+fn sharing_is_told(rt: HostRuntime) -> Result<(), Memory> {
+    let shared = [(1, open(0)), (1, Request::Dup { fd: 0 })];
+    let apart = [(1, open(0)), (1, open(0))];
+    assert!(rt; !are_one(&rt, rt.alloc(), &shared, &apart)?);
+    Ok(())
+}
+
+/// Two wait for the byte that a third has: who came first is told.
+#[test]
+fn the_order_of_waits_is_told(rt: HostRuntime) -> Result<(), Memory> {
+    let opened = [(1, open(0)), (2, open(0)), (3, open(0)), (1, set(0, 1))];
+    let alloc = rt.alloc();
+    let second = key_behind(
+        &rt,
+        alloc,
+        &SCOPE,
+        &[&FAMILY, &opened, &[(2, set(0, 1)), (3, set(0, 1))]],
+    )?;
+    let third = key_behind(
+        &rt,
+        alloc,
+        &SCOPE,
+        &[&FAMILY, &opened, &[(3, set(0, 1)), (2, set(0, 1))]],
+    )?;
+    assert!(rt; second.as_slice() != third.as_slice());
+    Ok(())
+}
+
+/// As many processes as there may be, each with a copy of the descriptors of the one before it and another one.
+#[test]
+fn many_descriptors(rt: HostRuntime) -> Result<(), Memory> {
+    let scope = Scope {
+        rules: Rules {
+            policy: Policy::Queue,
+            limits: Limits::Wide,
+        },
+        processes: 64,
+        files: 64,
+    };
+    let alloc = rt.alloc();
+    let mut requests = Vec::new(alloc);
+    for p in 1..64 {
+        requests.push((p, open(p)))?;
+        requests.push((p, Request::Fork { child: p + 1 }))?;
+    }
+    let key = key_behind(&rt, alloc, &scope, &[&requests])?;
+    // Process p has p descriptors, and process 64 has 63: at least three numbers each; and 64 files have a size and 64 lists of locks.
+    assert!(rt; key.len() > (63 * 64 / 2 + 63) * 3 + 64 * 65);
+    Ok(())
+}
