@@ -1,5 +1,5 @@
 -- Who was blocked stays so where a lock only adds to what its owner has: for `LockFile::leaves_blocked` and `LockFile::grant`.
-use Rattle.std.proofs.Common.{arith, ℕ, ◌≡◌, ◌≢◌, ◌⊎◌, inl, inr, ap, sym, subst, refl, ◌∙◌, Bool, true, false, Option, Some, None, List, [], ◌∷◌, ◌++◌, All, length, take}
+use Rattle.std.proofs.Common.{arith, ℕ, ◌≡◌, ◌≢◌, inl, inr, ap, sym, subst, refl, ◌∙◌, Bool, true, false, Option, Some, None, List, [], ◌∷◌, ◌++◌, All, take}
 use Rattle.std.proofs.lemmas.Grind.{common_steps}
 use Rattle.std.specs.Prelude.{◌==◌, ◌&&◌, if◌then◌else◌, slice_get}
 use Rattle.std.proofs.lemmas.Bool.{eqb-true}
@@ -9,7 +9,6 @@ use Rattle.range_core.specs.declared.Mode.{Mode}
 use Rattle.range_core.specs.declared.Mode.TheVariants.{Read, Write}
 use Rattle.range_core.specs.Ranges.{HeldConflicts}
 use Rattle.range_core.specs.Changes.{is_covered}
-use Rattle.lock_book.specs.Conflicts.{ByteConflict, FlockConflict}
 use Rattle.lock_book.specs.declared.Owner.{Owner}
 use Rattle.lock_book.specs.declared.Owner.TheVariants.{Process, Description}
 use Rattle.wait_core.specs.declared.Family.{Family}

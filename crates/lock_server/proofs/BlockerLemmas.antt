@@ -1,5 +1,4 @@
 -- The owners for which a wait on a file waits: for `add_steps`, `add_blockers`, `add_holders` and what that calls, `add_conflicting`.
-use Rattle.std.proofs.lemmas.Grind.{common_steps}
 use Rattle.std.proofs.Common.{ℕ, ◌≡◌, ◌≢◌, ◌+◌, ◌<◌, ◌≤◌, ◌∙◌, ◌⊎◌, inl, inr, min, max, sym, ap, refl, subst, arith, suc, true, false, Option, Some, None, List, [], ◌∷◌, ◌++◌, Any, Contains, length, take, drop, map}
 use Rattle.std.specs.Prelude.{◌↔◌, IfNone, IfSome, IsTrue, is_some, slice_get}
 use Rattle.std.specs.Borrow.{Bor}

@@ -14,12 +14,10 @@ use Rattle.lock_server.specs.Importing.{AreNotesOf, AreOf}
 use Rattle.lock_server.specs.Inventory.{IsInventory}
 use Rattle.lock_server.specs.Openings.{SameOpenings}
 use Rattle.lock_server.specs.Ordered.{AreInOrder}
-use Rattle.lock_server.specs.Reading.{MayBeTold, Succeeds, Told, inventory_of, told_by, told_words}
+use Rattle.lock_server.specs.Reading.{MayBeTold, Succeeds, Told, inventory_of, told_by}
 use Rattle.lock_server.specs.Safety.{IsSafe}
 use Rattle.lock_server.specs.ServerView.{rules_of, state_of, through_of}
 use Rattle.lock_server.specs.States.{SameState, State}
-use Rattle.lock_server.specs.TableView.{table_policy, table_state}
-use Rattle.lock_server.specs.Words.{AreWords, bytes_of}
 use Rattle.lock_server.proofs.OrderedLemmas.{in_order}
 use Rattle.lock_server.proofs.ServedLemmas.{all_may_stand, notes_of, parts_of}
 use Rattle.lock_server.proofs.StateLemmas.{state_from_same}

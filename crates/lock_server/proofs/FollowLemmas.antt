@@ -1,14 +1,14 @@
 -- From an owner that was reached to those for which it waits: for `follow` and what it calls.
 use Rattle.std.proofs.lemmas.Grind.{common_steps}
-use Rattle.std.proofs.Common.{ℕ, ◌≡◌, ◌≢◌, ◌+◌, ◌<◌, ◌≤◌, ◌∙◌, ◌⊎◌, inl, inr, sym, ap, refl, subst, arith, Bool, true, false, Option, Some, None, List, [], ◌∷◌, ◌++◌, Any, Contains, length, take}
+use Rattle.std.proofs.Common.{ℕ, ◌≡◌, ◌+◌, ◌<◌, ◌≤◌, ◌∙◌, ◌⊎◌, inl, inr, sym, ap, refl, subst, arith, Bool, true, false, Option, Some, None, List, [], ◌++◌, Any, Contains, length, take}
 use Rattle.std.specs.Prelude.{◌↔◌, if◌then◌else◌, IsTrue, slice_get}
-use Rattle.std.proofs.lemmas.Bool.{cases_Bool, cases_eq, cases_lt}
+use Rattle.std.proofs.lemmas.Bool.{cases_eq, cases_lt}
 use Rattle.std.proofs.lemmas.List.{append-nil, append_assoc}
 use Rattle.std.proofs.lemmas.Option.{same_Some, slice_get-get_or, slice_get_within}
 use Rattle.range_core.specs.declared.Mode.{Mode}
 use Rattle.range_core.specs.declared.Mode.TheVariants.{Read, Write}
 use Rattle.range_core.specs.declared.Span.{Span}
-use Rattle.range_core.specs.Changes.{is_covered, modes_with}
+use Rattle.range_core.specs.Changes.{is_covered}
 use Rattle.range_core.specs.Ranges.{Covers, HeldConflicts}
 use Rattle.wait_core.specs.Blocking.{WaitsConflict}
 use Rattle.wait_core.specs.declared.Policy.{Policy}
@@ -29,7 +29,7 @@ use Rattle.lock_server.specs.TableView.{entry_of, table_policy, table_state}
 use Rattle.lock_server.specs.WaitersView.{files_of}
 use Rattle.lock_server.specs.declared.waiters.Waiters.{Waiters}
 use Rattle.lock_server.proofs.BlockerLemmas.{IsStepAt, place_of_step, step_from_place}
-use Rattle.lock_server.proofs.GatheredOwnerLemmas.{AddsOwners-as, IsGivenBefore, gathered_all, gathered_more}
+use Rattle.lock_server.proofs.GatheredOwnerLemmas.{AddsOwners-as, IsGivenBefore}
 use Rattle.lock_server.proofs.ReachedLemmas.{file_of_step, gathered_from_none}
 
 -- owners that go on

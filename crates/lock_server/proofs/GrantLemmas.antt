@@ -1,7 +1,7 @@
 -- The wait at a place that is granted, and the place where a wait is found: for `LockFile::cancel`, `LockFile::dismiss`, `LockFile::give` and
 -- `LockFile::grant`.
 use Rattle.std.proofs.lemmas.Grind.{common_steps}
-use Rattle.std.proofs.Common.{ℕ, ◌≡◌, ◌+◌, ◌<◌, ◌≤◌, ◌∙◌, ap, Option, refl, subst, arith, true, false, Bool, Some, None, List, [], ◌∷◌, ◌++◌, All, length, length-append, get_or}
+use Rattle.std.proofs.Common.{ℕ, ◌≡◌, ◌+◌, ◌<◌, ◌∙◌, ap, Option, refl, subst, arith, true, false, Bool, Some, None, List, [], ◌∷◌, ◌++◌, All, length, length-append, get_or}
 use Rattle.std.specs.Prelude.{◌&&◌, if◌then◌else◌, position, slice_get, IsTrue, IsOk, OnOk, Result, Ok, Err}
 use Rattle.std.proofs.lemmas.Bool.{cases_lt, lt-ltb, le-ltb}
 use Rattle.std.proofs.lemmas.List.Sums.{fails_before_first}

@@ -1,12 +1,11 @@
 -- On which bytes a search looked: for `LookedAt`.
-use Rattle.std.proofs.lemmas.Grind.{common_steps}
-use Rattle.std.proofs.Common.{ℕ, ◌≡◌, ◌≢◌, ◌-◌, ◌<◌, ◌≤◌, ◌∙◌, inl, inr, sym, ap, subst, arith, Option, Some, None}
+use Rattle.std.proofs.Common.{ℕ, ◌≡◌, ◌-◌, ◌<◌, ◌∙◌, inl, inr, sym, ap, subst, arith, Option, Some, None}
 use Rattle.std.specs.Prelude.{◌↔◌}
-use Rattle.std.specs.BTreeMap.{BTreeMap, UpdatesBy, WritesThrough, get}
-use Rattle.std.specs.Borrow.{Bor, MutBor}
-use Rattle.std.specs.Option.{option_copied, option_copied_mut}
+use Rattle.std.specs.BTreeMap.{UpdatesBy, get}
+use Rattle.std.specs.Borrow.{Bor}
+use Rattle.std.specs.Option.{option_copied}
 use Rattle.std.specs.Ordering.{nat_cmp}
-use Rattle.std.proofs.lemmas.Bool.{cases_eq, cases_lt}
+use Rattle.std.proofs.lemmas.Bool.{cases_eq}
 use Rattle.range_core.specs.declared.Mode.{Mode}
 use Rattle.range_core.specs.declared.Span.{Span}
 use Rattle.range_core.specs.declared.list.RangeList.{RangeList}

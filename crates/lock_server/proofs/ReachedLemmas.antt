@@ -1,6 +1,6 @@
 -- The owners that are put behind those that were reached: for `add_going_on`, `add_steps` of a table, `would_cycle`.
 use Rattle.std.proofs.lemmas.Grind.{common_steps}
-use Rattle.std.proofs.Common.{ℕ, ◌≡◌, ◌≢◌, ◌==◌, ◌+◌, ◌<◌, ◌≤◌, ◌∙◌, inl, inr, sym, ap, refl, subst, arith, suc, cond, Bool, true, false, Option, Some, None, List, [], ◌∷◌, ◌++◌, Contains, length, get_or}
+use Rattle.std.proofs.Common.{ℕ, ◌≡◌, ◌≢◌, ◌==◌, ◌+◌, ◌<◌, ◌≤◌, ◌∙◌, inl, inr, sym, ap, refl, subst, arith, suc, cond, Bool, true, false, Some, None, List, [], ◌∷◌, ◌++◌, Contains, length, get_or}
 use Rattle.std.specs.Prelude.{◌↔◌, ◌&&◌, not, IsTrue, slice_get}
 use Rattle.std.specs.List.{list_any}
 use Rattle.std.proofs.lemmas.Bool.{cases_lt, cases_eq, eqb-true, eq-eqb, ne_eqb}

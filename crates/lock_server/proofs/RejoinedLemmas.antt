@@ -1,24 +1,22 @@
 -- Waits and grants that are put as a state has them: for `Parts::put_waits`, `Parts::put_grants` and `Parts::table`.
-use Rattle.std.proofs.Common.{ℕ, ◌≡◌, ◌≢◌, ◌∙◌, ◌<◌, sym, ap, subst, refl, arith, zero, suc, inl, inr, Bool, true, false, All, Any, Option, Some, List, [], ◌∷◌, ◌++◌, get_or, length, map, take, drop, append-nil, append_assoc}
-use Rattle.std.proofs.lemmas.Grind.{common_steps}
+use Rattle.std.proofs.Common.{ℕ, ◌≡◌, ◌≢◌, ◌∙◌, ◌<◌, sym, ap, subst, refl, arith, inl, inr, Bool, true, false, All, Any, Some, List, [], ◌∷◌, ◌++◌, get_or, length, map, take, drop, append-nil, append_assoc}
 use Rattle.std.specs.Prelude.{◌⊎◌, AllPairs, Contains, IsTrue, slice_get}
 use Rattle.std.proofs.lemmas.Bool.{cases_eq}
 use Rattle.std.proofs.lemmas.List.{get_or-take, get_or_default, length-take, take-append-drop, take_all}
-use Rattle.std.proofs.lemmas.List.Elements.{All-cons, All-head, All-tail, All-take, Contains-append_left, Contains-append_right, Contains-get_or}
+use Rattle.std.proofs.lemmas.List.Elements.{All-cons, All-head, All-tail, Contains-append_left}
 use Rattle.std.proofs.lemmas.Option.{get_or_from_slice_get, slice_get_within}
-use Rattle.range_core.specs.declared.Mode.{Mode}
 use Rattle.lock_server.specs.declared.Pending.{Pending}
 use Rattle.lock_server.specs.declared.import.parts.FilePart.{FilePart}
-use Rattle.lock_server.specs.Calls.{SetsOn, Suspends}
+use Rattle.lock_server.specs.Calls.{SetsOn}
 use Rattle.lock_server.specs.Inventory.{SaysFile}
 use Rattle.lock_server.specs.Reading.{entry_of}
-use Rattle.lock_server.specs.Importing.{AreFilesOf, HasLocksAlone, HasWaitsOf, JoinsAll, SetsAll, SetsOnFile}
-use Rattle.lock_server.specs.Restoring.{JoinsBefore, JoinsEach, QueuesBefore, QueuesEach, SetsEach, flock_lock_request, lock_request}
+use Rattle.lock_server.specs.Importing.{AreFilesOf, HasLocksAlone, HasWaitsOf, JoinsAll, SetsAll}
+use Rattle.lock_server.specs.Restoring.{JoinsBefore, JoinsEach, QueuesBefore, SetsEach, flock_lock_request, lock_request}
 use Rattle.lock_server.specs.Safety.{AreTicketsOnce}
-use Rattle.lock_server.specs.States.{IsDetectedOf, IsPending, IsTaken, SameState, State, WaitsOn, opening}
+use Rattle.lock_server.specs.States.{IsDetectedOf, SameState, State, opening}
 use Rattle.lock_server.proofs.JustLemmas.{All-at, AllPairs-head, AllPairs-tail, Contains-cons, Contains-here, Contains-there, Contains-nil}
-use Rattle.lock_server.proofs.ListLemmas.{Any-nil, Any-cons, Any-here, Any-there}
-use Rattle.lock_server.proofs.StateLemmas.{file_from_same, state_from_same}
+use Rattle.lock_server.proofs.ListLemmas.{Any-nil}
+use Rattle.lock_server.proofs.StateLemmas.{state_from_same}
 
 -- locks alone
 

@@ -1,9 +1,8 @@
 -- The table of the parts of a state's export is in that state: for `Parts::table`.
-use Rattle.std.proofs.Common.{ℕ, ◌≡◌, ◌≢◌, ◌∙◌, ◌<◌, sym, ap, subst, refl, arith, inl, inr, Bool, true, false, All, Any, Option, Some, None, List, [], ◌∷◌, ◌++◌, get_or, length, map, take}
-use Rattle.std.specs.Prelude.{◌⊎◌, ◌==◌, ◌&&◌, ◌↔◌, Contains, IsTrue}
+use Rattle.std.proofs.Common.{ℕ, ◌≡◌, ◌≢◌, ◌∙◌, ◌<◌, sym, ap, subst, refl, arith, inl, inr, true, false, All, Any, Option, Some, None, List, [], ◌∷◌, ◌++◌, get_or, length, map, take}
+use Rattle.std.specs.Prelude.{◌==◌, ◌&&◌, Contains}
 use Rattle.std.proofs.lemmas.Bool.{cases_eq, eq-eqb, eqb-true}
 use Rattle.std.proofs.lemmas.Bool.Decides.{nat_tests}
-use Rattle.std.proofs.lemmas.Grind.{common_steps}
 use Rattle.std.proofs.lemmas.List.{length-map}
 use Rattle.std.proofs.lemmas.List.Elements.{All-map, All-take}
 use Rattle.std.proofs.lemmas.Option.{get_or_from_slice_get, slice_get_within}
@@ -12,13 +11,12 @@ use Rattle.range_core.specs.declared.Mode.{Mode}
 use Rattle.range_core.specs.declared.Span.{Span}
 use Rattle.range_core.specs.Changes.{is_covered}
 use Rattle.range_core.specs.Ranges.{Covers}
-use Rattle.wait_core.specs.declared.Policy.{Policy}
 use Rattle.lock_server.specs.declared.FlockLock.{FlockLock}
 use Rattle.lock_server.specs.declared.Lock.{Lock}
 use Rattle.lock_server.specs.declared.Pending.{Pending}
 use Rattle.lock_server.specs.declared.import.parts.FilePart.{FilePart}
 use Rattle.lock_server.specs.declared.import.parts.Parts.{Parts}
-use Rattle.lock_server.specs.Files.{FileState, SameFile, SameLocks, untouched}
+use Rattle.lock_server.specs.Files.{FileState, SameFile, SameLocks}
 use Rattle.lock_server.specs.Importing.{AreFilesOf, AreOf, HasLocksAlone, HasWaitsOf, JoinsAll, SetsAll}
 use Rattle.lock_server.specs.Inventory.{SaysFile}
 use Rattle.lock_server.specs.Listing.{IsByteLock, IsFlockLock}
@@ -30,11 +28,10 @@ use Rattle.lock_server.specs.States.{HasDetected, IsDetectedOf, SameState, State
 use Rattle.lock_server.proofs.CompatibleLemmas.{hit}
 use Rattle.lock_server.proofs.ExportLaws.{flag_same}
 use Rattle.lock_server.proofs.JustLemmas.{All-at, All-from, Contains-nil}
-use Rattle.lock_server.proofs.ListLemmas.{Any-nil}
 use Rattle.lock_server.proofs.OrderedLemmas.{Contains-map}
-use Rattle.lock_server.proofs.RebuiltLemmas.{AllOf, HasFewer, HasOf, IsOf, IsThere, Point, by_flock, fewer_all, fewer_each, is_set_at, is_wanted_at, mode_at, none_held, on_byte, there_all}
+use Rattle.lock_server.proofs.RebuiltLemmas.{AllOf, HasFewer, HasOf, IsOf, IsThere, Point, by_flock, fewer_all, fewer_each, is_wanted_at, mode_at, none_held, on_byte, there_all}
 use Rattle.lock_server.proofs.RejoinedLemmas.{all_joined, alone_all, alone_opening, not_true, part_or_none}
-use Rattle.lock_server.proofs.StateLemmas.{SameFile-then, SameLocks-itself, file_from_same, state_from_same}
+use Rattle.lock_server.proofs.StateLemmas.{SameFile-then, file_from_same}
 
 -- the locks that a part tells are those of the file
 

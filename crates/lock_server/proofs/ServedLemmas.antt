@@ -1,6 +1,6 @@
 -- What the parts of a server's export tell: for `LockServer::import`.
 use Rattle.std.proofs.Common.{ℕ, ◌≡◌, ◌∙◌, ◌≤◌, sym, ap, subst, refl, arith, inl, inr, Bool, true, false, All, Any, Option, Some, None, List, [], ◌∷◌, length, map}
-use Rattle.std.specs.Prelude.{◌⊎◌, ◌≢◌, ◌↔◌, if◌then◌else◌, Contains, IsTrue}
+use Rattle.std.specs.Prelude.{◌≢◌, if◌then◌else◌, Contains, IsTrue}
 use Rattle.std.proofs.lemmas.Bool.{leb-true}
 use Rattle.std.proofs.lemmas.Grind.{common_steps}
 use Rattle.std.proofs.lemmas.List.Elements.{All-head, All-tail}
@@ -22,19 +22,16 @@ use Rattle.lock_server.specs.declared.file.LockFile.{LockFile}
 use Rattle.lock_server.specs.declared.import.parts.FilePart.{FilePart}
 use Rattle.lock_server.specs.declared.import.parts.Note.{Note as NotePart}
 use Rattle.lock_server.specs.declared.import.parts.Parts.{Parts}
-use Rattle.lock_server.specs.declared.server.LockServer.{LockServer}
 use Rattle.lock_server.specs.declared.table.Table.{Table}
 use Rattle.lock_server.specs.FileView.{file_state, state_at}
 use Rattle.lock_server.specs.Files.{FileState, SameFile, untouched}
-use Rattle.lock_server.specs.Importing.{AreFilesOf, AreNotesOf, AreOf}
-use Rattle.lock_server.specs.Inventory.{AreByteLocks, AreFiles, AreJust, FileEntry, Inventory, IsFileEntry, IsInventory, Note, SaysFile, note_place}
-use Rattle.lock_server.specs.Listing.{IsByteLock, IsFlockLock, IsInUse}
+use Rattle.lock_server.specs.Importing.{AreNotesOf, AreOf}
+use Rattle.lock_server.specs.Inventory.{AreFiles, AreJust, FileEntry, IsInventory, Note, SaysFile, note_place}
+use Rattle.lock_server.specs.Listing.{IsByteLock}
 use Rattle.lock_server.specs.Reading.{MayLock, MayStand, MayWait, entry_of, inventory_of, note_of}
 use Rattle.lock_server.specs.Safety.{IsSafe}
-use Rattle.lock_server.specs.ServerView.{rules_of, state_of, through_of}
-use Rattle.lock_server.specs.States.{HasDetected, State}
+use Rattle.lock_server.specs.States.{HasDetected}
 use Rattle.lock_server.specs.TableView.{entry_of as file_entry_of, table_state}
-use Rattle.lock_server.specs.WaitersView.{crossed_of, files_of}
 use Rattle.lock_server.proofs.JustLemmas.{All-from, Contains-cons, Contains-here, Contains-nil, Contains-there}
 use Rattle.lock_server.proofs.ListLemmas.{Any-nil}
 use Rattle.lock_server.proofs.OrderedLemmas.{Any-map, Contains-map, all_says, files_rise}

@@ -4,7 +4,6 @@ use Rattle.range_core.specs.declared.Span.{Span}
 use Rattle.range_core.specs.Ranges.{IsByteRange}
 use Rattle.lock_server.specs.declared.ImportFault.{ImportFault}
 use Rattle.lock_server.specs.declared.ImportFault.TheVariants.{Invalid, Memory}
-use Rattle.lock_server.specs.declared.FlockLock.{FlockLock}
 use Rattle.lock_server.specs.declared.Lock.{Lock}
 use Rattle.lock_server.specs.declared.Pending.{Pending}
 use Rattle.lock_server.specs.declared.Rules.{Rules}

@@ -1,4 +1,4 @@
-use Rattle.std.proofs.Common.{ℕ, ◌≤◌, arith, refl}
+use Rattle.std.proofs.Common.{arith, refl}
 use Rattle.lock_server.specs.FileView.{file_state}
 use Rattle.lock_server.proofs.BlockerLemmas.{holders_more, holders_rest, none_before}
 use Rattle.lock_server.proofs.GatheredOwnerLemmas.{AddsOwners-same}

@@ -1,4 +1,4 @@
-use Rattle.std.proofs.Common.{ℕ, ◌≡◌, ◌+◌, ◌∙◌, arith, refl, sym}
+use Rattle.std.proofs.Common.{ℕ, ◌+◌, ◌∙◌, arith, refl, sym}
 use Rattle.range_core.specs.declared.Span.{Span}
 use Rattle.lock_server.specs.Blockers.{BlocksBefore, BlocksOn}
 use Rattle.lock_server.specs.FileView.{file_state}

@@ -1,4 +1,4 @@
-use Rattle.std.proofs.Common.{ℕ, ◌≡◌, ◌∙◌, inl, inr, sym, refl, true, false}
+use Rattle.std.proofs.Common.{◌≡◌, ◌∙◌, inl, inr, sym, refl, true, false}
 use Rattle.lock_server.specs.FileView.{file_state}
 use Rattle.lock_server.specs.Listing.{number_behind}
 use Rattle.lock_server.proofs.BlockerLemmas.{flock_pushed, flock_skipped, flocks_all}

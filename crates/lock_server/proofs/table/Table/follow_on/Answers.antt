@@ -1,4 +1,4 @@
-use Rattle.std.proofs.Common.{ℕ, ◌≡◌, ◌∙◌, sym, subst, Contains}
+use Rattle.std.proofs.Common.{ℕ, ◌∙◌, sym, subst, Contains}
 use Rattle.std.proofs.lemmas.Option.{same_Some, slice_get_within}
 use Rattle.lock_server.specs.declared.Pending.{Pending}
 use Rattle.lock_server.specs.Blockers.{IsNextDetected, IsNoneDetected}

@@ -1,4 +1,4 @@
-use Rattle.std.proofs.Common.{ℕ, ◌≡◌, Any}
+use Rattle.std.proofs.Common.{◌≡◌, Any}
 use Rattle.std.proofs.lemmas.Result.{on_ok_weaker}
 use Rattle.wait_core.specs.Blocking.{WaitsConflict}
 use Rattle.lock_server.specs.Deadlock.{BlocksIn, IsBlockedByOwner}

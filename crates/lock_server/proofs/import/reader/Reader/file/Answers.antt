@@ -1,4 +1,4 @@
-use Rattle.std.proofs.Common.{◌∷◌, ◌++◌, ◌∙◌}
+use Rattle.std.proofs.Common.{◌++◌, ◌∙◌}
 use Rattle.lock_server.proofs.ReaderLemmas.{fails}
 use Rattle.lock_server.specs.Bytes.{flock_words, listed, lock_words, wait_words}
 use Rattle.lock_server.proofs.ExportLaws.{three}
