@@ -224,7 +224,8 @@ fn of_long_orders(rt: HostRuntime) -> Result<(), Fail> {
         let mut held = HeldLocks::new(rt.alloc());
         for (happening, id) in order.iter().zip(0..30_000u64) {
             assert_eq!(rt; happening.request.owner, id / 2);
-            assert_eq!(rt; happening.behind, 2 * id + 1);
+            assert_eq!(rt; happening.behind / 2, id);
+            assert_eq!(rt; happening.behind % 2, 1);
             assert!(rt; held.apply(*happening)?);
         }
         assert_eq!(rt; held.byte_locks().len(), 0);
