@@ -57,18 +57,19 @@ impl Crowd {
             _ => Call::Grant,
         }
     }
-}
 
-/// Five hundred owners with locks and five hundred waits on one file, and then so many calls; each comes to what the model tells.
-fn crowd(rt: &impl Abort, crowd: &mut Crowd, calls: u64) -> Result<(), Memory> {
-    crowd.gather(rt, 1)?;
-    for _ in 0..calls {
-        let call = crowd.step();
-        crowd.goes_on(rt, 1, call)?;
+    /// All gather on one file, and make so many calls there.
+    fn serve(&mut self, rt: &impl Abort, calls: u64) -> Result<(), Memory> {
+        self.gather(rt, 1)?;
+        for _ in 0..calls {
+            let call = self.step();
+            self.goes_on(rt, 1, call)?;
+        }
+        Ok(())
     }
-    Ok(())
 }
 
+/// Five hundred owners with locks and five hundred waits on one file, and then some calls: each comes to what the model tells.
 #[test]
 fn a_crowd_goes_as_the_model_often(rt: HostRuntime) -> Result<(), Fail> {
     for policy in [Policy::Held, Policy::Queue] {
@@ -77,7 +78,7 @@ fn a_crowd_goes_as_the_model_often(rt: HostRuntime) -> Result<(), Fail> {
             model: Model::new(rt.alloc(), stepwise(policy)),
             rule: Rule { x: 77 },
         };
-        crowd(&rt, &mut many, 200)?;
+        many.serve(&rt, 200)?;
     }
     Ok(())
 }
