@@ -22,7 +22,7 @@ from tracing.timeline import Timeline
 
 ALL_AS_IN_THE_LOG, FAULTY, FOUND, GAVE_UP = 0, 2, 3, 4
 # How many pairs of overlapping calls are tried the other way round.
-MOST_PAIRS = 200
+MOST_PAIRS = 40
 
 
 def parser() -> argparse.ArgumentParser:
@@ -37,7 +37,7 @@ def parser() -> argparse.ArgumentParser:
     made.add_argument("--pid", metavar="PID", type=int, action="append", default=[], help="prints the events of this process alone")
     made.add_argument("--from", metavar="SECONDS", dest="since", type=float, help="prints the events from this time of the log on")
     made.add_argument("--to", metavar="SECONDS", dest="until", type=float, help="prints the events up to this time of the log")
-    made.add_argument("--no-lint", action="store_true", help="leaves out what went wrong")
+    made.add_argument("--no-lint", action="store_true", help="leaves out what went wrong, and which calls may stand in either order")
     made.add_argument("--fail-on", metavar="LIST", default="", help=f"ends with status 3 where one of these is found: {', '.join(WHY)}")
     made.add_argument("--slow", metavar="SECONDS", type=float, help="tells waits that lasted longer (a log of strace -T)")
     made.add_argument("--history", action="store_true", help="prints the history that is judged, and judges nothing")
@@ -148,7 +148,8 @@ def main(words: Optional[Sequence[str]] = None) -> int:
         print_impossible(explained, teller)
         return FOUND
     lines = teller.lines()
-    note_either_order(explained, lines, teller, program)
+    if not options.no_lint:
+        note_either_order(explained, lines, teller, program)
     findings = [] if options.no_lint else Linter(explained, teller, lines, options.slow).findings()
     print_run(options, explained, teller, lines, findings)
     return FOUND if any(it.kind in wanted for it in findings) else ALL_AS_IN_THE_LOG
