@@ -2,10 +2,10 @@
 # Looks that each file that the documents name is there, and each name that stands behind one in brackets in that file: as
 # `lock_manager/specs/Settling.antt` (`Settles`). Paths are below crates/, or below the top. That each name of the library for C is in its
 # header, or in the crate that links it. And that the calls, clauses, definitions, edits and lemmas of docs/PROOFS.md are there.
-# Usage: signposts.sh [FILE..], the documents, by default the README and all of docs/
+# Usage: signposts.sh [FILE..], the documents, by default the README, all of docs/ and of the crates
 set -eu
 cd "$(dirname "$0")/.."
-[ "$#" -gt 0 ] || set -- README.md docs/*.md
+[ "$#" -gt 0 ] || set -- README.md docs/*.md crates/*/README.md
 path='[A-Za-z0-9_.-]+(/[A-Za-z0-9_.-]+)+\.(antt|rt|edit|lock|out|sh|md|1)'
 passed=0
 failed=0

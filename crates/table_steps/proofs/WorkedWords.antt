@@ -1,4 +1,4 @@
--- The worked values of docs/CALL_TABLE.md.
+-- The worked values of crates/call_table/README.md.
 use Rattle.std.proofs.Common.{◌≡◌, ℕ, ◌+◌, pos, negsuc, refl}
 use Rattle.range_core.specs.declared.Kind.TheVariants.{Write}
 use Rattle.range_core.specs.declared.Whence.TheVariants.{Set}

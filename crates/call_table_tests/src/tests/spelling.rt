@@ -1,4 +1,4 @@
-//! Requests and answers as the six words that docs/CALL_TABLE.md gives.
+//! Requests and answers as the six words that crates/call_table/README.md gives.
 use super::OPEN;
 use fd_table::Access;
 use lock_manager::{Errno, FlockOp, LkCmd, Lock, Reply, Request};

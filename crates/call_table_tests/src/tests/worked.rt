@@ -1,4 +1,4 @@
-//! A table of one cell for each of two processes, with each call and its answer as docs/CALL_TABLE.md works it out.
+//! A table of one cell for each of two processes, with each call and its answer as crates/call_table/README.md works it out.
 ghost use Rattle.call_table.specs.Desks.{IsDeskOf};
 
 use super::table::{Open, open_table};
