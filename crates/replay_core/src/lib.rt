@@ -13,12 +13,12 @@ mod replays;
 mod threads;
 mod watch;
 
-pub use caller::Answer;
+pub use caller::{Answer, requests_of};
 pub use checks::{Outcome, check};
 pub use devices::{DeviceFault, FromReader, Sink, Source, ToWriter};
 pub use in_threads::{Nobody, replay_in_threads};
 pub use job::{Detail, Job, perform};
 pub use laws::{journals_have_one_verdict, outputs_are_judged_legal};
-pub use replays::{RunFault, replay};
+pub use replays::{RunFault, parse_script, read_script, replay, sent_counts, write_all};
 pub use threads::{ThreadReport, replay_threads};
 pub use watch::Watch;

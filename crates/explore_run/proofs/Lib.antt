@@ -1,0 +1,3 @@
+pub mod ReplayLemmas
+pub mod TextLemmas
+pub mod WordLemmas

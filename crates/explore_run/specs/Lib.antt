@@ -1,0 +1,5 @@
+-- What the contracts of this crate cite.
+pub mod FindingWords
+pub mod Explorations
+pub mod Interleavings
+pub mod Replayed

@@ -1,0 +1,62 @@
+//! The words of findings.
+ghost use Rattle.std.specs.Prelude.{◌≡◌, ◌≢◌, ℕ, List, MatchOption, IfOk, map};
+ghost use Rattle.explore_core.specs.declared.finding.Finding.{Finding};
+ghost use Rattle.explore_run.specs.FindingWords.{finding_word, pieces_of};
+
+use explore_core::Finding;
+use range_core::Memory;
+use std::alloc::Global;
+
+/// The word of a finding.
+pub fn word_of(finding: Finding) -> &'static str
+    ensures { result.now ≡ finding_word finding }
+{
+    match finding {
+        Finding::Deadlock => "deadlock",
+        Finding::Stuck => "stuck",
+        Finding::Dropped => "dropped",
+        Finding::Lost => "lost",
+        Finding::Busy => "busy",
+        Finding::Interrupted => "interrupted",
+        Finding::Killed => "killed",
+        Finding::Unborn => "unborn",
+    }
+}
+
+/// The finding that has this word.
+pub fn finding_of(word: &str) -> Option<Finding>
+    ensures { MatchOption result ((finding : Finding) → word.now ≢ finding_word finding) (λ finding. word.now ≡ finding_word finding) }
+{
+    match word {
+        "deadlock" => Some(Finding::Deadlock),
+        "stuck" => Some(Finding::Stuck),
+        "dropped" => Some(Finding::Dropped),
+        "lost" => Some(Finding::Lost),
+        "busy" => Some(Finding::Busy),
+        "interrupted" => Some(Finding::Interrupted),
+        "killed" => Some(Finding::Killed),
+        "unborn" => Some(Finding::Unborn),
+        _ => None,
+    }
+}
+
+/// The findings that a list names by their words, with commas between them; `None` where one of these is no finding's.
+pub fn findings_of(alloc: Global, list: &str) -> Result<Option<Vec<Finding>>, Memory>
+    ensures { IfOk result (λ named. MatchOption named ((findings : List Finding) → pieces_of list.now ≢ map finding_word findings)
+        (λ findings. pieces_of list.now ≡ map finding_word findings.items)) }
+{
+    let mut findings = Vec::new(alloc);
+    let mut rest = list;
+    while let Some((word, more)) = rest.split_once(',') {
+        match finding_of(word) {
+            Some(finding) => findings.push(finding)?,
+            None => return Ok(None),
+        }
+        rest = more;
+    }
+    match finding_of(rest) {
+        Some(finding) => findings.push(finding)?,
+        None => return Ok(None),
+    }
+    Ok(Some(findings))
+}
